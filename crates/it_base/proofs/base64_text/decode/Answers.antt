@@ -1,0 +1,10 @@
+use Rattle.it_base.specs.Base64Text.{base64_decoded}
+use Rattle.it_base.proofs.base64_text.decode.Goals as goal
+
+pub returns-then-has_url_mark : goal.returns-then-has_url_mark
+unfolding base64_decoded
+returns-then-has_url_mark c = rw (← c.if-has_url_mark.ensures) c.decode_url_safe.ensures
+
+pub returns-else-has_url_mark : goal.returns-else-has_url_mark
+unfolding base64_decoded
+returns-else-has_url_mark c = rw (← c.if-has_url_mark.ensures) c.decode_standard.ensures

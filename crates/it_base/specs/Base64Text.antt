@@ -1,0 +1,20 @@
+-- Bytes written as base64 texts (RFC 4648 sections 4 and 5, with padding).
+use Rattle.std.specs.Prelude.{◌≡◌, ℕ, List, Bool, ◌||◌, ◌==◌, if◌then◌else◌, Option, Some, option_and_then}
+use Rattle.std.specs.List.{list_any}
+use Rattle.serde_json.specs.Data.{Data}
+use Rattle.serde_json.specs.Find.{as_str}
+use Rattle.base64.specs.Engines.{standard, url_safe}
+use Rattle.base64.specs.GeneralPurpose.{decoded_of}
+
+-- a byte that only the alphabet for URLs and file names has: a dash or an underscore
+abbrev pub is_url_mark : ℕ → Bool
+is_url_mark byte = byte == 45 || byte == 95
+
+-- the bytes that a text stands for: one mark selects the alphabet for the whole text (this
+-- profile's choice; DSSE v1.0 allows either alphabet)
+unfoldable pub base64_decoded : List ℕ → Option (List ℕ)
+base64_decoded text = decoded_of (if list_any is_url_mark text then url_safe else standard) text
+
+-- the part is a text that stands for these bytes
+abbrev pub IsBase64 : Data → List ℕ → Type 0
+IsBase64 d bytes = option_and_then base64_decoded (as_str d) ≡ Some bytes

@@ -1,0 +1,104 @@
+//! Bytes that stand in a document as a base64 text (RFC 4648).
+ghost use Rattle.std.specs.Prelude.{◌≡◌, ◌≢◌, ◌⊎◌, alloc_error, IfOk, IfErr};
+ghost use Rattle.std.specs.List.{list_any};
+ghost use Rattle.serde_json.specs.View.{view};
+ghost use Rattle.base64.specs.Engines.{standard, url_safe};
+ghost use Rattle.base64.specs.GeneralPurpose.{decoded_of};
+ghost use Rattle.it_base.specs.Base64Text.{IsBase64, base64_decoded, is_url_mark};
+ghost use Rattle.it_base.specs.Finds.{Finds};
+ghost use Rattle.it_base.specs.Parts.{IsPart};
+
+use crate::document::member;
+use crate::sequence::Sequence;
+use base64::DecodeAllocError;
+use base64::engine::general_purpose::{STANDARD, URL_SAFE};
+use serde_json::Value;
+use std::alloc::{AllocError, Global};
+
+/// The bytes that the member of this name stands for, or `None` where it is missing, is no text,
+/// or is no base64 text with padding (RFC 4648 sections 4 and 5).
+///
+/// # Errors
+///
+/// `AllocError` where memory was refused.
+pub fn base64_part(
+    alloc: Global,
+    value: &Value,
+    name: &str,
+) -> Result<Option<Sequence<u8>>, AllocError>
+    ensures { IfOk result (Finds (IsPart IsBase64 name.now (view value.now))) }
+{
+    match member(value, name) {
+        None => Ok(None),
+        Some(found) => base64_bytes(alloc, found),
+    }
+}
+
+fn base64_bytes(alloc: Global, value: &Value) -> Result<Option<Sequence<u8>>, AllocError>
+    ensures { IfOk result (Finds (IsBase64 (view value.now))) }
+{
+    match value.as_str() {
+        None => Ok(None),
+        Some(text) => decode(alloc, text),
+    }
+}
+
+fn has_url_mark(text: &str) -> bool
+    ensures { result ≡ list_any is_url_mark text.now }
+{
+    text.as_bytes()
+        .iter()
+        .any(|byte| *byte == b'-' || *byte == b'_')
+}
+
+fn decode(alloc: Global, text: &str) -> Result<Option<Sequence<u8>>, AllocError>
+    ensures { IfOk result (λ found. found ≡ base64_decoded text.now) }
+{
+    if has_url_mark(text) {
+        decode_url_safe(alloc, text)
+    } else {
+        decode_standard(alloc, text)
+    }
+}
+
+fn decode_url_safe(alloc: Global, text: &str) -> Result<Option<Sequence<u8>>, AllocError>
+    ensures { IfOk result (λ found. found ≡ decoded_of url_safe text.now) }
+{
+    settled(url_safe_outcome(alloc, text.as_bytes()))
+}
+
+fn decode_standard(alloc: Global, text: &str) -> Result<Option<Sequence<u8>>, AllocError>
+    ensures { IfOk result (λ found. found ≡ decoded_of standard text.now) }
+{
+    settled(standard_outcome(alloc, text.as_bytes()))
+}
+
+#[tactic(auto, unfolding(base64::specs::GeneralPurpose::decoded_of))]
+fn standard_outcome(alloc: Global, text: &[u8]) -> Result<Vec<u8>, DecodeAllocError>
+    ensures ok { IfOk result (λ bytes. decoded_of standard text.now ≡ Some bytes.items) }
+    ensures err { IfErr result
+        (λ e. (e ≡ DecodeAllocError.OutOfMemory) ⊎ (decoded_of standard text.now ≡ None)) }
+{
+    STANDARD.decode(alloc, text)
+}
+
+#[tactic(auto, unfolding(base64::specs::GeneralPurpose::decoded_of))]
+fn url_safe_outcome(alloc: Global, text: &[u8]) -> Result<Vec<u8>, DecodeAllocError>
+    ensures ok { IfOk result (λ bytes. decoded_of url_safe text.now ≡ Some bytes.items) }
+    ensures err { IfErr result
+        (λ e. (e ≡ DecodeAllocError.OutOfMemory) ⊎ (decoded_of url_safe text.now ≡ None)) }
+{
+    URL_SAFE.decode(alloc, text)
+}
+
+fn settled(outcome: Result<Vec<u8>, DecodeAllocError>) -> Result<Option<Sequence<u8>>, AllocError>
+    ensures ok { IfOk outcome (λ bytes. result ≡ Ok (Some bytes.items)) }
+    ensures err { IfErr outcome (λ e. (result ≡ Err alloc_error)
+        ⊎ ((e ≢ DecodeAllocError.OutOfMemory) × (result ≡ Ok None))) }
+{
+    match outcome {
+        Ok(bytes) => Ok(Some(Sequence::from(bytes))),
+        Err(DecodeAllocError::OutOfMemory) => Err(AllocError),
+        Err(DecodeAllocError::DecodeError(_)) => Ok(None),
+    }
+}

@@ -1,0 +1,12 @@
+//! What the crates that read documents share: texts and lists that contracts see as plain lists,
+//! and the reading of a JSON document, member by member.
+#![tactic(auto)]
+
+pub mod base64_text;
+pub mod document;
+pub mod hexadecimal_text;
+pub mod parts;
+pub mod sequence;
+#[cfg(test)]
+mod tests;
+pub mod text;

@@ -1,5 +1,5 @@
 -- The first place of an element that passes a test, as a list grows at its end.
-use Rattle.std.proofs.Common.{◌≡◌, ℕ, ◌+◌, ◌<◌, ◌≤◌, List, [], ◌∷◌, ◌++◌, Bool, true, false, cond, Option, Some, None, length, take, get_or, refl, sym, ap, arith, ◌∙◌, add-zero, inl, inr}
+use Rattle.std.proofs.Common.{◌≡◌, ℕ, ◌+◌, ◌<◌, List, [], ◌∷◌, ◌++◌, Bool, true, false, cond, Option, Some, None, length, take, get_or, refl, sym, ap, arith, ◌∙◌, add-zero, inl, inr}
 use Rattle.std.specs.List.{position, position_from, position_or_len, find, slice_get}
 use Rattle.std.specs.Option.{is_some, option_or, option_and_then}
 use Rattle.std.specs.Bool.{nat_lt}

@@ -1,6 +1,5 @@
 -- Which ring a document is.
 use Rattle.std.proofs.Common.{◌≡◌, ℕ, List, ap, ◌∙◌, codes}
-use Rattle.serde_json.specs.Data.{Data}
 use Rattle.it_base.specs.Document.{OfDocument}
 use Rattle.it_base.specs.HexadecimalText.{IsHexadecimal}
 use Rattle.it_base.specs.Sequence.{IsList}

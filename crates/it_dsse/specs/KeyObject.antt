@@ -1,5 +1,5 @@
 -- Key objects (in-toto 1.0 section 4.2).
-use Rattle.std.specs.Prelude.{◌≡◌, ℕ, List, [], Bool, IsTrue, is_some, Option, Some, None, codes, option_and_then, unwrap_or}
+use Rattle.std.specs.Prelude.{◌≡◌, ℕ, List, [], IsTrue, is_some, Option, Some, codes, option_and_then, unwrap_or}
 use Rattle.serde_json.specs.Data.{Data}
 use Rattle.serde_json.specs.Find.{as_object, as_str}
 use Rattle.it_base.specs.Document.{member_at}

@@ -39,11 +39,7 @@ pub fn signed_by(
         return Ok(None);
     };
     let vouched = is_vouched_for(alloc, envelope, id, key, check, meter)?;
-    if vouched {
-        Ok(Some(key))
-    } else {
-        Ok(None)
-    }
+    if vouched { Ok(Some(key)) } else { Ok(None) }
 }
 
 /// Whether some signature that is admitted for an id is valid for a key.

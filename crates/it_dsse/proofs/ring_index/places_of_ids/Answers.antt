@@ -1,8 +1,6 @@
-use Rattle.std.proofs.Common.{◌≡◌, ◌∙◌, ℕ, Some, None, cond, refl, string_bytes, take}
+use Rattle.std.proofs.Common.{◌≡◌, ◌∙◌, Some, None, refl, string_bytes}
 use Rattle.std.specs.BTreeMap.{get_by_text}
-use Rattle.std.specs.List.{IsDistinct, position}
-use Rattle.std.specs.Option.{option_or}
-use Rattle.std.specs.Str.{bytes_eq}
+use Rattle.std.specs.List.{IsDistinct}
 use Rattle.std.proofs.lemmas.Map.Text.{btree_map_updates_text}
 use Rattle.it_dsse.specs.Ring.{has_id}
 use Rattle.it_dsse.proofs.Places.{not_there, placed_new, places_more, there}

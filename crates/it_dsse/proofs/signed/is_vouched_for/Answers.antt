@@ -1,5 +1,4 @@
-use Rattle.std.proofs.Common.{◌≡◌, ◌∙◌, Bool, false, ap, sym, rules}
-use Rattle.std.specs.List.{list_any}
+use Rattle.std.proofs.Common.{◌∙◌, Bool, ap, sym}
 use Rattle.it_dsse.specs.Meter.{raised}
 use Rattle.it_dsse.specs.Signed.{first_place, is_admitted, message_of}
 use Rattle.it_dsse.specs.declared.envelope.Signature.{Signature}

@@ -1,4 +1,4 @@
-use Rattle.std.proofs.Common.{◌≡◌, ◌∙◌, sym}
+use Rattle.std.proofs.Common.{◌∙◌, sym}
 use Rattle.it_dsse.proofs.Signing.{signed_found, not_signed}
 use Rattle.it_dsse.proofs.signed.signed_by.Goals as goal
 

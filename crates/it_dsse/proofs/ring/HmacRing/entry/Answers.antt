@@ -1,7 +1,6 @@
-use Rattle.std.proofs.Common.{◌≡◌, ◌∙◌, ap, List, Option, Some, None, ℕ}
+use Rattle.std.proofs.Common.{◌≡◌, ◌∙◌, ap, Some, None}
 use Rattle.std.specs.List.{position, slice_get}
 use Rattle.it_dsse.specs.Ring.{has_id}
-use Rattle.it_dsse.specs.declared.ring_entry.RingEntry.{RingEntry}
 use Rattle.it_dsse.proofs.Places.{find-position}
 use Rattle.it_dsse.proofs.ring.HmacRing.entry.Goals as goal
 

@@ -1,3 +1,4 @@
 pub mod Bodies
+pub mod Fronts
 pub mod Sets
 pub mod Steps

@@ -70,3 +70,7 @@ Matches items text = MatchesChars items (chars text)
 abbrev pub front_of : List Item → List ℕ
 front_of (Exactly c ∷ items) = encode_utf8 c ++ front_of items
 front_of items = []
+
+-- a text begins with another
+abbrev pub BeginsWith : List ℕ → List ℕ → Type 0
+BeginsWith text front = (rest : List ℕ) × (text ≡ front ++ rest)

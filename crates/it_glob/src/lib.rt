@@ -1,6 +1,7 @@
 //! Path patterns: their reading and their matching against whole texts.
 #![tactic(auto)]
 
+mod front;
 mod item;
 mod matching;
 pub mod pattern;

@@ -1,7 +1,9 @@
 //! Path patterns.
-ghost use Rattle.std.specs.Prelude.{◌≡◌, IfOk, IsTrue, ◌↔◌};
-ghost use Rattle.it_glob.specs.Pattern.{items_of, Matches, front_of};
+ghost use Rattle.std.specs.Prelude.{◌≡◌, IfOk, IsTrue, ◌↔◌, List, ℕ};
+ghost use Rattle.std.specs.Str.{IsUtf8};
+ghost use Rattle.it_glob.specs.Pattern.{items_of, Matches, front_of, BeginsWith};
 
+use crate::front::front_of_text;
 use crate::item::Item;
 use crate::matching::compare;
 use crate::reading::read_items;
@@ -58,5 +60,14 @@ impl Pattern {
         ensures { IsTrue result.0 ↔ Matches (items_of self.now) path.now }
     {
         compare(self.items.as_slice(), path)
+    }
+
+    /// Lends the part of the pattern's text before its first star, any or set item.
+    pub fn literal_front(&self) -> &str
+        ensures value { result.now ≡ front_of (items_of self.now) }
+        ensures begins { (path : List ℕ) → IsUtf8 path → Matches (items_of self.now) path
+            → BeginsWith path result.now }
+    {
+        front_of_text(self.text.as_str(), self.items.as_slice())
     }
 }

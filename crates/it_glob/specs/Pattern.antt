@@ -66,6 +66,12 @@ MatchesChars (item ∷ items) cs = (c : ℕ) × (rest : List ℕ) × (cs ≡ c �
 unfoldable pub Matches : List Item → List ℕ → Type 0
 Matches items text = MatchesChars items (chars text)
 
+-- how many items are no star
+abbrev pub plain_count : List Item → ℕ
+plain_count [] = 0
+plain_count (Star ∷ items) = plain_count items
+plain_count (item ∷ items) = plain_count items + 1
+
 -- the text of the items before the first that is not `Exactly`
 abbrev pub front_of : List Item → List ℕ
 front_of (Exactly c ∷ items) = encode_utf8 c ++ front_of items

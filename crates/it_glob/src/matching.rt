@@ -1,7 +1,7 @@
 //! The matching of items against a text: forward, with one place to start again from.
-ghost use Rattle.std.specs.Prelude.{◌≡◌, ◌∷◌, [], IsTrue, ◌↔◌, MatchOption};
+ghost use Rattle.std.specs.Prelude.{◌≡◌, ◌+◌, ◌*◌, ◌≤◌, ◌∷◌, [], IsTrue, ◌↔◌, MatchOption, length};
 ghost use Rattle.std.specs.Str.{chars};
-ghost use Rattle.it_glob.specs.Pattern.{MatchesChars};
+ghost use Rattle.it_glob.specs.Pattern.{MatchesChars, plain_count};
 ghost use Rattle.it_glob.specs.Restart.{next_place, place_of};
 
 use crate::item::Item;
@@ -15,7 +15,9 @@ struct Restart<'a> {
 
 /// Whether the items match the whole text, and how many tests of an item against a character were made.
 pub(crate) fn compare(items: &[Item], text: &str) -> (bool, u64)
-    ensures { IsTrue result.0 ↔ MatchesChars items.now (chars text.now) }
+    ensures answer { IsTrue result.0 ↔ MatchesChars items.now (chars text.now) }
+    ensures at_most { result.1 ≤ (length items.now + 1) * (length (chars text.now) + 1) }
+    ensures at_least { IsTrue result.0 → plain_count items.now ≤ result.1 }
 {
     let mut items = items;
     let mut text = text;

@@ -1,7 +1,7 @@
 //! Path patterns.
-ghost use Rattle.std.specs.Prelude.{◌≡◌, IfOk, IsTrue, ◌↔◌, List, ℕ};
-ghost use Rattle.std.specs.Str.{IsUtf8};
-ghost use Rattle.it_glob.specs.Pattern.{items_of, Matches, front_of, BeginsWith};
+ghost use Rattle.std.specs.Prelude.{◌≡◌, ◌+◌, ◌*◌, ◌≤◌, IfOk, IsTrue, ◌↔◌, List, ℕ, length};
+ghost use Rattle.std.specs.Str.{IsUtf8, chars};
+ghost use Rattle.it_glob.specs.Pattern.{items_of, Matches, front_of, plain_count, BeginsWith};
 
 use crate::front::front_of_text;
 use crate::item::Item;
@@ -57,7 +57,10 @@ impl Pattern {
     /// of an item against a character. The count saturates at the greatest `u64`.
     #[tactic(auto, unfolding(crate::specs::Pattern::Matches))]
     pub fn matches_counted(&self, path: &str) -> (bool, u64)
-        ensures { IsTrue result.0 ↔ Matches (items_of self.now) path.now }
+        ensures answer { IsTrue result.0 ↔ Matches (items_of self.now) path.now }
+        ensures at_most { result.1
+            ≤ (length (items_of self.now) + 1) * (length (chars path.now) + 1) }
+        ensures at_least { IsTrue result.0 → plain_count (items_of self.now) ≤ result.1 }
     {
         compare(self.items.as_slice(), path)
     }

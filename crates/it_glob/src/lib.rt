@@ -6,5 +6,7 @@ mod item;
 mod matching;
 pub mod pattern;
 mod reading;
+#[cfg(test)]
+mod tests;
 
 pub use pattern::Pattern;

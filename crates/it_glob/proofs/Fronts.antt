@@ -6,7 +6,7 @@ use Rattle.std.specs.Str.{chars, encode_utf8_all, all_scalars, IsUtf8}
 use Rattle.std.specs.Prelude.{encode_utf8}
 use Rattle.std.proofs.Math.Utf8.{scalar as is_scalar}
 use Rattle.std.proofs.lemmas.Str.{encodes-chars, scalars-chars}
-use Rattle.it_glob.specs.Pattern.{items_of, items_after, item_at, plain_item, set_at, set_of, body_len, front_of, MatchesChars, Matches, BeginsWith}
+use Rattle.it_glob.specs.Pattern.{items_of, items_after, item_at, plain_item, set_at, set_of, negation_of, body_len, front_of, MatchesChars, Matches, BeginsWith}
 use Rattle.it_glob.specs.declared.item.Item.{Item}
 use Rattle.it_glob.specs.declared.item.Item.TheVariants.{Star, Any, OneOf, Exactly}
 
@@ -37,20 +37,16 @@ plain_kind c = go (eqb c 42) (eqb c 63)
     go false true = inr (λ items. refl)
     go false false = inl refl
 
-set_kind : (c : ℕ) (negated : Bool) (before : ℕ) (cs : List ℕ) → IsLiteralOrEnds c (unwrap_or {T = Item × ℕ} (set_of negated before cs) (plain_item c, 0))
-set_kind c negated before cs = go (body_len cs)
+set_kind : (c : ℕ) (negated : Bool) (cs : List ℕ) → IsLiteralOrEnds c (unwrap_or {T = Item × ℕ} (set_of (negated, cs)) (plain_item c, 0))
+set_kind c negated cs = go (body_len cs)
   where
-    go : (len : Option ℕ) → IsLiteralOrEnds c (unwrap_or {T = Item × ℕ} (option_map (λ n. (OneOf negated (take n cs), before + n + 1)) len) (plain_item c, 0))
+    go : (len : Option ℕ)
+        → IsLiteralOrEnds c (unwrap_or {T = Item × ℕ} (option_map (λ n. (OneOf negated (take n cs), cond negated (n + 2) (n + 1))) len) (plain_item c, 0))
     go None = plain_kind c
     go (Some n) = inr (λ items. refl)
 
 bracket_kind : (c : ℕ) (cs : List ℕ) → IsLiteralOrEnds c (unwrap_or (set_at cs) (plain_item c, 0))
-bracket_kind c [] = plain_kind c
-bracket_kind c (x ∷ xs) =
-    elim (eqb x 33) as (λ b. IsLiteralOrEnds c (unwrap_or {T = Item × ℕ} (cond b (set_of true 1 xs) (set_of false 0 (x ∷ xs))) (plain_item c, 0))) [
-      | true ↦ set_kind c true 1 xs
-      | false ↦ set_kind c false 0 (x ∷ xs)
-    ]
+bracket_kind c cs = set_kind c (negation_of cs).0 (negation_of cs).1
 
 item_kind : (c : ℕ) (cs : List ℕ) → IsLiteralOrEnds c (item_at c cs)
 item_kind c cs =

@@ -32,15 +32,15 @@ none_after (suc n) [] e = e
 none_after (suc n) (c ∷ cs) e = none_after n cs (none_in_rest c cs e)
 
 -- where no ] follows, no set begins
-no_body : (negated : Bool) (before : ℕ) (cs : List ℕ) → position is_close (drop 1 cs) ≡ None → set_of negated before cs ≡ None
-no_body negated before cs e = ap (λ o. option_map (λ n. (OneOf negated (take n cs), before + n + 1)) (option_map (λ n. n + 1) o)) e
+no_body : (negated : Bool) (cs : List ℕ) → position is_close (drop 1 cs) ≡ None → set_of (negated, cs) ≡ None
+no_body negated cs e = ap (λ o. option_map (λ n. (OneOf negated (take n cs), cond negated (n + 2) (n + 1))) (option_map (λ n. n + 1) o)) e
 
 no_set : (cs : List ℕ) → position is_close (drop 1 cs) ≡ None → set_at cs ≡ None
 no_set [] e = refl
 no_set (x ∷ xs) e =
-    elim (eqb x 33) as (λ b. cond b (set_of true 1 xs) (set_of false 0 (x ∷ xs)) ≡ None) [
-      | true ↦ no_body true 1 xs (none_after 1 xs e)
-      | false ↦ no_body false 0 (x ∷ xs) e
+    elim (eqb x 33) as (λ b. set_of (cond b (true, xs) (false, x ∷ xs)) ≡ None) [
+      | true ↦ no_body true xs (none_after 1 xs e)
+      | false ↦ no_body false (x ∷ xs) e
     ]
 
 pub item_at-closed : (c : ℕ) (cs : List ℕ) → position is_close (drop 1 cs) ≡ None → item_at c cs ≡ (plain_item c, 0)
@@ -49,21 +49,24 @@ item_at-closed c cs e =
     rw (no_set cs e) (elim (eqb c 91) as (λ b. cond b plain plain ≡ plain) [ true ↦ refl | false ↦ refl ])
 
 -- where a [ begins no set, no ] follows
-no_body_follows : (negated : Bool) (before : ℕ) (cs : List ℕ) (item : Item) → (unwrap_or {T = Item × ℕ} (set_of negated before cs) (item, 0)).1 ≡ 0
+no_body_follows : (negated : Bool) (cs : List ℕ) (item : Item) → (unwrap_or {T = Item × ℕ} (set_of (negated, cs)) (item, 0)).1 ≡ 0
     → position is_close (drop 1 cs) ≡ None
-no_body_follows negated before cs item e = go (position is_close (drop 1 cs)) e
+no_body_follows negated cs item e = go negated (position is_close (drop 1 cs)) e
   where
-    go : (o : Option ℕ) → (unwrap_or {T = Item × ℕ} (option_map (λ n. (OneOf negated (take n cs), before + n + 1)) (option_map (λ n. n + 1) o)) (item, 0)).1 ≡ 0 → o ≡ None
-    go None e = refl
-    go (Some n) e = absurd (omega arith)
+    go : (negated : Bool) (o : Option ℕ)
+        → (unwrap_or {T = Item × ℕ} (option_map (λ n. (OneOf negated (take n cs), cond negated (n + 2) (n + 1))) (option_map (λ n. n + 1) o)) (item, 0)).1 ≡ 0
+        → o ≡ None
+    go negated None e = refl
+    go true (Some n) e = absurd (omega arith)
+    go false (Some n) e = absurd (omega arith)
 
 closed_after : (cs : List ℕ) → (item_at 91 cs).1 ≡ 0 → position is_close (drop 2 cs) ≡ None
 closed_after [] e = refl
 closed_after (x ∷ xs) e = go (eqb x 33) e
   where
-    go : (b : Bool) → (unwrap_or {T = Item × ℕ} (cond b (set_of true 1 xs) (set_of false 0 (x ∷ xs))) (plain_item 91, 0)).1 ≡ 0 → position is_close (drop 1 xs) ≡ None
-    go true e = no_body_follows true 1 xs (plain_item 91) e
-    go false e = none_after 1 xs (no_body_follows false 0 (x ∷ xs) (plain_item 91) e)
+    go : (b : Bool) → (unwrap_or {T = Item × ℕ} (set_of (cond b (true, xs) (false, x ∷ xs))) (plain_item 91, 0)).1 ≡ 0 → position is_close (drop 1 xs) ≡ None
+    go true e = no_body_follows true xs (plain_item 91) e
+    go false e = none_after 1 xs (no_body_follows false (x ∷ xs) (plain_item 91) e)
 
 pub closed_from_item : (c taken : ℕ) (item : Item) (cs : List ℕ) → c ≡ 91 → taken ≡ 0 → (item, taken) ≡ item_at c cs
     → position is_close (drop 2 (drop taken cs)) ≡ None

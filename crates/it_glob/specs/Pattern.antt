@@ -1,6 +1,6 @@
 -- What a path pattern means. The in-toto specification 1.0, section 4.3.3, names path patterns and leaves
 -- their language open: the language below is this profile's choice. Characters are Unicode scalar values.
-use Rattle.std.specs.Prelude.{◌≡◌, ℕ, zero, suc, ◌+◌, ◌≤◌, ◌⊎◌, Bool, true, false, List, [], ◌∷◌, ◌++◌, Option, None, ◌==◌, ⊤, if◌then◌else◌, MatchBool, take, drop, position, option_map, unwrap_or, encode_utf8}
+use Rattle.std.specs.Prelude.{◌≡◌, ℕ, zero, suc, ◌+◌, ◌≤◌, ◌⊎◌, Bool, true, false, List, [], ◌∷◌, ◌++◌, Option, ◌==◌, ⊤, if◌then◌else◌, MatchBool, take, drop, position, option_map, unwrap_or, encode_utf8}
 use Rattle.std.specs.Str.{byte, chars}
 use Rattle.it_glob.specs.declared.item.Item.{Item}
 use Rattle.it_glob.specs.declared.item.Item.TheVariants.{Star, Any, OneOf, Exactly}
@@ -13,14 +13,20 @@ is_close c = c == byte "]"
 abbrev pub body_len : List ℕ → Option ℕ
 body_len cs = option_map (λ n. n + 1) (position is_close (drop 1 cs))
 
--- the set whose body begins cs, and how many characters it takes after its [, where `before` of them precede the body
-abbrev pub set_of : Bool → ℕ → List ℕ → Option (Item × ℕ)
-set_of negated before cs = option_map (λ n. (OneOf negated (take n cs), before + n + 1)) (body_len cs)
+-- whether a set is negated, where these characters follow its [, and the characters from its body on: a ! that stands
+-- right after the [ is the negation
+abbrev pub negation_of : List ℕ → Bool × List ℕ
+negation_of [] = (false, [])
+negation_of (c ∷ cs) = if c == byte "!" then (true, cs) else (false, c ∷ cs)
 
--- the set whose [ precedes these characters. A ! that stands right after the [ is its negation
+-- the set with or without negation whose body begins these characters, and how many characters it takes after its [:
+-- the ! if it is negated, the body and the ]
+abbrev pub set_of : Bool × List ℕ → Option (Item × ℕ)
+set_of (negated, cs) = option_map (λ n. (OneOf negated (take n cs), (if negated then n + 2 else n + 1))) (body_len cs)
+
+-- the set whose [ precedes these characters
 abbrev pub set_at : List ℕ → Option (Item × ℕ)
-set_at [] = None
-set_at (c ∷ cs) = if c == byte "!" then set_of true 1 cs else set_of false 0 (c ∷ cs)
+set_at cs = set_of (negation_of cs)
 
 -- the item of a character that begins no set
 abbrev pub plain_item : ℕ → Item

@@ -71,6 +71,6 @@ impl Pattern {
         ensures begins { (path : List ℕ) → IsUtf8 path → Matches (items_of self.now) path
             → BeginsWith path result.now }
     {
-        front_of_text(self.text.as_str(), self.items.as_slice())
+        front_of_text(self.text(), self.items.as_slice())
     }
 }

@@ -1,6 +1,6 @@
 //! The reading of a pattern's text into items.
-ghost use Rattle.std.specs.Prelude.{◌≡◌, ◌+◌, ◌≤◌, ◌<◌, IfOk, IfSome, length, position};
-ghost use Rattle.it_glob.specs.Pattern.{items_of, items_after, item_at, plain_item, set_at, set_of, body_len, is_close};
+ghost use Rattle.std.specs.Prelude.{◌≡◌, ◌+◌, ◌≤◌, ◌<◌, IfOk, IfSome, if◌then◌else◌, length, position};
+ghost use Rattle.it_glob.specs.Pattern.{items_of, items_after, item_at, plain_item, set_at, negation_of, body_len, is_close};
 
 use crate::item::{Body, Item};
 use std::alloc::{AllocError, Global};
@@ -63,29 +63,25 @@ fn set(alloc: Global, after: &[char]) -> Result<Option<(Item, usize)>, AllocErro
     ensures answer { IfOk result (λ s. s ≡ set_at after.now) }
     ensures within { IfOk result (λ s. IfSome s (λ p. p.1 ≤ length after.now)) }
 {
-    match after.split_first() {
-        Some((first, others)) if *first == '!' => set_with_body(alloc, true, 1, others),
-        _ => set_with_body(alloc, false, 0, after),
-    }
-}
-
-/// The set whose body begins these characters, and how many characters it takes: those that
-/// precede its body, the body and the `]`.
-fn set_with_body(
-    alloc: Global,
-    negated: bool,
-    before: usize,
-    characters: &[char],
-) -> Result<Option<(Item, usize)>, AllocError>
-    requires { before ≤ 1 }
-    ensures answer { IfOk result (λ s. s ≡ set_of negated before characters.now) }
-    ensures within { IfOk result (λ s. IfSome s (λ p. p.1 ≤ before + length characters.now)) }
-{
+    let (negated, characters) = split_negation(after);
     let Some(len) = len_of_body(characters) else {
         return Ok(None);
     };
     let body = Body::new(characters[..len].to_vec(alloc)?);
-    Ok(Some((Item::OneOf { negated, body }, before + len + 1)))
+    let taken = if negated { len + 2 } else { len + 1 };
+    Ok(Some((Item::OneOf { negated, body }, taken)))
+}
+
+/// Whether a set is negated, where these characters follow its `[`, and the characters from its
+/// body on.
+fn split_negation(after: &[char]) -> (bool, &[char])
+    ensures value { (result.0, result.1.now) ≡ negation_of after.now }
+    ensures within { length result.1.now + (if result.0 then 1 else 0) ≡ length after.now }
+{
+    match after.split_first() {
+        Some((first, others)) if *first == '!' => (true, others),
+        _ => (false, after),
+    }
 }
 
 /// How many of these characters are the body of a set, if a set can begin with them.

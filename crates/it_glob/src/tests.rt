@@ -105,18 +105,24 @@ fn counts_steps(rt: HostRuntime) -> Result<(), Fail> {
     let alloc = rt.alloc();
     let stars = repeated(alloc, "*a", 20)?;
     let stars = format!(in alloc; "{}*b", stars.as_str())?;
-    let rows = [
-        ("*a*a*a*b", 32, 297),
-        (stars.as_str(), 100, 4343),
-    ];
+    let rows = [("*a*a*a*b", 32, 297), (stars.as_str(), 100, 4343)];
     for (pattern, length, most) in rows {
         let path = repeated(alloc, "a", length)?;
         let (matched, steps) = Pattern::read(alloc, pattern)?.matches_counted(path.as_str());
         assert!(rt; !matched && steps <= most, "{pattern}: {steps}");
     }
-    assert_eq!(rt; Pattern::read(alloc, "abc")?.matches_counted("abc"), (true, 3));
-    assert_eq!(rt; Pattern::read(alloc, "*")?.matches_counted("abc"), (true, 0));
-    assert_eq!(rt; Pattern::read(alloc, "abc")?.matches_counted("b"), (false, 1));
+    assert_eq!(rt;
+        Pattern::read(alloc, "abc")?.matches_counted("abc"),
+        (true, 3)
+    );
+    assert_eq!(rt;
+        Pattern::read(alloc, "*")?.matches_counted("abc"),
+        (true, 0)
+    );
+    assert_eq!(rt;
+        Pattern::read(alloc, "abc")?.matches_counted("b"),
+        (false, 1)
+    );
     Ok(())
 }
 

@@ -1,5 +1,5 @@
--- What a path pattern means. The in-toto specification 1.0, section 4.3.3, names path patterns and leaves
--- their language open: the language below is this profile's choice. Characters are Unicode scalar values.
+-- Path patterns. The in-toto specification 1.0, section 4.3.3, names the files of artifact rules by path patterns.
+-- Which texts are patterns and what they match is this profile's choice. A character is a Unicode scalar value.
 use Rattle.std.specs.Prelude.{◌≡◌, ℕ, zero, suc, ◌+◌, ◌≤◌, ◌⊎◌, Bool, true, false, List, [], ◌∷◌, ◌++◌, Option, ◌==◌, ⊤, if◌then◌else◌, MatchBool, take, drop, position, option_map, unwrap_or, encode_utf8}
 use Rattle.std.specs.Str.{byte, chars}
 use Rattle.it_glob.specs.declared.item.Item.{Item}

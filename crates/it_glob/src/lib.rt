@@ -4,7 +4,7 @@
 mod front;
 mod item;
 mod matching;
-pub mod pattern;
+mod pattern;
 mod reading;
 #[cfg(test)]
 mod tests;

@@ -10,7 +10,8 @@ use crate::reading::read_items;
 use std::alloc::{AllocError, Global};
 use std::marker::Model;
 
-/// A path pattern that has been read. A contract sees the bytes of its text, and nothing else of it.
+/// A path pattern that has been read, as artifact rules name files by it (in-toto 1.0, section
+/// 4.3.3). A contract sees the bytes of its text, and nothing else of it.
 #[derive(Drop)]
 pub struct Pattern {
     text: String,
@@ -29,7 +30,8 @@ impl Model for Pattern {
 }
 
 impl Pattern {
-    /// Reads a pattern. Every text is one.
+    /// Reads a pattern's text. Every text is a pattern: what begins no item of its own stands for itself.
+    /// The pattern keeps a copy of the text. The one error is that memory ran out.
     pub fn read(alloc: Global, text: &str) -> Result<Pattern, AllocError>
         ensures { IfOk result (λ p. p ≡ text.now) }
     {
@@ -38,14 +40,14 @@ impl Pattern {
         Ok(Pattern { text, items })
     }
 
-    /// Lends the text that the pattern was read from.
+    /// Lends the text that the pattern was read from. Takes no memory.
     pub fn text(&self) -> &str
         ensures { result.now ≡ self.now }
     {
         self.text.as_str()
     }
 
-    /// Whether the pattern matches the whole path.
+    /// Whether the pattern matches the whole of a path. Takes no memory.
     pub fn matches(&self, path: &str) -> bool
         ensures { IsTrue result ↔ Matches (items_of self.now) path.now }
     {
@@ -53,8 +55,9 @@ impl Pattern {
         matched
     }
 
-    /// Whether the pattern matches the whole path, and how many steps that took. A step is one test
-    /// of an item against a character. The count saturates at the greatest `u64`.
+    /// Whether the pattern matches the whole of a path, and how many steps that took. A step is one
+    /// test of an item against a character, and a star is none. The count saturates at the greatest
+    /// `u64`. Takes no memory.
     #[tactic(auto, unfolding(crate::specs::Pattern::Matches))]
     pub fn matches_counted(&self, path: &str) -> (bool, u64)
         ensures answer { IsTrue result.0 ↔ Matches (items_of self.now) path.now }
@@ -65,7 +68,8 @@ impl Pattern {
         compare(self.items.as_slice(), path)
     }
 
-    /// Lends the part of the pattern's text before its first star, any or set item.
+    /// Lends the part of the pattern's text before its first `*`, `?` or set. Each path that the
+    /// pattern matches begins with it. Takes no memory.
     pub fn literal_front(&self) -> &str
         ensures value { result.now ≡ front_of (items_of self.now) }
         ensures begins { (path : List ℕ) → IsUtf8 path → Matches (items_of self.now) path

@@ -1,0 +1,3 @@
+pub mod Artifacts
+pub mod Compare
+pub mod DigestSet

@@ -1,3 +1,4 @@
 pub mod Artifacts
 pub mod Compare
 pub mod DigestSet
+pub mod Reader

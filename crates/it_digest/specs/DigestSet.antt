@@ -1,6 +1,6 @@
 -- The algorithms of a digest set (in-toto Attestation v1, DigestSet; the two algorithms are this
 -- profile's choice). This is the one place that names them.
-use Rattle.std.specs.Prelude.{ℕ, List, [], ◌∷◌, Option, refl}
+use Rattle.std.specs.Prelude.{ℕ, List, [], ◌∷◌, Option, Some, None, refl}
 use Rattle.std.specs.Coded.{Coded, code_by, coded×, coded_ℕ, coded_list, coded_option}
 use Rattle.it_digest.specs.declared.compare.DigestSet.{DigestSet}
 
@@ -22,3 +22,7 @@ abbrev pub digest_set_code : Coded DigestSet
 digest_set_code =
     code_by (Option (List ℕ) × Option (List ℕ)) (coded× (coded_option (coded_list coded_ℕ)) (coded_option (coded_list coded_ℕ)))
     (λ set. (set.sha256, set.sha512)) (λ p. record { sha256 = p.0; sha512 = p.1 }) (λ _. refl)
+
+-- the set with this SHA-256 and no other digest
+abbrev pub only_sha256 : List ℕ → DigestSet
+only_sha256 digest = record { sha256 = Some digest; sha512 = None }

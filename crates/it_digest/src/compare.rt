@@ -1,6 +1,7 @@
 //! Digest sets and their comparison.
 
 ghost use Rattle.std.specs.Prelude.{◌≡◌, ◌↔◌};
+ghost use Rattle.it_digest.specs.DigestSet.{only_sha256};
 ghost use Rattle.it_digest.specs.Compare.{Agree, Apart, Differ, compared, compared_values, joined};
 
 /// The digests of one artifact, each under its algorithm; an algorithm may be missing.
@@ -37,6 +38,16 @@ impl Compare {
 }
 
 impl DigestSet {
+    /// The set with this SHA-256 and no other digest.
+    pub(crate) fn of_sha256(digest: [u8; 32]) -> DigestSet
+        ensures { result ≡ only_sha256 digest }
+    {
+        DigestSet {
+            sha256: Some(digest),
+            sha512: None,
+        }
+    }
+
     /// Compares two digest sets. One algorithm with unequal values is enough for `Differ`, in
     /// links, delivered files and subjects alike. This is this profile's choice: in-toto
     /// Attestation v1 lets two sets match where the values of any acceptable algorithm do.

@@ -5,3 +5,4 @@
 pub mod artifacts;
 pub mod compare;
 pub mod reader;
+pub mod sums;

@@ -6,3 +6,5 @@ pub mod artifacts;
 pub mod compare;
 pub mod reader;
 pub mod sums;
+#[cfg(test)]
+mod tests;

@@ -11,6 +11,8 @@ use std::test::Fail;
 // (FIPS 180-4, NIST's examples).
 const ABC: &str = "ba7816bf8f01cfea414140de5dae2223b00361a396177a9cb410ff61f20015ad";
 
+const UPPER_CASE_ABC: &str = "BA7816BF8F01CFEA414140DE5DAE2223B00361A396177A9CB410FF61F20015AD";
+
 const NOTHING: &str = "e3b0c44298fc1c149afbf4c8996fb92427ae41e4649b934ca495991b7852b855";
 
 const MILLION: &str = "cdc76e5c9914fb9281a1c7e284d73e67f1809a48a497200e046d39ccc7112cd0";
@@ -40,6 +42,14 @@ fn map_of(alloc: Global, entries: &[(&str, DigestSet)]) -> Result<Artifacts, All
     let mut map = Artifacts::new(alloc);
     for (path, digests) in entries {
         map.insert(String::from_str(alloc, path)?, *digests)?;
+    }
+    Ok(map)
+}
+
+fn all_with(alloc: Global, paths: &[&str], digests: DigestSet) -> Result<Artifacts, AllocError> {
+    let mut map = Artifacts::new(alloc);
+    for path in paths {
+        map.insert(String::from_str(alloc, path)?, digests)?;
     }
     Ok(map)
 }
@@ -211,8 +221,7 @@ fn list(alloc: Global, parts: &[&[u8]]) -> Result<Vec<u8>, AllocError> {
 fn reads_digest_lists(rt: HostRuntime) -> Result<(), Fail> {
     let alloc = rt.alloc();
     let abc = ABC.as_bytes();
-    let upper = ABC.to_ascii_uppercase(alloc)?;
-    let upper = upper.as_bytes();
+    let upper = UPPER_CASE_ABC.as_bytes();
     let rows: [(&[&[u8]], &[&str]); 9] = [
         (&[], &[]),
         (&[abc, b"  app\n"], &["app"]),
@@ -230,10 +239,7 @@ fn reads_digest_lists(rt: HostRuntime) -> Result<(), Fail> {
     let digests = sha256(ABC)?;
     for (parts, paths) in rows {
         let bytes = list(alloc, parts)?;
-        let mut want = Artifacts::new(alloc);
-        for path in paths {
-            want.insert(String::from_str(alloc, path)?, digests)?;
-        }
+        let want = all_with(alloc, paths, digests)?;
         let sums = read_sums(alloc, &bytes)?;
         assert!(rt; sums.same_as(&want), "{bytes:?}");
     }

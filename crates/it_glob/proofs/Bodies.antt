@@ -2,7 +2,7 @@
 use Rattle.std.proofs.Common.{◌≡◌, ◌≢◌, ℕ, ◌≤◌, ◌⊎◌, ◌↔◌, inl, inr, true, false, List, [], ◌∷◌, length, drop, get_or, arith, eqb, eq-eqb}
 use Rattle.std.proofs.lemmas.Bool.Decides.{nat_tests}
 use Rattle.it_glob.specs.Pattern.{InBody}
-use Rattle.it_glob.specs.Range.{IsFirstRange}
+use Rattle.it_glob.specs.Item.{IsFirstRange}
 
 -- a character is itself just where it is from itself to itself
 own_range : (x c : ℕ) (P : Type 0) → ((c ≡ x) ⊎ P) ↔ (((x ≤ c) × (c ≤ x)) ⊎ P)

@@ -5,7 +5,7 @@ use Rattle.std.specs.Prelude.{IfSome}
 use Rattle.std.proofs.Math.Nat.{mul-le-mul_right}
 use Rattle.std.proofs.lemmas.Option.{same_Some, IfSome_then}
 use Rattle.it_glob.specs.Pattern.{plain_count}
-use Rattle.it_glob.specs.Restart.{Place, next_place}
+use Rattle.it_glob.specs.Matching.{Place, next_place}
 use Rattle.it_glob.specs.declared.item.Item.{Item}
 use Rattle.it_glob.specs.declared.item.Item.TheVariants.{Star, Any, OneOf, Exactly}
 

@@ -6,7 +6,7 @@ use Rattle.std.proofs.lemmas.Str.{chars-nil, encodes-chars}
 use Rattle.std.specs.Prelude.{IfSome}
 use Rattle.std.specs.Str.{chars, encode_utf8_all, IsUtf8}
 use Rattle.it_glob.specs.Pattern.{MatchesChars, Takes}
-use Rattle.it_glob.specs.Restart.{Place, next_place}
+use Rattle.it_glob.specs.Matching.{Place, next_place}
 use Rattle.it_glob.specs.declared.item.Item.{Item}
 use Rattle.it_glob.specs.declared.item.Item.TheVariants.{Star, Any, OneOf, Exactly}
 

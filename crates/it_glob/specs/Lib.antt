@@ -1,3 +1,3 @@
+pub mod Item
+pub mod Matching
 pub mod Pattern
-pub mod Range
-pub mod Restart

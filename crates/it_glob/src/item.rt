@@ -1,7 +1,7 @@
 //! The items of a pattern.
 ghost use Rattle.std.specs.Prelude.{◌≡◌, [], IsTrue, ◌↔◌, MatchOption};
 ghost use Rattle.it_glob.specs.Pattern.{InBody};
-ghost use Rattle.it_glob.specs.Range.{IsFirstRange};
+ghost use Rattle.it_glob.specs.Item.{IsFirstRange};
 
 use std::marker::Model;
 

@@ -2,7 +2,7 @@
 ghost use Rattle.std.specs.Prelude.{◌≡◌, ◌+◌, ◌*◌, ◌≤◌, ◌∷◌, [], IsTrue, ◌↔◌, MatchOption, length};
 ghost use Rattle.std.specs.Str.{chars};
 ghost use Rattle.it_glob.specs.Pattern.{MatchesChars, plain_count};
-ghost use Rattle.it_glob.specs.Restart.{next_place, place_of};
+ghost use Rattle.it_glob.specs.Matching.{next_place, place_of};
 
 use crate::item::Item;
 
@@ -14,7 +14,7 @@ struct Restart<'a> {
 }
 
 /// Whether the items match the whole text, and how many tests of an item against a character were made.
-pub(crate) fn compare(items: &[Item], text: &str) -> (bool, u64)
+pub(crate) fn match_items(items: &[Item], text: &str) -> (bool, u64)
     ensures answer { IsTrue result.0 ↔ MatchesChars items.now (chars text.now) }
     ensures at_most { result.1 ≤ (length items.now + 1) * (length (chars text.now) + 1) }
     ensures at_least { IsTrue result.0 → plain_count items.now ≤ result.1 }

@@ -5,7 +5,7 @@ ghost use Rattle.it_glob.specs.Pattern.{items_of, Matches, front_of, plain_count
 
 use crate::front::front_of_text;
 use crate::item::Item;
-use crate::matching::compare;
+use crate::matching::match_items;
 use crate::reading::read_items;
 use std::alloc::{AllocError, Global};
 use std::marker::Model;
@@ -65,7 +65,7 @@ impl Pattern {
             ≤ (length (items_of self.now) + 1) * (length (chars path.now) + 1) }
         ensures at_least { IsTrue result.0 → plain_count (items_of self.now) ≤ result.1 }
     {
-        compare(self.items.as_slice(), path)
+        match_items(self.items.as_slice(), path)
     }
 
     /// Lends the part of the pattern's text before its first `*`, `?` or set. Each path that the

@@ -1,10 +1,10 @@
 use denote.Text.{Utf8}
 use denote.Shadow.{shadow}
 use Rattle.std.specs.Str.{chars}
-use Rattle.it_glob.specs.Restart.{place_of}
+use Rattle.it_glob.specs.Matching.{place_of}
 use Rattle.it_glob.proofs.Counting.{Counts}
 use Rattle.it_glob.proofs.Steps.{Stands, steps_left}
-use Rattle.it_glob.proofs.matching.compare.Given as goal
+use Rattle.it_glob.proofs.matching.match_items.Given as goal
 
 abbrev pub invariant-loop-item : goal.invariant-loop-item
 invariant-loop-item l = record {

@@ -1,4 +1,4 @@
--- Where the matching of a pattern stands, and where it starts again.
+-- The place from which the matching of a pattern starts again.
 use Rattle.std.specs.Prelude.{ℕ, List, [], ◌∷◌, Option, Some, None, option_map}
 use Rattle.std.specs.Str.{chars}
 use Rattle.it_glob.specs.declared.item.Item.{Item}

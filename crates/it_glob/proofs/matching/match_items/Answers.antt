@@ -3,12 +3,12 @@ use Rattle.std.specs.Str.{chars}
 use Rattle.std.proofs.lemmas.Bool.Decides.{nat_tests}
 use Rattle.std.proofs.lemmas.List.{nil_from_length}
 use Rattle.it_glob.specs.Pattern.{MatchesChars}
-use Rattle.it_glob.specs.Restart.{place_of}
+use Rattle.it_glob.specs.Matching.{place_of}
 use Rattle.it_glob.proofs.Counting.{Spent, spent_none, spent_one, counts_at_star, counts_at_taken, counts_at_restart, counts_bound, counts_least}
 use Rattle.it_glob.proofs.Steps.{at_star, at_taken, not_taken, at_restart, at_no_restart, at_end, no_items_left, no_characters, some_characters}
 use Rattle.it_glob.specs.declared.item.Item.TheVariants.{Star}
-use Rattle.it_glob.proofs.matching.compare.Goals as goal
-use Rattle.it_glob.proofs.matching.compare.Goals.{After-next_try, in-Some-2+in-Some-split_first_char+else-takes, in-None+else-is_empty}
+use Rattle.it_glob.proofs.matching.match_items.Goals as goal
+use Rattle.it_glob.proofs.matching.match_items.Goals.{After-next_try, in-Some-2+in-Some-split_first_char+else-takes, in-None+else-is_empty}
 
 -- the items do not match here, and what that took
 record Misses (c : After-next_try) : Type 0 where

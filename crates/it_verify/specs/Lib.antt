@@ -1,0 +1,4 @@
+pub mod Name
+pub mod Outcome
+pub mod Output
+pub mod Words

@@ -1,0 +1,7 @@
+//! The commands of `itv`, over bytes and a writer: what each one writes, and how it ends.
+#![tactic(auto)]
+
+mod name;
+pub mod outcome;
+mod output;
+pub mod words;

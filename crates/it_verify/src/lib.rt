@@ -4,4 +4,7 @@
 mod name;
 pub mod outcome;
 mod output;
+mod signed;
 pub mod words;
+
+pub use signed::run_signed;

@@ -16,5 +16,6 @@ names_signers check ids envelope signers text status those lists = record {
   text_is = lists.text_is;
   good = (
     λ good. any_kept (IsSigner check envelope ring_object) ids signers those (lists.good.0 good),
-    λ some. lists.good.1 (kept_any (IsSigner check envelope ring_object) ids signers those some));
+    λ some. lists.good.1 (kept_any (IsSigner check envelope ring_object) ids signers those some),
+  );
 }

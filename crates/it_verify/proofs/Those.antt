@@ -18,4 +18,3 @@ kept_any P (x ∷ xs) kept (inl (p, kept_is)) any none = let made = kept_is.1 in
 kept_any P (x ∷ xs) kept (inr later) (zero, y, below, is, holds) none = later.0 (subst P (sym is) holds)
 kept_any P (x ∷ xs) kept (inr later) (suc k, y, below, is, holds) none =
     kept_any P xs kept later.1 (k, y, omega arith, is, holds) none
-

@@ -5,6 +5,8 @@ mod name;
 pub mod outcome;
 mod output;
 mod signed;
+#[cfg(test)]
+mod tests;
 pub mod words;
 
 pub use signed::run_signed;

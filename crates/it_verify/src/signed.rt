@@ -4,7 +4,12 @@ ghost use Rattle.std.specs.Io.KnownBytes.{Appends};
 ghost use Rattle.it_dsse.specs.Signed.{AreThose, IsSigner};
 ghost use Rattle.it_verify.specs.Output.{AppendsBeginning};
 ghost use Rattle.it_verify.specs.Signed.{
-    IsSignedOutput, ListsNames, NamesSigners, names_text, no_envelope_report, ring_object,
+  IsSignedOutput,
+  ListsNames,
+  NamesSigners,
+  names_text,
+  no_envelope_report,
+  ring_object,
 };
 
 use crate::name::push_name;

@@ -1,4 +1,7 @@
 //! Why the program stops, as its notes say it.
+ghost use Rattle.std.specs.Prelude.{◌≡◌};
+ghost use Rattle.itv.specs.Fault.{program_status};
+
 use it_verify::outcome::{RunFault, Status, exit_of};
 use it_verify::words::WordsFault;
 use std::alloc::{AllocError, AllocFailed, Global};
@@ -98,7 +101,9 @@ fn reason(alloc: Global, error: &io::Error) -> Result<String, AllocError> {
 }
 
 /// The status that the program ends with: that of the command, or 2 where it did not come to run.
-pub(crate) fn exit_status(outcome: &Result<Status, Fault>) -> u8 {
+pub(crate) fn exit_status(outcome: &Result<Status, Fault>) -> u8
+    ensures { result ≡ program_status outcome.now }
+{
     match outcome {
         Ok(status) => exit_of(&Ok(*status)),
         Err(Fault::Run(fault)) => exit_of(&Err(*fault)),

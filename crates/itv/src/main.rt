@@ -6,6 +6,8 @@
 mod fault;
 mod files;
 mod signed;
+#[cfg(test)]
+mod tests;
 
 use fault::{Fault, exit_status};
 use it_verify::outcome::Status;

@@ -1,0 +1,20 @@
+-- How a report writes a name, an id or a path (this profile's choice).
+use Rattle.std.specs.Prelude.{ℕ, ◌+◌, ◌-◌, ◌/◌, ◌%◌, List, [], ◌∷◌, ◌++◌, Bool, ◌&&◌, not, ◌==◌, nat_le, nat_lt, if◌then◌else◌, codes}
+use Rattle.std.specs.List.{flat_map}
+
+-- a byte that stands for itself: a character of ASCII that is seen, but no backslash
+abbrev pub is_plain : ℕ → Bool
+is_plain byte = nat_le 0x21 byte && nat_le byte 0x7e && not (byte == 0x5c)
+
+-- a number below 16 as a hexadecimal digit, in lower case
+abbrev pub digit_form : ℕ → ℕ
+digit_form n = if nat_lt n 10 then 48 + n else 97 + (n - 10)
+
+-- a byte as itself, or as \x and two digits
+abbrev pub byte_form : ℕ → List ℕ
+byte_form byte = if is_plain byte then byte ∷ [] else codes "\\x" ++ digit_form (byte / 16) ∷ digit_form (byte % 16) ∷ []
+
+-- a name byte by byte, an empty one as \e
+unfoldable pub name_form : List ℕ → List ℕ
+name_form [] = codes "\\e"
+name_form (byte ∷ bytes) = flat_map byte_form (byte ∷ bytes)

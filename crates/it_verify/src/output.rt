@@ -1,0 +1,45 @@
+//! What a command writes: its whole output is made first, and then written.
+ghost use Rattle.std.specs.Prelude.{◌≡◌, IfOk, IfErr};
+ghost use Rattle.std.specs.Io.KnownBytes.{Appends};
+ghost use Rattle.it_verify.specs.Output.{AppendsBeginning};
+
+use crate::outcome::{RunFault, Status};
+use std::io::Write;
+
+/// A command's whole output, and what the command found.
+#[derive(Drop)]
+pub(crate) struct Output {
+    pub(crate) text: Vec<u8>,
+    pub(crate) status: Status,
+}
+
+/// Writes the whole output, and answers the status. No write is tried again.
+///
+/// # Errors
+///
+/// `Write` where the writer answered an error, or took nothing; a beginning of the output went out.
+pub(crate) fn put<W: Write>(out: &mut W, output: &Output) -> Result<Status, RunFault>
+    ensures ok { IfOk result (λ status. (status ≡ output.now.status)
+        × Appends (W.contents out.old) (W.contents out.new) output.now.text.items) }
+    ensures err { IfErr result (λ fault. (fault ≡ RunFault.Write)
+        × AppendsBeginning (W.contents out.old) (W.contents out.new) output.now.text.items) }
+{
+    write_text(out, output.text.as_slice())?;
+    Ok(output.status)
+}
+
+fn write_text<W: Write>(out: &mut W, text: &[u8]) -> Result<(), RunFault>
+    ensures ok { IfOk result (λ _. Appends (W.contents out.old) (W.contents out.new) text.now) }
+    ensures err { IfErr result (λ fault. (fault ≡ RunFault.Write)
+        × AppendsBeginning (W.contents out.old) (W.contents out.new) text.now) }
+{
+    let mut at = 0;
+    while at < text.len() {
+        match out.write(&text[at..]) {
+            Ok(0) => return Err(RunFault::Write),
+            Ok(count) => at += count,
+            Err(_) => return Err(RunFault::Write),
+        }
+    }
+    Ok(())
+}

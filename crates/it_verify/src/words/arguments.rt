@@ -1,0 +1,35 @@
+//! The kinds of arguments that commands take.
+ghost use Rattle.std.specs.Prelude.{◌≡◌, false, option_map};
+ghost use Rattle.clap.specs.Words.{found_of};
+ghost use Rattle.clap.specs.Walk.{first_of, rows_of, rule_of};
+ghost use Rattle.it_verify.specs.Words.{needed_option, needed_word};
+
+use clap::{Arg, ArgMatches};
+use std::alloc::Global;
+
+/// A word that has to be given, in its place.
+pub(super) fn needed_word<'a>(alloc: Global, name: &'a str, shown: &'a str) -> Arg<'a>
+    ensures rule { rule_of result ≡ needed_word name.entry.now }
+    ensures local { result.global ≡ false }
+{
+    Arg::new(alloc, name).value_name(shown).required(true)
+}
+
+/// An option that has to be given, with one value.
+pub(super) fn needed_option<'a>(alloc: Global, name: &'a str, shown: &'a str) -> Arg<'a>
+    ensures rule { rule_of result ≡ needed_option name.entry.now }
+    ensures local { result.global ≡ false }
+{
+    Arg::new(alloc, name)
+        .long(name)
+        .value_name(shown)
+        .required(true)
+}
+
+/// The value that was given to an argument.
+pub(super) fn value<'a>(values: &ArgMatches<'a>, name: &str) -> Option<&'a str>
+    ensures { option_map (λ text. text.now) result
+        ≡ first_of name.now (rows_of (found_of values.now)) }
+{
+    values.get_str(name)
+}

@@ -1,0 +1,52 @@
+//! Files, read up to a limit and no further.
+ghost use Rattle.std.specs.Prelude.{◌≡◌, ◌<◌, ◌-◌, ◌^◌, length, IfOk, IfSome, IsNone};
+
+use crate::fault::Fault;
+use it_base::text::Text;
+use std::alloc::Global;
+use std::io::Read;
+use std::rt::Files;
+use std::{fs, io};
+
+/// How many bytes a file may have.
+pub(crate) const MOST_BYTES: u64 = 8_388_608;
+
+/// The bytes of a file, up to the limit.
+pub(crate) fn read_file<R: Files + AllocGlobal>(rt: &R, path: &Text) -> Result<Vec<u8>, Fault> {
+    let alloc = rt.alloc();
+    let path = path.as_str();
+    let bytes = match fs::open(rt, path) {
+        Ok(file) => read_limited(alloc, file, MOST_BYTES),
+        Err(error) => Err(error),
+    };
+    match bytes {
+        Ok(Some(bytes)) => Ok(bytes),
+        Ok(None) => Err(Fault::TooLarge {
+            path: String::from_str(alloc, path)?,
+            limit: MOST_BYTES,
+        }),
+        Err(error) => Err(Fault::of_file(alloc, path, &error)),
+    }
+}
+
+/// All bytes of a reader, or `None` where there are more than `limit`. Reads one byte beyond the
+/// limit at most.
+pub(crate) fn read_limited<R: Read + Drop>(
+    alloc: Global,
+    reader: R,
+    limit: u64,
+) -> io::Result<Option<Vec<u8>>>
+    requires { limit < 2 ^ 64 - 1 }
+    ensures whole { IfOk result (λ found. IfSome found (λ bytes. IfSome (R.remaining reader)
+        (λ all. bytes.items ≡ all))) }
+    ensures large { IfOk result (λ found. IsNone found
+        → IfSome (R.remaining reader) (λ all. limit < length all)) }
+{
+    let mut bytes = Vec::new(alloc);
+    let count = reader.take(limit + 1).read_to_end(&mut bytes)?;
+    if count as u64 > limit {
+        Ok(None)
+    } else {
+        Ok(Some(bytes))
+    }
+}

@@ -1,0 +1,40 @@
+//! `itv`: a verifier of software supply chains by the in-toto specification 1.0.
+//!
+//! Reads the words, the files and the ring, and hands them to the command of `it_verify`.
+#![tactic(auto)]
+
+mod fault;
+mod files;
+mod signed;
+#[cfg(test)]
+mod tests;
+
+use fault::{Fault, exit_status};
+use it_verify::outcome::Status;
+use it_verify::words::{Words, read_words};
+use std::env;
+use std::process::ExitCode;
+use std::rt::{Env, Files};
+
+fn main(rt: HostRuntime) -> ExitCode {
+    let outcome = run(&rt);
+    if let Err(fault) = &outcome {
+        let _ = eprintln!(rt; "itv: {fault}");
+    }
+    ExitCode::from(exit_status(&outcome))
+}
+
+/// Reads the words, and runs the command that they name.
+fn run<R: Env + Files + Print + AllocGlobal>(rt: &R) -> Result<Status, Fault> {
+    let words = words(rt)?;
+    match read_words(rt.alloc(), words.as_slice())? {
+        Words::Signed(words) => signed::run(rt, &words),
+    }
+}
+
+fn words<R: Env + AllocGlobal>(rt: &R) -> Result<Vec<String>, Fault> {
+    match env::args(rt) {
+        Ok(words) => Ok(words.collect(rt.alloc())?),
+        Err(error) => Err(Fault::of_words(rt.alloc(), &error)),
+    }
+}

@@ -1,3 +1,4 @@
 pub mod Documents
 pub mod Items
+pub mod Pieces
 pub mod Unique

@@ -5,3 +5,4 @@ pub mod HexadecimalText
 pub mod Parts
 pub mod Sequence
 pub mod Text
+pub mod Writing

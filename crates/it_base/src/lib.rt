@@ -1,5 +1,5 @@
-//! What the crates that read documents share: texts and lists that contracts see as plain lists,
-//! and the reading of a JSON document, member by member.
+//! What the crates that read and write documents share: texts and lists that contracts see as
+//! plain lists, the reading of a JSON document, member by member, and the writing of bytes.
 #![tactic(auto)]
 
 pub mod base64_text;
@@ -10,3 +10,4 @@ pub mod sequence;
 #[cfg(test)]
 mod tests;
 pub mod text;
+pub mod writing;

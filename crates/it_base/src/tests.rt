@@ -4,8 +4,11 @@ use crate::hexadecimal_text::hexadecimal_part;
 use crate::parts::{from_bytes, part, part_or};
 use crate::sequence::Sequence;
 use crate::text::Text;
+use crate::writing::{WriteError, write_all_of};
 use serde_json::Value;
 use std::alloc::{AllocError, Global};
+use std::io;
+use std::io::Write;
 use std::test::Fail;
 
 fn document(alloc: Global, text: &str) -> Result<Value, Fail> {
@@ -167,5 +170,64 @@ fn decodes_hexadecimal(rt: HostRuntime) -> Result<(), Fail> {
         assert_eq!(rt; found.as_ref().map(Sequence::as_slice), want, "{text}");
     }
     assert!(rt; hexadecimal_part(alloc, &document(alloc, "{\"a\":7}")?, "a")?.is_none());
+    Ok(())
+}
+
+/// Takes two bytes at most at a write. Once it holds as many as it has room for, it answers an error
+/// or takes nothing, once, and has room for more from then on.
+#[derive(Drop)]
+struct Pipe {
+    taken: Vec<u8>,
+    room: usize,
+    full: Full,
+}
+
+#[derive(Clone, Copy, Debug)]
+enum Full {
+    AnswersAnError,
+    TakesNothing,
+}
+
+impl Write for Pipe {
+    fn write(&mut self, buf: &[u8]) -> io::Result<usize> {
+        let left = self.room.saturating_sub(self.taken.len());
+        if left == 0 {
+            self.room = usize::MAX;
+            return match self.full {
+                Full::AnswersAnError => Err(io::Error::from(io::ErrorKind::BrokenPipe)),
+                Full::TakesNothing => Ok(0),
+            };
+        }
+        let count = buf.len().min(left).min(2);
+        self.taken.extend_from_slice(&buf[..count])?;
+        Ok(count)
+    }
+
+    fn flush(&mut self) -> io::Result<()> {
+        Ok(())
+    }
+}
+
+#[test]
+fn writes_all_or_stops(rt: HostRuntime) -> Result<(), Fail> {
+    let alloc = rt.alloc();
+    let text = b"hello";
+    for full in [Full::AnswersAnError, Full::TakesNothing] {
+        for room in 0..6 {
+            let taken = Vec::new(alloc);
+            let mut pipe = Pipe { taken, room, full };
+            let answer = write_all_of(&mut pipe, text);
+            let want = if room < 5 { Err(WriteError) } else { Ok(()) };
+            assert_eq!(rt; answer, want, "{full:?} at {room}");
+            assert_eq!(rt; pipe.taken.as_slice(), &text[..room], "{full:?} at {room}");
+        }
+        let taken = Vec::new(alloc);
+        let mut pipe = Pipe {
+            taken,
+            room: 0,
+            full,
+        };
+        assert!(rt; write_all_of(&mut pipe, b"").is_ok());
+    }
     Ok(())
 }

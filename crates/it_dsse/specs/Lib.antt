@@ -7,3 +7,4 @@ pub mod Pae
 pub mod Ring
 pub mod RingIndex
 pub mod Signed
+pub mod Signing

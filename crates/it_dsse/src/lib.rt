@@ -13,6 +13,7 @@ mod ring_ids;
 mod ring_index;
 mod signed;
 mod signers;
+pub mod signing;
 #[cfg(test)]
 mod tests;
 

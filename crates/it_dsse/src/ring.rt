@@ -95,7 +95,8 @@ impl HmacRing {
         sorted_ids(alloc, self.entries.as_slice())
     }
 
-    fn entry(&self, id: &str) -> Option<&RingEntry>
+    /// The entry with this id.
+    pub(crate) fn entry(&self, id: &str) -> Option<&RingEntry>
         ensures { option_copied result ≡ find (has_id id.now) self.now }
     {
         let entries = self.entries.as_slice();

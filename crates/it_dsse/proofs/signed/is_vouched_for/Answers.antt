@@ -2,7 +2,7 @@ use Rattle.std.proofs.Common.{◌∙◌, Bool, ap, sym}
 use Rattle.it_dsse.specs.Meter.{raised}
 use Rattle.it_dsse.specs.Signed.{first_place, is_admitted, message_of}
 use Rattle.it_dsse.specs.declared.envelope.Signature.{Signature}
-use Rattle.it_dsse.proofs.Signing.{filter-none, none_passes}
+use Rattle.it_dsse.proofs.Vouching.{filter-none, none_passes}
 use Rattle.it_dsse.proofs.Trying.{raised-zero}
 use Rattle.it_dsse.proofs.signed.is_vouched_for.Goals as goal
 

@@ -1,5 +1,5 @@
 use Rattle.std.proofs.Common.{◌∙◌, sym}
-use Rattle.it_dsse.proofs.Signing.{signed_found, not_signed}
+use Rattle.it_dsse.proofs.Vouching.{signed_found, not_signed}
 use Rattle.it_dsse.proofs.signed.signed_by.Goals as goal
 
 pub returns-then-vouched-clause-answer : goal.returns-then-vouched-clause-answer

@@ -1,0 +1,32 @@
+//! The writing of bytes that are made whole beforehand.
+ghost use Rattle.std.specs.Prelude.{OnOk, OnErr};
+ghost use Rattle.std.specs.Io.KnownBytes.{Appends};
+ghost use Rattle.it_base.specs.Writing.{AppendsBeginning};
+
+use std::io::Write;
+
+/// A writer answered an error, or took none of the bytes that it was given.
+#[derive(Clone, Copy, Debug, PartialEq, Eq)]
+pub struct WriteError;
+
+/// Writes all of the bytes, in as many writes as the writer needs. No write is tried again, and no
+/// bytes make no write.
+///
+/// # Errors
+///
+/// `WriteError` at the first write that answers an error, or 0; a beginning of the bytes went out.
+pub fn write_all_of<W: Write>(out: &mut W, bytes: &[u8]) -> Result<(), WriteError>
+    ensures ok { OnOk result (Appends (W.contents out.old) (W.contents out.new) bytes.now) }
+    ensures err { OnErr result
+        (AppendsBeginning (W.contents out.old) (W.contents out.new) bytes.now) }
+{
+    let mut at = 0;
+    while at < bytes.len() {
+        match out.write(&bytes[at..]) {
+            Ok(0) => return Err(WriteError),
+            Ok(count) => at += count,
+            Err(_) => return Err(WriteError),
+        }
+    }
+    Ok(())
+}

@@ -1,5 +1,6 @@
+pub mod Digesting
+pub mod Matching
 pub mod Name
 pub mod Outcome
-pub mod Output
 pub mod Signed
 pub mod Words

@@ -1,13 +1,23 @@
 -- The words of the command line, in the parser's own terms (this profile's choice).
 use Rattle.std.specs.Prelude.{◌≡◌, List, [], true, Option, Some, MatchOption, codes}
+use Rattle.clap.specs.declared.builder.action.ArgAction.TheVariants.{Append}
+use Rattle.clap.specs.Walk.{all_of}
 use Rattle.clap.specs.Words.{App, Row, Rule, Text, first_of, fault_of, new_app, new_rule, subcommand_of, with_rule, with_subcommand}
+use Rattle.it_verify.specs.declared.words.digesting.DigestWords.{DigestWords}
+use Rattle.it_verify.specs.declared.words.encoding.PaeWords.{PaeWords}
+use Rattle.it_verify.specs.declared.words.matching.MatchWords.{MatchWords}
 use Rattle.it_verify.specs.declared.words.signed.SignedWords.{SignedWords}
+use Rattle.it_verify.specs.declared.words.signing.SignWords.{SignWords}
 use Rattle.it_verify.specs.declared.words.Words.{Words}
-use Rattle.it_verify.specs.declared.words.Words.TheVariants.{Signed}
+use Rattle.it_verify.specs.declared.words.Words.TheVariants.{Signed, Match, Pae, Sign, Digest}
 
 -- a word that has to be given, in its place
 abbrev pub needed_word : Text → Rule
 needed_word name = record (new_rule name) { value_names = 1; required = true }
+
+-- words of which at least one has to be given, in their place
+abbrev pub needed_words : Text → Rule
+needed_words name = record (needed_word name) { action = Some Append }
 
 -- an option that has to be given, with one value
 abbrev pub needed_option : Text → Rule
@@ -17,6 +27,24 @@ needed_option name = record (new_rule name) { long = Some name; value_names = 1;
 abbrev pub signed_command : App
 signed_command = with_rule (with_rule (new_app (codes "signed")) (needed_word (codes "envelope"))) (needed_option (codes "ring"))
 
+-- match PATTERN PATH
+abbrev pub match_command : App
+match_command = with_rule (with_rule (new_app (codes "match")) (needed_word (codes "pattern"))) (needed_word (codes "path"))
+
+-- pae BODY --type TYPE
+abbrev pub pae_command : App
+pae_command = with_rule (with_rule (new_app (codes "pae")) (needed_word (codes "body"))) (needed_option (codes "type"))
+
+-- sign BODY --ring F --key ID --type TYPE
+abbrev pub sign_command : App
+sign_command =
+    with_rule (with_rule (with_rule (with_rule (new_app (codes "sign")) (needed_word (codes "body")))
+    (needed_option (codes "ring"))) (needed_option (codes "key"))) (needed_option (codes "type"))
+
+-- digest FILE..
+abbrev pub digest_command : App
+digest_command = with_rule (new_app (codes "digest")) (needed_words (codes "file"))
+
 -- the program: a command has to be named, and no word asks for help
 abbrev pub without_command : App
 without_command = record (new_app (codes "itv")) {
@@ -24,16 +52,43 @@ without_command = record (new_app (codes "itv")) {
 }
 
 unfoldable pub program : App
-program = with_subcommand without_command signed_command.top
+program =
+    with_subcommand (with_subcommand (with_subcommand (with_subcommand (with_subcommand without_command
+    signed_command.top) match_command.top) pae_command.top) sign_command.top) digest_command.top
 
 -- the values of the command signed
 pub record IsSigned (values : List Row) (words : SignedWords) : Type 0 where
   pub envelope : first_of (codes "envelope") values ≡ Some words.envelope
   pub ring : first_of (codes "ring") values ≡ Some words.ring
 
+-- the values of the command match
+pub record IsMatch (values : List Row) (words : MatchWords) : Type 0 where
+  pub pattern : first_of (codes "pattern") values ≡ Some words.pattern
+  pub path : first_of (codes "path") values ≡ Some words.path
+
+-- the values of the command pae
+pub record IsPae (values : List Row) (words : PaeWords) : Type 0 where
+  pub body : first_of (codes "body") values ≡ Some words.body
+  pub kind : first_of (codes "type") values ≡ Some words.kind
+
+-- the values of the command sign
+pub record IsSign (values : List Row) (words : SignWords) : Type 0 where
+  pub body : first_of (codes "body") values ≡ Some words.body
+  pub ring : first_of (codes "ring") values ≡ Some words.ring
+  pub key : first_of (codes "key") values ≡ Some words.key
+  pub kind : first_of (codes "type") values ≡ Some words.kind
+
+-- the values of the command digest
+pub record IsDigest (values : List Row) (words : DigestWords) : Type 0 where
+  pub files : all_of (codes "file") values ≡ Some words.files
+
 -- a command's name and its values are those of this command
 abbrev pub IsCommand : Text × List Row → Words → Type 0
 IsCommand named (Signed words) = (named.0 ≡ codes "signed") × IsSigned named.1 words
+IsCommand named (Match words) = (named.0 ≡ codes "match") × IsMatch named.1 words
+IsCommand named (Pae words) = (named.0 ≡ codes "pae") × IsPae named.1 words
+IsCommand named (Sign words) = (named.0 ≡ codes "sign") × IsSign named.1 words
+IsCommand named (Digest words) = (named.0 ≡ codes "digest") × IsDigest named.1 words
 
 -- the name and the values are there, and are those of this command
 abbrev pub NamesCommand : Option (Text × List Row) → Words → Type 0

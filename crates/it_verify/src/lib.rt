@@ -1,6 +1,9 @@
 //! The commands of `itv`, over bytes and a writer: what each one writes, and how it ends.
 #![tactic(auto)]
 
+mod digesting;
+mod encoding;
+mod matching;
 mod name;
 pub mod outcome;
 mod output;
@@ -9,4 +12,7 @@ mod signed;
 mod tests;
 pub mod words;
 
+pub use digesting::{check_name, run_digest};
+pub use encoding::run_pae;
+pub use matching::run_match;
 pub use signed::run_signed;

@@ -3,6 +3,7 @@ ghost use Rattle.std.specs.Prelude.{◌≡◌};
 ghost use Rattle.it_verify.specs.Outcome.{exit_status};
 ghost use Rattle.it_verify.specs.declared.outcome.RunFault.TheVariants.{OutOfMemory};
 
+use it_digest::reader::DigestFault;
 use std::alloc::AllocError;
 use thiserror::Error;
 
@@ -24,6 +25,15 @@ pub enum RunFault {
     /// Memory was refused.
     #[error("out of memory")]
     OutOfMemory,
+    /// The ring has no secret under the id.
+    #[error("the ring has no such key")]
+    UnknownKey,
+    /// A file's name has a line feed, which a digest list cannot hold.
+    #[error("a name with a line feed cannot stand in a digest list")]
+    BadName,
+    /// A file has no digest, for this reason.
+    #[error("{}", digest_note(.0))]
+    Digest(DigestFault),
 }
 
 impl From<AllocError> for RunFault {
@@ -34,15 +44,22 @@ impl From<AllocError> for RunFault {
     }
 }
 
-/// The status that the program ends with: 0 for `Good`, 1 for `Refused`, 2 where the output could
-/// not be written, and 3 for want of memory.
+fn digest_note(fault: &DigestFault) -> &'static str {
+    match fault {
+        DigestFault::Read => "cannot read the file",
+        DigestFault::TooLarge => "the file is too large",
+    }
+}
+
+/// The status that the program ends with: 0 for `Good`, 1 for `Refused`, 3 for want of memory, and
+/// 2 for every other fault.
 pub fn exit_of(outcome: &Result<Status, RunFault>) -> u8
     ensures { result ≡ exit_status outcome.now }
 {
     match outcome {
         Ok(Status::Good) => 0,
         Ok(Status::Refused) => 1,
-        Err(RunFault::Write) => 2,
         Err(RunFault::OutOfMemory) => 3,
+        Err(_) => 2,
     }
 }

@@ -1,9 +1,10 @@
 //! What a command writes: its whole output is made first, and then written.
 ghost use Rattle.std.specs.Prelude.{◌≡◌, IfOk, IfErr};
 ghost use Rattle.std.specs.Io.KnownBytes.{Appends};
-ghost use Rattle.it_verify.specs.Output.{AppendsBeginning};
+ghost use Rattle.it_base.specs.Writing.{AppendsBeginning};
 
 use crate::outcome::{RunFault, Status};
+use it_base::writing::{WriteError, write_all_of};
 use std::io::Write;
 
 /// A command's whole output, and what the command found.
@@ -24,22 +25,8 @@ pub(crate) fn put<W: Write>(out: &mut W, output: &Output) -> Result<Status, RunF
     ensures err { IfErr result (λ fault. (fault ≡ RunFault.Write)
         × AppendsBeginning (W.contents out.old) (W.contents out.new) output.now.text.items) }
 {
-    write_text(out, output.text.as_slice())?;
-    Ok(output.status)
-}
-
-fn write_text<W: Write>(out: &mut W, text: &[u8]) -> Result<(), RunFault>
-    ensures ok { IfOk result (λ _. Appends (W.contents out.old) (W.contents out.new) text.now) }
-    ensures err { IfErr result (λ fault. (fault ≡ RunFault.Write)
-        × AppendsBeginning (W.contents out.old) (W.contents out.new) text.now) }
-{
-    let mut at = 0;
-    while at < text.len() {
-        match out.write(&text[at..]) {
-            Ok(0) => return Err(RunFault::Write),
-            Ok(count) => at += count,
-            Err(_) => return Err(RunFault::Write),
-        }
+    match write_all_of(out, output.text.as_slice()) {
+        Ok(()) => Ok(output.status),
+        Err(WriteError) => Err(RunFault::Write),
     }
-    Ok(())
 }

@@ -1,8 +1,9 @@
 //! `itv signed`: who signed an envelope.
-ghost use Rattle.std.specs.Prelude.{◌≡◌, ◌≢◌, ◌↔◌, [], IfOk, IsErrOf, map, string_bytes};
+ghost use Rattle.std.specs.Prelude.{◌≡◌, ◌≢◌, ◌↔◌, [], IfErr, IfOk, IsErrOf, map, string_bytes};
 ghost use Rattle.std.specs.Io.KnownBytes.{Appends};
+ghost use Rattle.it_base.specs.Writing.{AppendsBeginning};
 ghost use Rattle.it_dsse.specs.Signed.{AreThose, IsSigner};
-ghost use Rattle.it_verify.specs.Output.{AppendsBeginning};
+ghost use Rattle.it_verify.specs.Outcome.{IsOutputFault};
 ghost use Rattle.it_verify.specs.Signed.{
   IsSignedOutput,
   ListsNames,
@@ -48,6 +49,7 @@ pub fn run_signed<W: Write>(
         × IsSignedOutput (meaning check.now) (map string_bytes ids.now) envelope.now text status
         × AppendsBeginning (W.contents out.old) (W.contents out.new) text }
     ensures memory { IsErrOf result RunFault.OutOfMemory → out.new ≡ out.old }
+    ensures faults { IfErr result IsOutputFault }
 {
     let output = signed_output(alloc, envelope, ids, check)?;
     put(out, &output)

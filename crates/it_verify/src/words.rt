@@ -1,16 +1,25 @@
 //! The words of the command line.
-ghost use Rattle.std.specs.Prelude.{◌≡◌, [], IfOk, IfErr, map, string_bytes};
-ghost use Rattle.clap.specs.Words.{app_of, fault_of, subcommand_of, subcommand_rows_of};
+ghost use Rattle.std.specs.Prelude.{◌≡◌, [], false, IfOk, IfErr, map, string_bytes};
+ghost use Rattle.clap.specs.Words.{app_of, fault_of, subcommand_of, subcommand_rows_of, with_subcommand};
+ghost use Rattle.clap.specs.declared.builder.command.Command.TheViews.{out-Command};
 ghost use Rattle.it_base.specs.Finds.{Finds};
 ghost use Rattle.it_verify.specs.Words.{AreWordsOf, NamesCommand, program};
 ghost use Rattle.it_verify.specs.declared.words.WordsFault.TheVariants.{OutOfMemory};
 
 mod arguments;
+pub mod digesting;
+pub mod encoding;
+pub mod matching;
 mod note;
 pub mod signed;
+pub mod signing;
 
 use clap::{ArgMatches, Command};
+use digesting::DigestWords;
+use encoding::PaeWords;
+use matching::MatchWords;
 use signed::SignedWords;
+use signing::SignWords;
 use std::alloc::{AllocError, Global};
 use thiserror::Error;
 
@@ -19,6 +28,14 @@ use thiserror::Error;
 pub enum Words {
     /// `itv signed ENVELOPE --ring F`: who signed an envelope.
     Signed(SignedWords),
+    /// `itv match PATTERN PATH`: whether a pattern matches a path.
+    Match(MatchWords),
+    /// `itv pae BODY --type TYPE`: the pre-authentication encoding of a body.
+    Pae(PaeWords),
+    /// `itv sign BODY --ring F --key ID --type TYPE`: the envelope of a body, signed.
+    Sign(SignWords),
+    /// `itv digest FILE..`: the SHA-256 of each file.
+    Digest(DigestWords),
 }
 
 /// Why the words are no command.
@@ -75,11 +92,26 @@ fn parsed<'w>(alloc: Global, words: &'w [String]) -> Result<ArgMatches<'w>, Word
 fn command<'a>(alloc: Global) -> Result<Command<'a>, AllocError>
     ensures { IfOk result (λ command. app_of command ≡ program) }
 {
-    Command::new(alloc, "itv")
+    let program = Command::new(alloc, "itv")
         .disable_help_flag(true)
         .disable_help_subcommand(true)
-        .subcommand_required(true)
-        .subcommand(signed::command(alloc)?)
+        .subcommand_required(true);
+    let program = with_command(program, signed::command(alloc)?)?;
+    let program = with_command(program, matching::command(alloc)?)?;
+    let program = with_command(program, encoding::command(alloc)?)?;
+    let program = with_command(program, signing::command(alloc)?)?;
+    with_command(program, digesting::command(alloc)?)
+}
+
+fn with_command<'a>(
+    program: Command<'a>,
+    command: Command<'a>,
+) -> Result<Command<'a>, AllocError>
+    requires { (out-Command command).has_globals ≡ false }
+    ensures { IfOk result (λ both. app_of both
+        ≡ with_subcommand (app_of program.entry) (app_of command.entry).top) }
+{
+    program.subcommand(command)
 }
 
 fn named(alloc: Global, matches: &ArgMatches<'_>) -> Result<Option<Words>, AllocError>
@@ -87,6 +119,10 @@ fn named(alloc: Global, matches: &ArgMatches<'_>) -> Result<Option<Words>, Alloc
 {
     match matches.subcommand() {
         Some(("signed", values)) => Ok(signed::read(alloc, values)?.map(Words::Signed)),
+        Some(("match", values)) => Ok(matching::read(alloc, values)?.map(Words::Match)),
+        Some(("pae", values)) => Ok(encoding::read(alloc, values)?.map(Words::Pae)),
+        Some(("sign", values)) => Ok(signing::read(alloc, values)?.map(Words::Sign)),
+        Some(("digest", values)) => Ok(digesting::read(alloc, values)?.map(Words::Digest)),
         _ => Ok(None),
     }
 }

@@ -1,0 +1,21 @@
+-- A line of a digest list, as `sha256sum` of the GNU core utilities writes it.
+use Rattle.std.specs.Prelude.{◌≡◌, ℕ, List, [], ◌∷◌, ◌++◌, Option, Some, None, MatchOption, codes, Contains}
+use Rattle.sha2.specs.Sha256.{sha256}
+use Rattle.hex.specs.Hex.{encode_lower}
+use Rattle.it_digest.specs.Reader.{IsDigestOfRest}
+
+-- the digest in lower-case hexadecimal digits, two spaces, the name as it is given, a line feed
+abbrev pub digest_line : List ℕ → List ℕ → List ℕ
+digest_line digest name = encode_lower digest ++ codes "  " ++ name ++ codes "\n"
+
+-- the name cannot stand in a digest list: it has a line feed
+abbrev pub HasLineFeed : List ℕ → Type 0
+HasLineFeed name = Contains name 10
+
+-- the text is the line of what the reader gave: old and new are the bytes that it has left before
+-- and after, where it tells them
+pub record IsDigestLine (old new : Option (List ℕ)) (limit : ℕ) (name text : List ℕ) : Type 0 where
+  pub digest : List ℕ
+  pub digest_is : IsDigestOfRest old new limit digest
+  pub text_is : text ≡ digest_line digest name
+  pub listable : ¬ HasLineFeed name

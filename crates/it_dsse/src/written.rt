@@ -61,19 +61,11 @@ impl Envelope {
             → AppendsBeginning (W.contents out.old) (W.contents out.new) (written_form self.now) }
         ensures memory { IsErrOf result WriteFault.OutOfMemory → out.new ≡ out.old }
     {
-        let text = text_of(alloc, self)?;
+        let value = envelope_value(alloc, self)?;
+        let text = value.to_string(alloc)?;
         write_all_of(out, text.as_bytes())?;
         Ok(())
     }
-}
-
-fn text_of(alloc: Global, envelope: &Envelope) -> Result<String, AllocError>
-    ensures text { IfOk result (λ text. string_bytes text ≡ written_form envelope.now) }
-    ensures reads_back { IfOk result (λ _. EnvelopeOf (written_form envelope.now) envelope.now) }
-{
-    let value = envelope_value(alloc, envelope)?;
-    let text = value.to_string(alloc)?;
-    Ok(text)
 }
 
 fn envelope_value(alloc: Global, envelope: &Envelope) -> Result<Value, AllocError>

@@ -6,7 +6,8 @@ use Rattle.serde_json.specs.View.{view, items_view}
 use Rattle.serde_json.specs.declared.value.Value.{Value}
 use Rattle.it_base.specs.Sequence.{AreEach}
 
-each_push : {X : Type 0} (P : Data → X → Type 0) (vs : List Value) (xs : List X) (v : Value) (x : X)
+-- one more item, and its element
+pub each_push : {X : Type 0} (P : Data → X → Type 0) (vs : List Value) (xs : List X) (v : Value) (x : X)
     → AreEach P (items_view vs) xs → P (view v) x → AreEach P (items_view (vs ++ v ∷ [])) (xs ++ x ∷ [])
 each_push P [] [] v x h p = (p, tt)
 each_push P [] (y ∷ ys) v x h p = absurd h

@@ -1,3 +1,4 @@
+pub mod Alphabets
 pub mod Documents
 pub mod Items
 pub mod Pieces

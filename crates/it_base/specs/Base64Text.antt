@@ -4,7 +4,7 @@ use Rattle.std.specs.List.{list_any}
 use Rattle.serde_json.specs.Data.{Data}
 use Rattle.serde_json.specs.Find.{as_str}
 use Rattle.base64.specs.Engines.{standard, url_safe}
-use Rattle.base64.specs.GeneralPurpose.{decoded_of}
+use Rattle.base64.specs.GeneralPurpose.{decoded_of, encode_of}
 
 -- a byte that only the alphabet for URLs and file names has: a dash or an underscore
 abbrev pub is_url_mark : ℕ → Bool
@@ -14,6 +14,10 @@ is_url_mark byte = byte == 45 || byte == 95
 -- profile's choice; DSSE v1.0 allows either alphabet)
 unfoldable pub base64_decoded : List ℕ → Option (List ℕ)
 base64_decoded text = decoded_of (if list_any is_url_mark text then url_safe else standard) text
+
+-- the text of bytes, in the standard alphabet with padding (RFC 4648 section 4)
+unfoldable pub base64_encoded : List ℕ → List ℕ
+base64_encoded bytes = encode_of standard bytes
 
 -- the part is a text that stands for these bytes
 abbrev pub IsBase64 : Data → List ℕ → Type 0

@@ -1,10 +1,10 @@
 //! Bytes that stand in a document as a base64 text (RFC 4648).
-ghost use Rattle.std.specs.Prelude.{◌≡◌, ◌≢◌, ◌⊎◌, alloc_error, IfOk, IfErr};
+ghost use Rattle.std.specs.Prelude.{◌≡◌, ◌≢◌, ◌⊎◌, alloc_error, Some, IfOk, IfErr, string_bytes};
 ghost use Rattle.std.specs.List.{list_any};
 ghost use Rattle.serde_json.specs.View.{view};
 ghost use Rattle.base64.specs.Engines.{standard, url_safe};
-ghost use Rattle.base64.specs.GeneralPurpose.{decoded_of};
-ghost use Rattle.it_base.specs.Base64Text.{IsBase64, base64_decoded, is_url_mark};
+ghost use Rattle.base64.specs.GeneralPurpose.{decoded_of, encode_of};
+ghost use Rattle.it_base.specs.Base64Text.{IsBase64, base64_decoded, base64_encoded, is_url_mark};
 ghost use Rattle.it_base.specs.Finds.{Finds};
 ghost use Rattle.it_base.specs.Parts.{IsPart};
 
@@ -32,6 +32,29 @@ pub fn base64_part(
         None => Ok(None),
         Some(found) => base64_bytes(alloc, found),
     }
+}
+
+/// The base64 text of the bytes, in the standard alphabet with padding (RFC 4648 section 4). It reads
+/// back as the bytes.
+///
+/// # Errors
+///
+/// `AllocError` where memory was refused.
+pub fn base64_text_of(alloc: Global, bytes: &[u8]) -> Result<String, AllocError>
+    ensures text { IfOk result (λ text. string_bytes text ≡ base64_encoded bytes.now) }
+    ensures reads_back { IfOk result
+        (λ text. base64_decoded (string_bytes text) ≡ Some bytes.now) }
+{
+    standard_text(alloc, bytes)
+}
+
+#[tactic(auto, unfolding(base64::specs::GeneralPurpose::decoded_of))]
+fn standard_text(alloc: Global, bytes: &[u8]) -> Result<String, AllocError>
+    ensures text { IfOk result (λ text. string_bytes text ≡ encode_of standard bytes.now) }
+    ensures decodes { IfOk result
+        (λ text. decoded_of standard (string_bytes text) ≡ Some bytes.now) }
+{
+    STANDARD.encode(alloc, bytes)
 }
 
 fn base64_bytes(alloc: Global, value: &Value) -> Result<Option<Sequence<u8>>, AllocError>

@@ -1,4 +1,4 @@
-use crate::base64_text::base64_part;
+use crate::base64_text::{base64_part, base64_text_of};
 use crate::document::{member, read_document};
 use crate::hexadecimal_text::hexadecimal_part;
 use crate::parts::{from_bytes, part, part_or};
@@ -150,6 +150,26 @@ fn decodes_base64(rt: HostRuntime) -> Result<(), Fail> {
         assert_eq!(rt; found.as_ref().map(Sequence::as_slice), want, "{text}");
     }
     assert!(rt; base64_part(alloc, &document(alloc, "{\"a\":7}")?, "a")?.is_none());
+    Ok(())
+}
+
+#[test]
+fn encodes_base64(rt: HostRuntime) -> Result<(), Fail> {
+    let alloc = rt.alloc();
+    // The vectors of RFC 4648 section 10, and the two marks of the standard alphabet.
+    let rows: [(&[u8], &str); 8] = [
+        (b"", ""),
+        (b"f", "Zg=="),
+        (b"fo", "Zm8="),
+        (b"foo", "Zm9v"),
+        (b"foob", "Zm9vYg=="),
+        (b"fooba", "Zm9vYmE="),
+        (b"foobar", "Zm9vYmFy"),
+        (b"\xfb\xff", "+/8="),
+    ];
+    for (bytes, want) in rows {
+        assert_eq!(rt; base64_text_of(alloc, bytes)?.as_str(), want);
+    }
     Ok(())
 }
 

@@ -8,3 +8,4 @@ pub mod Ring
 pub mod RingIndex
 pub mod Signed
 pub mod Signing
+pub mod Written

@@ -1,4 +1,4 @@
-//! DSSE envelopes (DSSE v1.0), and who signed them.
+//! DSSE envelopes (DSSE v1.0): their reading, writing and signing, and who signed them.
 #![tactic(auto)]
 
 pub mod check;
@@ -16,6 +16,7 @@ mod signers;
 pub mod signing;
 #[cfg(test)]
 mod tests;
+pub mod written;
 
 pub use encoding::pae;
 pub use mac::hmac_sha256;

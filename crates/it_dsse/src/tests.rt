@@ -7,10 +7,14 @@ use crate::meter::Meter;
 use crate::ring::{HmacRing, RingFault};
 use crate::signed::signed_by;
 use crate::signers::signed_ids;
+use crate::signing::{SignFault, sign};
+use crate::written::WriteFault;
 use it_base::parts::from_bytes;
 use it_base::sequence::Sequence;
 use it_base::text::Text;
 use std::alloc::{AllocError, Global};
+use std::io;
+use std::io::Write;
 use std::test::Fail;
 
 #[test]
@@ -385,5 +389,133 @@ fn lists_signers(rt: HostRuntime) -> Result<(), Fail> {
     let signers = signed_ids(alloc, &envelope, ids.as_slice(), &object, &check)?;
     let signers = joined(alloc, signers.as_slice())?;
     assert_eq!(rt; signers.as_str(), "bobz alice bob alice ");
+    Ok(())
+}
+
+const KIND: &str = "application/vnd.in-toto+json";
+
+// The code is that of the body's pre-authentication encoding under the secret `alice`, as Python's
+// hmac, hashlib and base64 give it.
+const SIGNED: &str =
+    "{\"payload\":\"e30=\",\"payloadType\":\"application/vnd.in-toto+json\",\"signatures\":[{\"keyid\":\"alice\",\"sig\":\"GYvlMgoDSh7aimmYQa+mVXbtzb6hq2TIJDLz8mP3+D0=\"}]}";
+
+fn signed(alloc: Global) -> Result<Envelope, Fail> {
+    Ok(
+        sign(alloc, &ring(alloc)?, "alice", KIND, b"{}")
+            .ok()
+            .ok_or("not signed")?,
+    )
+}
+
+fn read(alloc: Global, text: &str) -> Result<Envelope, Fail> {
+    Ok(
+        Envelope::read(alloc, text.as_bytes())
+            .ok()
+            .ok_or("no envelope")?,
+    )
+}
+
+fn written(alloc: Global, envelope: &Envelope) -> Result<String, Fail> {
+    let mut out = Vec::new(alloc);
+    envelope.write(alloc, &mut out).ok().ok_or("not written")?;
+    Ok(String::from_utf8(out).ok().ok_or("no text")?)
+}
+
+#[test]
+fn signs(rt: HostRuntime) -> Result<(), Fail> {
+    let alloc = rt.alloc();
+    let envelope = signed(alloc)?;
+    assert_eq!(rt; written(alloc, &envelope)?.as_str(), SIGNED);
+    match sign(alloc, &ring(alloc)?, "dave", KIND, b"{}") {
+        Ok(_) => panic!(rt; "signed"),
+        Err(e) => assert!(rt; e == SignFault::UnknownKey),
+    }
+    Ok(())
+}
+
+#[test]
+fn writes_what_reads_back(rt: HostRuntime) -> Result<(), Fail> {
+    let alloc = rt.alloc();
+    // No signatures; no hint, texts that JSON escapes, and the marks of the standard alphabet.
+    let texts = [
+        "{\"payload\":\"\",\"payloadType\":\"\",\"signatures\":[]}",
+        "{\"payload\":\"+/8=\",\"payloadType\":\"\\\"größe\\n\",\"signatures\":[{\"keyid\":\"\",\"sig\":\"Zg==\"},{\"keyid\":\"a\",\"sig\":\"\"}]}",
+    ];
+    for text in texts {
+        let found = read(alloc, text)?;
+        assert_eq!(rt; written(alloc, &found)?.as_str(), text);
+    }
+    let back = read(alloc, written(alloc, &signed(alloc)?)?.as_str())?;
+    assert_eq!(rt; back.payload.as_slice(), b"{}".as_slice());
+    assert_eq!(rt; back.payload_type.as_str(), KIND);
+    let signatures = back.signatures.as_slice();
+    assert_eq!(rt; signatures.len(), 1);
+    assert_eq!(rt; signatures[0].keyid.as_str(), "alice");
+    assert_eq!(rt; signatures[0].sig.as_slice().len(), 32);
+    Ok(())
+}
+
+#[test]
+fn writes_one_spelling(rt: HostRuntime) -> Result<(), Fail> {
+    let alloc = rt.alloc();
+    let found = read(
+        alloc,
+        " {\"signatures\":[{\"sig\":\"_w==\",\"other\":7}],\"payloadType\":\"t\",\"payload\":\"-_8=\"} ",
+    )?;
+    assert_eq!(rt;
+        written(alloc, &found)?.as_str(),
+        "{\"payload\":\"+/8=\",\"payloadType\":\"t\",\"signatures\":[{\"keyid\":\"\",\"sig\":\"/w==\"}]}"
+    );
+    Ok(())
+}
+
+/// Takes one byte at a write. Once it has no more room it answers an error or takes nothing, once,
+/// and has room for more from then on.
+#[derive(Drop)]
+struct Pipe {
+    taken: Vec<u8>,
+    room: usize,
+    full: Full,
+}
+
+#[derive(Clone, Copy, Debug)]
+enum Full {
+    AnswersAnError,
+    TakesNothing,
+}
+
+impl Write for Pipe {
+    fn write(&mut self, buf: &[u8]) -> io::Result<usize> {
+        if self.taken.len() >= self.room {
+            self.room = usize::MAX;
+            return match self.full {
+                Full::AnswersAnError => Err(io::Error::from(io::ErrorKind::BrokenPipe)),
+                Full::TakesNothing => Ok(0),
+            };
+        }
+        let count = buf.len().min(1);
+        self.taken.extend_from_slice(&buf[..count])?;
+        Ok(count)
+    }
+
+    fn flush(&mut self) -> io::Result<()> {
+        Ok(())
+    }
+}
+
+#[test]
+fn stops_at_a_failed_write(rt: HostRuntime) -> Result<(), Fail> {
+    let alloc = rt.alloc();
+    let envelope = signed(alloc)?;
+    let text = SIGNED.as_bytes();
+    for full in [Full::AnswersAnError, Full::TakesNothing] {
+        for (room, _) in text.iter().enumerate() {
+            let taken = Vec::new(alloc);
+            let mut pipe = Pipe { taken, room, full };
+            let answer = envelope.write(alloc, &mut pipe);
+            assert_eq!(rt; answer, Err(WriteFault::Write), "{full:?} at {room}");
+            assert_eq!(rt; pipe.taken.as_slice(), &text[..room], "{full:?} at {room}");
+        }
+    }
     Ok(())
 }

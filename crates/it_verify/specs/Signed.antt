@@ -1,5 +1,5 @@
 -- Who signed an envelope, as a text (this profile's choice of the text).
-use Rattle.std.specs.Prelude.{◌≡◌, ◌≢◌, ◌↔◌, ◌⊎◌, ℕ, List, [], ◌∷◌, ◌++◌, Any, codes}
+use Rattle.std.specs.Prelude.{◌≡◌, ◌≢◌, ◌↔◌, ◌⊎◌, ℕ, List, [], ◌++◌, Any, codes}
 use Rattle.std.specs.List.{flat_map}
 use Rattle.it_dsse.specs.Check.{Check}
 use Rattle.it_dsse.specs.Envelope.{EnvelopeOf}

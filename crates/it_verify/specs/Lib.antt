@@ -3,4 +3,5 @@ pub mod Matching
 pub mod Name
 pub mod Outcome
 pub mod Signed
+pub mod Signing
 pub mod Words

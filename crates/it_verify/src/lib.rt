@@ -7,6 +7,7 @@ mod matching;
 mod name;
 pub mod outcome;
 mod output;
+mod signing;
 mod signed;
 #[cfg(test)]
 mod tests;
@@ -16,3 +17,4 @@ pub use digesting::{check_name, run_digest};
 pub use encoding::run_pae;
 pub use matching::run_match;
 pub use signed::run_signed;
+pub use signing::run_sign;

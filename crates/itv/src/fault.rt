@@ -17,12 +17,18 @@ pub(crate) enum Fault {
     /// A file cannot be read, for this reason.
     #[error("cannot read {path}: {reason}")]
     Unreadable { path: String, reason: String },
+    /// A file was opened and cannot be read.
+    #[error("cannot read {path}")]
+    Unread { path: String },
     /// A file has more bytes than this.
     #[error("{path} is larger than {limit} bytes")]
     TooLarge { path: String, limit: u64 },
     /// A file is no ring.
     #[error("{path} is no ring of secrets")]
     BadRing { path: String },
+    /// A ring has no entry with this id.
+    #[error("{path} has no key {id}")]
+    UnknownKey { path: String, id: String },
     /// The command stopped.
     #[error("{0}")]
     Run(RunFault),

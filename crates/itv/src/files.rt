@@ -3,7 +3,8 @@ ghost use Rattle.std.specs.Prelude.{◌≡◌, ◌<◌, ◌-◌, ◌^◌, length
 
 use crate::fault::Fault;
 use it_base::text::Text;
-use std::alloc::Global;
+use it_dsse::ring::{HmacRing, RingFault};
+use std::alloc::{AllocError, Global};
 use std::io::Read;
 use std::rt::Files;
 use std::{fs, io};
@@ -26,6 +27,19 @@ pub(crate) fn read_file<R: Files + AllocGlobal>(rt: &R, path: &Text) -> Result<V
             limit: MOST_BYTES,
         }),
         Err(error) => Err(Fault::of_file(alloc, path, &error)),
+    }
+}
+
+/// The ring that a file is.
+pub(crate) fn read_ring<R: Files + AllocGlobal>(rt: &R, path: &Text) -> Result<HmacRing, Fault> {
+    let alloc = rt.alloc();
+    let bytes = read_file(rt, path)?;
+    match HmacRing::read(alloc, bytes.as_slice()) {
+        Ok(ring) => Ok(ring),
+        Err(RingFault::BadRing) => Err(Fault::BadRing {
+            path: String::from_str(alloc, path.as_str())?,
+        }),
+        Err(RingFault::OutOfMemory) => Err(Fault::from(AllocError)),
     }
 }
 

@@ -3,9 +3,13 @@
 //! Reads the words, the files and the ring, and hands them to the command of `it_verify`.
 #![tactic(auto)]
 
+mod digesting;
+mod encoding;
 mod fault;
 mod files;
+mod matching;
 mod signed;
+mod signing;
 #[cfg(test)]
 mod tests;
 
@@ -29,6 +33,10 @@ fn run<R: Env + Files + Print + AllocGlobal>(rt: &R) -> Result<Status, Fault> {
     let words = words(rt)?;
     match read_words(rt.alloc(), words.as_slice())? {
         Words::Signed(words) => signed::run(rt, &words),
+        Words::Match(words) => matching::run(rt, &words),
+        Words::Pae(words) => encoding::run(rt, &words),
+        Words::Sign(words) => signing::run(rt, &words),
+        Words::Digest(words) => digesting::run(rt, &words),
     }
 }
 

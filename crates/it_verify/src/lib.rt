@@ -1,14 +1,16 @@
 //! The commands of `itv`, over bytes and a writer: what each one writes, and how it ends.
 #![tactic(auto)]
 
+#[cfg(test)]
+mod command_tests;
 mod digesting;
 mod encoding;
 mod matching;
 mod name;
 pub mod outcome;
 mod output;
-mod signing;
 mod signed;
+mod signing;
 #[cfg(test)]
 mod tests;
 pub mod words;

@@ -2,6 +2,7 @@ use crate::name::push_name;
 use crate::outcome::{RunFault, Status, exit_of};
 use crate::run_signed;
 use crate::words::{Words, WordsFault, read_words};
+use it_digest::reader::DigestFault;
 use it_dsse::check::SignatureCheck;
 use it_dsse::ring::HmacRing;
 use std::alloc::{AllocError, Global};
@@ -197,6 +198,10 @@ fn ends_with_a_status(rt: HostRuntime) {
     assert_eq!(rt; exit_of(&Ok(Status::Refused)), 1);
     assert_eq!(rt; exit_of(&Err(RunFault::Write)), 2);
     assert_eq!(rt; exit_of(&Err(RunFault::OutOfMemory)), 3);
+    assert_eq!(rt; exit_of(&Err(RunFault::UnknownKey)), 2);
+    assert_eq!(rt; exit_of(&Err(RunFault::BadName)), 2);
+    assert_eq!(rt; exit_of(&Err(RunFault::Digest(DigestFault::Read))), 2);
+    assert_eq!(rt; exit_of(&Err(RunFault::Digest(DigestFault::TooLarge))), 2);
 }
 
 #[test]
@@ -217,9 +222,13 @@ fn reads_words(rt: HostRuntime) -> Result<(), Fail> {
         (&["/bin/x", "signed", "-", "--ring=a=b"], "-", "a=b"),
     ];
     for (words, envelope, ring) in rows {
-        let Words::Signed(read) = read_words(alloc, texts(alloc, words)?.as_slice())?;
-        assert_eq!(rt; read.envelope.as_str(), envelope, "{words:?}");
-        assert_eq!(rt; read.ring.as_str(), ring, "{words:?}");
+        match read_words(alloc, texts(alloc, words)?.as_slice())? {
+            Words::Signed(read) => {
+                assert_eq!(rt; read.envelope.as_str(), envelope, "{words:?}");
+                assert_eq!(rt; read.ring.as_str(), ring, "{words:?}");
+            }
+            _ => panic!(rt; "{words:?}"),
+        }
     }
     Ok(())
 }

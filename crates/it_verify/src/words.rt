@@ -103,10 +103,7 @@ fn command<'a>(alloc: Global) -> Result<Command<'a>, AllocError>
     with_command(program, digesting::command(alloc)?)
 }
 
-fn with_command<'a>(
-    program: Command<'a>,
-    command: Command<'a>,
-) -> Result<Command<'a>, AllocError>
+fn with_command<'a>(program: Command<'a>, command: Command<'a>) -> Result<Command<'a>, AllocError>
     requires { (out-Command command).has_globals ≡ false }
     ensures { IfOk result (λ both. app_of both
         ≡ with_subcommand (app_of program.entry) (app_of command.entry).top) }

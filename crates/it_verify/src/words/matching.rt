@@ -31,10 +31,7 @@ pub(super) fn command<'a>(alloc: Global) -> Result<Command<'a>, AllocError>
 }
 
 /// The command's values, or `None` where one is missing.
-pub(super) fn read(
-    alloc: Global,
-    values: &ArgMatches<'_>,
-) -> Result<Option<MatchWords>, AllocError>
+pub(super) fn read(alloc: Global, values: &ArgMatches<'_>) -> Result<Option<MatchWords>, AllocError>
     ensures { IfOk result (Finds (IsMatch (rows_of (found_of values.now)))) }
 {
     let Some(pattern) = value(values, "pattern") else {

@@ -1,0 +1,9 @@
+pub mod Check
+pub mod Envelope
+pub mod Hmac
+pub mod KeyObject
+pub mod Meter
+pub mod Pae
+pub mod Ring
+pub mod RingIndex
+pub mod Signed

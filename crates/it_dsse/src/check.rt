@@ -1,0 +1,24 @@
+//! The check of signatures that a caller hands in.
+ghost use Rattle.std.specs.Prelude.{◌≡◌};
+ghost use Rattle.it_dsse.specs.Check.{Check};
+ghost use Rattle.it_dsse.specs.Meter.{raised};
+
+use crate::key_object::KeyObject;
+use crate::meter::Meter;
+
+/// Knows keys by numbers, and tells which signatures are valid. DSSE v1.0 leaves both to its user.
+pub trait SignatureCheck: Drop {
+    // which keys the check knows, and which signatures are valid
+    ghost meaning: { Self → Check };
+
+    /// The number of the key that the id and the object name, or `None` where the check knows no
+    /// such key. Equal numbers mean one key.
+    fn key(&self, id: &str, object: &KeyObject) -> Option<u32>
+        ensures { result ≡ (meaning self.now).key_of id.now object.now };
+
+    /// Whether `sig` is a valid signature of the message by the key of this number. Counts itself
+    /// in the meter.
+    fn valid(&self, key: u32, message: &[u8], sig: &[u8], meter: &mut Meter) -> bool
+        ensures answer { result ≡ (meaning self.now).is_valid key message.now sig.now }
+        ensures counted { meter.new ≡ raised meter.old 1 };
+}

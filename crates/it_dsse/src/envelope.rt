@@ -1,0 +1,105 @@
+//! Envelopes, and their reading.
+ghost use Rattle.std.specs.Prelude.{◌≡◌, IfOk, IsErrOf};
+ghost use Rattle.serde_json.specs.View.{view};
+ghost use Rattle.it_base.specs.Finds.{Finds};
+ghost use Rattle.it_dsse.specs.declared.envelope.EnvelopeFault.TheVariants.{OutOfMemory};
+ghost use Rattle.it_dsse.specs.Envelope.{EnvelopeOf, IsEnvelope, IsSignature};
+
+use it_base::base64_text::base64_part;
+use it_base::parts::{FromDocument, from_bytes, part, part_or};
+use it_base::sequence::Sequence;
+use it_base::text::Text;
+use serde_json::Value;
+use std::alloc::{AllocError, Global};
+
+/// A signature of an envelope (DSSE v1.0, "Envelope").
+#[derive(Drop)]
+pub struct Signature {
+    /// A hint on the key, which nothing vouches for. Empty where there is none.
+    pub keyid: Text,
+    /// The bytes of the signature.
+    pub sig: Sequence<u8>,
+}
+
+/// A payload of some type with its signatures (DSSE v1.0, "Envelope").
+#[derive(Drop)]
+pub struct Envelope {
+    /// The payload itself, decoded.
+    pub payload: Sequence<u8>,
+    /// What the payload is, as `application/vnd.in-toto+json`.
+    pub payload_type: Text,
+    /// The signatures, in the order of the document.
+    pub signatures: Sequence<Signature>,
+}
+
+/// Why no envelope was read.
+#[derive(Clone, Copy, Debug, PartialEq, Eq)]
+pub enum EnvelopeFault {
+    /// The bytes are no envelope.
+    BadEnvelope,
+    /// Memory was refused.
+    OutOfMemory,
+}
+
+impl From<AllocError> for EnvelopeFault {
+    ghost from_gives = { λ _ e. e ≡ OutOfMemory };
+
+    fn from(_e: AllocError) -> EnvelopeFault {
+        EnvelopeFault::OutOfMemory
+    }
+}
+
+impl Envelope {
+    /// The envelope that the bytes are, in the JSON form of DSSE v1.0 with padded base64 of either
+    /// alphabet.
+    ///
+    /// # Errors
+    ///
+    /// `BadEnvelope` where the bytes are no envelope, and `OutOfMemory` where memory was refused.
+    pub fn read(alloc: Global, bytes: &[u8]) -> Result<Envelope, EnvelopeFault>
+        ensures ok { IfOk result (λ envelope. EnvelopeOf bytes.now envelope) }
+        ensures bad { IsErrOf result EnvelopeFault.BadEnvelope
+            → (envelope : _) → ¬ EnvelopeOf bytes.now envelope }
+    {
+        match from_bytes::<Envelope>(alloc, bytes)? {
+            Some(envelope) => Ok(envelope),
+            None => Err(EnvelopeFault::BadEnvelope),
+        }
+    }
+}
+
+impl FromDocument for Envelope {
+    ghost is_of = { IsEnvelope };
+
+    fn from_document(alloc: Global, value: &Value) -> Result<Option<Envelope>, AllocError> {
+        let Some(payload) = base64_part(alloc, value, "payload")? else {
+            return Ok(None);
+        };
+        let Some(payload_type) = part::<Text>(alloc, value, "payloadType")? else {
+            return Ok(None);
+        };
+        let Some(signatures) = part::<Sequence<Signature>>(alloc, value, "signatures")? else {
+            return Ok(None);
+        };
+        Ok(Some(Envelope {
+            payload,
+            payload_type,
+            signatures,
+        }))
+    }
+}
+
+impl FromDocument for Signature {
+    ghost is_of = { IsSignature };
+
+    fn from_document(alloc: Global, value: &Value) -> Result<Option<Signature>, AllocError> {
+        let Some(sig) = base64_part(alloc, value, "sig")? else {
+            return Ok(None);
+        };
+        let no_hint = Text::from(String::new(alloc));
+        let Some(keyid) = part_or::<Text>(alloc, value, "keyid", no_hint)? else {
+            return Ok(None);
+        };
+        Ok(Some(Signature { keyid, sig }))
+    }
+}

@@ -1,0 +1,49 @@
+//! What a document says of a key.
+ghost use Rattle.std.specs.Prelude.{◌≡◌, IfOk, option_map};
+ghost use Rattle.serde_json.specs.View.{view};
+ghost use Rattle.it_base.specs.Finds.{Finds};
+ghost use Rattle.it_dsse.specs.KeyObject.{IsKeyObject, text_at};
+
+use it_base::document::member;
+use it_base::parts::FromDocument;
+use it_base::text::Text;
+use serde_json::Value;
+use std::alloc::{AllocError, Global};
+
+/// A key, as a layout or a policy describes it (in-toto 1.0 section 4.2). Which key it is, if any,
+/// is for a check to say.
+#[derive(Drop)]
+pub struct KeyObject {
+    /// The kind of key, as `ed25519`.
+    pub keytype: Text,
+    /// How signatures of the key are made, as `hmac-sha256`.
+    pub scheme: Text,
+    /// The public part of the key, in the scheme's own form.
+    pub public: Text,
+}
+
+impl FromDocument for KeyObject {
+    ghost is_of = { IsKeyObject };
+
+    /// The key object, where the part is a JSON object. Members that aren't texts are empty texts.
+    fn from_document(alloc: Global, value: &Value) -> Result<Option<KeyObject>, AllocError> {
+        if !value.is_object() {
+            return Ok(None);
+        }
+        Ok(Some(KeyObject {
+            keytype: text_or_empty(alloc, Some(value), "keytype")?,
+            scheme: text_or_empty(alloc, Some(value), "scheme")?,
+            public: text_or_empty(alloc, member(value, "keyval"), "public")?,
+        }))
+    }
+}
+
+fn text_or_empty(alloc: Global, value: Option<&Value>, name: &str) -> Result<Text, AllocError>
+    ensures { IfOk result
+        (λ text. text ≡ text_at name.now (option_map (λ v. view v.now) value.entry)) }
+{
+    let text = value
+        .and_then(|object| member(object, name))
+        .and_then(Value::as_str);
+    Ok(Text::from(String::from_str(alloc, text.unwrap_or(""))?))
+}

@@ -1,0 +1,22 @@
+//! DSSE envelopes (DSSE v1.0), and who signed them.
+#![tactic(auto)]
+
+pub mod check;
+mod encoding;
+pub mod envelope;
+pub mod key_object;
+mod mac;
+pub mod meter;
+pub mod ring;
+pub mod ring_entry;
+mod ring_ids;
+mod ring_index;
+mod signed;
+mod signers;
+#[cfg(test)]
+mod tests;
+
+pub use encoding::pae;
+pub use mac::hmac_sha256;
+pub use signed::signed_by;
+pub use signers::signed_ids;

@@ -1,3 +1,4 @@
+pub mod Digest
 pub mod Equal
 pub mod Json
 pub mod JsonCode
@@ -6,4 +7,5 @@ pub mod JsonView
 pub mod Moment
 pub mod Rule
 pub mod RuleAnswer
+pub mod Table
 pub mod TreeOf

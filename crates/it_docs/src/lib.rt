@@ -2,6 +2,8 @@
 //! SLSA Provenance v1): layouts, links, Statements, policies, and what stands in them.
 #![tactic(auto)]
 
+mod digest;
 pub mod moment;
 pub mod rule;
+pub mod table;
 pub mod tree;

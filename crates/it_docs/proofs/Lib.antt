@@ -1,5 +1,7 @@
+pub mod LayoutParts
 pub mod Lists
 pub mod Moments
+pub mod NamesSeen
 pub mod Rules
 pub mod TableLemmas
 pub mod TreeLengths

@@ -1,13 +1,16 @@
 pub mod Digest
 pub mod Equal
+pub mod FirstPart
 pub mod Json
 pub mod JsonCode
 pub mod JsonFalls
 pub mod JsonView
 pub mod Layout
+pub mod LayoutPart
 pub mod Link
 pub mod List
 pub mod Moment
+pub mod Names
 pub mod Rule
 pub mod RuleAnswer
 pub mod Statement

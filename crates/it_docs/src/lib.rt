@@ -5,9 +5,12 @@
 mod digest;
 pub mod fault;
 pub mod layout;
+pub mod layout_fault;
+pub mod layout_reading;
 pub mod link;
 mod list;
 pub mod moment;
+mod names;
 pub mod rule;
 pub mod statement;
 pub mod table;

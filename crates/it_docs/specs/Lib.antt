@@ -5,12 +5,15 @@ pub mod Json
 pub mod JsonCode
 pub mod JsonFalls
 pub mod JsonView
+pub mod Laws
 pub mod Layout
 pub mod LayoutPart
 pub mod Link
 pub mod List
 pub mod Moment
 pub mod Names
+pub mod Policy
+pub mod PolicyPart
 pub mod Rule
 pub mod RuleAnswer
 pub mod Statement

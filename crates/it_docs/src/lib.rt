@@ -18,5 +18,7 @@ pub mod policy_reading;
 pub mod rule;
 pub mod statement;
 pub mod table;
+#[cfg(test)]
+mod tests;
 mod text;
 pub mod tree;

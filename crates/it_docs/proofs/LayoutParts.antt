@@ -2,13 +2,13 @@
 use Rattle.std.proofs.Common.{◌≡◌, ◌⊎◌, inl, inr, ℕ, ◌<◌, List, [], Result, Ok, Err, MatchResult, IfErr, codes, lit<, arith}
 use Rattle.serde_json.specs.Data.{Data}
 use Rattle.it_base.specs.Document.{IsDocument}
-use Rattle.it_base.specs.Parts.{IsPart, IsPartOr}
+use Rattle.it_base.specs.Parts.{IsPartOr}
 use Rattle.it_base.specs.Sequence.{IsList}
 use Rattle.it_base.proofs.Documents.{same_document}
-use Rattle.std.proofs.Common.{subst, sym}
-use Rattle.it_docs.specs.FirstPart.{IsFirstPart, Precedes}
+use Rattle.std.proofs.Common.{subst}
+use Rattle.it_docs.specs.FirstPart.{Precedes}
 use Rattle.it_docs.specs.Layout.{IsInspection, IsLayout, IsStep, names_of}
-use Rattle.it_docs.specs.LayoutPart.{place, PartReads, Reads, LayoutPartOf, IsLayoutFault, IsStepsFault, IsInspectionsFault}
+use Rattle.it_docs.specs.LayoutPart.{place, PartReads, LayoutPartOf, IsLayoutFault, IsStepsFault, IsInspectionsFault}
 use Rattle.it_docs.specs.Names.{IsFirstRepeat}
 use Rattle.it_docs.specs.declared.layout.Inspection.{Inspection}
 use Rattle.it_docs.specs.declared.layout.Layout.{Layout}

@@ -3,6 +3,7 @@ pub mod Lists
 pub mod Moments
 pub mod NamesSeen
 pub mod PolicyParts
+pub mod Refusals
 pub mod Rules
 pub mod Same
 pub mod TableLemmas

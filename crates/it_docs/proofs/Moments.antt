@@ -1,8 +1,7 @@
 -- The parts of a moment, read at their places.
-use Rattle.std.proofs.Common.{◌≡◌, ℕ, ◌+◌, ◌*◌, ◌/◌, ◌%◌, ◌<◌, ◌≤◌, ℤ, pos, ◌+ℤ◌, ◌*ℤ◌, List, length, get_or, refl, sym, ap, ◌∙◌, arith}
+use Rattle.std.proofs.Common.{◌≡◌, ℕ, ◌+◌, ◌*◌, ◌/◌, ◌%◌, ◌<◌, ℤ, pos, List, length, get_or, sym, ap, ◌∙◌, arith}
 use Rattle.std.proofs.lemmas.Int.{ints}
 use Rattle.std.proofs.lemmas.Slice.Eq.{text_from_reads}
-use Rattle.jiff.specs.Types.{Date}
 use Rattle.jiff.specs.Words.{IsYmd, epoch_day}
 use Rattle.it_docs.specs.Moment.{AreTwoDigits, MomentOf, moment_text}
 

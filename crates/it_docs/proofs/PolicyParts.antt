@@ -1,11 +1,11 @@
 -- The first part of a policy that fails.
-use Rattle.std.proofs.Common.{◌≡◌, ◌⊎◌, inl, inr, ℕ, ◌<◌, List, Result, Ok, Err, MatchResult, IfErr, subst, arith}
+use Rattle.std.proofs.Common.{◌≡◌, inl, inr, ℕ, ◌<◌, List, Result, Ok, Err, MatchResult, IfErr, subst, arith}
 use Rattle.serde_json.specs.Data.{Data}
 use Rattle.it_base.specs.Document.{IsDocument}
 use Rattle.it_base.proofs.Documents.{same_document}
-use Rattle.it_docs.specs.FirstPart.{IsFirstPart, Precedes}
+use Rattle.it_docs.specs.FirstPart.{Precedes}
 use Rattle.it_docs.specs.Policy.{IsPolicy}
-use Rattle.it_docs.specs.PolicyPart.{place, PartReads, Reads, PolicyPartOf, IsPolicyFault, IsExpectationsFault}
+use Rattle.it_docs.specs.PolicyPart.{place, PartReads, PolicyPartOf, IsPolicyFault, IsExpectationsFault}
 use Rattle.it_docs.specs.declared.policy.Policy.{Policy}
 use Rattle.it_docs.specs.declared.policy_fault.PolicyFault.{PolicyFault}
 use Rattle.it_docs.specs.declared.policy_fault.PolicyFault.TheVariants.{BadPolicy, OutOfMemory}

@@ -1,5 +1,5 @@
 -- The rule that a list of texts is, as a relation and as an answer.
-use Rattle.std.proofs.Common.{subst, ◌≡◌, ◌≢◌, ℕ, ◌+◌, List, [], ◌∷◌, length, ◌&&◌, Bool, true, false, codes, cond, Option, Some, None, option_map, refl, sym, ap, ◌∙◌, ◌⊎◌, inl, inr, arith}
+use Rattle.std.proofs.Common.{subst, ◌≡◌, ◌≢◌, ℕ, List, [], ◌∷◌, length, ◌&&◌, Bool, true, false, codes, cond, Option, Some, None, option_map, refl, sym, ap, ◌∙◌, ◌⊎◌, inl, inr}
 use Rattle.std.specs.Str.{str_to_ascii_lowercase, bytes_eq}
 use Rattle.std.proofs.lemmas.Slice.Eq.{bytes_eq-Decides}
 use Rattle.std.proofs.lemmas.Option.{same_Some}
@@ -8,7 +8,7 @@ use Rattle.it_base.specs.Finds.{Finds}
 use Rattle.it_base.specs.Sequence.{IsList}
 use Rattle.it_base.specs.Text.{IsText}
 use Rattle.it_base.proofs.Items.{list_same}
-use Rattle.it_docs.specs.Rule.{is_keyword, IsKeyword, IsSide, IsShort, IsPlainMatch, IsSourceMatch, IsTargetMatch, IsFullMatch, IsRule, RuleOf}
+use Rattle.it_docs.specs.Rule.{is_keyword, IsKeyword, IsSide, IsShort, IsRule, RuleOf}
 use Rattle.it_docs.specs.RuleAnswer.{side_of, short_of, is_match, match_of, rule_of}
 use Rattle.it_docs.specs.declared.rule.Rule.{Rule}
 use Rattle.it_docs.specs.declared.rule.Rule.TheVariants.{Match, Create, Delete, Modify, Allow, Disallow, Require}
@@ -62,18 +62,18 @@ short_of-is k x r e =
     elim (first_or (is_keyword (codes "CREATE") k) (Create x) _ r e) [
       | inl p ↦ subst P p.1 (is_rule (codes "CREATE") p.0)
       | inr p ↦ elim (first_or (is_keyword (codes "DELETE") k) (Delete x) _ r p.1) [
-          | inl p ↦ subst P p.1 (is_rule (codes "DELETE") p.0)
-          | inr p ↦ elim (first_or (is_keyword (codes "MODIFY") k) (Modify x) _ r p.1) [
-              | inl p ↦ subst P p.1 (is_rule (codes "MODIFY") p.0)
-              | inr p ↦ elim (first_or (is_keyword (codes "ALLOW") k) (Allow x) _ r p.1) [
-                  | inl p ↦ subst P p.1 (is_rule (codes "ALLOW") p.0)
-                  | inr p ↦ elim (first_or (is_keyword (codes "DISALLOW") k) (Disallow x) _ r p.1) [
-                      | inl p ↦ subst P p.1 (is_rule (codes "DISALLOW") p.0)
-                      | inr p ↦ let q = if_some (is_keyword (codes "REQUIRE") k) (Some (Require x)) r p.1 in let same : Require x ≡ r = cc (q.1) in subst P same (is_rule (codes "REQUIRE") q.0)
-                    ]
-                ]
+        | inl p ↦ subst P p.1 (is_rule (codes "DELETE") p.0)
+        | inr p ↦ elim (first_or (is_keyword (codes "MODIFY") k) (Modify x) _ r p.1) [
+          | inl p ↦ subst P p.1 (is_rule (codes "MODIFY") p.0)
+          | inr p ↦ elim (first_or (is_keyword (codes "ALLOW") k) (Allow x) _ r p.1) [
+            | inl p ↦ subst P p.1 (is_rule (codes "ALLOW") p.0)
+            | inr p ↦ elim (first_or (is_keyword (codes "DISALLOW") k) (Disallow x) _ r p.1) [
+              | inl p ↦ subst P p.1 (is_rule (codes "DISALLOW") p.0)
+              | inr p ↦ let q = if_some (is_keyword (codes "REQUIRE") k) (Some (Require x)) r p.1 in let same : Require x ≡ r = cc (q.1) in subst P same (is_rule (codes "REQUIRE") q.0)
             ]
+          ]
         ]
+      ]
     ]
 
 abbrev AreMatchWords : List ℕ → List ℕ → List ℕ → Type 0
@@ -110,16 +110,16 @@ rule_of-is (m ∷ p ∷ a ∷ b ∷ c ∷ d ∷ f ∷ s ∷ []) r e =
     let P : Rule → Type 0 = λ r. RuleOf (m ∷ p ∷ a ∷ b ∷ c ∷ d ∷ f ∷ s ∷ []) r in
     elim (either_or (is_keyword (codes "IN") a && is_match m c f) (match_of p b d [] s) _ r e) [
       | inl q ↦
-        let first = both (is_keyword (codes "IN") a) (is_match m c f) q.0 in
-        let words = match_words m c f first.1 in
-        let found = match_of-is p b d [] s r q.1 in
-        subst P found.2 (inr (inl (refl, record { match = m; within = a; with = c; side_word = d; from = f; texts_are = refl; is_match = words.0; is_within = first.0; is_with = words.1.0; is_side = found.1; is_from = words.1.1 })))
+          let first = both (is_keyword (codes "IN") a) (is_match m c f) q.0 in
+          let words = match_words m c f first.1 in
+          let found = match_of-is p b d [] s r q.1 in
+          subst P found.2 (inr (inl (refl, record { match = m; within = a; with = c; side_word = d; from = f; texts_are = refl; is_match = words.0; is_within = first.0; is_with = words.1.0; is_side = found.1; is_from = words.1.1 })))
       | inr q ↦
-        let holds = if_some (is_keyword (codes "IN") c && is_match m a f) (match_of p [] b d s) r q in
-        let first = both (is_keyword (codes "IN") c) (is_match m a f) holds.0 in
-        let words = match_words m a f first.1 in
-        let found = match_of-is p [] b d s r holds.1 in
-        subst P found.2 (inr (inr (inl (refl, record { match = m; with = a; side_word = b; within = c; from = f; texts_are = refl; is_match = words.0; is_with = words.1.0; is_side = found.1; is_within = first.0; is_from = words.1.1 }))))
+          let holds = if_some (is_keyword (codes "IN") c && is_match m a f) (match_of p [] b d s) r q in
+          let first = both (is_keyword (codes "IN") c) (is_match m a f) holds.0 in
+          let words = match_words m a f first.1 in
+          let found = match_of-is p [] b d s r holds.1 in
+          subst P found.2 (inr (inr (inl (refl, record { match = m; with = a; side_word = b; within = c; from = f; texts_are = refl; is_match = words.0; is_with = words.1.0; is_side = found.1; is_within = first.0; is_from = words.1.1 }))))
     ]
 rule_of-is (a ∷ b ∷ c ∷ d ∷ f ∷ g ∷ h ∷ i ∷ j ∷ []) r e = absurd (cc)
 rule_of-is (m ∷ p ∷ i ∷ a ∷ w ∷ d ∷ j ∷ b ∷ f ∷ s ∷ []) r e =
@@ -170,9 +170,9 @@ RuleOf-answer texts (Match p a side b s) is =
       | inl h ↦ let m = h.2 in rw (m.texts_are, m.is_match, m.is_with, m.is_from, side_of-IsSide side m.side_word m.is_side, h.0, h.1) refl
       | inr (inl h) ↦ let m = h.1 in rw (m.texts_are, m.is_match, m.is_within, m.is_with, m.is_from, side_of-IsSide side m.side_word m.is_side, h.0) refl
       | inr (inr (inl h)) ↦
-        let m = h.1 in
-        let no_source = other_keyword (codes "WITH") (codes "IN") m.with refl m.is_with in
-        rw (m.texts_are, no_source, m.is_match, m.is_within, m.is_with, m.is_from, side_of-IsSide side m.side_word m.is_side, h.0) refl
+          let m = h.1 in
+          let no_source = other_keyword (codes "WITH") (codes "IN") m.with refl m.is_with in
+          rw (m.texts_are, no_source, m.is_match, m.is_within, m.is_with, m.is_from, side_of-IsSide side m.side_word m.is_side, h.0) refl
       | inr (inr (inr m)) ↦ rw (m.texts_are, m.is_match, m.is_within, m.is_within_target, m.is_with, m.is_from, side_of-IsSide side m.side_word m.is_side) refl
     ]
 

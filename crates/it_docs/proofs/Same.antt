@@ -1,21 +1,17 @@
 -- Each input has at most one record.
-use Rattle.std.proofs.Common.{◌≡◌, ℕ, ◌+◌, ◌<◌, ℤ, pos, ◌*ℤ◌, ◌+ℤ◌, List, [], codes, Option, Some, None, MatchOption, option_and_then, length, get_or, refl, sym, ap, subst, ◌∙◌, arith}
-use Rattle.std.proofs.lemmas.Int.{ints}
+use Rattle.std.proofs.Common.{◌≡◌, ℕ, ℤ, List, [], codes, Option, Some, None, MatchOption, refl, sym, ap, subst, ◌∙◌}
 use Rattle.std.proofs.lemmas.Option.{same_Some}
-use Rattle.jiff.specs.Words.{epoch_day}
-use Rattle.serde_json.specs.Data.{Data, array, object}
-use Rattle.serde_json.specs.Find.{as_str, as_object}
-use Rattle.it_base.specs.Document.{IsDocument, OfDocument, member_at}
+use Rattle.serde_json.specs.Data.{Data, object}
+use Rattle.serde_json.specs.Find.{as_str}
+use Rattle.it_base.specs.Document.{OfDocument, member_at}
 use Rattle.it_base.specs.Finds.{Finds}
 use Rattle.it_base.specs.Parts.{IsPart, IsPartOr}
 use Rattle.it_base.specs.Sequence.{IsList}
 use Rattle.it_base.specs.Text.{IsText}
 use Rattle.it_base.proofs.Documents.{same_document}
 use Rattle.it_base.proofs.Items.{list_same}
-use Rattle.it_digest.specs.declared.compare.DigestSet.{DigestSet}
 use Rattle.it_dsse.specs.KeyObject.{IsKeyObject}
-use Rattle.it_dsse.specs.declared.key_object.KeyObject.{KeyObject}
-use Rattle.it_docs.specs.Digest.{HasDigest, IsDigest, IsDigestSet}
+use Rattle.it_docs.specs.Digest.{IsDigest, IsDigestSet}
 use Rattle.it_docs.specs.Json.{Fields}
 use Rattle.it_docs.specs.Layout.{IsInspection, IsLayout, IsStep, IsThreshold, LayoutOf}
 use Rattle.it_docs.specs.Link.{IsLink, LinkOf}
@@ -25,15 +21,10 @@ use Rattle.it_docs.specs.Rule.{IsRule, RuleOf}
 use Rattle.it_docs.specs.Statement.{IsProvenance, IsProvenanceOf, IsStatement, IsSubject, StatementOf}
 use Rattle.it_docs.specs.Table.{IsTable}
 use Rattle.it_docs.specs.TreeOf.{IsMembers}
-use Rattle.it_docs.specs.declared.layout.Inspection.{Inspection}
 use Rattle.it_docs.specs.declared.layout.Layout.{Layout}
-use Rattle.it_docs.specs.declared.layout.Step.{Step}
 use Rattle.it_docs.specs.declared.link.Link.{Link}
-use Rattle.it_docs.specs.declared.policy.Builder.{Builder}
-use Rattle.it_docs.specs.declared.policy.Expectation.{Expectation}
 use Rattle.it_docs.specs.declared.policy.Policy.{Policy}
 use Rattle.it_docs.specs.declared.rule.Rule.{Rule}
-use Rattle.it_docs.specs.declared.statement.Provenance.{Provenance}
 use Rattle.it_docs.specs.declared.statement.Statement.{Statement}
 use Rattle.it_docs.proofs.Moments.{same_moment}
 use Rattle.it_docs.proofs.Rules.{RuleOf-answer, text_same}
@@ -165,12 +156,18 @@ inspection_same d x y h k =
     let products = part_or_same (IsList IsRule) [] (codes "expected_products") rules_same d x.expected_products y.expected_products h.expected_products k.expected_products in
     λ i. record { name = name i; expected_materials = materials i; expected_products = products i }
 
+pub steps_same : IsSingle (IsPartOr (IsList IsStep) [] (codes "steps"))
+steps_same = part_or_same (IsList IsStep) [] (codes "steps") (list_same IsStep step_same)
+
+pub inspections_same : IsSingle (IsPartOr (IsList IsInspection) [] (codes "inspect"))
+inspections_same = part_or_same (IsList IsInspection) [] (codes "inspect") (list_same IsInspection inspection_same)
+
 layout_part_same : IsSingle IsLayout
 layout_part_same d x y h k =
     let expires = part_same IsMoment (codes "expires") moment_part_same d x.expires y.expires h.expires k.expires in
     let keys = part_or_same (IsTable IsKeyObject) _ (codes "keys") keys_same d x.keys y.keys h.keys k.keys in
-    let steps = part_or_same (IsList IsStep) [] (codes "steps") (list_same IsStep step_same) d x.steps y.steps h.steps k.steps in
-    let inspections = part_or_same (IsList IsInspection) [] (codes "inspect") (list_same IsInspection inspection_same) d x.inspections y.inspections h.inspections k.inspections in
+    let steps = steps_same d x.steps y.steps h.steps k.steps in
+    let inspections = inspections_same d x.inspections y.inspections h.inspections k.inspections in
     λ i. record { expires = expires i; keys = keys i; steps = steps i; inspections = inspections i }
 
 pub layout_same : (bytes : List ℕ) (x y : Layout) → LayoutOf bytes x → LayoutOf bytes y → x ≡ y

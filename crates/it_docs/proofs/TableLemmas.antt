@@ -1,18 +1,18 @@
 -- Maps from texts, beside the entries and the members that they are read from.
-use Rattle.std.proofs.Common.{◌≡◌, ◌≢◌, ℕ, List, [], ◌∷◌, ◌++◌, ◌&&◌, ◌↔◌, length, map, Option, Some, None, option_map, option_and_then, MatchOption, is_some, String, Global, Ordering, Less, Equal, Greater, string_bytes, string_cmp, nat_cmp, is_eq, cond, Bool, true, false, true≢false, bytes_eq, T, refl, sym, ap, subst, ◌∙◌}
+use Rattle.std.proofs.Common.{◌≡◌, ℕ, List, [], ◌∷◌, ◌++◌, ◌&&◌, ◌↔◌, length, Option, Some, None, option_and_then, MatchOption, is_some, String, Global, Ordering, Less, Equal, Greater, string_bytes, string_cmp, nat_cmp, is_eq, cond, Bool, true, false, true≢false, bytes_eq, T, refl, sym, ap, subst, ◌∙◌}
 use Rattle.std.specs.Cmp.Lexicographic.{slice_cmp}
 use Rattle.std.specs.FinMap.{find, is_sorted, insert, get, entries, from_entries, from_sorted, get-from_entries, get-from_sorted, get-insert, get-empty, entries-from_sorted, same_entries_map, entries-insert, same_map, empty, empty_of_len, len, len-entries, len-empty, nat_cmp-IsAntisymmetric, slice_cmp-IsAntisymmetric}
 use Rattle.std.specs.FinMap.Entries.{below_all, put as put_entry, by_order}
 use Rattle.std.specs.List.{AllByRecursion}
 use Rattle.std.specs.List.Sorted.{IsStrictlySortedBy}
 use Rattle.std.specs.Map.{lookup, keys_of}
-use Rattle.std.specs.Ordering.{match_ordering, is_lt, ordering_reverse, eq_by_cmp}
+use Rattle.std.specs.Ordering.{match_ordering, is_lt, ordering_reverse}
 use Rattle.std.specs.BTreeMap.{insert_entry, is_at}
 use Rattle.std.proofs.lemmas.Cmp.{nat_list_cmp_total}
 use Rattle.std.proofs.lemmas.List.{length-map}
 use Rattle.std.proofs.lemmas.Map.Text.{is_eq-slice_cmp}
 use Rattle.std.proofs.lemmas.Slice.Eq.{bytes_eq-Decides}
-use Rattle.serde_json.specs.Data.{Data, null, Members, no_members, member, put, object}
+use Rattle.serde_json.specs.Data.{Data, null, Members, no_members, put, object}
 use Rattle.serde_json.specs.Find.{as_null, as_object, get_member}
 use Rattle.serde_json.specs.View.{view, members_view}
 use Rattle.serde_json.proofs.Views.{Entry, put_last, get_member-put, get_member-put_other, member_here}
@@ -120,25 +120,25 @@ module _ {X : Type 0} (P : Data → X → Type 0) where
   put_present ms m k d x before here is name =
       elim (bytes_eq name k) as (λ b. bytes_eq name k ≡ b → Stands P (option_and_then present (get_member name (put k d ms))) (get (insert m k x) name)) [
         | true ↦ λ e.
-          let same : name ≡ k = (bytes_eq-Decides name k).0 e in
-          let at : get (insert m k x) k ≡ Some x = get-insert nat_list_cmp_total m k x k ∙ rw (is_eq-slice_cmp k k ∙ (bytes_eq-Decides k k).1 refl) refl in
-          rw (same, get_member-put k d ms, here) (x, at, is)
+            let same : name ≡ k = (bytes_eq-Decides name k).0 e in
+            let at : get (insert m k x) k ≡ Some x = get-insert nat_list_cmp_total m k x k ∙ rw (is_eq-slice_cmp k k ∙ (bytes_eq-Decides k k).1 refl) refl in
+            rw (same, get_member-put k d ms, here) (x, at, is)
         | false ↦ λ e.
-          let other = λ (s : name ≡ k). absurd (true≢false (sym ((bytes_eq-Decides name k).1 s) ∙ e)) in
-          let at : get (insert m k x) name ≡ get m name = get-insert nat_list_cmp_total m k x name ∙ rw (is_eq-slice_cmp name k ∙ e) refl in
-          rw (get_member-put_other name k d ms other, at) (before name)
+            let other = λ (s : name ≡ k). absurd (true≢false (sym ((bytes_eq-Decides name k).1 s) ∙ e)) in
+            let at : get (insert m k x) name ≡ get m name = get-insert nat_list_cmp_total m k x name ∙ rw (is_eq-slice_cmp name k ∙ e) refl in
+            rw (get_member-put_other name k d ms other, at) (before name)
       ] refl
 
   put_missing : (ms : Members) (m : Named X) (k : List ℕ) (d : Data) → AreMembers P ms m → get_member k ms ≡ None → present d ≡ None → AreMembers P (put k d ms) m
   put_missing ms m k d before free missing name =
       elim (bytes_eq name k) as (λ b. bytes_eq name k ≡ b → Stands P (option_and_then present (get_member name (put k d ms))) (get m name)) [
         | true ↦ λ e.
-          let same : name ≡ k = (bytes_eq-Decides name k).0 e in
-          let nothing : get m k ≡ None = subst (λ o. Stands P (option_and_then present o) (get m k)) free (before k) in
-          rw (same, get_member-put k d ms, missing) nothing
+            let same : name ≡ k = (bytes_eq-Decides name k).0 e in
+            let nothing : get m k ≡ None = subst (λ o. Stands P (option_and_then present o) (get m k)) free (before k) in
+            rw (same, get_member-put k d ms, missing) nothing
         | false ↦ λ e.
-          let other = λ (s : name ≡ k). absurd (true≢false (sym ((bytes_eq-Decides name k).1 s) ∙ e)) in
-          rw (get_member-put_other name k d ms other) (before name)
+            let other = λ (s : name ≡ k). absurd (true≢false (sym ((bytes_eq-Decides name k).1 s) ∙ e)) in
+            rw (get_member-put_other name k d ms other) (before name)
       ] refl
 
   -- one more member is read

@@ -1,5 +1,5 @@
 -- Lists of different lengths are not equal.
-use Rattle.std.proofs.Common.{◌≡◌, ◌≢◌, ℕ, suc, ◌+◌, ◌&&◌, Bool, true, false, List, [], ◌∷◌, length, map, String, BTreeMap, Global, Bor, string_bytes, refl, sym, ap, ◌∙◌, arith}
+use Rattle.std.proofs.Common.{◌≡◌, ◌≢◌, suc, ◌&&◌, Bool, true, false, List, [], ◌∷◌, length, String, Global, string_bytes, refl, ap}
 use Rattle.std.specs.Str.{bytes_eq}
 use Rattle.it_docs.specs.Equal.{equal, equal_items, equal_fields}
 use Rattle.it_docs.specs.JsonView.{json_of, items_view, fields_view}

@@ -2,7 +2,7 @@
 use Rattle.std.specs.Prelude.{Bool, true, false, ◌&&◌}
 use Rattle.std.specs.Ordering.{int_eq}
 use Rattle.std.specs.Str.{bytes_eq}
-use Rattle.it_docs.specs.Json.{Json, null, flag, whole, text, items, members, other, Items, no_items, item, Fields, no_fields, field}
+use Rattle.it_docs.specs.Json.{Json, null, flag, whole, text, items, members, Items, no_items, item, Fields, no_fields, field}
 
 abbrev pub same_flag : Bool → Bool → Bool
 same_flag true b = b

@@ -2,7 +2,7 @@
 use Rattle.std.specs.Prelude.{◌≡◌, ℕ, ℤ, pos, Bool, false, List, [], ◌∷◌, refl}
 use base.Stored.{coded_via}
 use Rattle.std.specs.Coded.{Coded, coded×, coded_ℕ, coded_ℤ, coded_bool, coded_list}
-use Rattle.std.proofs.Common.{ap, sym, subst, ◌∙◌}
+use Rattle.std.proofs.Common.{ap, sym, ◌∙◌}
 use Rattle.it_docs.specs.Json.{Json, null, flag, whole, text, items, members, other, Items, no_items, item, Fields, no_fields, field}
 
 -- what a tree is, a flag, a number and a text

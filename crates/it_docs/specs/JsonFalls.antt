@@ -1,5 +1,5 @@
 -- Each tree in a list is smaller than the list.
-use Rattle.std.specs.Prelude.{ℕ, suc, ◌≤◌, List, [], ◌∷◌, map, String}
+use Rattle.std.specs.Prelude.{suc, ◌≤◌, List, [], ◌∷◌, map, String}
 use Rattle.std.specs.declared.alloc.Global.{Global}
 use Rattle.std.proofs.Common.{arith}
 use denote.Param.Weighed.{most}

@@ -1,5 +1,5 @@
 -- What a contract sees of a tree.
-use Rattle.std.specs.Prelude.{ℕ, List, [], ◌∷◌, String, string_bytes}
+use Rattle.std.specs.Prelude.{List, [], ◌∷◌, String, string_bytes}
 use Rattle.std.specs.declared.alloc.Global.{Global}
 use Rattle.it_docs.specs.Json as j
 use Rattle.it_docs.specs.declared.tree.Tree.{Tree}

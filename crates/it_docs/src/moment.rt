@@ -50,7 +50,26 @@ fn moment_of(text: &[u8]) -> Option<i64>
     ensures { Finds (MomentOf text.now) result }
 {
     let &[
-        y1, y2, y3, y4, b'-', m1, m2, b'-', d1, d2, b'T', h1, h2, b':', n1, n2, b':', s1, s2, b'Z',
+        y1,
+        y2,
+        y3,
+        y4,
+        b'-',
+        m1,
+        m2,
+        b'-',
+        d1,
+        d2,
+        b'T',
+        h1,
+        h2,
+        b':',
+        n1,
+        n2,
+        b':',
+        s1,
+        s2,
+        b'Z',
     ] = text
     else {
         return None;
@@ -87,7 +106,7 @@ fn day_number(year: u16, month: u8, day: u8) -> Option<i64>
     ensures { MatchOption result
         ((date : PlainDate) → ¬ IsYmd (pos year) (pos month) (pos day) date)
         (λ days. (date : PlainDate) × IsYmd (pos year) (pos month) (pos day) date
-            × IsEpochDay days × (days ≡ epoch_day date)) }
+        × IsEpochDay days × (days ≡ epoch_day date)) }
 {
     match Date::new(year as i16, month as i8, day as i8) {
         Ok(date) => Some(i64::from(date.to_plain().to_unix_epoch_day())),
@@ -99,7 +118,7 @@ fn day_number(year: u16, month: u8, day: u8) -> Option<i64>
 fn second_of_day(hour: u8, minute: u8, second: u8) -> Option<u32>
     ensures { MatchOption result (¬ ((hour < 24) × (minute < 60) × (second < 60)))
         (λ seconds. (hour < 24) × (minute < 60) × (second < 60)
-            × (seconds ≡ 3600 * hour + 60 * minute + second)) }
+        × (seconds ≡ 3600 * hour + 60 * minute + second)) }
 {
     if hour < 24 && minute < 60 && second < 60 {
         Some(3600 * u32::from(hour) + 60 * u32::from(minute) + u32::from(second))

@@ -92,7 +92,14 @@ fn rule_from(alloc: Global, texts: &[Text]) -> Result<Option<Rule>, AllocError>
             if !is_match(word.as_str(), with.as_str(), from.as_str()) {
                 return Ok(None);
             }
-            match_rule(alloc, pattern.as_str(), "", side.as_str(), "", step.as_str())
+            match_rule(
+                alloc,
+                pattern.as_str(),
+                "",
+                side.as_str(),
+                "",
+                step.as_str(),
+            )
         }
         [word, pattern, third, fourth, fifth, sixth, from, step] => {
             let source_form = is_keyword(third.as_str(), "IN")

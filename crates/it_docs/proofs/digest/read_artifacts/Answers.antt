@@ -52,5 +52,5 @@ loop-path-preserved c =
       done ++ e ∷ [],
       all ∙ sym (append_assoc done (e ∷ []) left),
       subst (λ m. AreMembers IsDigestSet (members_view (done ++ e ∷ [])) m) (sym put)
-      (members_more IsDigestSet done e left l.artifacts c.in-Some-digest_set.digests sorted (sym c.is_null.ensures ∙ c.if-is_null.false) l.invariant.2 value),
+          (members_more IsDigestSet done e left l.artifacts c.in-Some-digest_set.digests sorted (sym c.is_null.ensures ∙ c.if-is_null.false) l.invariant.2 value),
     )

@@ -1,6 +1,6 @@
-use Rattle.std.proofs.Common.{arith, ◌≡◌, ◌∙◌, pos, ℤ, ◌≤ℤ◌, ap, to_z, of_z, w64}
+use Rattle.std.proofs.Common.{arith, ◌≡◌, ◌∙◌, ap, to_z, of_z, w64}
 use Rattle.std.proofs.lemmas.Int.{ints}
-use Rattle.jiff.specs.Words.{IsEpochDay, epoch_day}
+use Rattle.jiff.specs.Words.{epoch_day}
 use Rattle.it_docs.proofs.moment.day_number.Goals as goal
 
 pub returns-in-Ok : goal.returns-in-Ok
@@ -13,6 +13,6 @@ returns-in-Ok c =
       (omega (arith, ints, ymd.0), omega (arith, ints, ymd.1), omega (arith, ints, ymd.2)),
       (omega (arith, ints, bound, widened), omega (arith, ints, bound, widened)),
       let same : c.from.result ≡ c.to_unix_epoch_day.result = omega (arith, ints, bound, widened) in
-      let again : to_z w64 (of_z w64 c.from.result) ≡ c.from.result = omega (arith, ints, bound, widened) in
-      again ∙ same ∙ value,
+          let again : to_z w64 (of_z w64 c.from.result) ≡ c.from.result = omega (arith, ints, bound, widened) in
+          again ∙ same ∙ value,
     )

@@ -1,5 +1,3 @@
-use Rattle.std.proofs.Common.{subst}
-use Rattle.it_docs.specs.Moment.{MomentOf}
 use Rattle.it_docs.proofs.moment.read_moment.Goals as goal
 
 pub returns-in-None : goal.returns-in-None

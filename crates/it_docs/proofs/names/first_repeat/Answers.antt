@@ -1,4 +1,4 @@
-use Rattle.std.proofs.Common.{◌≡◌, ◌∙◌, Bor, List, [], ℕ, get_or, sym, refl}
+use Rattle.std.proofs.Common.{◌∙◌, Bor, List, [], ℕ, get_or, sym, refl}
 use Rattle.std.specs.BTreeSet.{contains}
 use Rattle.std.specs.List.{IsDistinct}
 use Rattle.it_docs.proofs.NamesSeen.{str_cmp, any_default, was_seen, was_new, seen_more, distinct_more, repeat_here}

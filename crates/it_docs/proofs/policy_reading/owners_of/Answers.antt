@@ -1,4 +1,4 @@
-use Rattle.std.proofs.Common.{◌≡◌, ◌∙◌, codes}
+use Rattle.std.proofs.Common.{◌∙◌, codes}
 use Rattle.serde_json.specs.View.{view}
 use Rattle.it_dsse.specs.KeyObject.{IsKeyObject}
 use Rattle.it_docs.specs.Table.{IsTable}

@@ -51,5 +51,5 @@ loop-name-preserved g c =
       done ++ e ∷ [],
       all ∙ sym (append_assoc done (e ∷ []) left),
       subst (λ m. AreMembers g.V.FromDocument.is_of (members_view (done ++ e ∷ [])) m) (sym put)
-      (members_more g.V.FromDocument.is_of done e left l.table c.in-Some-2.value sorted (sym c.is_null.ensures ∙ c.if-is_null.false) l.invariant.2 value),
+          (members_more g.V.FromDocument.is_of done e left l.table c.in-Some-2.value sorted (sym c.is_null.ensures ∙ c.if-is_null.false) l.invariant.2 value),
     )

@@ -1,4 +1,4 @@
-use Rattle.std.proofs.Common.{◌≡◌, ◌∙◌, ap, arith, length}
+use Rattle.std.proofs.Common.{◌∙◌, ap, arith}
 use Rattle.it_docs.specs.Equal.{equal_items, equal_fields}
 use Rattle.it_docs.specs.JsonView.{items_view, fields_view}
 use Rattle.it_docs.proofs.TreeLengths.{equal_items-lengths, equal_fields-lengths}

@@ -21,7 +21,7 @@ read_members-loop-name-preserved t c =
       done ++ e ∷ [],
       all ∙ sym (append_assoc done (e ∷ []) left),
       ap fields_view c.in_ok-insert.ensures.entries ∙ fields_view-insert_entry l.by_name.entries c.in_ok-name.name c.in_ok-read.field-0
-      ∙ rw (named, c.in_ok-read.ensures, l.invariant.2) (sym (fields_of-put (string_bytes e.0) (view e.1) (members_view done)) ∙ ap fields_of last),
+          ∙ rw (named, c.in_ok-read.ensures, l.invariant.2) (sym (fields_of-put (string_bytes e.0) (view e.1) (members_view done)) ∙ ap fields_of last),
     )
 
 pub read_items-loop-item-preserved : goal.read_items-loop-item-preserved

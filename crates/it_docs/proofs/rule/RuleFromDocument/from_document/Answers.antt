@@ -1,7 +1,7 @@
 use Rattle.std.proofs.lemmas.Result.{IfOk-weaker}
 use Rattle.serde_json.specs.View.{view}
 use Rattle.it_base.specs.Finds.{Finds}
-use Rattle.it_docs.specs.Rule.{IsRule, RuleOf}
+use Rattle.it_docs.specs.Rule.{IsRule}
 use Rattle.it_docs.proofs.Rules.{found_of_texts}
 use Rattle.it_docs.proofs.rule.RuleFromDocument.from_document.Goals as goal
 

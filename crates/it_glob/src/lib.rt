@@ -1,0 +1,10 @@
+//! Path patterns: their reading and their matching against whole texts.
+#![tactic(auto)]
+
+mod front;
+mod item;
+mod matching;
+pub mod pattern;
+mod reading;
+
+pub use pattern::Pattern;

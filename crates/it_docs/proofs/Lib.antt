@@ -1,0 +1,4 @@
+pub mod Moments
+pub mod Rules
+pub mod TreesRead
+pub mod TreeLengths

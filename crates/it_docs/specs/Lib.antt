@@ -1,0 +1,9 @@
+pub mod Equal
+pub mod Json
+pub mod JsonCode
+pub mod JsonFalls
+pub mod JsonView
+pub mod Moment
+pub mod Rule
+pub mod RuleAnswer
+pub mod TreeOf

@@ -1,0 +1,7 @@
+//! The documents of a verification (in-toto specification 1.0, in-toto Attestation Statement v1,
+//! SLSA Provenance v1): layouts, links, Statements, policies, and what stands in them.
+#![tactic(auto)]
+
+pub mod moment;
+pub mod rule;
+pub mod tree;

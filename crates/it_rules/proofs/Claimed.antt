@@ -1,5 +1,5 @@
 -- When MATCH claims a path.
-use Rattle.std.proofs.Common.{Bool, IsTrue, ◌≡◌, ◌∙◌, ◌↔◌, ◌++◌, ℕ, List, Option, Some, None, MatchOption, sym, ap, subst, refl, Contains}
+use Rattle.std.proofs.Common.{Bool, IsTrue, ◌≡◌, ◌∙◌, ◌↔◌, ◌++◌, ℕ, List, Option, Some, None, MatchOption, sym, subst, refl, Contains}
 use Rattle.std.specs.FinMap.{get}
 use Rattle.std.proofs.lemmas.List.{append_cancel_left}
 use Rattle.it_digest.specs.Artifacts.{ArtifactMap}
@@ -32,17 +32,25 @@ module _ (pattern source : List ℕ) (side : Side) (target from : List ℕ) (art
   pub claims_from_digests : (rest : List ℕ) (linked : Recorded) → NamesDiffer links → path ≡ folder_prefix source ++ rest → IsMatch pattern rest → Contains links (from, linked)
       → BothAgree (get artifacts path) (get (artifacts_on side linked) (folder_prefix target ++ rest)) ↔ MatchClaims pattern source side target from artifacts links path
   claims_from_digests rest linked differ e matched named = (
-      λ h. let p = parts _ _ h in record {
-        rest = rest; linked = linked; here = p.0; there = p.1; under_source = e; is_match = matched; is_named = named;
-        stands_here = p.2; stands_there = p.3; digests_agree = p.4
-      },
-      λ m.
+    λ h. let p = parts _ _ h in record {
+      rest = rest;
+      linked = linked;
+      here = p.0;
+      there = p.1;
+      under_source = e;
+      is_match = matched;
+      is_named = named;
+      stands_here = p.2;
+      stands_there = p.3;
+      digests_agree = p.4;
+    },
+    λ m.
         let one : m.linked ≡ linked = named_once links from m.linked linked differ m.is_named named in
         let there : get (artifacts_on side linked) (folder_prefix target ++ rest) ≡ Some m.there =
-          subst (λ (r : List ℕ). get (artifacts_on side linked) (folder_prefix target ++ r) ≡ Some m.there) (one_rest rest e m)
-          (subst (λ (k : Recorded). get (artifacts_on side k) (folder_prefix target ++ m.rest) ≡ Some m.there) one m.stands_there) in
+        subst (λ (r : List ℕ). get (artifacts_on side linked) (folder_prefix target ++ r) ≡ Some m.there) (one_rest rest e m)
+        (subst (λ (k : Recorded). get (artifacts_on side k) (folder_prefix target ++ m.rest) ≡ Some m.there) one m.stands_there) in
         rw (m.stands_here, there) m.digests_agree,
-    )
+  )
 
 -- an answer on digests, as an answer on the path
 pub answer_on_path : {M : Type 0} (r : Bool) (here there x y : Option DigestSet) → (IsTrue r ↔ BothAgree here there) → here ≡ x → there ≡ y → (BothAgree x y ↔ M) → IsTrue r ↔ M

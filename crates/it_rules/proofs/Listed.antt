@@ -1,5 +1,5 @@
 -- Elements of lists, by their places.
-use Rattle.std.proofs.Common.{subst, ◌≡◌, ◌≢◌, ◌∙◌, ◌⊎◌, inl, inr, ℕ, ◌<◌, ◌≤◌, ◌+◌, List, map, length, get_or, Option, Some, None, option_map, sym, ap, refl, arith, Contains, AllPairs}
+use Rattle.std.proofs.Common.{subst, ◌≡◌, ◌≢◌, ◌∙◌, inl, inr, ℕ, ◌<◌, ◌+◌, List, map, length, Option, Some, None, option_map, sym, ap, refl, arith, Contains, AllPairs}
 use Rattle.std.specs.List.{slice_get}
 use Rattle.std.proofs.lemmas.Bool.{cases_lt}
 use Rattle.std.proofs.lemmas.Option.{slice_get-get_or, slice_get_past, slice_get-map, get_or_from_slice_get}
@@ -32,7 +32,7 @@ Contains-map f xs i x e = Contains-from_place (map f xs) i (f x) (slice_get-map 
 -- what holds of each element before a place and of the element there
 pub places_more : {X : Type 0} (P : X → Type 0) (xs : List X) (i : ℕ) (x : X) → ((j : ℕ) (y : X) → j < i → slice_get xs j ≡ Some y → P y) → slice_get xs i ≡ Some x → P x → (j : ℕ) (y : X) → j < i + 1 → slice_get xs j ≡ Some y → P y
 places_more P xs i x before here p j y l e = elim (cases_lt j i) [
-  inl k ↦ before j y k e
+  | inl k ↦ before j y k e
   | inr g ↦ let same : j ≡ i = omega arith in let one : x ≡ y = (let h : slice_get xs i ≡ Some y = ap (slice_get xs) (sym same) ∙ e in cc (h, here)) in subst P one p
 ]
 
@@ -42,11 +42,11 @@ named_once {X = X} links n a b differ in_a in_b =
     let p = place_of links (n, a) in_a in
     let q = place_of links (n, b) in_b in
     let apart : (i j : ℕ) (x y : X) → slice_get links i ≡ Some (n, x) → slice_get links j ≡ Some (n, y) → i < j → ⊥ =
-      λ i j x y e f l. differ i j (n, x) l (slice_get_within links j (n, y) f) (ap (λ r. r.0) (get_or_from_slice_get links i (n, x) (n, x) e) ∙ sym (ap (λ r. r.0) (get_or_from_slice_get links j (n, y) (n, x) f))) in
+    λ i j x y e f l. differ i j (n, x) l (slice_get_within links j (n, y) f) (ap (λ r. r.0) (get_or_from_slice_get links i (n, x) (n, x) e) ∙ sym (ap (λ r. r.0) (get_or_from_slice_get links j (n, y) (n, x) f))) in
     elim (cases_lt p.0 q.0) [
-      inl l ↦ absurd (apart p.0 q.0 a b p.1 q.1 l)
-    | inr g ↦ elim (cases_lt q.0 p.0) [
-        inl l ↦ absurd (apart q.0 p.0 b a q.1 p.1 l)
-      | inr h ↦ let same : p.0 ≡ q.0 = omega arith in let at_one : slice_get links q.0 ≡ Some (n, a) = ap (slice_get links) (sym same) ∙ p.1 in ap (λ r. r.1) (sym (get_or_from_slice_get links q.0 (n, a) (n, a) at_one) ∙ get_or_from_slice_get links q.0 (n, b) (n, a) q.1)
+      | inl l ↦ absurd (apart p.0 q.0 a b p.1 q.1 l)
+      | inr g ↦ elim (cases_lt q.0 p.0) [
+        | inl l ↦ absurd (apart q.0 p.0 b a q.1 p.1 l)
+        | inr h ↦ let same : p.0 ≡ q.0 = omega arith in let at_one : slice_get links q.0 ≡ Some (n, a) = ap (slice_get links) (sym same) ∙ p.1 in ap (λ r. r.1) (sym (get_or_from_slice_get links q.0 (n, a) (n, a) at_one) ∙ get_or_from_slice_get links q.0 (n, b) (n, a) q.1)
       ]
     ]

@@ -1,6 +1,5 @@
 -- Paths that are lent, by their bytes.
-use Rattle.std.proofs.Common.{map, ◌≡◌, ◌∙◌, ◌||◌, ◌⊎◌, inl, inr, ℕ, List, [], ◌∷◌, Bool, true, false, Bor, String, Global, Ordering, Less, Equal, Greater, nat_cmp, is_eq, string_bytes, bytes_eq, refl, sym, ap, subst, IsTrue, rules}
-use Rattle.std.specs.BTreeMap.{is_at}
+use Rattle.std.proofs.Common.{map, ◌≡◌, ◌∙◌, ◌||◌, ◌⊎◌, inl, inr, ℕ, List, [], ◌∷◌, Bool, true, false, Bor, String, Global, Ordering, Less, Equal, Greater, nat_cmp, is_eq, string_bytes, refl, sym, ap, subst, IsTrue}
 use Rattle.std.specs.BTreeSet.{insert_key}
 use Rattle.std.specs.Cmp.Lexicographic.{slice_cmp}
 use Rattle.std.specs.List.{list_any, AllByRecursion}
@@ -85,7 +84,7 @@ move_first p k s done rest e = ap (λ b. b || is_left rest p) (is_among-insert_k
 above_all : (k : Bor (List ℕ)) (ks : List (Bor (List ℕ))) (q : List ℕ) → AllByRecursion (λ y. lent_cmp k y ≡ Less) ks → IsTrue (is_among ks q) → slice_cmp nat_cmp q k.now ≡ Greater
 above_all k [] q h m = cc m
 above_all k (x ∷ xs) q h m = elim (among_cases q x xs m) [
-  inl e ↦ subst (λ p. slice_cmp nat_cmp p k.now ≡ Greater) (sym e) (nat_list_cmp_total.antisymm x.now k.now ∙ ap ordering_reverse h.0)
+  | inl e ↦ subst (λ p. slice_cmp nat_cmp p k.now ≡ Greater) (sym e) (nat_list_cmp_total.antisymm x.now k.now ∙ ap ordering_reverse h.0)
   | inr r ↦ above_all k xs q h.1 r
 ]
 
@@ -93,10 +92,9 @@ above_all k (x ∷ xs) q h m = elim (among_cases q x xs m) [
 pub first_is_least : (k : Bor (List ℕ)) (ks : List (Bor (List ℕ))) (q : List ℕ) → IsStrictlySortedBy lent_cmp (k ∷ ks) → IsTrue (is_among (k ∷ ks) q) → ¬ (slice_cmp nat_cmp q k.now ≡ Less)
 unfolding IsStrictlySortedBy
 first_is_least k ks q h m below = elim (among_cases q k ks m) [
-  inl e ↦ cc (below, ap (λ p. slice_cmp nat_cmp p k.now) e, tied_itself nat_list_cmp_total k.now)
+  | inl e ↦ cc (below, ap (λ p. slice_cmp nat_cmp p k.now) e, tied_itself nat_list_cmp_total k.now)
   | inr r ↦ cc (below, above_all k ks q h.0 r)
 ]
-
 
 pub rest_in_order : (k : Bor (List ℕ)) (ks : List (Bor (List ℕ))) → IsStrictlySortedBy lent_cmp (k ∷ ks) → IsStrictlySortedBy lent_cmp ks
 unfolding IsStrictlySortedBy

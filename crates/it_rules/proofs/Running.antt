@@ -1,13 +1,12 @@
 -- Rules that are run in order, over a queue of the paths that are free.
-use Rattle.std.proofs.Common.{◌≡◌, ◌∙◌, ◌↔◌, ℕ, ◌<◌, ◌≤◌, ◌+◌, List, length, Some, sym, ap, arith, inl, inr, IsTrue, refl, subst}
+use Rattle.std.proofs.Common.{◌≡◌, ◌↔◌, ℕ, ◌<◌, ◌≤◌, ◌+◌, List, length, Some, arith, inl, inr, subst}
 use Rattle.std.specs.List.{slice_get}
-use Rattle.std.specs.FinMap.{contains_key}
 use Rattle.std.proofs.lemmas.Bool.{cases_lt}
 use Rattle.it_docs.specs.declared.rule.Rule.{Rule}
 use Rattle.it_docs.specs.declared.rule.Rule.TheVariants.{Match, Create, Delete, Modify, Allow, Disallow, Require}
 use Rattle.it_docs.specs.declared.rule.Side.{Side}
-use Rattle.it_rules.specs.Item.{Recorded, Links, artifacts_on}
-use Rattle.it_rules.specs.Rules.{Claims, IsFree, HoldsOver, Holds, RulesHold, FailsWith, IsLeastMatch, IsFirstFault}
+use Rattle.it_rules.specs.Item.{Recorded, Links}
+use Rattle.it_rules.specs.Rules.{Claims, IsFree, HoldsOver, Holds, RulesHold, FailsWith, IsFirstFault}
 use Rattle.it_rules.proofs.Listed.{slice_get_within, places_more}
 
 -- a rule over the same free paths
@@ -29,7 +28,7 @@ FailsWith-same (Allow a) A B path same h = h
 FailsWith-same (Disallow a) A B path same h = record {
   is_free = (same path).0 h.is_free;
   is_match = h.is_match;
-  is_least = λ other b. h.is_least other ((same other).1 b)
+  is_least = λ other b. h.is_least other ((same other).1 b);
 }
 FailsWith-same (Require a) A B path same h = h
 
@@ -42,12 +41,6 @@ pub record Running (rules : List Rule) (side : Side) (item : Recorded) (links : 
   pub hold : (j : ℕ) → j < i → Holds rules side item links j
 
 module _ (rules : List Rule) (side : Side) (item : Recorded) (links : Links) where
-  pub none_run : (Queued : List ℕ → Type 0) → ((path : List ℕ) → Queued path ↔ IsTrue (contains_key (artifacts_on side item) path)) → Running rules side item links Queued 0
-  none_run Queued h = record {
-    free = λ path. (λ q. record { stands = (h path).0 q; unclaimed = λ j rule l. absurd (omega arith) }, λ f. (h path).1 f.stands);
-    hold = λ j l. absurd (omega arith)
-  }
-
   pub one_more : (Queued Left : List ℕ → Type 0) (i : ℕ) (rule : Rule) → Running rules side item links Queued i → slice_get rules i ≡ Some rule → HoldsOver rule Queued
       → ((path : List ℕ) → Left path ↔ (Queued path × ¬ Claims rule side item links path)) → Running rules side item links Left (i + 1)
   one_more Queued Left i rule h here holds left = record {
@@ -56,9 +49,9 @@ module _ (rules : List Rule) (side : Side) (item : Recorded) (links : Links) whe
       λ f. (left path).1 ((h.free path).1 (record { stands = f.stands; unclaimed = λ j other lt e. f.unclaimed j other (omega arith) e }), f.unclaimed i rule (omega arith) here),
     );
     hold = λ j l. elim (cases_lt j i) [
-      inl k ↦ h.hold j k
-    | inr g ↦ let same : i ≡ j = omega arith in subst (Holds rules side item links) same (λ other e. let one : rule ≡ other = cc (here, e) in subst (λ (r : Rule). HoldsOver r (IsFree rules side item links i)) one (HoldsOver-same rule _ _ h.free holds))
-    ]
+      | inl k ↦ h.hold j k
+      | inr g ↦ let same : i ≡ j = omega arith in subst (Holds rules side item links) same (λ other e. let one : rule ≡ other = cc (here, e) in subst (λ (r : Rule). HoldsOver r (IsFree rules side item links i)) one (HoldsOver-same rule _ _ h.free holds))
+    ];
   }
 
   pub fault_of : (Queued : List ℕ → Type 0) (i : ℕ) (rule : Rule) (path : List ℕ) → Running rules side item links Queued i → slice_get rules i ≡ Some rule → ¬ HoldsOver rule Queued → FailsWith rule Queued path
@@ -66,7 +59,7 @@ module _ (rules : List Rule) (side : Side) (item : Recorded) (links : Links) whe
   fault_of Queued i rule path h here fails with_path = record {
     fails = λ holds. fails (HoldsOver-same rule _ _ (swapped _ _ h.free) (holds rule here));
     before_hold = h.hold;
-    path_is = λ other e. let one : rule ≡ other = cc (here, e) in subst (λ (r : Rule). FailsWith r (IsFree rules side item links i) path) one (FailsWith-same rule _ _ path h.free with_path)
+    path_is = λ other e. let one : rule ≡ other = cc (here, e) in subst (λ (r : Rule). FailsWith r (IsFree rules side item links i) path) one (FailsWith-same rule _ _ path h.free with_path);
   }
 
   pub all_run : (Queued : List ℕ → Type 0) (i : ℕ) → Running rules side item links Queued i → length rules ≤ i → RulesHold rules side item links

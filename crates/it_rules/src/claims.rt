@@ -73,7 +73,7 @@ fn match_claims(
     requires { NamesDiffer (links_of links.now) }
     ensures { IfOk result (λ claimed. IsTrue claimed
         ↔ MatchClaims pattern.now source_prefix.now target.now.side target.now.prefix.now
-            target.now.from.now artifacts.now (links_of links.now) path.now) }
+        target.now.from.now artifacts.now (links_of links.now) path.now) }
 {
     let Some(rest) = strip_folder(path, source_prefix) else {
         return Ok(false);
@@ -93,17 +93,13 @@ fn match_claims(
 fn create_claims(pattern: &Pattern, item: &Item, path: &str) -> bool
     ensures { IsTrue result ↔ CreateClaims pattern.now (recorded_of item.now) path.now }
 {
-    pattern.matches(path)
-        && item.products.get(path).is_some()
-        && item.materials.get(path).is_none()
+    pattern.matches(path) && item.products.get(path).is_some() && item.materials.get(path).is_none()
 }
 
 fn delete_claims(pattern: &Pattern, item: &Item, path: &str) -> bool
     ensures { IsTrue result ↔ DeleteClaims pattern.now (recorded_of item.now) path.now }
 {
-    pattern.matches(path)
-        && item.materials.get(path).is_some()
-        && item.products.get(path).is_none()
+    pattern.matches(path) && item.materials.get(path).is_some() && item.products.get(path).is_none()
 }
 
 fn modify_claims(pattern: &Pattern, item: &Item, path: &str) -> bool

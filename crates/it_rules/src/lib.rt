@@ -7,3 +7,5 @@ mod folder_prefix;
 pub mod item;
 mod queue;
 pub mod rules;
+#[cfg(test)]
+mod tests;

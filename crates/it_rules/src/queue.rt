@@ -37,7 +37,7 @@ pub(crate) fn consume<'a>(
     requires { NamesDiffer (links_of links.now) }
     ensures { IfOk result (λ left. (path : List ℕ) → IsTrue (is_queued left path)
         ↔ (IsTrue (is_queued queue.now path)
-            × ¬ Claims rule.now side (recorded_of item.now) (links_of links.now) path)) }
+        × ¬ Claims rule.now side (recorded_of item.now) (links_of links.now) path)) }
 {
     let mut left = BTreeSet::new(alloc);
     for path in queue {
@@ -54,9 +54,9 @@ pub(crate) fn least_match<'a>(queue: &BTreeSet<&'a str>, pattern: &Pattern) -> O
         ((path : List ℕ) → IsTrue (is_queued queue.now path) → ¬ IsMatch pattern.now path)
         (λ path. IsLeastMatch pattern.now (λ p. IsTrue (is_queued queue.now p)) path.now) }
 {
-    for path in queue {
-        if pattern.matches(path) {
-            return Some(*path);
+    for candidate in queue {
+        if pattern.matches(candidate) {
+            return Some(*candidate);
         }
     }
     None

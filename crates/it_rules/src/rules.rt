@@ -44,7 +44,7 @@ pub fn run_rules(
         ↔ RulesHold rules.now side (recorded_of item.now) (links_of links.now)) }
     ensures fails { IfOk result (λ found. IfSome found (λ fault.
         IsFirstFault rules.now side (recorded_of item.now) (links_of links.now)
-            fault.index fault.path)) }
+        fault.index fault.path)) }
 {
     let mut queue = queue_of(alloc, item.artifacts_on(side))?;
     for (index, rule) in rules.iter().enumerate() {
@@ -61,16 +61,13 @@ pub fn run_rules(
 fn failing_path<'a>(rule: &'a Rule, queue: &BTreeSet<&'a str>) -> Option<&'a str>
     ensures { MatchOption result (HoldsOver rule.now (λ p. IsTrue (is_queued queue.now p)))
         (λ path. (¬ HoldsOver rule.now (λ p. IsTrue (is_queued queue.now p)))
-            × FailsWith rule.now (λ p. IsTrue (is_queued queue.now p)) path.now) }
+        × FailsWith rule.now (λ p. IsTrue (is_queued queue.now p)) path.now) }
 {
     match rule {
         Rule::Disallow(pattern) => least_match(queue, pattern),
         Rule::Require(path) => missing(queue, path.as_str()),
-        Rule::Match { .. }
-        | Rule::Create(_)
-        | Rule::Delete(_)
-        | Rule::Modify(_)
-        | Rule::Allow(_) => None,
+        Rule::Match { .. } | Rule::Create(_) | Rule::Delete(_) | Rule::Modify(_) | Rule::Allow(_) =>
+            None,
     }
 }
 

@@ -9,8 +9,8 @@ use Rattle.it_rules.proofs.queue.queue_of.Goals as goal
 pub loop-path-init : goal.loop-path-init
 loop-path-init c = λ path.
     let e : is_left c.into_iter-path-iterator.result path ≡ contains_key c.args.artifacts.now path =
-      ap (λ ks. is_left ks path) c.into_iter-path-iterator.ensures.into_iter_gives ∙ is_left-map c.paths-path-items.result path
-      ∙ ap (list_any (eq_by_cmp (slice_cmp nat_cmp) path)) c.paths-path-items.ensures.paths ∙ sym (contains_key-keys c.args.artifacts.now path) in
+    ap (λ ks. is_left ks path) c.into_iter-path-iterator.ensures.into_iter_gives ∙ is_left-map c.paths-path-items.result path
+    ∙ ap (list_any (eq_by_cmp (slice_cmp nat_cmp) path)) c.paths-path-items.ensures.paths ∙ sym (contains_key-keys c.args.artifacts.now path) in
     rw c.new-queue.ensures.empty e
 
 pub loop-path-preserved : goal.loop-path-preserved

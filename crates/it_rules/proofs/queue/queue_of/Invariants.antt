@@ -1,4 +1,4 @@
-use Rattle.std.proofs.Common.{◌≡◌, ◌||◌, ℕ, List, string_bytes}
+use Rattle.std.proofs.Common.{◌≡◌, ◌||◌, ℕ, List}
 use Rattle.std.specs.FinMap.{contains_key}
 use Rattle.it_rules.specs.Queue.{is_queued}
 use Rattle.it_rules.proofs.Queued.{is_left}

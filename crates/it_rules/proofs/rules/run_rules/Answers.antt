@@ -1,8 +1,6 @@
-use Rattle.std.proofs.Common.{◌≡◌, ◌∙◌, refl, sym, IsTrue}
+use Rattle.std.proofs.Common.{refl, IsTrue}
 use Rattle.std.proofs.lemmas.Option.{slice_get_read}
-use Rattle.it_rules.specs.Item.{links_of, recorded_of}
 use Rattle.it_rules.specs.Queue.{is_queued}
-use Rattle.it_rules.specs.Rules.{IsFirstFault}
 use Rattle.it_rules.proofs.Running.{one_more, fault_of, fault_refutes, all_run}
 use Rattle.it_rules.proofs.rules.run_rules.Goals as goal
 

@@ -35,11 +35,9 @@ pub fn one_statement()
 /// Bytes of which a part is the first that fails are no layout.
 pub fn bad_part_is_no_layout()
     ensures { BadPartIsNoLayout }
-{
-}
+{}
 
 /// Bytes of which a part is the first that fails are no policy.
 pub fn bad_part_is_no_policy()
     ensures { BadPartIsNoPolicy }
-{
-}
+{}

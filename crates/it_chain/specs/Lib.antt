@@ -1,0 +1,3 @@
+pub mod BundleCode
+pub mod BundleView
+pub mod Contents

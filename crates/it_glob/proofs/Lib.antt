@@ -1,0 +1,5 @@
+pub mod Bodies
+pub mod Counting
+pub mod Fronts
+pub mod Sets
+pub mod Steps

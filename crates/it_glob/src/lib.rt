@@ -1,0 +1,12 @@
+//! Path patterns: their reading and their matching against whole texts.
+#![tactic(auto)]
+
+mod front;
+mod item;
+mod matching;
+mod pattern;
+mod reading;
+#[cfg(test)]
+mod tests;
+
+pub use pattern::Pattern;

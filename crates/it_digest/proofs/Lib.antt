@@ -1,0 +1,2 @@
+pub mod ArtifactsLemmas
+pub mod SumsLemmas

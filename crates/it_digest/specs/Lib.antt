@@ -1,0 +1,5 @@
+pub mod Artifacts
+pub mod Compare
+pub mod DigestSet
+pub mod Reader
+pub mod Sums

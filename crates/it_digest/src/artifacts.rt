@@ -1,0 +1,104 @@
+//! Maps from the path of an artifact to its digests.
+
+ghost use Rattle.std.specs.Prelude.{◌≡◌, ◌↔◌, IsTrue, IfOk, OnOk, OnErr, string_bytes, map};
+ghost use Rattle.std.specs.Ordering.{nat_cmp};
+ghost use Rattle.std.specs.Cmp.Lexicographic.{slice_cmp};
+ghost use Rattle.std.specs.List.Sorted.{IsStrictlySortedBy};
+ghost use Rattle.std.specs.FinMap as finite;
+ghost use Rattle.it_digest.specs.Artifacts.{path_entries};
+
+use crate::compare::DigestSet;
+use std::alloc::{AllocError, Global};
+use std::collections::BTreeMap;
+use std::collections::btree_map::{Iter, Keys};
+use std::marker::Model;
+
+/// A map from path to digest set. Paths are compared by their bytes.
+#[derive(Drop)]
+pub struct Artifacts {
+    by_path: BTreeMap<String, DigestSet>,
+}
+
+impl Model for Artifacts {
+    ghost use Rattle.std.specs.Prelude.{map};
+    ghost use Rattle.std.specs.List.Sorted.{IsStrictlySortedBy};
+    ghost use Rattle.std.specs.Coded.{coded_ℕ, coded_list};
+    ghost use Rattle.std.specs.String.{string_cmp};
+    ghost use Rattle.std.specs.FinMap as finite;
+    ghost use Rattle.it_digest.specs.DigestSet.{digest_set_code};
+    ghost use Rattle.it_digest.specs.Artifacts.{ArtifactMap, path_entries};
+
+    ghost Value = { ArtifactMap };
+
+    ghost coded = { finite.code (coded_list coded_ℕ) digest_set_code };
+
+    ghost view = { λ a. finite.from_entries (path_entries a.by_path.entries) };
+
+    ghost invariant = { λ a. IsStrictlySortedBy string_cmp (map (λ e. e.0) a.by_path.entries) };
+}
+
+impl Artifacts {
+    /// The empty map. It takes no memory; `alloc` serves the later calls of `insert`.
+    pub fn new(alloc: Global) -> Artifacts
+        ensures { result ≡ finite.empty }
+    {
+        Artifacts {
+            by_path: BTreeMap::new(alloc),
+        }
+    }
+
+    /// Sets the digests of a path, and answers those that the path had before.
+    ///
+    /// # Errors
+    ///
+    /// `AllocError` where memory is refused; the map is then as it was.
+    pub fn insert(
+        &mut self,
+        path: String,
+        digests: DigestSet,
+    ) -> Result<Option<DigestSet>, AllocError>
+        ensures old { IfOk result (λ before. before ≡ finite.get self.old (string_bytes path)) }
+        ensures ok { OnOk result (self.new ≡ finite.insert self.old (string_bytes path) digests) }
+        ensures err { OnErr result (self.new ≡ self.old) }
+    {
+        let before = self.by_path.insert(path, digests)?;
+        Ok(before)
+    }
+
+    /// The digests of a path, if it stands in the map.
+    pub fn get(&self, path: &str) -> Option<DigestSet>
+        ensures { result ≡ finite.get self.now path.now }
+    {
+        self.by_path.get(path).copied()
+    }
+
+    /// The paths, each once, in the order of their bytes.
+    pub fn paths(&self) -> Keys<'_, String, DigestSet>
+        ensures paths { map string_bytes result ≡ finite.keys self.now }
+        ensures ordered { IsStrictlySortedBy (slice_cmp nat_cmp) (map string_bytes result) }
+    {
+        self.by_path.keys()
+    }
+
+    /// The paths with their digests, each path once, in the order of their bytes.
+    pub fn iter(&self) -> Iter<'_, String, DigestSet>
+        ensures { path_entries result ≡ finite.entries self.now }
+    {
+        self.by_path.iter()
+    }
+
+    /// Whether no path stands in the map.
+    pub fn is_empty(&self) -> bool
+        ensures { IsTrue result ↔ (self.now ≡ finite.empty) }
+    {
+        self.by_path.is_empty()
+    }
+
+    /// Whether both maps have the same paths with equal digest sets. Equal means the same
+    /// algorithms with the same values, which is more than that the sets agree.
+    pub fn same_as(&self, other: &Artifacts) -> bool
+        ensures { IsTrue result ↔ (self.now ≡ other.now) }
+    {
+        self.by_path == other.by_path
+    }
+}

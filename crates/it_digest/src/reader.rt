@@ -1,0 +1,62 @@
+//! The SHA-256 of what a reader gives.
+
+ghost use Rattle.std.specs.Prelude.{◌≡◌, IfOk, IfSome};
+ghost use Rattle.sha2.specs.Sha256.{sha256};
+ghost use Rattle.it_digest.specs.Reader.{GaveAtMost, GaveMoreThan, IsDigestOfRest};
+ghost use Rattle.it_digest.specs.declared.reader.DigestFault.TheVariants as fault;
+
+use sha2::{Digest, Sha256};
+use std::io::{self, Read};
+
+/// How many bytes are asked for at once.
+const BLOCK_SIZE: usize = 65_536;
+
+/// Why a reader has no digest.
+#[derive(Clone, Copy, Debug, PartialEq, Eq)]
+pub enum DigestFault {
+    /// The reader answered an error.
+    Read,
+    /// More bytes came than the limit allows.
+    TooLarge,
+}
+
+impl From<io::Error> for DigestFault {
+    ghost from_gives = { λ _ e. e ≡ fault.Read };
+
+    fn from(_error: io::Error) -> DigestFault {
+        DigestFault::Read
+    }
+}
+
+/// The SHA-256 (FIPS 180-4) of the bytes that the reader gives up to its end.
+///
+/// `limit` is how many bytes may come at most. The reader is asked in blocks, at most once more
+/// than `limit`, and never again after it answered an error or its end.
+///
+/// # Errors
+///
+/// - `Read` where the reader answered an error; no read is tried again.
+/// - `TooLarge` where more than `limit` bytes came.
+///
+/// After either the reader stands where its last read left it.
+pub fn sha256_of_reader<R: Read>(reader: &mut R, limit: u64) -> Result<[u8; 32], DigestFault>
+    ensures ok { IfOk result (IsDigestOfRest (R.remaining reader.old) (R.remaining reader.new) limit) }
+    ensures whole { IfOk result (λ digest. IfSome (R.remaining reader.old) (λ bytes. digest ≡ sha256 bytes)) }
+    ensures too_large { result ≡ Err DigestFault.TooLarge → GaveMoreThan (R.remaining reader.old) (R.remaining reader.new) limit }
+    ensures read { result ≡ Err DigestFault.Read → GaveAtMost (R.remaining reader.old) (R.remaining reader.new) limit }
+{
+    let mut hasher = Sha256::new();
+    let mut buffer = [0; BLOCK_SIZE];
+    let mut room = limit;
+    loop {
+        let count = reader.read(&mut buffer)?;
+        if count == 0 {
+            return Ok(hasher.finalize());
+        }
+        if count as u64 > room {
+            return Err(DigestFault::TooLarge);
+        }
+        room -= count as u64;
+        hasher.update(&buffer[..count]);
+    }
+}

@@ -1,0 +1,138 @@
+//! Digest lists as `sha256sum` writes them.
+
+ghost use Rattle.std.specs.Prelude.{◌≡◌, ◌==◌, ◌<◌, ◌∷◌, ℕ, length, IfOk, MatchBool};
+ghost use Rattle.std.specs.List.{position};
+ghost use Rattle.it_base.specs.Finds.{FindsAs};
+ghost use Rattle.it_base.specs.HexadecimalText.{hexadecimal_decoded};
+ghost use Rattle.it_digest.specs.Artifacts.{ArtifactMap};
+ghost use Rattle.it_digest.specs.Sums.{AddsNothing, AddsSum, IsFirstBadLine, IsMarkedPath, IsSum, SumsOf, lines_of};
+ghost use Rattle.it_digest.specs.declared.sums.SumsFault.TheVariants as fault;
+
+use crate::artifacts::Artifacts;
+use crate::compare::DigestSet;
+use hex::FromHex;
+use std::alloc::{AllocError, Global};
+use std::marker::Model;
+use std::str;
+
+/// Why bytes are no digest list.
+#[derive(Clone, Copy, Debug, PartialEq, Eq)]
+pub enum SumsFault {
+    /// The first bad line, counted from 1.
+    BadSums(u64),
+    /// Memory was refused.
+    OutOfMemory,
+}
+
+impl From<AllocError> for SumsFault {
+    ghost from_gives = { λ _ e. e ≡ fault.OutOfMemory };
+
+    fn from(_error: AllocError) -> SumsFault {
+        SumsFault::OutOfMemory
+    }
+}
+
+/// What one line says.
+#[derive(Clone, Copy)]
+struct Sum<'a> {
+    path: &'a str,
+    digests: DigestSet,
+}
+
+/// Reads a digest list as `sha256sum` writes it: a line for each file, with 64 hexadecimal digits
+/// of either case, a space, a space or a `*`, the path, and a line feed, which the last line may
+/// lack. A path is not empty, is UTF-8, and stands once; a carriage return at its end belongs to
+/// it. No bytes are the empty list.
+///
+/// # Errors
+///
+/// - `BadSums` with the first line, counted from 1, that is not so, or whose path stood in an
+///   earlier line.
+/// - `OutOfMemory` where memory was refused.
+pub fn read_sums(alloc: Global, bytes: &[u8]) -> Result<Artifacts, SumsFault>
+    ensures ok { IfOk result (SumsOf bytes.now) }
+    ensures only { IfOk result (λ sums. (other : ArtifactMap) → SumsOf bytes.now other → other ≡ sums) }
+    ensures first_bad { (line : ℕ) → result ≡ Err (SumsFault.BadSums line) → IsFirstBadLine bytes.now line }
+    ensures none { (line : ℕ) → result ≡ Err (SumsFault.BadSums line) → (sums : ArtifactMap) → ¬ SumsOf bytes.now sums }
+{
+    let mut sums = Artifacts::new(alloc);
+    let mut rest = bytes;
+    let mut number = 0;
+    while !rest.is_empty() {
+        let (line, after) = split_line(rest);
+        number += 1;
+        if !add_sum(alloc, &mut sums, line)? {
+            return Err(SumsFault::BadSums(number));
+        }
+        rest = after;
+    }
+    Ok(sums)
+}
+
+/// The first line, without its line feed, and what follows it.
+fn split_line(text: &[u8]) -> (&[u8], &[u8])
+    requires { 0 < length text.now }
+    ensures lines { lines_of text.now ≡ result.0.now ∷ lines_of result.1.now }
+    ensures shorter { length result.1.now < length text.now }
+{
+    match first_line_feed(text) {
+        Some(end) => (&text[..end], &text[end + 1..]),
+        None => (text, &[]),
+    }
+}
+
+/// Where the first line feed stands.
+fn first_line_feed(text: &[u8]) -> Option<usize>
+    ensures { result ≡ position (λ byte. byte == 10) text.now }
+{
+    text.iter().position(|byte| *byte == b'\n')
+}
+
+/// Adds what a line says to the map. Answers whether the line is good and its path is new.
+fn add_sum(alloc: Global, sums: &mut Artifacts, line: &[u8]) -> Result<bool, AllocError>
+    ensures { IfOk result (λ added. MatchBool added (AddsSum line.now sums.old sums.new) (AddsNothing line.now sums.old)) }
+{
+    match read_sum(line) {
+        None => Ok(false),
+        Some(sum) => {
+            let path = String::from_str(alloc, sum.path)?;
+            let before = sums.insert(path, sum.digests)?;
+            Ok(before.is_none())
+        }
+    }
+}
+
+/// What a line says, without its line feed.
+fn read_sum(line: &[u8]) -> Option<Sum<'_>>
+    ensures { FindsAs (λ sum. (sum.path.now, sum.digests)) (IsSum line.now) result }
+{
+    let (digits, text) = line.split_first_chunk::<64>()?;
+    let digest = read_digits(digits)?;
+    let path = marked_path(text)?;
+    Some(Sum {
+        path,
+        digests: DigestSet::of_sha256(digest),
+    })
+}
+
+/// The bytes that 64 hexadecimal digits stand for.
+#[tactic(auto, unfolding(it_base::specs::HexadecimalText::hexadecimal_decoded))]
+fn read_digits(digits: &[u8; 64]) -> Option<[u8; 32]>
+    ensures { result ≡ hexadecimal_decoded digits.now }
+{
+    <[u8; 32] as FromHex>::from_hex(digits.as_slice()).ok()
+}
+
+/// The path that follows the digits of a line.
+fn marked_path(text: &[u8]) -> Option<&str>
+    ensures { FindsAs (λ path. path.now) (IsMarkedPath text.now) result }
+{
+    let path = match text.strip_prefix(b"  ") {
+        Some(path) => path,
+        None => text.strip_prefix(b" *")?,
+    };
+    if path.is_empty() {
+        return None;
+    }
+    str::from_utf8(path).ok()
+}

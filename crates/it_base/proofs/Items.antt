@@ -1,10 +1,10 @@
 -- Lists of a document, read item by item.
 use Rattle.std.proofs.Common.{◌≡◌, ℕ, zero, suc, ◌+◌, ◌<◌, List, [], ◌∷◌, ◌++◌, length, take, get_or, refl, sym, ap, subst, arith, ◌∙◌}
 use Rattle.std.proofs.lemmas.List.{take_more}
-use Rattle.serde_json.specs.Data.{Data, Items, no_items, item}
+use Rattle.serde_json.specs.Data.{Data, Items, no_items, item, array}
 use Rattle.serde_json.specs.View.{view, items_view}
 use Rattle.serde_json.specs.declared.value.Value.{Value}
-use Rattle.it_base.specs.Sequence.{AreEach}
+use Rattle.it_base.specs.Sequence.{AreEach, IsList}
 
 each_push : {X : Type 0} (P : Data → X → Type 0) (vs : List Value) (xs : List X) (v : Value) (x : X)
     → AreEach P (items_view vs) xs → P (view v) x → AreEach P (items_view (vs ++ v ∷ [])) (xs ++ x ∷ [])
@@ -40,3 +40,9 @@ each_same P same (item d ds) (x ∷ xs) (y ∷ ys) h k =
     let head : x ≡ y = same d x y h.0 k.0 in
     let tail : xs ≡ ys = each_same P same ds xs ys h.1 k.1 in
     cc
+
+-- and so is the list that a part is
+pub list_same : {X : Type 0} (P : Data → X → Type 0) (same : (d : Data) (x y : X) → P d x → P d y → x ≡ y) (d : Data) (xs ys : List X)
+    → IsList P d xs → IsList P d ys → xs ≡ ys
+list_same P same (array ds) xs ys h k = each_same P same ds xs ys h k
+list_same P same d xs ys h k = absurd h

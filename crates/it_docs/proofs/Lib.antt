@@ -1,0 +1,5 @@
+pub mod Moments
+pub mod Rules
+pub mod TableLemmas
+pub mod TreeLengths
+pub mod TreesRead

@@ -1,0 +1,12 @@
+use Rattle.std.proofs.lemmas.Result.{IfOk-weaker}
+use Rattle.serde_json.specs.View.{view}
+use Rattle.it_base.specs.Finds.{Finds}
+use Rattle.it_docs.specs.Rule.{IsRule, RuleOf}
+use Rattle.it_docs.proofs.Rules.{found_of_texts}
+use Rattle.it_docs.proofs.rule.RuleFromDocument.from_document.Goals as goal
+
+pub returns-in-Some : goal.returns-in-Some
+returns-in-Some c =
+    let is_list = rw c.in-Some.is at c.in_ok-from_document.ensures in
+    let read = rw c.as_slice.ensures at c.read_rule.ensures in
+    IfOk-weaker c.read_rule.result _ (Finds (IsRule (view c.args.value.now))) (found_of_texts (view c.args.value.now) c.in-Some.texts is_list) read

@@ -1,0 +1,11 @@
+pub mod Digest
+pub mod Equal
+pub mod Json
+pub mod JsonCode
+pub mod JsonFalls
+pub mod JsonView
+pub mod Moment
+pub mod Rule
+pub mod RuleAnswer
+pub mod Table
+pub mod TreeOf

@@ -1,0 +1,9 @@
+//! The documents of a verification (in-toto specification 1.0, in-toto Attestation Statement v1,
+//! SLSA Provenance v1): layouts, links, Statements, policies, and what stands in them.
+#![tactic(auto)]
+
+mod digest;
+pub mod moment;
+pub mod rule;
+pub mod table;
+pub mod tree;

@@ -1,0 +1,230 @@
+//! Artifact rules and their texts (in-toto 1.0, section 4.3.3).
+ghost use Rattle.std.specs.Prelude.{◌≡◌, ◌∷◌, [], IfOk};
+ghost use Rattle.serde_json.specs.View.{view};
+ghost use Rattle.it_base.specs.Finds.{Finds};
+
+use it_base::parts::FromDocument;
+use it_base::sequence::Sequence;
+use it_base::text::Text;
+use it_glob::Pattern;
+use serde_json::Value;
+use std::alloc::{AllocError, Global};
+
+/// A side of a step: what went in, or what came out.
+#[derive(Clone, Copy, Debug, PartialEq, Eq)]
+pub enum Side {
+    /// What the step took.
+    Materials,
+    /// What the step made.
+    Products,
+}
+
+/// A rule on the artifacts of one side.
+#[derive(Drop)]
+pub enum Rule {
+    /// `MATCH`: consumes what a named step recorded with the same digests.
+    Match {
+        /// What stands after the source prefix.
+        pattern: Pattern,
+        /// The prefix on the judged side; empty where the rule has none.
+        source_prefix: Text,
+        /// The side of the named step.
+        side: Side,
+        /// The prefix in the named step; empty where the rule has none.
+        target_prefix: Text,
+        /// The name of the step.
+        from: Text,
+    },
+    /// `CREATE`: consumes products that are no materials.
+    Create(Pattern),
+    /// `DELETE`: consumes materials that are no products.
+    Delete(Pattern),
+    /// `MODIFY`: consumes what changed.
+    Modify(Pattern),
+    /// `ALLOW`: consumes what matches.
+    Allow(Pattern),
+    /// `DISALLOW`: fails where something unconsumed matches.
+    Disallow(Pattern),
+    /// `REQUIRE`: fails where this path, taken literally, is not unconsumed.
+    Require(Text),
+}
+
+impl FromDocument for Rule {
+    ghost use Rattle.it_docs.specs.Rule.{IsRule};
+
+    ghost is_of = { IsRule };
+
+    /// The rule that a list of texts is.
+    fn from_document(alloc: Global, value: &Value) -> Result<Option<Rule>, AllocError> {
+        match Sequence::<Text>::from_document(alloc, value)? {
+            None => Ok(None),
+            Some(texts) => read_rule(alloc, texts.as_slice()),
+        }
+    }
+}
+
+ghost use Rattle.it_docs.specs.Rule.{RuleOf, is_keyword as is_this_keyword};
+ghost use Rattle.it_docs.specs.RuleAnswer.{is_match as is_match_of, match_of, rule_of, short_of, side_of as side_at};
+
+/// Reads a rule from its texts: `MATCH` pattern [`IN` prefix] `WITH` side [`IN` prefix] `FROM`
+/// step, or one of `CREATE`, `DELETE`, `MODIFY`, `ALLOW`, `DISALLOW` with a pattern, or `REQUIRE`
+/// with a path.
+///
+/// The answer is the rule, or `None` where the texts are no rule. Keywords are looked for at their
+/// places alone, without regard to ASCII case.
+///
+/// # Errors
+///
+/// `AllocError` where memory was refused.
+pub fn read_rule(alloc: Global, texts: &[Text]) -> Result<Option<Rule>, AllocError>
+    ensures { IfOk result (Finds (RuleOf texts.now)) }
+{
+    rule_from(alloc, texts)
+}
+
+#[tactic(auto, unfolding(crate::specs::RuleAnswer::rule_of))]
+fn rule_from(alloc: Global, texts: &[Text]) -> Result<Option<Rule>, AllocError>
+    ensures { IfOk result (λ found. found ≡ rule_of texts.now) }
+{
+    match texts {
+        [word, operand] => short_rule(alloc, word.as_str(), operand.as_str()),
+        [word, pattern, with, side, from, step] => {
+            if !is_match(word.as_str(), with.as_str(), from.as_str()) {
+                return Ok(None);
+            }
+            match_rule(alloc, pattern.as_str(), "", side.as_str(), "", step.as_str())
+        }
+        [word, pattern, third, fourth, fifth, sixth, from, step] => {
+            let source_form = is_keyword(third.as_str(), "IN")
+                && is_match(word.as_str(), fifth.as_str(), from.as_str());
+            let target_form = is_keyword(fifth.as_str(), "IN")
+                && is_match(word.as_str(), third.as_str(), from.as_str());
+            if source_form {
+                match_rule(
+                    alloc,
+                    pattern.as_str(),
+                    fourth.as_str(),
+                    sixth.as_str(),
+                    "",
+                    step.as_str(),
+                )
+            } else if target_form {
+                match_rule(
+                    alloc,
+                    pattern.as_str(),
+                    "",
+                    fourth.as_str(),
+                    sixth.as_str(),
+                    step.as_str(),
+                )
+            } else {
+                Ok(None)
+            }
+        }
+        [
+            word,
+            pattern,
+            within,
+            source,
+            with,
+            side,
+            within_target,
+            target,
+            from,
+            step,
+        ] => {
+            if !(is_keyword(within.as_str(), "IN")
+                && is_keyword(within_target.as_str(), "IN")
+                && is_match(word.as_str(), with.as_str(), from.as_str()))
+            {
+                return Ok(None);
+            }
+            match_rule(
+                alloc,
+                pattern.as_str(),
+                source.as_str(),
+                side.as_str(),
+                target.as_str(),
+                step.as_str(),
+            )
+        }
+        _ => Ok(None),
+    }
+}
+
+fn is_keyword(text: &str, keyword: &str) -> bool
+    ensures { result ≡ is_this_keyword keyword.now text.now }
+{
+    text.eq_ignore_ascii_case(keyword)
+}
+
+fn is_match(word: &str, with: &str, from: &str) -> bool
+    ensures { result ≡ is_match_of word.now with.now from.now }
+{
+    is_keyword(word, "MATCH") && is_keyword(with, "WITH") && is_keyword(from, "FROM")
+}
+
+#[tactic(auto, unfolding(crate::specs::RuleAnswer::side_of))]
+fn side_of(word: &str) -> Option<Side>
+    ensures { result ≡ side_at word.now }
+{
+    if is_keyword(word, "MATERIALS") {
+        Some(Side::Materials)
+    } else if is_keyword(word, "PRODUCTS") {
+        Some(Side::Products)
+    } else {
+        None
+    }
+}
+
+#[tactic(auto, unfolding(crate::specs::RuleAnswer::match_of))]
+fn match_rule(
+    alloc: Global,
+    pattern: &str,
+    source_prefix: &str,
+    side: &str,
+    target_prefix: &str,
+    step: &str,
+) -> Result<Option<Rule>, AllocError>
+    ensures { IfOk result (λ found.
+        found ≡ match_of pattern.now source_prefix.now side.now target_prefix.now step.now) }
+{
+    let Some(side) = side_of(side) else {
+        return Ok(None);
+    };
+    Ok(Some(Rule::Match {
+        pattern: Pattern::read(alloc, pattern)?,
+        source_prefix: text_of(alloc, source_prefix)?,
+        side,
+        target_prefix: text_of(alloc, target_prefix)?,
+        from: text_of(alloc, step)?,
+    }))
+}
+
+fn text_of(alloc: Global, text: &str) -> Result<Text, AllocError>
+    ensures { IfOk result (λ t. t ≡ text.now) }
+{
+    Ok(Text::from(String::from_str(alloc, text)?))
+}
+
+#[tactic(auto, unfolding(crate::specs::RuleAnswer::short_of))]
+fn short_rule(alloc: Global, word: &str, operand: &str) -> Result<Option<Rule>, AllocError>
+    ensures { IfOk result (λ found. found ≡ short_of word.now operand.now) }
+{
+    let rule = if is_keyword(word, "CREATE") {
+        Rule::Create(Pattern::read(alloc, operand)?)
+    } else if is_keyword(word, "DELETE") {
+        Rule::Delete(Pattern::read(alloc, operand)?)
+    } else if is_keyword(word, "MODIFY") {
+        Rule::Modify(Pattern::read(alloc, operand)?)
+    } else if is_keyword(word, "ALLOW") {
+        Rule::Allow(Pattern::read(alloc, operand)?)
+    } else if is_keyword(word, "DISALLOW") {
+        Rule::Disallow(Pattern::read(alloc, operand)?)
+    } else if is_keyword(word, "REQUIRE") {
+        Rule::Require(text_of(alloc, operand)?)
+    } else {
+        return Ok(None);
+    };
+    Ok(Some(rule))
+}

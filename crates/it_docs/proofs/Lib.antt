@@ -1,3 +1,4 @@
+pub mod Lists
 pub mod Moments
 pub mod Rules
 pub mod TableLemmas

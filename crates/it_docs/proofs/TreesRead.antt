@@ -1,7 +1,8 @@
 -- Trees read from a document, part by part.
-use Rattle.std.proofs.Common.{◌≡◌, ℕ, ◌+◌, ◌<◌, List, [], ◌∷◌, ◌++◌, length, take, get_or, String, Global, Ordering, Less, Equal, Greater, string_bytes, string_cmp, nat_cmp, refl, sym, ap, ◌∙◌}
+use Rattle.std.proofs.Common.{◌≡◌, ℕ, ◌+◌, ◌<◌, List, [], ◌∷◌, ◌++◌, length, take, get_or, Option, Some, None, option_map, cond, is_eq, Bor, String, Global, Ordering, Less, Equal, Greater, string_bytes, string_cmp, nat_cmp, refl, sym, ap, ◌∙◌}
 use Rattle.std.proofs.lemmas.List.{take_more}
-use Rattle.std.specs.BTreeMap.{insert_entry}
+use Rattle.std.specs.BTreeMap.{insert_entry, is_at}
+use Rattle.std.specs.Map.{lookup}
 use Rattle.std.specs.Cmp.Lexicographic.{slice_cmp}
 use Rattle.std.specs.Ordering.{match_ordering}
 use Rattle.serde_json.specs.Data as d
@@ -9,7 +10,7 @@ use Rattle.serde_json.specs.View.{view, items_view as parts_view}
 use Rattle.serde_json.specs.declared.value.Value.{Value}
 use Rattle.it_docs.specs.Json as j
 use Rattle.it_docs.specs.JsonView.{json_of, items_view, fields_view}
-use Rattle.it_docs.specs.TreeOf.{fields_of, tree_of, trees_of}
+use Rattle.it_docs.specs.TreeOf.{field_at, fields_of, tree_of, trees_of}
 use Rattle.it_docs.specs.declared.tree.Tree.{Tree}
 
 abbrev item_last : j.Items → j.Json → j.Items
@@ -53,3 +54,16 @@ fields_of-match_ordering Greater a b c = refl
 pub fields_of-put : (k : List ℕ) (e : d.Data) (ms : d.Members) → fields_of (d.put k e ms) ≡ put_field k (tree_of e) (fields_of ms)
 fields_of-put k e d.no_members = refl
 fields_of-put k e (d.member l f ms) = fields_of-match_ordering (slice_cmp nat_cmp k l) _ _ _ ∙ rw (fields_of-put k e ms)
+
+pub json_of_ref : (r : Option (Bor Tree)) → option_map (λ x. json_of x.now) r ≡ option_map json_of (option_map (λ x. x.now) r)
+json_of_ref None = refl
+json_of_ref (Some x) = refl
+
+found_or : (o : Ordering) (t : Tree) (rest : Option Tree) (f : Option j.Json) → option_map json_of rest ≡ f → option_map json_of (cond (is_eq o) (Some t) rest) ≡ match_ordering o f (Some (json_of t)) f
+found_or Less t rest f e = e
+found_or Equal t rest f e = refl
+found_or Greater t rest f e = e
+
+pub json_of-lookup : (name : List ℕ) (es : List (String Global × Tree)) → option_map json_of (lookup (is_at (λ k. slice_cmp nat_cmp name (string_bytes k))) es) ≡ field_at name (fields_view es)
+json_of-lookup name [] = refl
+json_of-lookup name (e ∷ es) = found_or (slice_cmp nat_cmp name (string_bytes e.0)) e.1 _ _ (json_of-lookup name es)

@@ -4,8 +4,12 @@ pub mod Json
 pub mod JsonCode
 pub mod JsonFalls
 pub mod JsonView
+pub mod Layout
+pub mod Link
+pub mod List
 pub mod Moment
 pub mod Rule
 pub mod RuleAnswer
+pub mod Statement
 pub mod Table
 pub mod TreeOf

@@ -1,6 +1,8 @@
 -- Moments in UTC: the date and time of RFC 3339 in its one form of 20 bytes, without leap seconds
 -- (this profile's choice).
-use Rattle.std.specs.Prelude.{◌≡◌, ℕ, ◌+◌, ◌*◌, ◌/◌, ◌%◌, ◌<◌, ℤ, pos, ◌+ℤ◌, ◌*ℤ◌, List, [], ◌∷◌, ◌++◌}
+use Rattle.std.specs.Prelude.{◌≡◌, ℕ, ◌+◌, ◌*◌, ◌/◌, ◌%◌, ◌<◌, ℤ, pos, ◌+ℤ◌, ◌*ℤ◌, List, [], ◌∷◌, ◌++◌, MatchOption}
+use Rattle.serde_json.specs.Data.{Data}
+use Rattle.serde_json.specs.Find.{as_str}
 use Rattle.jiff.specs.Types.{Date}
 use Rattle.jiff.specs.Words.{epoch_day}
 
@@ -32,3 +34,7 @@ pub record MomentOf (text : List ℕ) (moment : ℤ) : Type 0 where
   pub minute_in : minute < 60
   pub second_in : second < 60
   pub number_is : moment ≡ (pos 86400 *ℤ epoch_day date) +ℤ pos (3600 * hour + 60 * minute + second)
+
+-- the part is a text that is this moment
+abbrev pub IsMoment : Data → ℤ → Type 0
+IsMoment d moment = MatchOption (as_str d) ⊥ (λ text. MomentOf text moment)

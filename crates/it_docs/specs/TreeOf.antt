@@ -1,6 +1,9 @@
 -- Parts of a document that are trees. Null is a value here.
-use Rattle.std.specs.Prelude.{◌≡◌, pos}
+use Rattle.std.specs.Prelude.{◌≡◌, ℕ, pos, List, Option, Some, None, MatchOption}
+use Rattle.std.specs.Cmp.Lexicographic.{slice_cmp}
+use Rattle.std.specs.Ordering.{nat_cmp, match_ordering}
 use Rattle.serde_json.specs.Data as d
+use Rattle.serde_json.specs.Find.{as_object}
 use Rattle.it_docs.specs.Json as j
 use Rattle.it_docs.specs.JsonView.{json_of}
 use Rattle.it_docs.specs.declared.tree.Tree.{Tree}
@@ -32,3 +35,12 @@ abbrev mutual
 -- the part is this tree
 abbrev pub IsTree : d.Data → Tree → Type 0
 IsTree e t = json_of t ≡ tree_of e
+
+-- the part is an object of these trees
+abbrev pub IsMembers : d.Data → j.Fields → Type 0
+IsMembers e fs = MatchOption (as_object e) ⊥ (λ ms. fs ≡ fields_of ms)
+
+-- the tree under a name
+abbrev pub field_at : List ℕ → j.Fields → Option j.Json
+field_at name j.no_fields = None
+field_at name (j.field l t fs) = match_ordering (slice_cmp nat_cmp name l) (field_at name fs) (Some t) (field_at name fs)

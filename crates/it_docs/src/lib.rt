@@ -3,7 +3,13 @@
 #![tactic(auto)]
 
 mod digest;
+pub mod fault;
+pub mod layout;
+pub mod link;
+mod list;
 pub mod moment;
 pub mod rule;
+pub mod statement;
 pub mod table;
+mod text;
 pub mod tree;

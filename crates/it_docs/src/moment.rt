@@ -2,10 +2,14 @@
 ghost use Rattle.std.specs.Prelude.{◌≡◌, ◌+◌, ◌*◌, ◌<◌, MatchOption, MatchResult, pos, ℤ};
 ghost use Rattle.jiff.specs.Types.{Date as PlainDate};
 ghost use Rattle.jiff.specs.Words.{IsEpochDay, IsYmd, epoch_day};
+ghost use Rattle.serde_json.specs.View.{view};
 ghost use Rattle.it_base.specs.Finds.{Finds};
-ghost use Rattle.it_docs.specs.Moment.{AreTwoDigits, MomentOf};
+ghost use Rattle.it_base.specs.Parts.{IsPart};
+ghost use Rattle.it_docs.specs.Moment.{AreTwoDigits, IsMoment, MomentOf};
 
+use it_base::document::member;
 use jiff::civil::Date;
+use serde_json::Value;
 
 /// A text that is no moment.
 #[derive(Clone, Copy, Debug, PartialEq, Eq)]
@@ -27,6 +31,19 @@ pub fn read_moment(text: &str) -> Result<i64, BadMoment>
         Some(moment) => Ok(moment),
         None => Err(BadMoment),
     }
+}
+
+/// The moment that the member of this name is, or `None` where it is missing or is no moment.
+pub(crate) fn moment_at(value: &Value, name: &str) -> Option<i64>
+    ensures { Finds (IsPart IsMoment name.now (view value.now)) result }
+{
+    moment_in(member(value, name)?)
+}
+
+fn moment_in(value: &Value) -> Option<i64>
+    ensures { Finds (IsMoment (view value.now)) result }
+{
+    moment_of(value.as_str()?.as_bytes())
 }
 
 fn moment_of(text: &[u8]) -> Option<i64>

@@ -8,6 +8,7 @@ use it_base::text::Text;
 use serde_json::{Map, Number, Value};
 use std::alloc::{AllocError, Global};
 use std::collections::BTreeMap;
+use std::collections::btree_map::Iter;
 use std::marker::Model;
 
 /// A JSON value as parameters are compared.
@@ -169,6 +170,49 @@ impl Members {
             }
         }
         true
+    }
+}
+
+impl Members {
+    ghost use Rattle.it_docs.specs.Json.{no_fields};
+    ghost use Rattle.it_docs.specs.JsonView.{fields_view, json_of};
+    ghost use Rattle.it_docs.specs.TreeOf.{field_at};
+
+    /// No trees. Takes no memory.
+    pub fn new(alloc: Global) -> Members
+        ensures { result ≡ no_fields }
+    {
+        Members {
+            by_name: BTreeMap::new(alloc),
+        }
+    }
+
+    /// The tree of a name, if there is one. Takes no memory.
+    pub fn get(&self, name: &str) -> Option<&Tree>
+        ensures { option_map (λ t. json_of t.now) result ≡ field_at name.now self.now }
+    {
+        self.by_name.get(name)
+    }
+
+    /// The names with their trees, each name once, in the order of their bytes. Takes no memory.
+    pub fn iter(&self) -> Iter<'_, String, Tree>
+        ensures { fields_view result ≡ self.now }
+    {
+        self.by_name.iter()
+    }
+}
+
+impl FromDocument for Members {
+    ghost use Rattle.it_docs.specs.TreeOf.{IsMembers};
+
+    ghost is_of = { IsMembers };
+
+    /// The trees that the members of a JSON object are. Here null is a value.
+    fn from_document(alloc: Global, value: &Value) -> Result<Option<Members>, AllocError> {
+        match value.as_object() {
+            None => Ok(None),
+            Some(members) => Ok(Some(read_members(alloc, members)?)),
+        }
     }
 }
 

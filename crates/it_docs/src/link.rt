@@ -1,0 +1,66 @@
+//! Links: what a step took and made (in-toto 1.0 section 4.4).
+ghost use Rattle.std.specs.Prelude.{◌≡◌, ◌↔◌, IfOk, IsErrOf, IsTrue};
+ghost use Rattle.serde_json.specs.View.{view};
+ghost use Rattle.it_base.specs.Finds.{Finds};
+ghost use Rattle.it_docs.specs.Link.{IsLink, LinkOf};
+
+use crate::digest::artifacts_at;
+use crate::fault::DocumentFault;
+use crate::text::has_text;
+use it_base::parts::{FromDocument, from_bytes, part};
+use it_base::text::Text;
+use it_digest::artifacts::Artifacts;
+use serde_json::Value;
+use std::alloc::{AllocError, Global};
+
+/// What a step took and made.
+#[derive(Drop)]
+pub struct Link {
+    /// The name of the step.
+    pub name: Text,
+    /// What the step took, with its digests.
+    pub materials: Artifacts,
+    /// What the step made, with its digests.
+    pub products: Artifacts,
+}
+
+/// Reads a link: the body of a link's envelope, or the record of an inspection. The command, the
+/// byproducts and the environment are not looked at.
+///
+/// # Errors
+///
+/// `BadDocument` where the bytes are no link, and `OutOfMemory` where memory was refused.
+pub fn read_link(alloc: Global, bytes: &[u8]) -> Result<Link, DocumentFault>
+    ensures ok { IfOk result (λ link. LinkOf bytes.now link) }
+    ensures bad { IsErrOf result DocumentFault.BadDocument
+        → (link : _) → ¬ LinkOf bytes.now link }
+{
+    match from_bytes::<Link>(alloc, bytes)? {
+        Some(link) => Ok(link),
+        None => Err(DocumentFault::BadDocument),
+    }
+}
+
+impl FromDocument for Link {
+    ghost is_of = { IsLink };
+
+    fn from_document(alloc: Global, value: &Value) -> Result<Option<Link>, AllocError> {
+        if !has_text(value, "_type", "link") {
+            return Ok(None);
+        }
+        let Some(name) = part::<Text>(alloc, value, "name")? else {
+            return Ok(None);
+        };
+        let Some(materials) = artifacts_at(alloc, value, "materials")? else {
+            return Ok(None);
+        };
+        let Some(products) = artifacts_at(alloc, value, "products")? else {
+            return Ok(None);
+        };
+        Ok(Some(Link {
+            name,
+            materials,
+            products,
+        }))
+    }
+}

@@ -1,0 +1,168 @@
+//! Statements and their provenance (in-toto Attestation Statement v1, SLSA Provenance v1).
+ghost use Rattle.std.specs.Prelude.{◌≡◌, IfOk, IsErrOf};
+ghost use Rattle.serde_json.specs.View.{view, items_view};
+ghost use Rattle.it_base.specs.Finds.{Finds};
+ghost use Rattle.it_base.specs.Parts.{IsPart};
+ghost use Rattle.it_base.specs.Sequence.{AreEach, IsList};
+ghost use Rattle.it_docs.specs.Statement.{IsBuilder, IsProvenance, IsProvenanceOf, IsStatement, IsSubject, IsSubjects, StatementOf};
+
+use crate::digest::digest_set;
+use crate::fault::DocumentFault;
+use crate::text::has_text;
+use crate::tree::Members;
+use it_base::document::member;
+use it_base::parts::{FromDocument, from_bytes, part, part_or};
+use it_base::sequence::Sequence;
+use it_base::text::Text;
+use it_digest::compare::DigestSet;
+use serde_json::Value;
+use std::alloc::{AllocError, Global};
+
+/// How an artifact was built.
+#[derive(Drop)]
+pub struct Provenance {
+    /// The kind of build.
+    pub build_type: Text,
+    /// The id of the builder.
+    pub builder: Text,
+    /// The parameters that came from outside.
+    pub parameters: Members,
+}
+
+/// What is said of some artifacts.
+#[derive(Drop)]
+pub struct Statement {
+    /// The digests of the subjects, in order.
+    pub subjects: Sequence<DigestSet>,
+    /// The kind of predicate.
+    pub predicate_type: Text,
+    /// The provenance, where the predicate is one.
+    pub provenance: Option<Provenance>,
+}
+
+/// Reads a Statement. Names of subjects are not looked at.
+///
+/// # Errors
+///
+/// `BadDocument` where the bytes are no Statement, and `OutOfMemory` where memory was refused. A
+/// predicate that is no provenance is no error: the Statement then has none.
+pub fn read_statement(alloc: Global, bytes: &[u8]) -> Result<Statement, DocumentFault>
+    ensures ok { IfOk result (λ statement. StatementOf bytes.now statement) }
+    ensures bad { IsErrOf result DocumentFault.BadDocument
+        → (statement : _) → ¬ StatementOf bytes.now statement }
+{
+    match from_bytes::<Statement>(alloc, bytes)? {
+        Some(statement) => Ok(statement),
+        None => Err(DocumentFault::BadDocument),
+    }
+}
+
+impl FromDocument for Statement {
+    ghost is_of = { IsStatement };
+
+    fn from_document(alloc: Global, value: &Value) -> Result<Option<Statement>, AllocError> {
+        if !has_text(value, "_type", "https://in-toto.io/Statement/v1") {
+            return Ok(None);
+        }
+        let Some(subjects) = subjects_of(alloc, value)? else {
+            return Ok(None);
+        };
+        let Some(predicate_type) = part::<Text>(alloc, value, "predicateType")? else {
+            return Ok(None);
+        };
+        let provenance = read_provenance(alloc, value)?;
+        Ok(Some(Statement {
+            subjects,
+            predicate_type,
+            provenance,
+        }))
+    }
+}
+
+impl FromDocument for Provenance {
+    ghost is_of = { IsProvenance };
+
+    fn from_document(alloc: Global, value: &Value) -> Result<Option<Provenance>, AllocError> {
+        let Some(definition) = member(value, "buildDefinition") else {
+            return Ok(None);
+        };
+        let Some(build_type) = part::<Text>(alloc, definition, "buildType")? else {
+            return Ok(None);
+        };
+        let no_parameters = Members::new(alloc);
+        let Some(parameters) = part_or(alloc, definition, "externalParameters", no_parameters)?
+        else {
+            return Ok(None);
+        };
+        let Some(builder) = builder_id(alloc, value)? else {
+            return Ok(None);
+        };
+        Ok(Some(Provenance {
+            build_type,
+            builder,
+            parameters,
+        }))
+    }
+}
+
+fn builder_id(alloc: Global, value: &Value) -> Result<Option<Text>, AllocError>
+    ensures { IfOk result (Finds (IsBuilder (view value.now))) }
+{
+    let Some(details) = member(value, "runDetails") else {
+        return Ok(None);
+    };
+    let Some(builder) = member(details, "builder") else {
+        return Ok(None);
+    };
+    part::<Text>(alloc, builder, "id")
+}
+
+fn read_provenance(alloc: Global, value: &Value) -> Result<Option<Provenance>, AllocError>
+    ensures { IfOk result (Finds (IsProvenanceOf (view value.now))) }
+{
+    if !has_text(value, "predicateType", "https://slsa.dev/provenance/v1") {
+        return Ok(None);
+    }
+    part::<Provenance>(alloc, value, "predicate")
+}
+
+fn subjects_of(alloc: Global, value: &Value) -> Result<Option<Sequence<DigestSet>>, AllocError>
+    ensures { IfOk result (Finds (IsSubjects (view value.now))) }
+{
+    match member(value, "subject").and_then(Value::as_array) {
+        None => Ok(None),
+        Some(items) => read_subjects(alloc, items),
+    }
+}
+
+fn read_subjects(
+    alloc: Global,
+    items: &Vec<Value>,
+) -> Result<Option<Sequence<DigestSet>>, AllocError>
+    ensures { IfOk result (Finds (AreEach IsSubject (items_view items.now.items))) }
+{
+    let mut subjects = Vec::new(alloc);
+    for item in items {
+        let Some(digests) = subject(item) else {
+            return Ok(None);
+        };
+        subjects.push(digests)?;
+    }
+    Ok(Some(Sequence::from(subjects)))
+}
+
+/// The digests of a subject: none at all where it has no digest set.
+fn subject(value: &Value) -> Option<DigestSet>
+    ensures { Finds (IsSubject (view value.now)) result }
+{
+    if !value.is_object() {
+        return None;
+    }
+    match member(value, "digest") {
+        None => Some(DigestSet {
+            sha256: None,
+            sha512: None,
+        }),
+        Some(found) => digest_set(found),
+    }
+}

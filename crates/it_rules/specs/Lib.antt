@@ -1,0 +1,4 @@
+pub mod FolderPrefix
+pub mod Item
+pub mod Queue
+pub mod Rules

@@ -1,0 +1,153 @@
+//! Which paths a rule claims, one path at a time: a function for each rule.
+ghost use Rattle.std.specs.Prelude.{◌≡◌, ◌↔◌, IfOk, IsTrue, MatchOption, Contains};
+ghost use Rattle.it_digest.specs.Compare.{Agree, Differ};
+ghost use Rattle.it_rules.specs.Item.{Recorded, links_of, recorded_of};
+ghost use Rattle.it_rules.specs.Rules.{Claims, CreateClaims, DeleteClaims, IsMatch, MatchClaims, ModifyClaims, NamesDiffer};
+
+use crate::folder_prefix::{join_folder, strip_folder};
+use crate::item::{Item, Named};
+use it_digest::artifacts::Artifacts;
+use it_digest::compare::{Compare, DigestSet};
+use it_docs::rule::{Rule, Side};
+use it_glob::Pattern;
+use std::alloc::{AllocError, Global};
+
+/// Where a `MATCH` rule looks for the artifact of a path.
+#[derive(Drop)]
+struct Target<'a> {
+    /// The name of the item that recorded it.
+    from: &'a str,
+    /// The side of that item.
+    side: Side,
+    /// The prefix that the path has there.
+    prefix: &'a str,
+}
+
+/// Whether a rule claims a path of the side.
+pub(crate) fn claims(
+    alloc: Global,
+    rule: &Rule,
+    side: Side,
+    item: &Item,
+    links: &[Named],
+    path: &str,
+) -> Result<bool, AllocError>
+    requires { NamesDiffer (links_of links.now) }
+    ensures { IfOk result (λ claimed. IsTrue claimed
+        ↔ Claims rule.now side (recorded_of item.now) (links_of links.now) path.now) }
+{
+    match rule {
+        Rule::Match {
+            pattern,
+            source_prefix,
+            side: linked_side,
+            target_prefix,
+            from,
+        } => {
+            let artifacts = item.artifacts_on(side);
+            let target = Target {
+                from: from.as_str(),
+                side: *linked_side,
+                prefix: target_prefix.as_str(),
+            };
+            let source = source_prefix.as_str();
+            match_claims(alloc, pattern, source, &target, artifacts, links, path)
+        }
+        Rule::Create(pattern) => Ok(create_claims(pattern, item, path)),
+        Rule::Delete(pattern) => Ok(delete_claims(pattern, item, path)),
+        Rule::Modify(pattern) => Ok(modify_claims(pattern, item, path)),
+        Rule::Allow(pattern) => Ok(allow_claims(pattern, path)),
+        Rule::Disallow(_) | Rule::Require(_) => Ok(false),
+    }
+}
+
+fn match_claims(
+    alloc: Global,
+    pattern: &Pattern,
+    source_prefix: &str,
+    target: &Target,
+    artifacts: &Artifacts,
+    links: &[Named],
+    path: &str,
+) -> Result<bool, AllocError>
+    requires { NamesDiffer (links_of links.now) }
+    ensures { IfOk result (λ claimed. IsTrue claimed
+        ↔ MatchClaims pattern.now source_prefix.now target.now.side target.now.prefix.now
+            target.now.from.now artifacts.now (links_of links.now) path.now) }
+{
+    let Some(rest) = strip_folder(path, source_prefix) else {
+        return Ok(false);
+    };
+    if !pattern.matches(rest) {
+        return Ok(false);
+    }
+    let Some(linked) = find_named(links, target.from) else {
+        return Ok(false);
+    };
+    let linked_path = join_folder(alloc, target.prefix, rest)?;
+    let here = artifacts.get(path);
+    let there = linked.artifacts_on(target.side).get(linked_path.as_str());
+    Ok(agree(here, there))
+}
+
+fn create_claims(pattern: &Pattern, item: &Item, path: &str) -> bool
+    ensures { IsTrue result ↔ CreateClaims pattern.now (recorded_of item.now) path.now }
+{
+    pattern.matches(path)
+        && item.products.get(path).is_some()
+        && item.materials.get(path).is_none()
+}
+
+fn delete_claims(pattern: &Pattern, item: &Item, path: &str) -> bool
+    ensures { IsTrue result ↔ DeleteClaims pattern.now (recorded_of item.now) path.now }
+{
+    pattern.matches(path)
+        && item.materials.get(path).is_some()
+        && item.products.get(path).is_none()
+}
+
+fn modify_claims(pattern: &Pattern, item: &Item, path: &str) -> bool
+    ensures { IsTrue result ↔ ModifyClaims pattern.now (recorded_of item.now) path.now }
+{
+    pattern.matches(path) && differ(item.materials.get(path), item.products.get(path))
+}
+
+fn allow_claims(pattern: &Pattern, path: &str) -> bool
+    ensures { IsTrue result ↔ IsMatch pattern.now path.now }
+{
+    pattern.matches(path)
+}
+
+/// What was recorded under a name.
+fn find_named<'a, 'b>(links: &'b [Named<'a>], name: &str) -> Option<&'b Item<'a>>
+    ensures { MatchOption result
+        ((item : Recorded) → ¬ Contains (links_of links.now) (name.now, item))
+        (λ item. Contains (links_of links.now) (name.now, recorded_of item.now)) }
+{
+    for link in links {
+        if link.name == name {
+            return Some(&link.item);
+        }
+    }
+    None
+}
+
+/// Whether both digest sets are there and agree.
+fn agree(here: Option<DigestSet>, there: Option<DigestSet>) -> bool
+    ensures { IsTrue result ↔ MatchOption here ⊥ (λ a. MatchOption there ⊥ (λ b. Agree a b)) }
+{
+    match (here, there) {
+        (Some(here), Some(there)) => here.compare(&there) == Compare::Agree,
+        _ => false,
+    }
+}
+
+/// Whether both digest sets are there and differ.
+fn differ(before: Option<DigestSet>, after: Option<DigestSet>) -> bool
+    ensures { IsTrue result ↔ MatchOption before ⊥ (λ a. MatchOption after ⊥ (λ b. Differ a b)) }
+{
+    match (before, after) {
+        (Some(before), Some(after)) => before.compare(&after) == Compare::Differ,
+        _ => false,
+    }
+}

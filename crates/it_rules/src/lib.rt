@@ -1,0 +1,9 @@
+//! Artifact rules (in-toto specification 1.0, section 4.3.3): which rule of a list is the first to
+//! fail on one side of an item, and with which path.
+#![tactic(auto)]
+
+mod claims;
+mod folder_prefix;
+pub mod item;
+mod queue;
+pub mod rules;

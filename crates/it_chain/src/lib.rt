@@ -2,5 +2,8 @@
 #![tactic(auto)]
 
 pub mod bundle;
+pub mod chain;
+pub mod laws;
+pub mod refusal;
 #[cfg(test)]
 mod tests;

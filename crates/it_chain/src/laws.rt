@@ -1,0 +1,28 @@
+//! Laws about the definitions of chains: functions that do nothing, and whose contracts say what is
+//! true of every layout, bundle and check.
+ghost use Rattle.it_chain.specs.Laws.{ChainGoesDeeper, ChainIsOne, ChainOrFirst, FirstIsOne, FoundIsOne};
+
+/// The number of different keys that signed what counts for a step is one number.
+pub fn found_is_one()
+    ensures { FoundIsOne }
+{}
+
+/// A layout holds of a bundle with one list of records at most.
+pub fn chain_is_one()
+    ensures { ChainIsOne }
+{}
+
+/// A layout that holds of a bundle has no failure over it.
+pub fn chain_or_first()
+    ensures { ChainOrFirst }
+{}
+
+/// A layout has one first failure over a bundle at most.
+pub fn first_is_one()
+    ensures { FirstIsOne }
+{}
+
+/// A layout that holds of a bundle holds of it with the same records at every greater depth.
+pub fn chain_goes_deeper()
+    ensures { ChainGoesDeeper }
+{}

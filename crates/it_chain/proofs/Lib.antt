@@ -1,3 +1,4 @@
+pub mod Alikes
 pub mod Deeper
 pub mod Documents
 pub mod Excludes

@@ -5,6 +5,7 @@ use Rattle.it_docs.specs.Link.{LinkOf}
 use Rattle.it_docs.specs.declared.layout.Layout.{Layout}
 use Rattle.it_docs.specs.declared.layout.Step.{Step}
 use Rattle.it_docs.specs.declared.link.Link.{Link}
+use Rattle.it_chain.specs.Alike.{Alike, ComesToTheSame, FoldersCompare, HasCopies, deeper_alike}
 use Rattle.it_chain.specs.Chain.{Chain}
 use Rattle.it_chain.specs.Contents.{Contents}
 use Rattle.it_chain.specs.Counted.{Setting, Found}
@@ -46,3 +47,14 @@ FirstIsOne =
 -- a layout that holds of a bundle holds of it with the same records at every greater depth
 abbrev pub ChainGoesDeeper : Type 0
 ChainGoesDeeper = (setting : Setting) (depth : ℕ) (layout : Layout) (bundle : Contents) (m : List StepResult) → Chain setting depth layout bundle m → Chain setting (suc depth) layout bundle m
+
+-- over bundles that are alike a layout comes to the same
+abbrev pub AlikeChains : Type 0
+AlikeChains = (setting : Setting) (depth : ℕ) (layout : Layout) (bundle other : Contents) → Alike setting depth layout bundle other → ComesToTheSame setting depth layout bundle other
+
+-- bundles are alike that have copies of each other's files that count, whatever else is in them, if the
+-- folders of sublayouts are alike
+abbrev pub NoiseIsAlike : Type 0
+NoiseIsAlike =
+    (setting : Setting) (depth : ℕ) (layout : Layout) (bundle other : Contents) → HasCopies setting layout bundle other → HasCopies setting layout other bundle
+    → FoldersCompare (deeper_alike setting depth) setting layout bundle other → Alike setting depth layout bundle other

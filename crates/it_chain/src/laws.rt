@@ -1,6 +1,6 @@
 //! Laws about the definitions of chains: functions that do nothing, and whose contracts say what is
 //! true of every layout, bundle and check.
-ghost use Rattle.it_chain.specs.Laws.{ChainGoesDeeper, ChainIsOne, ChainOrFirst, FirstIsOne, FoundIsOne};
+ghost use Rattle.it_chain.specs.Laws.{AlikeChains, ChainGoesDeeper, ChainIsOne, ChainOrFirst, FirstIsOne, FoundIsOne, NoiseIsAlike};
 
 /// The number of different keys that signed what counts for a step is one number.
 pub fn found_is_one()
@@ -26,3 +26,17 @@ pub fn first_is_one()
 pub fn chain_goes_deeper()
     ensures { ChainGoesDeeper }
 {}
+
+/// Over bundles in which the same counts a layout comes to the same: the same records, or the same
+/// first failure.
+pub fn alike_chains()
+    ensures { AlikeChains }
+{
+}
+
+/// Files that are reordered, repeated or renamed under a name that is claimed, and files that don't
+/// count, whatever they hold, leave bundles alike.
+pub fn noise_is_alike()
+    ensures { NoiseIsAlike }
+{
+}

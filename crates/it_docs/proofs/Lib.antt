@@ -1,6 +1,10 @@
+pub mod LayoutParts
 pub mod Lists
 pub mod Moments
+pub mod NamesSeen
+pub mod PolicyParts
 pub mod Rules
+pub mod Same
 pub mod TableLemmas
 pub mod TreeLengths
 pub mod TreesRead

@@ -9,7 +9,7 @@ use Rattle.serde_json.proofs.Views.{get_item_within}
 use Rattle.it_base.specs.Document.{member_at}
 use Rattle.it_base.specs.Parts.{IsPartOr}
 use Rattle.it_base.specs.Sequence.{AreEach, IsList}
-use Rattle.it_docs.specs.List.{IsFirstBad, IsListOrMissing, ItemReads, PartItemReads}
+use Rattle.it_docs.specs.List.{IsFirstBad, IsListOrMissing, ItemReads, PartItemReads, items_at}
 
 -- each item of a list that was read is a value
 pub each_reads : {X : Type 0} (P : Data → X → Type 0) (ds : Items) (xs : List X) → AreEach P ds xs → (n : ℕ) → ItemReads P ds n
@@ -50,3 +50,22 @@ found_items P (Some d) xs h n = absurd h
 -- what a list that was read says of its items
 pub list_reads : {X : Type 0} (P : Data → X → Type 0) (name : List ℕ) (d : Data) (xs : List X) → IsPartOr (IsList P) [] name d xs → IsListOrMissing name d × ((n : ℕ) → PartItemReads P name d n)
 list_reads P name d xs h = (found_list P (member_at name d) xs h, λ n. found_items P (member_at name d) xs h n)
+
+fault_list : {X : Type 0} (P : Data → X → Type 0) (found : Option Data) (n : ℕ) → MatchOption (option_and_then as_array found) ⊥ (λ items. IsFirstBad P items n) → MatchOption found (Unit {0}) (λ v. IsTrue (is_some (as_array v)))
+fault_list P None n h = absurd h
+fault_list P (Some (array ds)) n h = refl
+fault_list P (Some d) n h = absurd h
+
+fault_item : {X : Type 0} (P : Data → X → Type 0) (found : Option Data) (n : ℕ) → MatchOption (option_and_then as_array found) ⊥ (λ items. IsFirstBad P items n)
+    → (MatchOption (option_and_then as_array found) (Unit {0}) (λ items. ItemReads P items n) → ⊥)
+    × ((m : ℕ) → m < n → MatchOption (option_and_then as_array found) (Unit {0}) (λ items. ItemReads P items m))
+fault_item P None n h = absurd h
+fault_item P (Some (array ds)) n h = (h.bad, h.before)
+fault_item P (Some d) n h = absurd h
+
+-- what the first item that is no value says of the list
+pub item_fault : {X : Type 0} (P : Data → X → Type 0) (name : List ℕ) (d : Data) (n : ℕ) → MatchOption (items_at name d) ⊥ (λ items. IsFirstBad P items n)
+    → IsListOrMissing name d × (PartItemReads P name d n → ⊥) × ((m : ℕ) → m < n → PartItemReads P name d m)
+item_fault P name d n h =
+    let item = fault_item P (member_at name d) n h in
+    (fault_list P (member_at name d) n h, item.0, item.1)

@@ -1,5 +1,5 @@
 -- The parts of a moment, read at their places.
-use Rattle.std.proofs.Common.{◌≡◌, ℕ, ◌+◌, ◌*◌, ◌/◌, ◌%◌, ◌<◌, ◌≤◌, ℤ, pos, ◌+ℤ◌, ◌*ℤ◌, List, length, get_or, refl, ap, ◌∙◌, arith}
+use Rattle.std.proofs.Common.{◌≡◌, ℕ, ◌+◌, ◌*◌, ◌/◌, ◌%◌, ◌<◌, ◌≤◌, ℤ, pos, ◌+ℤ◌, ◌*ℤ◌, List, length, get_or, refl, sym, ap, ◌∙◌, arith}
 use Rattle.std.proofs.lemmas.Int.{ints}
 use Rattle.std.proofs.lemmas.Slice.Eq.{text_from_reads}
 use Rattle.jiff.specs.Types.{Date}
@@ -52,3 +52,31 @@ time_from_numbers text moment is hour minute second h n s =
     let e17 = ap (λ (l : List ℕ). get_or l 17 0) is.text_is in
     let e18 = ap (λ (l : List ℕ). get_or l 18 0) is.text_is in
     (omega arith, omega arith, omega arith)
+
+-- a text is one moment at most
+pub same_moment : (text : List ℕ) (x y : ℤ) → MomentOf text x → MomentOf text y → x ≡ y
+same_moment text x y is js =
+    let texts = sym is.text_is ∙ js.text_is in
+    let e0 = ap (λ (l : List ℕ). get_or l 0 0) texts in
+    let e1 = ap (λ (l : List ℕ). get_or l 1 0) texts in
+    let e2 = ap (λ (l : List ℕ). get_or l 2 0) texts in
+    let e3 = ap (λ (l : List ℕ). get_or l 3 0) texts in
+    let e5 = ap (λ (l : List ℕ). get_or l 5 0) texts in
+    let e6 = ap (λ (l : List ℕ). get_or l 6 0) texts in
+    let e8 = ap (λ (l : List ℕ). get_or l 8 0) texts in
+    let e9 = ap (λ (l : List ℕ). get_or l 9 0) texts in
+    let e11 = ap (λ (l : List ℕ). get_or l 11 0) texts in
+    let e12 = ap (λ (l : List ℕ). get_or l 12 0) texts in
+    let e14 = ap (λ (l : List ℕ). get_or l 14 0) texts in
+    let e15 = ap (λ (l : List ℕ). get_or l 15 0) texts in
+    let e17 = ap (λ (l : List ℕ). get_or l 17 0) texts in
+    let e18 = ap (λ (l : List ℕ). get_or l 18 0) texts in
+    let year : is.year ≡ js.year = omega arith in
+    let years : is.date.year ≡ js.date.year = is.year_is ∙ ap pos year ∙ sym js.year_is in
+    let month : is.date.month ≡ js.date.month = omega arith in
+    let day : is.date.day ≡ js.date.day = omega arith in
+    let hour : is.hour ≡ js.hour = omega arith in
+    let minute : is.minute ≡ js.minute = omega arith in
+    let second : is.second ≡ js.second = omega arith in
+    let days : epoch_day is.date ≡ epoch_day js.date = cc in
+    is.number_is ∙ rw (days, hour, minute, second) (sym js.number_is)

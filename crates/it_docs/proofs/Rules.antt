@@ -181,7 +181,7 @@ pub found-rule_of : (texts : List (List ℕ)) (found : Option Rule) → found �
 found-rule_of texts None e = λ rule is. let h = e ∙ RuleOf-answer texts rule is in absurd (cc h)
 found-rule_of texts (Some rule) e = rule_of-is texts rule (sym e)
 
-text_same : (d : Data) (a b : List ℕ) → IsText d a → IsText d b → a ≡ b
+pub text_same : (d : Data) (a b : List ℕ) → IsText d a → IsText d b → a ≡ b
 text_same d a b h k = same_Some a b (sym h ∙ k)
 
 -- what the texts are, the part is that is a list of them

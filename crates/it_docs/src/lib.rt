@@ -4,12 +4,21 @@
 
 mod digest;
 pub mod fault;
+pub mod laws;
 pub mod layout;
+pub mod layout_fault;
+pub mod layout_reading;
 pub mod link;
 mod list;
 pub mod moment;
+mod names;
+pub mod policy;
+pub mod policy_fault;
+pub mod policy_reading;
 pub mod rule;
 pub mod statement;
 pub mod table;
+#[cfg(test)]
+mod tests;
 mod text;
 pub mod tree;

@@ -1,0 +1,54 @@
+-- The first part of a policy that fails, in the order of the parts.
+use Rattle.std.specs.Prelude.{ℕ, ◌<◌, List, [], IsTrue, is_some, codes}
+use Rattle.serde_json.specs.Data.{Data}
+use Rattle.serde_json.specs.Find.{as_object}
+use Rattle.it_base.specs.Document.{IsDocument}
+use Rattle.it_base.specs.Parts.{IsPartOr}
+use Rattle.it_base.specs.Sequence.{IsList}
+use Rattle.it_dsse.specs.declared.key_object.KeyObject.{KeyObject}
+use Rattle.it_docs.specs.FirstPart.{IsFirstPart}
+use Rattle.it_docs.specs.List.{IsListOrMissing, PartItemReads}
+use Rattle.it_docs.specs.Policy.{HasOwners, IsExpectation}
+use Rattle.it_docs.specs.Rule.{IsRule}
+use Rattle.it_docs.specs.Table.{Named}
+use Rattle.it_docs.specs.declared.policy_fault.PolicyFault.{PolicyFault}
+use Rattle.it_docs.specs.declared.policy_fault.PolicyFault.TheVariants.{BadPolicy, OutOfMemory}
+use Rattle.it_docs.specs.declared.policy_fault.PolicyPart.{PolicyPart}
+use Rattle.it_docs.specs.declared.policy_fault.PolicyPart.TheVariants.{Json, Owners, Deliver, Expectations, Expectation}
+use Rattle.it_docs.specs.declared.rule.Rule.{Rule}
+
+-- the parts in their order; of expectations the least number comes first
+abbrev pub place : PolicyPart → ℕ × ℕ
+place Json = (0, 0)
+place Owners = (1, 0)
+place Deliver = (2, 0)
+place Expectations = (3, 0)
+place (Expectation n) = (4, n)
+
+-- what a part of a document must be
+abbrev pub PartReads : Data → PolicyPart → Type 0
+PartReads d Json = IsTrue (is_some (as_object d))
+PartReads d Owners = (owners : Named KeyObject) × HasOwners d owners
+PartReads d Deliver = (rules : List Rule) × IsPartOr (IsList IsRule) [] (codes "deliver") d rules
+PartReads d Expectations = IsListOrMissing (codes "expectations") d
+PartReads d (Expectation n) = PartItemReads IsExpectation (codes "expectations") d n
+
+-- the bytes are a document with this part
+abbrev pub Reads : List ℕ → PolicyPart → Type 0
+Reads bytes part = (d : Data) × IsDocument bytes d × PartReads d part
+
+-- the first part of the bytes that fails
+abbrev pub PolicyPartOf : List ℕ → PolicyPart → Type 0
+PolicyPartOf bytes = IsFirstPart place (Reads bytes)
+
+-- why a document is no policy
+abbrev pub IsPolicyFault : Data → PolicyFault → Type 0
+IsPolicyFault d (BadPolicy part) = IsFirstPart place (PartReads d) part
+IsPolicyFault d OutOfMemory = Unit {0}
+
+-- why the expectations of a document do not read
+abbrev pub IsExpectationsFault : Data → PolicyFault → Type 0
+IsExpectationsFault d (BadPolicy Expectations) = ¬ PartReads d Expectations
+IsExpectationsFault d (BadPolicy (Expectation n)) = PartReads d Expectations × (¬ PartReads d (Expectation n)) × ((m : ℕ) → m < n → PartReads d (Expectation m))
+IsExpectationsFault d (BadPolicy part) = ⊥
+IsExpectationsFault d OutOfMemory = Unit {0}

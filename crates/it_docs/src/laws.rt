@@ -1,0 +1,38 @@
+//! Laws of the documents: each input has at most one record.
+ghost use Rattle.it_docs.specs.Laws.{OneLayout, OneLink, OneMoment, OnePolicy, OneRule, OneStatement};
+
+/// The bytes are at most one layout.
+pub fn one_layout()
+    ensures { OneLayout }
+{
+}
+
+/// The bytes are at most one link.
+pub fn one_link()
+    ensures { OneLink }
+{
+}
+
+/// A text is at most one moment.
+pub fn one_moment()
+    ensures { OneMoment }
+{
+}
+
+/// The bytes are at most one policy.
+pub fn one_policy()
+    ensures { OnePolicy }
+{
+}
+
+/// Texts are at most one rule.
+pub fn one_rule()
+    ensures { OneRule }
+{
+}
+
+/// The bytes are at most one Statement.
+pub fn one_statement()
+    ensures { OneStatement }
+{
+}

@@ -1,0 +1,46 @@
+//! Why a layout was not read.
+ghost use Rattle.std.specs.Prelude.{◌≡◌};
+ghost use Rattle.it_docs.specs.declared.layout_fault.LayoutFault.TheVariants.{OutOfMemory};
+
+use it_base::text::Text;
+use std::alloc::AllocError;
+
+/// A part of a layout, in the order in which parts are looked at.
+#[derive(Drop)]
+pub enum LayoutPart {
+    /// The whole is no JSON object.
+    Json,
+    /// `_type` is not `layout`.
+    WrongType,
+    /// `expires` is no moment.
+    Expires,
+    /// `keys` is no object from id to key object.
+    Keys,
+    /// `steps` is no list.
+    Steps,
+    /// The step at this place, from 0, is none.
+    Step(usize),
+    /// `inspect` is no list.
+    Inspects,
+    /// The inspection at this place, from 0, is none.
+    Inspect(usize),
+    /// This name is the first that equals an earlier one, steps before inspections.
+    DuplicateName(Text),
+}
+
+/// Why no layout was read.
+#[derive(Drop)]
+pub enum LayoutFault {
+    /// This part is the first that fails.
+    BadLayout(LayoutPart),
+    /// Memory was refused.
+    OutOfMemory,
+}
+
+impl From<AllocError> for LayoutFault {
+    ghost from_gives = { λ _ e. e ≡ OutOfMemory };
+
+    fn from(_e: AllocError) -> LayoutFault {
+        LayoutFault::OutOfMemory
+    }
+}

@@ -1,0 +1,133 @@
+//! The reading of layouts (in-toto 1.0 section 4.3).
+ghost use Rattle.std.specs.Prelude.{◌≡◌, [], IfOk, IfErr, MatchOption, MatchResult, codes, map};
+ghost use Rattle.std.specs.List.{IsDistinct};
+ghost use Rattle.std.specs.Str.{bytes_eq};
+ghost use Rattle.serde_json.specs.View.{view};
+ghost use Rattle.it_base.specs.Parts.{IsPartOr};
+ghost use Rattle.it_base.specs.Sequence.{IsList};
+ghost use Rattle.it_docs.specs.Layout.{IsInspection, IsLayout, IsStep, LayoutOf, names_of};
+ghost use Rattle.it_docs.specs.Names.{IsFirstRepeat};
+ghost use Rattle.it_docs.specs.declared.layout_fault.LayoutPart.{LayoutPart as Part};
+ghost use Rattle.it_docs.specs.LayoutPart.{IsInspectionsFault, IsLayoutFault, IsStepsFault, LayoutPartOf};
+
+use crate::layout::{Inspection, Layout, Step};
+use crate::layout_fault::{LayoutFault, LayoutPart};
+use crate::list::{ListFault, numbered_list};
+use crate::moment::moment_at;
+use crate::names::first_repeat;
+use crate::table::Table;
+use crate::text::has_text;
+use it_base::document::read_document;
+use it_base::parts::part_or;
+use it_base::sequence::Sequence;
+use it_base::text::Text;
+use it_dsse::key_object::KeyObject;
+use serde_json::Value;
+use std::alloc::{AllocError, Global};
+
+/// Reads a layout: the body of a layout's envelope. `readme`, the commands of steps and inspections
+/// and other members are not looked at.
+///
+/// # Errors
+///
+/// `BadLayout` with the first part that fails, and `OutOfMemory` where memory was refused.
+pub fn read_layout(alloc: Global, bytes: &[u8]) -> Result<Layout, LayoutFault>
+    ensures ok { IfOk result (λ layout. LayoutOf bytes.now layout) }
+    ensures bad { IfErr result (λ e. (part : Part) → e ≡ LayoutFault.BadLayout part
+        → LayoutPartOf bytes.now part) }
+{
+    match read_document(alloc, bytes)? {
+        Some(document) => layout_of(alloc, &document),
+        None => Err(LayoutFault::BadLayout(LayoutPart::Json)),
+    }
+}
+
+fn layout_of(alloc: Global, document: &Value) -> Result<Layout, LayoutFault>
+    ensures { MatchResult result (IsLayout (view document.now))
+        (IsLayoutFault (view document.now)) }
+{
+    if !document.is_object() {
+        return Err(LayoutFault::BadLayout(LayoutPart::Json));
+    }
+    if !has_text(document, "_type", "layout") {
+        return Err(LayoutFault::BadLayout(LayoutPart::WrongType));
+    }
+    let Some(expires) = moment_at(document, "expires") else {
+        return Err(LayoutFault::BadLayout(LayoutPart::Expires));
+    };
+    let no_keys = Table::<KeyObject>::new(alloc);
+    let Some(keys) = part_or(alloc, document, "keys", no_keys)? else {
+        return Err(LayoutFault::BadLayout(LayoutPart::Keys));
+    };
+    let steps = steps_of(alloc, document)?;
+    let inspections = inspections_of(alloc, document)?;
+    if let Some(name) = repeated_name(alloc, steps.as_slice(), inspections.as_slice())? {
+        return Err(LayoutFault::BadLayout(LayoutPart::DuplicateName(name)));
+    }
+    Ok(Layout {
+        expires,
+        keys,
+        steps,
+        inspections,
+    })
+}
+
+fn steps_of(alloc: Global, document: &Value) -> Result<Sequence<Step>, LayoutFault>
+    ensures { MatchResult result (IsPartOr (IsList IsStep) [] (codes "steps") (view document.now))
+        (IsStepsFault (view document.now)) }
+{
+    match numbered_list(alloc, document, "steps") {
+        Ok(steps) => Ok(steps),
+        Err(ListFault::NoList) => Err(LayoutFault::BadLayout(LayoutPart::Steps)),
+        Err(ListFault::NoItem(n)) => Err(LayoutFault::BadLayout(LayoutPart::Step(n))),
+        Err(ListFault::OutOfMemory) => Err(LayoutFault::OutOfMemory),
+    }
+}
+
+fn inspections_of(alloc: Global, document: &Value) -> Result<Sequence<Inspection>, LayoutFault>
+    ensures { MatchResult result
+        (IsPartOr (IsList IsInspection) [] (codes "inspect") (view document.now))
+        (IsInspectionsFault (view document.now)) }
+{
+    match numbered_list(alloc, document, "inspect") {
+        Ok(inspections) => Ok(inspections),
+        Err(ListFault::NoList) => Err(LayoutFault::BadLayout(LayoutPart::Inspects)),
+        Err(ListFault::NoItem(n)) => Err(LayoutFault::BadLayout(LayoutPart::Inspect(n))),
+        Err(ListFault::OutOfMemory) => Err(LayoutFault::OutOfMemory),
+    }
+}
+
+/// A copy of the first name that equals an earlier one, steps before inspections.
+fn repeated_name(
+    alloc: Global,
+    steps: &[Step],
+    inspections: &[Inspection],
+) -> Result<Option<Text>, AllocError>
+    ensures { IfOk result (λ found. MatchOption found
+        (IsDistinct bytes_eq (names_of steps.now inspections.now))
+        (IsFirstRepeat (names_of steps.now inspections.now))) }
+{
+    let names = names_in_order(alloc, steps, inspections)?;
+    match first_repeat(alloc, names.as_slice())? {
+        None => Ok(None),
+        Some(name) => Ok(Some(Text::from(String::from_str(alloc, name)?))),
+    }
+}
+
+fn names_in_order<'l>(
+    alloc: Global,
+    steps: &'l [Step],
+    inspections: &'l [Inspection],
+) -> Result<Vec<&'l str>, AllocError>
+    ensures { IfOk result (λ names.
+        map (λ n. n.now) names.items ≡ names_of steps.now inspections.now) }
+{
+    let mut names = Vec::new(alloc);
+    for step in steps {
+        names.push(step.name.as_str())?;
+    }
+    for inspection in inspections {
+        names.push(inspection.name.as_str())?;
+    }
+    Ok(names)
+}

@@ -1,0 +1,118 @@
+//! Policies: who owns a layout, and what is expected of what is delivered (this profile's choice).
+ghost use Rattle.std.specs.Prelude.{◌≡◌, IfOk};
+ghost use Rattle.serde_json.specs.View.{view};
+ghost use Rattle.it_base.specs.Finds.{Finds};
+ghost use Rattle.it_base.specs.Parts.{IsPart};
+ghost use Rattle.it_base.specs.Text.{IsText};
+ghost use Rattle.it_docs.specs.Policy.{IsBuilderOf, IsExpectation};
+
+use crate::list::list_or_empty;
+use crate::rule::Rule;
+use crate::table::Table;
+use crate::tree::Members;
+use it_base::document::member;
+use it_base::parts::{FromDocument, part, part_or};
+use it_base::sequence::Sequence;
+use it_base::text::Text;
+use it_dsse::key_object::KeyObject;
+use it_glob::Pattern;
+use serde_json::Value;
+use std::alloc::{AllocError, Global};
+
+/// A builder whose provenance is believed.
+#[derive(Drop)]
+pub struct Builder {
+    /// The builder's id, as its provenance names it.
+    pub id: Text,
+    /// The builder's keys by their ids.
+    pub keys: Table<KeyObject>,
+}
+
+/// What is expected of the provenance of some delivered files.
+#[derive(Drop)]
+pub struct Expectation {
+    /// The files that it speaks of.
+    pub files: Pattern,
+    /// Who may have built them.
+    pub builders: Sequence<Builder>,
+    /// The kind of build.
+    pub build_type: Text,
+    /// The parameters that the build must have had.
+    pub parameters: Members,
+    /// The names of further parameters that it may have had.
+    pub ignore: Sequence<Text>,
+}
+
+/// A policy.
+#[derive(Drop)]
+pub struct Policy {
+    /// The keys that must all have signed the layout, by their ids. There is at least one.
+    pub owners: Table<KeyObject>,
+    /// The rules on what is delivered.
+    pub deliver: Sequence<Rule>,
+    /// The expectations, in order.
+    pub expectations: Sequence<Expectation>,
+}
+
+impl FromDocument for Builder {
+    ghost is_of = { IsBuilderOf };
+
+    fn from_document(alloc: Global, value: &Value) -> Result<Option<Builder>, AllocError> {
+        let Some(id) = part::<Text>(alloc, value, "id")? else {
+            return Ok(None);
+        };
+        let Some(keys) = part::<Table<KeyObject>>(alloc, value, "keys")? else {
+            return Ok(None);
+        };
+        Ok(Some(Builder { id, keys }))
+    }
+}
+
+impl FromDocument for Expectation {
+    ghost is_of = { IsExpectation };
+
+    fn from_document(alloc: Global, value: &Value) -> Result<Option<Expectation>, AllocError> {
+        let Some(files) = pattern_at(alloc, value, "files")? else {
+            return Ok(None);
+        };
+        let Some(builders) = list_or_empty::<Builder>(alloc, value, "builders")? else {
+            return Ok(None);
+        };
+        let Some(build_type) = part::<Text>(alloc, value, "buildType")? else {
+            return Ok(None);
+        };
+        let no_parameters = Members::new(alloc);
+        let Some(parameters) = part_or(alloc, value, "parameters", no_parameters)? else {
+            return Ok(None);
+        };
+        let Some(ignore) = list_or_empty::<Text>(alloc, value, "ignore")? else {
+            return Ok(None);
+        };
+        Ok(Some(Expectation {
+            files,
+            builders,
+            build_type,
+            parameters,
+            ignore,
+        }))
+    }
+}
+
+/// The pattern whose text is the member of this name, or `None` where it is missing or no text.
+fn pattern_at(alloc: Global, value: &Value, name: &str) -> Result<Option<Pattern>, AllocError>
+    ensures { IfOk result (Finds (IsPart IsText name.now (view value.now))) }
+{
+    match member(value, name) {
+        None => Ok(None),
+        Some(found) => pattern_of(alloc, found),
+    }
+}
+
+fn pattern_of(alloc: Global, value: &Value) -> Result<Option<Pattern>, AllocError>
+    ensures { IfOk result (Finds (IsText (view value.now))) }
+{
+    match value.as_str() {
+        None => Ok(None),
+        Some(text) => Ok(Some(Pattern::read(alloc, text)?)),
+    }
+}

@@ -1,0 +1,37 @@
+//! Why a policy was not read.
+ghost use Rattle.std.specs.Prelude.{◌≡◌};
+ghost use Rattle.it_docs.specs.declared.policy_fault.PolicyFault.TheVariants.{OutOfMemory};
+
+use std::alloc::AllocError;
+
+/// A part of a policy, in the order in which parts are looked at.
+#[derive(Clone, Copy, Debug, PartialEq, Eq)]
+pub enum PolicyPart {
+    /// The whole is no JSON object.
+    Json,
+    /// `owners` is no object from id to key object, or has no member.
+    Owners,
+    /// `deliver` is no list of rules.
+    Deliver,
+    /// `expectations` is no list.
+    Expectations,
+    /// The expectation at this place, from 0, is none.
+    Expectation(usize),
+}
+
+/// Why no policy was read.
+#[derive(Clone, Copy, Debug, PartialEq, Eq)]
+pub enum PolicyFault {
+    /// This part is the first that fails.
+    BadPolicy(PolicyPart),
+    /// Memory was refused.
+    OutOfMemory,
+}
+
+impl From<AllocError> for PolicyFault {
+    ghost from_gives = { λ _ e. e ≡ OutOfMemory };
+
+    fn from(_e: AllocError) -> PolicyFault {
+        PolicyFault::OutOfMemory
+    }
+}

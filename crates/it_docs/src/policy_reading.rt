@@ -1,0 +1,83 @@
+//! The reading of policies (this profile's choice).
+ghost use Rattle.std.specs.Prelude.{◌≡◌, [], IfOk, IfErr, MatchResult, codes};
+ghost use Rattle.serde_json.specs.View.{view};
+ghost use Rattle.it_base.specs.Finds.{Finds};
+ghost use Rattle.it_base.specs.Parts.{IsPartOr};
+ghost use Rattle.it_base.specs.Sequence.{IsList};
+ghost use Rattle.it_docs.specs.Policy.{HasOwners, IsExpectation, IsPolicy, PolicyOf};
+ghost use Rattle.it_docs.specs.PolicyPart.{IsExpectationsFault, IsPolicyFault, PolicyPartOf};
+ghost use Rattle.it_docs.specs.declared.policy_fault.PolicyPart.{PolicyPart as Part};
+
+use crate::list::{ListFault, list_or_empty, numbered_list};
+use crate::policy::{Expectation, Policy};
+use crate::policy_fault::{PolicyFault, PolicyPart};
+use crate::rule::Rule;
+use crate::table::Table;
+use it_base::document::read_document;
+use it_base::parts::part;
+use it_base::sequence::Sequence;
+use it_dsse::key_object::KeyObject;
+use serde_json::Value;
+use std::alloc::{AllocError, Global};
+
+/// Reads a policy.
+///
+/// # Errors
+///
+/// `BadPolicy` with the first part that fails, and `OutOfMemory` where memory was refused.
+pub fn read_policy(alloc: Global, bytes: &[u8]) -> Result<Policy, PolicyFault>
+    ensures ok { IfOk result (λ policy. PolicyOf bytes.now policy) }
+    ensures bad { IfErr result (λ e. (part : Part) → e ≡ PolicyFault.BadPolicy part
+        → PolicyPartOf bytes.now part) }
+{
+    match read_document(alloc, bytes)? {
+        Some(document) => policy_of(alloc, &document),
+        None => Err(PolicyFault::BadPolicy(PolicyPart::Json)),
+    }
+}
+
+fn policy_of(alloc: Global, document: &Value) -> Result<Policy, PolicyFault>
+    ensures { MatchResult result (IsPolicy (view document.now))
+        (IsPolicyFault (view document.now)) }
+{
+    if !document.is_object() {
+        return Err(PolicyFault::BadPolicy(PolicyPart::Json));
+    }
+    let Some(owners) = owners_of(alloc, document)? else {
+        return Err(PolicyFault::BadPolicy(PolicyPart::Owners));
+    };
+    let Some(deliver) = list_or_empty::<Rule>(alloc, document, "deliver")? else {
+        return Err(PolicyFault::BadPolicy(PolicyPart::Deliver));
+    };
+    let expectations = expectations_of(alloc, document)?;
+    Ok(Policy {
+        owners,
+        deliver,
+        expectations,
+    })
+}
+
+fn owners_of(alloc: Global, document: &Value) -> Result<Option<Table<KeyObject>>, AllocError>
+    ensures { IfOk result (Finds (HasOwners (view document.now))) }
+{
+    let Some(owners) = part::<Table<KeyObject>>(alloc, document, "owners")? else {
+        return Ok(None);
+    };
+    if owners.is_empty() {
+        return Ok(None);
+    }
+    Ok(Some(owners))
+}
+
+fn expectations_of(alloc: Global, document: &Value) -> Result<Sequence<Expectation>, PolicyFault>
+    ensures { MatchResult result
+        (IsPartOr (IsList IsExpectation) [] (codes "expectations") (view document.now))
+        (IsExpectationsFault (view document.now)) }
+{
+    match numbered_list(alloc, document, "expectations") {
+        Ok(expectations) => Ok(expectations),
+        Err(ListFault::NoList) => Err(PolicyFault::BadPolicy(PolicyPart::Expectations)),
+        Err(ListFault::NoItem(n)) => Err(PolicyFault::BadPolicy(PolicyPart::Expectation(n))),
+        Err(ListFault::OutOfMemory) => Err(PolicyFault::OutOfMemory),
+    }
+}

@@ -1,6 +1,6 @@
 -- What counts alike comes to the same: of one level with its sublayouts' given, and then of every
 -- depth.
-use Rattle.std.proofs.Common.{◌≡◌, ◌↔◌, ℕ, zero, suc, List, [], ◌∷◌, ◌++◌, map, flat_map, ◌⊎◌, inl, inr, ⊎_elim, length, Contains, Some, refl, sym, ap, subst, ◌∙◌, arith}
+use Rattle.std.proofs.Common.{◌≡◌, ℕ, zero, suc, List, [], ◌∷◌, ◌++◌, map, flat_map, inl, inr, ⊎_elim, Contains, refl, sym, ap, subst, ◌∙◌, arith}
 use Rattle.std.specs.List.{AllZip}
 use Rattle.std.specs.FinMap.{keys}
 use Rattle.std.proofs.lemmas.Option.{same_Some}
@@ -8,8 +8,6 @@ use Rattle.it_dsse.specs.Envelope.{EnvelopeOf}
 use Rattle.it_docs.specs.Layout.{LayoutOf}
 use Rattle.it_docs.specs.declared.layout.Layout.{Layout}
 use Rattle.it_docs.specs.declared.layout.Step.{Step}
-use Rattle.it_docs.specs.declared.rule.Side.{Side}
-use Rattle.it_docs.specs.declared.rule.Side.TheVariants.{Materials, Products}
 use Rattle.it_rules.specs.Item.{Recorded}
 use Rattle.it_chain.specs.Alike.{Alike, Comparing, ComesToTheSame, FoldersCompare, HasCopies, LevelAlike, any_two, deeper_alike}
 use Rattle.it_chain.specs.Chain.{Chain, none_holds}
@@ -81,10 +79,12 @@ all_steps layout f each (step ∷ steps) among =
     (all_steps layout f each steps (λ s c. among s (suc c.0, omega (arith, c.1), c.2)))
 
 all_places : (layout : Layout) → AllOf layout (places layout)
-all_places layout =
-    (tt, all_append layout (flat_map (step_places layout) layout.steps) (flat_map rule_places layout.steps)
-    (all_steps layout (step_places layout) (λ step c. all_append layout (map (at_id step) (keys layout.keys)) (at_threshold step ∷ at_records step ∷ []) (all_ids layout step (keys layout.keys) c) (c, (c, tt))) layout.steps (λ s c. c))
-    (all_steps layout rule_places (λ step c. (c, (c, tt))) layout.steps (λ s c. c)))
+all_places layout = (
+  tt,
+  all_append layout (flat_map (step_places layout) layout.steps) (flat_map rule_places layout.steps)
+      (all_steps layout (step_places layout) (λ step c. all_append layout (map (at_id step) (keys layout.keys)) (at_threshold step ∷ at_records step ∷ []) (all_ids layout step (keys layout.keys) c) (c, (c, tt))) layout.steps (λ s c. c))
+      (all_steps layout rule_places (λ step c. (c, (c, tt))) layout.steps (λ s c. c)),
+)
 
 module _ (sub : Holding) (fails : Failing) (setting : Setting) (layout : Layout) (a b : Contents) (move : Moves sub fails setting layout a b) (back : Moves sub fails setting layout b a) where
   step_found : (step : Step) → Contains layout.steps step → (found : ℕ) → Found setting layout a step found → Found setting layout b step found
@@ -128,13 +128,16 @@ module _ (sub : Holding) (fails : Failing) (setting : Setting) (layout : Layout)
   stands_moved : (place : Place) (refusal : ChainRefusal) → OfLayout layout place → Stands sub fails setting layout a place refusal → Stands sub fails setting layout b place refusal
   stands_moved at_expiry refusal c h = h
   stands_moved (at_id step id) refusal c h =
-      ⊎_elim (λ x. let two = x.0 in inl (record {
-        payload = two.payload;
-        other = two.other;
-        first = move.bodies step id two.payload c two.first;
-        second = move.bodies step id two.other c two.second;
-        differ = two.differ;
-      }, x.1))
+      ⊎_elim (λ x. let two = x.0 in inl (
+        record {
+          payload = two.payload;
+          other = two.other;
+          first = move.bodies step id two.payload c two.first;
+          second = move.bodies step id two.other c two.second;
+          differ = two.differ;
+        },
+        x.1,
+      ))
       (λ k. inr (record {
         payload = k.payload;
         sublayout = k.sublayout;
@@ -148,26 +151,33 @@ module _ (sub : Holding) (fails : Failing) (setting : Setting) (layout : Layout)
   stands_moved (at_threshold step) refusal c h =
       (h.0, record { is_found = step_found sub fails setting layout a b move back step c h.0 h.1.is_found; below = h.1.below }, h.2)
   stands_moved (at_records step) refusal c h =
-      let k = h.1 in
-      (h.0, record {
-        least = k.least;
-        expected = k.expected;
-        given = k.given;
-        of_least = record_moved sub fails setting layout a b move back step k.least k.expected c k.of_least;
-        is_least = λ other recorded x. k.is_least other recorded (record_moved sub fails setting layout b a back move step other recorded c x);
-        of_id = record_moved sub fails setting layout a b move back step h.0 k.given c k.of_id;
-        differs = k.differs;
-        is_first = λ other recorded x. k.is_first other recorded (record_moved sub fails setting layout b a back move step other recorded c x);
-      }, h.2)
+      let k = h.1 in (
+        h.0,
+        record {
+          least = k.least;
+          expected = k.expected;
+          given = k.given;
+          of_least = record_moved sub fails setting layout a b move back step k.least k.expected c k.of_least;
+          is_least = λ other recorded x. k.is_least other recorded (record_moved sub fails setting layout b a back move step other recorded c x);
+          of_id = record_moved sub fails setting layout a b move back step h.0 k.given c k.of_id;
+          differs = k.differs;
+          is_first = λ other recorded x. k.is_first other recorded (record_moved sub fails setting layout b a back move step other recorded c x);
+        },
+        h.2,
+      )
   stands_moved (at_rules step side) refusal c h =
-      let k = h.2 in
-      (h.0, h.1, record {
-        results = k.results;
-        result = k.result;
-        steps = steps_moved sub fails setting layout a b move back layout.steps k.results (λ s c. c) k.steps;
-        of_step = k.of_step;
-        fault = k.fault;
-      }, h.3)
+      let k = h.2 in (
+        h.0,
+        h.1,
+        record {
+          results = k.results;
+          result = k.result;
+          steps = steps_moved sub fails setting layout a b move back layout.steps k.results (λ s c. c) k.steps;
+          of_step = k.of_step;
+          fault = k.fault;
+        },
+        h.3,
+      )
 
 module _ (sub : Holding) (fails : Failing) (setting : Setting) (layout : Layout) (a b : Contents) (move : Moves sub fails setting layout a b) (back : Moves sub fails setting layout b a) where
   first_moved : (ps : List Place) (refusal : ChainRefusal) → AllOf layout ps → IsFirst (Stands sub fails setting layout a) ps refusal → IsFirst (Stands sub fails setting layout b) ps refusal
@@ -216,9 +226,10 @@ transports setting zero layout a b h =
     (level_moved none_holds too_deep setting layout a b move back, fails_moved none_holds too_deep setting layout a b move back)
 transports setting (suc depth) layout a b h =
     let move = moves_more setting depth (transports setting depth) layout a b h in
-    let back = moves_more setting depth (transports setting depth) layout b a (alike_sym setting (suc depth) layout a b h) in
-    (level_moved (Chain setting depth) (uninspected (First setting depth)) setting layout a b move back,
-    fails_moved (Chain setting depth) (uninspected (First setting depth)) setting layout a b move back)
+    let back = moves_more setting depth (transports setting depth) layout b a (alike_sym setting (suc depth) layout a b h) in (
+      level_moved (Chain setting depth) (uninspected (First setting depth)) setting layout a b move back,
+      fails_moved (Chain setting depth) (uninspected (First setting depth)) setting layout a b move back,
+    )
 
 same_bodies : (setting : Setting) (depth : ℕ) (layout : Layout) (a b : Contents) → Alike setting depth layout a b → (step : Step) (id payload : List ℕ) → Contains layout.steps step
     → Counted setting layout a step id payload → Counted setting layout b step id payload

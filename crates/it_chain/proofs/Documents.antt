@@ -51,8 +51,11 @@ each_in_part : {X : Type 0} (P : Data → X → Type 0) (Q : X → Type 0) → (
 each_in_part P Q f None xs h x c = absurd (let none : length xs ≡ 0 = ap length h in omega (arith, c.1))
 each_in_part P Q f (Some d) xs h x c = each_in_list P Q f (as_array d) xs h x c
 
--- the thresholds of a layout that is read are at least 1
+-- a layout that is read is proper
 pub proper_layout : (bytes : List ℕ) (layout : Layout) → LayoutOf bytes layout → IsProper layout
-proper_layout bytes layout h step c =
-    each_in_part IsStep (λ s. 1 ≤ s.threshold) (λ d s is. above_zero (member_at (codes "threshold") d) s.threshold is.threshold)
-    (member_at (codes "steps") h.0) layout.steps h.2.steps step c
+proper_layout bytes layout h = record {
+  thresholds = λ step c.
+      each_in_part IsStep (λ s. 1 ≤ s.threshold) (λ d s is. above_zero (member_at (codes "threshold") d) s.threshold is.threshold)
+      (member_at (codes "steps") h.0) layout.steps h.2.steps step c;
+  names = h.2.names_differ;
+}

@@ -14,11 +14,12 @@ use Rattle.it_docs.specs.declared.rule.Side.{Side}
 use Rattle.it_docs.specs.declared.rule.Side.TheVariants.{Materials, Products}
 use Rattle.it_rules.specs.Item.{Recorded, Links}
 use Rattle.it_rules.specs.Rules.{IsFree, IsFirstFault, FailsWith}
+use Rattle.it_docs.proofs.Same.{layout_same}
 use Rattle.it_chain.specs.Chain.{Chain, none_holds}
 use Rattle.it_chain.specs.Contents.{Contents}
 use Rattle.it_chain.specs.Counted.{Setting}
 use Rattle.it_chain.specs.First.{Failing, Place, at_expiry, at_id, at_threshold, at_records, at_rules, step_places, rule_places, HasTwo, SublayoutFails, IsLeastOther, Stands, LevelFails, First, too_deep, uninspected, here, under}
-use Rattle.it_chain.specs.Laws.{IsProper, ReadsOneWay}
+use Rattle.it_chain.specs.Laws.{IsProper}
 use Rattle.it_chain.specs.Level.{Holding, HasRecord, StepHolds, recorded_in, links_in, rules_on}
 use Rattle.it_chain.specs.Names.{folder_of}
 use Rattle.it_chain.specs.declared.refusal.ChainFault.TheVariants.{TwoPayloads, Threshold, Disagree, RuleFailed}
@@ -76,90 +77,89 @@ key_listed At step id (x ∷ ids) e none refusal =
 abbrev pub FailsOneWay : Failing → Type 0
 FailsOneWay fails = (layout : Layout) (bundle : Contents) (a b : ChainRefusal) → IsProper layout → fails layout bundle a → fails layout bundle b → a ≡ b
 
-module _ (reads : ReadsOneWay) where
-  module _ (sub : Holding) (fails : Failing) (one : HoldsOneWay sub) (fails_one : FailsOneWay fails) (setting : Setting) (layout : Layout) (bundle : Contents) where
-    abbrev At : Place → ChainRefusal → Type 0
-    At = Stands sub fails setting layout bundle
+module _ (sub : Holding) (fails : Failing) (one : HoldsOneWay sub) (fails_one : FailsOneWay fails) (setting : Setting) (layout : Layout) (bundle : Contents) where
+  abbrev At : Place → ChainRefusal → Type 0
+  At = Stands sub fails setting layout bundle
 
-    failing_one : (step : Step) (id : List ℕ) (a b : ChainRefusal) → SublayoutFails sub fails setting layout bundle step id a → SublayoutFails sub fails setting layout bundle step id b → a ≡ b
-    failing_one step id a b h k =
-        let payload : h.payload ≡ k.payload = h.one_body k.payload k.counted in
-        let sublayout : h.sublayout ≡ k.sublayout = reads.layout k.payload h.sublayout k.sublayout (subst (λ p. LayoutOf p h.sublayout) payload h.is_layout) k.is_layout in
-        let inner : h.inner ≡ k.inner = fails_one k.sublayout (folder_of step.name id bundle) h.inner k.inner (proper_layout k.payload k.sublayout k.is_layout)
-        (subst (λ l. fails l (folder_of step.name id bundle) h.inner) sublayout h.fails_there) k.fails_there in
-        h.refusal_is ∙ ap (under step.name id) inner ∙ sym k.refusal_is
+  failing_one : (step : Step) (id : List ℕ) (a b : ChainRefusal) → SublayoutFails sub fails setting layout bundle step id a → SublayoutFails sub fails setting layout bundle step id b → a ≡ b
+  failing_one step id a b h k =
+      let payload : h.payload ≡ k.payload = h.one_body k.payload k.counted in
+      let sublayout : h.sublayout ≡ k.sublayout = layout_same k.payload h.sublayout k.sublayout (subst (λ p. LayoutOf p h.sublayout) payload h.is_layout) k.is_layout in
+      let inner : h.inner ≡ k.inner = fails_one k.sublayout (folder_of step.name id bundle) h.inner k.inner (proper_layout k.payload k.sublayout k.is_layout)
+      (subst (λ l. fails l (folder_of step.name id bundle) h.inner) sublayout h.fails_there) k.fails_there in
+      h.refusal_is ∙ ap (under step.name id) inner ∙ sym k.refusal_is
 
-    not_both : (step : Step) (id : List ℕ) (refusal : ChainRefusal) → HasTwo sub fails setting layout bundle step id → ¬ SublayoutFails sub fails setting layout bundle step id refusal
-    not_both step id refusal two k = two.differ (sym (k.one_body two.payload two.first) ∙ k.one_body two.other two.second)
+  not_both : (step : Step) (id : List ℕ) (refusal : ChainRefusal) → HasTwo sub fails setting layout bundle step id → ¬ SublayoutFails sub fails setting layout bundle step id refusal
+  not_both step id refusal two k = two.differ (sym (k.one_body two.payload two.first) ∙ k.one_body two.other two.second)
 
-    at_id_one : (step : Step) (id : List ℕ) → OneAt At (at_id step id)
-    at_id_one step id a b h k =
-        ⊎_elim (λ x. ⊎_elim (λ y. x.1 ∙ sym y.1) (λ y. absurd (not_both step id b x.0 y)) k)
-        (λ x. ⊎_elim (λ y. absurd (not_both step id a y.0 x)) (λ y. failing_one step id a b x y) k) h
+  at_id_one : (step : Step) (id : List ℕ) → OneAt At (at_id step id)
+  at_id_one step id a b h k =
+      ⊎_elim (λ x. ⊎_elim (λ y. x.1 ∙ sym y.1) (λ y. absurd (not_both step id b x.0 y)) k)
+      (λ x. ⊎_elim (λ y. absurd (not_both step id a y.0 x)) (λ y. failing_one step id a b x y) k) h
 
-    at_threshold_one : (step : Step) → OneAt At (at_threshold step)
-    at_threshold_one step a b h k =
-        let same : h.0 ≡ k.0 = found_one setting layout bundle step h.0 k.0 h.1.is_found k.1.is_found in
-        h.2 ∙ ap (λ n. here (Threshold step.name n step.threshold)) same ∙ sym k.2
+  at_threshold_one : (step : Step) → OneAt At (at_threshold step)
+  at_threshold_one step a b h k =
+      let same : h.0 ≡ k.0 = found_one setting layout bundle step h.0 k.0 h.1.is_found k.1.is_found in
+      h.2 ∙ ap (λ n. here (Threshold step.name n step.threshold)) same ∙ sym k.2
 
-    -- where no id has two bodies, an id has one record
-    only_record : (step : Step) → NoneAt At (map (at_id step) (keys layout.keys)) → (id : List ℕ) (x y : Recorded)
-        → HasRecord sub setting layout bundle step id x → HasRecord sub setting layout bundle step id y → x ≡ y
-    only_record step none id x y h k =
-        let held : is_some (get layout.keys id) ≡ true = ap is_some h.counted.known in
-        let among : list_any (eq_by_cmp (slice_cmp nat_cmp) id) (keys layout.keys) ≡ true = sym (contains_key-keys layout.keys id) ∙ held in
-        let nothing = key_listed At step id (keys layout.keys) among none in
-        let same : h.payload ≡ k.payload = not_different h.payload k.payload (λ differ.
-        nothing (here (TwoPayloads step.name id)) (inl (record { payload = h.payload; other = k.payload; first = h.counted; second = k.counted; differ = differ }, refl))) in
-        record_one reads sub one setting bundle layout step id x y h k same
+  -- where no id has two bodies, an id has one record
+  only_record : (step : Step) → NoneAt At (map (at_id step) (keys layout.keys)) → (id : List ℕ) (x y : Recorded)
+      → HasRecord sub setting layout bundle step id x → HasRecord sub setting layout bundle step id y → x ≡ y
+  only_record step none id x y h k =
+      let held : is_some (get layout.keys id) ≡ true = ap is_some h.counted.known in
+      let among : list_any (eq_by_cmp (slice_cmp nat_cmp) id) (keys layout.keys) ≡ true = sym (contains_key-keys layout.keys id) ∙ held in
+      let nothing = key_listed At step id (keys layout.keys) among none in
+      let same : h.payload ≡ k.payload = not_different h.payload k.payload (λ differ.
+      nothing (here (TwoPayloads step.name id)) (inl (record { payload = h.payload; other = k.payload; first = h.counted; second = k.counted; differ = differ }, refl))) in
+      record_one sub one setting bundle layout step id x y h k same
 
-    other_one : (step : Step) → NoneAt At (map (at_id step) (keys layout.keys)) → (a b : List ℕ) → IsLeastOther sub fails setting layout bundle step a → IsLeastOther sub fails setting layout bundle step b → a ≡ b
-    other_one step none a b h k =
-        let least : h.least ≡ k.least = neither_before h.least k.least (k.is_least h.least h.expected h.of_least) (h.is_least k.least k.expected k.of_least) in
-        let expected : h.expected ≡ k.expected = only_record step none k.least h.expected k.expected (subst (λ id. HasRecord sub setting layout bundle step id h.expected) least h.of_least) k.of_least in
-        neither_before a b
-        (λ less. h.differs (k.is_first a h.given h.of_id less ∙ sym expected))
-        (λ less. k.differs (h.is_first b k.given k.of_id less ∙ expected))
+  other_one : (step : Step) → NoneAt At (map (at_id step) (keys layout.keys)) → (a b : List ℕ) → IsLeastOther sub fails setting layout bundle step a → IsLeastOther sub fails setting layout bundle step b → a ≡ b
+  other_one step none a b h k =
+      let least : h.least ≡ k.least = neither_before h.least k.least (k.is_least h.least h.expected h.of_least) (h.is_least k.least k.expected k.of_least) in
+      let expected : h.expected ≡ k.expected = only_record step none k.least h.expected k.expected (subst (λ id. HasRecord sub setting layout bundle step id h.expected) least h.of_least) k.of_least in
+      neither_before a b
+      (λ less. h.differs (k.is_first a h.given h.of_id less ∙ sym expected))
+      (λ less. k.differs (h.is_first b k.given k.of_id less ∙ expected))
 
-    at_records_one : (step : Step) → NoneAt At (map (at_id step) (keys layout.keys)) → OneAt At (at_records step)
-    at_records_one step none a b h k = h.2 ∙ ap (λ id. here (Disagree step.name id)) (other_one step none h.0 k.0 h.1 k.1) ∙ sym k.2
+  at_records_one : (step : Step) → NoneAt At (map (at_id step) (keys layout.keys)) → OneAt At (at_records step)
+  at_records_one step none a b h k = h.2 ∙ ap (λ id. here (Disagree step.name id)) (other_one step none h.0 k.0 h.1 k.1) ∙ sym k.2
 
-    at_rules_one : IsProper layout → (step : Step) (side : Side) → OneAt At (at_rules step side)
-    at_rules_one proper step side a b h k =
-        let x = h.2 in
-        let y = k.2 in
-        let results : x.results ≡ y.results = steps_one reads sub one setting bundle layout layout.steps x.results y.results proper x.steps y.steps in
-        let result : x.result ≡ y.result = step_one reads sub one setting bundle layout step x.result y.result (proper step (first_of_zip layout.steps x.results step x.result x.of_step))
-        (of_zip (StepHolds sub setting layout bundle) layout.steps x.results step x.result x.steps x.of_step) (of_zip (StepHolds sub setting layout bundle) layout.steps y.results step y.result y.steps y.of_step) in
-        let fault : IsFirstFault (rules_on side step) side (recorded_in y.result) (links_in y.results) h.0 h.1 =
-        subst (λ r. IsFirstFault (rules_on side step) side (recorded_in r) (links_in y.results) h.0 h.1) result
-        (subst (λ rs. IsFirstFault (rules_on side step) side (recorded_in x.result) (links_in rs) h.0 h.1) results x.fault) in
-        let same = fault_one (rules_on side step) side (recorded_in y.result) (links_in y.results) h.0 k.0 h.1 k.1 fault y.fault in
-        h.3 ∙ (λ i. here (RuleFailed (of_step step.name) side (same.0 i) (same.1 i))) ∙ sym k.3
+  at_rules_one : IsProper layout → (step : Step) (side : Side) → OneAt At (at_rules step side)
+  at_rules_one proper step side a b h k =
+      let x = h.2 in
+      let y = k.2 in
+      let results : x.results ≡ y.results = steps_one sub one setting bundle layout layout.steps x.results y.results proper.thresholds x.steps y.steps in
+      let result : x.result ≡ y.result = step_one sub one setting bundle layout step x.result y.result (proper.thresholds step (first_of_zip layout.steps x.results step x.result x.of_step))
+      (of_zip (StepHolds sub setting layout bundle) layout.steps x.results step x.result x.steps x.of_step) (of_zip (StepHolds sub setting layout bundle) layout.steps y.results step y.result y.steps y.of_step) in
+      let fault : IsFirstFault (rules_on side step) side (recorded_in y.result) (links_in y.results) h.0 h.1 =
+      subst (λ r. IsFirstFault (rules_on side step) side (recorded_in r) (links_in y.results) h.0 h.1) result
+      (subst (λ rs. IsFirstFault (rules_on side step) side (recorded_in x.result) (links_in rs) h.0 h.1) results x.fault) in
+      let same = fault_one (rules_on side step) side (recorded_in y.result) (links_in y.results) h.0 k.0 h.1 k.1 fault y.fault in
+      h.3 ∙ (λ i. here (RuleFailed (of_step step.name) side (same.0 i) (same.1 i))) ∙ sym k.3
 
-    step_one_first : (step : Step) → OneFirst At (step_places layout step)
-    step_one_first step =
-        one_append At (map (at_id step) (keys layout.keys)) (at_threshold step ∷ at_records step ∷ []) (one_map At (at_id step) (keys layout.keys) (at_id_one step))
-        (λ none. one_more At (at_threshold step) (at_records step ∷ []) (at_threshold_one step)
-        (λ _. one_more At (at_records step) [] (at_records_one step none) (λ _. one_none At)))
+  step_one_first : (step : Step) → OneFirst At (step_places layout step)
+  step_one_first step =
+      one_append At (map (at_id step) (keys layout.keys)) (at_threshold step ∷ at_records step ∷ []) (one_map At (at_id step) (keys layout.keys) (at_id_one step))
+      (λ none. one_more At (at_threshold step) (at_records step ∷ []) (at_threshold_one step)
+      (λ _. one_more At (at_records step) [] (at_records_one step none) (λ _. one_none At)))
 
-    rules_one_first : IsProper layout → (step : Step) → OneFirst At (rule_places step)
-    rules_one_first proper step =
-        one_more At (at_rules step Materials) (at_rules step Products ∷ []) (at_rules_one proper step Materials)
-        (λ _. one_more At (at_rules step Products) [] (at_rules_one proper step Products) (λ _. one_none At))
+  rules_one_first : IsProper layout → (step : Step) → OneFirst At (rule_places step)
+  rules_one_first proper step =
+      one_more At (at_rules step Materials) (at_rules step Products ∷ []) (at_rules_one proper step Materials)
+      (λ _. one_more At (at_rules step Products) [] (at_rules_one proper step Products) (λ _. one_none At))
 
-    pub level_fails_one : (a b : ChainRefusal) → IsProper layout → LevelFails sub fails setting layout bundle a → LevelFails sub fails setting layout bundle b → a ≡ b
-    level_fails_one a b proper =
-        one_more At at_expiry (flat_map (step_places layout) layout.steps ++ flat_map rule_places layout.steps) (λ x y h k. h.1 ∙ sym k.1)
-        (λ _. one_append At (flat_map (step_places layout) layout.steps) (flat_map rule_places layout.steps) (one_flat_map At (step_places layout) layout.steps step_one_first)
-        (λ _. one_flat_map At rule_places layout.steps (rules_one_first proper))) a b
+  pub level_fails_one : (a b : ChainRefusal) → IsProper layout → LevelFails sub fails setting layout bundle a → LevelFails sub fails setting layout bundle b → a ≡ b
+  level_fails_one a b proper =
+      one_more At at_expiry (flat_map (step_places layout) layout.steps ++ flat_map rule_places layout.steps) (λ x y h k. h.1 ∙ sym k.1)
+      (λ _. one_append At (flat_map (step_places layout) layout.steps) (flat_map rule_places layout.steps) (one_flat_map At (step_places layout) layout.steps step_one_first)
+      (λ _. one_flat_map At rule_places layout.steps (rules_one_first proper))) a b
 
-  uninspected_one : (fails : Failing) → FailsOneWay fails → FailsOneWay (uninspected fails)
-  uninspected_one fails one layout bundle a b proper h k =
-      ⊎_elim (λ x. ⊎_elim (λ y. x.1 ∙ sym y.1) (λ y. absurd (x.0 y.0)) k)
-      (λ x. ⊎_elim (λ y. absurd (y.0 x.0)) (λ y. one layout bundle a b proper x.1 y.1) k) h
+uninspected_one : (fails : Failing) → FailsOneWay fails → FailsOneWay (uninspected fails)
+uninspected_one fails one layout bundle a b proper h k =
+    ⊎_elim (λ x. ⊎_elim (λ y. x.1 ∙ sym y.1) (λ y. absurd (x.0 y.0)) k)
+    (λ x. ⊎_elim (λ y. absurd (y.0 x.0)) (λ y. one layout bundle a b proper x.1 y.1) k) h
 
-  pub first_one : (setting : Setting) (depth : ℕ) → FailsOneWay (First setting depth)
-  first_one setting zero layout bundle a b = level_fails_one none_holds too_deep (none_one reads) (λ l c x y p h k. h ∙ sym k) setting layout bundle a b
-  first_one setting (suc depth) layout bundle a b =
-      level_fails_one (Chain setting depth) (uninspected (First setting depth)) (chain_one reads setting depth) (uninspected_one (First setting depth) (first_one setting depth)) setting layout bundle a b
+pub first_one : (setting : Setting) (depth : ℕ) → FailsOneWay (First setting depth)
+first_one setting zero layout bundle a b = level_fails_one none_holds too_deep none_one (λ l c x y p h k. h ∙ sym k) setting layout bundle a b
+first_one setting (suc depth) layout bundle a b =
+    level_fails_one (Chain setting depth) (uninspected (First setting depth)) (chain_one setting depth) (uninspected_one (First setting depth) (first_one setting depth)) setting layout bundle a b

@@ -1,10 +1,10 @@
 -- What is shown of these definitions.
 use Rattle.std.specs.Prelude.{◌≡◌, ℕ, suc, ◌≤◌, List, Contains}
-use Rattle.it_docs.specs.Layout.{LayoutOf}
-use Rattle.it_docs.specs.Link.{LinkOf}
+use Rattle.std.specs.List.{IsDistinct}
+use Rattle.std.specs.Str.{bytes_eq}
+use Rattle.it_docs.specs.Layout.{LayoutOf, names_of}
 use Rattle.it_docs.specs.declared.layout.Layout.{Layout}
 use Rattle.it_docs.specs.declared.layout.Step.{Step}
-use Rattle.it_docs.specs.declared.link.Link.{Link}
 use Rattle.it_chain.specs.Alike.{Alike, ComesToTheSame, FoldersCompare, HasCopies, deeper_alike}
 use Rattle.it_chain.specs.Chain.{Chain}
 use Rattle.it_chain.specs.Contents.{Contents}
@@ -13,14 +13,13 @@ use Rattle.it_chain.specs.First.{First}
 use Rattle.it_chain.specs.declared.chain.StepResult.{StepResult}
 use Rattle.it_chain.specs.declared.refusal.ChainRefusal.{ChainRefusal}
 
--- what the type of layouts keeps: thresholds are at least 1
-abbrev pub IsProper : Layout → Type 0
-IsProper layout = (step : Step) → Contains layout.steps step → 1 ≤ step.threshold
+-- what every layout that is read keeps: thresholds are at least 1, and no name stands twice
+pub record IsProper (layout : Layout) : Type 0 where
+  pub thresholds : (step : Step) → Contains layout.steps step → 1 ≤ step.threshold
+  pub names : IsDistinct bytes_eq (names_of layout.steps layout.inspections)
 
--- bytes are read in one way at most, as a link and as a layout
-pub record ReadsOneWay : Type 0 where
-  pub link : (bytes : List ℕ) (a b : Link) → LinkOf bytes a → LinkOf bytes b → a ≡ b
-  pub layout : (bytes : List ℕ) (a b : Layout) → LayoutOf bytes a → LayoutOf bytes b → a ≡ b
+abbrev pub ReadIsProper : Type 0
+ReadIsProper = (bytes : List ℕ) (layout : Layout) → LayoutOf bytes layout → IsProper layout
 
 -- the number of different keys is one number
 abbrev pub FoundIsOne : Type 0
@@ -29,19 +28,19 @@ FoundIsOne = (setting : Setting) (layout : Layout) (bundle : Contents) (step : S
 -- a layout holds of a bundle with one list of records at most
 abbrev pub ChainIsOne : Type 0
 ChainIsOne =
-    ReadsOneWay → (setting : Setting) (depth : ℕ) (layout : Layout) (bundle : Contents) (m n : List StepResult) → IsProper layout
+    (setting : Setting) (depth : ℕ) (layout : Layout) (bundle : Contents) (m n : List StepResult) → IsProper layout
     → Chain setting depth layout bundle m → Chain setting depth layout bundle n → m ≡ n
 
 -- a layout that holds of a bundle has no failure over it
 abbrev pub ChainOrFirst : Type 0
 ChainOrFirst =
-    ReadsOneWay → (setting : Setting) (depth : ℕ) (layout : Layout) (bundle : Contents) (m : List StepResult) (refusal : ChainRefusal) → IsProper layout
+    (setting : Setting) (depth : ℕ) (layout : Layout) (bundle : Contents) (m : List StepResult) (refusal : ChainRefusal) → IsProper layout
     → Chain setting depth layout bundle m → ¬ First setting depth layout bundle refusal
 
 -- a layout has one first failure over a bundle at most
 abbrev pub FirstIsOne : Type 0
 FirstIsOne =
-    ReadsOneWay → (setting : Setting) (depth : ℕ) (layout : Layout) (bundle : Contents) (a b : ChainRefusal) → IsProper layout
+    (setting : Setting) (depth : ℕ) (layout : Layout) (bundle : Contents) (a b : ChainRefusal) → IsProper layout
     → First setting depth layout bundle a → First setting depth layout bundle b → a ≡ b
 
 -- a layout that holds of a bundle holds of it with the same records at every greater depth

@@ -1,6 +1,11 @@
 //! Laws about the definitions of chains: functions that do nothing, and whose contracts say what is
 //! true of every layout, bundle and check.
-ghost use Rattle.it_chain.specs.Laws.{AlikeChains, ChainGoesDeeper, ChainIsOne, ChainOrFirst, FirstIsOne, FoundIsOne, NoiseIsAlike};
+ghost use Rattle.it_chain.specs.Laws.{AlikeChains, ChainGoesDeeper, ChainIsOne, ChainOrFirst, FirstIsOne, FoundIsOne, NoiseIsAlike, ReadIsProper};
+
+/// A layout that is read has thresholds of at least 1, and names that all differ.
+pub fn read_is_proper()
+    ensures { ReadIsProper }
+{}
 
 /// The number of different keys that signed what counts for a step is one number.
 pub fn found_is_one()
@@ -31,12 +36,10 @@ pub fn chain_goes_deeper()
 /// first failure.
 pub fn alike_chains()
     ensures { AlikeChains }
-{
-}
+{}
 
 /// Files that are reordered, repeated or renamed under a name that is claimed, and files that don't
 /// count, whatever they hold, leave bundles alike.
 pub fn noise_is_alike()
     ensures { NoiseIsAlike }
-{
-}
+{}

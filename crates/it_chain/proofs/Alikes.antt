@@ -33,7 +33,7 @@ one_key setting layout a b step id payload other x y =
     let object : x.object ≡ y.object = same_Some x.object y.object (sym x.known ∙ y.known) in
     same_Some x.key y.key (sym x.signed.key ∙ ap (setting.check.key_of id) object ∙ y.signed.key)
 
-key_moved : (setting : Setting) (layout : Layout) (a b : Contents) (step : Step) → ((id payload : List ℕ) → Counted setting layout a step id payload → Counted setting layout b step id payload)
+pub key_moved : (setting : Setting) (layout : Layout) (a b : Contents) (step : Step) → ((id payload : List ℕ) → Counted setting layout a step id payload → Counted setting layout b step id payload)
     → (key : ℕ) → KeyCounts setting layout a step key → KeyCounts setting layout b step key
 key_moved setting layout a b step move key k = record {
   id = k.id;

@@ -5,7 +5,7 @@ use Rattle.it_docs.specs.declared.layout.Layout.{Layout}
 use Rattle.it_docs.specs.declared.layout.Step.{Step}
 use Rattle.it_docs.specs.declared.rule.Side.{Side}
 use Rattle.it_docs.specs.declared.rule.Side.TheVariants.{Materials, Products}
-use Rattle.it_rules.specs.Item.{Recorded}
+use Rattle.it_rules.specs.Item.{Recorded, Links}
 use Rattle.it_rules.specs.Rules.{RulesHold}
 use Rattle.it_docs.proofs.Same.{layout_same, link_same}
 use Rattle.it_chain.specs.Contents.{Contents}
@@ -27,6 +27,11 @@ HoldsOneWay sub = (layout : Layout) (bundle : Contents) (m n : List StepResult) 
 -- what holds, and has no inspections, does not fail
 abbrev pub HoldsOrFails : Holding → Failing → Type 0
 HoldsOrFails sub fails = (layout : Layout) (bundle : Contents) (m : List StepResult) (refusal : ChainRefusal) → IsProper layout → layout.inspections ≡ [] → sub layout bundle m → ¬ fails layout bundle refusal
+
+-- the rules of a step on a side
+pub rules_of : (links : Links) (step : Step) (r : StepResult) (side : Side) → StepRulesHold links step r → RulesHold (rules_on side step) side (recorded_in r) links
+rules_of links step r Materials h = h.materials
+rules_of links step r Products h = h.products
 
 pub body_one : (step bytes : List ℕ) (a b : Body) → BodyOf step bytes a → BodyOf step bytes b → a ≡ b
 body_one step bytes (of_link a) (of_link b) h k = ap of_link (link_same bytes a b h.0 k.0)
@@ -108,10 +113,6 @@ module _ (sub : Holding) (one : HoldsOneWay sub) (setting : Setting) (bundle : C
 
     pub no_other : (step : Step) (r : StepResult) → StepHolds sub setting layout bundle step r → (id : List ℕ) → ¬ IsLeastOther sub fails setting layout bundle step id
     no_other step r h id k = k.differs (the_record step r h id k.given k.of_id ∙ sym (the_record step r h k.least k.expected k.of_least))
-
-    rules_of : (links : _) (step : Step) (r : StepResult) (side : Side) → StepRulesHold links step r → RulesHold (rules_on side step) side (recorded_in r) links
-    rules_of links step r Materials h = h.materials
-    rules_of links step r Products h = h.products
 
     pub no_rules : (m : List StepResult) → IsProper layout → LevelHolds sub setting layout bundle m → (step : Step) (side : Side) (index : ℕ) (path : List ℕ) → ¬ RulesFail sub fails setting layout bundle step side index path
     no_rules m proper h step side index path k =

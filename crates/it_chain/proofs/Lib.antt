@@ -8,4 +8,5 @@ pub mod Lookups
 pub mod Numbers
 pub mod OneFirst
 pub mod Orders
+pub mod Withheld
 pub mod Zips

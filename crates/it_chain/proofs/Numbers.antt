@@ -12,7 +12,7 @@ use Rattle.it_docs.specs.declared.layout.Step.{Step}
 use Rattle.it_chain.specs.Contents.{Contents}
 use Rattle.it_chain.specs.Counted.{Setting, Found, KeyCounts}
 
-member_of : (xs ys : List ℕ) → ((k : ℕ) → Contains xs k → Contains ys k) → (q : ℕ) → list_any (nat_eq q) xs ≡ true → list_any (nat_eq q) ys ≡ true
+pub member_of : (xs ys : List ℕ) → ((k : ℕ) → Contains xs k → Contains ys k) → (q : ℕ) → list_any (nat_eq q) xs ≡ true → list_any (nat_eq q) ys ≡ true
 member_of xs ys h q e =
     let a = Any-from_list_any (nat_eq q) xs e in
     let same : q ≡ a.1 = (Decides-eqb q a.1).0 a.4 in

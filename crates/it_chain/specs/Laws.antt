@@ -1,16 +1,18 @@
 -- What is shown of these definitions.
 use Rattle.std.specs.Prelude.{◌≡◌, ℕ, suc, ◌≤◌, List, Contains}
-use Rattle.std.specs.List.{IsDistinct}
+use Rattle.std.specs.List.{AllZip, IsDistinct}
 use Rattle.std.specs.Str.{bytes_eq}
 use Rattle.it_docs.specs.Layout.{LayoutOf, names_of}
 use Rattle.it_docs.specs.declared.layout.Layout.{Layout}
 use Rattle.it_docs.specs.declared.layout.Step.{Step}
-use Rattle.it_chain.specs.Alike.{Alike, ComesToTheSame, FoldersCompare, HasCopies, deeper_alike}
+use Rattle.it_chain.specs.Alike.{Alike, ComesToTheSame, FoldersCompare, HasCopies, Within, deeper_alike}
 use Rattle.it_chain.specs.Chain.{Chain}
 use Rattle.it_chain.specs.Contents.{Contents}
 use Rattle.it_chain.specs.Counted.{Setting, Found}
 use Rattle.it_chain.specs.First.{First}
 use Rattle.it_chain.specs.declared.chain.StepResult.{StepResult}
+use Rattle.it_chain.specs.declared.refusal.ChainFault.{ChainFault}
+use Rattle.it_chain.specs.declared.refusal.ChainFault.TheVariants.{Expired, TwoPayloads, TooDeep, Threshold, Disagree, InspectionInSublayout, RuleFailed}
 use Rattle.it_chain.specs.declared.refusal.ChainRefusal.{ChainRefusal}
 
 -- what every layout that is read keeps: thresholds are at least 1, and no name stands twice
@@ -57,3 +59,31 @@ abbrev pub NoiseIsAlike : Type 0
 NoiseIsAlike =
     (setting : Setting) (depth : ℕ) (layout : Layout) (bundle other : Contents) → HasCopies setting layout bundle other → HasCopies setting layout other bundle
     → FoldersCompare (deeper_alike setting depth) setting layout bundle other → Alike setting depth layout bundle other
+
+-- the same record of a step, with no more different keys
+pub record IsNoMore (result before : StepResult) : Type 0 where
+  pub name : result.name ≡ before.name
+  pub materials : result.materials ≡ before.materials
+  pub products : result.products ≡ before.products
+  pub keys : result.keys ≤ before.keys
+
+-- too few different keys signed
+abbrev pub IsThresholdFault : ChainFault → Type 0
+IsThresholdFault (Threshold step found needed) = Unit {0}
+IsThresholdFault Expired = ⊥
+IsThresholdFault (TwoPayloads step id) = ⊥
+IsThresholdFault TooDeep = ⊥
+IsThresholdFault (Disagree step id) = ⊥
+IsThresholdFault InspectionInSublayout = ⊥
+IsThresholdFault (RuleFailed item side index path) = ⊥
+
+-- where a layout holds of a bundle, it comes over another one to the same records with no more different
+-- keys, or fails at a threshold
+pub record OnlyWithholds (setting : Setting) (depth : ℕ) (layout : Layout) (other bundle : Contents) : Type 0 where
+  pub chain : (results before : List StepResult) → Chain setting depth layout other results → Chain setting depth layout bundle before → AllZip IsNoMore results before
+  pub first : (refusal : ChainRefusal) (before : List StepResult) → First setting depth layout other refusal → Chain setting depth layout bundle before → IsThresholdFault refusal.fault
+
+-- who takes away what counts can only withhold
+abbrev pub WithheldChains : Type 0
+WithheldChains =
+    (setting : Setting) (depth : ℕ) (layout : Layout) (other bundle : Contents) → IsProper layout → Within setting depth layout other bundle → OnlyWithholds setting depth layout other bundle

@@ -1,6 +1,6 @@
 //! Laws about the definitions of chains: functions that do nothing, and whose contracts say what is
 //! true of every layout, bundle and check.
-ghost use Rattle.it_chain.specs.Laws.{AlikeChains, ChainGoesDeeper, ChainIsOne, ChainOrFirst, FirstIsOne, FoundIsOne, NoiseIsAlike, ReadIsProper};
+ghost use Rattle.it_chain.specs.Laws.{AlikeChains, ChainGoesDeeper, ChainIsOne, ChainOrFirst, FirstIsOne, FoundIsOne, NoiseIsAlike, ReadIsProper, WithheldChains};
 
 /// A layout that is read has thresholds of at least 1, and names that all differ.
 pub fn read_is_proper()
@@ -42,4 +42,10 @@ pub fn alike_chains()
 /// count, whatever they hold, leave bundles alike.
 pub fn noise_is_alike()
     ensures { NoiseIsAlike }
+{}
+
+/// Where a layout holds of a bundle, it comes over one of which less counts to the same records with
+/// no more keys, or fails at a threshold.
+pub fn withheld_chains()
+    ensures { WithheldChains }
 {}

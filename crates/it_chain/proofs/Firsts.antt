@@ -1,0 +1,51 @@
+-- The first place at which something stands.
+use Rattle.std.proofs.Common.{◌≡◌, List, [], ◌∷◌, ◌++◌, map, flat_map, inl, inr, ⊎_elim}
+use Rattle.it_chain.specs.First.{IsFirst}
+
+module _ {P R : Type 0} (At : P → R → Type 0) where
+  -- nothing stands at any of the places
+  abbrev pub NoneAt : List P → Type 0
+  NoneAt [] = Unit {0}
+  NoneAt (p ∷ ps) = ((r : R) → ¬ At p r) × NoneAt ps
+
+  pub none_first : (ps : List P) (r : R) → NoneAt ps → ¬ IsFirst At ps r
+  none_first [] r none h = h
+  none_first (p ∷ ps) r none h = ⊎_elim (none.0 r) (λ x. none_first ps r none.1 x.1) h
+
+  pub none_append : (ps qs : List P) → NoneAt ps → NoneAt qs → NoneAt (ps ++ qs)
+  none_append [] qs h k = k
+  none_append (p ∷ ps) qs h k = (h.0, none_append ps qs h.1 k)
+
+  pub none_map : {X : Type 0} (f : X → P) (xs : List X) → ((x : X) (r : R) → ¬ At (f x) r) → NoneAt (map f xs)
+  none_map f [] h = tt
+  none_map f (x ∷ xs) h = (h x, none_map f xs h)
+
+  -- at most one thing stands first
+  abbrev pub OneFirst : List P → Type 0
+  OneFirst ps = (a b : R) → IsFirst At ps a → IsFirst At ps b → a ≡ b
+
+  -- at most one thing stands at a place
+  abbrev pub OneAt : P → Type 0
+  OneAt p = (a b : R) → At p a → At p b → a ≡ b
+
+  pub one_none : OneFirst []
+  one_none a b h k = absurd h
+
+  pub one_more : (p : P) (ps : List P) → OneAt p → (((r : R) → ¬ At p r) → OneFirst ps) → OneFirst (p ∷ ps)
+  one_more p ps here rest a b h k =
+      ⊎_elim (λ x. ⊎_elim (λ y. here a b x y) (λ y. absurd (y.0 a x)) k)
+      (λ x. ⊎_elim (λ y. absurd (x.0 b y)) (λ y. rest x.0 a b x.1 y.1) k) h
+
+  pub one_append : (ps qs : List P) → OneFirst ps → (NoneAt ps → OneFirst qs) → OneFirst (ps ++ qs)
+  one_append [] qs h k = k tt
+  one_append (p ∷ ps) qs h k =
+      one_more p (ps ++ qs) (λ a b x y. h a b (inl x) (inl y))
+      (λ none. one_append ps qs (λ a b x y. h a b (inr (none, x)) (inr (none, y))) (λ rest. k (none, rest)))
+
+  pub one_map : {X : Type 0} (f : X → P) (xs : List X) → ((x : X) → OneAt (f x)) → OneFirst (map f xs)
+  one_map f [] h = one_none
+  one_map f (x ∷ xs) h = one_more (f x) (map f xs) (h x) (λ _. one_map f xs h)
+
+  pub one_flat_map : {X : Type 0} (f : X → List P) (xs : List X) → ((x : X) → OneFirst (f x)) → OneFirst (flat_map f xs)
+  one_flat_map f [] h = one_none
+  one_flat_map f (x ∷ xs) h = one_append (f x) (flat_map f xs) (h x) (λ _. one_flat_map f xs h)

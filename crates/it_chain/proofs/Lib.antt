@@ -1,0 +1,12 @@
+pub mod Alikes
+pub mod Deeper
+pub mod Documents
+pub mod Excludes
+pub mod Firsts
+pub mod Levels
+pub mod Lookups
+pub mod Numbers
+pub mod OneFirst
+pub mod Orders
+pub mod Withheld
+pub mod Zips

@@ -1,0 +1,72 @@
+-- Bundles in which the same counts (a word of this project; no standard speaks of it).
+use Rattle.std.specs.Prelude.{◌≡◌, ℕ, zero, suc, ◌↔◌, List, Contains, ⊤}
+use Rattle.it_docs.specs.Layout.{LayoutOf}
+use Rattle.it_docs.specs.declared.layout.Layout.{Layout}
+use Rattle.it_docs.specs.declared.layout.Step.{Step}
+use Rattle.it_chain.specs.Chain.{Chain}
+use Rattle.it_chain.specs.Contents.{Contents, files_of}
+use Rattle.it_chain.specs.Counted.{Setting, Counted, Found}
+use Rattle.it_chain.specs.First.{First}
+use Rattle.it_chain.specs.Names.{IsClaimed, folder_of}
+use Rattle.it_chain.specs.declared.bundle.File.{File}
+use Rattle.it_chain.specs.declared.chain.StepResult.{StepResult}
+use Rattle.it_chain.specs.declared.refusal.ChainRefusal.{ChainRefusal}
+
+-- how two bundles of one layout compare
+abbrev pub Comparing : Type 1
+Comparing = Layout → Contents → Contents → Type 0
+
+-- every two bundles
+abbrev pub any_two : Comparing
+any_two layout bundle other = ⊤
+
+-- the folders of each sublayout that counts in the first bundle compare as given
+abbrev pub FoldersCompare : Comparing → Setting → Comparing
+FoldersCompare sub setting layout bundle other =
+    (step : Step) (id payload : List ℕ) (sublayout : Layout) → Contains layout.steps step → Counted setting layout bundle step id payload → LayoutOf payload sublayout
+    → sub sublayout (folder_of step.name id bundle) (folder_of step.name id other)
+
+-- the same bodies count in both bundles, and the folders of each sublayout among them compare as given
+pub record LevelAlike (sub : Comparing) (setting : Setting) (layout : Layout) (bundle other : Contents) : Type 0 where
+  pub bodies : (step : Step) (id payload : List ℕ) → Contains layout.steps step → Counted setting layout bundle step id payload ↔ Counted setting layout other step id payload
+  pub folders : FoldersCompare sub setting layout bundle other
+
+-- what counts in the first bundle counts in the second, and the folders of each sublayout among it
+-- compare as given
+pub record LevelWithin (sub : Comparing) (setting : Setting) (layout : Layout) (bundle other : Contents) : Type 0 where
+  pub bodies : (step : Step) (id payload : List ℕ) → Contains layout.steps step → Counted setting layout bundle step id payload → Counted setting layout other step id payload
+  pub folders : FoldersCompare sub setting layout bundle other
+
+-- the same counts in both bundles, down to a depth of sublayouts
+abbrev pub Alike : Setting → ℕ → Comparing
+Alike setting zero = LevelAlike any_two setting
+Alike setting (suc depth) = LevelAlike (Alike setting depth) setting
+
+-- how the folders of sublayouts compare in bundles that are alike
+abbrev pub deeper_alike : Setting → ℕ → Comparing
+deeper_alike setting zero = any_two
+deeper_alike setting (suc depth) = Alike setting depth
+
+-- what counts in the first bundle counts in the second, down to a depth of sublayouts
+abbrev pub Within : Setting → ℕ → Comparing
+Within setting zero = LevelWithin any_two setting
+Within setting (suc depth) = LevelWithin (Within setting depth) setting
+
+-- a file's bytes stand in a bundle under a name that is claimed for a step
+pub record HasCopy (bundle : Contents) (step : Step) (file : File) : Type 0 where
+  pub copy : File
+  pub stands : Contains (files_of bundle) copy
+  pub claimed : IsClaimed step.name copy.name
+  pub same_bytes : copy.bytes ≡ file.bytes
+
+-- each file of the first bundle that counts has such a copy in the second
+abbrev pub HasCopies : Setting → Comparing
+HasCopies setting layout bundle other =
+    (step : Step) (id payload : List ℕ) → Contains layout.steps step → (counted : Counted setting layout bundle step id payload) → HasCopy other step counted.file
+
+-- a layout comes to the same over both bundles: the same records, the same first failure, and in each
+-- step the same number of different keys
+pub record ComesToTheSame (setting : Setting) (depth : ℕ) (layout : Layout) (bundle other : Contents) : Type 0 where
+  pub chain : (results : List StepResult) → Chain setting depth layout bundle results ↔ Chain setting depth layout other results
+  pub first : (refusal : ChainRefusal) → First setting depth layout bundle refusal ↔ First setting depth layout other refusal
+  pub found : (step : Step) (found : ℕ) → Contains layout.steps step → Found setting layout bundle step found ↔ Found setting layout other step found

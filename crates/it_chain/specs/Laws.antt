@@ -1,0 +1,89 @@
+-- What is shown of these definitions.
+use Rattle.std.specs.Prelude.{◌≡◌, ℕ, suc, ◌≤◌, List, Contains}
+use Rattle.std.specs.List.{AllZip, IsDistinct}
+use Rattle.std.specs.Str.{bytes_eq}
+use Rattle.it_docs.specs.Layout.{LayoutOf, names_of}
+use Rattle.it_docs.specs.declared.layout.Layout.{Layout}
+use Rattle.it_docs.specs.declared.layout.Step.{Step}
+use Rattle.it_chain.specs.Alike.{Alike, ComesToTheSame, FoldersCompare, HasCopies, Within, deeper_alike}
+use Rattle.it_chain.specs.Chain.{Chain}
+use Rattle.it_chain.specs.Contents.{Contents}
+use Rattle.it_chain.specs.Counted.{Setting, Found}
+use Rattle.it_chain.specs.First.{First}
+use Rattle.it_chain.specs.declared.chain.StepResult.{StepResult}
+use Rattle.it_chain.specs.declared.refusal.ChainFault.{ChainFault}
+use Rattle.it_chain.specs.declared.refusal.ChainFault.TheVariants.{Expired, TwoPayloads, TooDeep, Threshold, Disagree, InspectionInSublayout, RuleFailed}
+use Rattle.it_chain.specs.declared.refusal.ChainRefusal.{ChainRefusal}
+
+-- what every layout that is read keeps: thresholds are at least 1, and no name stands twice
+pub record IsProper (layout : Layout) : Type 0 where
+  pub thresholds : (step : Step) → Contains layout.steps step → 1 ≤ step.threshold
+  pub names : IsDistinct bytes_eq (names_of layout.steps layout.inspections)
+
+abbrev pub ReadIsProper : Type 0
+ReadIsProper = (bytes : List ℕ) (layout : Layout) → LayoutOf bytes layout → IsProper layout
+
+-- the number of different keys is one number
+abbrev pub FoundIsOne : Type 0
+FoundIsOne = (setting : Setting) (layout : Layout) (bundle : Contents) (step : Step) (m n : ℕ) → Found setting layout bundle step m → Found setting layout bundle step n → m ≡ n
+
+-- a layout holds of a bundle with one list of records at most
+abbrev pub ChainIsOne : Type 0
+ChainIsOne =
+    (setting : Setting) (depth : ℕ) (layout : Layout) (bundle : Contents) (m n : List StepResult) → IsProper layout
+    → Chain setting depth layout bundle m → Chain setting depth layout bundle n → m ≡ n
+
+-- a layout that holds of a bundle has no failure over it
+abbrev pub ChainOrFirst : Type 0
+ChainOrFirst =
+    (setting : Setting) (depth : ℕ) (layout : Layout) (bundle : Contents) (m : List StepResult) (refusal : ChainRefusal) → IsProper layout
+    → Chain setting depth layout bundle m → ¬ First setting depth layout bundle refusal
+
+-- a layout has one first failure over a bundle at most
+abbrev pub FirstIsOne : Type 0
+FirstIsOne =
+    (setting : Setting) (depth : ℕ) (layout : Layout) (bundle : Contents) (a b : ChainRefusal) → IsProper layout
+    → First setting depth layout bundle a → First setting depth layout bundle b → a ≡ b
+
+-- a layout that holds of a bundle holds of it with the same records at every greater depth
+abbrev pub ChainGoesDeeper : Type 0
+ChainGoesDeeper = (setting : Setting) (depth : ℕ) (layout : Layout) (bundle : Contents) (m : List StepResult) → Chain setting depth layout bundle m → Chain setting (suc depth) layout bundle m
+
+-- over bundles that are alike a layout comes to the same
+abbrev pub AlikeChains : Type 0
+AlikeChains = (setting : Setting) (depth : ℕ) (layout : Layout) (bundle other : Contents) → Alike setting depth layout bundle other → ComesToTheSame setting depth layout bundle other
+
+-- bundles are alike that have copies of each other's files that count, whatever else is in them, if the
+-- folders of sublayouts are alike
+abbrev pub NoiseIsAlike : Type 0
+NoiseIsAlike =
+    (setting : Setting) (depth : ℕ) (layout : Layout) (bundle other : Contents) → HasCopies setting layout bundle other → HasCopies setting layout other bundle
+    → FoldersCompare (deeper_alike setting depth) setting layout bundle other → Alike setting depth layout bundle other
+
+-- the same record of a step, with no more different keys
+pub record IsNoMore (result before : StepResult) : Type 0 where
+  pub name : result.name ≡ before.name
+  pub materials : result.materials ≡ before.materials
+  pub products : result.products ≡ before.products
+  pub keys : result.keys ≤ before.keys
+
+-- too few different keys signed
+abbrev pub IsThresholdFault : ChainFault → Type 0
+IsThresholdFault (Threshold step found needed) = Unit {0}
+IsThresholdFault Expired = ⊥
+IsThresholdFault (TwoPayloads step id) = ⊥
+IsThresholdFault TooDeep = ⊥
+IsThresholdFault (Disagree step id) = ⊥
+IsThresholdFault InspectionInSublayout = ⊥
+IsThresholdFault (RuleFailed item side index path) = ⊥
+
+-- where a layout holds of a bundle, it comes over another one to the same records with no more different
+-- keys, or fails at a threshold
+pub record OnlyWithholds (setting : Setting) (depth : ℕ) (layout : Layout) (other bundle : Contents) : Type 0 where
+  pub chain : (results before : List StepResult) → Chain setting depth layout other results → Chain setting depth layout bundle before → AllZip IsNoMore results before
+  pub first : (refusal : ChainRefusal) (before : List StepResult) → First setting depth layout other refusal → Chain setting depth layout bundle before → IsThresholdFault refusal.fault
+
+-- who takes away what counts can only withhold
+abbrev pub WithheldChains : Type 0
+WithheldChains =
+    (setting : Setting) (depth : ℕ) (layout : Layout) (other bundle : Contents) → IsProper layout → Within setting depth layout other bundle → OnlyWithholds setting depth layout other bundle

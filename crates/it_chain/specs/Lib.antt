@@ -1,0 +1,13 @@
+pub mod Alike
+pub mod Answer
+pub mod BundleCode
+pub mod BundleView
+pub mod Chain
+pub mod Contents
+pub mod Cost
+pub mod Counted
+pub mod First
+pub mod Laws
+pub mod Level
+pub mod Lower
+pub mod Names

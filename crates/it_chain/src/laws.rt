@@ -1,0 +1,51 @@
+//! Laws about the definitions of chains: functions that do nothing, and whose contracts say what is
+//! true of every layout, bundle and check.
+ghost use Rattle.it_chain.specs.Laws.{AlikeChains, ChainGoesDeeper, ChainIsOne, ChainOrFirst, FirstIsOne, FoundIsOne, NoiseIsAlike, ReadIsProper, WithheldChains};
+
+/// A layout that is read has thresholds of at least 1, and names that all differ.
+pub fn read_is_proper()
+    ensures { ReadIsProper }
+{}
+
+/// The number of different keys that signed what counts for a step is one number.
+pub fn found_is_one()
+    ensures { FoundIsOne }
+{}
+
+/// A layout holds of a bundle with one list of records at most.
+pub fn chain_is_one()
+    ensures { ChainIsOne }
+{}
+
+/// A layout that holds of a bundle has no failure over it.
+pub fn chain_or_first()
+    ensures { ChainOrFirst }
+{}
+
+/// A layout has one first failure over a bundle at most.
+pub fn first_is_one()
+    ensures { FirstIsOne }
+{}
+
+/// A layout that holds of a bundle holds of it with the same records at every greater depth.
+pub fn chain_goes_deeper()
+    ensures { ChainGoesDeeper }
+{}
+
+/// Over bundles in which the same counts a layout comes to the same: the same records, or the same
+/// first failure.
+pub fn alike_chains()
+    ensures { AlikeChains }
+{}
+
+/// Files that are reordered, repeated or renamed under a name that is claimed, and files that don't
+/// count, whatever they hold, leave bundles alike.
+pub fn noise_is_alike()
+    ensures { NoiseIsAlike }
+{}
+
+/// Where a layout holds of a bundle, it comes over one of which less counts to the same records with
+/// no more keys, or fails at a threshold.
+pub fn withheld_chains()
+    ensures { WithheldChains }
+{}

@@ -12,6 +12,7 @@ use crate::written::WriteFault;
 use it_base::parts::from_bytes;
 use it_base::sequence::Sequence;
 use it_base::text::Text;
+use sha2::{Digest, Sha256};
 use std::alloc::{AllocError, Global};
 use std::io;
 use std::io::Write;
@@ -91,6 +92,29 @@ fn computes_codes(rt: HostRuntime) -> Result<(), Fail> {
         let text = hex::encode(alloc, code.as_slice())?;
         assert!(rt; text.as_str().starts_with(want), "{want}");
     }
+    Ok(())
+}
+
+// A key of one block stands for itself, and a longer one for its digest. The codes were computed by
+// another program.
+#[test]
+fn digests_keys_longer_than_a_block(rt: HostRuntime) -> Result<(), Fail> {
+    let alloc = rt.alloc();
+    let block = hmac_sha256(&[0xaa; 64], b"Sample message for keylen");
+    let text = hex::encode(alloc, block.as_slice())?;
+    assert_eq!(rt;
+        text.as_str(),
+        "a7c8a4e5e9dfc9097262c3c2891710074e4640d6a1056d21853b2e1a83461c13"
+    );
+    let longer = hmac_sha256(&[0xaa; 65], b"Sample message for keylen");
+    let text = hex::encode(alloc, longer.as_slice())?;
+    assert_eq!(rt;
+        text.as_str(),
+        "e420ce7f8eeb9d8561ba3a72173e9b1e7ff195126116eeb3fb0463ea2c9e8938"
+    );
+    let digest = Sha256::digest([0xaa; 65].as_slice());
+    let by_digest = hmac_sha256(&digest, b"Sample message for keylen");
+    assert_eq!(rt; by_digest, longer);
     Ok(())
 }
 

@@ -2,11 +2,12 @@
 ghost use Rattle.std.specs.Prelude.{◌≡◌, ◌≢◌, ◌↔◌, IfErr, IfOk, IsErrOf};
 ghost use Rattle.std.specs.Io.KnownBytes.{Appends};
 ghost use Rattle.it_base.specs.Writing.{AppendsBeginning};
+ghost use Rattle.it_digest.specs.Reader.{GaveAtMost, GaveMoreThan};
 ghost use Rattle.it_verify.specs.Digesting.{HasLineFeed, IsDigestLine, digest_line};
 
 use crate::outcome::{RunFault, Status};
 use crate::output::{Output, put};
-use it_digest::reader::sha256_of_reader;
+use it_digest::reader::{DigestFault, sha256_of_reader};
 use std::alloc::{AllocError, Global};
 use std::io::{Read, Write};
 
@@ -52,6 +53,10 @@ pub fn run_digest<R: Read, W: Write>(
     ensures nothing { IfErr result (λ fault. fault ≢ RunFault.Write → out.new ≡ out.old) }
     ensures bad_name { IsErrOf result RunFault.BadName ↔ HasLineFeed name.now }
     ensures unread { IsErrOf result RunFault.BadName → input.new ≡ input.old }
+    ensures too_large { result ≡ Err (RunFault.Digest DigestFault.TooLarge)
+        → GaveMoreThan (R.remaining input.old) (R.remaining input.new) limit }
+    ensures read { result ≡ Err (RunFault.Digest DigestFault.Read)
+        → GaveAtMost (R.remaining input.old) (R.remaining input.new) limit }
     ensures known { IfErr result (λ fault. fault ≢ RunFault.UnknownKey) }
 {
     check_name(name)?;

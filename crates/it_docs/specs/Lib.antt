@@ -12,6 +12,7 @@ pub mod Link
 pub mod List
 pub mod Moment
 pub mod Names
+pub mod PayloadType
 pub mod Policy
 pub mod PolicyPart
 pub mod Rule

@@ -1,0 +1,16 @@
+-- Which expectation of a policy speaks of a file (this profile's choice).
+use Rattle.std.specs.Prelude.{◌≡◌, ℕ, List, ◌∷◌, ◌++◌, Contains}
+use Rattle.it_glob.specs.Pattern.{Matches, items_of}
+use Rattle.it_docs.specs.declared.policy.Expectation.{Expectation}
+
+-- an expectation's pattern matches a path
+abbrev pub SpeaksOf : List ℕ → Expectation → Type 0
+SpeaksOf path expectation = Matches (items_of expectation.files) path
+
+-- the first of the expectations that speaks of a path
+pub record Fits (expectations : List Expectation) (path : List ℕ) (expectation : Expectation) : Type 0 where
+  pub front : List Expectation
+  pub rest : List Expectation
+  pub they_are : expectations ≡ front ++ expectation ∷ rest
+  pub speaks : SpeaksOf path expectation
+  pub none_before : (other : Expectation) → Contains front other → ¬ SpeaksOf path other

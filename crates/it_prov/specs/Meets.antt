@@ -1,0 +1,59 @@
+-- When an envelope meets an expectation (SLSA v1.0, verifying artifacts; in-toto Attestation Statement
+-- v1). That digest sets must agree, and which parameters may stand there, is this profile's choice.
+use Rattle.std.specs.Prelude.{◌≡◌, ℕ, List, Some, None, Contains, IsTrue}
+use Rattle.std.specs.FinMap.{get}
+use Rattle.it_digest.specs.Compare.{Agree}
+use Rattle.it_digest.specs.declared.compare.DigestSet.{DigestSet}
+use Rattle.it_dsse.specs.Check.{Check, KeyNumber}
+use Rattle.it_dsse.specs.Signed.{Signed}
+use Rattle.it_dsse.specs.declared.envelope.Envelope.{Envelope}
+use Rattle.it_dsse.specs.declared.key_object.KeyObject.{KeyObject}
+use Rattle.it_docs.specs.Equal.{equal}
+use Rattle.it_docs.specs.Json.{Json, Fields}
+use Rattle.it_docs.specs.PayloadType.{in_toto_type}
+use Rattle.it_docs.specs.Statement.{StatementOf}
+use Rattle.it_docs.specs.TreeOf.{field_at}
+use Rattle.it_docs.specs.declared.policy.Builder.{Builder}
+use Rattle.it_docs.specs.declared.policy.Expectation.{Expectation}
+use Rattle.it_docs.specs.declared.statement.Provenance.{Provenance}
+use Rattle.it_docs.specs.declared.statement.Statement.{Statement}
+
+-- a builder signed the envelope: the check knows the key of one of the builder's ids, and it signed
+pub record SignedByBuilder (check : Check) (envelope : Envelope) (builder : Builder) : Type 0 where
+  pub id : List ℕ
+  pub object : KeyObject
+  pub key : KeyNumber
+  pub is_key : get builder.keys id ≡ Some object
+  pub signed : Signed check envelope id object key
+
+-- the envelope's payload is a Statement with this provenance, a subject of which has the digests
+pub record Attests (envelope : Envelope) (digests : DigestSet) (provenance : Provenance) : Type 0 where
+  pub statement : Statement
+  pub subject : DigestSet
+  pub type_is : envelope.payload_type ≡ in_toto_type
+  pub reads : StatementOf envelope.payload statement
+  pub provenance_is : statement.provenance ≡ Some provenance
+  pub is_subject : Contains statement.subjects subject
+  pub digests_agree : Agree subject digests
+
+-- a tree stands under a name, and is equal to the one that is expected there
+pub record StandsEqual (fields : Fields) (name : List ℕ) (expected : Json) : Type 0 where
+  pub given : Json
+  pub stands : field_at name fields ≡ Some given
+  pub is_equal : IsTrue (equal given expected)
+
+-- the parameters are those that are expected, and further ones under names that may be ignored
+pub record ParametersMeet (expectation : Expectation) (parameters : Fields) : Type 0 where
+  pub expected_stand : (name : List ℕ) (expected : Json) → field_at name expectation.parameters ≡ Some expected → StandsEqual parameters name expected
+  pub others_ignored : (name : List ℕ) (given : Json) → field_at name parameters ≡ Some given → field_at name expectation.parameters ≡ None → Contains expectation.ignore name
+
+-- an envelope meets an expectation for a file with these digests
+pub record Meets (check : Check) (expectation : Expectation) (digests : DigestSet) (envelope : Envelope) : Type 0 where
+  pub builder : Builder
+  pub provenance : Provenance
+  pub is_expected : Contains expectation.builders builder
+  pub signed : SignedByBuilder check envelope builder
+  pub attests : Attests envelope digests provenance
+  pub built_by : provenance.builder ≡ builder.id
+  pub build_type : provenance.build_type ≡ expectation.build_type
+  pub parameters : ParametersMeet expectation provenance.parameters

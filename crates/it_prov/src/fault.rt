@@ -1,0 +1,25 @@
+//! Why a delivered file has no provenance.
+use it_base::text::Text;
+use std::alloc::AllocError;
+
+/// Why no provenance was found for a delivered file.
+#[derive(Drop)]
+pub enum ProvError {
+    /// No expectation's pattern matches the file's path, which is given.
+    NoExpectation(Text),
+    /// No envelope meets the expectation that speaks of the file, whose path is given.
+    NoProvenance(Text),
+    /// Memory was refused.
+    OutOfMemory,
+}
+
+impl From<AllocError> for ProvError {
+    ghost use Rattle.std.specs.Prelude.{◌≡◌};
+    ghost use Rattle.it_prov.specs.declared.fault.ProvError.TheVariants.{OutOfMemory};
+
+    ghost from_gives = { λ _ e. e ≡ OutOfMemory };
+
+    fn from(_e: AllocError) -> ProvError {
+        ProvError::OutOfMemory
+    }
+}

@@ -5,14 +5,17 @@
 mod command_tests;
 mod digesting;
 mod encoding;
+pub mod inputs;
 mod matching;
 mod name;
 pub mod outcome;
 mod output;
+pub mod refusal;
 mod signed;
 mod signing;
 #[cfg(test)]
 mod tests;
+pub mod verdict;
 pub mod words;
 
 pub use digesting::{check_name, run_digest};

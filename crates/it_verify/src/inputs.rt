@@ -1,0 +1,26 @@
+//! What a verification looks at.
+use it_base::sequence::Sequence;
+use it_base::text::Text;
+use it_chain::bundle::Bundle;
+
+/// All that a verdict rests on, beside the check of signatures.
+#[derive(Drop)]
+pub struct Inputs {
+    /// The bytes of the policy.
+    pub policy: Sequence<u8>,
+    /// The bytes of the layout's envelope (DSSE v1.0).
+    pub layout: Sequence<u8>,
+    /// The files and folders that the layout is checked against.
+    pub links: Bundle,
+    /// The records of inspections: the name of an inspection, and the bytes of a link, which no
+    /// envelope surrounds. The first with a name counts.
+    pub records: Sequence<(Text, Sequence<u8>)>,
+    /// The bytes of the provenance: one envelope a line.
+    pub provenance: Sequence<u8>,
+    /// The bytes of the digest list, which names the delivered files.
+    pub sums: Sequence<u8>,
+    /// The moment at which no layout may have expired, as `YYYY-MM-DDThh:mm:ssZ`.
+    pub moment: Text,
+    /// How deep sublayouts may lie: 0 for none.
+    pub depth: u8,
+}

@@ -1,0 +1,28 @@
+//! What a verification comes to.
+use crate::refusal::Refusal;
+use it_base::sequence::Sequence;
+use it_base::text::Text;
+
+/// Whether a delivery is accepted.
+#[derive(Drop)]
+pub enum Verdict {
+    /// Everything that was asked of the delivery holds.
+    Accepted {
+        /// The steps of the outermost layout, in its order: the name of each, and how many different
+        /// keys signed a body that counts for it.
+        steps: Sequence<(Text, u64)>,
+        /// The paths of the delivered files, in the order of their bytes.
+        files: Sequence<Text>,
+    },
+    /// Something does not hold: the first that does not.
+    Refused(Refusal),
+}
+
+/// A verdict, and the work that it took.
+#[derive(Drop)]
+pub struct Answer {
+    /// Whether the delivery is accepted.
+    pub verdict: Verdict,
+    /// How often it was asked whether a signature is valid, or the greatest number that this holds.
+    pub asked: u64,
+}

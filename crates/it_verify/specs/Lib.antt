@@ -1,4 +1,7 @@
 pub mod Digesting
+pub mod Documents
+pub mod First
+pub mod Made
 pub mod Matching
 pub mod Name
 pub mod Outcome

@@ -1,0 +1,48 @@
+-- What the inputs of a verification read as.
+use Rattle.std.specs.Prelude.{◌≡◌, ℕ, ℤ, List, Contains, Option, option_map}
+use Rattle.std.specs.List.{find}
+use Rattle.std.specs.Str.{bytes_eq}
+use Rattle.it_digest.specs.Artifacts.{ArtifactMap}
+use Rattle.it_digest.specs.Sums.{SumsOf, lines_of}
+use Rattle.it_dsse.specs.Check.{Check}
+use Rattle.it_dsse.specs.Envelope.{EnvelopeOf}
+use Rattle.it_dsse.specs.declared.envelope.Envelope.{Envelope}
+use Rattle.it_docs.specs.Layout.{LayoutOf}
+use Rattle.it_docs.specs.Moment.{MomentOf}
+use Rattle.it_docs.specs.PayloadType.{in_toto_type}
+use Rattle.it_docs.specs.Policy.{PolicyOf}
+use Rattle.it_docs.specs.declared.layout.Layout.{Layout}
+use Rattle.it_docs.specs.declared.policy.Policy.{Policy}
+use Rattle.it_chain.specs.Counted.{Setting}
+use Rattle.it_verify.specs.declared.inputs.Inputs.{Inputs}
+
+pub record Documents : Type 0 where
+  pub policy : Policy
+  pub delivered : ArtifactMap
+  pub moment : ℤ
+  pub envelope : Envelope
+  pub layout : Layout
+
+-- the inputs read as these documents: a policy, the delivered files, a moment, and an envelope of the
+-- in-toto type (DSSE v1.0) whose payload is a layout (in-toto 1.0 section 4.3)
+pub record ReadAs (inputs : Inputs) (documents : Documents) : Type 0 where
+  pub policy : PolicyOf inputs.policy documents.policy
+  pub delivered : SumsOf inputs.sums documents.delivered
+  pub moment : MomentOf inputs.moment documents.moment
+  pub envelope : EnvelopeOf inputs.layout documents.envelope
+  pub payload_type : documents.envelope.payload_type ≡ in_toto_type
+  pub layout : LayoutOf documents.envelope.payload documents.layout
+
+-- what the layout and its sublayouts are checked with
+abbrev pub setting_of : Check → Documents → Setting
+setting_of check documents = record { check = check; moment = documents.moment }
+
+-- the first record of a name (this profile's choice)
+abbrev pub record_at : List ℕ → Inputs → Option (List ℕ)
+record_at name inputs = option_map (λ found. found.1) (find (λ given. bytes_eq given.0 name) inputs.records)
+
+-- a line of the provenance is this envelope (one envelope a line is this profile's choice)
+pub record IsProvenanceLine (inputs : Inputs) (envelope : Envelope) : Type 0 where
+  pub line : List ℕ
+  pub stands : Contains (lines_of inputs.provenance) line
+  pub reads : EnvelopeOf line envelope

@@ -1,55 +1,68 @@
 -- How many checks of validity a layout over a bundle may ask for (a word of this project; no standard
 -- speaks of it).
-use Rattle.std.specs.Prelude.{ℕ, zero, suc, ◌+◌, ◌*◌, List, [], ◌∷◌, length, filter, if◌then◌else◌, Option, Some, None}
-use Rattle.std.specs.List.{filter_map, list_any, sum_by}
+use Rattle.std.specs.Prelude.{◌≡◌, ◌≢◌, ◌⊎◌, ◌↔◌, ℕ, zero, suc, ◌+◌, ◌*◌, List, [], ◌∷◌, length, AllPairs, Contains}
 use Rattle.std.specs.Set.{distinct_count}
 use Rattle.std.specs.Str.{bytes_eq}
-use Rattle.it_dsse.specs.Check.{KeyNumber}
+use Rattle.it_dsse.specs.Envelope.{EnvelopeOf}
+use Rattle.it_dsse.specs.declared.envelope.Envelope.{Envelope}
+use Rattle.it_docs.specs.Layout.{LayoutOf}
 use Rattle.it_docs.specs.declared.layout.Layout.{Layout}
 use Rattle.it_docs.specs.declared.layout.Step.{Step}
-use Rattle.it_chain.specs.Answer.{payloads_for, signers}
 use Rattle.it_chain.specs.Contents.{Contents, files_of}
-use Rattle.it_chain.specs.Counted.{Setting, Body, of_link, of_layout}
-use Rattle.it_chain.specs.Lower.{Lower}
-use Rattle.it_chain.specs.Names.{folder_of}
+use Rattle.it_chain.specs.Counted.{Setting, Counted}
+use Rattle.it_chain.specs.Names.{IsClaimed, folder_of}
+use Rattle.it_chain.specs.declared.bundle.File.{File}
 
--- what a layout over a bundle costs
-abbrev pub Costing : Type 0
-Costing = Layout → Contents → ℕ
+-- the sum of what each item costs
+abbrev pub IsSum : {X : Type 0} → (X → ℕ → Type 0) → List X → ℕ → Type 0
+IsSum Costs [] n = n ≡ 0
+IsSum Costs (x ∷ xs) n = (first : ℕ) × (others : ℕ) × Costs x first × IsSum Costs xs others × (n ≡ first + others)
 
--- bodies with their payloads, each payload once
-abbrev pub each_once : List (List ℕ × Body) → List (List ℕ × Body)
-each_once [] = []
-each_once (first ∷ others) = if list_any (λ other. bytes_eq other.0 first.0) others then each_once others else first ∷ each_once others
+-- what the thing costs that is found, and 0 where none is
+abbrev pub CostsIfFound : {X : Type 0} → (X → Type 0) → (X → ℕ → Type 0) → ℕ → Type 0
+CostsIfFound {X} Is Costs n = ((x : X) × Is x × Costs x n) ⊎ (((x : X) → ¬ Is x) × (n ≡ 0))
 
-module _ (lower : Lower) (setting : Setting) where
-  -- the signatures in all files that are claimed for a step and read as envelopes
-  abbrev pub signatures_for : Step → Contents → ℕ
-  signatures_for step bundle = sum_by (λ envelope. length envelope.signatures)
-      (filter_map (λ file. lower.envelope_of file.bytes) (filter (λ file. lower.is_claimed step.name file.name) (files_of bundle)))
+-- how many signatures an envelope has
+abbrev pub HasSignatures : Envelope → ℕ → Type 0
+HasSignatures envelope n = n ≡ length envelope.signatures
 
-  module _ (sub : Costing) (layout : Layout) (bundle : Contents) where
-    -- what a body that counts for an id costs: a link nothing more, a sublayout what it costs over its folder
-    abbrev pub body_cost : Step → List ℕ → Body → ℕ
-    body_cost step id (of_link link) = 0
-    body_cost step id (of_layout sublayout) = sub sublayout (folder_of step.name id bundle)
+-- what layouts over bundles cost
+abbrev pub Costing : Type 1
+Costing = Layout → Contents → ℕ → Type 0
 
-    abbrev pub key_cost : Step → List ℕ → Option KeyNumber → ℕ
-    key_cost step id None = 0
-    key_cost step id (Some key) = sum_by (λ found. body_cost step id found.1) (each_once (payloads_for lower setting step bundle id key))
+-- the signatures of a file that is claimed for a step and reads as an envelope
+abbrev pub FileHas : Step → File → ℕ → Type 0
+FileHas step file = CostsIfFound (λ envelope. IsClaimed step.name file.name × EnvelopeOf file.bytes envelope) HasSignatures
 
-    -- a step costs a check for each of its ids and each signature, and what its sublayouts cost
-    abbrev pub step_cost : Step → ℕ
-    step_cost step = distinct_count bytes_eq step.pubkeys * signatures_for step bundle
-        + sum_by (λ signer. key_cost step signer.0 (setting.check.key_of signer.0 signer.1)) (signers layout step)
+-- a key id and a sublayout's bytes that count for it
+pub record IsSublayout (setting : Setting) (layout : Layout) (bundle : Contents) (step : Step) (id payload : List ℕ) : Type 0 where
+  pub sublayout : Layout
+  pub counted : Counted setting layout bundle step id payload
+  pub reads : LayoutOf payload sublayout
 
-  unfoldable pub level_cost : Costing → Costing
-  level_cost sub layout bundle = sum_by (step_cost sub layout bundle) layout.steps
+module _ (sub : Costing) (setting : Setting) (layout : Layout) (bundle : Contents) where
+  -- what the sublayouts that count for a step cost, each over its own folder
+  pub record SublayoutsCost (step : Step) (n : ℕ) : Type 0 where
+    pub bodies : List (List ℕ × List ℕ)
+    pub once : AllPairs (λ a b. a ≢ b) bodies
+    pub are_those : (id payload : List ℕ) → Contains bodies (id, payload) ↔ IsSublayout setting layout bundle step id payload
+    pub sum : IsSum (λ body. CostsIfFound (LayoutOf body.1) (λ sublayout. sub sublayout (folder_of step.name body.0 bundle))) bodies n
 
-  abbrev pub no_cost : Costing
-  no_cost layout bundle = 0
+  -- a step costs a check for each of its ids and each signature, and what its sublayouts cost
+  pub record StepCosts (step : Step) (n : ℕ) : Type 0 where
+    pub signatures : ℕ
+    pub sublayouts : ℕ
+    pub of_files : IsSum (FileHas step) (files_of bundle) signatures
+    pub of_sublayouts : SublayoutsCost step sublayouts
+    pub sum : n ≡ distinct_count bytes_eq step.pubkeys * signatures + sublayouts
 
-  -- what a layout over a bundle costs, down to a depth of sublayouts
-  unfoldable pub cost : ℕ → Costing
-  cost zero = level_cost no_cost
-  cost (suc depth) = level_cost (cost depth)
+abbrev pub LevelCosts : Costing → Setting → Costing
+LevelCosts sub setting layout bundle = IsSum (StepCosts sub setting layout bundle) layout.steps
+
+abbrev pub no_cost : Costing
+no_cost layout bundle n = n ≡ 0
+
+-- what a layout over a bundle costs, down to a depth of sublayouts
+abbrev pub Costs : Setting → ℕ → Costing
+Costs setting zero = LevelCosts no_cost setting
+Costs setting (suc depth) = LevelCosts (Costs setting depth) setting

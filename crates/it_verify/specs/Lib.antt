@@ -1,3 +1,5 @@
+pub mod Alike
+pub mod Cost
 pub mod Digesting
 pub mod Documents
 pub mod First

@@ -1,0 +1,37 @@
+-- How many checks of validity a verification may ask for (a word of this project; no standard speaks
+-- of it).
+use Rattle.std.specs.Prelude.{◌≡◌, ℕ, ◌+◌, ◌*◌, List, length}
+use Rattle.std.specs.List.{sum_by}
+use Rattle.std.specs.FinMap.{keys, len}
+use Rattle.it_digest.specs.Sums.{lines_of}
+use Rattle.it_dsse.specs.Check.{Check}
+use Rattle.it_dsse.specs.Envelope.{EnvelopeOf}
+use Rattle.it_dsse.specs.declared.envelope.Envelope.{Envelope}
+use Rattle.it_docs.specs.Policy.{PolicyOf}
+use Rattle.it_docs.specs.declared.policy.Expectation.{Expectation}
+use Rattle.it_docs.specs.declared.policy.Policy.{Policy}
+use Rattle.it_chain.specs.Cost.{Costs as ChainCosts, CostsIfFound, HasSignatures, IsSum}
+use Rattle.it_prov.specs.Fits.{Fits}
+use Rattle.it_verify.specs.Documents.{Documents, ReadAs, setting_of}
+use Rattle.it_verify.specs.declared.inputs.Inputs.{Inputs}
+
+-- a policy and an envelope that the inputs read as
+abbrev pub AreOwners : Inputs → Policy × Envelope → Type 0
+AreOwners inputs (policy, envelope) = PolicyOf inputs.policy policy × EnvelopeOf inputs.layout envelope
+
+-- a delivered file costs a check for each key of the expected builders and each signature
+abbrev pub FileCosts : List Expectation → ℕ → List ℕ → ℕ → Type 0
+FileCosts expectations signatures path = CostsIfFound (Fits expectations path) (λ expectation n. n ≡ sum_by (λ builder. len builder.keys) expectation.builders * signatures)
+
+-- what a verification costs: a check for each owner and each signature of the layout, what the layout
+-- costs over the links, and what the delivered files cost
+pub record Costs (check : Check) (inputs : Inputs) (n : ℕ) : Type 0 where
+  pub owners : ℕ
+  pub links : ℕ
+  pub signatures : ℕ
+  pub files : ℕ
+  pub of_owners : CostsIfFound (AreOwners inputs) (λ read n. n ≡ len read.0.owners * length read.1.signatures) owners
+  pub of_links : CostsIfFound (ReadAs inputs) (λ documents. ChainCosts (setting_of check documents) inputs.depth documents.layout inputs.links) links
+  pub of_lines : IsSum (λ line. CostsIfFound (EnvelopeOf line) HasSignatures) (lines_of inputs.provenance) signatures
+  pub of_files : CostsIfFound (ReadAs inputs) (λ documents. IsSum (FileCosts documents.policy.expectations signatures) (keys documents.delivered)) files
+  pub sum : n ≡ owners + links + files

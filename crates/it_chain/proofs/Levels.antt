@@ -2,7 +2,7 @@
 use Rattle.std.proofs.Common.{◌≡◌, ℕ, suc, ◌≤◌, List, [], ◌∷◌, Contains, refl, sym, ap, subst, ◌∙◌, arith}
 use Rattle.std.specs.List.{AllZip}
 use Rattle.it_docs.specs.declared.layout.Layout.{Layout}
-use Rattle.it_docs.specs.declared.layout.Step.{Step}
+use Rattle.it_docs.specs.declared.step.Step.{Step}
 use Rattle.it_docs.specs.declared.rule.Side.{Side}
 use Rattle.it_docs.specs.declared.rule.Side.TheVariants.{Materials, Products}
 use Rattle.it_rules.specs.Item.{Recorded, Links}

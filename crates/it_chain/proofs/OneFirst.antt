@@ -7,7 +7,7 @@ use Rattle.std.specs.FinMap.{keys, get, contains_key-keys, slice_cmp-IsAntisymme
 use Rattle.std.specs.Ordering.{eq_by_cmp}
 use Rattle.it_docs.specs.Layout.{LayoutOf}
 use Rattle.it_docs.specs.declared.layout.Layout.{Layout}
-use Rattle.it_docs.specs.declared.layout.Step.{Step}
+use Rattle.it_docs.specs.declared.step.Step.{Step}
 use Rattle.it_docs.specs.declared.rule.Rule.{Rule}
 use Rattle.it_docs.specs.declared.rule.Rule.TheVariants.{Match, Create, Delete, Modify, Allow, Disallow, Require}
 use Rattle.it_docs.specs.declared.rule.Side.{Side}

@@ -4,7 +4,7 @@ use Rattle.std.specs.List.{AllZip, IsDistinct}
 use Rattle.std.specs.Str.{bytes_eq}
 use Rattle.it_docs.specs.Layout.{LayoutOf, names_of}
 use Rattle.it_docs.specs.declared.layout.Layout.{Layout}
-use Rattle.it_docs.specs.declared.layout.Step.{Step}
+use Rattle.it_docs.specs.declared.step.Step.{Step}
 use Rattle.it_chain.specs.Alike.{Alike, ComesToTheSame, FoldersCompare, HasCopies, Within, deeper_alike}
 use Rattle.it_chain.specs.Chain.{Chain}
 use Rattle.it_chain.specs.Contents.{Contents}

@@ -7,7 +7,7 @@ use Rattle.it_dsse.specs.Envelope.{EnvelopeOf}
 use Rattle.it_dsse.specs.declared.envelope.Envelope.{Envelope}
 use Rattle.it_docs.specs.Layout.{LayoutOf}
 use Rattle.it_docs.specs.declared.layout.Layout.{Layout}
-use Rattle.it_docs.specs.declared.layout.Step.{Step}
+use Rattle.it_docs.specs.declared.step.Step.{Step}
 use Rattle.it_chain.specs.Contents.{Contents, files_of}
 use Rattle.it_chain.specs.Counted.{Setting, Counted}
 use Rattle.it_chain.specs.Names.{IsClaimed, folder_of}

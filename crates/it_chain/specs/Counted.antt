@@ -10,8 +10,9 @@ use Rattle.it_dsse.specs.declared.envelope.Envelope.{Envelope}
 use Rattle.it_dsse.specs.declared.key_object.KeyObject.{KeyObject}
 use Rattle.it_docs.specs.Layout.{LayoutOf}
 use Rattle.it_docs.specs.Link.{LinkOf}
+use Rattle.it_docs.specs.PayloadType.{in_toto_type}
 use Rattle.it_docs.specs.declared.layout.Layout.{Layout}
-use Rattle.it_docs.specs.declared.layout.Step.{Step}
+use Rattle.it_docs.specs.declared.step.Step.{Step}
 use Rattle.it_docs.specs.declared.link.Link.{Link}
 use Rattle.it_chain.specs.Contents.{Contents, files_of}
 use Rattle.it_chain.specs.Names.{IsClaimed}
@@ -44,7 +45,7 @@ pub record Counted (setting : Setting) (layout : Layout) (bundle : Contents) (st
   pub stands : Contains (files_of bundle) file
   pub claimed : IsClaimed step.name file.name
   pub is_envelope : EnvelopeOf file.bytes envelope
-  pub type_is : envelope.payload_type ≡ codes "application/vnd.in-toto+json"
+  pub type_is : envelope.payload_type ≡ in_toto_type
   pub payload_is : envelope.payload ≡ payload
   pub listed : Contains step.pubkeys id
   pub known : get layout.keys id ≡ Some object

@@ -15,7 +15,7 @@ use Rattle.it_docs.specs.Moment.{MomentOf}
 use Rattle.it_docs.specs.PayloadType.{in_toto_type}
 use Rattle.it_docs.specs.Policy.{PolicyOf}
 use Rattle.it_docs.specs.PolicyPart.{PolicyPartOf}
-use Rattle.it_docs.specs.declared.layout.Inspection.{Inspection}
+use Rattle.it_docs.specs.declared.step.Inspection.{Inspection}
 use Rattle.it_docs.specs.declared.layout_fault.LayoutPart.{LayoutPart}
 use Rattle.it_docs.specs.declared.link.Link.{Link}
 use Rattle.it_docs.specs.declared.policy.Expectation.{Expectation}

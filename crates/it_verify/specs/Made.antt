@@ -10,7 +10,7 @@ use Rattle.it_dsse.specs.Signed.{IsSigner}
 use Rattle.it_dsse.specs.declared.envelope.Envelope.{Envelope}
 use Rattle.it_dsse.specs.declared.key_object.KeyObject.{KeyObject}
 use Rattle.it_docs.specs.Link.{LinkOf}
-use Rattle.it_docs.specs.declared.layout.Inspection.{Inspection}
+use Rattle.it_docs.specs.declared.step.Inspection.{Inspection}
 use Rattle.it_docs.specs.declared.link.Link.{Link}
 use Rattle.it_docs.specs.declared.policy.Expectation.{Expectation}
 use Rattle.it_docs.specs.declared.rule.Rule.{Rule}

@@ -1,6 +1,6 @@
 -- What counts for a step of a layout (in-toto 1.0 section 5.2, verifying the final product), as sets
 -- of bodies: order, repeats and names of files have no part in it.
-use Rattle.std.specs.Prelude.{◌≡◌, ◌↔◌, ℕ, ℤ, List, length, Bool, nat_eq, Some, codes, Contains}
+use Rattle.std.specs.Prelude.{◌≡◌, ◌↔◌, ℕ, ℤ, List, length, Bool, nat_eq, Some, Contains}
 use Rattle.std.specs.List.{IsDistinct}
 use Rattle.std.specs.FinMap.{get}
 use Rattle.it_dsse.specs.Check.{Check, KeyNumber}

@@ -1,0 +1,48 @@
+-- What inputs read as is one, and so is the evidence.
+use Rattle.std.proofs.Common.{◌≡◌, ℕ, List, [], ◌∷◌, Some, refl, sym, ap, subst, ◌∙◌}
+use Rattle.std.proofs.lemmas.Option.{same_Some}
+use Rattle.std.specs.List.{AllZip}
+use Rattle.it_digest.proofs.SumsLemmas.{SumsOf_same}
+use Rattle.it_dsse.specs.Check.{Check}
+use Rattle.it_docs.specs.Layout.{LayoutOf}
+use Rattle.it_docs.specs.Link.{LinkOf}
+use Rattle.it_docs.specs.declared.step.Inspection.{Inspection}
+use Rattle.it_docs.specs.declared.link.Link.{Link}
+use Rattle.it_docs.proofs.Moments.{same_moment}
+use Rattle.it_docs.proofs.Same.{layout_same, link_same, policy_same}
+use Rattle.it_chain.specs.Chain.{Chain}
+use Rattle.it_chain.proofs.Documents.{envelope_same}
+use Rattle.it_chain.proofs.Excludes.{chain_one}
+use Rattle.it_verify.specs.Documents.{Documents, ReadAs, setting_of}
+use Rattle.it_verify.specs.Made.{Evidence, HasRecorded, IsEvidence}
+use Rattle.it_verify.specs.declared.inputs.Inputs.{Inputs}
+
+pub read_one : (inputs : Inputs) (a b : Documents) → ReadAs inputs a → ReadAs inputs b → a ≡ b
+read_one inputs a b h k =
+    let policy = policy_same inputs.policy a.policy b.policy h.policy k.policy in
+    let delivered = sym (SumsOf_same inputs.sums a.delivered b.delivered h.delivered k.delivered) in
+    let moment = same_moment inputs.moment a.moment b.moment h.moment k.moment in
+    let envelope = envelope_same inputs.layout a.envelope b.envelope h.envelope k.envelope in
+    let layout = layout_same a.envelope.payload a.layout b.layout h.layout (subst (λ e. LayoutOf e.payload b.layout) (sym envelope) k.layout) in
+    λ i. record { policy = policy i; delivered = delivered i; moment = moment i; envelope = envelope i; layout = layout i }
+
+recorded_one : (inputs : Inputs) (inspection : Inspection) (a b : Link) → HasRecorded inputs inspection a → HasRecorded inputs inspection b → a ≡ b
+recorded_one inputs inspection a b h k =
+    link_same h.bytes a b h.reads (subst (λ bytes. LinkOf bytes b) (same_Some k.bytes h.bytes (sym k.is_first ∙ h.is_first)) k.reads)
+
+records_one : (inputs : Inputs) (inspections : List Inspection) (a b : List Link) → AllZip (HasRecorded inputs) inspections a → AllZip (HasRecorded inputs) inspections b → a ≡ b
+records_one inputs [] [] [] h k = refl
+records_one inputs [] [] (y ∷ b) h k = absurd k
+records_one inputs [] (x ∷ a) b h k = absurd h
+records_one inputs (i ∷ is) [] b h k = absurd h
+records_one inputs (i ∷ is) (x ∷ a) [] h k = absurd k
+records_one inputs (i ∷ is) (x ∷ a) (y ∷ b) h k =
+    let first = recorded_one inputs i x y h.0 k.0 in
+    let rest = records_one inputs is a b h.1 k.1 in
+    λ j. first j ∷ rest j
+
+pub evidence_one : (check : Check) (inputs : Inputs) (documents : Documents) (a b : Evidence) → IsEvidence check inputs documents a → IsEvidence check inputs documents b → a ≡ b
+evidence_one check inputs documents a b h k =
+    let steps = chain_one (setting_of check documents) inputs.depth documents.layout inputs.links a.steps b.steps h.steps k.steps in
+    let inspections = records_one inputs documents.layout.inspections a.inspections b.inspections h.inspections k.inspections in
+    λ i. record { steps = steps i; inspections = inspections i }

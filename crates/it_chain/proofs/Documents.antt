@@ -1,19 +1,48 @@
--- What the bytes of a document cannot be at once, and what a layout that is read keeps.
-use Rattle.std.proofs.Common.{◌≡◌, ℕ, zero, suc, ◌<◌, ◌≤◌, List, [], ◌∷◌, length, Option, Some, None, MatchOption, codes, Contains, refl, ap, subst, arith}
+-- What the bytes of a document cannot be at once, that they are one envelope at most, and what a
+-- layout that is read keeps.
+use Rattle.std.proofs.Common.{◌≡◌, ℕ, zero, suc, ◌<◌, ◌≤◌, List, [], ◌∷◌, length, Option, Some, None, MatchOption, codes, Contains, refl, sym, ap, subst, ◌∙◌, arith}
+use Rattle.std.proofs.lemmas.Option.{same_Some}
 use Rattle.std.specs.List.{slice_index_or}
 use Rattle.serde_json.specs.Data.{Data, Items, no_items, item}
 use Rattle.serde_json.specs.Find.{as_array}
+use Rattle.it_base.specs.Base64Text.{IsBase64}
 use Rattle.it_base.specs.Document.{member_at}
 use Rattle.it_base.specs.Parts.{IsPart}
 use Rattle.it_base.specs.Sequence.{AreEach, IsList}
 use Rattle.it_base.specs.Text.{IsText}
 use Rattle.it_base.proofs.Documents.{same_document}
-use Rattle.it_base.proofs.Unique.{part_same, text_same}
+use Rattle.it_base.proofs.Unique.{IsUnique, list_same, of_document_same, part_same, text_same}
+use Rattle.it_dsse.specs.Envelope.{EnvelopeOf, IsEnvelope, IsSignature}
+use Rattle.it_dsse.specs.declared.envelope.Envelope.{Envelope}
 use Rattle.it_docs.specs.Layout.{IsStep, IsLayout, IsThreshold, LayoutOf}
 use Rattle.it_docs.specs.Link.{LinkOf}
 use Rattle.it_docs.specs.declared.layout.Layout.{Layout}
 use Rattle.it_docs.specs.declared.link.Link.{Link}
 use Rattle.it_chain.specs.Laws.{IsProper}
+
+base64_same : IsUnique IsBase64
+base64_same d x y h k = same_Some x y (sym h ∙ k)
+
+found_or_same : {X : Type 0} (P : Data → X → Type 0) → IsUnique P → (missing : X) (found : Option Data) (x y : X) → MatchOption found (x ≡ missing) (λ v. P v x) → MatchOption found (y ≡ missing) (λ v. P v y) → x ≡ y
+found_or_same P same missing None x y h k = h ∙ sym k
+found_or_same P same missing (Some v) x y h k = same v x y h k
+
+signature_part_same : IsUnique IsSignature
+signature_part_same d x y h k =
+    let sig = part_same IsBase64 base64_same (codes "sig") d x.sig y.sig h.sig k.sig in
+    let keyid = found_or_same IsText text_same [] (member_at (codes "keyid") d) x.keyid y.keyid h.keyid k.keyid in
+    λ i. record { sig = sig i; keyid = keyid i }
+
+envelope_part_same : IsUnique IsEnvelope
+envelope_part_same d x y h k =
+    let payload = part_same IsBase64 base64_same (codes "payload") d x.payload y.payload h.payload k.payload in
+    let payload_type = part_same IsText text_same (codes "payloadType") d x.payload_type y.payload_type h.payload_type k.payload_type in
+    let signatures = part_same (IsList IsSignature) (list_same IsSignature signature_part_same) (codes "signatures") d x.signatures y.signatures h.signatures k.signatures in
+    λ i. record { payload = payload i; payload_type = payload_type i; signatures = signatures i }
+
+-- bytes are one envelope at most
+pub envelope_same : (bytes : List ℕ) (x y : Envelope) → EnvelopeOf bytes x → EnvelopeOf bytes y → x ≡ y
+envelope_same = of_document_same IsEnvelope envelope_part_same
 
 apart_lengths : (m n : ℕ) → m ≡ 4 → n ≡ 6 → ¬ (m ≡ n)
 apart_lengths m n four six same = absurd (omega arith)

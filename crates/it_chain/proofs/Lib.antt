@@ -1,12 +1,15 @@
 pub mod Alikes
+pub mod Counting
 pub mod Deeper
 pub mod Documents
 pub mod Excludes
 pub mod Firsts
 pub mod Levels
 pub mod Lookups
+pub mod Members
 pub mod Numbers
 pub mod OneFirst
 pub mod Orders
+pub mod Outcomes
 pub mod Withheld
 pub mod Zips

@@ -4,6 +4,7 @@ pub mod Deeper
 pub mod Documents
 pub mod Excludes
 pub mod Firsts
+pub mod Ids
 pub mod Levels
 pub mod Lookups
 pub mod Members

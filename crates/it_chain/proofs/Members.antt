@@ -1,6 +1,7 @@
 -- Elements of lists, and of what is left of lists and made of them.
-use Rattle.std.proofs.Common.{◌≡◌, ◌⊎◌, ℕ, zero, suc, List, [], ◌∷◌, Bool, true, false, cond, Option, Some, None, inl, inr, filter, filter_map, Contains, refl, sym, ap, subst, ◌∙◌, arith}
-use Rattle.std.specs.List.{cons_option}
+use Rattle.std.proofs.Common.{◌≡◌, ◌⊎◌, ℕ, zero, suc, List, [], ◌∷◌, Bool, true, false, cond, Option, Some, None, ◌&&◌, inl, inr, filter, filter_map, Contains, refl, sym, ap, subst, ◌∙◌, arith}
+use Rattle.std.specs.List.{cons_option, list_all}
+use Rattle.std.proofs.lemmas.Bool.{and_parts, and_cases}
 use Rattle.std.proofs.lemmas.List.Elements.{All-contains, All-filter, All-contains_itself, filter_passes}
 
 pub in_head : {X : Type 0} (x : X) (xs : List X) → Contains (x ∷ xs) x
@@ -63,4 +64,18 @@ of_filter_map h [] y c = absurd (in_none y c)
 of_filter_map h (z ∷ xs) y c = elim (given_cases (h z) (filter_map h xs) y c) [
   | inl here ↦ (z, here, in_head z xs)
   | inr later ↦ let found = of_filter_map h xs y later in (found.0, found.1, in_tail z xs found.0 found.2)
+]
+
+-- ---- a test that all elements pass, or not
+pub all_pass : {X : Type 0} (p : X → Bool) (xs : List X) (x : X) → list_all p xs ≡ true → Contains xs x → p x ≡ true
+all_pass p [] x all c = absurd (in_none x c)
+all_pass p (y ∷ xs) x all c =
+    let parts = and_parts (p y) (list_all p xs) all in
+    elim (in_cases y xs x c) [ inl same ↦ ap p (sym same) ∙ parts.0 | inr later ↦ all_pass p xs x parts.1 later ]
+
+pub some_fails : {X : Type 0} (p : X → Bool) (xs : List X) → list_all p xs ≡ false → (x : X) × (p x ≡ false) × Contains xs x
+some_fails p [] e = cc
+some_fails p (y ∷ xs) e = elim (and_cases (p y) (list_all p xs) e) [
+  | inl here ↦ (y, here, in_head y xs)
+  | inr later ↦ let found = some_fails p xs later in (found.0, found.1, in_tail y xs found.0 found.2)
 ]

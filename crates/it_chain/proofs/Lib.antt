@@ -2,6 +2,7 @@ pub mod Alikes
 pub mod Counting
 pub mod Deeper
 pub mod Documents
+pub mod Entries
 pub mod Excludes
 pub mod Firsts
 pub mod Ids

@@ -13,5 +13,6 @@ pub mod Numbers
 pub mod OneFirst
 pub mod Orders
 pub mod Outcomes
+pub mod Records
 pub mod Withheld
 pub mod Zips

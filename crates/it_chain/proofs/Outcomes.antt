@@ -26,3 +26,7 @@ module _ {P : Type 0} (At : P → ChainRefusal → Type 0) where
       → Tells ps G a → ((x : A) → NoneAt At ps → G x → H (f x)) → Tells ps H (a >>= (λ x. Ok (f x)))
   tells_made ps G H (Ok x) f h made = (h.0, made x h.0 h.1)
   tells_made ps G H (Err refusal) f h made = h
+
+  pub tells_weaker : {A : Type 0} (ps : List P) (G H : A → Type 0) (a : Result A ChainRefusal) → ((x : A) → G x → H x) → Tells ps G a → Tells ps H a
+  tells_weaker ps G H (Ok x) f h = (h.0, f x h.1)
+  tells_weaker ps G H (Err refusal) f h = h

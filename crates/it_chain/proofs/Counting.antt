@@ -36,15 +36,15 @@ finds_none P (Some y) h none = absurd (none y h)
 
 module _ (lower : Lower) (right : AnswersRight lower) (setting : Setting) (step : Step) where
   -- ---- what a payload is for the step
-  named_link : (link : Link) (other : Option Body) → link.name ≡ step.name → link_or lower setting step (Some link) other ≡ Some (of_link link)
+  named_link : (link : Link) (other : Option Body) → link.name ≡ step.name → link_or step (Some link) other ≡ Some (of_link link)
   named_link link other same = ap (λ b. if b then Some (of_link link) else other) ((bytes_eq-Decides link.name step.name).1 same)
 
   body_listed : (payload : List ℕ) (body : Body) → BodyOf step.name payload body → body_of lower setting step payload ≡ Some body
   body_listed payload (of_link link) h =
-      ap (λ o. link_or lower setting step o (option_map of_layout (lower.layout_of payload))) (finds_it (LinkOf payload) (lower.link_of payload) link (link_same payload) (right.link payload) h.0)
+      ap (λ o. link_or step o (option_map of_layout (lower.layout_of payload))) (finds_it (LinkOf payload) (lower.link_of payload) link (link_same payload) (right.link payload) h.0)
       ∙ named_link link (option_map of_layout (lower.layout_of payload)) h.1
   body_listed payload (of_layout layout) h =
-      ap (λ o. link_or lower setting step o (option_map of_layout (lower.layout_of payload)))
+      ap (λ o. link_or step o (option_map of_layout (lower.layout_of payload)))
       (finds_none (LinkOf payload) (lower.link_of payload) (right.link payload) (λ link k. link_or_layout payload link layout k h))
       ∙ ap (option_map of_layout) (finds_it (LayoutOf payload) (lower.layout_of payload) layout (layout_same payload) (right.layout payload) h)
 
@@ -58,7 +58,7 @@ module _ (lower : Lower) (right : AnswersRight lower) (setting : Setting) (step 
   read_link payload body link layout false named h k e = let l = read_layout payload body layout k e in absurd (link_or_layout payload link l.0 h l.1)
 
   read_body : (payload : List ℕ) (body : Body) (link : Option Link) (layout : Option Layout) → Finds (LinkOf payload) link → Finds (LayoutOf payload) layout
-      → link_or lower setting step link (option_map of_layout layout) ≡ Some body → BodyOf step.name payload body
+      → link_or step link (option_map of_layout layout) ≡ Some body → BodyOf step.name payload body
   read_body payload body None layout h k e = let l = read_layout payload body layout k e in subst (BodyOf step.name payload) l.2 l.1
   read_body payload body (Some link) layout h k e = read_link payload body link layout (bytes_eq link.name step.name) refl h k e
 

@@ -82,7 +82,7 @@ module _ (lower : Lower) (right : AnswersRight lower) (setting : Setting) (layou
   -- ---- the bodies of an id
   bodies_of : (sub : Holding) (id : List ℕ) (key : KeyNumber) (found : List (List ℕ × Body)) → ((payload : List ℕ) → Counted setting layout bundle step id payload → (body : Body) × Contains found (payload, body))
       → ((payload : List ℕ) (body : Body) → Contains found (payload, body) → (c : Counted setting layout bundle step id payload) × (c.key ≡ key) × BodyOf step.name payload body)
-      → HasBodies sub setting layout bundle step id key (bodies_in lower setting found)
+      → HasBodies sub setting layout bundle step id key (bodies_in found)
   bodies_of sub id key [] there counted = λ payload c. in_none _ ((there payload c).1)
   bodies_of sub id key (first ∷ others) there counted =
       let here = counted first.0 first.1 (in_head first others) in
@@ -156,7 +156,7 @@ module _ (lower : Lower) (right : AnswersRight lower) (setting : Setting) (layou
         let no : Some c.key ≡ None = sym c.signed.key ∙ ap (setting.check.key_of id) same ∙ e in
         cc)
     tells_key id object (Some key) e pubkey known =
-        tells_bodies id key (bodies_in lower setting (payloads_for lower setting step bundle id key))
+        tells_bodies id key (bodies_in (payloads_for lower setting step bundle id key))
         (bodies_of sub id key (payloads_for lower setting step bundle id key)
         (λ payload c.
         let same : c.object ≡ object = same_Some c.object object (sym c.known ∙ known) in

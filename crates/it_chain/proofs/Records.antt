@@ -26,10 +26,6 @@ abbrev pub InOrder : List IdRecord → Type 0
 InOrder [] = Unit {0}
 InOrder (r ∷ rs) = ((other : IdRecord) → Contains rs other → IsBefore r.id other.id) × InOrder rs
 
-abbrev with_given : Option IdRecord → List IdRecord → List IdRecord
-with_given None records = records
-with_given (Some r) records = r ∷ records
-
 module _ (sub : Holding) (setting : Setting) (layout : Layout) (bundle : Contents) (step : Step) where
   -- the records of a step: of each id that counts, once
   pub record AreRecords (records : List IdRecord) : Type 0 where
@@ -40,11 +36,11 @@ module _ (sub : Holding) (setting : Setting) (layout : Layout) (bundle : Content
   -- the records of entries of the map of keys
   abbrev AreOf : List (List ℕ × KeyObject) → List IdRecord → Type 0
   AreOf [] records = records ≡ []
-  AreOf (e ∷ es) records = (given : Option IdRecord) × (rest : List IdRecord) × (records ≡ with_given given rest) × Gives sub setting layout bundle step e.0 given × AreOf es rest
+  AreOf (e ∷ es) records = (given : Option IdRecord) × (rest : List IdRecord) × (records ≡ with_record given rest) × Gives sub setting layout bundle step e.0 given × AreOf es rest
 
   each_given : (e : List ℕ × KeyObject) (es : List (List ℕ × KeyObject)) (given : Option IdRecord) (rest : List IdRecord) → Gives sub setting layout bundle step e.0 given
       → ((r : IdRecord) → Contains rest r → (f : List ℕ × KeyObject) × Contains es f × IsGiven sub setting layout bundle step f.0 r)
-      → (r : IdRecord) → Contains (with_given given rest) r → (f : List ℕ × KeyObject) × Contains (e ∷ es) f × IsGiven sub setting layout bundle step f.0 r
+      → (r : IdRecord) → Contains (with_record given rest) r → (f : List ℕ × KeyObject) × Contains (e ∷ es) f × IsGiven sub setting layout bundle step f.0 r
   each_given e es None rest gives later r c = let f = later r c in (f.0, in_tail e es f.0 f.1, f.2)
   each_given e es (Some q) rest gives later r c = elim (in_cases q rest r c) [
     | inl same ↦ (e, in_head e es, subst (IsGiven sub setting layout bundle step e.0) same gives)
@@ -55,12 +51,12 @@ module _ (sub : Holding) (setting : Setting) (layout : Layout) (bundle : Content
   each_of [] records h r c = absurd (in_none r (subst (λ rs. Contains rs r) h c))
   each_of (e ∷ es) records h r c = each_given e es h.0 h.1 h.3 (each_of es h.1 h.4) r (subst (λ rs. Contains rs r) h.2 c)
 
-  in_given : (given : Option IdRecord) (rest : List IdRecord) (r : IdRecord) → Contains rest r → Contains (with_given given rest) r
+  in_given : (given : Option IdRecord) (rest : List IdRecord) (r : IdRecord) → Contains rest r → Contains (with_record given rest) r
   in_given None rest r c = c
   in_given (Some q) rest r c = in_tail q rest r c
 
   the_given : (id payload : List ℕ) (given : Option IdRecord) (rest : List IdRecord) → Gives sub setting layout bundle step id given → Counted setting layout bundle step id payload
-      → (r : IdRecord) × Contains (with_given given rest) r × IsGiven sub setting layout bundle step id r
+      → (r : IdRecord) × Contains (with_record given rest) r × IsGiven sub setting layout bundle step id r
   the_given id payload None rest gives c = absurd (gives payload c)
   the_given id payload (Some q) rest gives c = (q, in_head q rest, gives)
 
@@ -77,7 +73,7 @@ module _ (sub : Holding) (setting : Setting) (layout : Layout) (bundle : Content
   ]
 
   order_given : (e : List ℕ × KeyObject) (given : Option IdRecord) (rest : List IdRecord) → Gives sub setting layout bundle step e.0 given → ((r : IdRecord) → Contains rest r → IsBefore e.0 r.id) → InOrder rest
-      → InOrder (with_given given rest)
+      → InOrder (with_record given rest)
   order_given e None rest gives before h = h
   order_given e (Some q) rest gives before h = (λ other c. subst (λ id. IsBefore id other.id) (sym gives.id_is) (before other c), h)
 
@@ -103,10 +99,6 @@ module _ (lower : Lower) (right : AnswersRight lower) (setting : Setting) (layou
   abbrev is_listed : List ℕ × KeyObject → Bool
   is_listed entry = list_any (bytes_eq entry.0) step.pubkeys
 
-  with_given_is : (given : Option IdRecord) (rest : List IdRecord) → with_record lower setting answers layout bundle given rest ≡ with_given given rest
-  with_given_is None rest = refl
-  with_given_is (Some r) rest = refl
-
   -- an id that the step does not list
   gives_none : (e : List ℕ × KeyObject) → is_listed e ≡ false → Gives sub setting layout bundle step e.0 None
   gives_none e unlisted payload c =
@@ -122,8 +114,8 @@ module _ (lower : Lower) (right : AnswersRight lower) (setting : Setting) (layou
       (id_answer lower setting answers layout bundle step e) _
       (tells_id lower right setting layout bundle step answers sub fails inside e.0 e.1 ((is_member-Decides bytes_eq-Decides step.pubkeys e.0).0 is) known)
       (λ given none gives. tells_made At (map (at_id step) (map (λ f. f.0) es)) (AreOf sub setting layout bundle step es) (AreOf sub setting layout bundle step (e ∷ es))
-      (ids_answer lower setting answers layout bundle step (filter is_listed es)) (with_record lower setting answers layout bundle given) rest
-      (λ records none' are. (given, records, with_given_is given records, gives, are)))
+      (ids_answer lower setting answers layout bundle step (filter is_listed es)) (with_record given) rest
+      (λ records none' are. (given, records, refl, gives, are)))
   tells_entry e es false unlisted known rest =
       let gives = gives_none e unlisted in
       tells_behind At (at_id step e.0 ∷ []) (map (at_id step) (map (λ f. f.0) es)) (AreOf sub setting layout bundle step (e ∷ es)) (ids_answer lower setting answers layout bundle step (filter is_listed es))

@@ -28,7 +28,7 @@ record Moves (sub : Holding) (fails : Failing) (setting : Setting) (layout : Lay
       → fails sublayout (folder_of step.name id from) refusal → fails sublayout (folder_of step.name id to) refusal
 
 -- an id's key is one
-one_key : (setting : Setting) (layout : Layout) (a b : Contents) (step : Step) (id payload other : List ℕ) (x : Counted setting layout a step id payload) (y : Counted setting layout b step id other) → x.key ≡ y.key
+pub one_key : (setting : Setting) (layout : Layout) (a b : Contents) (step : Step) (id payload other : List ℕ) (x : Counted setting layout a step id payload) (y : Counted setting layout b step id other) → x.key ≡ y.key
 one_key setting layout a b step id payload other x y =
     let object : x.object ≡ y.object = same_Some x.object y.object (sym x.known ∙ y.known) in
     same_Some x.key y.key (sym x.signed.key ∙ ap (setting.check.key_of id) object ∙ y.signed.key)

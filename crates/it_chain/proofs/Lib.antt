@@ -6,6 +6,7 @@ pub mod Entries
 pub mod Excludes
 pub mod Firsts
 pub mod Ids
+pub mod Judging
 pub mod Levels
 pub mod Lookups
 pub mod Members

@@ -1,0 +1,118 @@
+-- How the deciding functions judge the records of a step.
+use Rattle.std.proofs.Common.{◌≡◌, ◌⊎◌, ◌↔◌, ℕ, ◌≤◌, List, [], ◌∷◌, map, Bool, true, false, Result, Ok, Err, inl, inr, ⊎_elim, nat_lt, ltb-true, ltb-false, Contains, refl, sym, ap, subst, ◌∙◌, arith}
+use Rattle.std.specs.Set.{distinct_count}
+use Rattle.std.proofs.lemmas.Bool.{cond_both}
+use Rattle.it_docs.specs.declared.layout.Layout.{Layout}
+use Rattle.it_docs.specs.declared.layout.Step.{Step}
+use Rattle.it_rules.specs.Item.{Recorded}
+use Rattle.it_chain.specs.Answer.{Answering, IdRecord, agreed, agreement, judged}
+use Rattle.it_chain.specs.Contents.{Contents}
+use Rattle.it_chain.specs.Counted.{Setting, KeyCounts, Found, same_key}
+use Rattle.it_chain.specs.First.{Failing, Place, IsBefore, IsLeastOther, at_threshold, at_records, Stands, here}
+use Rattle.it_chain.specs.Level.{Holding, HasRecord, StepHolds}
+use Rattle.it_chain.specs.Lower.{Lower, AnswersRight}
+use Rattle.it_chain.specs.declared.chain.StepResult.{StepResult}
+use Rattle.it_chain.specs.declared.refusal.ChainFault.TheVariants.{Threshold, Disagree}
+use Rattle.it_chain.specs.declared.refusal.ChainRefusal.{ChainRefusal}
+use Rattle.it_chain.proofs.Alikes.{one_key}
+use Rattle.it_chain.proofs.Levels.{HoldsOneWay, record_one}
+use Rattle.it_chain.proofs.Members.{in_head, in_tail, in_cases, in_none, in_map, of_map}
+use Rattle.it_chain.proofs.Numbers.{found_of, found_one}
+use Rattle.it_chain.proofs.Orders.{one_before}
+use Rattle.it_chain.proofs.Outcomes.{Tells, tells_behind}
+use Rattle.it_chain.proofs.Records.{AreRecords, InOrder}
+
+module _ (sub : Holding) (fails : Failing) (one : HoldsOneWay sub) (setting : Setting) (layout : Layout) (bundle : Contents) (step : Step) (records : List IdRecord) (are : AreRecords sub setting layout bundle step records) where
+  abbrev At : Place → ChainRefusal → Type 0
+  At = Stands sub fails setting layout bundle
+
+  abbrev Has : List ℕ → Recorded → Type 0
+  Has = HasRecord sub setting layout bundle step
+
+  -- ---- the number of different keys
+  keys_are : (key : ℕ) → Contains (map (λ (r : IdRecord). r.key) records) key ↔ KeyCounts setting layout bundle step key
+  keys_are key = (
+    λ c. let r = of_map (λ (r : IdRecord). r.key) records key c in
+        let given = are.each r.0 r.2 in
+        record { id = r.0.id; payload = given.recorded.payload; counted = given.recorded.counted; key_is = given.key_is ∙ r.1 },
+    λ k. let r = are.all k.id k.payload k.counted in
+        let same : r.0.key ≡ key = sym r.2.key_is ∙ one_key setting layout bundle bundle step k.id r.2.recorded.payload k.payload r.2.recorded.counted k.counted ∙ k.key_is in
+        in_map (λ (r : IdRecord). r.key) records r.0 key same r.1,
+  )
+
+  is_found : Found setting layout bundle step (distinct_count same_key (map (λ (r : IdRecord). r.key) records))
+  is_found = found_of setting layout bundle step (map (λ (r : IdRecord). r.key) records) keys_are
+
+  not_few : (found : ℕ) → Found setting layout bundle step found → step.threshold ≤ found → (refusal : ChainRefusal) → ¬ At (at_threshold step) refusal
+  not_few found is enough refusal x =
+      let same : x.0 ≡ found = found_one setting layout bundle step x.0 found x.1.is_found is in
+      let few = x.1.below in
+      absurd (omega arith)
+
+  -- ---- the records of the ids
+  record_among : (id : List ℕ) (recorded : Recorded) → Has id recorded → (r : IdRecord) × Contains records r × (r.id ≡ id) × (r.recorded ≡ recorded)
+  record_among id recorded h =
+      let r = are.all id h.payload h.counted in
+      (r.0, r.1, r.2.id_is, record_one sub one setting bundle layout step id r.0.recorded recorded r.2.recorded h (r.2.alone h.payload h.counted))
+
+  -- a record is the first, or stands among those that are left
+  abbrev AreLeft : IdRecord → List IdRecord → Type 0
+  AreLeft first left = (id : List ℕ) (recorded : Recorded) → Has id recorded → (recorded ≡ first.recorded) ⊎ ((r : IdRecord) × Contains left r × (r.id ≡ id) × (r.recorded ≡ recorded))
+
+  agree_all : (first : IdRecord) → AreLeft first [] → (id : List ℕ) (recorded : Recorded) → Has id recorded → recorded ≡ first.recorded
+  agree_all first left id recorded h = ⊎_elim (λ same. same) (λ r. absurd (in_none r.0 r.1)) (left id recorded h)
+
+  agree_next : (first q : IdRecord) (left : List IdRecord) → q.recorded ≡ first.recorded → AreLeft first (q ∷ left) → AreLeft first left
+  agree_next first q left same h id recorded has = ⊎_elim inl
+      (λ r. ⊎_elim (λ head. inl (sym r.3 ∙ ap (λ (x : IdRecord). x.recorded) (sym head) ∙ same)) (λ later. inr (r.0, later, r.2, r.3)) (in_cases q left r.0 r.1)) (h id recorded has)
+
+  all_hold : (found : ℕ) → Found setting layout bundle step found → step.threshold ≤ found → (first : IdRecord) → AreLeft first []
+      → StepHolds sub setting layout bundle step (record { name = step.name; materials = first.recorded.materials; products = first.recorded.products; keys = found })
+  all_hold found is enough first left = record {
+    name = refl;
+    one_body = λ id payload other x y. let r = are.all id payload x in sym (r.2.alone payload x) ∙ r.2.alone other y;
+    agree = λ id payload x. let r = are.all id payload x in subst (Has id) (agree_all first left id r.0.recorded r.2.recorded) r.2.recorded;
+    keys = is;
+    threshold = enough;
+  }
+
+  none_other : (first : IdRecord) → AreLeft first [] → (refusal : ChainRefusal) → ¬ At (at_records step) refusal
+  none_other first left refusal x =
+      let k = x.1 in
+      k.differs (agree_all first left x.0 k.given k.of_id ∙ sym (agree_all first left k.least k.expected k.of_least))
+
+  -- no id that has a record is before the first
+  none_before : (first : IdRecord) (others : List IdRecord) → records ≡ first ∷ others → InOrder (first ∷ others) → (id : List ℕ) (recorded : Recorded) → Has id recorded → ¬ IsBefore id first.id
+  none_before first others split in_order id recorded h before =
+      let r = record_among id recorded h in
+      let before_first : IsBefore r.0.id first.id = subst (λ x. IsBefore x first.id) (sym r.2) before in
+      ⊎_elim (λ head. let itself : IsBefore r.0.id r.0.id = subst (λ (x : IdRecord). IsBefore r.0.id x.id) head before_first in one_before r.0.id r.0.id itself itself)
+      (λ later. one_before first.id r.0.id (in_order.0 r.0 later) before_first) (in_cases first others r.0 (subst (λ rs. Contains rs r.0) split r.1))
+
+  -- the first of those that are left is the least that differs
+  least_other : (first : IdRecord) (others : List IdRecord) → records ≡ first ∷ others → (q : IdRecord) (left : List IdRecord) → Has q.id q.recorded → InOrder (q ∷ left) → AreLeft first (q ∷ left)
+      → ¬ (q.recorded ≡ first.recorded) → IsLeastOther sub fails setting layout bundle step q.id
+  least_other first others split q left has in_order h differs = record {
+    least = first.id;
+    expected = first.recorded;
+    given = q.recorded;
+    of_least = (are.each first (subst (λ rs. Contains rs first) (sym split) (in_head first others))).recorded;
+    is_least = none_before first others split (subst InOrder split are.in_order);
+    of_id = has;
+    differs = differs;
+    is_first = λ id recorded has before. ⊎_elim (λ same. same)
+        (λ r. let before_q : IsBefore r.0.id q.id = subst (λ x. IsBefore x q.id) (sym r.2) before in
+        absurd (⊎_elim (λ head. let itself : IsBefore r.0.id r.0.id = subst (λ (x : IdRecord). IsBefore r.0.id x.id) head before_q in one_before r.0.id r.0.id itself itself)
+        (λ later. one_before q.id r.0.id (in_order.0 r.0 later) before_q) (in_cases q left r.0 r.1))) (h id recorded has);
+  }
+
+  module _ (lower : Lower) (right : AnswersRight lower) (answers : Answering) where
+    tells_agreed : (found : ℕ) → Found setting layout bundle step found → step.threshold ≤ found → (first : IdRecord) (others : List IdRecord) → records ≡ first ∷ others → (left : List IdRecord)
+        → ((r : IdRecord) → Contains left r → Has r.id r.recorded) → InOrder left → AreLeft first left
+        → Tells At (at_records step ∷ []) (StepHolds sub setting layout bundle step) (agreed lower setting answers layout bundle step found first.recorded left)
+    tells_agreed found is enough first others split [] each in_order h = ((none_other first h, tt), all_hold found is enough first h)
+    tells_agreed found is enough first others split (q ∷ left) each in_order h =
+        cond_both (lower.is_same q.recorded first.recorded) (agreed lower setting answers layout bundle step found first.recorded left) (Err (here (Disagree step.name q.id)))
+        (Tells At (at_records step ∷ []) (StepHolds sub setting layout bundle step))
+        (λ same. tells_agreed found is enough first others split left (λ r c. each r (in_tail q left r c)) in_order.1 (agree_next first q left ((right.same q.recorded first.recorded).0 same) h))
+        (λ differs. inl (q.id, least_other first others split q left (each q (in_head q left)) in_order h (λ same. let is : lower.is_same q.recorded first.recorded ≡ true = (right.same q.recorded first.recorded).1 same in cc), refl))

@@ -1,5 +1,6 @@
 pub mod Alikes
 pub mod Counting
+pub mod Deciding
 pub mod Deeper
 pub mod Documents
 pub mod Entries
@@ -7,6 +8,7 @@ pub mod Excludes
 pub mod Firsts
 pub mod Ids
 pub mod Judging
+pub mod LevelAnswers
 pub mod Levels
 pub mod Lookups
 pub mod Members

@@ -1,0 +1,139 @@
+-- What one level comes to, as the deciding functions answer, its sublayouts' answers given.
+use Rattle.std.proofs.Common.{◌≡◌, ◌≢◌, ℕ, zero, suc, ◌<◌, ◌≤◌, ◌<ℤ◌, List, [], ◌∷◌, ◌++◌, map, flat_map, zip, length, get_or, Option, Some, None, MatchOption, Result, Ok, Err, inl, inr, int_lt, bytes_eq, AllPairs, Contains, refl, sym, ap, subst, ◌∙◌, arith}
+use Rattle.std.specs.FinMap.{keys}
+use Rattle.std.specs.List.{AllZip}
+use Rattle.std.proofs.lemmas.Bool.{cond_both}
+use Rattle.std.proofs.lemmas.Int.{ints}
+use Rattle.std.proofs.lemmas.List.{length-append, length-map, get_or-map, get_or_append_left}
+use Rattle.std.proofs.lemmas.Map.Made.{AllPairs-from_IsDistinct}
+use Rattle.std.proofs.lemmas.Slice.Eq.{bytes_eq-Decides}
+use Rattle.it_docs.specs.Layout.{names_of}
+use Rattle.it_docs.specs.declared.layout.Inspection.{Inspection}
+use Rattle.it_docs.specs.declared.layout.Layout.{Layout}
+use Rattle.it_docs.specs.declared.layout.Step.{Step}
+use Rattle.it_docs.specs.declared.rule.Side.{Side}
+use Rattle.it_docs.specs.declared.rule.Side.TheVariants.{Materials, Products}
+use Rattle.it_rules.specs.Item.{Recorded, Links}
+use Rattle.it_rules.specs.Rules.{IsFirstFault, NamesDiffer, RulesHold}
+use Rattle.it_chain.specs.Answer.{◌>>=◌, Answering, fault_answer, ids_answer, judged, level_answer, rules_answer, side_answer, signers, step_answer, steps_answer}
+use Rattle.it_chain.specs.Contents.{Contents}
+use Rattle.it_chain.specs.Counted.{Setting}
+use Rattle.it_chain.specs.First.{Failing, Place, at_expiry, at_id, at_threshold, at_records, at_rules, step_places, rule_places, places, Stands, here}
+use Rattle.it_chain.specs.Laws.{IsProper}
+use Rattle.it_chain.specs.Level.{Holding, StepHolds, StepRulesHold, LevelHolds, links_in, recorded_in, rules_on}
+use Rattle.it_chain.specs.Lower.{Lower, AnswersRight, IsFaultOf}
+use Rattle.it_chain.specs.declared.chain.StepResult.{StepResult}
+use Rattle.it_chain.specs.declared.refusal.ChainFault.TheVariants.{Expired}
+use Rattle.it_chain.specs.declared.refusal.ChainRefusal.{ChainRefusal}
+use Rattle.it_chain.proofs.Ids.{Sublayouts}
+use Rattle.it_chain.proofs.Judging.{tells_judged}
+use Rattle.it_chain.proofs.Levels.{step_one, steps_one}
+use Rattle.it_chain.proofs.Members.{in_head, in_tail}
+use Rattle.it_chain.proofs.Outcomes.{Tells, tells_behind, tells_then, tells_made, tells_weaker}
+use Rattle.it_chain.proofs.Records.{AreRecords, tells_records}
+use Rattle.it_chain.proofs.Zips.{of_zip}
+
+module _ (lower : Lower) (right : AnswersRight lower) (setting : Setting) (layout : Layout) (bundle : Contents) (answers : Answering) (sub : Holding) (fails : Failing) (inside : Sublayouts answers sub fails) where
+  abbrev At : Place → ChainRefusal → Type 0
+  At = Stands sub fails setting layout bundle
+
+  abbrev HoldsStep : Step → StepResult → Type 0
+  HoldsStep = StepHolds sub setting layout bundle
+
+  -- ---- the steps
+  tells_step : (step : Step) → 1 ≤ step.threshold → Tells At (step_places layout step) (HoldsStep step) (step_answer lower setting answers layout bundle step)
+  unfolding step_answer
+  tells_step step some =
+      tells_then At (map (at_id step) (keys layout.keys)) (at_threshold step ∷ at_records step ∷ []) (AreRecords sub setting layout bundle step) (HoldsStep step)
+      (ids_answer lower setting answers layout bundle step (signers layout step)) (judged lower setting answers layout bundle step)
+      (tells_records lower right setting layout bundle answers sub fails inside step)
+      (λ records none are. tells_judged sub fails inside.one setting layout bundle step records are lower right answers some)
+
+  tells_steps : (steps : List Step) → ((step : Step) → Contains steps step → 1 ≤ step.threshold) → Tells At (flat_map (step_places layout) steps) (AllZip HoldsStep steps) (steps_answer lower setting answers layout bundle steps)
+  tells_steps [] some = (tt, tt)
+  tells_steps (s ∷ ss) some =
+      tells_then At (step_places layout s) (flat_map (step_places layout) ss) (HoldsStep s) (AllZip HoldsStep (s ∷ ss)) (step_answer lower setting answers layout bundle s) _
+      (tells_step s (some s (in_head s ss)))
+      (λ result none holds. tells_made At (flat_map (step_places layout) ss) (AllZip HoldsStep ss) (AllZip HoldsStep (s ∷ ss)) (steps_answer lower setting answers layout bundle ss) (λ results. result ∷ results)
+      (tells_steps ss (λ step c. some step (in_tail s ss step c))) (λ results none' rest. (holds, rest)))
+
+  -- ---- the rules, over the records with which the steps hold
+  module _ (some : (step : Step) → Contains layout.steps step → 1 ≤ step.threshold) (m : List StepResult) (holds : AllZip HoldsStep layout.steps m) (differ : NamesDiffer (links_in m)) where
+    not_failing_rules : (step : Step) (result : StepResult) (side : Side) → Contains layout.steps step → Contains (zip layout.steps m) (step, result) → RulesHold (rules_on side step) side (recorded_in result) (links_in m)
+        → (refusal : ChainRefusal) → ¬ At (at_rules step side) refusal
+    not_failing_rules step result side among c rules refusal x =
+        let k = x.2 in
+        let results : m ≡ k.results = steps_one sub inside.one setting bundle layout layout.steps m k.results some holds k.steps in
+        let same : result ≡ k.result = step_one sub inside.one setting bundle layout step result k.result (some step among)
+        (of_zip HoldsStep layout.steps m step result holds c) (of_zip HoldsStep layout.steps k.results step k.result k.steps k.of_step) in
+        k.fault.fails (subst (λ rs. RulesHold (rules_on side step) side (recorded_in k.result) (links_in rs)) results
+        (subst (λ r. RulesHold (rules_on side step) side (recorded_in r) (links_in m)) same rules) x.0)
+
+    tells_fault : (step : Step) (result : StepResult) (side : Side) → Contains layout.steps step → Contains (zip layout.steps m) (step, result) → (fault : Option (ℕ × List ℕ))
+        → IsFaultOf (rules_on side step) side (recorded_in result) (links_in m) fault
+        → Tells At (at_rules step side ∷ []) (λ _. RulesHold (rules_on side step) side (recorded_in result) (links_in m)) (fault_answer step side fault)
+    tells_fault step result side among c None rules = ((not_failing_rules step result side among c rules, tt), rules)
+    tells_fault step result side among c (Some fault) first = inl (fault.0, fault.1, record { results = m; result = result; steps = holds; of_step = c; fault = first }, refl)
+
+    tells_side : (step : Step) (result : StepResult) (side : Side) → Contains layout.steps step → Contains (zip layout.steps m) (step, result)
+        → Tells At (at_rules step side ∷ []) (λ _. RulesHold (rules_on side step) side (recorded_in result) (links_in m)) (side_answer lower setting (links_in m) step result side)
+    unfolding side_answer
+    tells_side step result side among c =
+        tells_fault step result side among c (lower.fault_of (rules_on side step) side (recorded_in result) (links_in m)) (right.fault (rules_on side step) side (recorded_in result) (links_in m) differ)
+
+    tells_rules : (ss : List Step) (rs : List StepResult) → AllZip HoldsStep ss rs → ((step : Step) → Contains ss step → Contains layout.steps step)
+        → ((step : Step) (result : StepResult) → Contains (zip ss rs) (step, result) → Contains (zip layout.steps m) (step, result))
+        → Tells At (flat_map rule_places ss) (λ _. AllZip (StepRulesHold (links_in m)) ss rs) (rules_answer lower setting (links_in m) ss rs)
+    tells_rules [] [] h among pairs = (tt, tt)
+    tells_rules [] (r ∷ rs) h among pairs = absurd h
+    tells_rules (s ∷ ss) [] h among pairs = absurd h
+    tells_rules (s ∷ ss) (r ∷ rs) h among pairs =
+        let step = among s (in_head s ss) in
+        let pair = pairs s r (in_head (s, r) (zip ss rs)) in
+        let H = λ (x : Unit {0}). AllZip (StepRulesHold (links_in m)) (s ∷ ss) (r ∷ rs) in
+        tells_then At (at_rules s Materials ∷ []) (at_rules s Products ∷ flat_map rule_places ss) (λ _. RulesHold (rules_on Materials s) Materials (recorded_in r) (links_in m)) H
+        (side_answer lower setting (links_in m) s r Materials) _ (tells_side s r Materials step pair)
+        (λ x none materials. tells_then At (at_rules s Products ∷ []) (flat_map rule_places ss) (λ _. RulesHold (rules_on Products s) Products (recorded_in r) (links_in m)) H
+        (side_answer lower setting (links_in m) s r Products) _ (tells_side s r Products step pair)
+        (λ y none' products. tells_weaker At (flat_map rule_places ss) (λ _. AllZip (StepRulesHold (links_in m)) ss rs) H (rules_answer lower setting (links_in m) ss rs)
+        (λ z rest. (record { materials = materials; products = products }, rest))
+        (tells_rules ss rs h.1 (λ t c. among t (in_tail s ss t c)) (λ t q c. pairs t q (in_tail (s, r) (zip ss rs) (t, q) c)))))
+
+  -- ---- the level
+  names_same : (ss : List Step) (rs : List StepResult) → AllZip HoldsStep ss rs → map (λ (l : List ℕ × Recorded). l.0) (links_in rs) ≡ map (λ (s : Step). s.name) ss
+  names_same [] [] h = refl
+  names_same [] (r ∷ rs) h = absurd h
+  names_same (s ∷ ss) [] h = absurd h
+  names_same (s ∷ ss) (r ∷ rs) h =
+      let name = h.0.name in
+      let rest = names_same ss rs h.1 in
+      λ i. name i ∷ rest i
+
+  links_differ : IsProper layout → (m : List StepResult) → AllZip HoldsStep layout.steps m → NamesDiffer (links_in m)
+  links_differ proper m holds i j d less below =
+      let names = map (λ (s : Step). s.name) layout.steps in
+      let all : AllPairs (λ a b. a ≢ b) (names_of layout.steps layout.inspections) = AllPairs-from_IsDistinct bytes_eq-Decides (names_of layout.steps layout.inspections) proper.names in
+      let same : map (λ (l : List ℕ × Recorded). l.0) (links_in m) ≡ names = names_same layout.steps m holds in
+      let long : length (links_in m) ≡ length names = sym (length-map (links_in m) (λ (l : List ℕ × Recorded). l.0)) ∙ ap length same in
+      let at_place : (k : ℕ) → k < length (links_in m) → (get_or (links_in m) k d).0 ≡ get_or (names_of layout.steps layout.inspections) k d.0 =
+      λ k inside_k. sym (get_or-map (λ (l : List ℕ × Recorded). l.0) (links_in m) k d d.0 inside_k) ∙ ap (λ xs. get_or xs k d.0) same
+      ∙ sym (get_or_append_left names (map (λ (x : Inspection). x.name) layout.inspections) d.0 k (omega (arith, long, inside_k))) in
+      λ equal. all i j d.0 less (let whole = length-append names (map (λ (x : Inspection). x.name) layout.inspections) in omega (arith, whole, long, below))
+      (sym (at_place i (omega (arith, less, below))) ∙ equal ∙ at_place j below)
+
+  -- the layout holds of the bundle, or fails
+  pub tells_level : IsProper layout → Tells At (places layout) (LevelHolds sub setting layout bundle) (level_answer lower setting answers layout bundle)
+  unfolding level_answer
+  tells_level proper =
+      cond_both (int_lt layout.expires setting.moment) (Err (here Expired))
+      (steps_answer lower setting answers layout bundle layout.steps >>= (λ results. rules_answer lower setting (links_in results) layout.steps results >>= (λ _. Ok results)))
+      (Tells At (places layout) (LevelHolds sub setting layout bundle))
+      (λ expired. inl (omega (arith, ints, expired), refl))
+      (λ in_time. let unexpired : ¬ (layout.expires <ℤ setting.moment) = λ late. absurd (omega (arith, ints, late, in_time)) in
+      tells_behind At (at_expiry ∷ []) (flat_map (step_places layout) layout.steps ++ flat_map rule_places layout.steps) (LevelHolds sub setting layout bundle) _ (λ refusal x. unexpired x.0, tt)
+      (tells_then At (flat_map (step_places layout) layout.steps) (flat_map rule_places layout.steps) (AllZip HoldsStep layout.steps) (LevelHolds sub setting layout bundle)
+      (steps_answer lower setting answers layout bundle layout.steps) _ (tells_steps layout.steps proper.thresholds)
+      (λ m none holds. tells_made At (flat_map rule_places layout.steps) (λ _. AllZip (StepRulesHold (links_in m)) layout.steps m) (LevelHolds sub setting layout bundle)
+      (rules_answer lower setting (links_in m) layout.steps m) (λ _. m)
+      (tells_rules proper.thresholds m holds (links_differ proper m holds) layout.steps m holds (λ s c. c) (λ s r c. c))
+      (λ _ none' rules. record { unexpired = unexpired; steps = holds; rules = rules }))))

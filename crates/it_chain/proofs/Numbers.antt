@@ -56,9 +56,9 @@ unique_once (x ∷ xs) = by (is_member nat_eq xs x) refl (unique_once xs)
     by true again rest = rest
     by false new rest = (
       from_each (λ y. nat_eq x y ≡ false) (unique_keys nat_eq xs) (λ y c. false_from_ne_true (nat_eq x y) (λ same.
-      let among : Contains xs x = subst (Contains xs) (sym ((Decides-eqb x y).0 same)) (of_unique xs y c) in
-      let held : is_member nat_eq xs x ≡ true = (has_decides xs x).1 among in
-      cc)),
+          let among : Contains xs x = subst (Contains xs) (sym ((Decides-eqb x y).0 same)) (of_unique xs y c) in
+          let held : is_member nat_eq xs x ≡ true = (has_decides xs x).1 among in
+          cc)),
       rest,
     )
 

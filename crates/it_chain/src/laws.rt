@@ -1,6 +1,6 @@
 //! Laws about the definitions of chains: functions that do nothing, and whose contracts say what is
 //! true of every layout, bundle and check.
-ghost use Rattle.it_chain.specs.Laws.{AlikeChains, ChainGoesDeeper, ChainIsOne, ChainOrFirst, FirstIsOne, FoundIsOne, NoiseIsAlike, ReadIsProper, WithheldChains};
+ghost use Rattle.it_chain.specs.Laws.{AlikeChains, AnswerIsRight, ChainGoesDeeper, ChainIsOne, ChainOrFirst, FirstIsOne, FoundIsOne, NoiseIsAlike, ReadIsProper, WithheldChains};
 
 /// A layout that is read has thresholds of at least 1, and names that all differ.
 pub fn read_is_proper()
@@ -48,4 +48,10 @@ pub fn noise_is_alike()
 /// no more keys, or fails at a threshold.
 pub fn withheld_chains()
     ensures { WithheldChains }
+{}
+
+/// The deciding function answers the records with which a layout holds of a bundle, or else its
+/// first failure.
+pub fn answer_is_right()
+    ensures { AnswerIsRight }
 {}

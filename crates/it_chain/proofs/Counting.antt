@@ -7,7 +7,7 @@ use Rattle.std.proofs.lemmas.Slice.Eq.{bytes_eq-Decides}
 use Rattle.it_base.specs.Finds.{Finds}
 use Rattle.it_dsse.specs.Check.{KeyNumber}
 use Rattle.it_dsse.specs.Envelope.{EnvelopeOf}
-use Rattle.it_dsse.specs.Signed.{Signed, is_vouched, message_of}
+use Rattle.it_dsse.specs.Signed.{is_vouched, message_of}
 use Rattle.it_dsse.specs.declared.envelope.Envelope.{Envelope}
 use Rattle.it_dsse.specs.declared.key_object.KeyObject.{KeyObject}
 use Rattle.it_dsse.proofs.Vouching.{signed_found, not_signed}

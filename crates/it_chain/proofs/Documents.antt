@@ -18,19 +18,16 @@ use Rattle.it_docs.specs.Layout.{IsStep, IsLayout, IsThreshold, LayoutOf}
 use Rattle.it_docs.specs.Link.{LinkOf}
 use Rattle.it_docs.specs.declared.layout.Layout.{Layout}
 use Rattle.it_docs.specs.declared.link.Link.{Link}
+use Rattle.it_docs.proofs.Same.{part_or_same}
 use Rattle.it_chain.specs.Laws.{IsProper}
 
 base64_same : IsUnique IsBase64
 base64_same d x y h k = same_Some x y (sym h ∙ k)
 
-found_or_same : {X : Type 0} (P : Data → X → Type 0) → IsUnique P → (missing : X) (found : Option Data) (x y : X) → MatchOption found (x ≡ missing) (λ v. P v x) → MatchOption found (y ≡ missing) (λ v. P v y) → x ≡ y
-found_or_same P same missing None x y h k = h ∙ sym k
-found_or_same P same missing (Some v) x y h k = same v x y h k
-
 signature_part_same : IsUnique IsSignature
 signature_part_same d x y h k =
     let sig = part_same IsBase64 base64_same (codes "sig") d x.sig y.sig h.sig k.sig in
-    let keyid = found_or_same IsText text_same [] (member_at (codes "keyid") d) x.keyid y.keyid h.keyid k.keyid in
+    let keyid = part_or_same IsText [] (codes "keyid") text_same d x.keyid y.keyid h.keyid k.keyid in
     λ i. record { sig = sig i; keyid = keyid i }
 
 envelope_part_same : IsUnique IsEnvelope

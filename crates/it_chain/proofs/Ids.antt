@@ -1,5 +1,5 @@
 -- What an id that a step lists comes to, as the deciding functions answer.
-use Rattle.std.proofs.Common.{◌≡◌, ◌≢◌, ℕ, List, [], ◌∷◌, Bool, true, false, Option, Some, None, Result, Ok, Err, inl, inr, ⊎_elim, bytes_eq, Contains, refl, sym, ap, subst, ◌∙◌}
+use Rattle.std.proofs.Common.{◌≡◌, ◌≢◌, ℕ, List, [], ◌∷◌, Option, Some, None, Result, Ok, Err, inl, inr, ⊎_elim, bytes_eq, Contains, refl, sym, ap, subst, ◌∙◌}
 use Rattle.std.specs.FinMap.{get}
 use Rattle.std.specs.List.{list_all}
 use Rattle.std.proofs.lemmas.Bool.{cond_both, true≢false}
@@ -13,7 +13,7 @@ use Rattle.it_rules.specs.Item.{Recorded}
 use Rattle.it_chain.specs.Answer.{Answering, Bodies, no_body, one_body, several, IdRecord, bodies_answer, bodies_in, id_answer, key_answer, payloads_for, put_under, ◌>>=◌}
 use Rattle.it_chain.specs.Contents.{Contents}
 use Rattle.it_chain.specs.Counted.{Setting, Body, of_link, of_layout, BodyOf, Counted}
-use Rattle.it_chain.specs.First.{Failing, Place, at_id, Stands}
+use Rattle.it_chain.specs.First.{Failing, at_id, Stands}
 use Rattle.it_chain.specs.Laws.{IsProper}
 use Rattle.it_chain.specs.Level.{Holding, Records, HasRecord, summary}
 use Rattle.it_chain.specs.Lower.{Lower, AnswersRight}

@@ -1,22 +1,22 @@
 -- How the deciding functions judge the records of a step.
-use Rattle.std.proofs.Common.{◌≡◌, ◌⊎◌, ◌↔◌, ℕ, ◌≤◌, List, [], ◌∷◌, map, Bool, true, false, Result, Ok, Err, inl, inr, ⊎_elim, nat_lt, ltb-true, ltb-false, Contains, refl, sym, ap, subst, ◌∙◌, arith}
+use Rattle.std.proofs.Common.{◌≡◌, ◌⊎◌, ◌↔◌, ℕ, ◌≤◌, List, [], ◌∷◌, map, true, Err, inl, inr, ⊎_elim, nat_lt, ltb-true, ltb-false, Contains, refl, sym, ap, subst, ◌∙◌, arith}
 use Rattle.std.specs.Set.{distinct_count}
 use Rattle.std.proofs.lemmas.Bool.{cond_both}
 use Rattle.it_docs.specs.declared.layout.Layout.{Layout}
 use Rattle.it_docs.specs.declared.layout.Step.{Step}
 use Rattle.it_rules.specs.Item.{Recorded}
+use Rattle.it_rules.proofs.Listed.{Contains-from_place, Contains-map, Contains-map_cases, place_of}
 use Rattle.it_chain.specs.Answer.{Answering, IdRecord, agreed, agreement, judged}
 use Rattle.it_chain.specs.Contents.{Contents}
 use Rattle.it_chain.specs.Counted.{Setting, KeyCounts, Found, same_key}
 use Rattle.it_chain.specs.First.{Failing, Place, IsBefore, IsLeastOther, at_threshold, at_records, Stands, here}
 use Rattle.it_chain.specs.Level.{Holding, HasRecord, StepHolds}
 use Rattle.it_chain.specs.Lower.{Lower, AnswersRight}
-use Rattle.it_chain.specs.declared.chain.StepResult.{StepResult}
 use Rattle.it_chain.specs.declared.refusal.ChainFault.TheVariants.{Threshold, Disagree}
 use Rattle.it_chain.specs.declared.refusal.ChainRefusal.{ChainRefusal}
 use Rattle.it_chain.proofs.Alikes.{one_key}
 use Rattle.it_chain.proofs.Levels.{HoldsOneWay, record_one}
-use Rattle.it_chain.proofs.Members.{in_head, in_tail, in_cases, in_none, in_map, of_map}
+use Rattle.it_chain.proofs.Members.{in_head, in_tail, in_cases, in_none}
 use Rattle.it_chain.proofs.Numbers.{found_of, found_one}
 use Rattle.it_chain.proofs.Orders.{one_before}
 use Rattle.it_chain.proofs.Outcomes.{Tells, tells_behind}
@@ -32,12 +32,13 @@ module _ (sub : Holding) (fails : Failing) (one : HoldsOneWay sub) (setting : Se
   -- ---- the number of different keys
   keys_are : (key : ℕ) → Contains (map (λ (r : IdRecord). r.key) records) key ↔ KeyCounts setting layout bundle step key
   keys_are key = (
-    λ c. let r = of_map (λ (r : IdRecord). r.key) records key c in
-        let given = are.each r.0 r.2 in
-        record { id = r.0.id; payload = given.recorded.payload; counted = given.recorded.counted; key_is = given.key_is ∙ r.1 },
+    λ c. let found = Contains-map_cases (λ (r : IdRecord). r.key) records key c in
+        let given = are.each found.1 (Contains-from_place records found.0 found.1 found.2) in
+        record { id = found.1.id; payload = given.recorded.payload; counted = given.recorded.counted; key_is = given.key_is ∙ found.3 },
     λ k. let r = are.all k.id k.payload k.counted in
         let same : r.0.key ≡ key = sym r.2.key_is ∙ one_key setting layout bundle bundle step k.id r.2.recorded.payload k.payload r.2.recorded.counted k.counted ∙ k.key_is in
-        in_map (λ (r : IdRecord). r.key) records r.0 key same r.1,
+        let place = place_of records r.0 r.1 in
+        subst (Contains (map (λ (q : IdRecord). q.key) records)) same (Contains-map (λ (q : IdRecord). q.key) records place.0 r.0 place.1),
   )
 
   is_found : Found setting layout bundle step (distinct_count same_key (map (λ (r : IdRecord). r.key) records))

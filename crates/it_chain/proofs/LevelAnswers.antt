@@ -1,5 +1,5 @@
 -- What one level comes to, as the deciding functions answer, its sublayouts' answers given.
-use Rattle.std.proofs.Common.{◌≡◌, ◌≢◌, ℕ, zero, suc, ◌<◌, ◌≤◌, ◌<ℤ◌, List, [], ◌∷◌, ◌++◌, map, flat_map, zip, length, get_or, Option, Some, None, MatchOption, Result, Ok, Err, inl, inr, int_lt, bytes_eq, AllPairs, Contains, refl, sym, ap, subst, ◌∙◌, arith}
+use Rattle.std.proofs.Common.{◌≡◌, ◌≢◌, ℕ, ◌<◌, ◌≤◌, ◌<ℤ◌, List, [], ◌∷◌, ◌++◌, map, flat_map, zip, length, get_or, Option, Some, None, Ok, Err, inl, int_lt, AllPairs, Contains, refl, sym, ap, subst, ◌∙◌, arith}
 use Rattle.std.specs.FinMap.{keys}
 use Rattle.std.specs.List.{AllZip}
 use Rattle.std.proofs.lemmas.Bool.{cond_both}
@@ -13,8 +13,8 @@ use Rattle.it_docs.specs.declared.layout.Layout.{Layout}
 use Rattle.it_docs.specs.declared.layout.Step.{Step}
 use Rattle.it_docs.specs.declared.rule.Side.{Side}
 use Rattle.it_docs.specs.declared.rule.Side.TheVariants.{Materials, Products}
-use Rattle.it_rules.specs.Item.{Recorded, Links}
-use Rattle.it_rules.specs.Rules.{IsFirstFault, NamesDiffer, RulesHold}
+use Rattle.it_rules.specs.Item.{Recorded}
+use Rattle.it_rules.specs.Rules.{NamesDiffer, RulesHold}
 use Rattle.it_chain.specs.Answer.{◌>>=◌, Answering, fault_answer, ids_answer, judged, level_answer, rules_answer, side_answer, signers, step_answer, steps_answer}
 use Rattle.it_chain.specs.Contents.{Contents}
 use Rattle.it_chain.specs.Counted.{Setting}

@@ -1,5 +1,5 @@
 -- Elements of lists, and of what is left of lists and made of them.
-use Rattle.std.proofs.Common.{◌≡◌, ◌⊎◌, ℕ, zero, suc, List, [], ◌∷◌, Bool, true, false, cond, Option, Some, None, ◌&&◌, inl, inr, filter, filter_map, map, Contains, refl, sym, ap, subst, ◌∙◌, arith}
+use Rattle.std.proofs.Common.{◌≡◌, ◌⊎◌, zero, suc, List, [], ◌∷◌, Bool, true, false, cond, Option, Some, None, inl, inr, filter, filter_map, Contains, refl, sym, ap, ◌∙◌, arith}
 use Rattle.std.specs.List.{cons_option, list_all}
 use Rattle.std.proofs.lemmas.Bool.{and_parts, and_cases}
 use Rattle.std.proofs.lemmas.List.Elements.{All-contains, All-filter, All-contains_itself, filter_passes}
@@ -78,19 +78,4 @@ some_fails p [] e = cc
 some_fails p (y ∷ xs) e = elim (and_cases (p y) (list_all p xs) e) [
   | inl here ↦ (y, here, in_head y xs)
   | inr later ↦ let found = some_fails p xs later in (found.0, found.1, in_tail y xs found.0 found.2)
-]
-
--- ---- images
-pub in_map : {X Y : Type 0} (f : X → Y) (xs : List X) (x : X) (y : Y) → f x ≡ y → Contains xs x → Contains (map f xs) y
-in_map f [] x y image c = absurd (in_none x c)
-in_map f (z ∷ xs) x y image c = elim (in_cases z xs x c) [
-  | inl same ↦ (0, omega arith, ap f same ∙ image)
-  | inr later ↦ in_tail (f z) (map f xs) y (in_map f xs x y image later)
-]
-
-pub of_map : {X Y : Type 0} (f : X → Y) (xs : List X) (y : Y) → Contains (map f xs) y → (x : X) × (f x ≡ y) × Contains xs x
-of_map f [] y c = absurd (in_none y c)
-of_map f (z ∷ xs) y c = elim (in_cases (f z) (map f xs) y c) [
-  | inl same ↦ (z, same, in_head z xs)
-  | inr later ↦ let found = of_map f xs y later in (found.0, found.1, in_tail z xs found.0 found.2)
 ]

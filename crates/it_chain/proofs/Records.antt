@@ -1,6 +1,6 @@
 -- The records that the deciding functions list for a step are those of the ids that count, in the
 -- order of the ids.
-use Rattle.std.proofs.Common.{◌≡◌, ℕ, List, [], ◌∷◌, ◌++◌, map, filter, Bool, true, false, cond, T, Option, Some, None, Result, Ok, Err, inl, inr, bytes_eq, nat_cmp, Contains, refl, sym, ap, subst, ◌∙◌}
+use Rattle.std.proofs.Common.{◌≡◌, ℕ, List, [], ◌∷◌, map, filter, Bool, true, false, cond, T, Option, Some, None, inl, inr, bytes_eq, nat_cmp, Contains, refl, sym, subst}
 use Rattle.std.specs.Cmp.Lexicographic.{slice_cmp}
 use Rattle.std.specs.FinMap.{entries, entries_sorted, get, is_sorted, keys}
 use Rattle.std.specs.List.{list_any}

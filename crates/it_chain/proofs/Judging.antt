@@ -41,33 +41,33 @@ module _ (sub : Holding) (fails : Failing) (one : HoldsOneWay sub) (setting : Se
         subst (Contains (map (λ (q : IdRecord). q.key) records)) same (Contains-map (λ (q : IdRecord). q.key) records place.0 r.0 place.1),
   )
 
-  is_found : Found setting layout bundle step (distinct_count same_key (map (λ (r : IdRecord). r.key) records))
+  pub is_found : Found setting layout bundle step (distinct_count same_key (map (λ (r : IdRecord). r.key) records))
   is_found = found_of setting layout bundle step (map (λ (r : IdRecord). r.key) records) keys_are
 
-  not_few : (found : ℕ) → Found setting layout bundle step found → step.threshold ≤ found → (refusal : ChainRefusal) → ¬ At (at_threshold step) refusal
+  pub not_few : (found : ℕ) → Found setting layout bundle step found → step.threshold ≤ found → (refusal : ChainRefusal) → ¬ At (at_threshold step) refusal
   not_few found is enough refusal x =
       let same : x.0 ≡ found = found_one setting layout bundle step x.0 found x.1.is_found is in
       let few = x.1.below in
       absurd (omega arith)
 
   -- ---- the records of the ids
-  record_among : (id : List ℕ) (recorded : Recorded) → Has id recorded → (r : IdRecord) × Contains records r × (r.id ≡ id) × (r.recorded ≡ recorded)
+  pub record_among : (id : List ℕ) (recorded : Recorded) → Has id recorded → (r : IdRecord) × Contains records r × (r.id ≡ id) × (r.recorded ≡ recorded)
   record_among id recorded h =
       let r = are.all id h.payload h.counted in
       (r.0, r.1, r.2.id_is, record_one sub one setting bundle layout step id r.0.recorded recorded r.2.recorded h (r.2.alone h.payload h.counted))
 
   -- a record is the first, or stands among those that are left
-  abbrev AreLeft : IdRecord → List IdRecord → Type 0
+  abbrev pub AreLeft : IdRecord → List IdRecord → Type 0
   AreLeft first left = (id : List ℕ) (recorded : Recorded) → Has id recorded → (recorded ≡ first.recorded) ⊎ ((r : IdRecord) × Contains left r × (r.id ≡ id) × (r.recorded ≡ recorded))
 
   agree_all : (first : IdRecord) → AreLeft first [] → (id : List ℕ) (recorded : Recorded) → Has id recorded → recorded ≡ first.recorded
   agree_all first left id recorded h = ⊎_elim (λ same. same) (λ r. absurd (in_none r.0 r.1)) (left id recorded h)
 
-  agree_next : (first q : IdRecord) (left : List IdRecord) → q.recorded ≡ first.recorded → AreLeft first (q ∷ left) → AreLeft first left
+  pub agree_next : (first q : IdRecord) (left : List IdRecord) → q.recorded ≡ first.recorded → AreLeft first (q ∷ left) → AreLeft first left
   agree_next first q left same h id recorded has = ⊎_elim inl
       (λ r. ⊎_elim (λ head. inl (sym r.3 ∙ ap (λ (x : IdRecord). x.recorded) (sym head) ∙ same)) (λ later. inr (r.0, later, r.2, r.3)) (in_cases q left r.0 r.1)) (h id recorded has)
 
-  all_hold : (found : ℕ) → Found setting layout bundle step found → step.threshold ≤ found → (first : IdRecord) → AreLeft first []
+  pub all_hold : (found : ℕ) → Found setting layout bundle step found → step.threshold ≤ found → (first : IdRecord) → AreLeft first []
       → StepHolds sub setting layout bundle step (record { name = step.name; materials = first.recorded.materials; products = first.recorded.products; keys = found })
   all_hold found is enough first left = record {
     name = refl;
@@ -77,7 +77,7 @@ module _ (sub : Holding) (fails : Failing) (one : HoldsOneWay sub) (setting : Se
     threshold = enough;
   }
 
-  none_other : (first : IdRecord) → AreLeft first [] → (refusal : ChainRefusal) → ¬ At (at_records step) refusal
+  pub none_other : (first : IdRecord) → AreLeft first [] → (refusal : ChainRefusal) → ¬ At (at_records step) refusal
   none_other first left refusal x =
       let k = x.1 in
       k.differs (agree_all first left x.0 k.given k.of_id ∙ sym (agree_all first left k.least k.expected k.of_least))
@@ -91,7 +91,7 @@ module _ (sub : Holding) (fails : Failing) (one : HoldsOneWay sub) (setting : Se
       (λ later. one_before first.id r.0.id (in_order.0 r.0 later) before_first) (in_cases first others r.0 (subst (λ rs. Contains rs r.0) split r.1))
 
   -- the first of those that are left is the least that differs
-  least_other : (first : IdRecord) (others : List IdRecord) → records ≡ first ∷ others → (q : IdRecord) (left : List IdRecord) → Has q.id q.recorded → InOrder (q ∷ left) → AreLeft first (q ∷ left)
+  pub least_other : (first : IdRecord) (others : List IdRecord) → records ≡ first ∷ others → (q : IdRecord) (left : List IdRecord) → Has q.id q.recorded → InOrder (q ∷ left) → AreLeft first (q ∷ left)
       → ¬ (q.recorded ≡ first.recorded) → IsLeastOther sub fails setting layout bundle step q.id
   least_other first others split q left has in_order h differs = record {
     least = first.id;

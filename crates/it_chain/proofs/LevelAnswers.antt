@@ -1,19 +1,13 @@
 -- What one level comes to, as the deciding functions answer, its sublayouts' answers given.
-use Rattle.std.proofs.Common.{◌≡◌, ◌≢◌, ℕ, ◌<◌, ◌≤◌, ◌<ℤ◌, List, [], ◌∷◌, ◌++◌, map, flat_map, zip, length, get_or, Option, Some, None, Ok, Err, inl, int_lt, AllPairs, Contains, refl, sym, ap, subst, ◌∙◌, arith}
+use Rattle.std.proofs.Common.{ℕ, ◌≤◌, ◌<ℤ◌, List, [], ◌∷◌, ◌++◌, map, flat_map, zip, Option, Some, None, Ok, Err, inl, int_lt, Contains, refl, arith}
 use Rattle.std.specs.FinMap.{keys}
 use Rattle.std.specs.List.{AllZip}
 use Rattle.std.proofs.lemmas.Bool.{cond_both}
 use Rattle.std.proofs.lemmas.Int.{ints}
-use Rattle.std.proofs.lemmas.List.{length-append, length-map, get_or-map, get_or_append_left}
-use Rattle.std.proofs.lemmas.Map.Made.{AllPairs-from_IsDistinct}
-use Rattle.std.proofs.lemmas.Slice.Eq.{bytes_eq-Decides}
-use Rattle.it_docs.specs.Layout.{names_of}
-use Rattle.it_docs.specs.declared.layout.Inspection.{Inspection}
 use Rattle.it_docs.specs.declared.layout.Layout.{Layout}
 use Rattle.it_docs.specs.declared.layout.Step.{Step}
 use Rattle.it_docs.specs.declared.rule.Side.{Side}
 use Rattle.it_docs.specs.declared.rule.Side.TheVariants.{Materials, Products}
-use Rattle.it_rules.specs.Item.{Recorded}
 use Rattle.it_rules.specs.Rules.{NamesDiffer, RulesHold}
 use Rattle.it_chain.specs.Answer.{◌>>=◌, Answering, fault_answer, ids_answer, judged, level_answer, rules_answer, side_answer, signers, step_answer, steps_answer}
 use Rattle.it_chain.specs.Contents.{Contents}
@@ -27,11 +21,10 @@ use Rattle.it_chain.specs.declared.refusal.ChainFault.TheVariants.{Expired}
 use Rattle.it_chain.specs.declared.refusal.ChainRefusal.{ChainRefusal}
 use Rattle.it_chain.proofs.Ids.{Sublayouts}
 use Rattle.it_chain.proofs.Judging.{tells_judged}
-use Rattle.it_chain.proofs.Levels.{step_one, steps_one}
+use Rattle.it_chain.proofs.LevelRules.{links_differ, no_rule_fails}
 use Rattle.it_chain.proofs.Members.{in_head, in_tail}
 use Rattle.it_chain.proofs.Outcomes.{Tells, tells_behind, tells_then, tells_made, tells_weaker}
 use Rattle.it_chain.proofs.Records.{AreRecords, tells_records}
-use Rattle.it_chain.proofs.Zips.{of_zip}
 
 module _ (lower : Lower) (right : AnswersRight lower) (setting : Setting) (layout : Layout) (bundle : Contents) (answers : Answering) (sub : Holding) (fails : Failing) (inside : Sublayouts answers sub fails) where
   abbrev At : Place → ChainRefusal → Type 0
@@ -59,20 +52,10 @@ module _ (lower : Lower) (right : AnswersRight lower) (setting : Setting) (layou
 
   -- ---- the rules, over the records with which the steps hold
   module _ (some : (step : Step) → Contains layout.steps step → 1 ≤ step.threshold) (m : List StepResult) (holds : AllZip HoldsStep layout.steps m) (differ : NamesDiffer (links_in m)) where
-    not_failing_rules : (step : Step) (result : StepResult) (side : Side) → Contains layout.steps step → Contains (zip layout.steps m) (step, result) → RulesHold (rules_on side step) side (recorded_in result) (links_in m)
-        → (refusal : ChainRefusal) → ¬ At (at_rules step side) refusal
-    not_failing_rules step result side among c rules refusal x =
-        let k = x.2 in
-        let results : m ≡ k.results = steps_one sub inside.one setting bundle layout layout.steps m k.results some holds k.steps in
-        let same : result ≡ k.result = step_one sub inside.one setting bundle layout step result k.result (some step among)
-        (of_zip HoldsStep layout.steps m step result holds c) (of_zip HoldsStep layout.steps k.results step k.result k.steps k.of_step) in
-        k.fault.fails (subst (λ rs. RulesHold (rules_on side step) side (recorded_in k.result) (links_in rs)) results
-        (subst (λ r. RulesHold (rules_on side step) side (recorded_in r) (links_in m)) same rules) x.0)
-
     tells_fault : (step : Step) (result : StepResult) (side : Side) → Contains layout.steps step → Contains (zip layout.steps m) (step, result) → (fault : Option (ℕ × List ℕ))
         → IsFaultOf (rules_on side step) side (recorded_in result) (links_in m) fault
         → Tells At (at_rules step side ∷ []) (λ _. RulesHold (rules_on side step) side (recorded_in result) (links_in m)) (fault_answer step side fault)
-    tells_fault step result side among c None rules = ((not_failing_rules step result side among c rules, tt), rules)
+    tells_fault step result side among c None rules = ((no_rule_fails sub fails inside.one setting layout bundle some m holds step result side among c rules, tt), rules)
     tells_fault step result side among c (Some fault) first = inl (fault.0, fault.1, record { results = m; result = result; steps = holds; of_step = c; fault = first }, refl)
 
     tells_side : (step : Step) (result : StepResult) (side : Side) → Contains layout.steps step → Contains (zip layout.steps m) (step, result)
@@ -100,27 +83,6 @@ module _ (lower : Lower) (right : AnswersRight lower) (setting : Setting) (layou
         (tells_rules ss rs h.1 (λ t c. among t (in_tail s ss t c)) (λ t q c. pairs t q (in_tail (s, r) (zip ss rs) (t, q) c)))))
 
   -- ---- the level
-  names_same : (ss : List Step) (rs : List StepResult) → AllZip HoldsStep ss rs → map (λ (l : List ℕ × Recorded). l.0) (links_in rs) ≡ map (λ (s : Step). s.name) ss
-  names_same [] [] h = refl
-  names_same [] (r ∷ rs) h = absurd h
-  names_same (s ∷ ss) [] h = absurd h
-  names_same (s ∷ ss) (r ∷ rs) h =
-      let name = h.0.name in
-      let rest = names_same ss rs h.1 in
-      λ i. name i ∷ rest i
-
-  links_differ : IsProper layout → (m : List StepResult) → AllZip HoldsStep layout.steps m → NamesDiffer (links_in m)
-  links_differ proper m holds i j d less below =
-      let names = map (λ (s : Step). s.name) layout.steps in
-      let all : AllPairs (λ a b. a ≢ b) (names_of layout.steps layout.inspections) = AllPairs-from_IsDistinct bytes_eq-Decides (names_of layout.steps layout.inspections) proper.names in
-      let same : map (λ (l : List ℕ × Recorded). l.0) (links_in m) ≡ names = names_same layout.steps m holds in
-      let long : length (links_in m) ≡ length names = sym (length-map (links_in m) (λ (l : List ℕ × Recorded). l.0)) ∙ ap length same in
-      let at_place : (k : ℕ) → k < length (links_in m) → (get_or (links_in m) k d).0 ≡ get_or (names_of layout.steps layout.inspections) k d.0 =
-      λ k inside_k. sym (get_or-map (λ (l : List ℕ × Recorded). l.0) (links_in m) k d d.0 inside_k) ∙ ap (λ xs. get_or xs k d.0) same
-      ∙ sym (get_or_append_left names (map (λ (x : Inspection). x.name) layout.inspections) d.0 k (omega (arith, long, inside_k))) in
-      λ equal. all i j d.0 less (let whole = length-append names (map (λ (x : Inspection). x.name) layout.inspections) in omega (arith, whole, long, below))
-      (sym (at_place i (omega (arith, less, below))) ∙ equal ∙ at_place j below)
-
   -- the layout holds of the bundle, or fails
   pub tells_level : IsProper layout → Tells At (places layout) (LevelHolds sub setting layout bundle) (level_answer lower setting answers layout bundle)
   unfolding level_answer
@@ -135,5 +97,5 @@ module _ (lower : Lower) (right : AnswersRight lower) (setting : Setting) (layou
       (steps_answer lower setting answers layout bundle layout.steps) _ (tells_steps layout.steps proper.thresholds)
       (λ m none holds. tells_made At (flat_map rule_places layout.steps) (λ _. AllZip (StepRulesHold (links_in m)) layout.steps m) (LevelHolds sub setting layout bundle)
       (rules_answer lower setting (links_in m) layout.steps m) (λ _. m)
-      (tells_rules proper.thresholds m holds (links_differ proper m holds) layout.steps m holds (λ s c. c) (λ s r c. c))
+      (tells_rules proper.thresholds m holds (links_differ sub fails inside.one setting layout bundle proper m holds) layout.steps m holds (λ s c. c) (λ s r c. c))
       (λ _ none' rules. record { unexpired = unexpired; steps = holds; rules = rules }))))

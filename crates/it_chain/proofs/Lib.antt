@@ -9,6 +9,7 @@ pub mod Firsts
 pub mod Ids
 pub mod Judging
 pub mod LevelAnswers
+pub mod LevelRules
 pub mod Levels
 pub mod Lookups
 pub mod Members

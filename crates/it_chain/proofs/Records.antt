@@ -34,7 +34,7 @@ module _ (sub : Holding) (setting : Setting) (layout : Layout) (bundle : Content
     pub in_order : InOrder records
 
   -- the records of entries of the map of keys
-  abbrev AreOf : List (List ℕ × KeyObject) → List IdRecord → Type 0
+  abbrev pub AreOf : List (List ℕ × KeyObject) → List IdRecord → Type 0
   AreOf [] records = records ≡ []
   AreOf (e ∷ es) records = (given : Option IdRecord) × (rest : List IdRecord) × (records ≡ with_record given rest) × Gives sub setting layout bundle step e.0 given × AreOf es rest
 
@@ -85,7 +85,8 @@ module _ (sub : Holding) (setting : Setting) (layout : Layout) (bundle : Content
       (λ r c. let f = each_of es h.1 h.4 r c in subst (IsBefore e.0) (sym f.2.id_is) (parts.0 f.0 f.1))
       (order_of es h.1 parts.1 h.4))
 
-  are_records : (records : List IdRecord) → AreOf (entries layout.keys) records → AreRecords records
+  -- those of all its entries are those of the step
+  pub are_records : (records : List IdRecord) → AreOf (entries layout.keys) records → AreRecords records
   are_records records h = record {
     each = λ r c. let e = each_of (entries layout.keys) records h r c in subst (λ id. IsGiven sub setting layout bundle step id r) (sym e.2.id_is) e.2;
     all = λ id payload c. all_of (entries layout.keys) records h (id, c.object) (known_entry layout.keys id c.object c.known) payload c;
@@ -119,7 +120,7 @@ module _ (lower : Lower) (right : AnswersRight lower) (setting : Setting) (layou
   tells_entry e es false unlisted known rest =
       let gives = gives_none e unlisted in
       tells_behind At (at_id step e.0 ∷ []) (map (at_id step) (map (λ f. f.0) es)) (AreOf sub setting layout bundle step (e ∷ es)) (ids_answer lower setting answers layout bundle step (filter is_listed es))
-      (none_of_given sub fails inside.one inside.apart setting layout bundle step e.0 None gives, tt)
+      (none_of_given answers sub fails inside setting layout bundle step e.0 None gives, tt)
       (tells_weaker At (map (at_id step) (map (λ f. f.0) es)) (AreOf sub setting layout bundle step es) (AreOf sub setting layout bundle step (e ∷ es)) (ids_answer lower setting answers layout bundle step (filter is_listed es))
       (λ records are. (None, records, refl, gives, are)) rest)
 

@@ -86,6 +86,17 @@ abbrev pub unless_inspected : List Inspection → Result (List StepResult) Chain
 unless_inspected [] answer = answer
 unless_inspected (inspection ∷ inspections) answer = Err (here InspectionInSublayout)
 
+module _ (sub : Answering) (bundle : Contents) where
+  -- the artifacts that a body comes to
+  abbrev pub body_answer : Step → List ℕ → Body → Result Recorded ChainRefusal
+  body_answer step id (of_link link) = Ok (record { materials = link.materials; products = link.products })
+  body_answer step id (of_layout sublayout) = put_under step.name id (sub sublayout (folder_of step.name id bundle)) >>= λ results. Ok (summary results)
+
+  abbrev pub bodies_answer : Step → List ℕ → KeyNumber → Bodies → Result (Option IdRecord) ChainRefusal
+  bodies_answer step id key no_body = Ok None
+  bodies_answer step id key several = Err (here (TwoPayloads step.name id))
+  bodies_answer step id key (one_body body) = body_answer step id body >>= λ recorded. Ok (Some (record { id = id; key = key; recorded = recorded }))
+
 module _ (lower : Lower) (setting : Setting) where
   -- the envelopes of the in-toto type in the files that are claimed for a step
   abbrev pub envelopes_for : Step → Contents → List Envelope
@@ -102,19 +113,9 @@ module _ (lower : Lower) (setting : Setting) where
       (filter (λ envelope. is_vouched setting.check id key (message_of envelope) envelope.signatures) (envelopes_for step bundle))
 
   module _ (sub : Answering) (layout : Layout) (bundle : Contents) where
-    -- the artifacts that a body comes to
-    abbrev pub body_answer : Step → List ℕ → Body → Result Recorded ChainRefusal
-    body_answer step id (of_link link) = Ok (record { materials = link.materials; products = link.products })
-    body_answer step id (of_layout sublayout) = put_under step.name id (sub sublayout (folder_of step.name id bundle)) >>= λ results. Ok (summary results)
-
-    abbrev pub bodies_answer : Step → List ℕ → KeyNumber → Bodies → Result (Option IdRecord) ChainRefusal
-    bodies_answer step id key no_body = Ok None
-    bodies_answer step id key several = Err (here (TwoPayloads step.name id))
-    bodies_answer step id key (one_body body) = body_answer step id body >>= λ recorded. Ok (Some (record { id = id; key = key; recorded = recorded }))
-
     abbrev pub key_answer : Step → List ℕ → Option KeyNumber → Result (Option IdRecord) ChainRefusal
     key_answer step id None = Ok None
-    key_answer step id (Some key) = bodies_answer step id key (bodies_in (payloads_for step bundle id key))
+    key_answer step id (Some key) = bodies_answer sub bundle step id key (bodies_in (payloads_for step bundle id key))
 
     -- the record of an id, if it counts
     unfoldable pub id_answer : Step → List ℕ × KeyObject → Result (Option IdRecord) ChainRefusal

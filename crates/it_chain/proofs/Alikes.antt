@@ -7,7 +7,7 @@ use Rattle.std.proofs.lemmas.Option.{same_Some}
 use Rattle.it_dsse.specs.Envelope.{EnvelopeOf}
 use Rattle.it_docs.specs.Layout.{LayoutOf}
 use Rattle.it_docs.specs.declared.layout.Layout.{Layout}
-use Rattle.it_docs.specs.declared.layout.Step.{Step}
+use Rattle.it_docs.specs.declared.step.Step.{Step}
 use Rattle.it_rules.specs.Item.{Recorded}
 use Rattle.it_chain.specs.Alike.{Alike, Comparing, ComesToTheSame, FoldersCompare, HasCopies, LevelWithin, Within, any_two, deeper_alike}
 use Rattle.it_chain.specs.Chain.{Chain, none_holds}

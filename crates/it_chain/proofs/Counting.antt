@@ -14,7 +14,7 @@ use Rattle.it_dsse.proofs.Vouching.{signed_found, not_signed}
 use Rattle.it_docs.specs.Layout.{LayoutOf}
 use Rattle.it_docs.specs.Link.{LinkOf}
 use Rattle.it_docs.specs.declared.layout.Layout.{Layout}
-use Rattle.it_docs.specs.declared.layout.Step.{Step}
+use Rattle.it_docs.specs.declared.step.Step.{Step}
 use Rattle.it_docs.specs.declared.link.Link.{Link}
 use Rattle.it_docs.proofs.Same.{layout_same, link_same}
 use Rattle.it_chain.specs.Answer.{body_of, link_or, envelopes_for, payloads_for}

@@ -1,7 +1,7 @@
 -- What holds at a depth holds at the next.
 use Rattle.std.proofs.Common.{ℕ, zero, suc, List}
 use Rattle.it_docs.specs.declared.layout.Layout.{Layout}
-use Rattle.it_docs.specs.declared.layout.Step.{Step}
+use Rattle.it_docs.specs.declared.step.Step.{Step}
 use Rattle.it_rules.specs.Item.{Recorded}
 use Rattle.it_chain.specs.Chain.{Chain, none_holds}
 use Rattle.it_chain.specs.Contents.{Contents}

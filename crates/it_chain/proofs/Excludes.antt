@@ -4,13 +4,12 @@ use Rattle.std.proofs.Common.{ℕ, zero, suc, List, [], ◌∷◌, map, flat_map
 use Rattle.std.specs.List.{AllZip}
 use Rattle.std.specs.FinMap.{keys}
 use Rattle.it_docs.specs.declared.layout.Layout.{Layout}
-use Rattle.it_docs.specs.declared.layout.Step.{Step}
+use Rattle.it_docs.specs.declared.step.Step.{Step}
 use Rattle.it_docs.specs.declared.rule.Side.TheVariants.{Materials, Products}
 use Rattle.it_chain.specs.Chain.{Chain, none_holds}
 use Rattle.it_chain.specs.Contents.{Contents}
 use Rattle.it_chain.specs.Counted.{Setting}
 use Rattle.it_chain.specs.First.{Failing, at_id, at_threshold, at_records, step_places, rule_places, places, Stands, LevelFails, First, too_deep, uninspected}
-use Rattle.it_chain.specs.Laws.{IsProper}
 use Rattle.it_chain.specs.Level.{Holding, StepHolds, LevelHolds}
 use Rattle.it_chain.specs.declared.chain.StepResult.{StepResult}
 use Rattle.it_chain.specs.declared.refusal.ChainRefusal.{ChainRefusal}
@@ -31,35 +30,35 @@ module _ (sub : Holding) (fails : Failing) (one : HoldsOneWay sub) (apart : Hold
   none_of_steps (s ∷ ss) (r ∷ rs) h =
       none_append (Stands sub fails setting layout bundle) (step_places layout s) (flat_map (step_places layout) ss) (none_of_step s r h.0) (none_of_steps ss rs h.1)
 
-  none_of_rules : (m : List StepResult) → IsProper layout → LevelHolds sub setting layout bundle m → (steps : List Step) → NoneAt (Stands sub fails setting layout bundle) (flat_map rule_places steps)
-  none_of_rules m proper h [] = tt
-  none_of_rules m proper h (s ∷ ss) = (
-    λ refusal x. no_rules sub one setting bundle fails apart layout m proper h s Materials x.0 x.1 x.2,
-    (λ refusal x. no_rules sub one setting bundle fails apart layout m proper h s Products x.0 x.1 x.2, none_of_rules m proper h ss),
+  none_of_rules : (m : List StepResult) → LevelHolds sub setting layout bundle m → (steps : List Step) → NoneAt (Stands sub fails setting layout bundle) (flat_map rule_places steps)
+  none_of_rules m h [] = tt
+  none_of_rules m h (s ∷ ss) = (
+    λ refusal x. no_rules sub one setting bundle fails apart layout m h s Materials x.0 x.1 x.2,
+    (λ refusal x. no_rules sub one setting bundle fails apart layout m h s Products x.0 x.1 x.2, none_of_rules m h ss),
   )
 
-  pub level_excludes : (m : List StepResult) (refusal : ChainRefusal) → IsProper layout → LevelHolds sub setting layout bundle m → ¬ LevelFails sub fails setting layout bundle refusal
-  level_excludes m refusal proper h =
+  pub level_excludes : (m : List StepResult) (refusal : ChainRefusal) → LevelHolds sub setting layout bundle m → ¬ LevelFails sub fails setting layout bundle refusal
+  level_excludes m refusal h =
       none_first (Stands sub fails setting layout bundle) (places layout) refusal (
         λ r x. h.unexpired x.0,
         none_append (Stands sub fails setting layout bundle) (flat_map (step_places layout) layout.steps) (flat_map rule_places layout.steps)
-            (none_of_steps layout.steps m h.steps) (none_of_rules m proper h layout.steps),
+            (none_of_steps layout.steps m h.steps) (none_of_rules m h layout.steps),
       )
 
 pub none_one : HoldsOneWay none_holds
-none_one layout bundle m n proper h k = absurd h
+none_one layout bundle m n h k = absurd h
 
 pub chain_one : (setting : Setting) (depth : ℕ) → HoldsOneWay (Chain setting depth)
 chain_one setting zero layout bundle m n = level_one none_holds none_one setting bundle layout m n
 chain_one setting (suc depth) layout bundle m n = level_one (Chain setting depth) (chain_one setting depth) setting bundle layout m n
 
-pub uninspected_apart : (sub : Holding) (fails : Failing) → ((layout : Layout) (bundle : Contents) (m : List StepResult) (refusal : ChainRefusal) → IsProper layout → sub layout bundle m → ¬ fails layout bundle refusal)
+pub uninspected_apart : (sub : Holding) (fails : Failing) → ((layout : Layout) (bundle : Contents) (m : List StepResult) (refusal : ChainRefusal) → sub layout bundle m → ¬ fails layout bundle refusal)
     → HoldsOrFails sub (uninspected fails)
-uninspected_apart sub fails apart layout bundle m refusal proper bare h k = ⊎_elim (λ x. x.0 bare) (λ x. apart layout bundle m refusal proper h x.1) k
+uninspected_apart sub fails apart layout bundle m refusal bare h k = ⊎_elim (λ x. x.0 bare) (λ x. apart layout bundle m refusal h x.1) k
 
-pub chain_excludes : (setting : Setting) (depth : ℕ) (layout : Layout) (bundle : Contents) (m : List StepResult) (refusal : ChainRefusal) → IsProper layout → Chain setting depth layout bundle m → ¬ First setting depth layout bundle refusal
-chain_excludes setting zero layout bundle m refusal proper =
-    level_excludes none_holds too_deep none_one (λ l b n r p bare h k. h) setting layout bundle m refusal proper
-chain_excludes setting (suc depth) layout bundle m refusal proper =
+pub chain_excludes : (setting : Setting) (depth : ℕ) (layout : Layout) (bundle : Contents) (m : List StepResult) (refusal : ChainRefusal) → Chain setting depth layout bundle m → ¬ First setting depth layout bundle refusal
+chain_excludes setting zero layout bundle m refusal =
+    level_excludes none_holds too_deep none_one (λ l b n r bare h k. h) setting layout bundle m refusal
+chain_excludes setting (suc depth) layout bundle m refusal =
     level_excludes (Chain setting depth) (uninspected (First setting depth)) (chain_one setting depth)
-    (uninspected_apart (Chain setting depth) (First setting depth) (chain_excludes setting depth)) setting layout bundle m refusal proper
+    (uninspected_apart (Chain setting depth) (First setting depth) (chain_excludes setting depth)) setting layout bundle m refusal

@@ -8,20 +8,18 @@ use Rattle.std.proofs.lemmas.Slice.Eq.{bytes_eq-Decides}
 use Rattle.it_dsse.specs.Check.{KeyNumber}
 use Rattle.it_dsse.specs.declared.key_object.KeyObject.{KeyObject}
 use Rattle.it_docs.specs.declared.layout.Layout.{Layout}
-use Rattle.it_docs.specs.declared.layout.Step.{Step}
+use Rattle.it_docs.specs.declared.step.Step.{Step}
 use Rattle.it_rules.specs.Item.{Recorded}
 use Rattle.it_chain.specs.Answer.{Answering, Bodies, no_body, one_body, several, IdRecord, bodies_answer, bodies_in, id_answer, key_answer, payloads_for, put_under, ◌>>=◌}
 use Rattle.it_chain.specs.Contents.{Contents}
 use Rattle.it_chain.specs.Counted.{Setting, Body, of_link, of_layout, BodyOf, Counted}
 use Rattle.it_chain.specs.First.{Failing, HasTwo, at_id, Stands}
-use Rattle.it_chain.specs.Laws.{IsProper}
 use Rattle.it_chain.specs.Level.{Holding, Records, HasRecord, summary}
 use Rattle.it_chain.specs.Lower.{Lower, AnswersRight}
 use Rattle.it_chain.specs.Names.{folder_of}
 use Rattle.it_chain.specs.declared.chain.StepResult.{StepResult}
 use Rattle.it_chain.specs.declared.refusal.ChainRefusal.{ChainRefusal}
 use Rattle.it_chain.proofs.Counting.{listed, counts}
-use Rattle.it_chain.proofs.Documents.{proper_layout}
 use Rattle.it_chain.proofs.Levels.{HoldsOneWay, HoldsOrFails, not_failing}
 use Rattle.it_chain.proofs.Members.{in_head, in_tail, in_cases, in_none, all_pass, some_fails}
 use Rattle.it_chain.proofs.Outcomes.{Tells}
@@ -33,7 +31,7 @@ ComesTo sub fails layout bundle (Err refusal) = fails layout bundle refusal
 
 -- the sublayouts of a level hold in one way, or fail, as is answered
 pub record Sublayouts (answers : Answering) (sub : Holding) (fails : Failing) : Type 0 where
-  pub come : (layout : Layout) (bundle : Contents) → IsProper layout → ComesTo sub fails layout bundle (answers layout bundle)
+  pub come : (layout : Layout) (bundle : Contents) → ComesTo sub fails layout bundle (answers layout bundle)
   pub one : HoldsOneWay sub
   pub apart : HoldsOrFails sub fails
 
@@ -138,7 +136,7 @@ module _ (answers : Answering) (sub : Holding) (fails : Failing) (inside : Subla
   tells_bodies id key several h = inl (inl (h, refl))
   tells_bodies id key (one_body (of_link link)) h = tells_record id key (of_link link) h (record { materials = link.materials; products = link.products }) refl
   tells_bodies id key (one_body (of_layout sublayout)) h =
-      tells_sublayout id key sublayout h (answers sublayout (folder_of step.name id bundle)) (inside.come sublayout (folder_of step.name id bundle) (proper_layout h.payload sublayout h.reads))
+      tells_sublayout id key sublayout h (answers sublayout (folder_of step.name id bundle)) (inside.come sublayout (folder_of step.name id bundle))
 
 module _ (lower : Lower) (right : AnswersRight lower) (setting : Setting) (layout : Layout) (bundle : Contents) (step : Step) (answers : Answering) (sub : Holding) (fails : Failing) (inside : Sublayouts answers sub fails) where
   tells_key : (id : List ℕ) (object : KeyObject) (number : Option KeyNumber) → setting.check.key_of id object ≡ number → Contains step.pubkeys id → get layout.keys id ≡ Some object

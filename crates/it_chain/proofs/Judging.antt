@@ -3,7 +3,7 @@ use Rattle.std.proofs.Common.{◌≡◌, ◌⊎◌, ◌↔◌, ℕ, ◌≤◌, L
 use Rattle.std.specs.Set.{distinct_count}
 use Rattle.std.proofs.lemmas.Bool.{cond_both}
 use Rattle.it_docs.specs.declared.layout.Layout.{Layout}
-use Rattle.it_docs.specs.declared.layout.Step.{Step}
+use Rattle.it_docs.specs.declared.step.Step.{Step}
 use Rattle.it_rules.specs.Item.{Recorded}
 use Rattle.it_rules.proofs.Listed.{Contains-from_place, Contains-map, Contains-map_cases, place_of}
 use Rattle.it_chain.specs.Answer.{Answering, IdRecord, agreed, agreement, judged}
@@ -118,12 +118,12 @@ module _ (sub : Holding) (fails : Failing) (one : HoldsOneWay sub) (setting : Se
         (λ same. tells_agreed found is enough first others split left (λ r c. each r (in_tail q left r c)) in_order.1 (agree_next first q left ((right.same q.recorded first.recorded).0 same) h))
         (λ differs. inl (q.id, least_other first others split q left (each q (in_head q left)) in_order h (λ same. let is : lower.is_same q.recorded first.recorded ≡ true = (right.same q.recorded first.recorded).1 same in cc), refl))
 
-    tells_agreement : (rs : List IdRecord) → records ≡ rs → 1 ≤ step.threshold → step.threshold ≤ distinct_count same_key (map (λ (r : IdRecord). r.key) records)
+    tells_agreement : (rs : List IdRecord) → records ≡ rs → step.threshold ≤ distinct_count same_key (map (λ (r : IdRecord). r.key) records)
         → Tells At (at_records step ∷ []) (StepHolds sub setting layout bundle step) (agreement lower setting answers layout bundle step (distinct_count same_key (map (λ (r : IdRecord). r.key) records)) rs)
-    tells_agreement [] none some enough =
+    tells_agreement [] none enough =
         let zero_found : distinct_count same_key (map (λ (r : IdRecord). r.key) records) ≡ 0 = ap (λ rs. distinct_count same_key (map (λ (r : IdRecord). r.key) rs)) none in
-        absurd (omega arith)
-    tells_agreement (first ∷ others) split some enough =
+        absurd (omega (arith, step.threshold_at_least_one))
+    tells_agreement (first ∷ others) split enough =
         tells_agreed (distinct_count same_key (map (λ (r : IdRecord). r.key) records)) is_found enough first others split others
         (λ r c. (are.each r (subst (λ rs. Contains rs r) (sym split) (in_tail first others r c))).recorded)
         ((subst InOrder split are.in_order).1)
@@ -131,12 +131,12 @@ module _ (sub : Holding) (fails : Failing) (one : HoldsOneWay sub) (setting : Se
         ⊎_elim (λ head. inl (sym r.3 ∙ ap (λ (x : IdRecord). x.recorded) (sym head))) (λ later. inr (r.0, later, r.2, r.3)) (in_cases first others r.0 (subst (λ rs. Contains rs r.0) split r.1)))
 
     -- the step holds, or too few keys signed, or a record differs
-    pub tells_judged : 1 ≤ step.threshold → Tells At (at_threshold step ∷ at_records step ∷ []) (StepHolds sub setting layout bundle step) (judged lower setting answers layout bundle step records)
+    pub tells_judged : Tells At (at_threshold step ∷ at_records step ∷ []) (StepHolds sub setting layout bundle step) (judged lower setting answers layout bundle step records)
     unfolding judged
-    tells_judged some =
+    tells_judged =
         let found = distinct_count same_key (map (λ (r : IdRecord). r.key) records) in
         cond_both (nat_lt found step.threshold) (Err (here (Threshold step.name found step.threshold))) (agreement lower setting answers layout bundle step found records)
         (Tells At (at_threshold step ∷ at_records step ∷ []) (StepHolds sub setting layout bundle step))
         (λ few. inl (found, record { is_found = is_found; below = ltb-true found step.threshold few }, refl))
         (λ enough. tells_behind At (at_threshold step ∷ []) (at_records step ∷ []) (StepHolds sub setting layout bundle step) (agreement lower setting answers layout bundle step found records)
-        (not_few found is_found (ltb-false found step.threshold enough), tt) (tells_agreement records refl some (ltb-false found step.threshold enough)))
+        (not_few found is_found (ltb-false found step.threshold enough), tt) (tells_agreement records refl (ltb-false found step.threshold enough)))

@@ -1,20 +1,19 @@
 -- The records with which the steps of a layout hold: the names of these records, and the rules over them.
-use Rattle.std.proofs.Common.{◌≡◌, ◌≢◌, ℕ, ◌<◌, ◌≤◌, List, [], ◌∷◌, map, zip, length, get_or, AllPairs, Contains, refl, sym, ap, subst, ◌∙◌, arith}
+use Rattle.std.proofs.Common.{◌≡◌, ◌≢◌, ℕ, ◌<◌, List, [], ◌∷◌, map, zip, length, get_or, AllPairs, Contains, refl, sym, ap, subst, ◌∙◌, arith}
 use Rattle.std.specs.List.{AllZip}
 use Rattle.std.proofs.lemmas.List.{length-append, length-map, get_or-map, get_or_append_left}
 use Rattle.std.proofs.lemmas.Map.Made.{AllPairs-from_IsDistinct}
 use Rattle.std.proofs.lemmas.Slice.Eq.{bytes_eq-Decides}
-use Rattle.it_docs.specs.Layout.{names_of}
-use Rattle.it_docs.specs.declared.layout.Inspection.{Inspection}
+use Rattle.it_docs.specs.Step.{names_of}
+use Rattle.it_docs.specs.declared.step.Inspection.{Inspection}
 use Rattle.it_docs.specs.declared.layout.Layout.{Layout}
-use Rattle.it_docs.specs.declared.layout.Step.{Step}
+use Rattle.it_docs.specs.declared.step.Step.{Step}
 use Rattle.it_docs.specs.declared.rule.Side.{Side}
 use Rattle.it_rules.specs.Item.{Recorded}
 use Rattle.it_rules.specs.Rules.{NamesDiffer, RulesHold}
 use Rattle.it_chain.specs.Contents.{Contents}
 use Rattle.it_chain.specs.Counted.{Setting}
 use Rattle.it_chain.specs.First.{Failing, Place, at_rules, Stands}
-use Rattle.it_chain.specs.Laws.{IsProper}
 use Rattle.it_chain.specs.Level.{Holding, StepHolds, links_in, recorded_in, rules_on}
 use Rattle.it_chain.specs.declared.chain.StepResult.{StepResult}
 use Rattle.it_chain.specs.declared.refusal.ChainRefusal.{ChainRefusal}
@@ -29,12 +28,12 @@ module _ (sub : Holding) (fails : Failing) (one : HoldsOneWay sub) (setting : Se
   HoldsStep = StepHolds sub setting layout bundle
 
   -- nothing stands at the rules of a step that hold over the records with which the steps do
-  pub no_rule_fails : ((step : Step) → Contains layout.steps step → 1 ≤ step.threshold) → (m : List StepResult) → AllZip HoldsStep layout.steps m → (step : Step) (result : StepResult) (side : Side) → Contains layout.steps step → Contains (zip layout.steps m) (step, result) → RulesHold (rules_on side step) side (recorded_in result) (links_in m)
+  pub no_rule_fails : (m : List StepResult) → AllZip HoldsStep layout.steps m → (step : Step) (result : StepResult) (side : Side) → Contains (zip layout.steps m) (step, result) → RulesHold (rules_on side step) side (recorded_in result) (links_in m)
       → (refusal : ChainRefusal) → ¬ At (at_rules step side) refusal
-  no_rule_fails some m holds step result side among c rules refusal x =
+  no_rule_fails m holds step result side c rules refusal x =
       let k = x.2 in
-      let results : m ≡ k.results = steps_one sub one setting bundle layout layout.steps m k.results some holds k.steps in
-      let same : result ≡ k.result = step_one sub one setting bundle layout step result k.result (some step among)
+      let results : m ≡ k.results = steps_one sub one setting bundle layout layout.steps m k.results holds k.steps in
+      let same : result ≡ k.result = step_one sub one setting bundle layout step result k.result
       (of_zip HoldsStep layout.steps m step result holds c) (of_zip HoldsStep layout.steps k.results step k.result k.steps k.of_step) in
       k.fault.fails (subst (λ rs. RulesHold (rules_on side step) side (recorded_in k.result) (links_in rs)) results
       (subst (λ r. RulesHold (rules_on side step) side (recorded_in r) (links_in m)) same rules) x.0)
@@ -49,10 +48,10 @@ module _ (sub : Holding) (fails : Failing) (one : HoldsOneWay sub) (setting : Se
       λ i. name i ∷ rest i
 
   -- the names of the records differ
-  pub links_differ : IsProper layout → (m : List StepResult) → AllZip HoldsStep layout.steps m → NamesDiffer (links_in m)
-  links_differ proper m holds i j d less below =
+  pub links_differ : (m : List StepResult) → AllZip HoldsStep layout.steps m → NamesDiffer (links_in m)
+  links_differ m holds i j d less below =
       let names = map (λ (s : Step). s.name) layout.steps in
-      let all : AllPairs (λ a b. a ≢ b) (names_of layout.steps layout.inspections) = AllPairs-from_IsDistinct bytes_eq-Decides (names_of layout.steps layout.inspections) proper.names in
+      let all : AllPairs (λ a b. a ≢ b) (names_of layout.steps layout.inspections) = AllPairs-from_IsDistinct bytes_eq-Decides (names_of layout.steps layout.inspections) layout.names_differ in
       let same : map (λ (l : List ℕ × Recorded). l.0) (links_in m) ≡ names = names_same layout.steps m holds in
       let long : length (links_in m) ≡ length names = sym (length-map (links_in m) (λ (l : List ℕ × Recorded). l.0)) ∙ ap length same in
       let at_place : (k : ℕ) → k < length (links_in m) → (get_or (links_in m) k d).0 ≡ get_or (names_of layout.steps layout.inspections) k d.0 =

@@ -10,7 +10,7 @@ use Rattle.std.proofs.lemmas.List.Folds.{Any-from_list_any}
 use Rattle.std.proofs.lemmas.Map.Views.{list_any-from_Contains}
 use Rattle.std.proofs.lemmas.Bool.Decides.{Decides-eqb}
 use Rattle.it_docs.specs.declared.layout.Layout.{Layout}
-use Rattle.it_docs.specs.declared.layout.Step.{Step}
+use Rattle.it_docs.specs.declared.step.Step.{Step}
 use Rattle.it_chain.specs.Contents.{Contents}
 use Rattle.it_chain.specs.Counted.{Setting, Found, KeyCounts}
 use Rattle.it_chain.proofs.Members.{in_head, in_tail, in_cases, in_none}

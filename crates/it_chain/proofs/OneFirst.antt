@@ -7,7 +7,7 @@ use Rattle.std.specs.FinMap.{keys, get, contains_key-keys, slice_cmp-IsAntisymme
 use Rattle.std.specs.Ordering.{eq_by_cmp}
 use Rattle.it_docs.specs.Layout.{LayoutOf}
 use Rattle.it_docs.specs.declared.layout.Layout.{Layout}
-use Rattle.it_docs.specs.declared.layout.Step.{Step}
+use Rattle.it_docs.specs.declared.step.Step.{Step}
 use Rattle.it_docs.specs.declared.rule.Rule.{Rule}
 use Rattle.it_docs.specs.declared.rule.Rule.TheVariants.{Match, Create, Delete, Modify, Allow, Disallow, Require}
 use Rattle.it_docs.specs.declared.rule.Side.{Side}
@@ -19,19 +19,17 @@ use Rattle.it_chain.specs.Chain.{Chain, none_holds}
 use Rattle.it_chain.specs.Contents.{Contents}
 use Rattle.it_chain.specs.Counted.{Setting}
 use Rattle.it_chain.specs.First.{Failing, Place, at_expiry, at_id, at_threshold, at_records, at_rules, step_places, rule_places, HasTwo, SublayoutFails, IsLeastOther, Stands, LevelFails, First, too_deep, uninspected, here, under}
-use Rattle.it_chain.specs.Laws.{IsProper}
 use Rattle.it_chain.specs.Level.{Holding, HasRecord, StepHolds, recorded_in, links_in, rules_on}
 use Rattle.it_chain.specs.Names.{folder_of}
 use Rattle.it_chain.specs.declared.refusal.ChainFault.TheVariants.{TwoPayloads, Threshold, Disagree, RuleFailed}
 use Rattle.it_chain.specs.declared.refusal.ChainRefusal.{ChainRefusal}
 use Rattle.it_chain.specs.declared.refusal.RuleItem.TheVariants.{Step as of_step}
-use Rattle.it_chain.proofs.Documents.{proper_layout}
 use Rattle.it_chain.proofs.Excludes.{chain_one, none_one}
 use Rattle.it_chain.proofs.Firsts.{NoneAt, OneFirst, OneAt, one_none, one_more, one_append, one_map, one_flat_map}
 use Rattle.it_chain.proofs.Levels.{HoldsOneWay, record_one, step_one, steps_one}
 use Rattle.it_chain.proofs.Numbers.{found_one}
 use Rattle.it_chain.proofs.Orders.{neither_before, not_different}
-use Rattle.it_chain.proofs.Zips.{of_zip, first_of_zip}
+use Rattle.it_chain.proofs.Zips.{of_zip}
 
 -- ---- the first rule that fails
 module _ (rules : List Rule) (side : Side) (item : Recorded) (links : Links) where
@@ -75,7 +73,7 @@ key_listed At step id (x ∷ ids) e none refusal =
 
 -- what fails fails in one way
 abbrev pub FailsOneWay : Failing → Type 0
-FailsOneWay fails = (layout : Layout) (bundle : Contents) (a b : ChainRefusal) → IsProper layout → fails layout bundle a → fails layout bundle b → a ≡ b
+FailsOneWay fails = (layout : Layout) (bundle : Contents) (a b : ChainRefusal) → fails layout bundle a → fails layout bundle b → a ≡ b
 
 module _ (sub : Holding) (fails : Failing) (one : HoldsOneWay sub) (fails_one : FailsOneWay fails) (setting : Setting) (layout : Layout) (bundle : Contents) where
   abbrev At : Place → ChainRefusal → Type 0
@@ -85,7 +83,7 @@ module _ (sub : Holding) (fails : Failing) (one : HoldsOneWay sub) (fails_one : 
   failing_one step id a b h k =
       let payload : h.payload ≡ k.payload = h.one_body k.payload k.counted in
       let sublayout : h.sublayout ≡ k.sublayout = layout_same k.payload h.sublayout k.sublayout (subst (λ p. LayoutOf p h.sublayout) payload h.is_layout) k.is_layout in
-      let inner : h.inner ≡ k.inner = fails_one k.sublayout (folder_of step.name id bundle) h.inner k.inner (proper_layout k.payload k.sublayout k.is_layout)
+      let inner : h.inner ≡ k.inner = fails_one k.sublayout (folder_of step.name id bundle) h.inner k.inner
       (subst (λ l. fails l (folder_of step.name id bundle) h.inner) sublayout h.fails_there) k.fails_there in
       h.refusal_is ∙ ap (under step.name id) inner ∙ sym k.refusal_is
 
@@ -124,12 +122,12 @@ module _ (sub : Holding) (fails : Failing) (one : HoldsOneWay sub) (fails_one : 
   at_records_one : (step : Step) → NoneAt At (map (at_id step) (keys layout.keys)) → OneAt At (at_records step)
   at_records_one step none a b h k = h.2 ∙ ap (λ id. here (Disagree step.name id)) (other_one step none h.0 k.0 h.1 k.1) ∙ sym k.2
 
-  at_rules_one : IsProper layout → (step : Step) (side : Side) → OneAt At (at_rules step side)
-  at_rules_one proper step side a b h k =
+  at_rules_one : (step : Step) (side : Side) → OneAt At (at_rules step side)
+  at_rules_one step side a b h k =
       let x = h.2 in
       let y = k.2 in
-      let results : x.results ≡ y.results = steps_one sub one setting bundle layout layout.steps x.results y.results proper.thresholds x.steps y.steps in
-      let result : x.result ≡ y.result = step_one sub one setting bundle layout step x.result y.result (proper.thresholds step (first_of_zip layout.steps x.results step x.result x.of_step))
+      let results : x.results ≡ y.results = steps_one sub one setting bundle layout layout.steps x.results y.results x.steps y.steps in
+      let result : x.result ≡ y.result = step_one sub one setting bundle layout step x.result y.result
       (of_zip (StepHolds sub setting layout bundle) layout.steps x.results step x.result x.steps x.of_step) (of_zip (StepHolds sub setting layout bundle) layout.steps y.results step y.result y.steps y.of_step) in
       let fault : IsFirstFault (rules_on side step) side (recorded_in y.result) (links_in y.results) h.0 h.1 =
       subst (λ r. IsFirstFault (rules_on side step) side (recorded_in r) (links_in y.results) h.0 h.1) result
@@ -143,23 +141,23 @@ module _ (sub : Holding) (fails : Failing) (one : HoldsOneWay sub) (fails_one : 
       (λ none. one_more At (at_threshold step) (at_records step ∷ []) (at_threshold_one step)
       (λ _. one_more At (at_records step) [] (at_records_one step none) (λ _. one_none At)))
 
-  rules_one_first : IsProper layout → (step : Step) → OneFirst At (rule_places step)
-  rules_one_first proper step =
-      one_more At (at_rules step Materials) (at_rules step Products ∷ []) (at_rules_one proper step Materials)
-      (λ _. one_more At (at_rules step Products) [] (at_rules_one proper step Products) (λ _. one_none At))
+  rules_one_first : (step : Step) → OneFirst At (rule_places step)
+  rules_one_first step =
+      one_more At (at_rules step Materials) (at_rules step Products ∷ []) (at_rules_one step Materials)
+      (λ _. one_more At (at_rules step Products) [] (at_rules_one step Products) (λ _. one_none At))
 
-  pub level_fails_one : (a b : ChainRefusal) → IsProper layout → LevelFails sub fails setting layout bundle a → LevelFails sub fails setting layout bundle b → a ≡ b
-  level_fails_one a b proper =
+  pub level_fails_one : (a b : ChainRefusal) → LevelFails sub fails setting layout bundle a → LevelFails sub fails setting layout bundle b → a ≡ b
+  level_fails_one a b =
       one_more At at_expiry (flat_map (step_places layout) layout.steps ++ flat_map rule_places layout.steps) (λ x y h k. h.1 ∙ sym k.1)
       (λ _. one_append At (flat_map (step_places layout) layout.steps) (flat_map rule_places layout.steps) (one_flat_map At (step_places layout) layout.steps step_one_first)
-      (λ _. one_flat_map At rule_places layout.steps (rules_one_first proper))) a b
+      (λ _. one_flat_map At rule_places layout.steps rules_one_first)) a b
 
 uninspected_one : (fails : Failing) → FailsOneWay fails → FailsOneWay (uninspected fails)
-uninspected_one fails one layout bundle a b proper h k =
+uninspected_one fails one layout bundle a b h k =
     ⊎_elim (λ x. ⊎_elim (λ y. x.1 ∙ sym y.1) (λ y. absurd (x.0 y.0)) k)
-    (λ x. ⊎_elim (λ y. absurd (y.0 x.0)) (λ y. one layout bundle a b proper x.1 y.1) k) h
+    (λ x. ⊎_elim (λ y. absurd (y.0 x.0)) (λ y. one layout bundle a b x.1 y.1) k) h
 
 pub first_one : (setting : Setting) (depth : ℕ) → FailsOneWay (First setting depth)
-first_one setting zero layout bundle a b = level_fails_one none_holds too_deep none_one (λ l c x y p h k. h ∙ sym k) setting layout bundle a b
+first_one setting zero layout bundle a b = level_fails_one none_holds too_deep none_one (λ l c x y h k. h ∙ sym k) setting layout bundle a b
 first_one setting (suc depth) layout bundle a b =
     level_fails_one (Chain setting depth) (uninspected (First setting depth)) (chain_one setting depth) (uninspected_one (First setting depth) (first_one setting depth)) setting layout bundle a b

@@ -8,7 +8,7 @@ use Rattle.std.proofs.lemmas.Map.Made.{length-le_from_is_member}
 use Rattle.it_digest.specs.Artifacts.{ArtifactMap}
 use Rattle.it_docs.specs.Layout.{LayoutOf}
 use Rattle.it_docs.specs.declared.layout.Layout.{Layout}
-use Rattle.it_docs.specs.declared.layout.Step.{Step}
+use Rattle.it_docs.specs.declared.step.Step.{Step}
 use Rattle.it_docs.specs.declared.rule.Side.{Side}
 use Rattle.it_docs.specs.declared.rule.Side.TheVariants.{Materials, Products}
 use Rattle.it_rules.specs.Item.{Recorded, Links}
@@ -18,13 +18,12 @@ use Rattle.it_chain.specs.Chain.{Chain, none_holds}
 use Rattle.it_chain.specs.Contents.{Contents}
 use Rattle.it_chain.specs.Counted.{Setting, Body, of_link, of_layout, BodyOf, Counted, Found}
 use Rattle.it_chain.specs.First.{Failing, Place, at_id, at_threshold, at_records, at_rules, step_places, rule_places, places, Stands, IsFirst, LevelFails, First, too_deep, uninspected}
-use Rattle.it_chain.specs.Laws.{IsProper, IsNoMore, IsThresholdFault, OnlyWithholds}
+use Rattle.it_chain.specs.Laws.{IsNoMore, IsThresholdFault, OnlyWithholds}
 use Rattle.it_chain.specs.Level.{Holding, Records, HasRecord, StepHolds, LevelHolds, StepRulesHold, recorded_in, links_in, first_materials, last_products, summary}
 use Rattle.it_chain.specs.Names.{folder_of}
 use Rattle.it_chain.specs.declared.chain.StepResult.{StepResult}
 use Rattle.it_chain.specs.declared.refusal.ChainRefusal.{ChainRefusal}
 use Rattle.it_chain.proofs.Alikes.{key_moved}
-use Rattle.it_chain.proofs.Documents.{proper_layout}
 use Rattle.it_chain.proofs.Levels.{body_one, rules_of}
 use Rattle.it_chain.proofs.Numbers.{member_of, some_key}
 use Rattle.it_chain.proofs.Zips.{of_zip}
@@ -124,9 +123,9 @@ module _ (sub : Holding) (fails : Failing) (setting : Setting) (layout : Layout)
       (member_of a.keys b.keys (λ k h. (b.are_those k).1 (key_moved setting layout less more step (λ id payload. w.bodies step id payload c) k ((a.are_those k).0 h)))) in
       omega (arith, le, a.number_is, b.number_is)
 
-  step_no_more : (step : Step) (r b : StepResult) → Contains layout.steps step → 1 ≤ step.threshold → StepHolds sub setting layout less step r → StepHolds sub setting layout more step b → IsNoMore r b
-  step_no_more step r b c enough h k =
-      let some = some_key setting layout less step r.keys h.keys (omega (arith, h.threshold)) in
+  step_no_more : (step : Step) (r b : StepResult) → Contains layout.steps step → StepHolds sub setting layout less step r → StepHolds sub setting layout more step b → IsNoMore r b
+  step_no_more step r b c h k =
+      let some = some_key setting layout less step r.keys h.keys (omega (arith, h.threshold, step.threshold_at_least_one)) in
       let recorded : recorded_in r ≡ recorded_in b = the_record step b c k some.1.id (recorded_in r) (h.agree some.1.id some.1.payload some.1.counted) in
       record {
         name = h.name ∙ sym k.name;
@@ -135,7 +134,7 @@ module _ (sub : Holding) (fails : Failing) (setting : Setting) (layout : Layout)
         keys = no_more_keys step c r.keys b.keys h.keys k.keys;
       }
 
-  steps_no_more : (steps : List Step) (rs bs : List StepResult) → ((step : Step) → Contains steps step → Contains layout.steps step × (1 ≤ step.threshold))
+  steps_no_more : (steps : List Step) (rs bs : List StepResult) → ((step : Step) → Contains steps step → Contains layout.steps step)
       → AllZip (StepHolds sub setting layout less) steps rs → AllZip (StepHolds sub setting layout more) steps bs → AllZip IsNoMore rs bs
   steps_no_more [] [] [] among h k = tt
   steps_no_more [] [] (b ∷ bs) among h k = absurd k
@@ -143,11 +142,10 @@ module _ (sub : Holding) (fails : Failing) (setting : Setting) (layout : Layout)
   steps_no_more (s ∷ ss) [] bs among h k = absurd h
   steps_no_more (s ∷ ss) (r ∷ rs) [] among h k = absurd k
   steps_no_more (s ∷ ss) (r ∷ rs) (b ∷ bs) among h k =
-      let here = among s (0, omega arith, refl) in
-      (step_no_more s r b here.0 here.1 h.0 k.0, steps_no_more ss rs bs (λ step c. among step (suc c.0, omega (arith, c.1), c.2)) h.1 k.1)
+      (step_no_more s r b (among s (0, omega arith, refl)) h.0 k.0, steps_no_more ss rs bs (λ step c. among step (suc c.0, omega (arith, c.1), c.2)) h.1 k.1)
 
-  all_no_more : IsProper layout → (rs bs : List StepResult) → AllZip (StepHolds sub setting layout less) layout.steps rs → AllZip (StepHolds sub setting layout more) layout.steps bs → AllZip IsNoMore rs bs
-  all_no_more proper rs bs = steps_no_more layout.steps rs bs (λ step c. (c, proper.thresholds step c))
+  all_no_more : (rs bs : List StepResult) → AllZip (StepHolds sub setting layout less) layout.steps rs → AllZip (StepHolds sub setting layout more) layout.steps bs → AllZip IsNoMore rs bs
+  all_no_more rs bs = steps_no_more layout.steps rs bs (λ step c. c)
 
   abbrev At : Place → ChainRefusal → Type 0
   At = Stands sub fails setting layout less
@@ -187,53 +185,53 @@ module _ (sub : Holding) (fails : Failing) (setting : Setting) (layout : Layout)
       all_append At Few (step_places layout s) (flat_map (step_places layout) ss) (step_few s b (among s (0, omega arith, refl)) h.0)
       (steps_few ss bs (λ step c. among step (suc c.0, omega (arith, c.1), c.2)) h.1)
 
-  rule_few : IsProper layout → (bs : List StepResult) → LevelHolds sub setting layout more bs → (step : Step) (side : Side) (refusal : ChainRefusal) → At (at_rules step side) refusal → Few refusal
-  rule_few proper bs h step side refusal x =
+  rule_few : (bs : List StepResult) → LevelHolds sub setting layout more bs → (step : Step) (side : Side) (refusal : ChainRefusal) → At (at_rules step side) refusal → Few refusal
+  rule_few bs h step side refusal x =
       let k = x.2 in
-      let fewer : AllZip IsNoMore k.results bs = all_no_more proper k.results bs k.steps h.steps in
+      let fewer : AllZip IsNoMore k.results bs = all_no_more k.results bs k.steps h.steps in
       let rules : AllZip (StepRulesHold (links_in k.results)) layout.steps k.results =
       subst (λ links. AllZip (StepRulesHold links) layout.steps k.results) (sym (links_same k.results bs fewer)) (rules_same (links_in bs) layout.steps k.results bs fewer h.rules) in
       absurd (k.fault.fails (rules_of (links_in k.results) step k.result side (of_zip (StepRulesHold (links_in k.results)) layout.steps k.results step k.result rules k.of_step) x.0))
 
-  rules_few : IsProper layout → (bs : List StepResult) → LevelHolds sub setting layout more bs → (steps : List Step) → AllAt At Few (flat_map rule_places steps)
-  rules_few proper bs h [] = tt
-  rules_few proper bs h (s ∷ ss) = (rule_few proper bs h s Materials, (rule_few proper bs h s Products, rules_few proper bs h ss))
+  rules_few : (bs : List StepResult) → LevelHolds sub setting layout more bs → (steps : List Step) → AllAt At Few (flat_map rule_places steps)
+  rules_few bs h [] = tt
+  rules_few bs h (s ∷ ss) = (rule_few bs h s Materials, (rule_few bs h s Products, rules_few bs h ss))
 
-  level_few : IsProper layout → (bs : List StepResult) → LevelHolds sub setting layout more bs → (refusal : ChainRefusal) → LevelFails sub fails setting layout less refusal → Few refusal
-  level_few proper bs h refusal =
+  level_few : (bs : List StepResult) → LevelHolds sub setting layout more bs → (refusal : ChainRefusal) → LevelFails sub fails setting layout less refusal → Few refusal
+  level_few bs h refusal =
       first_all At Few (places layout) refusal
-      (λ r x. absurd (h.unexpired x.0), all_append At Few (flat_map (step_places layout) layout.steps) (flat_map rule_places layout.steps) (steps_few layout.steps bs (λ s c. c) h.steps) (rules_few proper bs h layout.steps))
+      (λ r x. absurd (h.unexpired x.0), all_append At Few (flat_map (step_places layout) layout.steps) (flat_map rule_places layout.steps) (steps_few layout.steps bs (λ s c. c) h.steps) (rules_few bs h layout.steps))
 
-  level_no_more : IsProper layout → (rs bs : List StepResult) → LevelHolds sub setting layout less rs → LevelHolds sub setting layout more bs → AllZip IsNoMore rs bs
-  level_no_more proper rs bs h k = all_no_more proper rs bs h.steps k.steps
+  level_no_more : (rs bs : List StepResult) → LevelHolds sub setting layout less rs → LevelHolds sub setting layout more bs → AllZip IsNoMore rs bs
+  level_no_more rs bs h k = all_no_more rs bs h.steps k.steps
 
 -- ---- every depth
 abbrev Withheld : Setting → ℕ → Type 0
-Withheld setting depth = (layout : Layout) (less more : Contents) → IsProper layout → Within setting depth layout less more → OnlyWithholds setting depth layout less more
+Withheld setting depth = (layout : Layout) (less more : Contents) → Within setting depth layout less more → OnlyWithholds setting depth layout less more
 
 withholds_more : (setting : Setting) (depth : ℕ) → Withheld setting depth → (layout : Layout) (less more : Contents) → LevelWithin (Within setting depth) setting layout less more
     → Withholds (Chain setting depth) (uninspected (First setting depth)) setting layout less more
 withholds_more setting depth inner layout less more h = record {
   bodies = h.bodies;
-  holds = λ step id payload sublayout m n c counted is x y. (inner sublayout _ _ (proper_layout payload sublayout is) (h.folders step id payload sublayout c counted is)).chain m n x y;
+  holds = λ step id payload sublayout m n c counted is x y. (inner sublayout _ _ (h.folders step id payload sublayout c counted is)).chain m n x y;
   failing = λ step id payload sublayout refusal n c counted is bare x y.
-      ⊎_elim (λ k. absurd (k.0 bare)) (λ k. (inner sublayout _ _ (proper_layout payload sublayout is) (h.folders step id payload sublayout c counted is)).first refusal n k.1 y) x;
+      ⊎_elim (λ k. absurd (k.0 bare)) (λ k. (inner sublayout _ _ (h.folders step id payload sublayout c counted is)).first refusal n k.1 y) x;
 }
 
 pub withheld : (setting : Setting) (depth : ℕ) → Withheld setting depth
-withheld setting zero layout less more proper h =
+withheld setting zero layout less more h =
     let w : Withholds none_holds too_deep setting layout less more = record {
       bodies = h.bodies;
       holds = λ step id payload sublayout m n c counted is x y. absurd x;
       failing = λ step id payload sublayout refusal n c counted is bare x y. absurd y;
     } in
     record {
-      chain = λ rs bs x y. level_no_more none_holds too_deep setting layout less more w proper rs bs x y;
-      first = λ refusal bs x y. level_few none_holds too_deep setting layout less more w proper bs y refusal x;
+      chain = λ rs bs x y. level_no_more none_holds too_deep setting layout less more w rs bs x y;
+      first = λ refusal bs x y. level_few none_holds too_deep setting layout less more w bs y refusal x;
     }
-withheld setting (suc depth) layout less more proper h =
+withheld setting (suc depth) layout less more h =
     let w = withholds_more setting depth (withheld setting depth) layout less more h in
     record {
-      chain = λ rs bs x y. level_no_more (Chain setting depth) (uninspected (First setting depth)) setting layout less more w proper rs bs x y;
-      first = λ refusal bs x y. level_few (Chain setting depth) (uninspected (First setting depth)) setting layout less more w proper bs y refusal x;
+      chain = λ rs bs x y. level_no_more (Chain setting depth) (uninspected (First setting depth)) setting layout less more w rs bs x y;
+      first = λ refusal bs x y. level_few (Chain setting depth) (uninspected (First setting depth)) setting layout less more w bs y refusal x;
     }

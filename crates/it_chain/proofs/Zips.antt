@@ -1,5 +1,5 @@
 -- Two lists, place by place.
-use Rattle.std.proofs.Common.{◌≡◌, ℕ, zero, suc, ◌<◌, List, [], ◌∷◌, length, Contains, subst, ap, arith}
+use Rattle.std.proofs.Common.{◌≡◌, ℕ, zero, suc, ◌<◌, List, [], ◌∷◌, length, Contains, subst, arith}
 use Rattle.std.specs.List.{AllZip, zip, slice_index_or}
 
 module _ {A B : Type 0} (R : A → B → Type 0) where
@@ -19,13 +19,3 @@ zip_weaker R S f [] [] h = tt
 zip_weaker R S f [] (y ∷ ys) h = h
 zip_weaker R S f (x ∷ xs) [] h = h
 zip_weaker R S f (x ∷ xs) (y ∷ ys) h = (f x y h.0, zip_weaker R S f xs ys h.1)
-
--- what stands in the pairs stands in the first list
-pub first_of_zip : {A B : Type 0} (xs : List A) (ys : List B) (x : A) (y : B) → Contains (zip xs ys) (x, y) → Contains xs x
-first_of_zip xs ys x y c = first_at xs ys x y c.0 c.1 c.2
-  where
-    first_at : {A B : Type 0} (xs : List A) (ys : List B) (x : A) (y : B) (k : ℕ) → k < length (zip xs ys) → slice_index_or (zip xs ys) k (x, y) ≡ (x, y) → Contains xs x
-    first_at [] ys x y k below e = absurd (omega arith)
-    first_at (a ∷ xs) [] x y k below e = absurd (omega arith)
-    first_at {A} {B} (a ∷ xs) (b ∷ ys) x y zero below e = (0, omega arith, ap (λ (p : A × B). p.0) e)
-    first_at (a ∷ xs) (b ∷ ys) x y (suc k) below e = let c = first_at xs ys x y k (omega arith) e in (suc c.0, omega (arith, c.1), c.2)

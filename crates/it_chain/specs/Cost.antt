@@ -6,7 +6,7 @@ use Rattle.std.specs.Set.{distinct_count}
 use Rattle.std.specs.Str.{bytes_eq}
 use Rattle.it_dsse.specs.Check.{KeyNumber}
 use Rattle.it_docs.specs.declared.layout.Layout.{Layout}
-use Rattle.it_docs.specs.declared.layout.Step.{Step}
+use Rattle.it_docs.specs.declared.step.Step.{Step}
 use Rattle.it_chain.specs.Answer.{payloads_for, signers}
 use Rattle.it_chain.specs.Contents.{Contents, files_of}
 use Rattle.it_chain.specs.Counted.{Setting, Body, of_link, of_layout}

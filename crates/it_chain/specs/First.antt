@@ -8,7 +8,7 @@ use Rattle.std.specs.Cmp.Lexicographic.{slice_cmp}
 use Rattle.std.specs.declared.cmp.Ordering.TheVariants.{Less}
 use Rattle.it_docs.specs.Layout.{LayoutOf}
 use Rattle.it_docs.specs.declared.layout.Layout.{Layout}
-use Rattle.it_docs.specs.declared.layout.Step.{Step}
+use Rattle.it_docs.specs.declared.step.Step.{Step}
 use Rattle.it_docs.specs.declared.rule.Side.{Side}
 use Rattle.it_docs.specs.declared.rule.Side.TheVariants.{Materials, Products}
 use Rattle.it_rules.specs.Item.{Recorded}

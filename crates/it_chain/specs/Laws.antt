@@ -1,10 +1,8 @@
 -- What is shown of these definitions.
-use Rattle.std.specs.Prelude.{◌≡◌, ℕ, suc, ◌≤◌, List, Contains, MatchResult}
-use Rattle.std.specs.List.{AllZip, IsDistinct}
-use Rattle.std.specs.Str.{bytes_eq}
-use Rattle.it_docs.specs.Layout.{LayoutOf, names_of}
+use Rattle.std.specs.Prelude.{◌≡◌, ℕ, suc, ◌≤◌, List, MatchResult}
+use Rattle.std.specs.List.{AllZip}
 use Rattle.it_docs.specs.declared.layout.Layout.{Layout}
-use Rattle.it_docs.specs.declared.layout.Step.{Step}
+use Rattle.it_docs.specs.declared.step.Step.{Step}
 use Rattle.it_chain.specs.Alike.{Alike, ComesToTheSame, FoldersCompare, HasCopies, Within, deeper_alike}
 use Rattle.it_chain.specs.Answer.{answer}
 use Rattle.it_chain.specs.Chain.{Chain}
@@ -17,14 +15,6 @@ use Rattle.it_chain.specs.declared.refusal.ChainFault.{ChainFault}
 use Rattle.it_chain.specs.declared.refusal.ChainFault.TheVariants.{Expired, TwoPayloads, TooDeep, Threshold, Disagree, InspectionInSublayout, RuleFailed}
 use Rattle.it_chain.specs.declared.refusal.ChainRefusal.{ChainRefusal}
 
--- what every layout that is read keeps: thresholds are at least 1, and no name stands twice
-pub record IsProper (layout : Layout) : Type 0 where
-  pub thresholds : (step : Step) → Contains layout.steps step → 1 ≤ step.threshold
-  pub names : IsDistinct bytes_eq (names_of layout.steps layout.inspections)
-
-abbrev pub ReadIsProper : Type 0
-ReadIsProper = (bytes : List ℕ) (layout : Layout) → LayoutOf bytes layout → IsProper layout
-
 -- the number of different keys is one number
 abbrev pub FoundIsOne : Type 0
 FoundIsOne = (setting : Setting) (layout : Layout) (bundle : Contents) (step : Step) (m n : ℕ) → Found setting layout bundle step m → Found setting layout bundle step n → m ≡ n
@@ -32,19 +22,19 @@ FoundIsOne = (setting : Setting) (layout : Layout) (bundle : Contents) (step : S
 -- a layout holds of a bundle with one list of records at most
 abbrev pub ChainIsOne : Type 0
 ChainIsOne =
-    (setting : Setting) (depth : ℕ) (layout : Layout) (bundle : Contents) (m n : List StepResult) → IsProper layout
+    (setting : Setting) (depth : ℕ) (layout : Layout) (bundle : Contents) (m n : List StepResult)
     → Chain setting depth layout bundle m → Chain setting depth layout bundle n → m ≡ n
 
 -- a layout that holds of a bundle has no failure over it
 abbrev pub ChainOrFirst : Type 0
 ChainOrFirst =
-    (setting : Setting) (depth : ℕ) (layout : Layout) (bundle : Contents) (m : List StepResult) (refusal : ChainRefusal) → IsProper layout
+    (setting : Setting) (depth : ℕ) (layout : Layout) (bundle : Contents) (m : List StepResult) (refusal : ChainRefusal)
     → Chain setting depth layout bundle m → ¬ First setting depth layout bundle refusal
 
 -- a layout has one first failure over a bundle at most
 abbrev pub FirstIsOne : Type 0
 FirstIsOne =
-    (setting : Setting) (depth : ℕ) (layout : Layout) (bundle : Contents) (a b : ChainRefusal) → IsProper layout
+    (setting : Setting) (depth : ℕ) (layout : Layout) (bundle : Contents) (a b : ChainRefusal)
     → First setting depth layout bundle a → First setting depth layout bundle b → a ≡ b
 
 -- a layout that holds of a bundle holds of it with the same records at every greater depth
@@ -88,11 +78,11 @@ pub record OnlyWithholds (setting : Setting) (depth : ℕ) (layout : Layout) (ot
 -- who takes away what counts can only withhold
 abbrev pub WithheldChains : Type 0
 WithheldChains =
-    (setting : Setting) (depth : ℕ) (layout : Layout) (other bundle : Contents) → IsProper layout → Within setting depth layout other bundle → OnlyWithholds setting depth layout other bundle
+    (setting : Setting) (depth : ℕ) (layout : Layout) (other bundle : Contents) → Within setting depth layout other bundle → OnlyWithholds setting depth layout other bundle
 
 -- the deciding function, where what it asks of the crates below answers right, answers the records with
 -- which a layout holds of a bundle, or else its first failure
 abbrev pub AnswerIsRight : Type 0
 AnswerIsRight =
-    (lower : Lower) → AnswersRight lower → (setting : Setting) (depth : ℕ) (layout : Layout) (bundle : Contents) → IsProper layout
+    (lower : Lower) → AnswersRight lower → (setting : Setting) (depth : ℕ) (layout : Layout) (bundle : Contents)
     → MatchResult (answer lower setting depth layout bundle) (Chain setting depth layout bundle) (First setting depth layout bundle)

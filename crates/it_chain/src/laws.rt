@@ -1,11 +1,6 @@
 //! Laws about the definitions of chains: functions that do nothing, and whose contracts say what is
 //! true of every layout, bundle and check.
-ghost use Rattle.it_chain.specs.Laws.{AlikeChains, AnswerIsRight, ChainGoesDeeper, ChainIsOne, ChainOrFirst, FirstIsOne, FoundIsOne, NoiseIsAlike, ReadIsProper, WithheldChains};
-
-/// A layout that is read has thresholds of at least 1, and names that all differ.
-pub fn read_is_proper()
-    ensures { ReadIsProper }
-{}
+ghost use Rattle.it_chain.specs.Laws.{AlikeChains, AnswerIsRight, ChainGoesDeeper, ChainIsOne, ChainOrFirst, FirstIsOne, FoundIsOne, NoiseIsAlike, WithheldChains};
 
 /// The number of different keys that signed what counts for a step is one number.
 pub fn found_is_one()

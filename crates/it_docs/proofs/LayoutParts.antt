@@ -7,16 +7,17 @@ use Rattle.it_base.specs.Sequence.{IsList}
 use Rattle.it_base.proofs.Documents.{same_document}
 use Rattle.std.proofs.Common.{subst}
 use Rattle.it_docs.specs.FirstPart.{Precedes}
-use Rattle.it_docs.specs.Layout.{IsInspection, IsLayout, IsStep, names_of}
+use Rattle.it_docs.specs.Layout.{IsLayout}
 use Rattle.it_docs.specs.LayoutPart.{place, PartReads, LayoutPartOf, IsLayoutFault, IsStepsFault, IsInspectionsFault}
 use Rattle.it_docs.specs.Names.{IsFirstRepeat}
-use Rattle.it_docs.specs.declared.layout.Inspection.{Inspection}
+use Rattle.it_docs.specs.Step.{IsInspection, IsStep, names_of}
 use Rattle.it_docs.specs.declared.layout.Layout.{Layout}
-use Rattle.it_docs.specs.declared.layout.Step.{Step as LayoutStep}
 use Rattle.it_docs.specs.declared.layout_fault.LayoutFault.{LayoutFault}
 use Rattle.it_docs.specs.declared.layout_fault.LayoutFault.TheVariants.{BadLayout, OutOfMemory}
 use Rattle.it_docs.specs.declared.layout_fault.LayoutPart.{LayoutPart}
 use Rattle.it_docs.specs.declared.layout_fault.LayoutPart.TheVariants.{Json, WrongType, Expires, Keys, Steps, Step, Inspects, Inspect, DuplicateName}
+use Rattle.it_docs.specs.declared.step.Inspection.{Inspection}
+use Rattle.it_docs.specs.declared.step.Step.{Step as LayoutStep}
 use Rattle.it_docs.proofs.Lists.{list_reads}
 
 -- what is known of the parts in the rows below r

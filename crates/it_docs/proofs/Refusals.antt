@@ -8,10 +8,11 @@ use Rattle.serde_json.specs.Find.{as_object}
 use Rattle.it_base.specs.Parts.{IsPart}
 use Rattle.it_base.specs.Text.{IsText}
 use Rattle.it_dsse.specs.KeyObject.{IsKeyObject}
-use Rattle.it_docs.specs.Layout.{IsInspection, IsLayout, IsStep, LayoutOf, names_of}
+use Rattle.it_docs.specs.Layout.{IsLayout, LayoutOf}
 use Rattle.it_docs.specs.LayoutPart as layout_part
 use Rattle.it_docs.specs.Policy.{IsExpectation, IsPolicy, PolicyOf}
 use Rattle.it_docs.specs.PolicyPart as policy_part
+use Rattle.it_docs.specs.Step.{IsInspection, IsStep, names_of}
 use Rattle.it_docs.specs.Table.{IsTable}
 use Rattle.it_docs.specs.declared.layout.Layout.{Layout}
 use Rattle.it_docs.specs.declared.layout_fault.LayoutPart.{LayoutPart}
@@ -55,14 +56,14 @@ layout_reads d layout is (l.DuplicateName name) = λ steps inspections are_steps
     let same_steps = steps_same d steps layout.steps are_steps is.steps in
     let same_inspections = inspections_same d inspections layout.inspections are_inspections is.inspections in
     let names : names_of layout.steps layout.inspections ≡ repeat.front ++ name ∷ repeat.rest = sym (λ i. names_of (same_steps i) (same_inspections i)) ∙ repeat.names_are in
-    no_repeat name repeat.front repeat.rest (subst (IsDistinct bytes_eq) names is.names_differ) repeat.stood_before
+    no_repeat name repeat.front repeat.rest (subst (IsDistinct bytes_eq) names layout.names_differ) repeat.stood_before
 
 pub no_layout : (bytes : List ℕ) (part : LayoutPart) → layout_part.LayoutPartOf bytes part → (layout : Layout) → LayoutOf bytes layout → ⊥
 no_layout bytes part first layout is = first.fails (is.0, is.1, layout_reads is.0 layout is.2 part)
 
 policy_reads : (d : Data) (policy : Policy) → IsPolicy d policy → (part : PolicyPart) → policy_part.PartReads d part
-policy_reads d policy is p.Json = part_of_object (IsTable IsKeyObject) (codes "owners") d policy.owners is.owners.part
-policy_reads d policy is p.Owners = (policy.owners, is.owners)
+policy_reads d policy is p.Json = part_of_object (IsTable IsKeyObject) (codes "owners") d policy.owners is.owners
+policy_reads d policy is p.Owners = (policy.owners, record { part = is.owners; some = policy.some_owner })
 policy_reads d policy is p.Deliver = (policy.deliver, is.deliver)
 policy_reads d policy is p.Expectations = (list_reads IsExpectation (codes "expectations") d policy.expectations is.expectations).0
 policy_reads d policy is (p.Expectation n) = (list_reads IsExpectation (codes "expectations") d policy.expectations is.expectations).1 n

@@ -1,6 +1,11 @@
 -- Each input has at most one record.
-use Rattle.std.proofs.Common.{◌≡◌, ℕ, ℤ, List, [], codes, Option, Some, None, MatchOption, refl, sym, ap, subst, ◌∙◌}
+use mathlib.Core.HLevel.{is_prop→PathP, ¬_prop}
+use Rattle.std.proofs.Common.{◌≡◌, ◌≢◌, ℕ, ◌≤◌, ℤ, List, [], codes, Option, Some, None, MatchOption, refl, sym, ap, subst, ◌∙◌}
 use Rattle.std.proofs.lemmas.Option.{same_Some}
+use Rattle.std.proofs.Math.Bridge.{le_prop}
+use Rattle.std.specs.FinMap.{empty}
+use Rattle.std.specs.List.{IsDistinct, IsDistinct-prop}
+use Rattle.std.specs.Str.{bytes_eq}
 use Rattle.serde_json.specs.Data.{Data, object}
 use Rattle.serde_json.specs.Find.{as_str}
 use Rattle.it_base.specs.Document.{OfDocument, member_at}
@@ -13,13 +18,15 @@ use Rattle.it_base.proofs.Items.{list_same}
 use Rattle.it_dsse.specs.KeyObject.{IsKeyObject}
 use Rattle.it_docs.specs.Digest.{IsDigest, IsDigestSet}
 use Rattle.it_docs.specs.Json.{Fields}
-use Rattle.it_docs.specs.Layout.{IsInspection, IsLayout, IsStep, IsThreshold, LayoutOf}
+use Rattle.it_docs.specs.Layout.{IsLayout, LayoutOf}
 use Rattle.it_docs.specs.Link.{IsLink, LinkOf}
 use Rattle.it_docs.specs.Moment.{IsMoment, MomentOf}
 use Rattle.it_docs.specs.Policy.{IsBuilderOf, IsExpectation, IsPolicy, PolicyOf}
 use Rattle.it_docs.specs.Rule.{IsRule, RuleOf}
 use Rattle.it_docs.specs.Statement.{IsProvenance, IsProvenanceOf, IsStatement, IsSubject, StatementOf}
+use Rattle.it_docs.specs.Step.{IsInspection, IsStep, names_of}
 use Rattle.it_docs.specs.Table.{IsTable}
+use Rattle.it_docs.specs.Threshold.{IsThreshold}
 use Rattle.it_docs.specs.TreeOf.{IsMembers}
 use Rattle.it_docs.specs.declared.layout.Layout.{Layout}
 use Rattle.it_docs.specs.declared.link.Link.{Link}
@@ -147,7 +154,8 @@ step_same d x y h k =
     let pubkeys = part_or_same (IsList IsText) [] (codes "pubkeys") texts_same d x.pubkeys y.pubkeys h.pubkeys k.pubkeys in
     let materials = part_or_same (IsList IsRule) [] (codes "expected_materials") rules_same d x.expected_materials y.expected_materials h.expected_materials k.expected_materials in
     let products = part_or_same (IsList IsRule) [] (codes "expected_products") rules_same d x.expected_products y.expected_products h.expected_products k.expected_products in
-    λ i. record { name = name i; threshold = threshold i; pubkeys = pubkeys i; expected_materials = materials i; expected_products = products i }
+    let at_least_one = is_prop→PathP (λ j. 1 ≤ threshold j) (λ j. le_prop) x.threshold_at_least_one y.threshold_at_least_one in
+    λ i. record { name = name i; threshold = threshold i; pubkeys = pubkeys i; expected_materials = materials i; expected_products = products i; threshold_at_least_one = at_least_one i }
 
 inspection_same : IsSingle IsInspection
 inspection_same d x y h k =
@@ -168,7 +176,8 @@ layout_part_same d x y h k =
     let keys = part_or_same (IsTable IsKeyObject) _ (codes "keys") keys_same d x.keys y.keys h.keys k.keys in
     let steps = steps_same d x.steps y.steps h.steps k.steps in
     let inspections = inspections_same d x.inspections y.inspections h.inspections k.inspections in
-    λ i. record { expires = expires i; keys = keys i; steps = steps i; inspections = inspections i }
+    let differ = is_prop→PathP (λ j. IsDistinct bytes_eq (names_of (steps j) (inspections j))) (λ j. IsDistinct-prop _ _) x.names_differ y.names_differ in
+    λ i. record { expires = expires i; keys = keys i; steps = steps i; inspections = inspections i; names_differ = differ i }
 
 pub layout_same : (bytes : List ℕ) (x y : Layout) → LayoutOf bytes x → LayoutOf bytes y → x ≡ y
 layout_same = document_same IsLayout layout_part_same
@@ -190,10 +199,11 @@ expectation_same d x y h k =
 
 policy_part_same : IsSingle IsPolicy
 policy_part_same d x y h k =
-    let owners = part_same (IsTable IsKeyObject) (codes "owners") keys_same d x.owners y.owners h.owners.part k.owners.part in
+    let owners = part_same (IsTable IsKeyObject) (codes "owners") keys_same d x.owners y.owners h.owners k.owners in
     let deliver = part_or_same (IsList IsRule) [] (codes "deliver") rules_same d x.deliver y.deliver h.deliver k.deliver in
     let expectations = part_or_same (IsList IsExpectation) [] (codes "expectations") (list_same IsExpectation expectation_same) d x.expectations y.expectations h.expectations k.expectations in
-    λ i. record { owners = owners i; deliver = deliver i; expectations = expectations i }
+    let some = is_prop→PathP (λ j. owners j ≢ empty) (λ j. ¬_prop) x.some_owner y.some_owner in
+    λ i. record { owners = owners i; deliver = deliver i; expectations = expectations i; some_owner = some i }
 
 pub policy_same : (bytes : List ℕ) (x y : Policy) → PolicyOf bytes x → PolicyOf bytes y → x ≡ y
 policy_same = document_same IsPolicy policy_part_same

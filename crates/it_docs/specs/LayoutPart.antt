@@ -10,17 +10,17 @@ use Rattle.it_base.specs.Text.{IsText}
 use Rattle.it_dsse.specs.KeyObject.{IsKeyObject}
 use Rattle.it_dsse.specs.declared.key_object.KeyObject.{KeyObject}
 use Rattle.it_docs.specs.FirstPart.{IsFirstPart}
-use Rattle.it_docs.specs.Layout.{IsInspection, IsStep, names_of}
 use Rattle.it_docs.specs.List.{IsListOrMissing, PartItemReads}
 use Rattle.it_docs.specs.Moment.{IsMoment}
 use Rattle.it_docs.specs.Names.{IsFirstRepeat}
+use Rattle.it_docs.specs.Step.{IsInspection, IsStep, names_of}
 use Rattle.it_docs.specs.Table.{IsTable, Named}
-use Rattle.it_docs.specs.declared.layout.Inspection.{Inspection}
-use Rattle.it_docs.specs.declared.layout.Step.{Step as LayoutStep}
 use Rattle.it_docs.specs.declared.layout_fault.LayoutFault.{LayoutFault}
 use Rattle.it_docs.specs.declared.layout_fault.LayoutFault.TheVariants.{BadLayout, OutOfMemory}
 use Rattle.it_docs.specs.declared.layout_fault.LayoutPart.{LayoutPart}
 use Rattle.it_docs.specs.declared.layout_fault.LayoutPart.TheVariants.{Json, WrongType, Expires, Keys, Steps, Step, Inspects, Inspect, DuplicateName}
+use Rattle.it_docs.specs.declared.step.Inspection.{Inspection}
+use Rattle.it_docs.specs.declared.step.Step.{Step as LayoutStep}
 
 -- the parts in their order; of steps and inspections the least number comes first
 abbrev pub place : LayoutPart → ℕ × ℕ

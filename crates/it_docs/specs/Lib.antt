@@ -17,5 +17,7 @@ pub mod PolicyPart
 pub mod Rule
 pub mod RuleAnswer
 pub mod Statement
+pub mod Step
 pub mod Table
+pub mod Threshold
 pub mod TreeOf

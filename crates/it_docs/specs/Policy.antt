@@ -34,9 +34,10 @@ pub record HasOwners (d : Data) (owners : Named KeyObject) : Type 0 where
   pub part : IsPart (IsTable IsKeyObject) (codes "owners") d owners
   pub some : owners ≢ empty
 
--- a policy of a document
+-- a policy of a document; that there is an owner is kept by the type, so a document without any is no
+-- policy
 pub record IsPolicy (d : Data) (policy : Policy) : Type 0 where
-  pub owners : HasOwners d policy.owners
+  pub owners : IsPart (IsTable IsKeyObject) (codes "owners") d policy.owners
   pub deliver : IsPartOr (IsList IsRule) [] (codes "deliver") d policy.deliver
   pub expectations : IsPartOr (IsList IsExpectation) [] (codes "expectations") d policy.expectations
 

@@ -1,45 +1,12 @@
-//! Layouts, their steps and inspections (in-toto 1.0 section 4.3).
-ghost use Rattle.std.specs.Prelude.{◌≡◌, IfOk, IfErr, MatchOption};
-ghost use Rattle.serde_json.specs.View.{view};
-ghost use Rattle.it_base.specs.Finds.{Finds};
-ghost use Rattle.it_docs.specs.Layout.{IsInspection, IsStep, IsThreshold, IsThresholdPart};
+//! Layouts (in-toto 1.0 section 4.3).
+ghost use Rattle.std.specs.List.{IsDistinct, IsDistinct-prop};
+ghost use Rattle.std.specs.Str.{bytes_eq};
+ghost use Rattle.it_docs.specs.Step.{names_of};
 
-use crate::list::list_or_empty;
-use crate::rule::Rule;
+use crate::step::{Inspection, Step};
 use crate::table::Table;
-use it_base::document::member;
-use it_base::parts::{FromDocument, part, part_or};
 use it_base::sequence::Sequence;
-use it_base::text::Text;
 use it_dsse::key_object::KeyObject;
-use serde_json::Value;
-use std::alloc::{AllocError, Global};
-
-/// A step that a layout asks for.
-#[derive(Drop)]
-pub struct Step {
-    /// The name of the step, which no other step or inspection of the layout has.
-    pub name: Text,
-    /// How many different keys must have signed for the step, at least 1.
-    pub threshold: u64,
-    /// The ids of the keys that may sign for it.
-    pub pubkeys: Sequence<Text>,
-    /// The rules on what the step took.
-    pub expected_materials: Sequence<Rule>,
-    /// The rules on what the step made.
-    pub expected_products: Sequence<Rule>,
-}
-
-/// An inspection that a layout asks for.
-#[derive(Drop)]
-pub struct Inspection {
-    /// The name of the inspection, which no step or other inspection of the layout has.
-    pub name: Text,
-    /// The rules on what the inspection took.
-    pub expected_materials: Sequence<Rule>,
-    /// The rules on what the inspection made.
-    pub expected_products: Sequence<Rule>,
-}
 
 /// A layout.
 #[derive(Drop)]
@@ -52,80 +19,6 @@ pub struct Layout {
     pub steps: Sequence<Step>,
     /// The inspections, in order.
     pub inspections: Sequence<Inspection>,
-}
-
-impl FromDocument for Step {
-    ghost is_of = { IsStep };
-
-    fn from_document(alloc: Global, value: &Value) -> Result<Option<Step>, AllocError> {
-        let Some(name) = part::<Text>(alloc, value, "name")? else {
-            return Ok(None);
-        };
-        let Some(threshold) = threshold(value) else {
-            return Ok(None);
-        };
-        let Some(pubkeys) = list_or_empty::<Text>(alloc, value, "pubkeys")? else {
-            return Ok(None);
-        };
-        let Some(expected_materials) = list_or_empty::<Rule>(alloc, value, "expected_materials")?
-        else {
-            return Ok(None);
-        };
-        let Some(expected_products) = list_or_empty::<Rule>(alloc, value, "expected_products")?
-        else {
-            return Ok(None);
-        };
-        Ok(Some(Step {
-            name,
-            threshold,
-            pubkeys,
-            expected_materials,
-            expected_products,
-        }))
-    }
-}
-
-impl FromDocument for Inspection {
-    ghost is_of = { IsInspection };
-
-    fn from_document(alloc: Global, value: &Value) -> Result<Option<Inspection>, AllocError> {
-        let Some(name) = part::<Text>(alloc, value, "name")? else {
-            return Ok(None);
-        };
-        let Some(expected_materials) = list_or_empty::<Rule>(alloc, value, "expected_materials")?
-        else {
-            return Ok(None);
-        };
-        let Some(expected_products) = list_or_empty::<Rule>(alloc, value, "expected_products")?
-        else {
-            return Ok(None);
-        };
-        Ok(Some(Inspection {
-            name,
-            expected_materials,
-            expected_products,
-        }))
-    }
-}
-
-/// The threshold of a step: 1 where it is missing, and `None` where it is no whole number above 0
-/// that fits 64 bits.
-fn threshold(value: &Value) -> Option<u64>
-    ensures { Finds (IsThresholdPart (view value.now)) result }
-{
-    match member(value, "threshold") {
-        None => Some(1),
-        Some(found) => whole_threshold(found),
-    }
-}
-
-fn whole_threshold(value: &Value) -> Option<u64>
-    ensures { Finds (IsThreshold (view value.now)) result }
-{
-    let threshold = value.as_u64()?;
-    if threshold == 0 {
-        None
-    } else {
-        Some(threshold)
-    }
+    /// No two of the names of steps and inspections are equal.
+    pub ghost names_differ: { IsDistinct bytes_eq (names_of steps inspections) } by { IsDistinct-prop _ _ },
 }

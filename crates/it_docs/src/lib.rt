@@ -17,6 +17,7 @@ pub mod policy_fault;
 pub mod policy_reading;
 pub mod rule;
 pub mod statement;
+pub mod step;
 pub mod table;
 #[cfg(test)]
 mod tests;

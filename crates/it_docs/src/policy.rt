@@ -1,10 +1,10 @@
 //! Policies: who owns a layout, and what is expected of what is delivered (this profile's choice).
-ghost use Rattle.std.specs.Prelude.{◌≡◌, IfOk};
+ghost use Rattle.std.specs.Prelude.{◌≡◌, ◌≢◌, IfOk};
+ghost use Rattle.std.specs.FinMap.{empty};
 ghost use Rattle.serde_json.specs.View.{view};
 ghost use Rattle.it_base.specs.Finds.{Finds};
 ghost use Rattle.it_base.specs.Parts.{IsPart};
 ghost use Rattle.it_base.specs.Text.{IsText};
-ghost use Rattle.it_docs.specs.Policy.{IsBuilderOf, IsExpectation};
 
 use crate::list::list_or_empty;
 use crate::rule::Rule;
@@ -52,9 +52,13 @@ pub struct Policy {
     pub deliver: Sequence<Rule>,
     /// The expectations, in order.
     pub expectations: Sequence<Expectation>,
+    /// There is an owner.
+    pub ghost some_owner: { owners ≢ empty },
 }
 
 impl FromDocument for Builder {
+    ghost use Rattle.it_docs.specs.Policy.{IsBuilderOf};
+
     ghost is_of = { IsBuilderOf };
 
     fn from_document(alloc: Global, value: &Value) -> Result<Option<Builder>, AllocError> {
@@ -69,6 +73,8 @@ impl FromDocument for Builder {
 }
 
 impl FromDocument for Expectation {
+    ghost use Rattle.it_docs.specs.Policy.{IsExpectation};
+
     ghost is_of = { IsExpectation };
 
     fn from_document(alloc: Global, value: &Value) -> Result<Option<Expectation>, AllocError> {

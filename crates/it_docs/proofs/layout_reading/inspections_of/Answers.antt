@@ -1,6 +1,6 @@
 use Rattle.std.proofs.Common.{codes}
 use Rattle.serde_json.specs.View.{view}
-use Rattle.it_docs.specs.Layout.{IsInspection}
+use Rattle.it_docs.specs.Step.{IsInspection}
 use Rattle.it_docs.proofs.Lists.{item_fault}
 use Rattle.it_docs.proofs.layout_reading.inspections_of.Goals as goal
 

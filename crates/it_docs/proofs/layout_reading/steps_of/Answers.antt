@@ -1,6 +1,6 @@
 use Rattle.std.proofs.Common.{codes}
 use Rattle.serde_json.specs.View.{view}
-use Rattle.it_docs.specs.Layout.{IsStep}
+use Rattle.it_docs.specs.Step.{IsStep}
 use Rattle.it_docs.proofs.Lists.{item_fault}
 use Rattle.it_docs.proofs.layout_reading.steps_of.Goals as goal
 

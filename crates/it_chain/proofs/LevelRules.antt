@@ -1,4 +1,5 @@
--- The records with which the steps of a layout hold: the names of these records, and the rules over them.
+-- The records with which the steps of a layout hold: their names differ, and where the rules hold over
+-- them nothing stands at the rules.
 use Rattle.std.proofs.Common.{◌≡◌, ◌≢◌, ℕ, ◌<◌, ◌≤◌, List, [], ◌∷◌, map, zip, length, get_or, AllPairs, Contains, refl, sym, ap, subst, ◌∙◌, arith}
 use Rattle.std.specs.List.{AllZip}
 use Rattle.std.proofs.lemmas.List.{length-append, length-map, get_or-map, get_or_append_left}
@@ -29,8 +30,9 @@ module _ (sub : Holding) (fails : Failing) (one : HoldsOneWay sub) (setting : Se
   HoldsStep = StepHolds sub setting layout bundle
 
   -- nothing stands at the rules of a step that hold over the records with which the steps do
-  pub no_rule_fails : ((step : Step) → Contains layout.steps step → 1 ≤ step.threshold) → (m : List StepResult) → AllZip HoldsStep layout.steps m → (step : Step) (result : StepResult) (side : Side) → Contains layout.steps step → Contains (zip layout.steps m) (step, result) → RulesHold (rules_on side step) side (recorded_in result) (links_in m)
-      → (refusal : ChainRefusal) → ¬ At (at_rules step side) refusal
+  pub no_rule_fails : ((step : Step) → Contains layout.steps step → 1 ≤ step.threshold) → (m : List StepResult) → AllZip HoldsStep layout.steps m
+      → (step : Step) (result : StepResult) (side : Side) → Contains layout.steps step → Contains (zip layout.steps m) (step, result)
+      → RulesHold (rules_on side step) side (recorded_in result) (links_in m) → (refusal : ChainRefusal) → ¬ At (at_rules step side) refusal
   no_rule_fails some m holds step result side among c rules refusal x =
       let k = x.2 in
       let results : m ≡ k.results = steps_one sub one setting bundle layout layout.steps m k.results some holds k.steps in

@@ -18,9 +18,8 @@ use Rattle.it_chain.proofs.Alikes.{one_key}
 use Rattle.it_chain.proofs.Levels.{HoldsOneWay, record_one}
 use Rattle.it_chain.proofs.Members.{in_head, in_tail, in_cases, in_none}
 use Rattle.it_chain.proofs.Numbers.{found_of, found_one}
-use Rattle.it_chain.proofs.Orders.{one_before}
 use Rattle.it_chain.proofs.Outcomes.{Tells, tells_behind}
-use Rattle.it_chain.proofs.Records.{AreRecords, InOrder}
+use Rattle.it_chain.proofs.Records.{AreRecords, InOrder, none_before}
 
 module _ (sub : Holding) (fails : Failing) (one : HoldsOneWay sub) (setting : Setting) (layout : Layout) (bundle : Contents) (step : Step) (records : List IdRecord) (are : AreRecords sub setting layout bundle step records) where
   abbrev At : Place → ChainRefusal → Type 0
@@ -44,6 +43,7 @@ module _ (sub : Holding) (fails : Failing) (one : HoldsOneWay sub) (setting : Se
   pub is_found : Found setting layout bundle step (distinct_count same_key (map (λ (r : IdRecord). r.key) records))
   is_found = found_of setting layout bundle step (map (λ (r : IdRecord). r.key) records) keys_are
 
+  -- where enough keys signed, nothing stands at the threshold
   pub not_few : (found : ℕ) → Found setting layout bundle step found → step.threshold ≤ found → (refusal : ChainRefusal) → ¬ At (at_threshold step) refusal
   not_few found is enough refusal x =
       let same : x.0 ≡ found = found_one setting layout bundle step x.0 found x.1.is_found is in
@@ -51,6 +51,7 @@ module _ (sub : Holding) (fails : Failing) (one : HoldsOneWay sub) (setting : Se
       absurd (omega arith)
 
   -- ---- the records of the ids
+  -- every record of an id is among those of the list
   pub record_among : (id : List ℕ) (recorded : Recorded) → Has id recorded → (r : IdRecord) × Contains records r × (r.id ≡ id) × (r.recorded ≡ recorded)
   record_among id recorded h =
       let r = are.all id h.payload h.counted in
@@ -63,10 +64,12 @@ module _ (sub : Holding) (fails : Failing) (one : HoldsOneWay sub) (setting : Se
   agree_all : (first : IdRecord) → AreLeft first [] → (id : List ℕ) (recorded : Recorded) → Has id recorded → recorded ≡ first.recorded
   agree_all first left id recorded h = ⊎_elim (λ same. same) (λ r. absurd (in_none r.0 r.1)) (left id recorded h)
 
+  -- where the next record is that of the first, what is left is behind it
   pub agree_next : (first q : IdRecord) (left : List IdRecord) → q.recorded ≡ first.recorded → AreLeft first (q ∷ left) → AreLeft first left
   agree_next first q left same h id recorded has = ⊎_elim inl
       (λ r. ⊎_elim (λ head. inl (sym r.3 ∙ ap (λ (x : IdRecord). x.recorded) (sym head) ∙ same)) (λ later. inr (r.0, later, r.2, r.3)) (in_cases q left r.0 r.1)) (h id recorded has)
 
+  -- where all records are that of the first, the step holds with it, and none differs
   pub all_hold : (found : ℕ) → Found setting layout bundle step found → step.threshold ≤ found → (first : IdRecord) → AreLeft first []
       → StepHolds sub setting layout bundle step (record { name = step.name; materials = first.recorded.materials; products = first.recorded.products; keys = found })
   all_hold found is enough first left = record {
@@ -82,14 +85,6 @@ module _ (sub : Holding) (fails : Failing) (one : HoldsOneWay sub) (setting : Se
       let k = x.1 in
       k.differs (agree_all first left x.0 k.given k.of_id ∙ sym (agree_all first left k.least k.expected k.of_least))
 
-  -- no id that has a record is before the first
-  none_before : (first : IdRecord) (others : List IdRecord) → records ≡ first ∷ others → InOrder (first ∷ others) → (id : List ℕ) (recorded : Recorded) → Has id recorded → ¬ IsBefore id first.id
-  none_before first others split in_order id recorded h before =
-      let r = record_among id recorded h in
-      let before_first : IsBefore r.0.id first.id = subst (λ x. IsBefore x first.id) (sym r.2) before in
-      ⊎_elim (λ head. let itself : IsBefore r.0.id r.0.id = subst (λ (x : IdRecord). IsBefore r.0.id x.id) head before_first in one_before r.0.id r.0.id itself itself)
-      (λ later. one_before first.id r.0.id (in_order.0 r.0 later) before_first) (in_cases first others r.0 (subst (λ rs. Contains rs r.0) split r.1))
-
   -- the first of those that are left is the least that differs
   pub least_other : (first : IdRecord) (others : List IdRecord) → records ≡ first ∷ others → (q : IdRecord) (left : List IdRecord) → Has q.id q.recorded → InOrder (q ∷ left) → AreLeft first (q ∷ left)
       → ¬ (q.recorded ≡ first.recorded) → IsLeastOther sub fails setting layout bundle step q.id
@@ -98,13 +93,12 @@ module _ (sub : Holding) (fails : Failing) (one : HoldsOneWay sub) (setting : Se
     expected = first.recorded;
     given = q.recorded;
     of_least = (are.each first (subst (λ rs. Contains rs first) (sym split) (in_head first others))).recorded;
-    is_least = none_before first others split (subst InOrder split are.in_order);
+    is_least = λ id recorded h before. let r = record_among id recorded h in
+        none_before first others (subst InOrder split are.in_order) r.0 (subst (λ rs. Contains rs r.0) split r.1) (subst (λ x. IsBefore x first.id) (sym r.2) before);
     of_id = has;
     differs = differs;
     is_first = λ id recorded has before. ⊎_elim (λ same. same)
-        (λ r. let before_q : IsBefore r.0.id q.id = subst (λ x. IsBefore x q.id) (sym r.2) before in
-        absurd (⊎_elim (λ head. let itself : IsBefore r.0.id r.0.id = subst (λ (x : IdRecord). IsBefore r.0.id x.id) head before_q in one_before r.0.id r.0.id itself itself)
-        (λ later. one_before q.id r.0.id (in_order.0 r.0 later) before_q) (in_cases q left r.0 r.1))) (h id recorded has);
+        (λ r. absurd (none_before q left in_order r.0 r.1 (subst (λ x. IsBefore x q.id) (sym r.2) before))) (h id recorded has);
   }
 
   module _ (lower : Lower) (right : AnswersRight lower) (answers : Answering) where

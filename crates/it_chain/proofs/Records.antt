@@ -19,12 +19,20 @@ use Rattle.it_chain.specs.declared.refusal.ChainRefusal.{ChainRefusal}
 use Rattle.it_chain.proofs.Entries.{first_below, entry_known, known_entry}
 use Rattle.it_chain.proofs.Ids.{Sublayouts, IsGiven, Gives, none_of_given, tells_id}
 use Rattle.it_chain.proofs.Members.{in_head, in_tail, in_cases, in_none}
+use Rattle.it_chain.proofs.Orders.{one_before}
 use Rattle.it_chain.proofs.Outcomes.{Tells, tells_behind, tells_then, tells_made, tells_weaker}
 
 -- each record's id is before those of the later ones
 abbrev pub InOrder : List IdRecord → Type 0
 InOrder [] = Unit {0}
 InOrder (r ∷ rs) = ((other : IdRecord) → Contains rs other → IsBefore r.id other.id) × InOrder rs
+
+-- no record is before the first
+pub none_before : (first : IdRecord) (others : List IdRecord) → InOrder (first ∷ others) → (r : IdRecord) → Contains (first ∷ others) r → ¬ IsBefore r.id first.id
+none_before first others in_order r c before = elim (in_cases first others r c) [
+  | inl head ↦ let itself : IsBefore r.id r.id = subst (λ (x : IdRecord). IsBefore r.id x.id) head before in one_before r.id r.id itself itself
+  | inr later ↦ one_before first.id r.id (in_order.0 r later) before
+]
 
 module _ (sub : Holding) (setting : Setting) (layout : Layout) (bundle : Contents) (step : Step) where
   -- the records of a step: of each id that counts, once

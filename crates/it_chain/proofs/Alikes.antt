@@ -9,7 +9,7 @@ use Rattle.it_docs.specs.Layout.{LayoutOf}
 use Rattle.it_docs.specs.declared.layout.Layout.{Layout}
 use Rattle.it_docs.specs.declared.step.Step.{Step}
 use Rattle.it_rules.specs.Item.{Recorded}
-use Rattle.it_chain.specs.Alike.{Alike, Comparing, ComesToTheSame, FoldersCompare, HasCopies, LevelAlike, any_two, deeper_alike}
+use Rattle.it_chain.specs.Alike.{Alike, Comparing, ComesToTheSame, FoldersCompare, HasCopies, LevelWithin, Within, any_two, deeper_alike}
 use Rattle.it_chain.specs.Chain.{Chain, none_holds}
 use Rattle.it_chain.specs.Contents.{Contents}
 use Rattle.it_chain.specs.Counted.{Setting, Body, of_link, of_layout, BodyOf, Counted, KeyCounts, Found}
@@ -28,7 +28,7 @@ record Moves (sub : Holding) (fails : Failing) (setting : Setting) (layout : Lay
       → fails sublayout (folder_of step.name id from) refusal → fails sublayout (folder_of step.name id to) refusal
 
 -- an id's key is one
-one_key : (setting : Setting) (layout : Layout) (a b : Contents) (step : Step) (id payload other : List ℕ) (x : Counted setting layout a step id payload) (y : Counted setting layout b step id other) → x.key ≡ y.key
+pub one_key : (setting : Setting) (layout : Layout) (a b : Contents) (step : Step) (id payload other : List ℕ) (x : Counted setting layout a step id payload) (y : Counted setting layout b step id other) → x.key ≡ y.key
 one_key setting layout a b step id payload other x y =
     let object : x.object ≡ y.object = same_Some x.object y.object (sym x.known ∙ y.known) in
     same_Some x.key y.key (sym x.signed.key ∙ ap (setting.check.key_of id) object ∙ y.signed.key)
@@ -189,19 +189,9 @@ module _ (sub : Holding) (fails : Failing) (setting : Setting) (layout : Layout)
   fails_moved : (refusal : ChainRefusal) → LevelFails sub fails setting layout a refusal → LevelFails sub fails setting layout b refusal
   fails_moved refusal = first_moved (places layout) refusal (all_places layout)
 
-level_sym : (sub : Comparing) → ((layout : Layout) (a b : Contents) → sub layout a b → sub layout b a) → (setting : Setting) (layout : Layout) (a b : Contents) → LevelAlike sub setting layout a b → LevelAlike sub setting layout b a
-level_sym sub flip setting layout a b h = record {
-  bodies = λ step id payload c. ((h.bodies step id payload c).1, (h.bodies step id payload c).0);
-  folders = λ step id payload sublayout c counted is. flip sublayout _ _ (h.folders step id payload sublayout c ((h.bodies step id payload c).1 counted) is);
-}
-
-alike_sym : (setting : Setting) (depth : ℕ) (layout : Layout) (a b : Contents) → Alike setting depth layout a b → Alike setting depth layout b a
-alike_sym setting zero layout a b = level_sym any_two (λ l x y h. tt) setting layout a b
-alike_sym setting (suc depth) layout a b = level_sym (Alike setting depth) (alike_sym setting depth) setting layout a b
-
-moves_zero : (setting : Setting) (layout : Layout) (a b : Contents) → LevelAlike any_two setting layout a b → Moves none_holds too_deep setting layout a b
+moves_zero : (setting : Setting) (layout : Layout) (a b : Contents) → LevelWithin any_two setting layout a b → Moves none_holds too_deep setting layout a b
 moves_zero setting layout a b h = record {
-  bodies = λ step id payload c. (h.bodies step id payload c).0;
+  bodies = h.bodies;
   holds = λ step id payload sublayout m c counted is x. x;
   failing = λ step id payload sublayout refusal c counted is x. x;
 }
@@ -211,43 +201,46 @@ abbrev Transports : Setting → ℕ → Type 0
 Transports setting depth = (layout : Layout) (a b : Contents) → Alike setting depth layout a b
     → ((m : List StepResult) → Chain setting depth layout a m → Chain setting depth layout b m) × ((refusal : ChainRefusal) → First setting depth layout a refusal → First setting depth layout b refusal)
 
-moves_more : (setting : Setting) (depth : ℕ) → Transports setting depth → (layout : Layout) (a b : Contents) → LevelAlike (Alike setting depth) setting layout a b
+moves_more : (setting : Setting) (depth : ℕ) → Transports setting depth → (layout : Layout) (a b : Contents) → Alike setting (suc depth) layout a b
     → Moves (Chain setting depth) (uninspected (First setting depth)) setting layout a b
-moves_more setting depth inner layout a b h = record {
-  bodies = λ step id payload c. (h.bodies step id payload c).0;
-  holds = λ step id payload sublayout m c counted is. (inner sublayout _ _ (h.folders step id payload sublayout c counted is)).0 m;
-  failing = λ step id payload sublayout refusal c counted is. ⊎_elim inl (λ x. inr (x.0, (inner sublayout _ _ (h.folders step id payload sublayout c counted is)).1 refusal x.1));
-}
+moves_more setting depth inner layout a b h =
+    let deeper = λ (step : Step) (id payload : List ℕ) (sublayout : Layout) (c : Contains layout.steps step) (counted : Counted setting layout a step id payload) (is : LayoutOf payload sublayout).
+    inner sublayout (folder_of step.name id a) (folder_of step.name id b)
+    (h.0.folders step id payload sublayout c counted is, h.1.folders step id payload sublayout c (h.0.bodies step id payload c counted) is) in
+    record {
+      bodies = h.0.bodies;
+      holds = λ step id payload sublayout m c counted is. (deeper step id payload sublayout c counted is).0 m;
+      failing = λ step id payload sublayout refusal c counted is. ⊎_elim inl (λ x. inr (x.0, (deeper step id payload sublayout c counted is).1 refusal x.1));
+    }
 
 transports : (setting : Setting) (depth : ℕ) → Transports setting depth
 transports setting zero layout a b h =
-    let move = moves_zero setting layout a b h in
-    let back = moves_zero setting layout b a (alike_sym setting zero layout a b h) in
+    let move = moves_zero setting layout a b h.0 in
+    let back = moves_zero setting layout b a h.1 in
     (level_moved none_holds too_deep setting layout a b move back, fails_moved none_holds too_deep setting layout a b move back)
 transports setting (suc depth) layout a b h =
     let move = moves_more setting depth (transports setting depth) layout a b h in
-    let back = moves_more setting depth (transports setting depth) layout b a (alike_sym setting (suc depth) layout a b h) in (
+    let back = moves_more setting depth (transports setting depth) layout b a (h.1, h.0) in (
       level_moved (Chain setting depth) (uninspected (First setting depth)) setting layout a b move back,
       fails_moved (Chain setting depth) (uninspected (First setting depth)) setting layout a b move back,
     )
 
-same_bodies : (setting : Setting) (depth : ℕ) (layout : Layout) (a b : Contents) → Alike setting depth layout a b → (step : Step) (id payload : List ℕ) → Contains layout.steps step
+bodies_within : (setting : Setting) (depth : ℕ) (layout : Layout) (a b : Contents) → Within setting depth layout a b → (step : Step) → Contains layout.steps step → (id payload : List ℕ)
     → Counted setting layout a step id payload → Counted setting layout b step id payload
-same_bodies setting zero layout a b h step id payload c = (h.bodies step id payload c).0
-same_bodies setting (suc depth) layout a b h step id payload c = (h.bodies step id payload c).0
+bodies_within setting zero layout a b h step c id payload = h.bodies step id payload c
+bodies_within setting (suc depth) layout a b h step c id payload = h.bodies step id payload c
 
 -- alike bundles come to the same
 pub alike_chains : (setting : Setting) (depth : ℕ) (layout : Layout) (a b : Contents) → Alike setting depth layout a b → ComesToTheSame setting depth layout a b
 alike_chains setting depth layout a b h =
-    let flipped = alike_sym setting depth layout a b h in
     let to = transports setting depth layout a b h in
-    let from = transports setting depth layout b a flipped in
-    let there = λ (step : Step) (c : Contains layout.steps step) (id payload : List ℕ). same_bodies setting depth layout a b h step id payload c in
-    let here = λ (step : Step) (c : Contains layout.steps step) (id payload : List ℕ). same_bodies setting depth layout b a flipped step id payload c in
+    let from = transports setting depth layout b a (h.1, h.0) in
+    let there = bodies_within setting depth layout a b h.0 in
+    let back = bodies_within setting depth layout b a h.1 in
     record {
       chain = λ m. (to.0 m, from.0 m);
       first = λ refusal. (to.1 refusal, from.1 refusal);
-      found = λ step found c. (found_moved setting layout a b step (there step c) (here step c) found, found_moved setting layout b a step (here step c) (there step c) found);
+      found = λ step found c. (found_moved setting layout a b step (there step c) (back step c) found, found_moved setting layout b a step (back step c) (there step c) found);
     }
 
 -- what counts does so by a copy of its file
@@ -272,13 +265,17 @@ copied setting layout a b copies step id payload c counted =
       reads = counted.reads;
     }
 
-level_noise : (sub : Comparing) (setting : Setting) (layout : Layout) (a b : Contents) → HasCopies setting layout a b → HasCopies setting layout b a → FoldersCompare sub setting layout a b → LevelAlike sub setting layout a b
-level_noise sub setting layout a b there back folders = record {
-  bodies = λ step id payload c. (copied setting layout a b there step id payload c, copied setting layout b a back step id payload c);
-  folders = folders;
-}
+level_within : (sub : Comparing) (setting : Setting) (layout : Layout) (a b : Contents) → HasCopies setting layout a b → FoldersCompare sub setting layout a b → LevelWithin sub setting layout a b
+level_within sub setting layout a b copies folders = record { bodies = copied setting layout a b copies; folders = folders }
 
 -- bundles that have copies of each other's files that count are alike
 pub noise_alike : (setting : Setting) (depth : ℕ) (layout : Layout) (a b : Contents) → HasCopies setting layout a b → HasCopies setting layout b a → FoldersCompare (deeper_alike setting depth) setting layout a b → Alike setting depth layout a b
-noise_alike setting zero layout a b = level_noise any_two setting layout a b
-noise_alike setting (suc depth) layout a b = level_noise (Alike setting depth) setting layout a b
+noise_alike setting zero layout a b there back folders = (
+  level_within any_two setting layout a b there folders,
+  level_within any_two setting layout b a back (λ step id payload sublayout c counted is. tt),
+)
+noise_alike setting (suc depth) layout a b there back folders = (
+  level_within (Within setting depth) setting layout a b there (λ step id payload sublayout c counted is. (folders step id payload sublayout c counted is).0),
+  level_within (Within setting depth) setting layout b a back
+      (λ step id payload sublayout c counted is. (folders step id payload sublayout c (copied setting layout b a back step id payload c counted) is).1),
+)

@@ -52,7 +52,7 @@ pub chain_one : (setting : Setting) (depth : ℕ) → HoldsOneWay (Chain setting
 chain_one setting zero layout bundle m n = level_one none_holds none_one setting bundle layout m n
 chain_one setting (suc depth) layout bundle m n = level_one (Chain setting depth) (chain_one setting depth) setting bundle layout m n
 
-uninspected_apart : (sub : Holding) (fails : Failing) → ((layout : Layout) (bundle : Contents) (m : List StepResult) (refusal : ChainRefusal) → sub layout bundle m → ¬ fails layout bundle refusal)
+pub uninspected_apart : (sub : Holding) (fails : Failing) → ((layout : Layout) (bundle : Contents) (m : List StepResult) (refusal : ChainRefusal) → sub layout bundle m → ¬ fails layout bundle refusal)
     → HoldsOrFails sub (uninspected fails)
 uninspected_apart sub fails apart layout bundle m refusal bare h k = ⊎_elim (λ x. x.0 bare) (λ x. apart layout bundle m refusal h x.1) k
 

@@ -20,6 +20,15 @@ module _ {P R : Type 0} (At : P → R → Type 0) where
   none_map f [] h = tt
   none_map f (x ∷ xs) h = (h x, none_map f xs h)
 
+  -- what stands first among places does so where more places follow, and behind places where nothing stands
+  pub first_before : (ps qs : List P) (r : R) → IsFirst At ps r → IsFirst At (ps ++ qs) r
+  first_before [] qs r h = absurd h
+  first_before (p ∷ ps) qs r h = ⊎_elim inl (λ x. inr (x.0, first_before ps qs r x.1)) h
+
+  pub first_behind : (ps qs : List P) (r : R) → NoneAt ps → IsFirst At qs r → IsFirst At (ps ++ qs) r
+  first_behind [] qs r none h = h
+  first_behind (p ∷ ps) qs r none h = inr (none.0, first_behind ps qs r none.1 h)
+
   -- at most one thing stands first
   abbrev pub OneFirst : List P → Type 0
   OneFirst ps = (a b : R) → IsFirst At ps a → IsFirst At ps b → a ≡ b

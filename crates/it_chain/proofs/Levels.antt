@@ -9,7 +9,7 @@ use Rattle.it_rules.specs.Item.{Recorded, Links}
 use Rattle.it_rules.specs.Rules.{RulesHold}
 use Rattle.it_docs.proofs.Same.{layout_same, link_same}
 use Rattle.it_chain.specs.Contents.{Contents}
-use Rattle.it_chain.specs.Counted.{Setting, Body, of_link, of_layout, BodyOf}
+use Rattle.it_chain.specs.Counted.{Setting, Body, of_link, of_layout, BodyOf, Counted}
 use Rattle.it_chain.specs.First.{Failing, HasTwo, SublayoutFails, TooFew, IsLeastOther, RulesFail}
 use Rattle.it_chain.specs.Level.{Holding, recorded_in, links_in, summary, rules_on, StepRulesHold, Records, HasRecord, StepHolds, LevelHolds}
 use Rattle.it_chain.specs.Names.{folder_of}
@@ -85,13 +85,19 @@ module _ (sub : Holding) (one : HoldsOneWay sub) (setting : Setting) (bundle : C
     inner_holds : (step id : List ℕ) (sublayout : Layout) (inner : ChainRefusal) (recorded : Recorded) → Records sub bundle step id (of_layout sublayout) recorded → ¬ fails sublayout (folder_of step id bundle) inner
     inner_holds step id sublayout inner recorded h = apart sublayout (folder_of step id bundle) h.0 inner h.1 h.2
 
+    -- an id that has a record and no other body is no sublayout that fails
+    pub not_failing : (step : Step) (id : List ℕ) (recorded : Recorded) (a : HasRecord sub setting layout bundle step id recorded)
+        → ((other : List ℕ) → Counted setting layout bundle step id other → a.payload ≡ other) → (refusal : ChainRefusal) → ¬ SublayoutFails sub fails setting layout bundle step id refusal
+    not_failing step id recorded a alone refusal k =
+        let same : a.payload ≡ k.payload = alone k.payload k.counted in
+        let body : a.body ≡ of_layout k.sublayout = body_one step.name k.payload a.body (of_layout k.sublayout) (subst (λ p. BodyOf step.name p a.body) same a.reads) k.is_layout in
+        inner_holds step.name id k.sublayout k.inner recorded
+        (subst (λ b. Records sub bundle step.name id b recorded) body a.records) k.fails_there
+
     pub no_failing : (step : Step) (r : StepResult) → StepHolds sub setting layout bundle step r → (id : List ℕ) (refusal : ChainRefusal) → ¬ SublayoutFails sub fails setting layout bundle step id refusal
     no_failing step r h id refusal k =
         let a = h.agree id k.payload k.counted in
-        let same : a.payload ≡ k.payload = h.one_body id a.payload k.payload a.counted k.counted in
-        let body : a.body ≡ of_layout k.sublayout = body_one step.name k.payload a.body (of_layout k.sublayout) (subst (λ p. BodyOf step.name p a.body) same a.reads) k.is_layout in
-        inner_holds step.name id k.sublayout k.inner (recorded_in r)
-        (subst (λ b. Records sub bundle step.name id b (recorded_in r)) body a.records) k.fails_there
+        not_failing step id (recorded_in r) a (λ other c. h.one_body id a.payload other a.counted c) refusal k
 
     pub no_few : (step : Step) (r : StepResult) → StepHolds sub setting layout bundle step r → (found : ℕ) → ¬ TooFew sub fails setting layout bundle step found
     no_few step r h found k =

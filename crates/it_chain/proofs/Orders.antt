@@ -23,3 +23,9 @@ by_test a b false e h = absurd (h (λ same. let no : false ≡ true = sym e ∙ 
 -- texts that are not different are equal
 pub not_different : (a b : List ℕ) → ¬ (a ≢ b) → a ≡ b
 not_different a b = by_test a b (bytes_eq a b) refl
+
+-- of two texts one at most is before the other
+pub one_before : (a b : List ℕ) → IsBefore a b → ¬ IsBefore b a
+one_before a b h k =
+    let turned : Less ≡ Greater = sym k ∙ nat_list_cmp_total.antisymm b a ∙ ap ordering_reverse h in
+    cc

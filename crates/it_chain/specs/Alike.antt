@@ -26,31 +26,25 @@ FoldersCompare sub setting layout bundle other =
     (step : Step) (id payload : List ℕ) (sublayout : Layout) → Contains layout.steps step → Counted setting layout bundle step id payload → LayoutOf payload sublayout
     → sub sublayout (folder_of step.name id bundle) (folder_of step.name id other)
 
--- the same bodies count in both bundles, and the folders of each sublayout among them compare as given
-pub record LevelAlike (sub : Comparing) (setting : Setting) (layout : Layout) (bundle other : Contents) : Type 0 where
-  pub bodies : (step : Step) (id payload : List ℕ) → Contains layout.steps step → Counted setting layout bundle step id payload ↔ Counted setting layout other step id payload
-  pub folders : FoldersCompare sub setting layout bundle other
-
 -- what counts in the first bundle counts in the second, and the folders of each sublayout among it
 -- compare as given
 pub record LevelWithin (sub : Comparing) (setting : Setting) (layout : Layout) (bundle other : Contents) : Type 0 where
   pub bodies : (step : Step) (id payload : List ℕ) → Contains layout.steps step → Counted setting layout bundle step id payload → Counted setting layout other step id payload
   pub folders : FoldersCompare sub setting layout bundle other
 
+-- what counts in the first bundle counts in the second, down to a depth of sublayouts
+abbrev pub Within : Setting → ℕ → Comparing
+Within setting zero = LevelWithin any_two setting
+Within setting (suc depth) = LevelWithin (Within setting depth) setting
+
 -- the same counts in both bundles, down to a depth of sublayouts
 abbrev pub Alike : Setting → ℕ → Comparing
-Alike setting zero = LevelAlike any_two setting
-Alike setting (suc depth) = LevelAlike (Alike setting depth) setting
+Alike setting depth layout bundle other = Within setting depth layout bundle other × Within setting depth layout other bundle
 
 -- how the folders of sublayouts compare in bundles that are alike
 abbrev pub deeper_alike : Setting → ℕ → Comparing
 deeper_alike setting zero = any_two
 deeper_alike setting (suc depth) = Alike setting depth
-
--- what counts in the first bundle counts in the second, down to a depth of sublayouts
-abbrev pub Within : Setting → ℕ → Comparing
-Within setting zero = LevelWithin any_two setting
-Within setting (suc depth) = LevelWithin (Within setting depth) setting
 
 -- a file's bytes stand in a bundle under a name that is claimed for a step
 pub record HasCopy (bundle : Contents) (step : Step) (file : File) : Type 0 where

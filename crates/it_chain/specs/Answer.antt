@@ -58,15 +58,50 @@ signers layout step = filter (λ entry. list_any (bytes_eq entry.0) step.pubkeys
 abbrev pub Answering : Type 0
 Answering = Layout → Contents → Result (List StepResult) ChainRefusal
 
+-- a link where it bears the step's name, and else what else there is
+abbrev pub link_or : Step → Option Link → Option Body → Option Body
+link_or step None other = other
+link_or step (Some link) other = if bytes_eq link.name step.name then Some (of_link link) else other
+
+-- whether the payloads are all one
+abbrev pub bodies_in : List (List ℕ × Body) → Bodies
+bodies_in [] = no_body
+bodies_in (first ∷ others) = if list_all (λ other. bytes_eq other.0 first.0) others then one_body first.1 else several
+
+-- the records of a list of ids, from those of its first and of the others
+abbrev pub with_record : Option IdRecord → List IdRecord → List IdRecord
+with_record None records = records
+with_record (Some r) records = r ∷ records
+
+-- a rule that fails
+abbrev pub fault_answer : Step → Side → Option (ℕ × List ℕ) → Result (Unit {0}) ChainRefusal
+fault_answer step side None = Ok tt
+fault_answer step side (Some fault) = Err (here (RuleFailed (of_step step.name) side fault.0 fault.1))
+
+-- no sublayout
+abbrev pub no_deeper : Answering
+no_deeper layout bundle = Err (here TooDeep)
+
+abbrev pub unless_inspected : List Inspection → Result (List StepResult) ChainRefusal → Result (List StepResult) ChainRefusal
+unless_inspected [] answer = answer
+unless_inspected (inspection ∷ inspections) answer = Err (here InspectionInSublayout)
+
+module _ (sub : Answering) (bundle : Contents) where
+  -- the artifacts that a body comes to
+  abbrev pub body_answer : Step → List ℕ → Body → Result Recorded ChainRefusal
+  body_answer step id (of_link link) = Ok (record { materials = link.materials; products = link.products })
+  body_answer step id (of_layout sublayout) = put_under step.name id (sub sublayout (folder_of step.name id bundle)) >>= λ results. Ok (summary results)
+
+  abbrev pub bodies_answer : Step → List ℕ → KeyNumber → Bodies → Result (Option IdRecord) ChainRefusal
+  bodies_answer step id key no_body = Ok None
+  bodies_answer step id key several = Err (here (TwoPayloads step.name id))
+  bodies_answer step id key (one_body body) = body_answer step id body >>= λ recorded. Ok (Some (record { id = id; key = key; recorded = recorded }))
+
 module _ (lower : Lower) (setting : Setting) where
   -- the envelopes of the in-toto type in the files that are claimed for a step
   abbrev pub envelopes_for : Step → Contents → List Envelope
   envelopes_for step bundle = filter (λ envelope. bytes_eq envelope.payload_type (codes "application/vnd.in-toto+json"))
       (filter_map (λ file. lower.envelope_of file.bytes) (filter (λ file. lower.is_claimed step.name file.name) (files_of bundle)))
-
-  abbrev pub link_or : Step → Option Link → Option Body → Option Body
-  link_or step None other = other
-  link_or step (Some link) other = if bytes_eq link.name step.name then Some (of_link link) else other
 
   -- what a payload is for a step
   abbrev pub body_of : Step → List ℕ → Option Body
@@ -77,32 +112,14 @@ module _ (lower : Lower) (setting : Setting) where
   payloads_for step bundle id key = filter_map (λ envelope. option_map (λ body. (envelope.payload, body)) (body_of step envelope.payload))
       (filter (λ envelope. is_vouched setting.check id key (message_of envelope) envelope.signatures) (envelopes_for step bundle))
 
-  abbrev pub bodies_in : List (List ℕ × Body) → Bodies
-  bodies_in [] = no_body
-  bodies_in (first ∷ others) = if list_all (λ other. bytes_eq other.0 first.0) others then one_body first.1 else several
-
   module _ (sub : Answering) (layout : Layout) (bundle : Contents) where
-    -- the artifacts that a body comes to
-    abbrev pub body_answer : Step → List ℕ → Body → Result Recorded ChainRefusal
-    body_answer step id (of_link link) = Ok (record { materials = link.materials; products = link.products })
-    body_answer step id (of_layout sublayout) = put_under step.name id (sub sublayout (folder_of step.name id bundle)) >>= λ results. Ok (summary results)
-
-    abbrev pub bodies_answer : Step → List ℕ → KeyNumber → Bodies → Result (Option IdRecord) ChainRefusal
-    bodies_answer step id key no_body = Ok None
-    bodies_answer step id key several = Err (here (TwoPayloads step.name id))
-    bodies_answer step id key (one_body body) = body_answer step id body >>= λ recorded. Ok (Some (record { id = id; key = key; recorded = recorded }))
-
     abbrev pub key_answer : Step → List ℕ → Option KeyNumber → Result (Option IdRecord) ChainRefusal
     key_answer step id None = Ok None
-    key_answer step id (Some key) = bodies_answer step id key (bodies_in (payloads_for step bundle id key))
+    key_answer step id (Some key) = bodies_answer sub bundle step id key (bodies_in (payloads_for step bundle id key))
 
     -- the record of an id, if it counts
     unfoldable pub id_answer : Step → List ℕ × KeyObject → Result (Option IdRecord) ChainRefusal
     id_answer step signer = key_answer step signer.0 (setting.check.key_of signer.0 signer.1)
-
-    abbrev pub with_record : Option IdRecord → List IdRecord → List IdRecord
-    with_record None records = records
-    with_record (Some r) records = r ∷ records
 
     -- the records of the ids that count
     abbrev pub ids_answer : Step → List (List ℕ × KeyObject) → Result (List IdRecord) ChainRefusal
@@ -131,10 +148,6 @@ module _ (lower : Lower) (setting : Setting) where
     steps_answer [] = Ok []
     steps_answer (step ∷ steps) = step_answer step >>= λ result. steps_answer steps >>= λ results. Ok (result ∷ results)
 
-  abbrev pub fault_answer : Step → Side → Option (ℕ × List ℕ) → Result (Unit {0}) ChainRefusal
-  fault_answer step side None = Ok tt
-  fault_answer step side (Some fault) = Err (here (RuleFailed (of_step step.name) side fault.0 fault.1))
-
   -- whether the rules of a step hold on a side
   unfoldable pub side_answer : Links → Step → StepResult → Side → Result (Unit {0}) ChainRefusal
   side_answer links step result side = fault_answer step side (lower.fault_of (rules_on side step) side (recorded_in result) links)
@@ -150,14 +163,6 @@ module _ (lower : Lower) (setting : Setting) where
   level_answer sub layout bundle =
       if int_lt layout.expires setting.moment then Err (here Expired)
       else (steps_answer sub layout bundle layout.steps >>= λ results. rules_answer (links_in results) layout.steps results >>= λ _. Ok results)
-
-  -- no sublayout
-  abbrev pub no_deeper : Answering
-  no_deeper layout bundle = Err (here TooDeep)
-
-  abbrev pub unless_inspected : List Inspection → Result (List StepResult) ChainRefusal → Result (List StepResult) ChainRefusal
-  unless_inspected [] answer = answer
-  unless_inspected (inspection ∷ inspections) answer = Err (here InspectionInSublayout)
 
   -- what a layout over a bundle comes to, down to a depth of sublayouts
   unfoldable pub answer : ℕ → Answering

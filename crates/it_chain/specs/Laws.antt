@@ -1,13 +1,15 @@
 -- What is shown of these definitions.
-use Rattle.std.specs.Prelude.{◌≡◌, ℕ, suc, ◌≤◌, List}
+use Rattle.std.specs.Prelude.{◌≡◌, ℕ, suc, ◌≤◌, List, MatchResult}
 use Rattle.std.specs.List.{AllZip}
 use Rattle.it_docs.specs.declared.layout.Layout.{Layout}
 use Rattle.it_docs.specs.declared.step.Step.{Step}
 use Rattle.it_chain.specs.Alike.{Alike, ComesToTheSame, FoldersCompare, HasCopies, Within, deeper_alike}
+use Rattle.it_chain.specs.Answer.{answer}
 use Rattle.it_chain.specs.Chain.{Chain}
 use Rattle.it_chain.specs.Contents.{Contents}
 use Rattle.it_chain.specs.Counted.{Setting, Found}
 use Rattle.it_chain.specs.First.{First}
+use Rattle.it_chain.specs.Lower.{Lower, AnswersRight}
 use Rattle.it_chain.specs.declared.chain.StepResult.{StepResult}
 use Rattle.it_chain.specs.declared.refusal.ChainFault.{ChainFault}
 use Rattle.it_chain.specs.declared.refusal.ChainFault.TheVariants.{Expired, TwoPayloads, TooDeep, Threshold, Disagree, InspectionInSublayout, RuleFailed}
@@ -77,3 +79,10 @@ pub record OnlyWithholds (setting : Setting) (depth : ℕ) (layout : Layout) (ot
 abbrev pub WithheldChains : Type 0
 WithheldChains =
     (setting : Setting) (depth : ℕ) (layout : Layout) (other bundle : Contents) → Within setting depth layout other bundle → OnlyWithholds setting depth layout other bundle
+
+-- the deciding function, where what it asks of the crates below answers right, answers the records with
+-- which a layout holds of a bundle, or else its first failure
+abbrev pub AnswerIsRight : Type 0
+AnswerIsRight =
+    (lower : Lower) → AnswersRight lower → (setting : Setting) (depth : ℕ) (layout : Layout) (bundle : Contents)
+    → MatchResult (answer lower setting depth layout bundle) (Chain setting depth layout bundle) (First setting depth layout bundle)

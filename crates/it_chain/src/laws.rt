@@ -1,6 +1,6 @@
 //! Laws about the definitions of chains: functions that do nothing, and whose contracts say what is
 //! true of every layout, bundle and check.
-ghost use Rattle.it_chain.specs.Laws.{AlikeChains, ChainGoesDeeper, ChainIsOne, ChainOrFirst, FirstIsOne, FoundIsOne, NoiseIsAlike, WithheldChains};
+ghost use Rattle.it_chain.specs.Laws.{AlikeChains, AnswerIsRight, ChainGoesDeeper, ChainIsOne, ChainOrFirst, FirstIsOne, FoundIsOne, NoiseIsAlike, WithheldChains};
 
 /// The number of different keys that signed what counts for a step is one number.
 pub fn found_is_one()
@@ -43,4 +43,10 @@ pub fn noise_is_alike()
 /// no more keys, or fails at a threshold.
 pub fn withheld_chains()
     ensures { WithheldChains }
+{}
+
+/// The deciding function answers the records with which a layout holds of a bundle, or else its
+/// first failure.
+pub fn answer_is_right()
+    ensures { AnswerIsRight }
 {}

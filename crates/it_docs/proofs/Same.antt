@@ -52,7 +52,7 @@ found_or_same : {X : Type 0} (P : Data → X → Type 0) (missing : X) → IsSin
 found_or_same P missing same None x y h k = h ∙ sym k
 found_or_same P missing same (Some v) x y h k = same v x y h k
 
-part_or_same : {X : Type 0} (P : Data → X → Type 0) (missing : X) (name : List ℕ) → IsSingle P → IsSingle (IsPartOr P missing name)
+pub part_or_same : {X : Type 0} (P : Data → X → Type 0) (missing : X) (name : List ℕ) → IsSingle P → IsSingle (IsPartOr P missing name)
 part_or_same P missing name same d x y h k = found_or_same P missing same (member_at name d) x y h k
 
 pub document_same : {X : Type 0} (P : Data → X → Type 0) → IsSingle P → (bytes : List ℕ) (x y : X) → OfDocument P bytes x → OfDocument P bytes y → x ≡ y

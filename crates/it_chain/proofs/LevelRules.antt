@@ -1,6 +1,6 @@
-  pub no_rule_fails : (m : List StepResult) → AllZip HoldsStep layout.steps m
-      → (step : Step) (result : StepResult) (side : Side) → Contains (zip layout.steps m) (step, result)
-      → RulesHold (rules_on side step) side (recorded_in result) (links_in m) → (refusal : ChainRefusal) → ¬ At (at_rules step side) refusal
+-- The records with which the steps of a layout hold: their names differ, and where the rules hold over
+-- them nothing stands at the rules.
+use Rattle.std.proofs.Common.{◌≡◌, ◌≢◌, ℕ, ◌<◌, List, [], ◌∷◌, map, zip, length, get_or, AllPairs, Contains, refl, sym, ap, subst, ◌∙◌, arith}
 use Rattle.std.specs.List.{AllZip}
 use Rattle.std.proofs.lemmas.List.{length-append, length-map, get_or-map, get_or_append_left}
 use Rattle.std.proofs.lemmas.Map.Made.{AllPairs-from_IsDistinct}
@@ -32,6 +32,7 @@ module _ (sub : Holding) (fails : Failing) (one : HoldsOneWay sub) (setting : Se
   pub no_rule_fails : (m : List StepResult) → AllZip HoldsStep layout.steps m
       → (step : Step) (result : StepResult) (side : Side) → Contains (zip layout.steps m) (step, result)
       → RulesHold (rules_on side step) side (recorded_in result) (links_in m) → (refusal : ChainRefusal) → ¬ At (at_rules step side) refusal
+  no_rule_fails m holds step result side c rules refusal x =
       let k = x.2 in
       let results : m ≡ k.results = steps_one sub one setting bundle layout layout.steps m k.results holds k.steps in
       let same : result ≡ k.result = step_one sub one setting bundle layout step result k.result

@@ -1,7 +1,9 @@
 //! Trees of parameters (SLSA Provenance v1, `externalParameters`; a policy's `parameters`).
 ghost use Rattle.std.specs.Prelude.{◌≡◌, IfOk, option_map};
-ghost use Rattle.serde_json.specs.View.{view};
+ghost use Rattle.serde_json.specs.View.{view, items_view as parts_view, members_view, number_view};
 ghost use Rattle.it_base.specs.Finds.{Finds};
+ghost use Rattle.it_docs.specs.JsonView.{json_of};
+ghost use Rattle.it_docs.specs.TreeOf.{fields_of, number_tree, tree_of, trees_of};
 
 use it_base::parts::FromDocument;
 use it_base::text::Text;
@@ -226,10 +228,6 @@ impl FromDocument for Tree {
         Ok(Some(read(alloc, value)?))
     }
 }
-
-ghost use Rattle.serde_json.specs.View.{items_view as parts_view, members_view, number_view};
-ghost use Rattle.it_docs.specs.JsonView.{json_of};
-ghost use Rattle.it_docs.specs.TreeOf.{fields_of, number_tree, tree_of, trees_of};
 
 #[cycle(read)]
 fn read(alloc: Global, value: &Value) -> Result<Tree, AllocError>

@@ -3,7 +3,7 @@ ghost use Rattle.std.specs.Prelude.{◌≡◌, ◌∷◌, [], IfOk};
 ghost use Rattle.serde_json.specs.View.{view};
 ghost use Rattle.it_base.specs.Finds.{Finds};
 ghost use Rattle.it_docs.specs.Rule.{IsRule, RuleOf, is_keyword as is_this_keyword};
-ghost use Rattle.it_docs.specs.RuleAnswer.{is_match as is_match_of, match_in, match_of, rule_of, short_of, side_of as side_at};
+ghost use Rattle.it_docs.specs.RuleAnswer.{is_match as is_match_of, match_of, prefixed_of, rule_of, short_of, side_of as side_at};
 
 use it_base::parts::FromDocument;
 use it_base::sequence::Sequence;
@@ -85,21 +85,22 @@ fn rule_from(alloc: Global, texts: &[Text]) -> Result<Option<Rule>, AllocError>
 {
     match texts {
         [word, operand] => short_rule(alloc, word, operand),
-        _ => match_from(alloc, texts),
-    }
-}
-
-#[tactic(auto, unfolding(crate::specs::RuleAnswer::match_in))]
-fn match_from(alloc: Global, texts: &[Text]) -> Result<Option<Rule>, AllocError>
-    ensures { IfOk result (λ found. found ≡ match_in texts.now) }
-{
-    match texts {
         [word, pattern, with, side, from, step] => {
             if !is_match(word, with, from) {
                 return Ok(None);
             }
             match_rule(alloc, pattern, "", side, "", step)
         }
+        _ => prefixed_match(alloc, texts),
+    }
+}
+
+/// The `MATCH` with one prefix or both that the texts are, or `None`.
+#[tactic(auto, unfolding(crate::specs::RuleAnswer::prefixed_of))]
+fn prefixed_match(alloc: Global, texts: &[Text]) -> Result<Option<Rule>, AllocError>
+    ensures { IfOk result (λ found. found ≡ prefixed_of texts.now) }
+{
+    match texts {
         [word, pattern, third, fourth, fifth, sixth, from, step] => {
             if is_keyword(third, "IN") && is_match(word, fifth, from) {
                 match_rule(alloc, pattern, fourth.as_str(), sixth, "", step)

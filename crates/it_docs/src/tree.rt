@@ -2,8 +2,10 @@
 ghost use Rattle.std.specs.Prelude.{◌≡◌, IfOk, option_map};
 ghost use Rattle.serde_json.specs.View.{view, items_view as parts_view, members_view, number_view};
 ghost use Rattle.it_base.specs.Finds.{Finds};
-ghost use Rattle.it_docs.specs.JsonView.{json_of};
-ghost use Rattle.it_docs.specs.TreeOf.{fields_of, number_tree, tree_of, trees_of};
+ghost use Rattle.it_docs.specs.Equal.{equal, equal_fields, equal_items};
+ghost use Rattle.it_docs.specs.Json.{no_fields};
+ghost use Rattle.it_docs.specs.JsonView.{fields_view, items_view, json_of};
+ghost use Rattle.it_docs.specs.TreeOf.{IsMembers, IsTree, field_at, fields_of, number_tree, tree_of, trees_of};
 
 use it_base::parts::FromDocument;
 use it_base::text::Text;
@@ -90,8 +92,6 @@ impl Model for Members {
 }
 
 impl Trees {
-    ghost use Rattle.it_docs.specs.JsonView.{items_view};
-
     /// Lends the trees. Takes no memory.
     pub fn as_slice(&self) -> &[Tree]
         ensures { items_view result.now ≡ self.now }
@@ -101,9 +101,6 @@ impl Trees {
 }
 
 impl Tree {
-    ghost use Rattle.it_docs.specs.Equal.{equal, equal_items, equal_fields};
-    ghost use Rattle.it_docs.specs.JsonView.{json_of};
-
     /// Whether both trees are equal by parts: `Other` equals nothing, not itself either. Takes no
     /// memory.
     #[cycle(equals)]
@@ -138,8 +135,6 @@ impl Tree {
 }
 
 impl Trees {
-    ghost use Rattle.it_docs.specs.Equal.{equal_items};
-
     #[cycle(equals)]
     fn equals(&self, other: &Trees) -> bool
         ensures { result ≡ equal_items self.now other.now }
@@ -157,8 +152,6 @@ impl Trees {
 }
 
 impl Members {
-    ghost use Rattle.it_docs.specs.Equal.{equal_fields};
-
     #[cycle(equals)]
     fn equals(&self, other: &Members) -> bool
         ensures { result ≡ equal_fields self.now other.now }
@@ -176,10 +169,6 @@ impl Members {
 }
 
 impl Members {
-    ghost use Rattle.it_docs.specs.Json.{no_fields};
-    ghost use Rattle.it_docs.specs.JsonView.{fields_view, json_of};
-    ghost use Rattle.it_docs.specs.TreeOf.{field_at};
-
     /// No trees. Takes no memory.
     pub fn new(alloc: Global) -> Members
         ensures { result ≡ no_fields }
@@ -205,8 +194,6 @@ impl Members {
 }
 
 impl FromDocument for Members {
-    ghost use Rattle.it_docs.specs.TreeOf.{IsMembers};
-
     ghost is_of = { IsMembers };
 
     /// The trees that the members of a JSON object are. Here null is a value.
@@ -219,8 +206,6 @@ impl FromDocument for Members {
 }
 
 impl FromDocument for Tree {
-    ghost use Rattle.it_docs.specs.TreeOf.{IsTree};
-
     ghost is_of = { IsTree };
 
     /// The tree that the part is. Every part is one.

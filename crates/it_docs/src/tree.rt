@@ -91,15 +91,6 @@ impl Model for Members {
     ghost size_decreases = { λ a h. omega (arith, most-le-fields_size a.by_name.entries) };
 }
 
-impl Trees {
-    /// Lends the trees. Takes no memory.
-    pub fn as_slice(&self) -> &[Tree]
-        ensures { items_view result.now ≡ self.now }
-    {
-        self.list.as_slice()
-    }
-}
-
 impl Tree {
     /// Whether both trees are equal by parts: `Other` equals nothing, not itself either. Takes no
     /// memory.
@@ -135,6 +126,13 @@ impl Tree {
 }
 
 impl Trees {
+    /// Lends the trees. Takes no memory.
+    pub fn as_slice(&self) -> &[Tree]
+        ensures { items_view result.now ≡ self.now }
+    {
+        self.list.as_slice()
+    }
+
     #[cycle(equals)]
     fn equals(&self, other: &Trees) -> bool
         ensures { result ≡ equal_items self.now other.now }
@@ -144,23 +142,6 @@ impl Trees {
         }
         for (x, y) in self.list.iter().zip(&other.list) {
             if !x.equals(y) {
-                return false;
-            }
-        }
-        true
-    }
-}
-
-impl Members {
-    #[cycle(equals)]
-    fn equals(&self, other: &Members) -> bool
-        ensures { result ≡ equal_fields self.now other.now }
-    {
-        if self.by_name.len() != other.by_name.len() {
-            return false;
-        }
-        for ((k, x), (l, y)) in self.by_name.iter().zip(&other.by_name) {
-            if k.as_str() != l.as_str() || !x.equals(y) {
                 return false;
             }
         }
@@ -190,6 +171,21 @@ impl Members {
         ensures { fields_view result ≡ self.now }
     {
         self.by_name.iter()
+    }
+
+    #[cycle(equals)]
+    fn equals(&self, other: &Members) -> bool
+        ensures { result ≡ equal_fields self.now other.now }
+    {
+        if self.by_name.len() != other.by_name.len() {
+            return false;
+        }
+        for ((k, x), (l, y)) in self.by_name.iter().zip(&other.by_name) {
+            if k.as_str() != l.as_str() || !x.equals(y) {
+                return false;
+            }
+        }
+        true
     }
 }
 

@@ -9,7 +9,7 @@ use Rattle.it_base.specs.Sequence.{IsList}
 use Rattle.it_base.specs.Text.{IsText}
 use Rattle.it_base.proofs.Items.{list_same}
 use Rattle.it_docs.specs.Rule.{is_keyword, IsKeyword, IsSide, IsShort, IsRule, RuleOf}
-use Rattle.it_docs.specs.RuleAnswer.{side_of, short_of, is_match, match_of, rule_of}
+use Rattle.it_docs.specs.RuleAnswer.{side_of, short_of, is_match, match_of, prefixed_of, rule_of}
 use Rattle.it_docs.specs.declared.rule.Rule.{Rule}
 use Rattle.it_docs.specs.declared.rule.Rule.TheVariants.{Match, Create, Delete, Modify, Allow, Disallow, Require}
 use Rattle.it_docs.specs.declared.rule.Side.{Side}
@@ -92,7 +92,7 @@ match_of-is pattern source side target step rule e =
 
 -- what is answered is the rule
 pub rule_of-is : (texts : List (List ℕ)) (rule : Rule) → rule_of texts ≡ Some rule → RuleOf texts rule
-unfolding rule_of
+unfolding rule_of prefixed_of
 rule_of-is [] r e = absurd (cc)
 rule_of-is (a ∷ []) r e = absurd (cc)
 rule_of-is (k ∷ x ∷ []) r e = short_of-is k x r e
@@ -123,34 +123,34 @@ rule_of-is (m ∷ p ∷ a ∷ b ∷ c ∷ d ∷ f ∷ s ∷ []) r e =
     ]
 rule_of-is (a ∷ b ∷ c ∷ d ∷ f ∷ g ∷ h ∷ i ∷ j ∷ []) r e = absurd (cc)
 rule_of-is (m ∷ p ∷ i ∷ a ∷ w ∷ d ∷ j ∷ b ∷ f ∷ s ∷ []) r e =
-    let q = if_some (is_keyword (codes "IN") i && (is_keyword (codes "IN") j && is_match m w f)) _ r e in
-    let first = both (is_keyword (codes "IN") i) _ q.0 in
-    let second = both (is_keyword (codes "IN") j) (is_match m w f) first.1 in
-    let words = match_words m w f second.1 in
+    let q = if_some ((is_keyword (codes "IN") i && is_keyword (codes "IN") j) && is_match m w f) _ r e in
+    let first = both (is_keyword (codes "IN") i && is_keyword (codes "IN") j) (is_match m w f) q.0 in
+    let within = both (is_keyword (codes "IN") i) (is_keyword (codes "IN") j) first.0 in
+    let words = match_words m w f first.1 in
     let found = match_of-is p a d b s r q.1 in
     subst (λ r. RuleOf (m ∷ p ∷ i ∷ a ∷ w ∷ d ∷ j ∷ b ∷ f ∷ s ∷ []) r) found.2
-    (inr (inr (inr (record { match = m; within = i; with = w; side_word = d; within_target = j; from = f; texts_are = refl; is_match = words.0; is_within = first.0; is_with = words.1.0; is_side = found.1; is_within_target = second.0; is_from = words.1.1 }))))
+    (inr (inr (inr (record { match = m; within = i; with = w; side_word = d; within_target = j; from = f; texts_are = refl; is_match = words.0; is_within = within.0; is_with = words.1.0; is_side = found.1; is_within_target = within.1; is_from = words.1.1 }))))
 rule_of-is (a ∷ b ∷ c ∷ d ∷ f ∷ g ∷ h ∷ i ∷ j ∷ k ∷ l ∷ rest) r e = absurd (cc)
 
--- lists of other lengths are no rules
-pub no_rule : (texts : List (List ℕ)) → length texts ≢ 2 → length texts ≢ 6 → length texts ≢ 8 → length texts ≢ 10 → None ≡ rule_of texts
-unfolding rule_of
-no_rule [] h2 h6 h8 h10 = refl
-no_rule (a ∷ []) h2 h6 h8 h10 = refl
-no_rule (k ∷ x ∷ []) h2 h6 h8 h10 = absurd (h2 refl)
-no_rule (a ∷ b ∷ c ∷ []) h2 h6 h8 h10 = refl
-no_rule (a ∷ b ∷ c ∷ d ∷ []) h2 h6 h8 h10 = refl
-no_rule (a ∷ b ∷ c ∷ d ∷ f ∷ []) h2 h6 h8 h10 = refl
-no_rule (m ∷ p ∷ w ∷ d ∷ f ∷ s ∷ []) h2 h6 h8 h10 = absurd (h6 refl)
-no_rule (a ∷ b ∷ c ∷ d ∷ f ∷ g ∷ h ∷ []) h2 h6 h8 h10 = refl
-no_rule (m ∷ p ∷ a ∷ b ∷ c ∷ d ∷ f ∷ s ∷ []) h2 h6 h8 h10 = absurd (h8 refl)
-no_rule (a ∷ b ∷ c ∷ d ∷ f ∷ g ∷ h ∷ i ∷ j ∷ []) h2 h6 h8 h10 = refl
-no_rule (m ∷ p ∷ i ∷ a ∷ w ∷ d ∷ j ∷ b ∷ f ∷ s ∷ []) h2 h6 h8 h10 = absurd (h10 refl)
-no_rule (a ∷ b ∷ c ∷ d ∷ f ∷ g ∷ h ∷ i ∷ j ∷ k ∷ l ∷ rest) h2 h6 h8 h10 = refl
+-- lists of other lengths are no MATCH with a prefix
+pub no_prefixed : (texts : List (List ℕ)) → length texts ≢ 8 → length texts ≢ 10 → None ≡ prefixed_of texts
+unfolding prefixed_of
+no_prefixed [] h8 h10 = refl
+no_prefixed (a ∷ []) h8 h10 = refl
+no_prefixed (a ∷ b ∷ []) h8 h10 = refl
+no_prefixed (a ∷ b ∷ c ∷ []) h8 h10 = refl
+no_prefixed (a ∷ b ∷ c ∷ d ∷ []) h8 h10 = refl
+no_prefixed (a ∷ b ∷ c ∷ d ∷ f ∷ []) h8 h10 = refl
+no_prefixed (a ∷ b ∷ c ∷ d ∷ f ∷ g ∷ []) h8 h10 = refl
+no_prefixed (a ∷ b ∷ c ∷ d ∷ f ∷ g ∷ h ∷ []) h8 h10 = refl
+no_prefixed (m ∷ p ∷ a ∷ b ∷ c ∷ d ∷ f ∷ s ∷ []) h8 h10 = absurd (h8 refl)
+no_prefixed (a ∷ b ∷ c ∷ d ∷ f ∷ g ∷ h ∷ i ∷ j ∷ []) h8 h10 = refl
+no_prefixed (m ∷ p ∷ i ∷ a ∷ w ∷ d ∷ j ∷ b ∷ f ∷ s ∷ []) h8 h10 = absurd (h10 refl)
+no_prefixed (a ∷ b ∷ c ∷ d ∷ f ∷ g ∷ h ∷ i ∷ j ∷ k ∷ l ∷ rest) h8 h10 = refl
 
 -- each rule is answered
 pub RuleOf-answer : (texts : List (List ℕ)) (rule : Rule) → RuleOf texts rule → rule_of texts ≡ Some rule
-unfolding rule_of short_of match_of
+unfolding rule_of prefixed_of short_of match_of
 RuleOf-answer texts (Create x) is = rw (is.texts_are, is.is_first) refl
 RuleOf-answer texts (Delete x) is = rw (is.texts_are, other_keyword (codes "DELETE") (codes "CREATE") is.first refl is.is_first, is.is_first) refl
 RuleOf-answer texts (Modify x) is =

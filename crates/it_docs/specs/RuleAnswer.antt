@@ -26,12 +26,16 @@ is_match match with from = is_keyword (codes "MATCH") match && (is_keyword (code
 unfoldable pub match_of : List ℕ → List ℕ → List ℕ → List ℕ → List ℕ → Option Rule
 match_of pattern source side target step = option_map (λ s. Match pattern source s target step) (side_of side)
 
+-- the MATCH with one prefix or both that the texts are
+unfoldable pub prefixed_of : List (List ℕ) → Option Rule
+prefixed_of (m ∷ p ∷ a ∷ b ∷ c ∷ d ∷ f ∷ s ∷ []) =
+    if is_keyword (codes "IN") a && is_match m c f then match_of p b d [] s
+    else (if is_keyword (codes "IN") c && is_match m a f then match_of p [] b d s else None)
+prefixed_of (m ∷ p ∷ i ∷ a ∷ w ∷ d ∷ j ∷ b ∷ f ∷ s ∷ []) =
+    if (is_keyword (codes "IN") i && is_keyword (codes "IN") j) && is_match m w f then match_of p a d b s else None
+prefixed_of texts = None
+
 unfoldable pub rule_of : List (List ℕ) → Option Rule
 rule_of (k ∷ x ∷ []) = short_of k x
 rule_of (m ∷ p ∷ w ∷ d ∷ f ∷ s ∷ []) = if is_match m w f then match_of p [] d [] s else None
-rule_of (m ∷ p ∷ a ∷ b ∷ c ∷ d ∷ f ∷ s ∷ []) =
-    if is_keyword (codes "IN") a && is_match m c f then match_of p b d [] s
-    else (if is_keyword (codes "IN") c && is_match m a f then match_of p [] b d s else None)
-rule_of (m ∷ p ∷ i ∷ a ∷ w ∷ d ∷ j ∷ b ∷ f ∷ s ∷ []) =
-    if is_keyword (codes "IN") i && (is_keyword (codes "IN") j && is_match m w f) then match_of p a d b s else None
-rule_of texts = None
+rule_of texts = prefixed_of texts

@@ -2,6 +2,8 @@
 ghost use Rattle.std.specs.Prelude.{◌≡◌, ◌∷◌, [], IfOk};
 ghost use Rattle.serde_json.specs.View.{view};
 ghost use Rattle.it_base.specs.Finds.{Finds};
+ghost use Rattle.it_docs.specs.Rule.{IsRule, RuleOf, is_keyword as is_this_keyword};
+ghost use Rattle.it_docs.specs.RuleAnswer.{is_match as is_match_of, match_of, prefixed_of, rule_of, short_of, side_of as side_at};
 
 use it_base::parts::FromDocument;
 use it_base::sequence::Sequence;
@@ -50,8 +52,6 @@ pub enum Rule {
 }
 
 impl FromDocument for Rule {
-    ghost use Rattle.it_docs.specs.Rule.{IsRule};
-
     ghost is_of = { IsRule };
 
     /// The rule that a list of texts is.
@@ -62,9 +62,6 @@ impl FromDocument for Rule {
         }
     }
 }
-
-ghost use Rattle.it_docs.specs.Rule.{RuleOf, is_keyword as is_this_keyword};
-ghost use Rattle.it_docs.specs.RuleAnswer.{is_match as is_match_of, match_of, rule_of, short_of, side_of as side_at};
 
 /// Reads a rule from its texts: `MATCH` pattern [`IN` prefix] `WITH` side [`IN` prefix] `FROM`
 /// step, or one of `CREATE`, `DELETE`, `MODIFY`, `ALLOW`, `DISALLOW` with a pattern, or `REQUIRE`
@@ -87,43 +84,28 @@ fn rule_from(alloc: Global, texts: &[Text]) -> Result<Option<Rule>, AllocError>
     ensures { IfOk result (λ found. found ≡ rule_of texts.now) }
 {
     match texts {
-        [word, operand] => short_rule(alloc, word.as_str(), operand.as_str()),
+        [word, operand] => short_rule(alloc, word, operand),
         [word, pattern, with, side, from, step] => {
-            if !is_match(word.as_str(), with.as_str(), from.as_str()) {
+            if !is_match(word, with, from) {
                 return Ok(None);
             }
-            match_rule(
-                alloc,
-                pattern.as_str(),
-                "",
-                side.as_str(),
-                "",
-                step.as_str(),
-            )
+            match_rule(alloc, pattern, "", side, "", step)
         }
+        _ => prefixed_match(alloc, texts),
+    }
+}
+
+/// The `MATCH` with one prefix or both that the texts are, or `None`.
+#[tactic(auto, unfolding(crate::specs::RuleAnswer::prefixed_of))]
+fn prefixed_match(alloc: Global, texts: &[Text]) -> Result<Option<Rule>, AllocError>
+    ensures { IfOk result (λ found. found ≡ prefixed_of texts.now) }
+{
+    match texts {
         [word, pattern, third, fourth, fifth, sixth, from, step] => {
-            let source_form = is_keyword(third.as_str(), "IN")
-                && is_match(word.as_str(), fifth.as_str(), from.as_str());
-            let target_form = is_keyword(fifth.as_str(), "IN")
-                && is_match(word.as_str(), third.as_str(), from.as_str());
-            if source_form {
-                match_rule(
-                    alloc,
-                    pattern.as_str(),
-                    fourth.as_str(),
-                    sixth.as_str(),
-                    "",
-                    step.as_str(),
-                )
-            } else if target_form {
-                match_rule(
-                    alloc,
-                    pattern.as_str(),
-                    "",
-                    fourth.as_str(),
-                    sixth.as_str(),
-                    step.as_str(),
-                )
+            if is_keyword(third, "IN") && is_match(word, fifth, from) {
+                match_rule(alloc, pattern, fourth.as_str(), sixth, "", step)
+            } else if is_keyword(fifth, "IN") && is_match(word, third, from) {
+                match_rule(alloc, pattern, "", fourth, sixth.as_str(), step)
             } else {
                 Ok(None)
             }
@@ -140,39 +122,30 @@ fn rule_from(alloc: Global, texts: &[Text]) -> Result<Option<Rule>, AllocError>
             from,
             step,
         ] => {
-            if !(is_keyword(within.as_str(), "IN")
-                && is_keyword(within_target.as_str(), "IN")
-                && is_match(word.as_str(), with.as_str(), from.as_str()))
-            {
+            let in_both = is_keyword(within, "IN") && is_keyword(within_target, "IN");
+            if !(in_both && is_match(word, with, from)) {
                 return Ok(None);
             }
-            match_rule(
-                alloc,
-                pattern.as_str(),
-                source.as_str(),
-                side.as_str(),
-                target.as_str(),
-                step.as_str(),
-            )
+            match_rule(alloc, pattern, source.as_str(), side, target.as_str(), step)
         }
         _ => Ok(None),
     }
 }
 
-fn is_keyword(text: &str, keyword: &str) -> bool
+fn is_keyword(text: &Text, keyword: &str) -> bool
     ensures { result ≡ is_this_keyword keyword.now text.now }
 {
-    text.eq_ignore_ascii_case(keyword)
+    text.as_str().eq_ignore_ascii_case(keyword)
 }
 
-fn is_match(word: &str, with: &str, from: &str) -> bool
+fn is_match(word: &Text, with: &Text, from: &Text) -> bool
     ensures { result ≡ is_match_of word.now with.now from.now }
 {
     is_keyword(word, "MATCH") && is_keyword(with, "WITH") && is_keyword(from, "FROM")
 }
 
 #[tactic(auto, unfolding(crate::specs::RuleAnswer::side_of))]
-fn side_of(word: &str) -> Option<Side>
+fn side_of(word: &Text) -> Option<Side>
     ensures { result ≡ side_at word.now }
 {
     if is_keyword(word, "MATERIALS") {
@@ -187,11 +160,11 @@ fn side_of(word: &str) -> Option<Side>
 #[tactic(auto, unfolding(crate::specs::RuleAnswer::match_of))]
 fn match_rule(
     alloc: Global,
-    pattern: &str,
+    pattern: &Text,
     source_prefix: &str,
-    side: &str,
+    side: &Text,
     target_prefix: &str,
-    step: &str,
+    step: &Text,
 ) -> Result<Option<Rule>, AllocError>
     ensures { IfOk result (λ found.
         found ≡ match_of pattern.now source_prefix.now side.now target_prefix.now step.now) }
@@ -200,11 +173,11 @@ fn match_rule(
         return Ok(None);
     };
     Ok(Some(Rule::Match {
-        pattern: Pattern::read(alloc, pattern)?,
+        pattern: Pattern::read(alloc, pattern.as_str())?,
         source_prefix: text_of(alloc, source_prefix)?,
         side,
         target_prefix: text_of(alloc, target_prefix)?,
-        from: text_of(alloc, step)?,
+        from: text_of(alloc, step.as_str())?,
     }))
 }
 
@@ -215,21 +188,22 @@ fn text_of(alloc: Global, text: &str) -> Result<Text, AllocError>
 }
 
 #[tactic(auto, unfolding(crate::specs::RuleAnswer::short_of))]
-fn short_rule(alloc: Global, word: &str, operand: &str) -> Result<Option<Rule>, AllocError>
+fn short_rule(alloc: Global, word: &Text, operand: &Text) -> Result<Option<Rule>, AllocError>
     ensures { IfOk result (λ found. found ≡ short_of word.now operand.now) }
 {
+    let text = operand.as_str();
     let rule = if is_keyword(word, "CREATE") {
-        Rule::Create(Pattern::read(alloc, operand)?)
+        Rule::Create(Pattern::read(alloc, text)?)
     } else if is_keyword(word, "DELETE") {
-        Rule::Delete(Pattern::read(alloc, operand)?)
+        Rule::Delete(Pattern::read(alloc, text)?)
     } else if is_keyword(word, "MODIFY") {
-        Rule::Modify(Pattern::read(alloc, operand)?)
+        Rule::Modify(Pattern::read(alloc, text)?)
     } else if is_keyword(word, "ALLOW") {
-        Rule::Allow(Pattern::read(alloc, operand)?)
+        Rule::Allow(Pattern::read(alloc, text)?)
     } else if is_keyword(word, "DISALLOW") {
-        Rule::Disallow(Pattern::read(alloc, operand)?)
+        Rule::Disallow(Pattern::read(alloc, text)?)
     } else if is_keyword(word, "REQUIRE") {
-        Rule::Require(text_of(alloc, operand)?)
+        Rule::Require(text_of(alloc, text)?)
     } else {
         return Ok(None);
     };

@@ -436,7 +436,7 @@ fn policy_part(alloc: Global, text: &str) -> Result<String, AllocError> {
 }
 
 #[test]
-fn reads_policies(rt: HostRuntime) -> Result<(), Fail> {
+fn reads_a_policy(rt: HostRuntime) -> Result<(), Fail> {
     let alloc = rt.alloc();
     let text = format!(in alloc;
         "{{\"owners\":{{\"owner\":{K}}},
@@ -470,6 +470,12 @@ fn reads_policies(rt: HostRuntime) -> Result<(), Fail> {
     );
     let ignored = expectation.ignore.as_slice().first().ok_or("none")?;
     assert_eq!(rt; ignored.as_str(), "note");
+    Ok(())
+}
+
+#[test]
+fn names_the_first_bad_part_of_a_policy(rt: HostRuntime) -> Result<(), Fail> {
+    let alloc = rt.alloc();
     let rows = [
         ("{}", "", "owners"),
         ("{\"a\":null}", "", "owners"),

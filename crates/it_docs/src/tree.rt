@@ -1,7 +1,11 @@
 //! Trees of parameters (SLSA Provenance v1, `externalParameters`; a policy's `parameters`).
 ghost use Rattle.std.specs.Prelude.{◌≡◌, IfOk, option_map};
-ghost use Rattle.serde_json.specs.View.{view};
+ghost use Rattle.serde_json.specs.View.{view, items_view as parts_view, members_view, number_view};
 ghost use Rattle.it_base.specs.Finds.{Finds};
+ghost use Rattle.it_docs.specs.Equal.{equal, equal_fields, equal_items};
+ghost use Rattle.it_docs.specs.Json.{no_fields};
+ghost use Rattle.it_docs.specs.JsonView.{fields_view, items_view, json_of};
+ghost use Rattle.it_docs.specs.TreeOf.{IsMembers, IsTree, field_at, fields_of, number_tree, tree_of, trees_of};
 
 use it_base::parts::FromDocument;
 use it_base::text::Text;
@@ -87,21 +91,7 @@ impl Model for Members {
     ghost size_decreases = { λ a h. omega (arith, most-le-fields_size a.by_name.entries) };
 }
 
-impl Trees {
-    ghost use Rattle.it_docs.specs.JsonView.{items_view};
-
-    /// Lends the trees. Takes no memory.
-    pub fn as_slice(&self) -> &[Tree]
-        ensures { items_view result.now ≡ self.now }
-    {
-        self.list.as_slice()
-    }
-}
-
 impl Tree {
-    ghost use Rattle.it_docs.specs.Equal.{equal, equal_items, equal_fields};
-    ghost use Rattle.it_docs.specs.JsonView.{json_of};
-
     /// Whether both trees are equal by parts: `Other` equals nothing, not itself either. Takes no
     /// memory.
     #[cycle(equals)]
@@ -136,7 +126,12 @@ impl Tree {
 }
 
 impl Trees {
-    ghost use Rattle.it_docs.specs.Equal.{equal_items};
+    /// Lends the trees. Takes no memory.
+    pub fn as_slice(&self) -> &[Tree]
+        ensures { items_view result.now ≡ self.now }
+    {
+        self.list.as_slice()
+    }
 
     #[cycle(equals)]
     fn equals(&self, other: &Trees) -> bool
@@ -155,29 +150,6 @@ impl Trees {
 }
 
 impl Members {
-    ghost use Rattle.it_docs.specs.Equal.{equal_fields};
-
-    #[cycle(equals)]
-    fn equals(&self, other: &Members) -> bool
-        ensures { result ≡ equal_fields self.now other.now }
-    {
-        if self.by_name.len() != other.by_name.len() {
-            return false;
-        }
-        for ((k, x), (l, y)) in self.by_name.iter().zip(&other.by_name) {
-            if k.as_str() != l.as_str() || !x.equals(y) {
-                return false;
-            }
-        }
-        true
-    }
-}
-
-impl Members {
-    ghost use Rattle.it_docs.specs.Json.{no_fields};
-    ghost use Rattle.it_docs.specs.JsonView.{fields_view, json_of};
-    ghost use Rattle.it_docs.specs.TreeOf.{field_at};
-
     /// No trees. Takes no memory.
     pub fn new(alloc: Global) -> Members
         ensures { result ≡ no_fields }
@@ -200,11 +172,24 @@ impl Members {
     {
         self.by_name.iter()
     }
+
+    #[cycle(equals)]
+    fn equals(&self, other: &Members) -> bool
+        ensures { result ≡ equal_fields self.now other.now }
+    {
+        if self.by_name.len() != other.by_name.len() {
+            return false;
+        }
+        for ((k, x), (l, y)) in self.by_name.iter().zip(&other.by_name) {
+            if k.as_str() != l.as_str() || !x.equals(y) {
+                return false;
+            }
+        }
+        true
+    }
 }
 
 impl FromDocument for Members {
-    ghost use Rattle.it_docs.specs.TreeOf.{IsMembers};
-
     ghost is_of = { IsMembers };
 
     /// The trees that the members of a JSON object are. Here null is a value.
@@ -217,8 +202,6 @@ impl FromDocument for Members {
 }
 
 impl FromDocument for Tree {
-    ghost use Rattle.it_docs.specs.TreeOf.{IsTree};
-
     ghost is_of = { IsTree };
 
     /// The tree that the part is. Every part is one.
@@ -226,10 +209,6 @@ impl FromDocument for Tree {
         Ok(Some(read(alloc, value)?))
     }
 }
-
-ghost use Rattle.serde_json.specs.View.{items_view as parts_view, members_view, number_view};
-ghost use Rattle.it_docs.specs.JsonView.{json_of};
-ghost use Rattle.it_docs.specs.TreeOf.{fields_of, number_tree, tree_of, trees_of};
 
 #[cycle(read)]
 fn read(alloc: Global, value: &Value) -> Result<Tree, AllocError>

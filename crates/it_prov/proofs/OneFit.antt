@@ -1,5 +1,5 @@
 -- At most one expectation fits a path.
-use Rattle.std.proofs.Common.{◌≡◌, ℕ, zero, suc, List, [], ◌∷◌, ◌++◌, Contains, refl, sym, subst, ◌∙◌, arith}
+use Rattle.std.proofs.Common.{◌≡◌, ℕ, suc, List, [], ◌∷◌, ◌++◌, Contains, refl, sym, subst, ◌∙◌, arith}
 use Rattle.it_docs.specs.declared.policy.Expectation.{Expectation}
 use Rattle.it_prov.specs.Fits.{SpeaksOf, Fits}
 

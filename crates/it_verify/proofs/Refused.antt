@@ -1,5 +1,5 @@
 -- What is made as laid down is never refused.
-use Rattle.std.proofs.Common.{◌≡◌, ◌≢◌, ℕ, ℤ, List, [], ◌∷◌, flat_map, zip, Contains, Some, None, Some≢None, refl, sym, subst, ◌∙◌, ⊎_elim}
+use Rattle.std.proofs.Common.{◌≡◌, ℕ, List, [], ◌∷◌, flat_map, zip, Contains, Some, None, Option, refl, sym, subst, ◌∙◌, ⊎_elim}
 use Rattle.std.specs.List.{AllZip}
 use Rattle.std.specs.FinMap.{empty, entries, get}
 use Rattle.it_digest.specs.declared.compare.DigestSet.{DigestSet}
@@ -41,7 +41,7 @@ module _ (check : Check) (inputs : Inputs) (documents : Documents) (evidence : E
   no_record : (inspections : List Inspection) (links : List Link) → AllZip (HasRecorded inputs) inspections links → NoneAt (RecordFails inputs) inspections
   no_record [] links h = tt
   no_record (i ∷ is) [] h = absurd h
-  no_record (i ∷ is) (l ∷ ls) h = (λ refusal. ⊎_elim (λ x. absurd (Some≢None (sym h.0.is_first ∙ x.0))) (λ x. x.1 l h.0), no_record is ls h.1)
+  no_record (i ∷ is) (l ∷ ls) h = (λ refusal. ⊎_elim (λ x. absurd (let none : ◌≡◌ {A = Option (List ℕ)} (Some h.0.bytes) None = sym h.0.is_first ∙ x.0 in cc)) (λ x. x.1 l h.0), no_record is ls h.1)
 
   no_rule : (inspections : List Inspection) (links : List Link) → AllZip (InspectionRulesHold (links_of evidence)) inspections links
       → NoneAt (InspectionFails (links_of evidence)) (flat_map sides_of (zip inspections links))

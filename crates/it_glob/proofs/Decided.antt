@@ -45,8 +45,9 @@ is_match_of_chars (item ∷ items) cs = first_and_rest (is_taken item) (is_match
 unfoldable pub is_match : List ℕ → List ℕ → Bool
 is_match pattern text = is_match_of_chars (items_of pattern) (chars text)
 
-nothing : {P : Type 0} → ¬ P → Decides false P
-nothing none = (λ e. absurd (true≢false (sym e)), λ p. absurd (none p))
+-- what fails is decided by `false`
+pub never : {P : Type 0} → ¬ P → Decides false P
+never none = (λ e. absurd (true≢false (sym e)), λ p. absurd (none p))
 
 equal-Decides : (c d : ℕ) → Decides (eqb c d) (c ≡ d)
 equal-Decides c d = (eqb-true c d, eq-eqb c d)
@@ -59,7 +60,7 @@ either-Decides true r s h k = h
 either-Decides false r s h k = k
 
 is_in_body-Decides : (body : List ℕ) (c : ℕ) → Decides (is_in_body body c) (InBody body c)
-is_in_body-Decides [] c = nothing (λ h. h)
+is_in_body-Decides [] c = never (λ h. h)
 is_in_body-Decides (x ∷ []) c = equal-Decides c x
 is_in_body-Decides (x ∷ y ∷ []) c = Decides-or (eqb c x) (eqb c y) (equal-Decides c x) (equal-Decides c y)
 is_in_body-Decides (x ∷ y ∷ z ∷ rest) c =
@@ -68,7 +69,7 @@ is_in_body-Decides (x ∷ y ∷ z ∷ rest) c =
     (Decides-or (eqb c x) (is_in_body (y ∷ z ∷ rest) c) (equal-Decides c x) (is_in_body-Decides (y ∷ z ∷ rest) c))
 
 is_taken-Decides : (item : Item) (c : ℕ) → Decides (is_taken item c) (Takes item c)
-is_taken-Decides Star c = nothing (λ h. h)
+is_taken-Decides Star c = never (λ h. h)
 is_taken-Decides Any c = (λ _. tt, λ _. refl)
 is_taken-Decides (OneOf negated body) c =
     either-Decides negated (not (is_in_body body c)) (is_in_body body c) (Decides-not (is_in_body body c) (is_in_body-Decides body c)) (is_in_body-Decides body c)
@@ -82,7 +83,7 @@ some_rest-Decides items test each (c ∷ cs) = Decides-or (test (c ∷ cs)) (som
 first_and_rest-Decides : (First : ℕ → Type 0) (Rest : List ℕ → Type 0) (first : ℕ → Bool) (rest : List ℕ → Bool)
     → ((c : ℕ) → Decides (first c) (First c)) → ((cs : List ℕ) → Decides (rest cs) (Rest cs)) → (cs : List ℕ)
     → Decides (first_and_rest first rest cs) ((c : ℕ) × (left : List ℕ) × (cs ≡ c ∷ left) × First c × Rest left)
-first_and_rest-Decides First Rest first rest one each [] = nothing (λ h. let e = h.2 in cc)
+first_and_rest-Decides First Rest first rest one each [] = never (λ h. let e = h.2 in cc)
 first_and_rest-Decides First Rest first rest one each (c ∷ cs) =
     Decides-like (first c && rest cs) (λ h. (c, cs, refl, h.0, h.1))
     (λ h. let head : h.0 ≡ c = cc in let tail : h.1 ≡ cs = cc in (rw head at h.3, rw tail at h.4))
@@ -90,7 +91,7 @@ first_and_rest-Decides First Rest first rest one each (c ∷ cs) =
 
 is_match_of_chars-Decides : (items : List Item) (cs : List ℕ) → Decides (is_match_of_chars items cs) (MatchesChars items cs)
 is_match_of_chars-Decides [] [] = (λ _. refl, λ _. refl)
-is_match_of_chars-Decides [] (c ∷ cs) = nothing (λ e. cc)
+is_match_of_chars-Decides [] (c ∷ cs) = never (λ e. cc)
 is_match_of_chars-Decides (Star ∷ items) cs =
     Decides-like (some_rest (is_match_of_chars items) cs) (star_over items cs) (star_takes items cs)
     (some_rest-Decides items (is_match_of_chars items) (is_match_of_chars-Decides items) cs)

@@ -1,5 +1,5 @@
 -- What the parts of a document are, as answers.
-use Rattle.std.proofs.Common.{◌≡◌, ℕ, List, [], ◌∷◌, Bool, true, false, cond, Option, Some, None, MatchOption, option_and_then, option_map, refl, true≢false, sym, ◌∙◌}
+use Rattle.std.proofs.Common.{◌≡◌, ℕ, List, [], ◌∷◌, Bool, true, false, cond, Option, Some, None, MatchOption, option_and_then, option_map, Decides, refl, true≢false, sym, ◌∙◌}
 use Rattle.std.specs.Str.{is_utf8}
 use Rattle.std.proofs.lemmas.Str.{IsUtf8-from_is_utf8, is_utf8-from_IsUtf8}
 use Rattle.serde_json.specs.Data.{Data, Items, no_items, item}
@@ -66,6 +66,12 @@ pub finds_both : {X Y : Type 0} (P : X → Type 0) (Q : Y → Type 0) (first : O
 finds_both P Q None second h k = λ p q. h p.0 q.0
 finds_both P Q (Some x) None h k = λ p q. k p.1 q.1
 finds_both P Q (Some x) (Some y) h k = (h, k)
+
+-- what is found, where a test says that it may be
+pub finds_where : {X : Type 0} {A : Type 0} (P : X → Type 0) (b : Bool) (found : Option X) → Decides b A → Finds P found → Finds (λ x. A × P x) (cond b found None)
+finds_where P true None d h = λ x k. h x k.1
+finds_where P true (Some x) d h = (d.0 refl, h)
+finds_where P false found d h = λ x k. true≢false (sym (d.1 k.0))
 
 pub text_reads : Reads IsText as_str
 text_reads d = finds_same (as_str d)

@@ -1,3 +1,4 @@
+pub mod Decided
 pub mod LayoutParts
 pub mod Lists
 pub mod MomentDecided

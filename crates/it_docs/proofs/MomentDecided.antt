@@ -91,8 +91,7 @@ date_and_time-Decides text =
 
 moment_text-Decides : (text : List ℕ) → Decides (has_marks text && (has_numbers text && is_date_and_time text)) (IsMomentText text)
 moment_text-Decides text =
-    let all = Decides-and (has_marks text) (has_numbers text && is_date_and_time text) (marks-Decides text) (Decides-and (has_numbers text) (is_date_and_time text) (numbers-Decides text) (date_and_time-Decides text)) in
-    (
+    let all = Decides-and (has_marks text) (has_numbers text && is_date_and_time text) (marks-Decides text) (Decides-and (has_numbers text) (is_date_and_time text) (numbers-Decides text) (date_and_time-Decides text)) in (
       λ e.
           let h = all.0 e in
           let m = h.0 in

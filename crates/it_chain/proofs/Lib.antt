@@ -1,4 +1,5 @@
 pub mod Alikes
+pub mod Decided
 pub mod Deeper
 pub mod Documents
 pub mod Excludes

@@ -1,4 +1,5 @@
 pub mod Alphabets
+pub mod Decided
 pub mod Documents
 pub mod Items
 pub mod Pieces

@@ -1,5 +1,6 @@
 pub mod Alikes
 pub mod Counting
+pub mod Decided
 pub mod Deciding
 pub mod Deeper
 pub mod Documents

@@ -1,2 +1,3 @@
 pub mod ArtifactsLemmas
+pub mod Decided
 pub mod SumsLemmas

@@ -1,11 +1,14 @@
+pub mod Decided
 pub mod LayoutParts
 pub mod Lists
+pub mod MomentDecided
 pub mod Moments
 pub mod NamesSeen
 pub mod PolicyParts
 pub mod Refusals
 pub mod Rules
 pub mod Same
+pub mod TableDecided
 pub mod TableLemmas
 pub mod TreeLengths
 pub mod TreesRead

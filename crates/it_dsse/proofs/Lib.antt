@@ -1,3 +1,4 @@
+pub mod Decided
 pub mod Documents
 pub mod Keeping
 pub mod Places

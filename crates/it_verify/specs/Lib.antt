@@ -1,7 +1,9 @@
 pub mod Digesting
+pub mod Fault
 pub mod Matching
 pub mod Name
 pub mod Outcome
+pub mod Report
 pub mod Signed
 pub mod Signing
 pub mod Words

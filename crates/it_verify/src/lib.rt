@@ -11,6 +11,7 @@ mod name;
 pub mod outcome;
 mod output;
 pub mod refusal;
+mod reporting;
 mod signed;
 mod signing;
 #[cfg(test)]
@@ -21,5 +22,6 @@ pub mod words;
 pub use digesting::{check_name, run_digest};
 pub use encoding::run_pae;
 pub use matching::run_match;
+pub use reporting::report;
 pub use signed::run_signed;
 pub use signing::run_sign;

@@ -1,5 +1,6 @@
 pub mod Digesting
 pub mod Fault
+pub mod Laws
 pub mod Matching
 pub mod Name
 pub mod Outcome

@@ -6,6 +6,7 @@ mod command_tests;
 mod digesting;
 mod encoding;
 pub mod inputs;
+pub mod laws;
 mod matching;
 mod name;
 pub mod outcome;

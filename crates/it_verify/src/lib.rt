@@ -12,6 +12,8 @@ mod name;
 pub mod outcome;
 mod output;
 pub mod refusal;
+#[cfg(test)]
+mod report_tests;
 mod reporting;
 mod signed;
 mod signing;

@@ -1,6 +1,6 @@
 -- Lists that are cut at an element that they lack.
-use Rattle.std.proofs.Common.{◌≡◌, ◌≢◌, ◌<◌, ◌^◌, ℕ, ◌+◌, ◌%◌, ◌==◌, true, not, List, [], ◌∷◌, ◌++◌, refl, arith}
-use Rattle.std.specs.Prelude.{decimal}
+use Rattle.std.proofs.Common.{◌≡◌, ◌≢◌, ◌<◌, ◌^◌, ℕ, zero, suc, ◌+◌, ◌%◌, ◌==◌, true, not, List, [], ◌∷◌, ◌++◌, refl, arith}
+use Rattle.std.specs.Prelude.{Contains, decimal}
 use Rattle.std.specs.List.{list_all}
 use Rattle.std.proofs.lemmas.Fmt.{decimal_by_steps}
 use Rattle.std.proofs.lemmas.Bool.Decides.{nat_tests}
@@ -35,3 +35,8 @@ pub Lacks-decimal : (c n : ℕ) → c < 48 → n < 2 ^ 64 → Lacks c (decimal n
 Lacks-decimal c n below small =
     decimal_by_steps (λ _ digits. Lacks c digits) (λ m _. (omega arith, tt))
     (λ m digits _ lacks. Lacks-append c digits ((48 + m % 10) ∷ []) lacks (omega arith, tt)) n small
+
+pub Lacks-none : (c : ℕ) (xs : List ℕ) → Lacks c xs → ¬ Contains xs c
+Lacks-none c [] lacks (k, below, is) = absurd (omega arith)
+Lacks-none c (x ∷ xs) lacks (zero, below, is) = lacks.0 is
+Lacks-none c (x ∷ xs) lacks (suc k, below, is) = Lacks-none c xs lacks.1 (k, omega arith, is)

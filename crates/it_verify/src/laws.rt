@@ -1,6 +1,6 @@
-//! Laws about the report: functions that do nothing, and whose contracts say what is true of every
-//! verdict.
-ghost use Rattle.it_verify.specs.Laws.{FirstLinesTell, ReportsTell};
+//! Laws about the report and the names in it: functions that do nothing, and whose contracts say what
+//! is true of every verdict and every name.
+ghost use Rattle.it_verify.specs.Laws.{FirstLinesTell, FormsAreWords, FormsTell, ReportsTell};
 
 /// Where the first lines of two verdicts differ, their reports do.
 pub fn first_lines_tell()
@@ -11,4 +11,15 @@ pub fn first_lines_tell()
 /// and name.
 pub fn reports_tell()
     ensures { ReportsTell }
+{}
+
+/// Names that are written alike are the same.
+pub fn forms_tell()
+    ensures { FormsTell }
+{}
+
+/// A name that is written has no space, no line feed and no other byte up to 0x20, so it stays one word
+/// of its line.
+pub fn forms_are_words()
+    ensures { FormsAreWords }
 {}

@@ -1,4 +1,5 @@
-//! The commands of `itv`, over bytes and a writer: what each one writes, and how it ends.
+//! The commands of `itv`, over bytes and a writer: what each one writes, and how it ends; and what a
+//! verification rests on and comes to, with its report.
 #![tactic(auto)]
 
 #[cfg(test)]

@@ -1,7 +1,14 @@
 //! How a report writes a name.
 ghost use Rattle.std.specs.Prelude.{◌≡◌, ◌++◌, ◌∷◌, ◌<◌, [], OnOk};
 ghost use Rattle.std.specs.List.{flat_map};
-ghost use Rattle.it_verify.specs.Name.{byte_form, digit_form, inner_byte_form, inner_form, is_plain, name_form};
+ghost use Rattle.it_verify.specs.Name.{
+  byte_form,
+  digit_form,
+  inner_byte_form,
+  inner_form,
+  is_plain,
+  name_form,
+};
 
 use std::alloc::AllocError;
 

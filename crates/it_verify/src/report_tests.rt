@@ -140,10 +140,7 @@ fn tells_parts_of_layouts(rt: HostRuntime) -> Result<(), Fail> {
     Ok(())
 }
 
-#[test]
-fn tells_faults_of_owners_and_steps(rt: HostRuntime) -> Result<(), Fail> {
-    let alloc = rt.alloc();
-    let owner = Fault::OwnerMissing(name(alloc, "owner\n")?);
+fn of_steps(alloc: Global) -> Result<Vec<(Fault, &'static str, &'static str)>, AllocError> {
     let two = Fault::TwoPayloads {
         step: name(alloc, "build")?,
         id: name(alloc, "a\\b")?,
@@ -157,6 +154,7 @@ fn tells_faults_of_owners_and_steps(rt: HostRuntime) -> Result<(), Fail> {
         step: name(alloc, "é~\x7f")?,
         id: name(alloc, "-")?,
     };
+    let owner = Fault::OwnerMissing(name(alloc, "owner\n")?);
     let rows = [
         (owner, "22 OwnerMissing", "key owner\\x0a\n"),
         (two, "31 TwoPayloads", "step build\nkey a\\x5cb\n"),
@@ -167,51 +165,41 @@ fn tells_faults_of_owners_and_steps(rt: HostRuntime) -> Result<(), Fail> {
         ),
         (other, "34 Disagree", "step \\xc3\\xa9~\\x7f\nkey -\n"),
     ];
-    for (fault, want, lines) in Vec::from_array(alloc, rows)? {
+    Ok(Vec::from_array(alloc, rows)?)
+}
+
+fn of_files(alloc: Global) -> Result<Vec<(Fault, &'static str, &'static str)>, AllocError> {
+    let missing = Fault::RecordMissing(name(alloc, "test")?);
+    let bad = Fault::BadRecord(name(alloc, "a/b")?);
+    let unexpected = Fault::NoExpectation(name(alloc, "bin/app")?);
+    let unproved = Fault::NoProvenance(name(alloc, " ")?);
+    let rows = [
+        (missing, "50 RecordMissing", "name test\n"),
+        (bad, "51 BadRecord", "name a/b\n"),
+        (unexpected, "60 NoExpectation", "path bin/app\n"),
+        (unproved, "61 NoProvenance", "path \\x20\n"),
+    ];
+    Ok(Vec::from_array(alloc, rows)?)
+}
+
+#[test]
+fn tells_faults_of_steps(rt: HostRuntime) -> Result<(), Fail> {
+    let alloc = rt.alloc();
+    for (fault, want, lines) in of_steps(alloc)? {
         let (head, text) = told(alloc, &[], fault)?;
         assert_eq!(rt; head.as_str(), want);
-        assert_eq!(rt;
-            text.as_slice(),
-            written(alloc, want, lines)?.as_bytes(),
-            "{lines}"
-        );
+        assert_eq!(rt; text.as_slice(), written(alloc, want, lines)?.as_bytes());
     }
     Ok(())
 }
 
 #[test]
-fn tells_faults_of_records_and_files(rt: HostRuntime) -> Result<(), Fail> {
+fn tells_faults_of_files(rt: HostRuntime) -> Result<(), Fail> {
     let alloc = rt.alloc();
-    let rows = [
-        (
-            Fault::RecordMissing(name(alloc, "test")?),
-            "50 RecordMissing",
-            "name test\n",
-        ),
-        (
-            Fault::BadRecord(name(alloc, "a/b")?),
-            "51 BadRecord",
-            "name a/b\n",
-        ),
-        (
-            Fault::NoExpectation(name(alloc, "bin/app")?),
-            "60 NoExpectation",
-            "path bin/app\n",
-        ),
-        (
-            Fault::NoProvenance(name(alloc, " ")?),
-            "61 NoProvenance",
-            "path \\x20\n",
-        ),
-    ];
-    for (fault, want, lines) in Vec::from_array(alloc, rows)? {
+    for (fault, want, lines) in of_files(alloc)? {
         let (head, text) = told(alloc, &[], fault)?;
         assert_eq!(rt; head.as_str(), want);
-        assert_eq!(rt;
-            text.as_slice(),
-            written(alloc, want, lines)?.as_bytes(),
-            "{lines}"
-        );
+        assert_eq!(rt; text.as_slice(), written(alloc, want, lines)?.as_bytes());
     }
     Ok(())
 }

@@ -2,11 +2,14 @@ pub mod Alike
 pub mod Cost
 pub mod Digesting
 pub mod Documents
+pub mod Fault
 pub mod First
+pub mod Laws
 pub mod Made
 pub mod Matching
 pub mod Name
 pub mod Outcome
+pub mod Report
 pub mod Signed
 pub mod Signing
 pub mod Words

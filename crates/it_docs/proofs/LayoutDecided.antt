@@ -1,5 +1,5 @@
 -- Which layout bytes are, or which part fails first, as an answer.
-use Rattle.std.proofs.Common.{◌≡◌, inl, inr, ℕ, ◌<◌, ◌≤◌, ℤ, List, [], ◌∷◌, ◌++◌, Bool, true, false, cond, codes, Option, Some, None, MatchOption, is_some, Result, Ok, Err, MatchResult, Decides, arith, lit<, refl, true≢false, sym, subst, ◌∙◌, append-nil, append_assoc}
+use Rattle.std.proofs.Common.{◌≡◌, ℕ, ◌<◌, ◌≤◌, ℤ, List, [], ◌∷◌, ◌++◌, Bool, true, false, cond, codes, Option, Some, None, MatchOption, is_some, Result, Ok, Err, MatchResult, Decides, arith, lit<, refl, true≢false, sym, subst, ◌∙◌, append-nil, append_assoc}
 use Rattle.std.specs.FinMap.{empty}
 use Rattle.std.specs.List.{IsDistinct, list_any}
 use Rattle.std.specs.Result.{result_ok}
@@ -17,7 +17,6 @@ use Rattle.it_base.proofs.Decided.{part_of, part_or_of, part_or_reads, part_read
 use Rattle.it_dsse.specs.KeyObject.{IsKeyObject}
 use Rattle.it_dsse.specs.declared.key_object.KeyObject.{KeyObject}
 use Rattle.it_dsse.proofs.Decided.{key_object_of, key_object_reads}
-use Rattle.it_docs.specs.FirstPart.{Precedes}
 use Rattle.it_docs.specs.Layout.{IsLayout, LayoutOf}
 use Rattle.it_docs.specs.LayoutPart.{IsLayoutFault, LayoutPartOf, PartReads, place}
 use Rattle.it_docs.specs.List.{IsFirstBad, IsListOrMissing, items_at}
@@ -36,7 +35,7 @@ use Rattle.it_docs.proofs.LinkDecided.{has_text, has_text-Decides}
 use Rattle.it_docs.proofs.ListDecided.{numbered_of, numbered_of-is}
 use Rattle.it_docs.proofs.Lists.{item_fault}
 use Rattle.it_docs.proofs.MomentDecided.{moment_part_of, moment_reads}
-use Rattle.it_docs.proofs.PartsDecided.{data_of, data_of-finds, or_fault, or_fault-is, or_place_fault, or_place_fault-is}
+use Rattle.it_docs.proofs.PartsDecided.{data_of, data_of-finds, nothing_first, or_fault, or_fault-is, or_place_fault, or_place_fault-is}
 use Rattle.it_docs.proofs.Refusals.{no_layout}
 use Rattle.it_docs.proofs.StepDecided.{inspection_of, inspection_reads, step_of, step_reads}
 use Rattle.it_docs.proofs.TableDecided.{table_of, table_reads}
@@ -182,15 +181,11 @@ of_document : (bytes : List ℕ) (d : Data) → IsDocument bytes d → (read : R
 of_document bytes d is (Ok layout) h = (d, is, h)
 of_document bytes d is (Err part) h = fault_of_document bytes d part is h
 
-nothing_before : (other : LayoutPart) → ¬ Precedes (place other) (0, 0)
-nothing_before other (inl h) = absurd (omega arith)
-nothing_before other (inr h) = absurd (omega (arith, h.1))
-
 pub layout_result-is : (bytes : List ℕ) → MatchResult (layout_result bytes) (LayoutOf bytes) (LayoutPartOf bytes)
 unfolding layout_result
 layout_result-is bytes =
     or_fault-is (IsDocument bytes) (LayoutOf bytes) (LayoutPartOf bytes) (data_of bytes) Json layout_at (data_of-finds bytes)
-    (λ none. record { fails = λ reads. none reads.0 reads.1; before = λ other less. absurd (nothing_before other less) })
+    (λ none. record { fails = λ reads. none reads.0 reads.1; before = λ other less. absurd (nothing_first (place other) less) })
     (λ d is. of_document bytes d is (layout_at d) (json_is d (is_some (as_object d)) refl))
 
 -- decides `LayoutOf`

@@ -7,10 +7,12 @@ pub mod MomentDecided
 pub mod Moments
 pub mod NamesSeen
 pub mod PartsDecided
+pub mod PolicyDecided
 pub mod PolicyParts
 pub mod Refusals
 pub mod Rules
 pub mod Same
+pub mod StatementDecided
 pub mod StepDecided
 pub mod TableDecided
 pub mod TableLemmas

@@ -1,9 +1,10 @@
 -- A document that is read part by part, up to the first part that fails.
-use Rattle.std.proofs.Common.{◌≡◌, ℕ, List, Option, Some, None, MatchOption, Result, Ok, Err, MatchResult, refl, subst}
+use Rattle.std.proofs.Common.{◌≡◌, ℕ, List, Option, Some, None, MatchOption, Result, Ok, Err, MatchResult, inl, inr, arith, refl, subst}
 use Rattle.serde_json.specs.Data.{Data}
 use Rattle.it_base.specs.Document.{IsDocument, OfDocument}
 use Rattle.it_base.specs.Finds.{Finds}
 use Rattle.it_base.proofs.Decided.{document_of, document_reads}
+use Rattle.it_docs.specs.FirstPart.{Precedes}
 
 -- what follows where a part is found, and a fault where it is not
 abbrev pub or_fault : {X R E : Type 0} → Option X → E → (X → Result R E) → Result R E
@@ -38,3 +39,8 @@ data_of-finds bytes = go (data_of bytes) (document_reads (λ d e. d ≡ e) Some 
     go : (found : Option Data) → Finds (OfDocument (λ d e. d ≡ e) bytes) found → Finds (IsDocument bytes) found
     go None h = λ d is. h d (d, is, refl)
     go (Some d) h = subst (IsDocument bytes) h.2 h.1
+
+-- nothing stands before the first place
+pub nothing_first : (at : ℕ × ℕ) → ¬ Precedes at (0, 0)
+nothing_first at (inl h) = absurd (omega arith)
+nothing_first at (inr h) = absurd (omega (arith, h.1))

@@ -101,7 +101,7 @@ abbrev pub FileFails : Check → Inputs → List Expectation → List ℕ × Dig
 FileFails check inputs expectations (path, digests) refusal =
     (((expectation : Expectation) → ¬ Fits expectations path expectation) × (refusal ≡ whole (NoExpectation path)))
     ⊎ ((expectation : Expectation) × Fits expectations path expectation × ((envelope : Envelope) → IsProvenanceLine inputs envelope → ¬ Meets check expectation digests envelope)
-        × (refusal ≡ whole (NoProvenance path)))
+    × (refusal ≡ whole (NoProvenance path)))
 
 module _ (check : Check) (inputs : Inputs) where
   -- what stands at a place. A place that speaks of what does not read, or of evidence that is not

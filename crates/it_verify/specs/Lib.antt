@@ -9,4 +9,5 @@ pub mod Name
 pub mod Outcome
 pub mod Signed
 pub mod Signing
+pub mod WholeLaws
 pub mod Words

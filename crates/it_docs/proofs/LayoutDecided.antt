@@ -13,7 +13,7 @@ use Rattle.it_base.specs.Document.{IsDocument}
 use Rattle.it_base.specs.Finds.{Finds}
 use Rattle.it_base.specs.Parts.{IsPart, IsPartOr}
 use Rattle.it_base.specs.Sequence.{IsList}
-use Rattle.it_base.proofs.Decided.{part_of, part_or_of, part_or_reads, part_reads}
+use Rattle.it_base.proofs.Decided.{or_fault, or_fault-is, part_of, part_or_of, part_or_reads, part_reads}
 use Rattle.it_dsse.specs.KeyObject.{IsKeyObject}
 use Rattle.it_dsse.specs.declared.key_object.KeyObject.{KeyObject}
 use Rattle.it_dsse.proofs.Decided.{key_object_of, key_object_reads}
@@ -35,7 +35,7 @@ use Rattle.it_docs.proofs.LinkDecided.{has_text, has_text-Decides}
 use Rattle.it_docs.proofs.ListDecided.{numbered_of, numbered_of-is}
 use Rattle.it_docs.proofs.Lists.{item_fault}
 use Rattle.it_docs.proofs.MomentDecided.{moment_part_of, moment_reads}
-use Rattle.it_docs.proofs.PartsDecided.{data_of, data_of-finds, nothing_first, or_fault, or_fault-is, or_place_fault, or_place_fault-is}
+use Rattle.it_docs.proofs.PartsDecided.{data_of, data_of-finds, nothing_first, or_place_fault, or_place_fault-is}
 use Rattle.it_docs.proofs.Refusals.{no_layout}
 use Rattle.it_docs.proofs.StepDecided.{inspection_of, inspection_reads, step_of, step_reads}
 use Rattle.it_docs.proofs.TableDecided.{table_of, table_reads}

@@ -6,11 +6,6 @@ use Rattle.it_base.specs.Finds.{Finds}
 use Rattle.it_base.proofs.Decided.{document_of, document_reads}
 use Rattle.it_docs.specs.FirstPart.{Precedes}
 
--- what follows where a part is found, and a fault where it is not
-abbrev pub or_fault : {X R E : Type 0} → Option X → E → (X → Result R E) → Result R E
-or_fault None fault next = Err fault
-or_fault (Some x) fault next = next x
-
 -- what follows where a list is read, and a fault where it is not
 abbrev pub or_place_fault : {X R E : Type 0} → Result X (Option ℕ) → E → (ℕ → E) → (X → Result R E) → Result R E
 or_place_fault (Ok xs) no_list no_item next = next xs
@@ -21,17 +16,12 @@ or_place_fault (Err (Some n)) no_list no_item next = Err (no_item n)
 abbrev pub data_of : List ℕ → Option Data
 data_of bytes = document_of Some bytes
 
-module _ {X R E : Type 0} (P : X → Type 0) (Good : R → Type 0) (Bad : E → Type 0) where
-  pub or_fault-is : (found : Option X) (fault : E) (next : X → Result R E) → Finds P found → (((x : X) → ¬ P x) → Bad fault) → ((x : X) → P x → MatchResult (next x) Good Bad)
-      → MatchResult (or_fault found fault next) Good Bad
-  or_fault-is None fault next h bad good = bad h
-  or_fault-is (Some x) fault next h bad good = good x h
-
-  pub or_place_fault-is : (NoList : Type 0) (NoItem : ℕ → Type 0) (read : Result X (Option ℕ)) (no_list : E) (no_item : ℕ → E) (next : X → Result R E) → MatchResult read P (λ place. MatchOption place NoList NoItem)
-      → (NoList → Bad no_list) → ((n : ℕ) → NoItem n → Bad (no_item n)) → ((x : X) → P x → MatchResult (next x) Good Bad) → MatchResult (or_place_fault read no_list no_item next) Good Bad
-  or_place_fault-is NoList NoItem (Ok x) no_list no_item next h list item good = good x h
-  or_place_fault-is NoList NoItem (Err None) no_list no_item next h list item good = list h
-  or_place_fault-is NoList NoItem (Err (Some n)) no_list no_item next h list item good = item n h
+pub or_place_fault-is : {X R E : Type 0} (P : X → Type 0) (Good : R → Type 0) (Bad : E → Type 0) (NoList : Type 0) (NoItem : ℕ → Type 0) (read : Result X (Option ℕ)) (no_list : E) (no_item : ℕ → E) (next : X → Result R E)
+    → MatchResult read P (λ place. MatchOption place NoList NoItem)
+    → (NoList → Bad no_list) → ((n : ℕ) → NoItem n → Bad (no_item n)) → ((x : X) → P x → MatchResult (next x) Good Bad) → MatchResult (or_place_fault read no_list no_item next) Good Bad
+or_place_fault-is P Good Bad NoList NoItem (Ok x) no_list no_item next h list item good = good x h
+or_place_fault-is P Good Bad NoList NoItem (Err None) no_list no_item next h list item good = list h
+or_place_fault-is P Good Bad NoList NoItem (Err (Some n)) no_list no_item next h list item good = item n h
 
 pub data_of-finds : (bytes : List ℕ) → Finds (IsDocument bytes) (data_of bytes)
 data_of-finds bytes = go (data_of bytes) (document_reads (λ d e. d ≡ e) Some (λ d. refl) bytes)

@@ -8,7 +8,7 @@ use Rattle.it_base.specs.Finds.{Finds}
 use Rattle.it_base.specs.Parts.{IsPart, IsPartOr}
 use Rattle.it_base.specs.Sequence.{IsList}
 use Rattle.it_base.specs.Text.{IsText}
-use Rattle.it_base.proofs.Decided.{Reads, both_of, finds_both, finds_like, list_of, list_reads, part_of, part_or_of, part_or_reads, part_reads, text_reads}
+use Rattle.it_base.proofs.Decided.{Reads, both_of, finds_both, finds_like, list_of, list_reads, or_fault, or_fault-is, part_of, part_or_of, part_or_reads, part_reads, text_reads}
 use Rattle.it_dsse.specs.KeyObject.{IsKeyObject}
 use Rattle.it_dsse.specs.declared.key_object.KeyObject.{KeyObject}
 use Rattle.it_dsse.proofs.Decided.{key_object_of, key_object_reads}
@@ -28,7 +28,7 @@ use Rattle.it_docs.specs.declared.policy_fault.PolicyPart.TheVariants.{Json, Own
 use Rattle.it_docs.specs.declared.rule.Rule.{Rule}
 use Rattle.it_docs.proofs.ListDecided.{numbered_of, numbered_of-is}
 use Rattle.it_docs.proofs.Lists.{item_fault}
-use Rattle.it_docs.proofs.PartsDecided.{data_of, data_of-finds, nothing_first, or_fault, or_fault-is, or_place_fault, or_place_fault-is}
+use Rattle.it_docs.proofs.PartsDecided.{data_of, data_of-finds, nothing_first, or_place_fault, or_place_fault-is}
 use Rattle.it_docs.proofs.PolicyParts.{IsHead, deliver_fault, expectations_fault, fault_of_document, owners_fault}
 use Rattle.it_docs.proofs.Same.{keys_same, part_same}
 use Rattle.it_docs.proofs.StatementDecided.{members_of, members_reads}

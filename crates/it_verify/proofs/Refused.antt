@@ -1,5 +1,5 @@
 -- What is made as laid down is never refused.
-use Rattle.std.proofs.Common.{◌≡◌, ℕ, List, [], ◌∷◌, flat_map, zip, Contains, Some, None, Option, refl, sym, subst, ◌∙◌, ⊎_elim}
+use Rattle.std.proofs.Common.{◌≡◌, ℕ, List, [], ◌∷◌, flat_map, zip, Contains, Some, None, Option, sym, subst, ◌∙◌, ⊎_elim}
 use Rattle.std.specs.List.{AllZip}
 use Rattle.std.specs.FinMap.{empty, entries, get}
 use Rattle.it_digest.specs.declared.compare.DigestSet.{DigestSet}

@@ -1,7 +1,6 @@
 -- Why delivered files are refused: what stands at the first place at which something stands (the order
 -- is this profile's choice).
-use Rattle.std.specs.Prelude.{◌≡◌, ◌≢◌, ◌⊎◌, ℕ, ℤ, List, [], ◌∷◌, flat_map, zip, Some, None}
-use Rattle.std.specs.List.{AllZip}
+use Rattle.std.specs.Prelude.{◌≡◌, ◌≢◌, ◌⊎◌, ℕ, ℤ, List, [], ◌∷◌, flat_map, zip, None}
 use Rattle.std.specs.FinMap.{empty, entries}
 use Rattle.it_digest.specs.Sums.{IsFirstBadLine, SumsOf}
 use Rattle.it_digest.specs.declared.compare.DigestSet.{DigestSet}

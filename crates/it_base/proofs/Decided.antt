@@ -1,5 +1,5 @@
 -- What the parts of a document are, as answers.
-use Rattle.std.proofs.Common.{◌≡◌, ℕ, List, [], ◌∷◌, Bool, true, false, cond, Option, Some, None, MatchOption, option_and_then, option_map, Decides, refl, true≢false, sym, ◌∙◌}
+use Rattle.std.proofs.Common.{◌≡◌, ℕ, List, [], ◌∷◌, Bool, true, false, cond, Option, Some, None, MatchOption, option_and_then, option_map, Result, Err, MatchResult, Decides, refl, true≢false, sym, ◌∙◌}
 use Rattle.std.specs.Str.{is_utf8}
 use Rattle.std.proofs.lemmas.Str.{IsUtf8-from_is_utf8, is_utf8-from_IsUtf8}
 use Rattle.serde_json.specs.Data.{Data, Items, no_items, item}
@@ -51,6 +51,11 @@ base64_of d = option_and_then base64_decoded (as_str d)
 abbrev pub document_of : {X : Type 0} → (Data → Option X) → List ℕ → Option X
 document_of f bytes = cond (is_utf8 bytes) (option_and_then f (read bytes)) None
 
+-- what follows where a value is found, and a fault where it is not
+abbrev pub or_fault : {X R E : Type 0} → Option X → E → (X → Result R E) → Result R E
+or_fault None fault next = Err fault
+or_fault (Some x) fault next = next x
+
 -- what an option has
 pub finds_same : {X : Type 0} (found : Option X) → Finds (λ x. found ≡ Some x) found
 finds_same None = λ x e. cc
@@ -72,6 +77,11 @@ pub finds_where : {X : Type 0} {A : Type 0} (P : X → Type 0) (b : Bool) (found
 finds_where P true None d h = λ x k. h x k.1
 finds_where P true (Some x) d h = (d.0 refl, h)
 finds_where P false found d h = λ x k. true≢false (sym (d.1 k.0))
+
+pub or_fault-is : {X R E : Type 0} (P : X → Type 0) (Good : R → Type 0) (Bad : E → Type 0) (found : Option X) (fault : E) (next : X → Result R E) → Finds P found → (((x : X) → ¬ P x) → Bad fault)
+    → ((x : X) → P x → MatchResult (next x) Good Bad) → MatchResult (or_fault found fault next) Good Bad
+or_fault-is P Good Bad None fault next h bad good = bad h
+or_fault-is P Good Bad (Some x) fault next h bad good = good x h
 
 pub text_reads : Reads IsText as_str
 text_reads d = finds_same (as_str d)

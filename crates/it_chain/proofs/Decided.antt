@@ -7,7 +7,8 @@ use Rattle.std.proofs.lemmas.Map.Made.{is_member-Decides}
 use Rattle.std.proofs.lemmas.Slice.Eq.{bytes_eq-Decides}
 use Rattle.it_digest.proofs.Decided.{is_same_map, is_same_map-Decides}
 use Rattle.it_dsse.proofs.Decided.{envelope_of, envelope_of-finds}
-use Rattle.it_docs.proofs.Decided.{layout_of, layout_of-finds, link_of, link_of-finds}
+use Rattle.it_docs.proofs.LayoutDecided.{layout_of, layout_of-finds}
+use Rattle.it_docs.proofs.LinkDecided.{link_of, link_of-finds}
 use Rattle.it_rules.specs.Item.{Recorded}
 use Rattle.it_rules.proofs.FaultDecided.{fault_of, fault_of-is}
 use Rattle.it_chain.specs.Lower.{AnswersRight, Lower}

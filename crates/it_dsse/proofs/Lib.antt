@@ -4,6 +4,7 @@ pub mod Keeping
 pub mod Places
 pub mod RingIds
 pub mod Rings
+pub mod SignerSettled
 pub mod Sorting
 pub mod Trying
 pub mod Vouching

@@ -1,5 +1,6 @@
 -- At most one expectation fits a path.
-use Rattle.std.proofs.Common.{◌≡◌, ℕ, suc, List, [], ◌∷◌, ◌++◌, Contains, refl, sym, subst, ◌∙◌, arith}
+use Rattle.std.proofs.Common.{◌≡◌, ℕ, List, [], ◌∷◌, ◌++◌, Contains, sym, subst, ◌∙◌}
+use Rattle.it_base.proofs.Members.{in_head, in_tail}
 use Rattle.it_docs.specs.declared.policy.Expectation.{Expectation}
 use Rattle.it_prov.specs.Fits.{SpeaksOf, Fits}
 
@@ -9,12 +10,6 @@ module _ {X : Type 0} where
 
   tail_of : (x y : X) (xs ys : List X) → x ∷ xs ≡ y ∷ ys → xs ≡ ys
   tail_of x y xs ys e = cc
-
-  in_head : (x : X) (xs : List X) → Contains (x ∷ xs) x
-  in_head x xs = (0, omega arith, refl)
-
-  in_tail : (y : X) (xs : List X) (x : X) → Contains xs x → Contains (y ∷ xs) x
-  in_tail y xs x c = (suc c.0, omega (arith, c.1), c.2)
 
   -- the first element of which P holds is one
   same_first : (P : X → Type 0) (front other rest more : List X) (a b : X) → front ++ a ∷ rest ≡ other ++ b ∷ more → P a → P b

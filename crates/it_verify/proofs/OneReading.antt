@@ -1,5 +1,5 @@
 -- What inputs read as is one, and so is the evidence.
-use Rattle.std.proofs.Common.{◌≡◌, ℕ, List, [], ◌∷◌, Some, refl, sym, ap, subst, ◌∙◌}
+use Rattle.std.proofs.Common.{◌≡◌, List, [], ◌∷◌, refl, sym, subst, ◌∙◌}
 use Rattle.std.proofs.lemmas.Option.{same_Some}
 use Rattle.std.specs.List.{AllZip}
 use Rattle.it_digest.proofs.SumsLemmas.{SumsOf_same}
@@ -10,7 +10,6 @@ use Rattle.it_docs.specs.declared.step.Inspection.{Inspection}
 use Rattle.it_docs.specs.declared.link.Link.{Link}
 use Rattle.it_docs.proofs.Moments.{same_moment}
 use Rattle.it_docs.proofs.Same.{layout_same, link_same, policy_same}
-use Rattle.it_chain.specs.Chain.{Chain}
 use Rattle.it_chain.proofs.Documents.{envelope_same}
 use Rattle.it_chain.proofs.Excludes.{chain_one}
 use Rattle.it_verify.specs.Documents.{Documents, ReadAs, setting_of}

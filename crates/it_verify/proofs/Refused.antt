@@ -1,5 +1,5 @@
 -- What is made as laid down is never refused.
-use Rattle.std.proofs.Common.{◌≡◌, ℕ, List, [], ◌∷◌, flat_map, zip, Contains, Some, None, Option, refl, sym, subst, ◌∙◌, ⊎_elim}
+use Rattle.std.proofs.Common.{◌≡◌, ℕ, List, [], ◌∷◌, flat_map, zip, Contains, Some, None, Option, sym, subst, ◌∙◌, ⊎_elim}
 use Rattle.std.specs.List.{AllZip}
 use Rattle.std.specs.FinMap.{empty, entries, get}
 use Rattle.it_digest.specs.declared.compare.DigestSet.{DigestSet}
@@ -53,10 +53,11 @@ module _ (check : Check) (inputs : Inputs) (documents : Documents) (evidence : E
       → NoneAt (FileFails check inputs documents.policy.expectations) files
   no_file [] known = tt
   no_file (f ∷ fs) known =
-      let has = made.provenance f.0 f.1 (known f (in_head f fs)) in
-      (λ refusal. ⊎_elim (λ x. x.0 has.expectation has.fits)
-          (λ x. x.2 has.envelope has.is_line (subst (λ e. Meets check e f.1 has.envelope) (fits_one documents.policy.expectations f.0 has.expectation x.0 has.fits x.1) has.meets)),
-      no_file fs (λ file c. known file (in_tail f fs file c)))
+      let has = made.provenance f.0 f.1 (known f (in_head f fs)) in (
+        λ refusal. ⊎_elim (λ x. x.0 has.expectation has.fits)
+            (λ x. x.2 has.envelope has.is_line (subst (λ e. Meets check e f.1 has.envelope) (fits_one documents.policy.expectations f.0 has.expectation x.0 has.fits x.1) has.meets)),
+        no_file fs (λ file c. known file (in_tail f fs file c)),
+      )
 
   lacking : (policy : Policy) (envelope : Envelope) (refusal : Refusal) → documents.policy ≡ policy → documents.envelope ≡ envelope → ¬ IsFirst (OwnerLacks check envelope) (entries policy.owners) refusal
   lacking policy envelope refusal p e h =

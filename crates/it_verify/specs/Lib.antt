@@ -12,4 +12,5 @@ pub mod Outcome
 pub mod Report
 pub mod Signed
 pub mod Signing
+pub mod WholeLaws
 pub mod Words

@@ -21,6 +21,7 @@ mod signing;
 #[cfg(test)]
 mod tests;
 pub mod verdict;
+pub mod whole_laws;
 pub mod words;
 
 pub use digesting::{check_name, run_digest};

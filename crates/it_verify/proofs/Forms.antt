@@ -3,7 +3,7 @@ use Rattle.std.proofs.Common.{◌≡◌, ◌≢◌, ◌<◌, ◌≤◌, ◌/◌,
 use Rattle.std.specs.List.{flat_map}
 use Rattle.std.proofs.lemmas.Bool.Decides.{nat_tests}
 use Rattle.it_verify.proofs.Cut.{Lacks, Lacks-append, Lacks-none}
-use Rattle.it_verify.specs.Laws.{FormsAreWords, FormsTell}
+use Rattle.it_verify.specs.ReportLaws.{FormsAreWords, FormsTell}
 use Rattle.it_verify.specs.Name.{byte_form, digit_form, is_plain, name_form}
 
 digit_form-injective : (m n : ℕ) → digit_form m ≡ digit_form n → m ≡ n

@@ -4,7 +4,7 @@ use Rattle.std.specs.Prelude.{decimal}
 use Rattle.std.proofs.lemmas.Fmt.{decimal_injective}
 use Rattle.it_verify.proofs.Cut.{Lacks, Lacks-append, Lacks-decimal, Lacks-test, cut}
 use Rattle.it_verify.specs.Fault.{name_of, number_of}
-use Rattle.it_verify.specs.Laws.{FirstLinesTell, ReportsTell}
+use Rattle.it_verify.specs.ReportLaws.{FirstLinesTell, ReportsTell}
 use Rattle.it_verify.specs.Report.{first_line, further_lines, report_of}
 use Rattle.it_verify.specs.declared.refusal.Fault.{Fault}
 use Rattle.it_verify.specs.declared.refusal.Fault.TheVariants.{BadPolicy, BadSums, BadMoment, NoFiles, BadEnvelope, WrongPayloadType, OwnerMissing, BadLayout, Expired, TwoPayloads, TooDeep, Threshold, Disagree, InspectionInSublayout, RuleFailed, RecordMissing, BadRecord, NoExpectation, NoProvenance}

@@ -7,12 +7,12 @@ mod command_tests;
 mod digesting;
 mod encoding;
 pub mod inputs;
-pub mod laws;
 mod matching;
 mod name;
 pub mod outcome;
 mod output;
 pub mod refusal;
+pub mod report_laws;
 #[cfg(test)]
 mod report_tests;
 mod reporting;

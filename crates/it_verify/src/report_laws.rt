@@ -1,6 +1,6 @@
 //! Laws about the report and the names in it: functions that do nothing, and whose contracts say what
 //! is true of every verdict and every name.
-ghost use Rattle.it_verify.specs.Laws.{FirstLinesTell, FormsAreWords, FormsTell, ReportsTell};
+ghost use Rattle.it_verify.specs.ReportLaws.{FirstLinesTell, FormsAreWords, FormsTell, ReportsTell};
 
 /// Where the first lines of two verdicts differ, their reports do.
 pub fn first_lines_tell()

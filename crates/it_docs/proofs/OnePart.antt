@@ -3,6 +3,7 @@ use Rattle.std.proofs.Common.{◌≡◌, ◌≢◌, ◌⊎◌, ℕ, ◌<◌, Lis
 use Rattle.std.specs.List.{IsDistinct}
 use Rattle.std.specs.Str.{bytes_eq}
 use Rattle.std.proofs.lemmas.Slice.Eq.{bytes_eq-Decides}
+use Rattle.it_base.proofs.Members.{head_same, tail_same}
 use Rattle.it_base.proofs.Settled.{settled_by}
 use Rattle.it_docs.specs.FirstPart.{IsFirstPart, Precedes}
 use Rattle.it_docs.specs.LayoutPart as layout_part
@@ -48,12 +49,6 @@ policy_part_one bytes a b h k =
 
 -- ---- the first name that repeats
 module _ {X : Type 0} where
-  head_same : (x y : X) (xs ys : List X) → x ∷ xs ≡ y ∷ ys → x ≡ y
-  head_same x y xs ys e = cc
-
-  tail_same : (x y : X) (xs ys : List X) → x ∷ xs ≡ y ∷ ys → xs ≡ ys
-  tail_same x y xs ys e = cc
-
   -- of two places in a list, they are the same or one is behind the other
   abbrev SameOrBehind : List X → X → List X → X → Type 0
   SameOrBehind f m g n = (m ≡ n) ⊎ (((between : List X) × (g ≡ f ++ m ∷ between)) ⊎ ((between : List X) × (f ≡ g ++ n ∷ between)))

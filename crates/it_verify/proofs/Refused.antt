@@ -106,7 +106,7 @@ module _ (check : Check) (inputs : Inputs) (documents : Documents) (evidence : E
   same_envelope : (other : Envelope) → EnvelopeOf inputs.layout other → documents.envelope ≡ other
   same_envelope other = envelope_same inputs.layout documents.envelope other made.read.envelope
 
-  none_stands : (place : Place) (refusal : Refusal) → ¬ Stands check inputs place refusal
+  pub none_stands : (place : Place) (refusal : Refusal) → ¬ Stands check inputs place refusal
   none_stands at_policy refusal x = no_policy inputs.policy x.0 x.1 documents.policy made.read.policy
   none_stands at_sums refusal x = IsFirstBadLine-none inputs.sums x.0 x.1 documents.delivered made.read.delivered
   none_stands at_moment refusal x = x.0 documents.moment made.read.moment

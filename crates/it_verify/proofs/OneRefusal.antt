@@ -19,13 +19,13 @@ use Rattle.it_chain.proofs.Documents.{envelope_same}
 use Rattle.it_chain.proofs.Firsts.{OneAt, OneFirst, one_more, one_none}
 use Rattle.it_chain.proofs.OneFirst.{fault_one, first_one}
 use Rattle.it_docs.specs.declared.policy.Expectation.{Expectation}
-use Rattle.it_verify.specs.Documents.{Documents, ReadAs, setting_of}
+use Rattle.it_verify.specs.Documents.{Documents, setting_of}
 use Rattle.it_verify.specs.First.{Place, at_policy, at_sums, at_moment, at_files, at_envelope, at_payload_type, at_owners, at_layout, at_links, at_records, at_inspections, at_deliver, at_provenance, OwnerLacks, RecordFails, InspectionFails, FileFails, First, Stands, places, refusal_of, sides_of, whole}
-use Rattle.it_verify.specs.Made.{Evidence, IsEvidence, IsMadeBy, delivery, links_of, recorded_in, rules_on, verdict_of}
+use Rattle.it_verify.specs.Made.{Evidence, IsMadeBy, delivery, links_of, recorded_in, rules_on, verdict_of}
 use Rattle.it_verify.specs.declared.inputs.Inputs.{Inputs}
 use Rattle.it_verify.specs.declared.refusal.Fault.TheVariants.{BadPolicy, BadSums, BadLayout, RuleFailed}
 use Rattle.it_verify.specs.declared.refusal.Refusal.{Refusal}
-use Rattle.it_verify.proofs.OneReading.{read_one, evidence_one}
+use Rattle.it_verify.proofs.OneReading.{read_alike, evident_alike}
 
 one_each : {P R : Type 0} (At : P → R → Type 0) → ((p : P) → OneAt At p) → (ps : List P) → OneFirst At ps
 one_each At one [] = one_none At
@@ -47,15 +47,6 @@ one_file check inputs expectations file a b h k =
     (λ x. ⊎_elim (λ y. absurd (y.0 x.0 x.1)) (λ y. x.3 ∙ sym y.3) k) h
 
 module _ (check : Check) (inputs : Inputs) where
-  -- ---- what is so of some documents and evidence is so of others
-  read_alike : (F : Documents → Type 0) (a b : Documents) → ReadAs inputs a → ReadAs inputs b → F a → F b
-  read_alike F a b h k = subst F (read_one inputs a b h k)
-
-  evident_alike : (F : Documents → Evidence → Type 0) (a b : Documents) (x y : Evidence) → ReadAs inputs a → ReadAs inputs b → IsEvidence check inputs a x → IsEvidence check inputs b y → F a x → F b y
-  evident_alike F a b x y h k is are f =
-      let same = read_one inputs a b h k in
-      subst (F b) (evidence_one check inputs b x y (subst (λ d. IsEvidence check inputs d x) same is) are) (subst (λ d. F d x) same f)
-
   -- ---- place by place
   abbrev OneStands : Place → Type 0
   OneStands = OneAt (Stands check inputs)
@@ -74,28 +65,28 @@ module _ (check : Check) (inputs : Inputs) where
 
   one_of_links : OneStands at_links
   one_of_links a b h k =
-      let first = read_alike (λ d. ChainFirst (setting_of check d) inputs.depth d.layout inputs.links h.1) h.0 k.0 h.2 k.2 h.3 in
+      let first = read_alike inputs (λ d. ChainFirst (setting_of check d) inputs.depth d.layout inputs.links h.1) h.0 k.0 h.2 k.2 h.3 in
       h.4 ∙ ap refusal_of (first_one (setting_of check k.0) inputs.depth k.0.layout inputs.links h.1 k.1 first k.3) ∙ sym k.4
 
   one_of_records : OneStands at_records
   one_of_records a b h k =
-      one_each (RecordFails inputs) (one_record inputs) k.0.layout.inspections a b (read_alike (λ d. IsFirst (RecordFails inputs) d.layout.inspections a) h.0 k.0 h.1 k.1 h.2) k.2
+      one_each (RecordFails inputs) (one_record inputs) k.0.layout.inspections a b (read_alike inputs (λ d. IsFirst (RecordFails inputs) d.layout.inspections a) h.0 k.0 h.1 k.1 h.2) k.2
 
   one_of_inspections : OneStands at_inspections
   one_of_inspections a b h k =
       one_each (InspectionFails (links_of k.1)) (one_side (links_of k.1)) (flat_map sides_of (zip k.0.layout.inspections k.1.inspections)) a b
-      (evident_alike (λ d e. IsFirst (InspectionFails (links_of e)) (flat_map sides_of (zip d.layout.inspections e.inspections)) a) h.0 k.0 h.1 k.1 h.2 k.2 h.3 k.3 h.4) k.4
+      (evident_alike check inputs (λ d e. IsFirst (InspectionFails (links_of e)) (flat_map sides_of (zip d.layout.inspections e.inspections)) a) h.0 k.0 h.1 k.1 h.2 k.2 h.3 k.3 h.4) k.4
 
   one_delivery : OneStands at_deliver
   one_delivery a b h k =
-      let fault = evident_alike (λ d e. IsFirstFault d.policy.deliver Products (delivery d.delivered) (links_of e) h.2 h.3) h.0 k.0 h.1 k.1 h.4 k.4 h.5 k.5 h.6 in
+      let fault = evident_alike check inputs (λ d e. IsFirstFault d.policy.deliver Products (delivery d.delivered) (links_of e) h.2 h.3) h.0 k.0 h.1 k.1 h.4 k.4 h.5 k.5 h.6 in
       let same = fault_one k.0.policy.deliver Products (delivery k.0.delivered) (links_of k.1) h.2 k.2 h.3 k.3 fault k.6 in
       h.7 ∙ (λ i. whole (RuleFailed Deliver Products (same.0 i) (same.1 i))) ∙ sym k.7
 
   one_of_files : OneStands at_provenance
   one_of_files a b h k =
       one_each (FileFails check inputs k.0.policy.expectations) (one_file check inputs k.0.policy.expectations) (entries k.0.delivered) a b
-      (read_alike (λ d. IsFirst (FileFails check inputs d.policy.expectations) (entries d.delivered) a) h.0 k.0 h.1 k.1 h.2) k.2
+      (read_alike inputs (λ d. IsFirst (FileFails check inputs d.policy.expectations) (entries d.delivered) a) h.0 k.0 h.1 k.1 h.2) k.2
 
   one_stands : (place : Place) → OneStands place
   one_stands at_policy a b h k = h.2 ∙ ap (λ part. whole (BadPolicy part)) (policy_part_one inputs.policy h.0 k.0 h.1 k.1) ∙ sym k.2
@@ -117,4 +108,4 @@ module _ (check : Check) (inputs : Inputs) where
 
   pub verdict_one : (documents other : Documents) (evidence given : Evidence) → IsMadeBy check inputs documents evidence → IsMadeBy check inputs other given → verdict_of documents evidence ≡ verdict_of other given
   verdict_one documents other evidence given h k =
-      evident_alike (λ d e. verdict_of documents evidence ≡ verdict_of d e) documents other evidence given h.read k.read h.is_evidence k.is_evidence refl
+      evident_alike check inputs (λ d e. verdict_of documents evidence ≡ verdict_of d e) documents other evidence given h.read k.read h.is_evidence k.is_evidence refl

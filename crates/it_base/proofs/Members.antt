@@ -13,3 +13,10 @@ in_cases y xs x (suc k, below, e) = inr (k, omega (arith, below), e)
 
 pub in_none : {X : Type 0} (x : X) → ¬ Contains [] x
 in_none x c = absurd (omega (arith, c.1))
+
+-- ---- lists that are equal have equal heads and tails
+pub head_same : {X : Type 0} (x y : X) (xs ys : List X) → x ∷ xs ≡ y ∷ ys → x ≡ y
+head_same x y xs ys e = cc
+
+pub tail_same : {X : Type 0} (x y : X) (xs ys : List X) → x ∷ xs ≡ y ∷ ys → xs ≡ ys
+tail_same x y xs ys e = cc

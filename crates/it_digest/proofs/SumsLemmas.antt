@@ -3,7 +3,7 @@ use Rattle.std.proofs.Common.{◌≡◌, ◌≢◌, inl, inr, ℕ, suc, ◌+◌,
 use Rattle.std.proofs.Math.ListN.{get_or-append}
 use Rattle.std.proofs.Math.Seq.{get_or-append_seam, take-append-add, take-append_seam}
 use Rattle.std.proofs.lemmas.Cmp.{nat_list_cmp_total}
-use Rattle.std.proofs.lemmas.List.{drop_all, drop_at}
+use Rattle.std.proofs.lemmas.List.{drop_all, drop_at, take-take}
 use Rattle.std.proofs.lemmas.List.Quantifiers.{all_pairs_push}
 use Rattle.std.specs.List.{AllPairs, AllZip, onto_first, position, position_or_len}
 use Rattle.std.specs.Cmp.{Equal-is, eq_by_cmp_equiv}
@@ -262,3 +262,17 @@ pub IsFirstBadLine-none : (bytes : List ℕ) (number : ℕ) → IsFirstBadLine b
 IsFirstBadLine-none bytes number h sums k =
     let front = AreSums-front (take number (lines_of bytes)) (drop number (lines_of bytes)) k.entries (rw take-append-drop k.are_sums) in
     h.bad front.0 front.1
+
+-- a line before the first bad one is not the first bad one
+no_earlier : (bytes : List ℕ) (m n : ℕ) → IsFirstBadLine bytes m → IsFirstBadLine bytes n → ¬ (m < n)
+no_earlier bytes m n h k less =
+    let front = take (n - 1) (lines_of bytes) in
+    let parts : take m (lines_of bytes) ++ drop m front ≡ front = ap (λ xs. xs ++ drop m front) (sym (take-take m (n - 1) (lines_of bytes) (omega (arith, less)))) ∙ take-append-drop m front in
+    let good = AreSums-front (take m (lines_of bytes)) (drop m front) k.entries (subst (λ xs. AreSums xs k.entries) (sym parts) k.good_before) in
+    h.bad good.0 good.1
+
+pub bad_line_one : (bytes : List ℕ) (m n : ℕ) → IsFirstBadLine bytes m → IsFirstBadLine bytes n → m ≡ n
+bad_line_one bytes m n h k =
+    let up : ¬ (m < n) = no_earlier bytes m n h k in
+    let down : ¬ (n < m) = no_earlier bytes n m k h in
+    omega arith

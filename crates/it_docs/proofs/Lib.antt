@@ -6,6 +6,7 @@ pub mod Lists
 pub mod MomentDecided
 pub mod Moments
 pub mod NamesSeen
+pub mod OnePart
 pub mod PartsDecided
 pub mod PolicyDecided
 pub mod PolicyParts

@@ -1,5 +1,5 @@
 -- The key under an id signed an envelope, or it did not.
-use Rattle.std.proofs.Common.{◌≡◌, ℕ, List, Bool, true, false, Option, Some, None, inl, inr, refl, sym, ◌∙◌}
+use Rattle.std.proofs.Common.{◌≡◌, ℕ, List, Bool, true, false, Option, Some, None, inl, inr, refl, ◌∙◌}
 use Rattle.it_base.proofs.Settled.{Settled}
 use Rattle.it_dsse.specs.Check.{Check}
 use Rattle.it_dsse.specs.Signed.{IsSigner, is_vouched, message_of}

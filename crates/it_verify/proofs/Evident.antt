@@ -27,7 +27,7 @@ use Rattle.it_verify.specs.declared.refusal.Fault.TheVariants.{RecordMissing, Ba
 use Rattle.it_verify.specs.declared.refusal.Refusal.{Refusal}
 use Rattle.it_verify.proofs.Documented.{StandsOr}
 use Rattle.it_verify.proofs.FirstOrAll.{first_or_all, none_at_good}
-use Rattle.it_verify.proofs.OneReading.{read_one}
+use Rattle.it_verify.proofs.OneReading.{read_alike}
 
 -- ---- one record
 module _ (inputs : Inputs) (inspection : Inspection) where
@@ -79,7 +79,7 @@ module _ (check : Check) (inputs : Inputs) (documents : Documents) (read : ReadA
     | inl holds ↦ inr (
       holds,
       λ refusal x. chain_excludes (setting_of check documents) inputs.depth documents.layout inputs.links holds.0 x.1 holds.1
-          (subst (λ d. ChainFirst (setting_of check d) inputs.depth d.layout inputs.links x.1) (read_one inputs x.0 documents x.2 read) x.3),
+          (read_alike inputs (λ d. ChainFirst (setting_of check d) inputs.depth d.layout inputs.links x.1) x.0 documents x.2 read x.3),
     )
     | inr fails ↦ inl (refusal_of fails.0, (documents, fails.0, read, fails.1, refl))
   ]
@@ -91,6 +91,6 @@ module _ (check : Check) (inputs : Inputs) (documents : Documents) (read : ReadA
       records_of inputs documents.layout.inspections goods,
       λ refusal x. none_first (RecordFails inputs) documents.layout.inspections refusal
           (none_at_good (RecordFails inputs) (Recorded inputs) (recorded_apart inputs) documents.layout.inspections goods)
-          (subst (λ (d : Documents). IsFirst (RecordFails inputs) d.layout.inspections refusal) (read_one inputs x.0 documents x.1 read) x.2),
+          (read_alike inputs (λ (d : Documents). IsFirst (RecordFails inputs) d.layout.inspections refusal) x.0 documents x.1 read x.2),
     )
   ]

@@ -27,7 +27,7 @@ use Rattle.it_verify.specs.declared.refusal.Fault.TheVariants.{NoExpectation, No
 use Rattle.it_verify.specs.declared.refusal.Refusal.{Refusal}
 use Rattle.it_verify.proofs.Documented.{StandsOr}
 use Rattle.it_verify.proofs.FirstOrAll.{first_or_all, none_at_good}
-use Rattle.it_verify.proofs.OneReading.{read_one}
+use Rattle.it_verify.proofs.OneReading.{read_alike}
 
 -- ---- one line, for an expectation and a digest set
 module _ (check : Check) (expectation : Expectation) (digests : DigestSet) where
@@ -78,6 +78,6 @@ module _ (check : Check) (inputs : Inputs) (documents : Documents) (read : ReadA
         | inr goods ↦ inr (
           λ path digests known. All-contains proven (entries documents.delivered) (path, digests) goods (known_entry documents.delivered path digests known),
           λ refusal x. none_first fails (entries documents.delivered) refusal (none_at_good fails proven apart (entries documents.delivered) goods)
-              (subst (λ (d : Documents). IsFirst (FileFails check inputs d.policy.expectations) (entries d.delivered) refusal) (read_one inputs x.0 documents x.1 read) x.2),
+              (read_alike inputs (λ (d : Documents). IsFirst (FileFails check inputs d.policy.expectations) (entries d.delivered) refusal) x.0 documents x.1 read x.2),
         )
       ]

@@ -1,5 +1,5 @@
 -- The rules of the inspections and those of the delivery hold, or their places have something.
-use Rattle.std.proofs.Common.{◌≡◌, ◌⊎◌, ℕ, List, [], ◌∷◌, flat_map, zip, All, Option, Some, None, MatchOption, inl, inr, refl, subst}
+use Rattle.std.proofs.Common.{◌⊎◌, ℕ, List, [], ◌∷◌, flat_map, zip, All, Option, Some, None, MatchOption, inl, inr, refl}
 use Rattle.std.specs.List.{AllZip}
 use Rattle.std.proofs.lemmas.List.Elements.{All-head, All-tail}
 use Rattle.it_dsse.specs.Check.{Check}
@@ -21,7 +21,7 @@ use Rattle.it_verify.specs.declared.refusal.Fault.TheVariants.{RuleFailed}
 use Rattle.it_verify.specs.declared.refusal.Refusal.{Refusal}
 use Rattle.it_verify.proofs.Documented.{StandsOr}
 use Rattle.it_verify.proofs.FirstOrAll.{first_or_all, none_at_good}
-use Rattle.it_verify.proofs.OneReading.{read_one, evidence_one}
+use Rattle.it_verify.proofs.OneReading.{evident_alike}
 
 -- ---- the rules of one inspection on one side
 module _ (links : Links) where
@@ -59,17 +59,6 @@ module _ (check : Check) (inputs : Inputs) (documents : Documents) (read : ReadA
   abbrev judged_in : Documents → Evidence → List (Side × (Inspection × Link))
   judged_in d e = flat_map sides_of (zip d.layout.inspections e.inspections)
 
-  module _ (other : Documents) (given : Evidence) (reads : ReadAs inputs other) (are : IsEvidence check inputs other given) where
-    same_documents : other ≡ documents
-    same_documents = read_one inputs other documents reads read
-
-    same_evidence : given ≡ evidence
-    same_evidence = evidence_one check inputs documents given evidence (subst (λ d. IsEvidence check inputs d given) same_documents are) is_evidence
-
-    -- what is so of other documents and evidence is so of these
-    taken : (F : Documents → Evidence → Type 0) → F other given → F documents evidence
-    taken F h = subst (F documents) same_evidence (subst (λ d. F d given) same_documents h)
-
   pub inspections_or : StandsOr check inputs at_inspections (AllZip (InspectionRulesHold (links_of evidence)) documents.layout.inspections evidence.inspections)
   inspections_or = elim (first_or_all (InspectionFails (links_of evidence)) (SideHolds (links_of evidence)) (side_apart (links_of evidence)) (side_or_fails (links_of evidence)) (judged_in documents evidence)) [
     | inl found ↦ inl (found.0, (documents, evidence, read, is_evidence, found.1))
@@ -77,7 +66,7 @@ module _ (check : Check) (inputs : Inputs) (documents : Documents) (read : ReadA
       both_sides (links_of evidence) documents.layout.inspections evidence.inspections (HasRecorded inputs) is_evidence.inspections goods,
       λ refusal x. none_first (InspectionFails (links_of evidence)) (judged_in documents evidence) refusal
           (none_at_good (InspectionFails (links_of evidence)) (SideHolds (links_of evidence)) (side_apart (links_of evidence)) (judged_in documents evidence) goods)
-          (taken x.0 x.1 x.2 x.3 (λ d e. IsFirst (InspectionFails (links_of e)) (judged_in d e) refusal) x.4),
+          (evident_alike check inputs (λ d e. IsFirst (InspectionFails (links_of e)) (judged_in d e) refusal) x.0 documents x.1 evidence x.2 read x.3 is_evidence x.4),
     )
   ]
 
@@ -92,4 +81,4 @@ module _ (check : Check) (inputs : Inputs) (documents : Documents) (read : ReadA
     where
       go : (fault : Option (ℕ × List ℕ)) → MatchOption fault DeliveryHolds (λ f. DeliveryFails documents evidence f.0 f.1) → StandsOr check inputs at_deliver DeliveryHolds
       go (Some f) h = inl (whole (RuleFailed Deliver Products f.0 f.1), (documents, evidence, f.0, f.1, read, is_evidence, h, refl))
-      go None h = inr (h, λ refusal x. (taken x.0 x.1 x.4 x.5 (λ d e. DeliveryFails d e x.2 x.3) x.6).fails (h x.2))
+      go None h = inr (h, λ refusal x. (evident_alike check inputs (λ d e. DeliveryFails d e x.2 x.3) x.0 documents x.1 evidence x.4 read x.5 is_evidence x.6).fails (h x.2))

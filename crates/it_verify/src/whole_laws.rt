@@ -1,6 +1,6 @@
 //! Laws about a verification as a whole: functions that do nothing, and whose contracts say what is true
 //! of all inputs and every check.
-ghost use Rattle.it_verify.specs.WholeLaws.{MadeNotRefused, MadeOrRefused};
+ghost use Rattle.it_verify.specs.WholeLaws.{MadeNotRefused, MadeOrFirst, MadeOrRefused, RefusalIsOne, VerdictIsOne};
 
 /// What was made as the owners laid down is never refused.
 pub fn made_not_refused()
@@ -11,4 +11,20 @@ pub fn made_not_refused()
 /// just one of the two.
 pub fn made_or_refused()
     ensures { MadeOrRefused }
+{}
+
+/// What is delivered was made as the owners laid down exactly where no place of a verification has
+/// anything to refuse.
+pub fn made_or_first()
+    ensures { MadeOrFirst }
+{}
+
+/// What is delivered is refused in one way at most.
+pub fn refusal_is_one()
+    ensures { RefusalIsOne }
+{}
+
+/// What was made as the owners laid down is accepted with one list of steps and of files.
+pub fn verdict_is_one()
+    ensures { VerdictIsOne }
 {}

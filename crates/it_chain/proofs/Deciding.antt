@@ -1,5 +1,5 @@
 -- The deciding function answers what a layout over a bundle comes to, at every depth.
-use Rattle.std.proofs.Common.{◌≡◌, ◌≢◌, ℕ, zero, suc, List, [], ◌∷◌, Result, Ok, Err, MatchResult, inl, inr, length, refl, sym, ap, ◌∙◌, arith}
+use Rattle.std.proofs.Common.{◌≡◌, ◌≢◌, ◌⊎◌, ℕ, zero, suc, List, [], ◌∷◌, Result, Ok, Err, MatchResult, inl, inr, length, refl, sym, ap, ◌∙◌, arith}
 use Rattle.it_docs.specs.declared.step.Inspection.{Inspection}
 use Rattle.it_docs.specs.declared.layout.Layout.{Layout}
 use Rattle.it_chain.specs.Answer.{Answering, answer, level_answer, no_deeper, unless_inspected}
@@ -11,6 +11,7 @@ use Rattle.it_chain.specs.Level.{Holding, LevelHolds}
 use Rattle.it_chain.specs.Lower.{Lower, AnswersRight}
 use Rattle.it_chain.specs.declared.chain.StepResult.{StepResult}
 use Rattle.it_chain.specs.declared.refusal.ChainRefusal.{ChainRefusal}
+use Rattle.it_chain.proofs.Decided.{the_lower, the_lower-right}
 use Rattle.it_chain.proofs.Excludes.{chain_excludes, chain_one, none_one, uninspected_apart}
 use Rattle.it_chain.proofs.Ids.{ComesTo, Sublayouts}
 use Rattle.it_chain.proofs.LevelAnswers.{tells_level}
@@ -57,3 +58,12 @@ unfolding answer
 answer_right lower right setting zero = level_right lower right setting no_deeper none_holds too_deep none_inside
 answer_right lower right setting (suc depth) =
     level_right lower right setting _ (Chain setting depth) (uninspected (First setting depth)) (inside lower setting depth (answer_right lower right setting depth))
+
+either_way : {A E : Type 0} {P : A → Type 0} {Q : E → Type 0} (r : Result A E) → MatchResult r P Q → ((x : A) × P x) ⊎ ((e : E) × Q e)
+either_way (Ok x) h = inl (x, h)
+either_way (Err e) h = inr (e, h)
+
+-- one of the two always is so
+pub holds_or_fails : (setting : Setting) (depth : ℕ) (layout : Layout) (bundle : Contents)
+    → ((m : List StepResult) × Chain setting depth layout bundle m) ⊎ ((refusal : ChainRefusal) × First setting depth layout bundle refusal)
+holds_or_fails setting depth layout bundle = either_way (answer the_lower setting depth layout bundle) (answer_right the_lower the_lower-right setting depth layout bundle)

@@ -2,6 +2,7 @@ pub mod Alikes
 pub mod Candidates
 pub mod Claims
 pub mod Counting
+pub mod Decided
 pub mod Deciding
 pub mod Deeper
 pub mod Documents

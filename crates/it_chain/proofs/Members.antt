@@ -1,21 +1,9 @@
 -- Elements of lists, and of what is left of lists and made of them.
-use Rattle.std.proofs.Common.{◌≡◌, ◌⊎◌, zero, suc, List, [], ◌∷◌, Bool, true, false, cond, Option, Some, None, inl, inr, filter, filter_map, Contains, refl, sym, ap, ◌∙◌, arith}
+use Rattle.std.proofs.Common.{◌≡◌, ◌⊎◌, List, [], ◌∷◌, Bool, true, false, cond, Option, Some, None, inl, inr, filter, filter_map, Contains, sym, ap, ◌∙◌, arith}
 use Rattle.std.specs.List.{cons_option, list_all}
 use Rattle.std.proofs.lemmas.Bool.{and_parts, and_cases}
 use Rattle.std.proofs.lemmas.List.Elements.{All-contains, All-filter, All-contains_itself, filter_passes}
-
-pub in_head : {X : Type 0} (x : X) (xs : List X) → Contains (x ∷ xs) x
-in_head x xs = (0, omega arith, refl)
-
-pub in_tail : {X : Type 0} (y : X) (xs : List X) (x : X) → Contains xs x → Contains (y ∷ xs) x
-in_tail y xs x c = (suc c.0, omega (arith, c.1), c.2)
-
-pub in_cases : {X : Type 0} (y : X) (xs : List X) (x : X) → Contains (y ∷ xs) x → (y ≡ x) ⊎ Contains xs x
-in_cases y xs x (zero, below, e) = inl e
-in_cases y xs x (suc k, below, e) = inr (k, omega (arith, below), e)
-
-pub in_none : {X : Type 0} (x : X) → ¬ Contains [] x
-in_none x c = absurd (omega (arith, c.1))
+pub use Rattle.it_base.proofs.Members.{in_head, in_tail, in_cases, in_none}
 
 -- ---- the elements that pass a test
 kept_head : {X : Type 0} (b : Bool) (y : X) (xs : List X) (x : X) → b ≡ true → y ≡ x → Contains (cond b (y ∷ xs) xs) x

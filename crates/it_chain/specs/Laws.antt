@@ -1,5 +1,5 @@
 -- What is shown of these definitions.
-use Rattle.std.specs.Prelude.{◌≡◌, ℕ, suc, ◌≤◌, List, MatchResult}
+use Rattle.std.specs.Prelude.{◌≡◌, ◌⊎◌, ℕ, suc, ◌≤◌, List, MatchResult}
 use Rattle.std.specs.List.{AllZip}
 use Rattle.it_docs.specs.declared.layout.Layout.{Layout}
 use Rattle.it_docs.specs.declared.step.Step.{Step}
@@ -86,3 +86,13 @@ abbrev pub AnswerIsRight : Type 0
 AnswerIsRight =
     (lower : Lower) → AnswersRight lower → (setting : Setting) (depth : ℕ) (layout : Layout) (bundle : Contents)
     → MatchResult (answer lower setting depth layout bundle) (Chain setting depth layout bundle) (First setting depth layout bundle)
+
+-- functions that answer right stand ready for the crates below
+abbrev pub SomeAnswersRight : Type 0
+SomeAnswersRight = (lower : Lower) × AnswersRight lower
+
+-- a layout over a bundle holds with some records, or has a first failure
+abbrev pub HoldsOrFails : Type 0
+HoldsOrFails =
+    (setting : Setting) (depth : ℕ) (layout : Layout) (bundle : Contents)
+    → ((m : List StepResult) × Chain setting depth layout bundle m) ⊎ ((refusal : ChainRefusal) × First setting depth layout bundle refusal)

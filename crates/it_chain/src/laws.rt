@@ -1,6 +1,6 @@
 //! Laws about the definitions of chains: functions that do nothing, and whose contracts say what is
 //! true of every layout, bundle and check.
-ghost use Rattle.it_chain.specs.Laws.{AlikeChains, AnswerIsRight, ChainGoesDeeper, ChainIsOne, ChainOrFirst, FirstIsOne, FoundIsOne, NoiseIsAlike, WithheldChains};
+ghost use Rattle.it_chain.specs.Laws.{AlikeChains, AnswerIsRight, ChainGoesDeeper, ChainIsOne, ChainOrFirst, FirstIsOne, FoundIsOne, HoldsOrFails, NoiseIsAlike, SomeAnswersRight, WithheldChains};
 
 /// The number of different keys that signed what counts for a step is one number.
 pub fn found_is_one()
@@ -49,4 +49,16 @@ pub fn withheld_chains()
 /// first failure.
 pub fn answer_is_right()
     ensures { AnswerIsRight }
+{}
+
+/// There are functions that answer right for the crates below, so that the deciding function has
+/// something to ask.
+pub fn some_answers_right()
+    ensures { SomeAnswersRight }
+{}
+
+/// A layout over a bundle holds with some records, or has a first failure: with `chain_or_first`,
+/// always just one of the two.
+pub fn holds_or_fails()
+    ensures { HoldsOrFails }
 {}

@@ -94,10 +94,10 @@ from_entries-insert old new k v was is e =
 
 -- ---- equal maps
 
-abbrev same_entry : (DigestSet → DigestSet → Bool) → List ℕ × DigestSet → List ℕ × DigestSet → Bool
+abbrev pub same_entry : (DigestSet → DigestSet → Bool) → List ℕ × DigestSet → List ℕ × DigestSet → Bool
 same_entry same p q = bytes_eq p.0 q.0 && same p.1 q.1
 
-same_entry-Decides : (same : DigestSet → DigestSet → Bool) → ((a b : DigestSet) → Decides (same a b) (a ≡ b)) → (p q : List ℕ × DigestSet) → Decides (same_entry same p q) (p ≡ q)
+pub same_entry-Decides : (same : DigestSet → DigestSet → Bool) → ((a b : DigestSet) → Decides (same a b) (a ≡ b)) → (p q : List ℕ × DigestSet) → Decides (same_entry same p q) (p ≡ q)
 same_entry-Decides same decides p q =
     let keys : Decides (bytes_eq p.0 q.0) (p.0 ≡ q.0) = bytes_eq-Decides p.0 q.0 in
     let both_parts : Decides (same_entry same p q) ((p.0 ≡ q.0) × (p.1 ≡ q.1)) = Decides-and (bytes_eq p.0 q.0) (same p.1 q.1) keys (decides p.1 q.1) in

@@ -1,2 +1,4 @@
 pub mod ArtifactsLemmas
+pub mod Decided
+pub mod SumsDecided
 pub mod SumsLemmas

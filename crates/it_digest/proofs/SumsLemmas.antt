@@ -3,7 +3,7 @@ use Rattle.std.proofs.Common.{◌≡◌, ◌≢◌, inl, inr, ℕ, suc, ◌+◌,
 use Rattle.std.proofs.Math.ListN.{get_or-append}
 use Rattle.std.proofs.Math.Seq.{get_or-append_seam, take-append-add, take-append_seam}
 use Rattle.std.proofs.lemmas.Cmp.{nat_list_cmp_total}
-use Rattle.std.proofs.lemmas.List.{drop_all, drop_at}
+use Rattle.std.proofs.lemmas.List.{drop_all, drop_at, take-take}
 use Rattle.std.proofs.lemmas.List.Quantifiers.{all_pairs_push}
 use Rattle.std.specs.List.{AllPairs, AllZip, onto_first, position, position_or_len}
 use Rattle.std.specs.Cmp.{Equal-is, eq_by_cmp_equiv}
@@ -16,7 +16,7 @@ use Rattle.it_digest.specs.DigestSet.{only_sha256}
 use Rattle.it_digest.specs.Sums.{AddsNothing, AddsSum, AreSums, IsFirstBadLine, IsMarkedPath, IsSum, SumsOf, lines_of}
 use Rattle.it_digest.proofs.ArtifactsLemmas.{path_cmp}
 
-abbrev Entry : Type 0
+abbrev pub Entry : Type 0
 Entry = List ℕ × DigestSet
 
 -- ---- lines
@@ -68,11 +68,11 @@ digits_of line e h = ap (take 64) h.written ∙ ap (λ n. take n (h.digits ++ h.
 pub text_of : (line : List ℕ) (e : Entry) (h : IsSum line e) → drop 64 line ≡ h.text
 text_of line e h = ap (drop 64) h.written ∙ drop_at h.digits h.text 64 h.digits_many
 
-path_of : (text path : List ℕ) → IsMarkedPath text path → drop 2 text ≡ path
+pub path_of : (text path : List ℕ) → IsMarkedPath text path → drop 2 text ≡ path
 path_of text path h = elim h.written [ inl e ↦ ap (drop 2) e | inr e ↦ ap (drop 2) e ]
 
 -- a line gives one entry at most
-same_sum : (line : List ℕ) (e f : Entry) → IsSum line e → IsSum line f → e ≡ f
+pub same_sum : (line : List ℕ) (e f : Entry) → IsSum line e → IsSum line f → e ≡ f
 same_sum line e f h k =
     let paths : e.0 ≡ f.0 = sym (path_of h.text e.0 h.path_is) ∙ ap (drop 2) (sym (text_of line e h) ∙ text_of line f k) ∙ path_of k.text f.0 k.path_is in
     let digests : Some h.digest ≡ Some k.digest = sym h.digest_is ∙ ap hexadecimal_decoded (sym (digits_of line e h) ∙ digits_of line f k) ∙ k.digest_is in
@@ -211,43 +211,42 @@ not_AreSums lines es line h nothing more k =
 
 -- ---- the lines read so far
 
--- some lines were read, and these bytes are left
-pub record HasRead (bytes rest : List ℕ) (sums : ArtifactMap) (number : ℕ) : Type 0 where
+-- some lines were read, and these are left
+pub record HasRead (bytes : List ℕ) (left : List (List ℕ)) (sums : ArtifactMap) (number : ℕ) : Type 0 where
   pub lines : List (List ℕ)
   pub entries : List Entry
-  pub lines_are : lines_of bytes ≡ lines ++ lines_of rest
+  pub lines_are : lines_of bytes ≡ lines ++ left
   pub number_is : number ≡ length lines
   pub are_sums : AreSums lines entries
   pub sums_are : sums ≡ from_entries entries
 
-pub HasRead-none : (bytes : List ℕ) → HasRead bytes bytes empty 0
+pub HasRead-none : (bytes : List ℕ) → HasRead bytes (lines_of bytes) empty 0
 HasRead-none bytes = record { lines = []; entries = []; lines_are = refl; number_is = refl; are_sums = record { each_gives = tt; paths_differ = λ i j d below within. absurd (omega arith) }; sums_are = refl }
 
-pub HasRead-more : (bytes rest line after : List ℕ) (sums new : ArtifactMap) (number : ℕ) → HasRead bytes rest sums number → lines_of rest ≡ line ∷ lines_of after → AddsSum line sums new → HasRead bytes after new (number + 1)
-HasRead-more bytes rest line after sums new number h split adds =
+pub HasRead-more : (bytes line : List ℕ) (left after : List (List ℕ)) (sums new : ArtifactMap) (number : ℕ) → HasRead bytes left sums number → left ≡ line ∷ after → AddsSum line sums new → HasRead bytes after new (number + 1)
+HasRead-more bytes line left after sums new number h split adds =
     let e = adds.entry in
     let none : get (from_entries {R = path_cmp} h.entries) e.0 ≡ None = ap (λ m. get m e.0) (sym h.sums_are) ∙ adds.is_new in
     record {
       lines = h.lines ++ line ∷ [];
       entries = h.entries ++ e ∷ [];
-      lines_are = h.lines_are ∙ ap (λ l. h.lines ++ l) split ∙ sym (append_assoc h.lines (line ∷ []) (lines_of after));
+      lines_are = h.lines_are ∙ ap (λ l. h.lines ++ l) split ∙ sym (append_assoc h.lines (line ∷ []) after);
       number_is = simp length-append (omega (arith, h.number_is));
       are_sums = AreSums-more h.lines h.entries line e h.are_sums adds.is_sum none;
       sums_are = adds.added ∙ ap (λ m. insert m e.0 e.1) h.sums_are
           ∙ sym (from_entries_push nat_list_cmp_total (slice_cmp-IsAntisymmetric nat_cmp-IsAntisymmetric) h.entries e.0 e.1 (sym (get-from_entries nat_list_cmp_total h.entries e.0) ∙ none));
     }
 
-pub HasRead-all : (bytes rest : List ℕ) (sums : ArtifactMap) (number : ℕ) → length rest ≡ 0 → HasRead bytes rest sums number → SumsOf bytes sums
-HasRead-all bytes [] sums number none h = record { entries = h.entries; are_sums = subst (λ lines. AreSums lines h.entries) (sym (h.lines_are ∙ append-nil h.lines)) h.are_sums; map_is = h.sums_are }
-HasRead-all bytes (byte ∷ rest) sums number none h = absurd (omega arith)
+pub HasRead-all : (bytes : List ℕ) (sums : ArtifactMap) (number : ℕ) → HasRead bytes [] sums number → SumsOf bytes sums
+HasRead-all bytes sums number h = record { entries = h.entries; are_sums = subst (λ lines. AreSums lines h.entries) (sym (h.lines_are ∙ append-nil h.lines)) h.are_sums; map_is = h.sums_are }
 
-pub HasRead-bad : (bytes rest line after : List ℕ) (sums : ArtifactMap) (number : ℕ) → HasRead bytes rest sums number → lines_of rest ≡ line ∷ lines_of after → AddsNothing line sums → IsFirstBadLine bytes (number + 1)
-HasRead-bad bytes rest line after sums number h split nothing =
-    let whole : lines_of bytes ≡ h.lines ++ line ∷ lines_of after = h.lines_are ∙ ap (λ l. h.lines ++ l) split in
+pub HasRead-bad : (bytes line : List ℕ) (left after : List (List ℕ)) (sums : ArtifactMap) (number : ℕ) → HasRead bytes left sums number → left ≡ line ∷ after → AddsNothing line sums → IsFirstBadLine bytes (number + 1)
+HasRead-bad bytes line left after sums number h split nothing =
+    let whole : lines_of bytes ≡ h.lines ++ line ∷ after = h.lines_are ∙ ap (λ l. h.lines ++ l) split in
     let fewer : number + 1 - 1 ≡ length h.lines = omega (arith, h.number_is) in
     let more_by_one : number + 1 ≡ length h.lines + 1 = omega (arith, h.number_is) in
-    let before : take (number + 1 - 1) (lines_of bytes) ≡ h.lines = rw (fewer, whole) (take-append_seam h.lines (line ∷ lines_of after)) in
-    let with_it : take (number + 1) (lines_of bytes) ≡ h.lines ++ line ∷ [] = rw (more_by_one, whole) (take-append-add h.lines (line ∷ lines_of after) 1) in
+    let before : take (number + 1 - 1) (lines_of bytes) ≡ h.lines = rw (fewer, whole) (take-append_seam h.lines (line ∷ after)) in
+    let with_it : take (number + 1) (lines_of bytes) ≡ h.lines ++ line ∷ [] = rw (more_by_one, whole) (take-append-add h.lines (line ∷ after) 1) in
     record {
       entries = h.entries;
       good_before = subst (λ lines. AreSums lines h.entries) (sym before) h.are_sums;
@@ -263,3 +262,17 @@ pub IsFirstBadLine-none : (bytes : List ℕ) (number : ℕ) → IsFirstBadLine b
 IsFirstBadLine-none bytes number h sums k =
     let front = AreSums-front (take number (lines_of bytes)) (drop number (lines_of bytes)) k.entries (rw take-append-drop k.are_sums) in
     h.bad front.0 front.1
+
+-- a line before the first bad one is not the first bad one
+no_earlier : (bytes : List ℕ) (m n : ℕ) → IsFirstBadLine bytes m → IsFirstBadLine bytes n → ¬ (m < n)
+no_earlier bytes m n h k less =
+    let front = take (n - 1) (lines_of bytes) in
+    let parts : take m (lines_of bytes) ++ drop m front ≡ front = ap (λ xs. xs ++ drop m front) (sym (take-take m (n - 1) (lines_of bytes) (omega (arith, less)))) ∙ take-append-drop m front in
+    let good = AreSums-front (take m (lines_of bytes)) (drop m front) k.entries (subst (λ xs. AreSums xs k.entries) (sym parts) k.good_before) in
+    h.bad good.0 good.1
+
+pub bad_line_one : (bytes : List ℕ) (m n : ℕ) → IsFirstBadLine bytes m → IsFirstBadLine bytes n → m ≡ n
+bad_line_one bytes m n h k =
+    let up : ¬ (m < n) = no_earlier bytes m n h k in
+    let down : ¬ (n < m) = no_earlier bytes n m k h in
+    omega arith

@@ -21,15 +21,15 @@ use Rattle.it_docs.specs.declared.step.Step.{Step as LayoutStep}
 use Rattle.it_docs.proofs.Lists.{list_reads}
 
 -- what is known of the parts in the rows below r
-record Below (R : LayoutPart → Type 0) (r : ℕ) : Type 0 where
-  json : 0 < r → R Json
-  wrong_type : 1 < r → R WrongType
-  expires : 2 < r → R Expires
-  keys : 3 < r → R Keys
-  steps : 4 < r → R Steps
-  step : 5 < r → (n : ℕ) → R (Step n)
-  inspects : 6 < r → R Inspects
-  inspect : 7 < r → (n : ℕ) → R (Inspect n)
+pub record Below (R : LayoutPart → Type 0) (r : ℕ) : Type 0 where
+  pub json : 0 < r → R Json
+  pub wrong_type : 1 < r → R WrongType
+  pub expires : 2 < r → R Expires
+  pub keys : 3 < r → R Keys
+  pub steps : 4 < r → R Steps
+  pub step : 5 < r → (n : ℕ) → R (Step n)
+  pub inspects : 6 < r → R Inspects
+  pub inspect : 7 < r → (n : ℕ) → R (Inspect n)
 
 below_reads : (R : LayoutPart → Type 0) (r : ℕ) → r < 9 → Below R r → (other : LayoutPart) → (place other).0 < r → R other
 below_reads R r most known Json h = known.json h
@@ -43,7 +43,7 @@ below_reads R r most known (Inspect n) h = known.inspect h n
 below_reads R r most known (DuplicateName name) h = absurd (omega arith)
 
 -- a row with one place
-alone : (R : LayoutPart → Type 0) (r : ℕ) → r < 9 → Below R r → (other : LayoutPart) → Precedes (place other) (r, 0) → R other
+pub alone : (R : LayoutPart → Type 0) (r : ℕ) → r < 9 → Below R r → (other : LayoutPart) → Precedes (place other) (r, 0) → R other
 alone R r most known other (inl h) = below_reads R r most known other h
 alone R r most known other (inr h) = absurd (omega (arith, h.1))
 

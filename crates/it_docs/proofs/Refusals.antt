@@ -37,7 +37,7 @@ or_false true b e f = absurd (true≢false e)
 or_false false b e f = f
 
 -- names that differ have no repeat
-no_repeat : (name : List ℕ) (front rest : List (List ℕ)) → IsDistinct bytes_eq (front ++ name ∷ rest) → list_any (bytes_eq name) front ≡ true → ⊥
+pub no_repeat : (name : List ℕ) (front rest : List (List ℕ)) → IsDistinct bytes_eq (front ++ name ∷ rest) → list_any (bytes_eq name) front ≡ true → ⊥
 unfolding IsDistinct
 no_repeat name [] rest h there = true≢false (sym there)
 no_repeat name (f ∷ front) rest h there =

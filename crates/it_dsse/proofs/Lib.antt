@@ -1,8 +1,10 @@
+pub mod Decided
 pub mod Documents
 pub mod Keeping
 pub mod Places
 pub mod RingIds
 pub mod Rings
+pub mod SignerSettled
 pub mod Sorting
 pub mod Trying
 pub mod Vouching

@@ -1,5 +1,6 @@
 pub mod Bodies
 pub mod Counting
+pub mod Decided
 pub mod Fronts
 pub mod Sets
 pub mod Steps

@@ -40,7 +40,7 @@ abbrev pub steps_left : Place → List Item → Option Place → ℕ
 steps_left whole items restart = room (length whole.1) restart * (length whole.0 + 1) + length items
 
 -- a star takes nothing, or something
-star_takes : (items : List Item) (cs : List ℕ) → MatchesChars (Star ∷ items) cs → MatchesChars items cs ⊎ MatchesLater items cs
+pub star_takes : (items : List Item) (cs : List ℕ) → MatchesChars (Star ∷ items) cs → MatchesChars items cs ⊎ MatchesLater items cs
 star_takes items cs m = go m.0 cs m.1 m.2 m.3
   where
     go : (front cs : List ℕ) (rest : List ℕ) → cs ≡ front ++ rest → MatchesChars items rest → MatchesChars items cs ⊎ MatchesLater items cs
@@ -48,7 +48,7 @@ star_takes items cs m = go m.0 cs m.1 m.2 m.3
     go (c ∷ front) [] rest e m = cc
     go (c ∷ front) (d ∷ cs) rest e m = inr (go front cs rest (cc) m)
 
-star_over : (items : List Item) (cs : List ℕ) → MatchesChars items cs ⊎ MatchesLater items cs → MatchesChars (Star ∷ items) cs
+pub star_over : (items : List Item) (cs : List ℕ) → MatchesChars items cs ⊎ MatchesLater items cs → MatchesChars (Star ∷ items) cs
 star_over items cs (inl m) = ([], cs, refl, m)
 star_over items [] (inr m) = absurd m
 star_over items (c ∷ cs) (inr m) =

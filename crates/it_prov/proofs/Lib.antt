@@ -1,1 +1,4 @@
+pub mod Fitting
+pub mod Meeting
 pub mod OneFit
+pub mod Parameters

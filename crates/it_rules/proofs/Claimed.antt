@@ -11,14 +11,18 @@ use Rattle.it_rules.specs.Item.{Recorded, Links, artifacts_on}
 use Rattle.it_rules.specs.Rules.{IsMatch, MatchClaims, NamesDiffer}
 use Rattle.it_rules.proofs.Listed.{named_once}
 
+-- both digest sets are there, and P holds of them
+abbrev pub BothAre : (DigestSet → DigestSet → Type 0) → Option DigestSet → Option DigestSet → Type 0
+BothAre P here there = MatchOption here ⊥ (λ a. MatchOption there ⊥ (λ b. P a b))
+
 -- both digest sets are there and agree
 abbrev pub BothAgree : Option DigestSet → Option DigestSet → Type 0
-BothAgree here there = MatchOption here ⊥ (λ a. MatchOption there ⊥ (λ b. Agree a b))
+BothAgree = BothAre Agree
 
-parts : (here there : Option DigestSet) → BothAgree here there → (a : DigestSet) × (b : DigestSet) × (here ≡ Some a) × (there ≡ Some b) × Agree a b
-parts None there h = absurd h
-parts (Some a) None h = absurd h
-parts (Some a) (Some b) h = (a, b, refl, refl, h)
+pub parts : (P : DigestSet → DigestSet → Type 0) (here there : Option DigestSet) → BothAre P here there → (a : DigestSet) × (b : DigestSet) × (here ≡ Some a) × (there ≡ Some b) × P a b
+parts P None there h = absurd h
+parts P (Some a) None h = absurd h
+parts P (Some a) (Some b) h = (a, b, refl, refl, h)
 
 module _ (pattern source : List ℕ) (side : Side) (target from : List ℕ) (artifacts : ArtifactMap) (links : Links) (path : List ℕ) where
   -- what is left of the path is one text
@@ -32,7 +36,7 @@ module _ (pattern source : List ℕ) (side : Side) (target from : List ℕ) (art
   pub claims_from_digests : (rest : List ℕ) (linked : Recorded) → NamesDiffer links → path ≡ folder_prefix source ++ rest → IsMatch pattern rest → Contains links (from, linked)
       → BothAgree (get artifacts path) (get (artifacts_on side linked) (folder_prefix target ++ rest)) ↔ MatchClaims pattern source side target from artifacts links path
   claims_from_digests rest linked differ e matched named = (
-    λ h. let p = parts _ _ h in record {
+    λ h. let p = parts Agree _ _ h in record {
       rest = rest;
       linked = linked;
       here = p.0;

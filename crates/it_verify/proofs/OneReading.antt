@@ -1,5 +1,5 @@
 -- What inputs read as is one, and so is the evidence.
-use Rattle.std.proofs.Common.{◌≡◌, ℕ, List, [], ◌∷◌, Some, refl, sym, ap, subst, ◌∙◌}
+use Rattle.std.proofs.Common.{◌≡◌, List, [], ◌∷◌, refl, sym, subst, ◌∙◌}
 use Rattle.std.proofs.lemmas.Option.{same_Some}
 use Rattle.std.specs.List.{AllZip}
 use Rattle.it_digest.proofs.SumsLemmas.{SumsOf_same}
@@ -10,7 +10,6 @@ use Rattle.it_docs.specs.declared.step.Inspection.{Inspection}
 use Rattle.it_docs.specs.declared.link.Link.{Link}
 use Rattle.it_docs.proofs.Moments.{same_moment}
 use Rattle.it_docs.proofs.Same.{layout_same, link_same, policy_same}
-use Rattle.it_chain.specs.Chain.{Chain}
 use Rattle.it_chain.proofs.Documents.{envelope_same}
 use Rattle.it_chain.proofs.Excludes.{chain_one}
 use Rattle.it_verify.specs.Documents.{Documents, ReadAs, setting_of}
@@ -46,3 +45,13 @@ evidence_one check inputs documents a b h k =
     let steps = chain_one (setting_of check documents) inputs.depth documents.layout inputs.links a.steps b.steps h.steps k.steps in
     let inspections = records_one inputs documents.layout.inspections a.inspections b.inspections h.inspections k.inspections in
     λ i. record { steps = steps i; inspections = inspections i }
+
+-- ---- what is so of some documents and evidence is so of others
+pub read_alike : (inputs : Inputs) (F : Documents → Type 0) (a b : Documents) → ReadAs inputs a → ReadAs inputs b → F a → F b
+read_alike inputs F a b h k = subst F (read_one inputs a b h k)
+
+pub evident_alike : (check : Check) (inputs : Inputs) (F : Documents → Evidence → Type 0) (a b : Documents) (x y : Evidence) → ReadAs inputs a → ReadAs inputs b → IsEvidence check inputs a x → IsEvidence check inputs b y
+    → F a x → F b y
+evident_alike check inputs F a b x y h k is are f =
+    let given = read_alike inputs (λ d. IsEvidence check inputs d x) a b h k is in
+    subst (F b) (evidence_one check inputs b x y given are) (read_alike inputs (λ d. F d x) a b h k f)

@@ -1,5 +1,5 @@
 -- What is made as laid down is never refused.
-use Rattle.std.proofs.Common.{◌≡◌, ◌≢◌, ℕ, ℤ, List, [], ◌∷◌, flat_map, zip, Contains, Some, None, Some≢None, refl, sym, subst, ◌∙◌, ⊎_elim}
+use Rattle.std.proofs.Common.{◌≡◌, ℕ, List, [], ◌∷◌, flat_map, zip, Contains, Some, None, Option, sym, subst, ◌∙◌, ⊎_elim}
 use Rattle.std.specs.List.{AllZip}
 use Rattle.std.specs.FinMap.{empty, entries, get}
 use Rattle.it_digest.specs.declared.compare.DigestSet.{DigestSet}
@@ -18,20 +18,19 @@ use Rattle.it_docs.proofs.Refusals.{no_layout, no_policy}
 use Rattle.it_docs.proofs.Same.{policy_same}
 use Rattle.it_rules.specs.Rules.{IsFirstFault}
 use Rattle.it_chain.specs.First.{First as ChainFirst, IsFirst}
-use Rattle.it_chain.specs.declared.refusal.ChainRefusal.{ChainRefusal}
 use Rattle.it_chain.proofs.Documents.{envelope_same}
 use Rattle.it_chain.proofs.Entries.{entry_known}
 use Rattle.it_chain.proofs.Excludes.{chain_excludes}
 use Rattle.it_chain.proofs.Firsts.{NoneAt, none_first}
-use Rattle.it_chain.proofs.Members.{in_head, in_tail}
+use Rattle.it_base.proofs.Members.{in_head, in_tail}
 use Rattle.it_prov.specs.Meets.{Meets}
 use Rattle.it_prov.proofs.OneFit.{fits_one}
-use Rattle.it_verify.specs.Documents.{Documents, ReadAs, setting_of}
+use Rattle.it_verify.specs.Documents.{Documents, setting_of}
 use Rattle.it_verify.specs.First.{Place, at_policy, at_sums, at_moment, at_files, at_envelope, at_payload_type, at_owners, at_layout, at_links, at_records, at_inspections, at_deliver, at_provenance, OwnerLacks, RecordFails, InspectionFails, FileFails, First, Stands, places, sides_of}
-use Rattle.it_verify.specs.Made.{Evidence, HasRecorded, InspectionRulesHold, IsEvidence, IsMadeBy, Made, delivery, links_of}
+use Rattle.it_verify.specs.Made.{Evidence, HasRecorded, InspectionRulesHold, IsMadeBy, Made, delivery, links_of}
 use Rattle.it_verify.specs.declared.inputs.Inputs.{Inputs}
 use Rattle.it_verify.specs.declared.refusal.Refusal.{Refusal}
-use Rattle.it_verify.proofs.OneReading.{read_one, evidence_one}
+use Rattle.it_verify.proofs.OneReading.{read_alike, evident_alike}
 
 module _ (check : Check) (inputs : Inputs) (documents : Documents) (evidence : Evidence) (made : IsMadeBy check inputs documents evidence) where
   no_owner : (owners : List (List ℕ × KeyObject)) → ((owner : List ℕ × KeyObject) → Contains owners owner → get documents.policy.owners owner.0 ≡ Some owner.1) → NoneAt (OwnerLacks check documents.envelope) owners
@@ -41,7 +40,7 @@ module _ (check : Check) (inputs : Inputs) (documents : Documents) (evidence : E
   no_record : (inspections : List Inspection) (links : List Link) → AllZip (HasRecorded inputs) inspections links → NoneAt (RecordFails inputs) inspections
   no_record [] links h = tt
   no_record (i ∷ is) [] h = absurd h
-  no_record (i ∷ is) (l ∷ ls) h = (λ refusal. ⊎_elim (λ x. absurd (Some≢None (sym h.0.is_first ∙ x.0))) (λ x. x.1 l h.0), no_record is ls h.1)
+  no_record (i ∷ is) (l ∷ ls) h = (λ refusal. ⊎_elim (λ x. absurd (let none : ◌≡◌ {A = Option (List ℕ)} (Some h.0.bytes) None = sym h.0.is_first ∙ x.0 in cc)) (λ x. x.1 l h.0), no_record is ls h.1)
 
   no_rule : (inspections : List Inspection) (links : List Link) → AllZip (InspectionRulesHold (links_of evidence)) inspections links
       → NoneAt (InspectionFails (links_of evidence)) (flat_map sides_of (zip inspections links))
@@ -53,10 +52,11 @@ module _ (check : Check) (inputs : Inputs) (documents : Documents) (evidence : E
       → NoneAt (FileFails check inputs documents.policy.expectations) files
   no_file [] known = tt
   no_file (f ∷ fs) known =
-      let has = made.provenance f.0 f.1 (known f (in_head f fs)) in
-      (λ refusal. ⊎_elim (λ x. x.0 has.expectation has.fits)
-          (λ x. x.2 has.envelope has.is_line (subst (λ e. Meets check e f.1 has.envelope) (fits_one documents.policy.expectations f.0 has.expectation x.0 has.fits x.1) has.meets)),
-      no_file fs (λ file c. known file (in_tail f fs file c)))
+      let has = made.provenance f.0 f.1 (known f (in_head f fs)) in (
+        λ refusal. ⊎_elim (λ x. x.0 has.expectation has.fits)
+            (λ x. x.2 has.envelope has.is_line (subst (λ e. Meets check e f.1 has.envelope) (fits_one documents.policy.expectations f.0 has.expectation x.0 has.fits x.1) has.meets)),
+        no_file fs (λ file c. known file (in_tail f fs file c)),
+      )
 
   lacking : (policy : Policy) (envelope : Envelope) (refusal : Refusal) → documents.policy ≡ policy → documents.envelope ≡ envelope → ¬ IsFirst (OwnerLacks check envelope) (entries policy.owners) refusal
   lacking policy envelope refusal p e h =
@@ -64,48 +64,10 @@ module _ (check : Check) (inputs : Inputs) (documents : Documents) (evidence : E
       (no_owner (entries documents.policy.owners) (entry_known documents.policy.owners))
       (subst (λ x. IsFirst (OwnerLacks check x) (entries documents.policy.owners) refusal) (sym e) (subst (λ x. IsFirst (OwnerLacks check envelope) (entries x.owners) refusal) (sym p) h))
 
-  failing : (other : Documents) (inner : ChainRefusal) → documents ≡ other → ¬ ChainFirst (setting_of check other) inputs.depth other.layout inputs.links inner
-  failing other inner same h =
-      chain_excludes (setting_of check documents) inputs.depth documents.layout inputs.links evidence.steps inner made.is_evidence.steps
-      (subst (λ x. ChainFirst (setting_of check x) inputs.depth x.layout inputs.links inner) (sym same) h)
-
-  unrecorded : (other : Documents) (refusal : Refusal) → documents ≡ other → ¬ IsFirst (RecordFails inputs) other.layout.inspections refusal
-  unrecorded other refusal same h =
-      none_first (RecordFails inputs) documents.layout.inspections refusal (no_record documents.layout.inspections evidence.inspections made.is_evidence.inspections)
-      (subst (λ x. IsFirst (RecordFails inputs) x.layout.inspections refusal) (sym same) h)
-
-  same_evidence : (other : Documents) (given : Evidence) → documents ≡ other → IsEvidence check inputs other given → evidence ≡ given
-  same_evidence other given same is = evidence_one check inputs documents evidence given made.is_evidence (subst (λ x. IsEvidence check inputs x given) (sym same) is)
-
-  unruly : (other : Documents) (given : Evidence) (refusal : Refusal) → documents ≡ other → evidence ≡ given
-      → ¬ IsFirst (InspectionFails (links_of given)) (flat_map sides_of (zip other.layout.inspections given.inspections)) refusal
-  unruly other given refusal same alike h =
-      none_first (InspectionFails (links_of evidence)) (flat_map sides_of (zip documents.layout.inspections evidence.inspections)) refusal
-      (no_rule documents.layout.inspections evidence.inspections made.inspection_rules)
-      (subst (λ x. IsFirst (InspectionFails (links_of x)) (flat_map sides_of (zip documents.layout.inspections x.inspections)) refusal) (sym alike)
-      (subst (λ x. IsFirst (InspectionFails (links_of given)) (flat_map sides_of (zip x.layout.inspections given.inspections)) refusal) (sym same) h))
-
-  undelivered : (other : Documents) (given : Evidence) (index : ℕ) (path : List ℕ) → documents ≡ other → evidence ≡ given
-      → ¬ IsFirstFault other.policy.deliver Products (delivery other.delivered) (links_of given) index path
-  undelivered other given index path same alike h =
-      let fault : IsFirstFault documents.policy.deliver Products (delivery documents.delivered) (links_of evidence) index path =
-      subst (λ x. IsFirstFault documents.policy.deliver Products (delivery documents.delivered) (links_of x) index path) (sym alike)
-      (subst (λ x. IsFirstFault x.policy.deliver Products (delivery x.delivered) (links_of given) index path) (sym same) h) in
-      fault.fails (made.deliver_rules index)
-
-  unproved : (other : Documents) (refusal : Refusal) → documents ≡ other → ¬ IsFirst (FileFails check inputs other.policy.expectations) (entries other.delivered) refusal
-  unproved other refusal same h =
-      none_first (FileFails check inputs documents.policy.expectations) (entries documents.delivered) refusal
-      (no_file (entries documents.delivered) (entry_known documents.delivered))
-      (subst (λ x. IsFirst (FileFails check inputs x.policy.expectations) (entries x.delivered) refusal) (sym same) h)
-
-  same_read : (other : Documents) → ReadAs inputs other → documents ≡ other
-  same_read other = read_one inputs documents other made.read
-
   same_envelope : (other : Envelope) → EnvelopeOf inputs.layout other → documents.envelope ≡ other
   same_envelope other = envelope_same inputs.layout documents.envelope other made.read.envelope
 
-  none_stands : (place : Place) (refusal : Refusal) → ¬ Stands check inputs place refusal
+  pub none_stands : (place : Place) (refusal : Refusal) → ¬ Stands check inputs place refusal
   none_stands at_policy refusal x = no_policy inputs.policy x.0 x.1 documents.policy made.read.policy
   none_stands at_sums refusal x = IsFirstBadLine-none inputs.sums x.0 x.1 documents.delivered made.read.delivered
   none_stands at_moment refusal x = x.0 documents.moment made.read.moment
@@ -114,11 +76,22 @@ module _ (check : Check) (inputs : Inputs) (documents : Documents) (evidence : E
   none_stands at_payload_type refusal x = x.2 (subst (λ e. e.payload_type ≡ in_toto_type) (same_envelope x.0 x.1) made.read.payload_type)
   none_stands at_owners refusal x = lacking x.0 x.1 refusal (policy_same inputs.policy documents.policy x.0 made.read.policy x.2) (same_envelope x.1 x.3) x.4
   none_stands at_layout refusal x = no_layout x.0.payload x.1 x.3 documents.layout (subst (λ e. LayoutOf e.payload documents.layout) (same_envelope x.0 x.2) made.read.layout)
-  none_stands at_links refusal x = failing x.0 x.1 (same_read x.0 x.2) x.3
-  none_stands at_records refusal x = unrecorded x.0 refusal (same_read x.0 x.1) x.2
-  none_stands at_inspections refusal x = unruly x.0 x.1 refusal (same_read x.0 x.2) (same_evidence x.0 x.1 (same_read x.0 x.2) x.3) x.4
-  none_stands at_deliver refusal x = undelivered x.0 x.1 x.2 x.3 (same_read x.0 x.4) (same_evidence x.0 x.1 (same_read x.0 x.4) x.5) x.6
-  none_stands at_provenance refusal x = unproved x.0 refusal (same_read x.0 x.1) x.2
+  none_stands at_links refusal x =
+      chain_excludes (setting_of check documents) inputs.depth documents.layout inputs.links evidence.steps x.1 made.is_evidence.steps
+      (read_alike inputs (λ d. ChainFirst (setting_of check d) inputs.depth d.layout inputs.links x.1) x.0 documents x.2 made.read x.3)
+  none_stands at_records refusal x =
+      none_first (RecordFails inputs) documents.layout.inspections refusal (no_record documents.layout.inspections evidence.inspections made.is_evidence.inspections)
+      (read_alike inputs (λ d. IsFirst (RecordFails inputs) d.layout.inspections refusal) x.0 documents x.1 made.read x.2)
+  none_stands at_inspections refusal x =
+      none_first (InspectionFails (links_of evidence)) (flat_map sides_of (zip documents.layout.inspections evidence.inspections)) refusal
+      (no_rule documents.layout.inspections evidence.inspections made.inspection_rules)
+      (evident_alike check inputs (λ d e. IsFirst (InspectionFails (links_of e)) (flat_map sides_of (zip d.layout.inspections e.inspections)) refusal) x.0 documents x.1 evidence x.2 made.read x.3 made.is_evidence x.4)
+  none_stands at_deliver refusal x =
+      (evident_alike check inputs (λ d e. IsFirstFault d.policy.deliver Products (delivery d.delivered) (links_of e) x.2 x.3) x.0 documents x.1 evidence x.4 made.read x.5 made.is_evidence x.6).fails (made.deliver_rules x.2)
+  none_stands at_provenance refusal x =
+      none_first (FileFails check inputs documents.policy.expectations) (entries documents.delivered) refusal
+      (no_file (entries documents.delivered) (entry_known documents.delivered))
+      (read_alike inputs (λ d. IsFirst (FileFails check inputs d.policy.expectations) (entries d.delivered) refusal) x.0 documents x.1 made.read x.2)
 
   none_at : (some : List Place) → NoneAt (Stands check inputs) some
   none_at [] = tt

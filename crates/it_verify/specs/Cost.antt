@@ -12,7 +12,7 @@ use Rattle.it_docs.specs.declared.policy.Expectation.{Expectation}
 use Rattle.it_docs.specs.declared.policy.Policy.{Policy}
 use Rattle.it_chain.specs.Cost.{Costs as ChainCosts, CostsIfFound, HasSignatures, IsSum}
 use Rattle.it_prov.specs.Fits.{Fits}
-use Rattle.it_verify.specs.Documents.{Documents, ReadAs, setting_of}
+use Rattle.it_verify.specs.Documents.{ReadAs, setting_of}
 use Rattle.it_verify.specs.declared.inputs.Inputs.{Inputs}
 
 -- a policy and an envelope that the inputs read as

@@ -1,6 +1,5 @@
 -- A line of a digest list, as `sha256sum` of the GNU core utilities writes it.
-use Rattle.std.specs.Prelude.{◌≡◌, ℕ, List, [], ◌∷◌, ◌++◌, Option, Some, None, MatchOption, codes, Contains}
-use Rattle.sha2.specs.Sha256.{sha256}
+use Rattle.std.specs.Prelude.{◌≡◌, ℕ, List, ◌++◌, Option, codes, Contains}
 use Rattle.hex.specs.Hex.{encode_lower}
 use Rattle.it_digest.specs.Reader.{IsDigestOfRest}
 

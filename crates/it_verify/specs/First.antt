@@ -1,7 +1,6 @@
 -- Why delivered files are refused: what stands at the first place at which something stands (the order
 -- is this profile's choice).
-use Rattle.std.specs.Prelude.{◌≡◌, ◌≢◌, ◌⊎◌, ℕ, ℤ, List, [], ◌∷◌, flat_map, zip, Some, None}
-use Rattle.std.specs.List.{AllZip}
+use Rattle.std.specs.Prelude.{◌≡◌, ◌≢◌, ◌⊎◌, ℕ, ℤ, List, [], ◌∷◌, flat_map, zip, None}
 use Rattle.std.specs.FinMap.{empty, entries}
 use Rattle.it_digest.specs.Sums.{IsFirstBadLine, SumsOf}
 use Rattle.it_digest.specs.declared.compare.DigestSet.{DigestSet}
@@ -101,7 +100,7 @@ abbrev pub FileFails : Check → Inputs → List Expectation → List ℕ × Dig
 FileFails check inputs expectations (path, digests) refusal =
     (((expectation : Expectation) → ¬ Fits expectations path expectation) × (refusal ≡ whole (NoExpectation path)))
     ⊎ ((expectation : Expectation) × Fits expectations path expectation × ((envelope : Envelope) → IsProvenanceLine inputs envelope → ¬ Meets check expectation digests envelope)
-        × (refusal ≡ whole (NoProvenance path)))
+    × (refusal ≡ whole (NoProvenance path)))
 
 module _ (check : Check) (inputs : Inputs) where
   -- what stands at a place. A place that speaks of what does not read, or of evidence that is not

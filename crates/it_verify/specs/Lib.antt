@@ -2,11 +2,15 @@ pub mod Alike
 pub mod Cost
 pub mod Digesting
 pub mod Documents
+pub mod Fault
 pub mod First
 pub mod Made
 pub mod Matching
 pub mod Name
 pub mod Outcome
+pub mod Report
+pub mod ReportLaws
 pub mod Signed
 pub mod Signing
+pub mod WholeLaws
 pub mod Words

@@ -18,3 +18,12 @@ byte_form byte = if is_plain byte then byte ∷ [] else codes "\\x" ++ digit_for
 unfoldable pub name_form : List ℕ → List ℕ
 name_form [] = codes "\\e"
 name_form (byte ∷ bytes) = flat_map byte_form (byte ∷ bytes)
+
+-- a byte of a name among names that / parts: / as \x2f, any other one as ever
+abbrev pub inner_byte_form : ℕ → List ℕ
+inner_byte_form byte = if byte == 0x2f then codes "\\x2f" else byte_form byte
+
+-- a name among names that / parts, byte by byte, an empty one as \e
+unfoldable pub inner_form : List ℕ → List ℕ
+inner_form [] = codes "\\e"
+inner_form (byte ∷ bytes) = flat_map inner_byte_form (byte ∷ bytes)

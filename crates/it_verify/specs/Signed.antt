@@ -7,8 +7,12 @@ use Rattle.it_dsse.specs.Signed.{AreThose, IsSigner}
 use Rattle.it_dsse.specs.declared.envelope.Envelope.{Envelope}
 use Rattle.it_dsse.specs.declared.key_object.KeyObject.{KeyObject}
 use Rattle.it_verify.specs.Name.{name_form}
+use Rattle.it_verify.specs.Report.{report_of}
 use Rattle.it_verify.specs.declared.outcome.Status.{Status}
 use Rattle.it_verify.specs.declared.outcome.Status.TheVariants.{Good, Refused}
+use Rattle.it_verify.specs.declared.refusal.Fault.TheVariants.{BadEnvelope}
+use Rattle.it_verify.specs.declared.refusal.Refusal.{Refusal}
+use Rattle.it_verify.specs.declared.verdict.Verdict.TheVariants.{Refused as refused_for}
 
 -- the key object that is asked with
 abbrev pub ring_object : KeyObject
@@ -23,9 +27,9 @@ pub record ListsNames (names : List (List ℕ)) (text : List ℕ) (status : Stat
   pub text_is : text ≡ names_text names
   pub good : (status ≡ Good) ↔ (names ≢ [])
 
--- the report on bytes that are no envelope
-abbrev pub no_envelope_report : List ℕ
-no_envelope_report = codes "refused 20 BadEnvelope\nat -\n"
+-- the refusal of bytes that are no envelope
+abbrev pub no_envelope : Refusal
+no_envelope = record { at = []; fault = BadEnvelope }
 
 -- the text names those of the ids that signed the envelope, and the status says whether some did
 pub record NamesSigners (check : Check) (ids : List (List ℕ)) (envelope : Envelope) (text : List ℕ) (status : Status) : Type 0 where
@@ -37,7 +41,7 @@ pub record NamesSigners (check : Check) (ids : List (List ℕ)) (envelope : Enve
 -- the text refuses bytes that are no envelope
 pub record RefusesBytes (bytes text : List ℕ) (status : Status) : Type 0 where
   pub none : (envelope : Envelope) → ¬ EnvelopeOf bytes envelope
-  pub text_is : text ≡ no_envelope_report
+  pub text_is : text ≡ report_of (refused_for no_envelope)
   pub status_is : status ≡ Refused
 
 -- what the command writes and finds

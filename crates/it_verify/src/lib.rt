@@ -1,4 +1,5 @@
-//! The commands of `itv`, over bytes and a writer: what each one writes, and how it ends.
+//! The commands of `itv`, over bytes and a writer: what each one writes, and how it ends; and what a
+//! verification rests on and comes to, with its report.
 #![tactic(auto)]
 
 #[cfg(test)]
@@ -11,15 +12,21 @@ mod name;
 pub mod outcome;
 mod output;
 pub mod refusal;
+pub mod report_laws;
+#[cfg(test)]
+mod report_tests;
+mod reporting;
 mod signed;
 mod signing;
 #[cfg(test)]
 mod tests;
 pub mod verdict;
+pub mod whole_laws;
 pub mod words;
 
 pub use digesting::{check_name, run_digest};
 pub use encoding::run_pae;
 pub use matching::run_match;
+pub use reporting::report;
 pub use signed::run_signed;
 pub use signing::run_sign;

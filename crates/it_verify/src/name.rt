@@ -1,7 +1,14 @@
 //! How a report writes a name.
 ghost use Rattle.std.specs.Prelude.{◌≡◌, ◌++◌, ◌∷◌, ◌<◌, [], OnOk};
 ghost use Rattle.std.specs.List.{flat_map};
-ghost use Rattle.it_verify.specs.Name.{byte_form, digit_form, is_plain, name_form};
+ghost use Rattle.it_verify.specs.Name.{
+  byte_form,
+  digit_form,
+  inner_byte_form,
+  inner_form,
+  is_plain,
+  name_form,
+};
 
 use std::alloc::AllocError;
 
@@ -29,6 +36,40 @@ fn push_bytes(text: &mut Vec<u8>, bytes: &[u8]) -> Result<(), AllocError>
         push_byte(text, *byte)?;
     }
     Ok(())
+}
+
+/// Appends a name that `/` parts from others: as `push_name` does, but a `/` in it as `\x2f`.
+///
+/// # Errors
+///
+/// `AllocError` where memory was refused; a part of the form may have been appended then.
+#[tactic(auto, unfolding(crate::specs::Name::inner_form, crate::specs::Name::name_form))]
+pub(crate) fn push_inner_name(text: &mut Vec<u8>, name: &[u8]) -> Result<(), AllocError>
+    ensures { OnOk result (text.new.items ≡ text.old.items ++ inner_form name.now) }
+{
+    if name.is_empty() {
+        return push_name(text, name);
+    }
+    push_inner_bytes(text, name)
+}
+
+fn push_inner_bytes(text: &mut Vec<u8>, bytes: &[u8]) -> Result<(), AllocError>
+    ensures { OnOk result (text.new.items ≡ text.old.items ++ flat_map inner_byte_form bytes.now) }
+{
+    for byte in bytes {
+        push_inner_byte(text, *byte)?;
+    }
+    Ok(())
+}
+
+fn push_inner_byte(text: &mut Vec<u8>, byte: u8) -> Result<(), AllocError>
+    ensures { OnOk result (text.new.items ≡ text.old.items ++ inner_byte_form byte) }
+{
+    if byte == b'/' {
+        text.extend_from_slice(b"\\x2f")?;
+        return Ok(());
+    }
+    push_byte(text, byte)
 }
 
 fn push_byte(text: &mut Vec<u8>, byte: u8) -> Result<(), AllocError>

@@ -1,4 +1,7 @@
 //! Why a delivery is refused.
+ghost use Rattle.std.specs.Prelude.{◌≡◌};
+ghost use Rattle.it_verify.specs.Fault.{name_of, number_of};
+
 use it_base::sequence::Sequence;
 use it_base::text::Text;
 use it_chain::refusal::RuleItem;
@@ -84,4 +87,77 @@ pub struct Refusal {
     pub at: Sequence<(Text, Text)>,
     /// What is wrong.
     pub fault: Fault,
+}
+
+impl Fault {
+    /// The number that a report gives for this fault. Takes no memory.
+    pub fn number(&self) -> u8
+        ensures { result ≡ number_of self.now }
+    {
+        match self {
+            Fault::BadPolicy(_) => 10,
+            Fault::BadSums(_) => 12,
+            Fault::BadMoment => 13,
+            Fault::NoFiles => 14,
+            Fault::BadEnvelope => 20,
+            Fault::WrongPayloadType => 21,
+            Fault::OwnerMissing(_) => 22,
+            Fault::BadLayout(_) => 23,
+            Fault::Expired => 30,
+            Fault::TwoPayloads { .. } => 31,
+            Fault::TooDeep => 32,
+            Fault::Threshold { .. } => 33,
+            Fault::Disagree { .. } => 34,
+            Fault::InspectionInSublayout => 35,
+            Fault::RuleFailed { .. } => 40,
+            Fault::RecordMissing(_) => 50,
+            Fault::BadRecord(_) => 51,
+            Fault::NoExpectation(_) => 60,
+            Fault::NoProvenance(_) => 61,
+        }
+    }
+
+    /// The name that a report gives for this fault: that of its variant. Takes no memory.
+    pub fn name(&self) -> &'static str
+        ensures { result.now ≡ name_of self.now }
+    {
+        match self {
+            Fault::BadPolicy(_) => "BadPolicy",
+            Fault::BadSums(_) => "BadSums",
+            Fault::BadMoment => "BadMoment",
+            Fault::NoFiles => "NoFiles",
+            Fault::BadEnvelope => "BadEnvelope",
+            Fault::WrongPayloadType => "WrongPayloadType",
+            Fault::OwnerMissing(_) => "OwnerMissing",
+            Fault::BadLayout(_) => "BadLayout",
+            Fault::Expired => "Expired",
+            Fault::TwoPayloads { .. } => "TwoPayloads",
+            Fault::TooDeep => "TooDeep",
+            Fault::Threshold { .. } => "Threshold",
+            Fault::Disagree { .. } => "Disagree",
+            Fault::InspectionInSublayout => "InspectionInSublayout",
+            Fault::RuleFailed { .. } => "RuleFailed",
+            Fault::RecordMissing(_) => "RecordMissing",
+            Fault::BadRecord(_) => "BadRecord",
+            Fault::NoExpectation(_) => "NoExpectation",
+            Fault::NoProvenance(_) => "NoProvenance",
+        }
+    }
+}
+
+impl Refusal {
+    /// The number of the fault: the first of the two words of a report that say what is wrong. Takes
+    /// no memory.
+    pub fn number(&self) -> u8
+        ensures { result ≡ number_of self.now.fault }
+    {
+        self.fault.number()
+    }
+
+    /// The name of the fault: the second of these words. Takes no memory.
+    pub fn name(&self) -> &'static str
+        ensures { result.now ≡ name_of self.now.fault }
+    {
+        self.fault.name()
+    }
 }

@@ -4,18 +4,23 @@ ghost use Rattle.std.specs.Io.KnownBytes.{Appends};
 ghost use Rattle.it_base.specs.Writing.{AppendsBeginning};
 ghost use Rattle.it_dsse.specs.Signed.{AreThose, IsSigner};
 ghost use Rattle.it_verify.specs.Outcome.{IsOutputFault};
+ghost use Rattle.it_verify.specs.Report.{report_of};
 ghost use Rattle.it_verify.specs.Signed.{
   IsSignedOutput,
   ListsNames,
   NamesSigners,
   names_text,
-  no_envelope_report,
+  no_envelope,
   ring_object,
 };
 
 use crate::name::push_name;
 use crate::outcome::{RunFault, Status};
 use crate::output::{Output, put};
+use crate::refusal::{Fault, Refusal};
+use crate::reporting::refused_report;
+use crate::verdict::Verdict;
+use it_base::sequence::Sequence;
 use it_base::text::Text;
 use it_dsse::check::SignatureCheck;
 use it_dsse::envelope::{Envelope, EnvelopeFault};
@@ -72,11 +77,15 @@ fn signed_output(
 }
 
 fn no_envelope_output(alloc: Global) -> Result<Output, AllocError>
-    ensures { IfOk result (λ output. (output.text.items ≡ no_envelope_report)
+    ensures { IfOk result (λ output. (output.text.items ≡ report_of (Verdict.Refused no_envelope))
         × (output.status ≡ Status.Refused)) }
 {
+    let refusal = Refusal {
+        at: Sequence::from(Vec::new(alloc)),
+        fault: Fault::BadEnvelope,
+    };
     Ok(Output {
-        text: Vec::from_slice(alloc, b"refused 20 BadEnvelope\nat -\n")?,
+        text: refused_report(alloc, &refusal)?,
         status: Status::Refused,
     })
 }

@@ -1,0 +1,111 @@
+-- Delivered files are refused in one way at most, and accepted in one.
+use Rattle.std.proofs.Common.{◌≡◌, ℕ, List, [], ◌∷◌, flat_map, zip, refl, sym, ap, subst, ◌∙◌, ⊎_elim}
+use Rattle.std.specs.FinMap.{entries}
+use Rattle.it_digest.specs.declared.compare.DigestSet.{DigestSet}
+use Rattle.it_digest.proofs.SumsLemmas.{bad_line_one}
+use Rattle.it_dsse.specs.Check.{Check}
+use Rattle.it_docs.specs.LayoutPart.{LayoutPartOf}
+use Rattle.it_docs.specs.declared.link.Link.{Link}
+use Rattle.it_docs.specs.declared.rule.Side.{Side}
+use Rattle.it_docs.specs.declared.rule.Side.TheVariants.{Products}
+use Rattle.it_docs.specs.declared.step.Inspection.{Inspection}
+use Rattle.it_docs.proofs.OnePart.{layout_part_one, policy_part_one}
+use Rattle.it_docs.proofs.Same.{policy_same}
+use Rattle.it_rules.specs.Item.{Links}
+use Rattle.it_rules.specs.Rules.{IsFirstFault}
+use Rattle.it_chain.specs.First.{First as ChainFirst, IsFirst}
+use Rattle.it_chain.specs.declared.refusal.RuleItem.TheVariants.{Inspection as of_inspection, Deliver}
+use Rattle.it_chain.proofs.Documents.{envelope_same}
+use Rattle.it_chain.proofs.Firsts.{OneAt, OneFirst, one_more, one_none}
+use Rattle.it_chain.proofs.OneFirst.{fault_one, first_one}
+use Rattle.it_docs.specs.declared.policy.Expectation.{Expectation}
+use Rattle.it_verify.specs.Documents.{Documents, setting_of}
+use Rattle.it_verify.specs.First.{Place, at_policy, at_sums, at_moment, at_files, at_envelope, at_payload_type, at_owners, at_layout, at_links, at_records, at_inspections, at_deliver, at_provenance, OwnerLacks, RecordFails, InspectionFails, FileFails, First, Stands, places, refusal_of, sides_of, whole}
+use Rattle.it_verify.specs.Made.{Evidence, IsMadeBy, delivery, links_of, recorded_in, rules_on, verdict_of}
+use Rattle.it_verify.specs.declared.inputs.Inputs.{Inputs}
+use Rattle.it_verify.specs.declared.refusal.Fault.TheVariants.{BadPolicy, BadSums, BadLayout, RuleFailed}
+use Rattle.it_verify.specs.declared.refusal.Refusal.{Refusal}
+use Rattle.it_verify.proofs.OneReading.{read_alike, evident_alike}
+
+one_each : {P R : Type 0} (At : P → R → Type 0) → ((p : P) → OneAt At p) → (ps : List P) → OneFirst At ps
+one_each At one [] = one_none At
+one_each At one (p ∷ ps) = one_more At p ps (one p) (λ _. one_each At one ps)
+
+one_record : (inputs : Inputs) (inspection : Inspection) → OneAt (RecordFails inputs) inspection
+one_record inputs inspection a b h k =
+    ⊎_elim (λ x. ⊎_elim (λ y. x.1 ∙ sym y.1) (λ y. absurd (y.0 x.0)) k)
+    (λ x. ⊎_elim (λ y. absurd (x.0 y.0)) (λ y. x.2 ∙ sym y.2) k) h
+
+one_side : (links : Links) (judged : Side × (Inspection × Link)) → OneAt (InspectionFails links) judged
+one_side links (side, (inspection, link)) a b h k =
+    let same = fault_one (rules_on side inspection) side (recorded_in link) links h.0 k.0 h.1 k.1 h.2 k.2 in
+    h.3 ∙ (λ i. whole (RuleFailed (of_inspection inspection.name) side (same.0 i) (same.1 i))) ∙ sym k.3
+
+one_file : (check : Check) (inputs : Inputs) (expectations : List Expectation) (file : List ℕ × DigestSet) → OneAt (FileFails check inputs expectations) file
+one_file check inputs expectations file a b h k =
+    ⊎_elim (λ x. ⊎_elim (λ y. x.1 ∙ sym y.1) (λ y. absurd (x.0 y.0 y.1)) k)
+    (λ x. ⊎_elim (λ y. absurd (y.0 x.0 x.1)) (λ y. x.3 ∙ sym y.3) k) h
+
+module _ (check : Check) (inputs : Inputs) where
+  -- ---- place by place
+  abbrev OneStands : Place → Type 0
+  OneStands = OneAt (Stands check inputs)
+
+  one_owner : OneStands at_owners
+  one_owner a b h k =
+      let policy = policy_same inputs.policy h.0 k.0 h.2 k.2 in
+      let envelope = envelope_same inputs.layout h.1 k.1 h.3 k.3 in
+      one_each (OwnerLacks check k.1) (λ owner x y p q. p.1 ∙ sym q.1) (entries k.0.owners) a b
+      (subst (λ e. IsFirst (OwnerLacks check e) (entries k.0.owners) a) envelope (subst (λ p. IsFirst (OwnerLacks check h.1) (entries p.owners) a) policy h.4)) k.4
+
+  one_layout_part : OneStands at_layout
+  one_layout_part a b h k =
+      let envelope = envelope_same inputs.layout h.0 k.0 h.2 k.2 in
+      h.4 ∙ ap (λ part. whole (BadLayout part)) (layout_part_one k.0.payload h.1 k.1 (subst (λ e. LayoutPartOf e.payload h.1) envelope h.3) k.3) ∙ sym k.4
+
+  one_of_links : OneStands at_links
+  one_of_links a b h k =
+      let first = read_alike inputs (λ d. ChainFirst (setting_of check d) inputs.depth d.layout inputs.links h.1) h.0 k.0 h.2 k.2 h.3 in
+      h.4 ∙ ap refusal_of (first_one (setting_of check k.0) inputs.depth k.0.layout inputs.links h.1 k.1 first k.3) ∙ sym k.4
+
+  one_of_records : OneStands at_records
+  one_of_records a b h k =
+      one_each (RecordFails inputs) (one_record inputs) k.0.layout.inspections a b (read_alike inputs (λ d. IsFirst (RecordFails inputs) d.layout.inspections a) h.0 k.0 h.1 k.1 h.2) k.2
+
+  one_of_inspections : OneStands at_inspections
+  one_of_inspections a b h k =
+      one_each (InspectionFails (links_of k.1)) (one_side (links_of k.1)) (flat_map sides_of (zip k.0.layout.inspections k.1.inspections)) a b
+      (evident_alike check inputs (λ d e. IsFirst (InspectionFails (links_of e)) (flat_map sides_of (zip d.layout.inspections e.inspections)) a) h.0 k.0 h.1 k.1 h.2 k.2 h.3 k.3 h.4) k.4
+
+  one_delivery : OneStands at_deliver
+  one_delivery a b h k =
+      let fault = evident_alike check inputs (λ d e. IsFirstFault d.policy.deliver Products (delivery d.delivered) (links_of e) h.2 h.3) h.0 k.0 h.1 k.1 h.4 k.4 h.5 k.5 h.6 in
+      let same = fault_one k.0.policy.deliver Products (delivery k.0.delivered) (links_of k.1) h.2 k.2 h.3 k.3 fault k.6 in
+      h.7 ∙ (λ i. whole (RuleFailed Deliver Products (same.0 i) (same.1 i))) ∙ sym k.7
+
+  one_of_files : OneStands at_provenance
+  one_of_files a b h k =
+      one_each (FileFails check inputs k.0.policy.expectations) (one_file check inputs k.0.policy.expectations) (entries k.0.delivered) a b
+      (read_alike inputs (λ d. IsFirst (FileFails check inputs d.policy.expectations) (entries d.delivered) a) h.0 k.0 h.1 k.1 h.2) k.2
+
+  one_stands : (place : Place) → OneStands place
+  one_stands at_policy a b h k = h.2 ∙ ap (λ part. whole (BadPolicy part)) (policy_part_one inputs.policy h.0 k.0 h.1 k.1) ∙ sym k.2
+  one_stands at_sums a b h k = h.2 ∙ ap (λ line. whole (BadSums line)) (bad_line_one inputs.sums h.0 k.0 h.1 k.1) ∙ sym k.2
+  one_stands at_moment a b h k = h.1 ∙ sym k.1
+  one_stands at_files a b h k = h.1 ∙ sym k.1
+  one_stands at_envelope a b h k = h.1 ∙ sym k.1
+  one_stands at_payload_type a b h k = h.3 ∙ sym k.3
+  one_stands at_owners a b h k = one_owner a b h k
+  one_stands at_layout a b h k = one_layout_part a b h k
+  one_stands at_links a b h k = one_of_links a b h k
+  one_stands at_records a b h k = one_of_records a b h k
+  one_stands at_inspections a b h k = one_of_inspections a b h k
+  one_stands at_deliver a b h k = one_delivery a b h k
+  one_stands at_provenance a b h k = one_of_files a b h k
+
+  pub refusal_one : (a b : Refusal) → First check inputs a → First check inputs b → a ≡ b
+  refusal_one = one_each (Stands check inputs) one_stands places
+
+  pub verdict_one : (documents other : Documents) (evidence given : Evidence) → IsMadeBy check inputs documents evidence → IsMadeBy check inputs other given → verdict_of documents evidence ≡ verdict_of other given
+  verdict_one documents other evidence given h k =
+      evident_alike check inputs (λ d e. verdict_of documents evidence ≡ verdict_of d e) documents other evidence given h.read k.read h.is_evidence k.is_evidence refl

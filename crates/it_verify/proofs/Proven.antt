@@ -1,0 +1,83 @@
+-- Each delivered file has provenance, or its place has something.
+use Rattle.std.proofs.Common.{◌≡◌, ◌⊎◌, ℕ, List, Option, Some, None, inl, inr, refl, subst, ⊎_elim}
+use Rattle.std.specs.FinMap.{entries, get}
+use Rattle.std.proofs.lemmas.List.Elements.{All-contains}
+use Rattle.it_base.specs.Finds.{Finds}
+use Rattle.it_base.proofs.Settled.{Settled, some_or_none}
+use Rattle.it_digest.specs.Sums.{lines_of}
+use Rattle.it_digest.specs.declared.compare.DigestSet.{DigestSet}
+use Rattle.it_dsse.specs.Check.{Check}
+use Rattle.it_dsse.specs.Envelope.{EnvelopeOf}
+use Rattle.it_dsse.specs.declared.envelope.Envelope.{Envelope}
+use Rattle.it_dsse.proofs.Decided.{envelope_of, envelope_of-finds}
+use Rattle.it_docs.specs.declared.policy.Expectation.{Expectation}
+use Rattle.it_chain.specs.First.{IsFirst}
+use Rattle.it_chain.proofs.Documents.{envelope_same}
+use Rattle.it_chain.proofs.Entries.{known_entry}
+use Rattle.it_chain.proofs.Firsts.{none_first}
+use Rattle.it_prov.specs.Meets.{Meets}
+use Rattle.it_prov.proofs.Fitting.{fits_or_none}
+use Rattle.it_prov.proofs.Meeting.{meets_or_not}
+use Rattle.it_prov.proofs.OneFit.{fits_one}
+use Rattle.it_verify.specs.Documents.{Documents, ReadAs}
+use Rattle.it_verify.specs.First.{at_provenance, FileFails, whole}
+use Rattle.it_verify.specs.Made.{HasProvenance}
+use Rattle.it_verify.specs.declared.inputs.Inputs.{Inputs}
+use Rattle.it_verify.specs.declared.refusal.Fault.TheVariants.{NoExpectation, NoProvenance}
+use Rattle.it_verify.specs.declared.refusal.Refusal.{Refusal}
+use Rattle.it_verify.proofs.Documented.{StandsOr}
+use Rattle.it_verify.proofs.FirstOrAll.{first_or_all, none_at_good}
+use Rattle.it_verify.proofs.OneReading.{read_alike}
+
+-- ---- one line, for an expectation and a digest set
+module _ (check : Check) (expectation : Expectation) (digests : DigestSet) where
+  abbrev LineMeets : List ℕ → Type 0
+  LineMeets line = (envelope : Envelope) × EnvelopeOf line envelope × Meets check expectation digests envelope
+
+  line_meets_or_not : (line : List ℕ) → Settled (LineMeets line)
+  line_meets_or_not line = go (envelope_of line) (envelope_of-finds line)
+    where
+      go : (found : Option Envelope) → Finds (EnvelopeOf line) found → Settled (LineMeets line)
+      go None h = inr (λ m. h m.0 m.1)
+      go (Some envelope) h = elim (meets_or_not check expectation digests envelope) [
+        | inl meets ↦ inl (envelope, h, meets)
+        | inr n ↦ inr (λ m. n (subst (Meets check expectation digests) (envelope_same line m.0 envelope m.1 h) m.2))
+      ]
+
+-- ---- one file
+module _ (check : Check) (inputs : Inputs) (expectations : List Expectation) where
+  abbrev IsProven : List ℕ × DigestSet → Type 0
+  IsProven file = HasProvenance check inputs expectations file.0 file.1
+
+  proven_or_fails : (file : List ℕ × DigestSet) → ((refusal : Refusal) × FileFails check inputs expectations file refusal) ⊎ IsProven file
+  proven_or_fails file = elim (fits_or_none file.0 expectations) [
+    | inr none ↦ inl (whole (NoExpectation file.0), inl (none, refl))
+    | inl found ↦ elim (some_or_none (LineMeets check found.0 file.1) (line_meets_or_not check found.0 file.1) (lines_of inputs.provenance)) [
+      | inl l ↦ inr (record { expectation = found.0; envelope = l.2.0; fits = found.1; is_line = record { line = l.0; stands = l.1; reads = l.2.1 }; meets = l.2.2 })
+      | inr none ↦ inl (whole (NoProvenance file.0), inr (found.0, found.1, λ envelope is meets. none is.line is.stands (envelope, is.reads, meets), refl))
+    ]
+  ]
+
+  proven_apart : (file : List ℕ × DigestSet) → IsProven file → (refusal : Refusal) → ¬ FileFails check inputs expectations file refusal
+  proven_apart file has refusal =
+      ⊎_elim (λ x. x.0 has.expectation has.fits)
+      (λ x. x.2 has.envelope has.is_line (subst (λ e. Meets check e file.1 has.envelope) (fits_one expectations file.0 has.expectation x.0 has.fits x.1) has.meets))
+
+-- ---- the place
+module _ (check : Check) (inputs : Inputs) (documents : Documents) (read : ReadAs inputs documents) where
+  abbrev AllProven : Type 0
+  AllProven = (path : List ℕ) (digests : DigestSet) → get documents.delivered path ≡ Some digests → HasProvenance check inputs documents.policy.expectations path digests
+
+  pub provenance_or : StandsOr check inputs at_provenance AllProven
+  provenance_or =
+      let fails = FileFails check inputs documents.policy.expectations in
+      let proven = IsProven check inputs documents.policy.expectations in
+      let apart = proven_apart check inputs documents.policy.expectations in
+      elim (first_or_all fails proven apart (proven_or_fails check inputs documents.policy.expectations) (entries documents.delivered)) [
+        | inl found ↦ inl (found.0, (documents, read, found.1))
+        | inr goods ↦ inr (
+          λ path digests known. All-contains proven (entries documents.delivered) (path, digests) goods (known_entry documents.delivered path digests known),
+          λ refusal x. none_first fails (entries documents.delivered) refusal (none_at_good fails proven apart (entries documents.delivered) goods)
+              (read_alike inputs (λ (d : Documents). IsFirst (FileFails check inputs d.policy.expectations) (entries d.delivered) refusal) x.0 documents x.1 read x.2),
+        )
+      ]

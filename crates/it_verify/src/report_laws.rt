@@ -1,0 +1,25 @@
+//! Laws about the report and the names in it: functions that do nothing, and whose contracts say what
+//! is true of every verdict and every name.
+ghost use Rattle.it_verify.specs.ReportLaws.{FirstLinesTell, FormsAreWords, FormsTell, ReportsTell};
+
+/// Where the first lines of two verdicts differ, their reports do.
+pub fn first_lines_tell()
+    ensures { FirstLinesTell }
+{}
+
+/// Equal reports are of verdicts that both accept, or that both refuse for a fault of the same number
+/// and name.
+pub fn reports_tell()
+    ensures { ReportsTell }
+{}
+
+/// Names that are written alike are the same.
+pub fn forms_tell()
+    ensures { FormsTell }
+{}
+
+/// A name that is written has no space, no line feed and no other byte up to 0x20, so it stays one word
+/// of its line.
+pub fn forms_are_words()
+    ensures { FormsAreWords }
+{}

@@ -1,0 +1,30 @@
+//! Laws about a verification as a whole: functions that do nothing, and whose contracts say what is true
+//! of all inputs and every check.
+ghost use Rattle.it_verify.specs.WholeLaws.{MadeNotRefused, MadeOrFirst, MadeOrRefused, RefusalIsOne, VerdictIsOne};
+
+/// What was made as the owners laid down is never refused.
+pub fn made_not_refused()
+    ensures { MadeNotRefused }
+{}
+
+/// What is delivered was made as the owners laid down, or is refused: with `made_not_refused`, always
+/// just one of the two.
+pub fn made_or_refused()
+    ensures { MadeOrRefused }
+{}
+
+/// What is delivered was made as the owners laid down exactly where no place of a verification has
+/// anything to refuse.
+pub fn made_or_first()
+    ensures { MadeOrFirst }
+{}
+
+/// What is delivered is refused in one way at most.
+pub fn refusal_is_one()
+    ensures { RefusalIsOne }
+{}
+
+/// What was made as the owners laid down is accepted with one list of steps and of files.
+pub fn verdict_is_one()
+    ensures { VerdictIsOne }
+{}

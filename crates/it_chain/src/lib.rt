@@ -17,5 +17,7 @@ mod step_rules;
 #[cfg(test)]
 mod tests;
 mod verify;
+#[cfg(test)]
+mod verify_tests;
 
 pub use verify::verify_chain;

@@ -95,9 +95,8 @@ impl Artifacts {
     pub fn copy(&self) -> Result<Artifacts, AllocError>
         ensures { IfOk result (λ copy. copy ≡ self.now) }
     {
-        Ok(Artifacts {
-            by_path: self.by_path.clone()?,
-        })
+        let by_path = self.by_path.clone()?;
+        Ok(Artifacts { by_path })
     }
 
     /// Whether no path stands in the map.

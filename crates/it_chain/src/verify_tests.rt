@@ -1,3 +1,5 @@
+ghost use Rattle.std.specs.Prelude.{◌≤◌};
+
 use crate::bundle::Bundle;
 use crate::chain::Chain;
 use crate::refusal::{ChainError, ChainFault, ChainRefusal};

@@ -11,5 +11,3 @@ pub mod Laws
 pub mod Level
 pub mod Lower
 pub mod Names
-pub mod RecordCode
-pub mod Walk

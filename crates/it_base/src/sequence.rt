@@ -37,6 +37,14 @@ impl<T> Sequence<T> {
     {
         self.items.as_slice()
     }
+
+    /// The values as a vector. Takes no memory.
+    pub fn into_vec(self) -> Vec<T>
+        ensures { result.items ≡ self }
+    {
+        let Sequence { items } = self;
+        items
+    }
 }
 
 impl<T: FromDocument> FromDocument for Sequence<T> {

@@ -11,9 +11,10 @@ use Rattle.it_chain.specs.Contents.{Contents}
 use Rattle.it_chain.specs.Counted.{Setting}
 use Rattle.it_chain.specs.First.{Failing, at_id, at_threshold, at_records, step_places, rule_places, places, Stands, LevelFails, First, too_deep, uninspected}
 use Rattle.it_chain.specs.Level.{Holding, StepHolds, LevelHolds}
+use Rattle.it_chain.specs.Walk.{NoneAt}
 use Rattle.it_chain.specs.declared.chain.StepResult.{StepResult}
 use Rattle.it_chain.specs.declared.refusal.ChainRefusal.{ChainRefusal}
-use Rattle.it_chain.proofs.Firsts.{NoneAt, none_first, none_append, none_map}
+use Rattle.it_chain.proofs.Firsts.{none_first, none_append, none_map}
 use Rattle.it_chain.proofs.Levels.{HoldsOneWay, HoldsOrFails, level_one, no_two, no_failing, no_few, no_other, no_rules}
 
 module _ (sub : Holding) (fails : Failing) (one : HoldsOneWay sub) (apart : HoldsOrFails sub fails) (setting : Setting) (layout : Layout) (bundle : Contents) where
@@ -37,13 +38,16 @@ module _ (sub : Holding) (fails : Failing) (one : HoldsOneWay sub) (apart : Hold
     (λ refusal x. no_rules sub one setting bundle fails apart layout m h s Products x.0 x.1 x.2, none_of_rules m h ss),
   )
 
+  -- nothing stands at the places of a layout that holds
+  pub none_of_level : (m : List StepResult) → LevelHolds sub setting layout bundle m → NoneAt (Stands sub fails setting layout bundle) (places layout)
+  none_of_level m h = (
+    λ r x. h.unexpired x.0,
+    none_append (Stands sub fails setting layout bundle) (flat_map (step_places layout) layout.steps) (flat_map rule_places layout.steps)
+        (none_of_steps layout.steps m h.steps) (none_of_rules m h layout.steps),
+  )
+
   pub level_excludes : (m : List StepResult) (refusal : ChainRefusal) → LevelHolds sub setting layout bundle m → ¬ LevelFails sub fails setting layout bundle refusal
-  level_excludes m refusal h =
-      none_first (Stands sub fails setting layout bundle) (places layout) refusal (
-        λ r x. h.unexpired x.0,
-        none_append (Stands sub fails setting layout bundle) (flat_map (step_places layout) layout.steps) (flat_map rule_places layout.steps)
-            (none_of_steps layout.steps m h.steps) (none_of_rules m h layout.steps),
-      )
+  level_excludes m refusal h = none_first (Stands sub fails setting layout bundle) (places layout) refusal (none_of_level m h)
 
 pub none_one : HoldsOneWay none_holds
 none_one layout bundle m n h k = absurd h

@@ -1,22 +1,18 @@
 -- The first place at which something stands.
 use Rattle.std.proofs.Common.{◌≡◌, List, [], ◌∷◌, ◌++◌, map, flat_map, inl, inr, ⊎_elim}
 use Rattle.it_chain.specs.First.{IsFirst}
+use Rattle.it_chain.specs.Walk.{NoneAt}
 
 module _ {P R : Type 0} (At : P → R → Type 0) where
-  -- nothing stands at any of the places
-  abbrev pub NoneAt : List P → Type 0
-  NoneAt [] = Unit {0}
-  NoneAt (p ∷ ps) = ((r : R) → ¬ At p r) × NoneAt ps
-
-  pub none_first : (ps : List P) (r : R) → NoneAt ps → ¬ IsFirst At ps r
+  pub none_first : (ps : List P) (r : R) → NoneAt At ps → ¬ IsFirst At ps r
   none_first [] r none h = h
   none_first (p ∷ ps) r none h = ⊎_elim (none.0 r) (λ x. none_first ps r none.1 x.1) h
 
-  pub none_append : (ps qs : List P) → NoneAt ps → NoneAt qs → NoneAt (ps ++ qs)
+  pub none_append : (ps qs : List P) → NoneAt At ps → NoneAt At qs → NoneAt At (ps ++ qs)
   none_append [] qs h k = k
   none_append (p ∷ ps) qs h k = (h.0, none_append ps qs h.1 k)
 
-  pub none_map : {X : Type 0} (f : X → P) (xs : List X) → ((x : X) (r : R) → ¬ At (f x) r) → NoneAt (map f xs)
+  pub none_map : {X : Type 0} (f : X → P) (xs : List X) → ((x : X) (r : R) → ¬ At (f x) r) → NoneAt At (map f xs)
   none_map f [] h = tt
   none_map f (x ∷ xs) h = (h x, none_map f xs h)
 
@@ -25,7 +21,7 @@ module _ {P R : Type 0} (At : P → R → Type 0) where
   first_before [] qs r h = absurd h
   first_before (p ∷ ps) qs r h = ⊎_elim inl (λ x. inr (x.0, first_before ps qs r x.1)) h
 
-  pub first_behind : (ps qs : List P) (r : R) → NoneAt ps → IsFirst At qs r → IsFirst At (ps ++ qs) r
+  pub first_behind : (ps qs : List P) (r : R) → NoneAt At ps → IsFirst At qs r → IsFirst At (ps ++ qs) r
   first_behind [] qs r none h = h
   first_behind (p ∷ ps) qs r none h = inr (none.0, first_behind ps qs r none.1 h)
 
@@ -45,7 +41,7 @@ module _ {P R : Type 0} (At : P → R → Type 0) where
       ⊎_elim (λ x. ⊎_elim (λ y. here a b x y) (λ y. absurd (y.0 a x)) k)
       (λ x. ⊎_elim (λ y. absurd (x.0 b y)) (λ y. rest x.0 a b x.1 y.1) k) h
 
-  pub one_append : (ps qs : List P) → OneFirst ps → (NoneAt ps → OneFirst qs) → OneFirst (ps ++ qs)
+  pub one_append : (ps qs : List P) → OneFirst ps → (NoneAt At ps → OneFirst qs) → OneFirst (ps ++ qs)
   one_append [] qs h k = k tt
   one_append (p ∷ ps) qs h k =
       one_more p (ps ++ qs) (λ a b x y. h a b (inl x) (inl y))

@@ -10,13 +10,15 @@ use Rattle.it_dsse.specs.declared.key_object.KeyObject.{KeyObject}
 use Rattle.it_docs.specs.declared.layout.Layout.{Layout}
 use Rattle.it_docs.specs.declared.step.Step.{Step}
 use Rattle.it_rules.specs.Item.{Recorded}
-use Rattle.it_chain.specs.Answer.{Answering, Bodies, no_body, one_body, several, IdRecord, bodies_answer, bodies_in, id_answer, key_answer, payloads_for, put_under, ◌>>=◌}
+use Rattle.it_chain.specs.Answer.{Answering, Bodies, no_body, one_body, several, bodies_answer, bodies_in, id_answer, key_answer, payloads_for, put_under, ◌>>=◌}
 use Rattle.it_chain.specs.Contents.{Contents}
 use Rattle.it_chain.specs.Counted.{Setting, Body, of_link, of_layout, BodyOf, Counted}
 use Rattle.it_chain.specs.First.{Failing, HasTwo, at_id, Stands}
 use Rattle.it_chain.specs.Level.{Holding, Records, HasRecord, summary}
 use Rattle.it_chain.specs.Lower.{Lower, AnswersRight}
 use Rattle.it_chain.specs.Names.{folder_of}
+use Rattle.it_chain.specs.declared.record.IdRecord.{IdRecord}
+use Rattle.it_chain.specs.Walk.{IsGiven, Gives}
 use Rattle.it_chain.specs.declared.chain.StepResult.{StepResult}
 use Rattle.it_chain.specs.declared.refusal.ChainRefusal.{ChainRefusal}
 use Rattle.it_chain.proofs.Counting.{listed, counts}
@@ -43,18 +45,6 @@ module _ (sub : Holding) (setting : Setting) (layout : Layout) (bundle : Content
     pub key_is : counted.key ≡ key
     pub reads : BodyOf step.name payload body
     pub alone : (other : List ℕ) → Counted setting layout bundle step id other → payload ≡ other
-
-  -- an id counts with this record, and with no other body
-  pub record IsGiven (id : List ℕ) (r : IdRecord) : Type 0 where
-    pub id_is : r.id ≡ id
-    pub recorded : HasRecord sub setting layout bundle step id r.recorded
-    pub key_is : recorded.counted.key ≡ r.key
-    pub alone : (other : List ℕ) → Counted setting layout bundle step id other → recorded.payload ≡ other
-
-  -- an id does not count, or does so with a record
-  abbrev pub Gives : List ℕ → Option IdRecord → Type 0
-  Gives id None = (payload : List ℕ) → ¬ Counted setting layout bundle step id payload
-  Gives id (Some r) = IsGiven id r
 
 module _ (answers : Answering) (sub : Holding) (fails : Failing) (inside : Sublayouts answers sub fails) (setting : Setting) (layout : Layout) (bundle : Contents) (step : Step) where
   -- then nothing stands at its place

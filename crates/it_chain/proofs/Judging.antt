@@ -6,12 +6,14 @@ use Rattle.it_docs.specs.declared.layout.Layout.{Layout}
 use Rattle.it_docs.specs.declared.step.Step.{Step}
 use Rattle.it_rules.specs.Item.{Recorded}
 use Rattle.it_rules.proofs.Listed.{Contains-from_place, Contains-map, Contains-map_cases, place_of}
-use Rattle.it_chain.specs.Answer.{Answering, IdRecord, agreed, agreement, judged}
+use Rattle.it_chain.specs.Answer.{Answering, agreed, agreement, judged}
 use Rattle.it_chain.specs.Contents.{Contents}
 use Rattle.it_chain.specs.Counted.{Setting, KeyCounts, Found, same_key}
 use Rattle.it_chain.specs.First.{Failing, Place, IsBefore, IsLeastOther, at_threshold, at_records, Stands, here}
 use Rattle.it_chain.specs.Level.{Holding, HasRecord, StepHolds}
 use Rattle.it_chain.specs.Lower.{Lower, AnswersRight}
+use Rattle.it_chain.specs.Walk.{AreRecords, InOrder}
+use Rattle.it_chain.specs.declared.record.IdRecord.{IdRecord}
 use Rattle.it_chain.specs.declared.refusal.ChainFault.TheVariants.{Threshold, Disagree}
 use Rattle.it_chain.specs.declared.refusal.ChainRefusal.{ChainRefusal}
 use Rattle.it_chain.proofs.Alikes.{one_key}
@@ -19,7 +21,7 @@ use Rattle.it_chain.proofs.Levels.{HoldsOneWay, record_one}
 use Rattle.it_chain.proofs.Members.{in_head, in_tail, in_cases, in_none}
 use Rattle.it_chain.proofs.Numbers.{found_of, found_one}
 use Rattle.it_chain.proofs.Outcomes.{Tells, tells_behind}
-use Rattle.it_chain.proofs.Records.{AreRecords, InOrder, none_before}
+use Rattle.it_chain.proofs.Records.{none_before}
 
 module _ (sub : Holding) (fails : Failing) (one : HoldsOneWay sub) (setting : Setting) (layout : Layout) (bundle : Contents) (step : Step) (records : List IdRecord) (are : AreRecords sub setting layout bundle step records) where
   abbrev At : Place → ChainRefusal → Type 0

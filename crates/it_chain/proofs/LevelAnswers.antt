@@ -16,6 +16,7 @@ use Rattle.it_chain.specs.First.{Failing, Place, at_expiry, at_id, at_threshold,
 use Rattle.it_chain.specs.Level.{Holding, StepHolds, StepRulesHold, LevelHolds, links_in, recorded_in, rules_on}
 use Rattle.it_chain.specs.Lower.{Lower, AnswersRight, IsFaultOf}
 use Rattle.it_chain.specs.declared.chain.StepResult.{StepResult}
+use Rattle.it_chain.specs.Walk.{AreRecords}
 use Rattle.it_chain.specs.declared.refusal.ChainFault.TheVariants.{Expired}
 use Rattle.it_chain.specs.declared.refusal.ChainRefusal.{ChainRefusal}
 use Rattle.it_chain.proofs.Ids.{Sublayouts}
@@ -23,7 +24,7 @@ use Rattle.it_chain.proofs.Judging.{tells_judged}
 use Rattle.it_chain.proofs.LevelRules.{links_differ, no_rule_fails}
 use Rattle.it_chain.proofs.Members.{in_head, in_tail}
 use Rattle.it_chain.proofs.Outcomes.{Tells, tells_behind, tells_then, tells_made, tells_weaker}
-use Rattle.it_chain.proofs.Records.{AreRecords, tells_records}
+use Rattle.it_chain.proofs.Records.{tells_records}
 
 module _ (lower : Lower) (right : AnswersRight lower) (setting : Setting) (layout : Layout) (bundle : Contents) (answers : Answering) (sub : Holding) (fails : Failing) (inside : Sublayouts answers sub fails) where
   abbrev At : Place → ChainRefusal → Type 0

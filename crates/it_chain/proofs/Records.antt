@@ -9,23 +9,20 @@ use Rattle.std.proofs.lemmas.Slice.Eq.{bytes_eq-Decides}
 use Rattle.it_dsse.specs.declared.key_object.KeyObject.{KeyObject}
 use Rattle.it_docs.specs.declared.layout.Layout.{Layout}
 use Rattle.it_docs.specs.declared.step.Step.{Step}
-use Rattle.it_chain.specs.Answer.{Answering, IdRecord, id_answer, ids_answer, signers, with_record}
+use Rattle.it_chain.specs.Answer.{Answering, id_answer, ids_answer, signers, with_record}
 use Rattle.it_chain.specs.Contents.{Contents}
 use Rattle.it_chain.specs.Counted.{Setting, Counted}
 use Rattle.it_chain.specs.First.{Failing, Place, IsBefore, at_id, Stands}
 use Rattle.it_chain.specs.Level.{Holding}
 use Rattle.it_chain.specs.Lower.{Lower, AnswersRight}
+use Rattle.it_chain.specs.Walk.{AreRecords, Gives, InOrder, IsGiven}
+use Rattle.it_chain.specs.declared.record.IdRecord.{IdRecord}
 use Rattle.it_chain.specs.declared.refusal.ChainRefusal.{ChainRefusal}
 use Rattle.it_chain.proofs.Entries.{first_below, entry_known, known_entry}
-use Rattle.it_chain.proofs.Ids.{Sublayouts, IsGiven, Gives, none_of_given, tells_id}
+use Rattle.it_chain.proofs.Ids.{Sublayouts, none_of_given, tells_id}
 use Rattle.it_chain.proofs.Members.{in_head, in_tail, in_cases, in_none}
 use Rattle.it_chain.proofs.Orders.{one_before}
 use Rattle.it_chain.proofs.Outcomes.{Tells, tells_behind, tells_then, tells_made, tells_weaker}
-
--- each record's id is before those of the later ones
-abbrev pub InOrder : List IdRecord → Type 0
-InOrder [] = Unit {0}
-InOrder (r ∷ rs) = ((other : IdRecord) → Contains rs other → IsBefore r.id other.id) × InOrder rs
 
 -- no record is before the first
 pub none_before : (first : IdRecord) (others : List IdRecord) → InOrder (first ∷ others) → (r : IdRecord) → Contains (first ∷ others) r → ¬ IsBefore r.id first.id
@@ -35,12 +32,6 @@ none_before first others in_order r c before = elim (in_cases first others r c) 
 ]
 
 module _ (sub : Holding) (setting : Setting) (layout : Layout) (bundle : Contents) (step : Step) where
-  -- the records of a step: of each id that counts, once
-  pub record AreRecords (records : List IdRecord) : Type 0 where
-    pub each : (r : IdRecord) → Contains records r → IsGiven sub setting layout bundle step r.id r
-    pub all : (id payload : List ℕ) → Counted setting layout bundle step id payload → (r : IdRecord) × Contains records r × IsGiven sub setting layout bundle step id r
-    pub in_order : InOrder records
-
   -- the records of entries of the map of keys
   abbrev pub AreOf : List (List ℕ × KeyObject) → List IdRecord → Type 0
   AreOf [] records = records ≡ []
@@ -94,7 +85,7 @@ module _ (sub : Holding) (setting : Setting) (layout : Layout) (bundle : Content
       (order_of es h.1 parts.1 h.4))
 
   -- those of all its entries are those of the step
-  pub are_records : (records : List IdRecord) → AreOf (entries layout.keys) records → AreRecords records
+  pub are_records : (records : List IdRecord) → AreOf (entries layout.keys) records → AreRecords sub setting layout bundle step records
   are_records records h = record {
     each = λ r c. let e = each_of (entries layout.keys) records h r c in subst (λ id. IsGiven sub setting layout bundle step id r) (sym e.2.id_is) e.2;
     all = λ id payload c. all_of (entries layout.keys) records h (id, c.object) (known_entry layout.keys id c.object c.known) payload c;

@@ -24,6 +24,7 @@ use Rattle.it_chain.specs.Level.{links_in, recorded_in, rules_on, summary}
 use Rattle.it_chain.specs.Lower.{Lower}
 use Rattle.it_chain.specs.Names.{folder_of}
 use Rattle.it_chain.specs.declared.chain.StepResult.{StepResult}
+use Rattle.it_chain.specs.declared.record.IdRecord.{IdRecord}
 use Rattle.it_chain.specs.declared.refusal.ChainFault.TheVariants.{Expired, TwoPayloads, TooDeep, Threshold, Disagree, InspectionInSublayout, RuleFailed}
 use Rattle.it_chain.specs.declared.refusal.ChainRefusal.{ChainRefusal}
 use Rattle.it_chain.specs.declared.refusal.RuleItem.TheVariants.{Step as of_step}
@@ -37,12 +38,6 @@ abbrev pub ◌>>=◌ : {A B : Type 0} → Result A ChainRefusal → (A → Resul
 abbrev pub put_under : {A : Type 0} → List ℕ → List ℕ → Result A ChainRefusal → Result A ChainRefusal
 put_under step id (Ok x) = Ok x
 put_under step id (Err refusal) = Err (under step id refusal)
-
--- the record of an id that counts
-pub record IdRecord : Type 0 where
-  pub id : List ℕ
-  pub key : KeyNumber
-  pub recorded : Recorded
 
 -- the bodies that count for an id: none, one, or several that differ
 pub data Bodies : Type 0 where

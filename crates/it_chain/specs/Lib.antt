@@ -11,3 +11,5 @@ pub mod Laws
 pub mod Level
 pub mod Lower
 pub mod Names
+pub mod RecordCode
+pub mod Walk

@@ -55,7 +55,7 @@ impl Model for Bundle {
 }
 
 impl Bundle {
-    ghost use Rattle.it_chain.specs.Contents.{Contents, empty, with_file, with_folder, folder_at};
+    ghost use Rattle.it_chain.specs.Contents.{Contents, empty, files_of, with_file, with_folder, folder_at};
 
     /// A bundle without files and folders. Takes no memory.
     pub fn new(alloc: Global) -> Bundle
@@ -107,6 +107,13 @@ impl Bundle {
             Ok(_) => Ok(()),
             Err(_) => Err(BundleFault::OutOfMemory),
         }
+    }
+
+    /// The files, in the order in which they were added. Takes no memory.
+    pub(crate) fn files(&self) -> &[File]
+        ensures { result.now ≡ files_of self.now }
+    {
+        &self.files
     }
 
     /// The folder of this name. Takes no memory.

@@ -1,9 +1,23 @@
 //! Chains of layouts (in-toto 1.0): a layout over a bundle of signed files, with sublayouts inside.
 #![tactic(auto)]
 
+mod agreement;
 pub mod bundle;
+mod candidate;
 pub mod chain;
+mod checking;
+mod counted;
+mod fault;
 pub mod laws;
+mod level;
+mod names;
+mod record;
 pub mod refusal;
+mod step_rules;
 #[cfg(test)]
 mod tests;
+mod verify;
+#[cfg(test)]
+mod verify_tests;
+
+pub use verify::verify_chain;

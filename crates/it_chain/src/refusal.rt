@@ -2,7 +2,7 @@
 use it_base::sequence::Sequence;
 use it_base::text::Text;
 use it_docs::rule::Side;
-use std::alloc::AllocError;
+use std::alloc::{AllocError, AllocFailed};
 
 /// Whose artifact rules were judged.
 #[derive(Drop)]
@@ -86,6 +86,17 @@ impl From<AllocError> for ChainError {
     ghost from_gives = { λ _ e. e ≡ OutOfMemory };
 
     fn from(_e: AllocError) -> ChainError {
+        ChainError::OutOfMemory
+    }
+}
+
+impl<T: Drop> From<AllocFailed<T>> for ChainError {
+    ghost use Rattle.std.specs.Prelude.{◌≡◌};
+    ghost use Rattle.it_chain.specs.declared.refusal.ChainError.TheVariants.{OutOfMemory};
+
+    ghost from_gives = { λ _ e. e ≡ OutOfMemory };
+
+    fn from(_e: AllocFailed<T>) -> ChainError {
         ChainError::OutOfMemory
     }
 }

@@ -4,7 +4,7 @@ use Rattle.std.specs.Bool.{Decides}
 use Rattle.std.specs.Cmp.Lexicographic.{slice_cmp, pointwise}
 use Rattle.std.specs.FinMap.{find, is_sorted, insert, get, entries, from_entries, from_sorted, get-from_entries, get-from_sorted, entries-from_sorted, same_entries_map, entries-insert, same_map, empty, empty_of_len, len, len-entries, len-empty, nat_cmp-IsAntisymmetric, slice_cmp-IsAntisymmetric}
 use Rattle.std.specs.FinMap.Entries.{below_all, put, by_order}
-use Rattle.std.specs.List.{AllByRecursion}
+use Rattle.std.specs.List.{AllByRecursion, AllZip}
 use Rattle.std.specs.List.Sorted.{IsStrictlySortedBy}
 use Rattle.std.specs.Map.{lookup, keys_of}
 use Rattle.std.specs.Option.{option_eq}
@@ -48,6 +48,15 @@ find-path_entries q (e ∷ es) = ap (cond (is_eq (path_cmp q (string_bytes e.0))
 pub keys-path_entries : (es : List Entry) → map string_bytes (keys_of es) ≡ map (λ (e : List ℕ × DigestSet). e.0) (path_entries es)
 keys-path_entries [] = refl
 keys-path_entries (e ∷ es) = ap (λ ks. string_bytes e.0 ∷ ks) (keys-path_entries es)
+
+-- clones of entries are the same entries
+pub path_entries-clones : (es fs : List Entry) → AllZip (λ p q. (string_bytes q.0 ≡ string_bytes p.0) × (q.1 ≡ p.1)) es fs → path_entries fs ≡ path_entries es
+path_entries-clones [] [] h = refl
+path_entries-clones [] (f ∷ fs) h = absurd h
+path_entries-clones (e ∷ es) [] h = absurd h
+path_entries-clones (e ∷ es) (f ∷ fs) h =
+    let rest = path_entries-clones es fs h.1 in
+    λ i. (h.0.0 i, h.0.1 i) ∷ rest i
 
 -- ---- the finite map of some entries
 

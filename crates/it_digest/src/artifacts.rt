@@ -87,6 +87,18 @@ impl Artifacts {
         self.by_path.iter()
     }
 
+    /// A copy of the map.
+    ///
+    /// # Errors
+    ///
+    /// `AllocError` where memory is refused.
+    pub fn copy(&self) -> Result<Artifacts, AllocError>
+        ensures { IfOk result (λ copy. copy ≡ self.now) }
+    {
+        let by_path = self.by_path.clone()?;
+        Ok(Artifacts { by_path })
+    }
+
     /// Whether no path stands in the map.
     pub fn is_empty(&self) -> bool
         ensures { IsTrue result ↔ (self.now ≡ finite.empty) }

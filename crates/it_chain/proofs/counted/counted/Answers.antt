@@ -1,0 +1,52 @@
+use Rattle.std.proofs.Common.{◌≡◌, ◌∙◌, ◌+◌, ◌++◌, ◌∷◌, [], List, take, drop, take_all, Contains, true, None, sym, ap, subst, refl, arith}
+use Rattle.std.proofs.lemmas.List.{take_more, take-append-drop}
+use Rattle.std.proofs.lemmas.List.Elements.{Contains-append_left, Contains-get_or}
+use Rattle.it_chain.specs.declared.candidate.Candidate.{Candidate}
+use Rattle.it_chain.proofs.SoFar.{SoFar, begun, one_of, passed_by, repeated, two_of}
+use Rattle.it_chain.proofs.counted.counted.Goals as goal
+use Rattle.it_chain.proofs.counted.counted.Goals.{in-Some+in-None, in-Some+in-Some-first+else-not-is_same_payload, in_default}
+
+pub returns-then-not-is_same_payload : goal.returns-then-not-is_same_payload
+returns-then-not-is_same_payload g c =
+    let check = (g.C.Checking.setting c.args.checking.now).check in
+    let i = c.loop-candidate.candidate-index in
+    let all = c.args.candidates.now in
+    let new = c.candidate-item.result in
+    let first = rw c.in-Some-first.is at c.loop-candidate.invariant in
+    let signs = rw c.in-Some.is at c.in_ok-key.ensures in
+    let before : Contains all c.in-Some-first.found.now =
+    subst (λ (xs : List Candidate). Contains xs c.in-Some-first.found.now) (take-append-drop i all) (Contains-append_left (take i all) (drop i all) c.in-Some-first.found.now first.is.stands) in
+    let there : Contains all new = subst (Contains all) (sym c.candidate-item.is) (Contains-get_or all i new c.loop-candidate-test.true) in
+    two_of check c.args.id.now c.args.object.now all c.in-Some-first.field-0-0 c.in-Some.key c.in-Some-first.found.now new before there first.is.signed signs
+    (λ same. let is : c.is_same_payload.result ≡ true = c.is_same_payload.ensures.1 same in cc)
+
+pub loop-candidate-preserved : goal.loop-candidate-preserved
+loop-candidate-preserved g c =
+    let check = (g.C.Checking.setting c.args.checking.now).check in
+    let id = c.args.id.now in
+    let object = c.args.object.now in
+    let i = c.loop-candidate.candidate-index in
+    let all = c.args.candidates.now in
+    let new = c.candidate-item.result in
+    let more : take (i + 1) all ≡ take i all ++ new ∷ [] = take_more all i new c.loop-candidate-test.true ∙ ap (λ x. take i all ++ x ∷ []) (sym c.candidate-item.is) in
+    elim c.match-branch-2.branch [
+      | in-Some+in-None w ↦
+          let signs = rw w.in-Some.is at c.in_ok-key.ensures in
+          rw (w.first-is, more) (begun check id object (take i all) new w.in-Some.key signs (rw w.in-None.is at c.loop-candidate.invariant))
+      | in-Some+in-Some-first+else-not-is_same_payload w ↦
+          let same = w.is_same_payload.ensures.0 w.if-not-is_same_payload.false in
+          rw (w.first-is, w.in-Some-first.is, more) (repeated check id object (take i all) new w.in-Some-first.field-0-0 w.in-Some-first.found same (rw w.in-Some-first.is at c.loop-candidate.invariant))
+      | in_default w ↦
+          rw (w.first-is, more) (passed_by check id object (take i all) new c.loop-candidate.first (rw w.in_default.is at c.in_ok-key.ensures) c.loop-candidate.invariant)
+    ]
+
+pub returns-in-None-first : goal.returns-in-None-first
+returns-in-None-first g c =
+    let all : take c.loop-candidate.candidate-index c.args.candidates.now ≡ c.args.candidates.now = take_all c.loop-candidate.candidate-index c.args.candidates.now (omega arith) in
+    rw (c.in-None-first.is, all) at c.loop-candidate.invariant
+
+pub returns-in-Some-first-2 : goal.returns-in-Some-first-2
+returns-in-Some-first-2 g c =
+    let all : take c.loop-candidate.candidate-index c.args.candidates.now ≡ c.args.candidates.now = take_all c.loop-candidate.candidate-index c.args.candidates.now (omega arith) in
+    one_of (g.C.Checking.setting c.args.checking.now).check c.args.id.now c.args.object.now c.args.candidates.now c.in-Some-first-2.key c.in-Some-first-2.found
+    (rw (c.in-Some-first-2.is, all) at c.loop-candidate.invariant)

@@ -1,0 +1,51 @@
+use Rattle.std.proofs.Common.{◌≡◌, ◌+◌, ◌*◌, List, ℕ, ◌++◌, take, map, flat_map}
+use Rattle.std.specs.FinMap.{entries}
+use Rattle.std.specs.List.{AllZip}
+use Rattle.it_dsse.specs.declared.key_object.KeyObject.{KeyObject}
+use Rattle.it_docs.specs.Table.{named_entries}
+use Rattle.it_chain.specs.First.{at_id, step_places}
+use Rattle.it_chain.specs.Level.{StepHolds}
+use Rattle.it_chain.specs.Walk.{StandsAt, NoneAt, holds_below}
+use Rattle.it_chain.proofs.Records.{AreOf}
+use Rattle.it_chain.proofs.level.+level.Given as goal
+
+abbrev pub decreases-verify_sublayout : goal.decreases-verify_sublayout
+decreases-verify_sublayout g l = 7 * l.level.now.depth
+
+abbrev pub decreases-verify_body : goal.decreases-verify_body
+decreases-verify_body g l = 7 * l.level.now.depth + 1
+
+abbrev pub decreases-verify_id : goal.decreases-verify_id
+decreases-verify_id g l = 7 * l.level.now.depth + 2
+
+abbrev pub decreases-verify_ids : goal.decreases-verify_ids
+decreases-verify_ids g l = 7 * l.level.now.depth + 3
+
+abbrev pub decreases-verify_step : goal.decreases-verify_step
+decreases-verify_step g l = 7 * l.level.now.depth + 4
+
+abbrev pub decreases-verify_steps : goal.decreases-verify_steps
+decreases-verify_steps g l = 7 * l.level.now.depth + 5
+
+abbrev pub decreases-verify_level : goal.decreases-verify_level
+decreases-verify_level g l = 7 * l.level.now.depth + 6
+
+-- nothing stands at the steps so far, which hold with the results
+abbrev pub invariant-verify_steps-loop-step : goal.invariant-verify_steps-loop-step
+invariant-verify_steps-loop-step g l =
+    let setting = g.C.Checking.setting l.checking in
+    let layout = l.level.layout.now in
+    let bundle = l.level.links.now in
+    NoneAt (StandsAt setting l.level.depth layout bundle) (flat_map (step_places layout) (take l.step-index l.step-items))
+    × AllZip (StepHolds (holds_below setting l.level.depth) setting layout bundle) (take l.step-index l.step-items) l.results.items
+
+-- nothing stands at the ids so far, of which these are the records
+abbrev pub invariant-verify_ids-loop-id : goal.invariant-verify_ids-loop-id
+invariant-verify_ids-loop-id g l =
+    let setting = g.C.Checking.setting l.checking in
+    let layout = l.level.layout.now in
+    let bundle = l.level.links.now in
+    (goal.iterator-verify_ids-loop-id g).can_next l.id-iterator × (goal.iterator-verify_ids-loop-id g).is_finite l.id-iterator
+    × ((done : List (List ℕ × KeyObject)) × (entries layout.keys ≡ done ++ named_entries l.id-iterator)
+    × NoneAt (StandsAt setting l.level.depth layout bundle) (map (at_id l.step) (map (λ e. e.0) done))
+    × AreOf (holds_below setting l.level.depth) setting layout bundle l.step done l.records.items)

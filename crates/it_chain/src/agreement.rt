@@ -1,0 +1,85 @@
+//! How the records of a step are judged.
+ghost use Rattle.std.specs.Prelude.{◌≡◌, ◌↔◌, IfOk, IsTrue, map};
+ghost use Rattle.std.specs.Set.{distinct_count};
+ghost use Rattle.it_chain.specs.Counted.{same_key};
+ghost use Rattle.it_chain.specs.Walk.{IsAgreed, IsJudged};
+
+use crate::chain::StepResult;
+use crate::fault::{refused, text_of};
+use crate::record::{IdRecord, Recorded};
+use crate::refusal::{ChainError, ChainFault};
+use it_docs::step::Step;
+use std::alloc::{AllocError, Global};
+
+/// The record of a step, where enough different keys signed and all records are the same.
+pub(crate) fn judged(
+    alloc: Global,
+    step: &Step,
+    records: &[IdRecord],
+) -> Result<StepResult, ChainError>
+    ensures { IsJudged step.now records.now result }
+{
+    let found = key_count(alloc, records)?;
+    match records {
+        [first, others @ ..] if step.threshold <= found => {
+            agreed(alloc, step, found, first, others)
+        }
+        _ => Err(refused(
+            alloc,
+            ChainFault::Threshold {
+                step: text_of(alloc, step.name.as_str())?,
+                found,
+                needed: step.threshold,
+            },
+        )),
+    }
+}
+
+/// How many different keys the records have.
+fn key_count(alloc: Global, records: &[IdRecord]) -> Result<u64, AllocError>
+    ensures { IfOk result
+        (λ n. n ≡ distinct_count same_key (map (λ r. r.key) records.now)) }
+{
+    let mut keys: Vec<u32> = Vec::new(alloc);
+    for record in records {
+        if !keys.contains(&record.key) {
+            keys.push(record.key)?;
+        }
+    }
+    Ok(keys.len() as u64)
+}
+
+/// The record of a step, where all the others are the same as the first.
+fn agreed(
+    alloc: Global,
+    step: &Step,
+    found: u64,
+    first: &IdRecord,
+    others: &[IdRecord],
+) -> Result<StepResult, ChainError>
+    ensures { IsAgreed step.now found first.now others.now result }
+{
+    for other in others {
+        if !is_same(&other.recorded, &first.recorded) {
+            return Err(refused(
+                alloc,
+                ChainFault::Disagree {
+                    step: text_of(alloc, step.name.as_str())?,
+                    id: text_of(alloc, other.id.as_str())?,
+                },
+            ));
+        }
+    }
+    Ok(StepResult {
+        name: text_of(alloc, step.name.as_str())?,
+        materials: first.recorded.materials.copy()?,
+        products: first.recorded.products.copy()?,
+        keys: found,
+    })
+}
+
+fn is_same(one: &Recorded, other: &Recorded) -> bool
+    ensures { IsTrue result ↔ (one.now ≡ other.now) }
+{
+    one.materials.same_as(&other.materials) && one.products.same_as(&other.products)
+}

@@ -1,0 +1,119 @@
+//! The files that can count for a step.
+ghost use Rattle.std.specs.Prelude.{◌≡◌, IfOk};
+ghost use Rattle.it_base.specs.Finds.{Finds};
+ghost use Rattle.it_dsse.specs.Envelope.{EnvelopeOf};
+ghost use Rattle.it_docs.specs.Layout.{LayoutOf};
+ghost use Rattle.it_docs.specs.Link.{LinkOf};
+ghost use Rattle.it_chain.specs.Walk.{AreCandidates, IsBody, IsCandidate};
+
+use crate::bundle::File;
+use crate::names::is_claimed;
+use it_docs::fault::DocumentFault;
+use it_docs::layout::Layout;
+use it_docs::layout_fault::LayoutFault;
+use it_docs::layout_reading::read_layout;
+use it_docs::link::{Link, read_link};
+use it_dsse::envelope::{Envelope, EnvelopeFault};
+use std::alloc::{AllocError, Global};
+
+/// The payload type of links and layouts.
+const IN_TOTO: &str = "application/vnd.in-toto+json";
+
+/// What the body of an envelope is for a step.
+#[derive(Drop)]
+pub(crate) enum Body {
+    /// A link that bears the step's name.
+    Link(Link),
+    /// A layout.
+    Layout(Layout),
+}
+
+/// An envelope that counts for a step under each key id that signed it.
+#[derive(Drop)]
+pub(crate) struct Candidate {
+    /// The envelope.
+    pub envelope: Envelope,
+    /// What its payload is.
+    pub body: Body,
+}
+
+/// The envelopes of the files that are claimed for a step, where their payloads are bodies.
+pub(crate) fn candidates(
+    alloc: Global,
+    step: &str,
+    files: &[File],
+) -> Result<Vec<Candidate>, AllocError>
+    ensures { IfOk result (λ found. AreCandidates step.now files.now found.items) }
+{
+    let mut found = Vec::new(alloc);
+    for file in files {
+        if let Some(candidate) = candidate_in(alloc, step, file)? {
+            found.push(candidate)?;
+        }
+    }
+    Ok(found)
+}
+
+fn candidate_in(alloc: Global, step: &str, file: &File) -> Result<Option<Candidate>, AllocError>
+    ensures { IfOk result (Finds (IsCandidate step.now file.now)) }
+{
+    if !is_claimed(step, file.name.as_str()) {
+        return Ok(None);
+    }
+    let Some(envelope) = envelope_in(alloc, file.bytes.as_slice())? else {
+        return Ok(None);
+    };
+    if envelope.payload_type.as_str() != IN_TOTO {
+        return Ok(None);
+    }
+    let Some(body) = body_in(alloc, step, envelope.payload.as_slice())? else {
+        return Ok(None);
+    };
+    Ok(Some(Candidate { envelope, body }))
+}
+
+fn envelope_in(alloc: Global, bytes: &[u8]) -> Result<Option<Envelope>, AllocError>
+    ensures { IfOk result (Finds (EnvelopeOf bytes.now)) }
+{
+    match Envelope::read(alloc, bytes) {
+        Ok(envelope) => Ok(Some(envelope)),
+        Err(EnvelopeFault::BadEnvelope) => Ok(None),
+        Err(EnvelopeFault::OutOfMemory) => Err(AllocError),
+    }
+}
+
+/// What a payload is for a step.
+fn body_in(alloc: Global, step: &str, payload: &[u8]) -> Result<Option<Body>, AllocError>
+    ensures { IfOk result (Finds (IsBody step.now payload.now)) }
+{
+    match link_in(alloc, payload)? {
+        Some(link) if link.name.as_str() == step => Ok(Some(Body::Link(link))),
+        Some(_) => Ok(None),
+        None => {
+            let Some(layout) = layout_in(alloc, payload)? else {
+                return Ok(None);
+            };
+            Ok(Some(Body::Layout(layout)))
+        }
+    }
+}
+
+fn link_in(alloc: Global, bytes: &[u8]) -> Result<Option<Link>, AllocError>
+    ensures { IfOk result (Finds (LinkOf bytes.now)) }
+{
+    match read_link(alloc, bytes) {
+        Ok(link) => Ok(Some(link)),
+        Err(DocumentFault::BadDocument) => Ok(None),
+        Err(DocumentFault::OutOfMemory) => Err(AllocError),
+    }
+}
+
+fn layout_in(alloc: Global, bytes: &[u8]) -> Result<Option<Layout>, AllocError>
+    ensures { IfOk result (Finds (LayoutOf bytes.now)) }
+{
+    match read_layout(alloc, bytes) {
+        Ok(layout) => Ok(Some(layout)),
+        Err(LayoutFault::BadLayout(_)) => Ok(None),
+        Err(LayoutFault::OutOfMemory) => Err(AllocError),
+    }
+}

@@ -1,0 +1,73 @@
+//! What a layout is checked with.
+ghost use Rattle.std.specs.Prelude.{◌≡◌, IfOk};
+ghost use Rattle.it_base.specs.Finds.{Finds};
+ghost use Rattle.it_dsse.specs.Signed.{Signed};
+ghost use Rattle.it_chain.specs.Counted.{Setting};
+
+use it_dsse::check::SignatureCheck;
+use it_dsse::envelope::Envelope;
+use it_dsse::key_object::KeyObject;
+use it_dsse::meter::Meter;
+use it_dsse::signed_by;
+use std::alloc::{AllocError, Global};
+
+/// Tells who signed envelopes, and at which moment layouts are looked at.
+pub(crate) trait Checking: Drop {
+    // what the check answers, and the moment
+    ghost setting: { Self → Setting };
+
+    /// The moment, in seconds from 1970-01-01T00:00:00Z.
+    fn moment(&self) -> i64
+        ensures { result ≡ (setting self.now).moment };
+
+    /// The number of the key that signed the envelope, as `it_dsse::signed_by` answers.
+    fn signed_by(
+        &self,
+        alloc: Global,
+        envelope: &Envelope,
+        id: &str,
+        object: &KeyObject,
+        meter: &mut Meter,
+    ) -> Result<Option<u32>, AllocError>
+        ensures { IfOk result
+            (Finds (Signed (setting self.now).check envelope.now id.now object.now)) };
+}
+
+/// A check that was lent, and a moment.
+pub(crate) struct Lent<'a> {
+    /// The check.
+    pub check: &'a Box<dyn SignatureCheck>,
+    /// The moment.
+    pub moment: i64,
+}
+
+impl Drop for Lent<'_> {
+    fn drop(self) {
+        let Lent {
+            check: _,
+            moment: _,
+        } = self;
+    }
+}
+
+impl Checking for Lent<'_> {
+    ghost setting = { λ s. record {
+      check = (SignatureCheck-box s.check.now).meaning s.check.now.value;
+      moment = s.moment;
+    } };
+
+    fn moment(&self) -> i64 {
+        self.moment
+    }
+
+    fn signed_by(
+        &self,
+        alloc: Global,
+        envelope: &Envelope,
+        id: &str,
+        object: &KeyObject,
+        meter: &mut Meter,
+    ) -> Result<Option<u32>, AllocError> {
+        signed_by(alloc, envelope, id, object, self.check, meter)
+    }
+}

@@ -1,0 +1,57 @@
+//! How refusals are made.
+ghost use Rattle.std.specs.Prelude.{◌≡◌, IfOk};
+ghost use Rattle.it_chain.specs.First.{here, under as under_of};
+ghost use Rattle.it_chain.specs.Walk.{IsUnder};
+ghost use Rattle.it_chain.specs.declared.refusal.ChainError.TheVariants.{Refused};
+
+use crate::refusal::{ChainError, ChainFault, ChainRefusal};
+use it_base::sequence::Sequence;
+use it_base::text::Text;
+use std::alloc::{AllocError, Global};
+
+/// The text, copied.
+pub(crate) fn text_of(alloc: Global, text: &str) -> Result<Text, AllocError>
+    ensures { IfOk result (λ t. t ≡ text.now) }
+{
+    Ok(Text::from(String::from_str(alloc, text)?))
+}
+
+/// A fault of the layout itself.
+pub(crate) fn refused(alloc: Global, fault: ChainFault) -> ChainError
+    ensures { result ≡ Refused (here fault) }
+{
+    ChainError::Refused(ChainRefusal {
+        at: Sequence::from(Vec::new(alloc)),
+        fault,
+    })
+}
+
+/// The error of the sublayout that is signed by a key id for a step.
+pub(crate) fn under(alloc: Global, step: &str, id: &str, error: ChainError) -> ChainError
+    ensures { IsUnder step.now id.now error result }
+{
+    match error {
+        ChainError::Refused(refusal) => match put_under(alloc, step, id, refusal) {
+            Ok(refusal) => ChainError::Refused(refusal),
+            Err(_) => ChainError::OutOfMemory,
+        },
+        ChainError::OutOfMemory => ChainError::OutOfMemory,
+    }
+}
+
+fn put_under(
+    alloc: Global,
+    step: &str,
+    id: &str,
+    refusal: ChainRefusal,
+) -> Result<ChainRefusal, AllocError>
+    ensures { IfOk result (λ outer. outer ≡ under_of step.now id.now refusal) }
+{
+    let ChainRefusal { at, fault } = refusal;
+    let mut at = at.into_vec();
+    at.insert(0, (text_of(alloc, step)?, text_of(alloc, id)?))?;
+    Ok(ChainRefusal {
+        at: Sequence::from(at),
+        fault,
+    })
+}

@@ -1,0 +1,276 @@
+//! A layout over a bundle, with its sublayouts.
+ghost use Rattle.std.specs.Prelude.{◌≡◌, ◌≤◌, ◌∷◌, [], IfOk, Some, Contains, map, flat_map};
+ghost use Rattle.std.specs.FinMap.{get, keys};
+ghost use Rattle.std.specs.List.{AllZip};
+ghost use Rattle.it_chain.specs.Contents.{files_of};
+ghost use Rattle.it_chain.specs.First.{at_id, places, step_places};
+ghost use Rattle.it_chain.specs.Level.{LevelHolds, StepHolds, summary};
+ghost use Rattle.it_chain.specs.Names.{folder_of};
+ghost use Rattle.it_chain.specs.Walk.{AreCandidates, AreRecords, BodyComes, SublayoutComes, Gives, StandsAt, Walks, as_body, holds_below, fails_below};
+
+use crate::agreement::judged;
+use crate::bundle::Bundle;
+use crate::candidate::{Body, Candidate, candidates};
+use crate::chain::{Chain, StepResult};
+use crate::checking::Checking;
+use crate::counted::{Counting, counted, lists};
+use crate::fault::{refused, text_of, under};
+use crate::names::folder_name;
+use crate::record::{IdRecord, Recorded};
+use crate::refusal::{ChainError, ChainFault};
+use crate::step_rules::run_step_rules;
+use it_base::sequence::Sequence;
+use it_digest::artifacts::Artifacts;
+use it_docs::layout::Layout;
+use it_docs::step::Step;
+use it_dsse::key_object::KeyObject;
+use it_dsse::meter::Meter;
+use std::alloc::{AllocError, Global};
+
+/// A layout over a bundle.
+#[derive(Drop)]
+pub(crate) struct Level<'a> {
+    /// The layout.
+    pub layout: &'a Layout,
+    /// The files and folders that it is checked against.
+    pub links: &'a Bundle,
+    /// How deep sublayouts may lie.
+    pub depth: u8,
+}
+
+/// The records with which a layout holds of a bundle.
+#[cycle(level)]
+pub(crate) fn verify_level<C: Checking>(
+    alloc: Global,
+    checking: &C,
+    level: &Level,
+    meter: &mut Meter,
+) -> Result<Chain, ChainError>
+    requires shallow { level.now.depth ≤ 8 }
+    ensures { Walks (StandsAt (C.setting checking.now) level.now.depth level.now.layout.now level.now.links.now)
+        (places level.now.layout.now)
+        (λ chain. LevelHolds (holds_below (C.setting checking.now) level.now.depth)
+        (C.setting checking.now) level.now.layout.now level.now.links.now chain.steps) result }
+{
+    if level.layout.expires < checking.moment() {
+        return Err(refused(alloc, ChainFault::Expired));
+    }
+    let steps = verify_steps(alloc, checking, level, meter)?;
+    run_step_rules(alloc, level.layout.steps.as_slice(), steps.as_slice())?;
+    Ok(Chain {
+        steps: Sequence::from(steps),
+    })
+}
+
+/// The records of a layout's steps.
+#[cycle(level)]
+fn verify_steps<C: Checking>(
+    alloc: Global,
+    checking: &C,
+    level: &Level,
+    meter: &mut Meter,
+) -> Result<Vec<StepResult>, ChainError>
+    requires shallow { level.now.depth ≤ 8 }
+    ensures { Walks (StandsAt (C.setting checking.now) level.now.depth level.now.layout.now level.now.links.now)
+        (flat_map (step_places level.now.layout.now) level.now.layout.now.steps)
+        (λ results. AllZip (StepHolds (holds_below (C.setting checking.now) level.now.depth)
+        (C.setting checking.now) level.now.layout.now level.now.links.now) level.now.layout.now.steps results.items) result }
+{
+    let mut results = Vec::new(alloc);
+    for step in level.layout.steps.as_slice() {
+        results.push(verify_step(alloc, checking, level, step, meter)?)?;
+    }
+    Ok(results)
+}
+
+/// The record of a step.
+#[cycle(level)]
+fn verify_step<C: Checking>(
+    alloc: Global,
+    checking: &C,
+    level: &Level,
+    step: &Step,
+    meter: &mut Meter,
+) -> Result<StepResult, ChainError>
+    requires shallow { level.now.depth ≤ 8 }
+    ensures { Walks (StandsAt (C.setting checking.now) level.now.depth level.now.layout.now level.now.links.now)
+        (step_places level.now.layout.now step.now)
+        (StepHolds (holds_below (C.setting checking.now) level.now.depth)
+        (C.setting checking.now) level.now.layout.now level.now.links.now step.now) result }
+{
+    let found = candidates(alloc, step.name.as_str(), level.links.files())?;
+    let records = verify_ids(alloc, checking, level, step, found.as_slice(), meter)?;
+    judged(alloc, step, records.as_slice())
+}
+
+/// The records of the key ids that count for a step.
+#[cycle(level)]
+fn verify_ids<C: Checking>(
+    alloc: Global,
+    checking: &C,
+    level: &Level,
+    step: &Step,
+    found: &[Candidate],
+    meter: &mut Meter,
+) -> Result<Vec<IdRecord>, ChainError>
+    requires shallow { level.now.depth ≤ 8 }
+    requires candidates { AreCandidates step.now.name (files_of level.now.links.now) found.now }
+    ensures { Walks (StandsAt (C.setting checking.now) level.now.depth level.now.layout.now level.now.links.now)
+        (map (at_id step.now) (keys level.now.layout.now.keys))
+        (λ records. AreRecords (holds_below (C.setting checking.now) level.now.depth)
+        (C.setting checking.now) level.now.layout.now level.now.links.now step.now records.items) result }
+{
+    let mut records = Vec::new(alloc);
+    for (id, object) in level.layout.keys.iter() {
+        if lists(step.pubkeys.as_slice(), id.as_str()) {
+            let record = verify_id(
+                alloc,
+                checking,
+                level,
+                step,
+                id.as_str(),
+                object,
+                found,
+                meter,
+            )?;
+            if let Some(record) = record {
+                records.push(record)?;
+            }
+        }
+    }
+    Ok(records)
+}
+
+/// The record of a key id that a step lists and the layout has, where something counts for it.
+#[cycle(level)]
+fn verify_id<C: Checking>(
+    alloc: Global,
+    checking: &C,
+    level: &Level,
+    step: &Step,
+    id: &str,
+    object: &KeyObject,
+    found: &[Candidate],
+    meter: &mut Meter,
+) -> Result<Option<IdRecord>, ChainError>
+    requires shallow { level.now.depth ≤ 8 }
+    requires candidates { AreCandidates step.now.name (files_of level.now.links.now) found.now }
+    requires listed { Contains step.now.pubkeys id.now }
+    requires known { get level.now.layout.now.keys id.now ≡ Some object.now }
+    ensures { Walks (StandsAt (C.setting checking.now) level.now.depth level.now.layout.now level.now.links.now)
+        (at_id step.now id.now ∷ [])
+        (Gives (holds_below (C.setting checking.now) level.now.depth)
+        (C.setting checking.now) level.now.layout.now level.now.links.now step.now id.now) result }
+{
+    match counted(alloc, checking, id, object, found, meter)? {
+        Counting::Nothing => Ok(None),
+        Counting::Several => Err(refused(
+            alloc,
+            ChainFault::TwoPayloads {
+                step: text_of(alloc, step.name.as_str())?,
+                id: text_of(alloc, id)?,
+            },
+        )),
+        Counting::One(key, body) => {
+            let recorded = verify_body(
+                alloc,
+                checking,
+                level,
+                step.name.as_str(),
+                id,
+                body,
+                meter,
+            )?;
+            Ok(Some(IdRecord {
+                id: text_of(alloc, id)?,
+                key,
+                recorded,
+            }))
+        }
+    }
+}
+
+/// The artifacts that the body of a key id comes to.
+#[cycle(level)]
+fn verify_body<C: Checking>(
+    alloc: Global,
+    checking: &C,
+    level: &Level,
+    step: &str,
+    id: &str,
+    body: &Body,
+    meter: &mut Meter,
+) -> Result<Recorded, ChainError>
+    requires shallow { level.now.depth ≤ 8 }
+    ensures { BodyComes (holds_below (C.setting checking.now) level.now.depth)
+        (fails_below (C.setting checking.now) level.now.depth)
+        level.now.links.now step.now id.now (as_body body.now) result }
+{
+    match body {
+        Body::Link(link) => Ok(Recorded {
+            materials: link.materials.copy()?,
+            products: link.products.copy()?,
+        }),
+        Body::Layout(sublayout) => {
+            match verify_sublayout(alloc, checking, level, step, id, sublayout, meter) {
+                Ok(chain) => Ok(summary_of(alloc, chain.steps.as_slice())?),
+                Err(error) => Err(under(alloc, step, id, error)),
+            }
+        }
+    }
+}
+
+/// The records of a sublayout over its own folder.
+#[cycle(level)]
+fn verify_sublayout<C: Checking>(
+    alloc: Global,
+    checking: &C,
+    level: &Level,
+    step: &str,
+    id: &str,
+    sublayout: &Layout,
+    meter: &mut Meter,
+) -> Result<Chain, ChainError>
+    requires shallow { level.now.depth ≤ 8 }
+    ensures { SublayoutComes (holds_below (C.setting checking.now) level.now.depth)
+        (fails_below (C.setting checking.now) level.now.depth)
+        sublayout.now (folder_of step.now id.now level.now.links.now) result }
+{
+    if level.depth == 0 {
+        return Err(refused(alloc, ChainFault::TooDeep));
+    }
+    if !sublayout.inspections.as_slice().is_empty() {
+        return Err(refused(alloc, ChainFault::InspectionInSublayout));
+    }
+    let name = folder_name(alloc, step, id)?;
+    let none = Bundle::new(alloc);
+    let below = Level {
+        layout: sublayout,
+        links: level.links.dir(name.as_str()).unwrap_or(&none),
+        depth: level.depth - 1,
+    };
+    verify_level(alloc, checking, &below, meter)
+}
+
+/// What a sublayout stands for: the materials of its first step and the products of its last.
+fn summary_of(alloc: Global, results: &[StepResult]) -> Result<Recorded, AllocError>
+    ensures { IfOk result (λ recorded. recorded ≡ summary results.now) }
+{
+    match results {
+        [] => Ok(Recorded {
+            materials: Artifacts::new(alloc),
+            products: Artifacts::new(alloc),
+        }),
+        [first, .., last] => summary_between(first, last),
+        [only] => summary_between(only, only),
+    }
+}
+
+fn summary_between(first: &StepResult, last: &StepResult) -> Result<Recorded, AllocError>
+    ensures { IfOk result (λ recorded. recorded ≡ record { materials = first.now.materials; products = last.now.products }) }
+{
+    Ok(Recorded {
+        materials: first.materials.copy()?,
+        products: last.products.copy()?,
+    })
+}

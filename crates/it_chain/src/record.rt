@@ -1,0 +1,36 @@
+//! What the functions that walk a layout keep of a step.
+use it_base::text::Text;
+use it_digest::artifacts::Artifacts;
+use std::marker::Model;
+
+/// The artifacts that a body comes to.
+#[derive(Drop)]
+pub(crate) struct Recorded {
+    /// What the step took.
+    pub materials: Artifacts,
+    /// What the step made.
+    pub products: Artifacts,
+}
+
+impl Model for Recorded {
+    ghost use Rattle.it_rules.specs.Item.{Recorded};
+
+    ghost Value = { Recorded };
+
+    ghost use Rattle.it_chain.specs.RecordCode.{recorded_code};
+
+    ghost coded = { recorded_code };
+
+    ghost view = { λ r. record { materials = r.materials; products = r.products } };
+}
+
+/// The record of a key id that counts for a step.
+#[derive(Drop)]
+pub(crate) struct IdRecord {
+    /// The key id.
+    pub id: Text,
+    /// The number of its key.
+    pub key: u32,
+    /// The artifacts that its body comes to.
+    pub recorded: Recorded,
+}

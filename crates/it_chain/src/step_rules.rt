@@ -1,0 +1,96 @@
+//! The artifact rules of a layout's steps.
+ghost use Rattle.std.specs.Prelude.{◌≡◌, IfOk, zip};
+ghost use Rattle.it_rules.specs.Item.{links_of, recorded_of};
+ghost use Rattle.it_rules.specs.Rules.{NamesDiffer};
+ghost use Rattle.it_chain.specs.Level.{links_in, recorded_in};
+ghost use Rattle.it_chain.specs.Walk.{AreRuled, IsSideRuled};
+
+use crate::chain::StepResult;
+use crate::fault::{refused, text_of};
+use crate::refusal::{ChainError, ChainFault, RuleItem};
+use it_docs::rule::{Rule, Side};
+use it_docs::step::Step;
+use it_rules::item::{Item, Named};
+use it_rules::rules::run_rules;
+use std::alloc::{AllocError, Global};
+
+/// Judges the rules of all steps over their records: of each step those on materials first.
+pub(crate) fn run_step_rules(
+    alloc: Global,
+    steps: &[Step],
+    results: &[StepResult],
+) -> Result<(), ChainError>
+    requires { NamesDiffer (links_in results.now) }
+    ensures { AreRuled (links_in results.now) (zip steps.now results.now) result }
+{
+    let links = links_to(alloc, results)?;
+    for (step, found) in steps.iter().zip(results) {
+        let materials = step.expected_materials.as_slice();
+        run_side(
+            alloc,
+            step,
+            Side::Materials,
+            materials,
+            found,
+            links.as_slice(),
+        )?;
+        let products = step.expected_products.as_slice();
+        run_side(
+            alloc,
+            step,
+            Side::Products,
+            products,
+            found,
+            links.as_slice(),
+        )?;
+    }
+    Ok(())
+}
+
+/// The records under the names of their steps.
+fn links_to(alloc: Global, results: &[StepResult]) -> Result<Vec<Named<'_>>, AllocError>
+    ensures { IfOk result (λ links. links_of links.items ≡ links_in results.now) }
+{
+    let mut links = Vec::new(alloc);
+    for found in results {
+        links.push(Named {
+            name: found.name.as_str(),
+            item: item_of(found),
+        })?;
+    }
+    Ok(links)
+}
+
+fn item_of(found: &StepResult) -> Item<'_>
+    ensures { recorded_of result ≡ recorded_in found.now }
+{
+    Item {
+        materials: &found.materials,
+        products: &found.products,
+    }
+}
+
+fn run_side(
+    alloc: Global,
+    step: &Step,
+    side: Side,
+    rules: &[Rule],
+    found: &StepResult,
+    links: &[Named],
+) -> Result<(), ChainError>
+    requires { NamesDiffer (links_of links.now) }
+    ensures { IsSideRuled (links_of links.now) step.now side rules.now found.now result }
+{
+    match run_rules(alloc, side, rules, &item_of(found), links)? {
+        None => Ok(()),
+        Some(fault) => Err(refused(
+            alloc,
+            ChainFault::RuleFailed {
+                item: RuleItem::Step(text_of(alloc, step.name.as_str())?),
+                side,
+                index: fault.index,
+                path: fault.path,
+            },
+        )),
+    }
+}

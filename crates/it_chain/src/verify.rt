@@ -1,0 +1,48 @@
+//! Whether a layout holds of a bundle.
+ghost use Rattle.std.specs.Prelude.{◌≡◌, ◌≤◌, IfOk, IfErr};
+ghost use Rattle.it_chain.specs.Chain.{Chain as Chain_of};
+ghost use Rattle.it_chain.specs.First.{First};
+ghost use Rattle.it_chain.specs.declared.refusal.ChainError.TheVariants.{Refused};
+ghost use Rattle.it_chain.specs.declared.refusal.ChainRefusal.{ChainRefusal as Refusal};
+
+use crate::bundle::Bundle;
+use crate::chain::Chain;
+use crate::checking::Lent;
+use crate::level::{Level, verify_level};
+use crate::refusal::ChainError;
+use it_docs::layout::Layout;
+use it_dsse::check::SignatureCheck;
+use it_dsse::meter::Meter;
+use std::alloc::Global;
+
+/// Verifies a layout over a bundle at a moment (in-toto 1.0 section 5.2).
+///
+/// `moment` is in seconds from 1970-01-01T00:00:00Z. Sublayouts may lie up to `depth` deep. Each
+/// signature is checked by `check`, which counts in `meter`. The answer has a record for each step.
+///
+/// # Errors
+///
+/// `Refused` with the first failure where the layout does not hold of the bundle, and `OutOfMemory`
+/// where memory was refused.
+pub fn verify_chain(
+    alloc: Global,
+    layout: &Layout,
+    links: &Bundle,
+    moment: i64,
+    depth: u8,
+    check: &Box<dyn SignatureCheck>,
+    meter: &mut Meter,
+) -> Result<Chain, ChainError>
+    requires { depth ≤ 8 }
+    ensures ok { IfOk result (λ chain. Chain_of (record { check = meaning check.now; moment = moment }) depth layout.now links.now chain.steps) }
+    ensures bad { IfErr result (λ e. (r : Refusal) → e ≡ Refused r
+        → First (record { check = meaning check.now; moment = moment }) depth layout.now links.now r) }
+{
+    let checking = Lent { check, moment };
+    let level = Level {
+        layout,
+        links,
+        depth,
+    };
+    verify_level(alloc, &checking, &level, meter)
+}

@@ -2,7 +2,7 @@
 use Rattle.std.proofs.Common.{◌⊎◌, List, [], ◌∷◌, All, inl, inr}
 use Rattle.std.proofs.lemmas.List.Elements.{All-nil, All-cons, All-head, All-tail}
 use Rattle.it_chain.specs.First.{IsFirst}
-use Rattle.it_chain.proofs.Firsts.{NoneAt}
+use Rattle.it_chain.specs.Walk.{NoneAt}
 
 module _ {P R : Type 0} (At : P → R → Type 0) (Good : P → Type 0) (apart : (p : P) → Good p → (r : R) → ¬ At p r) where
   -- something stands first, or all are good

@@ -21,7 +21,8 @@ use Rattle.it_chain.specs.First.{First as ChainFirst, IsFirst}
 use Rattle.it_chain.proofs.Documents.{envelope_same}
 use Rattle.it_chain.proofs.Entries.{entry_known}
 use Rattle.it_chain.proofs.Excludes.{chain_excludes}
-use Rattle.it_chain.proofs.Firsts.{NoneAt, none_first}
+use Rattle.it_chain.proofs.Firsts.{none_first}
+use Rattle.it_chain.specs.Walk.{NoneAt}
 use Rattle.it_base.proofs.Members.{in_head, in_tail}
 use Rattle.it_prov.specs.Meets.{Meets}
 use Rattle.it_prov.proofs.OneFit.{fits_one}

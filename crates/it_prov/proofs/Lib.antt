@@ -1,4 +1,4 @@
 pub mod Fitting
 pub mod Meeting
 pub mod OneFit
-pub mod Parameters
+pub mod ParametersSettled

@@ -27,7 +27,7 @@ use Rattle.it_docs.specs.declared.statement.Statement.{Statement}
 use Rattle.it_docs.proofs.Same.{statement_same}
 use Rattle.it_docs.proofs.StatementDecided.{statement_of, statement_of-finds}
 use Rattle.it_prov.specs.Meets.{Attests, Meets, ParametersMeet, SignedByBuilder}
-use Rattle.it_prov.proofs.Parameters.{parameters_meet_or_not}
+use Rattle.it_prov.proofs.ParametersSettled.{parameters_meet_or_not}
 
 -- ---- who signed
 equal_of : (o : Ordering) → is_eq o ≡ true → o ≡ Equal

@@ -1,5 +1,5 @@
 -- The names under which there are trees, and what stands under them.
-use Rattle.std.proofs.Common.{◌≡◌, ◌≢◌, ◌⊎◌, ◌↔◌, ◌<◌, ℕ, List, [], ◌∷◌, length, Bool, true, false, Option, Some, None, option_map, is_some, Ordering, Less, Equal, Greater, nat_cmp, inl, inr, Contains, IsTrue, String, Global, string_bytes, refl, sym, ap, subst, arith, ◌∙◌}
+use Rattle.std.proofs.Common.{◌≡◌, ◌⊎◌, ◌↔◌, ◌<◌, ℕ, List, [], ◌∷◌, length, Bool, true, false, Option, Some, None, option_map, is_some, Ordering, Less, Equal, Greater, nat_cmp, inl, inr, Contains, IsTrue, String, Global, string_bytes, refl, sym, ap, subst, arith, ◌∙◌}
 use Rattle.std.specs.Bool.{MatchBool}
 use Rattle.std.specs.Cmp.{tied_itself}
 use Rattle.std.specs.Cmp.Lexicographic.{slice_cmp, nat_list_cmp_total}

@@ -143,9 +143,10 @@ fn finds_the_first_that_the_builder_signed(rt: HostRuntime) -> Result<(), Fail> 
     let of_builder = signed_as(alloc, "builder", KIND, &said)?;
     let again = signed_as(alloc, "builder", KIND, &said)?;
     let envelopes = [of_carol, of_builder, again];
+    let envelopes = envelopes.as_slice();
     let first = told(alloc, expectation.as_str(), &envelopes[1..], "app", A)?;
     assert_eq!(rt; first.as_str(), "0");
-    let second = told(alloc, expectation.as_str(), &envelopes, "app", A)?;
+    let second = told(alloc, expectation.as_str(), envelopes, "app", A)?;
     assert_eq!(rt; second.as_str(), "1");
     let none = told(alloc, expectation.as_str(), &envelopes[..1], "app", A)?;
     assert_eq!(rt; none.as_str(), "no provenance app");

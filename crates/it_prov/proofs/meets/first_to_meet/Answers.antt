@@ -1,4 +1,4 @@
-use Rattle.std.proofs.Common.{◌≡◌, true, refl, arith}
+use Rattle.std.proofs.Common.{◌≡◌, true, refl}
 use Rattle.std.proofs.lemmas.Option.{slice_get_read}
 use Rattle.it_prov.specs.Meets.{Meets}
 use Rattle.it_prov.proofs.Searching.{none_all, none_more}

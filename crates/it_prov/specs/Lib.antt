@@ -1,2 +1,4 @@
+pub mod Finding
 pub mod Fits
+pub mod Judged
 pub mod Meets

@@ -1,7 +1,6 @@
 use Rattle.std.proofs.Common.{◌≡◌, ◌∙◌, ℕ, List, [], ◌∷◌, ◌++◌, All, append_assoc, append-nil, rules, sym, ap, subst, string_bytes}
 use Rattle.std.specs.FinMap.{entries}
-use Rattle.std.proofs.lemmas.List.Elements.{All-nil, All-push}
-use Rattle.it_dsse.specs.Signed.{IsSigner}
+use Rattle.std.proofs.lemmas.List.Elements.{All-push}
 use Rattle.it_dsse.specs.declared.key_object.KeyObject.{KeyObject}
 use Rattle.it_docs.specs.Table.{named_entries}
 use Rattle.it_verify.specs.First.{whole}

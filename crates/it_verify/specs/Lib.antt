@@ -12,5 +12,6 @@ pub mod Report
 pub mod ReportLaws
 pub mod Signed
 pub mod Signing
+pub mod Walk
 pub mod WholeLaws
 pub mod Words

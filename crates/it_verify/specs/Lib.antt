@@ -12,5 +12,6 @@ pub mod Report
 pub mod ReportLaws
 pub mod Signed
 pub mod Signing
+pub mod Verdict
 pub mod WholeLaws
 pub mod Words

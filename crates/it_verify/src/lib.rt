@@ -21,6 +21,7 @@ mod signing;
 #[cfg(test)]
 mod tests;
 pub mod verdict;
+mod whole;
 pub mod whole_laws;
 pub mod words;
 
@@ -30,3 +31,4 @@ pub use matching::run_match;
 pub use reporting::report;
 pub use signed::run_signed;
 pub use signing::run_sign;
+pub use whole::verify;

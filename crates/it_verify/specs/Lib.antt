@@ -4,6 +4,7 @@ pub mod Digesting
 pub mod Documents
 pub mod Fault
 pub mod First
+pub mod Gathering
 pub mod Made
 pub mod Matching
 pub mod Name

@@ -11,6 +11,7 @@ mod matching;
 mod name;
 pub mod outcome;
 mod output;
+mod records;
 pub mod refusal;
 pub mod report_laws;
 #[cfg(test)]

@@ -1,0 +1,32 @@
+-- What the functions that gather evidence and judge it come to, in the words of the definitions. Nothing
+-- that is trusted stands here.
+use Rattle.std.specs.Prelude.{◌≡◌, ◌≢◌, ◌⊎◌, ℕ, List, [], ◌∷◌, Option, Some, None, Result, Ok, Err, option_map, ⊤}
+use Rattle.std.specs.Borrow.{Bor}
+use Rattle.std.specs.BTreeMap.{BTreeMap, get_by}
+use Rattle.std.specs.Cmp.Lexicographic.{slice_cmp}
+use Rattle.std.specs.List.{find}
+use Rattle.std.specs.Ordering.{nat_cmp}
+use Rattle.std.specs.Str.{bytes_eq}
+use Rattle.it_dsse.specs.Envelope.{EnvelopeOf}
+use Rattle.it_dsse.specs.declared.envelope.Envelope.{Envelope}
+use Rattle.it_docs.specs.Link.{LinkOf}
+use Rattle.it_docs.specs.declared.link.Link.{Link}
+use Rattle.it_verify.specs.First.{whole}
+use Rattle.it_verify.specs.declared.failure.Failure.{Failure}
+use Rattle.it_verify.specs.declared.failure.Failure.TheVariants.{Refused, OutOfMemory}
+use Rattle.it_verify.specs.declared.refusal.Fault.TheVariants.{RecordMissing, BadRecord}
+
+-- ---- the records of inspections
+-- under each name, the bytes of the first record that has it
+abbrev pub AreFirsts : List (List ℕ × List ℕ) → BTreeMap (Bor (List ℕ)) (Bor (List ℕ)) → Type 0
+AreFirsts records firsts =
+    (name : List ℕ) → option_map (λ bytes. bytes.now) (get_by (λ k. slice_cmp nat_cmp name k.now) firsts) ≡ option_map (λ given. given.1) (find (λ given. bytes_eq given.0 name) records)
+
+-- the bytes of a record, if there is one, are this link of the name, or none
+abbrev pub IsRecord : List ℕ → Option (List ℕ) → Result Link Failure → Type 0
+IsRecord name None (Ok link) = ⊥
+IsRecord name None (Err (Refused refusal)) = refusal ≡ whole (RecordMissing name)
+IsRecord name None (Err OutOfMemory) = ⊤
+IsRecord name (Some bytes) (Ok link) = LinkOf bytes link × (link.name ≡ name)
+IsRecord name (Some bytes) (Err (Refused refusal)) = ((link : Link) → LinkOf bytes link → link.name ≢ name) × (refusal ≡ whole (BadRecord name))
+IsRecord name (Some bytes) (Err OutOfMemory) = ⊤

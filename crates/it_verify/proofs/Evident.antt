@@ -26,7 +26,7 @@ use Rattle.it_verify.specs.declared.inputs.Inputs.{Inputs}
 use Rattle.it_verify.specs.declared.refusal.Fault.TheVariants.{RecordMissing, BadRecord}
 use Rattle.it_verify.specs.declared.refusal.Refusal.{Refusal}
 use Rattle.it_verify.proofs.Documented.{StandsOr}
-use Rattle.it_verify.proofs.Clear.{links_clear, records_clear}
+use Rattle.it_verify.proofs.EvidenceClear.{clear_links, clear_records}
 use Rattle.it_verify.proofs.FirstOrAll.{first_or_all, none_at_good}
 use Rattle.it_verify.proofs.OneReading.{read_alike}
 
@@ -77,7 +77,7 @@ records_of inputs (i ∷ is) all =
 module _ (check : Check) (inputs : Inputs) (documents : Documents) (read : ReadAs inputs documents) where
   pub links_or : StandsOr check inputs at_links ((m : List StepResult) × Chain (setting_of check documents) inputs.depth documents.layout inputs.links m)
   links_or = elim (holds_or_fails (setting_of check documents) inputs.depth documents.layout inputs.links) [
-    | inl holds ↦ inr (holds, links_clear check inputs documents read holds.0 holds.1)
+    | inl holds ↦ inr (holds, clear_links check inputs documents read holds.0 holds.1)
     | inr fails ↦ inl (refusal_of fails.0, (documents, fails.0, read, fails.1, refl))
   ]
 
@@ -86,5 +86,5 @@ module _ (check : Check) (inputs : Inputs) (documents : Documents) (read : ReadA
     | inl found ↦ inl (found.0, (documents, read, found.1))
     | inr goods ↦
         let records = records_of inputs documents.layout.inspections goods in
-        inr (records, records_clear check inputs documents read records.0 records.1)
+        inr (records, clear_records check inputs documents read records.0 records.1)
   ]

@@ -26,7 +26,7 @@ use Rattle.it_verify.specs.declared.inputs.Inputs.{Inputs}
 use Rattle.it_verify.specs.declared.refusal.Fault.TheVariants.{NoExpectation, NoProvenance}
 use Rattle.it_verify.specs.declared.refusal.Refusal.{Refusal}
 use Rattle.it_verify.proofs.Documented.{StandsOr}
-use Rattle.it_verify.proofs.Clear.{file_apart, provenance_clear}
+use Rattle.it_verify.proofs.EvidenceClear.{file_apart, clear_provenance}
 use Rattle.it_verify.proofs.FirstOrAll.{first_or_all, none_at_good}
 use Rattle.it_verify.proofs.OneReading.{read_alike}
 
@@ -73,5 +73,5 @@ module _ (check : Check) (inputs : Inputs) (documents : Documents) (read : ReadA
         | inl found ↦ inl (found.0, (documents, read, found.1))
         | inr goods ↦
             let all : AllProven = λ path digests known. All-contains proven (entries documents.delivered) (path, digests) goods (known_entry documents.delivered path digests known) in
-            inr (all, provenance_clear check inputs documents read all)
+            inr (all, clear_provenance check inputs documents read all)
       ]

@@ -20,7 +20,7 @@ use Rattle.it_verify.specs.declared.inputs.Inputs.{Inputs}
 use Rattle.it_verify.specs.declared.refusal.Fault.TheVariants.{RuleFailed}
 use Rattle.it_verify.specs.declared.refusal.Refusal.{Refusal}
 use Rattle.it_verify.proofs.Documented.{StandsOr}
-use Rattle.it_verify.proofs.Clear.{deliver_clear, inspections_clear}
+use Rattle.it_verify.proofs.EvidenceClear.{clear_deliver, clear_inspections}
 use Rattle.it_verify.proofs.FirstOrAll.{first_or_all, none_at_good}
 use Rattle.it_verify.proofs.OneReading.{evident_alike}
 
@@ -65,7 +65,7 @@ module _ (check : Check) (inputs : Inputs) (documents : Documents) (read : ReadA
     | inl found ↦ inl (found.0, (documents, evidence, read, is_evidence, found.1))
     | inr goods ↦
         let rules = both_sides (links_of evidence) documents.layout.inspections evidence.inspections (HasRecorded inputs) is_evidence.inspections goods in
-        inr (rules, inspections_clear check inputs documents read evidence is_evidence rules)
+        inr (rules, clear_inspections check inputs documents read evidence is_evidence rules)
   ]
 
   abbrev DeliveryHolds : Type 0
@@ -79,4 +79,4 @@ module _ (check : Check) (inputs : Inputs) (documents : Documents) (read : ReadA
     where
       go : (fault : Option (ℕ × List ℕ)) → MatchOption fault DeliveryHolds (λ f. DeliveryFails documents evidence f.0 f.1) → StandsOr check inputs at_deliver DeliveryHolds
       go (Some f) h = inl (whole (RuleFailed Deliver Products f.0 f.1), (documents, evidence, f.0, f.1, read, is_evidence, h, refl))
-      go None h = inr (h, deliver_clear check inputs documents read evidence is_evidence h)
+      go None h = inr (h, clear_deliver check inputs documents read evidence is_evidence h)

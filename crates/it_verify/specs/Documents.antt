@@ -1,8 +1,7 @@
 -- What the inputs of a verification read as.
-use Rattle.std.specs.Prelude.{◌≡◌, ℕ, ℤ, List, Contains, Option, option_map}
+use Rattle.std.specs.Prelude.{◌≡◌, ℕ, List, Contains, Option, option_map}
 use Rattle.std.specs.List.{find}
 use Rattle.std.specs.Str.{bytes_eq}
-use Rattle.it_digest.specs.Artifacts.{ArtifactMap}
 use Rattle.it_digest.specs.Sums.{SumsOf, lines_of}
 use Rattle.it_dsse.specs.Check.{Check}
 use Rattle.it_dsse.specs.Envelope.{EnvelopeOf}
@@ -11,17 +10,9 @@ use Rattle.it_docs.specs.Layout.{LayoutOf}
 use Rattle.it_docs.specs.Moment.{MomentOf}
 use Rattle.it_docs.specs.PayloadType.{in_toto_type}
 use Rattle.it_docs.specs.Policy.{PolicyOf}
-use Rattle.it_docs.specs.declared.layout.Layout.{Layout}
-use Rattle.it_docs.specs.declared.policy.Policy.{Policy}
 use Rattle.it_chain.specs.Counted.{Setting}
+pub use Rattle.it_verify.specs.declared.documents.Documents.{Documents}
 use Rattle.it_verify.specs.declared.inputs.Inputs.{Inputs}
-
-pub record Documents : Type 0 where
-  pub policy : Policy
-  pub delivered : ArtifactMap
-  pub moment : ℤ
-  pub envelope : Envelope
-  pub layout : Layout
 
 -- the inputs read as these documents: a policy, the delivered files, a moment, and an envelope of the
 -- in-toto type (DSSE v1.0) whose payload is a layout (in-toto 1.0 section 4.3)

@@ -14,5 +14,6 @@ pub mod ReportLaws
 pub mod Signed
 pub mod Signing
 pub mod Verdict
+pub mod Walk
 pub mod WholeLaws
 pub mod Words

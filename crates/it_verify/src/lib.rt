@@ -5,12 +5,15 @@
 #[cfg(test)]
 mod command_tests;
 mod digesting;
+mod documents;
 mod encoding;
+mod failure;
 pub mod inputs;
 mod matching;
 mod name;
 pub mod outcome;
 mod output;
+mod owners;
 mod records;
 pub mod refusal;
 pub mod report_laws;

@@ -26,6 +26,7 @@ use Rattle.it_verify.specs.First.{at_links, at_records, at_inspections, at_deliv
 use Rattle.it_verify.specs.Made.{Evidence, HasProvenance, HasRecorded, InspectionRulesHold, IsEvidence, delivery, links_of}
 use Rattle.it_verify.specs.declared.inputs.Inputs.{Inputs}
 use Rattle.it_verify.specs.declared.refusal.Refusal.{Refusal}
+use Rattle.it_verify.proofs.DocumentsRead.{Clear}
 use Rattle.it_verify.proofs.OneReading.{read_alike, evident_alike}
 
 -- no inspection lacks its record
@@ -55,30 +56,30 @@ no_file check inputs expectations (f ∷ fs) has =
     (file_apart check inputs expectations f (has f (in_head f fs)), no_file check inputs expectations fs (λ file c. has file (in_tail f fs file c)))
 
 module _ (check : Check) (inputs : Inputs) (documents : Documents) (read : ReadAs inputs documents) where
-  pub links_clear : (m : List StepResult) → Chain (setting_of check documents) inputs.depth documents.layout inputs.links m → (refusal : Refusal) → ¬ Stands check inputs at_links refusal
-  links_clear m holds refusal x =
+  pub clear_links : (m : List StepResult) → Chain (setting_of check documents) inputs.depth documents.layout inputs.links m → Clear check inputs at_links
+  clear_links m holds refusal x =
       chain_excludes (setting_of check documents) inputs.depth documents.layout inputs.links m x.1 holds
       (read_alike inputs (λ d. ChainFirst (setting_of check d) inputs.depth d.layout inputs.links x.1) x.0 documents x.2 read x.3)
 
-  pub records_clear : (links : List Link) → AllZip (HasRecorded inputs) documents.layout.inspections links → (refusal : Refusal) → ¬ Stands check inputs at_records refusal
-  records_clear links h refusal x =
+  pub clear_records : (links : List Link) → AllZip (HasRecorded inputs) documents.layout.inspections links → Clear check inputs at_records
+  clear_records links h refusal x =
       none_first (RecordFails inputs) documents.layout.inspections refusal (no_record inputs documents.layout.inspections links h)
       (read_alike inputs (λ d. IsFirst (RecordFails inputs) d.layout.inspections refusal) x.0 documents x.1 read x.2)
 
-  pub provenance_clear : ((path : List ℕ) (digests : DigestSet) → get documents.delivered path ≡ Some digests → HasProvenance check inputs documents.policy.expectations path digests)
-      → (refusal : Refusal) → ¬ Stands check inputs at_provenance refusal
-  provenance_clear has refusal x =
+  pub clear_provenance : ((path : List ℕ) (digests : DigestSet) → get documents.delivered path ≡ Some digests → HasProvenance check inputs documents.policy.expectations path digests)
+      → Clear check inputs at_provenance
+  clear_provenance has refusal x =
       none_first (FileFails check inputs documents.policy.expectations) (entries documents.delivered) refusal
       (no_file check inputs documents.policy.expectations (entries documents.delivered) (λ file c. has file.0 file.1 (entry_known documents.delivered file c)))
       (read_alike inputs (λ d. IsFirst (FileFails check inputs d.policy.expectations) (entries d.delivered) refusal) x.0 documents x.1 read x.2)
 
   module _ (evidence : Evidence) (is_evidence : IsEvidence check inputs documents evidence) where
-    pub inspections_clear : AllZip (InspectionRulesHold (links_of evidence)) documents.layout.inspections evidence.inspections → (refusal : Refusal) → ¬ Stands check inputs at_inspections refusal
-    inspections_clear h refusal x =
+    pub clear_inspections : AllZip (InspectionRulesHold (links_of evidence)) documents.layout.inspections evidence.inspections → Clear check inputs at_inspections
+    clear_inspections h refusal x =
         none_first (InspectionFails (links_of evidence)) (flat_map sides_of (zip documents.layout.inspections evidence.inspections)) refusal
         (no_rule (links_of evidence) documents.layout.inspections evidence.inspections h)
         (evident_alike check inputs (λ d e. IsFirst (InspectionFails (links_of e)) (flat_map sides_of (zip d.layout.inspections e.inspections)) refusal) x.0 documents x.1 evidence x.2 read x.3 is_evidence x.4)
 
-    pub deliver_clear : RulesHold documents.policy.deliver Products (delivery documents.delivered) (links_of evidence) → (refusal : Refusal) → ¬ Stands check inputs at_deliver refusal
-    deliver_clear h refusal x =
+    pub clear_deliver : RulesHold documents.policy.deliver Products (delivery documents.delivered) (links_of evidence) → Clear check inputs at_deliver
+    clear_deliver h refusal x =
         (evident_alike check inputs (λ d e. IsFirstFault d.policy.deliver Products (delivery d.delivered) (links_of e) x.2 x.3) x.0 documents x.1 evidence x.4 read x.5 is_evidence x.6).fails (h x.2)

@@ -1,0 +1,51 @@
+//! Why a verification stops before it accepts.
+ghost use Rattle.std.specs.Prelude.{◌≡◌, IfOk};
+ghost use Rattle.it_verify.specs.First.{whole};
+ghost use Rattle.it_verify.specs.declared.failure.Failure.TheVariants.{OutOfMemory, Refused};
+
+use crate::refusal::{Fault, Refusal};
+use it_base::sequence::Sequence;
+use it_base::text::Text;
+use std::alloc::{AllocError, AllocFailed, Global};
+
+/// Why a verification stops before it accepts.
+#[derive(Drop)]
+pub(crate) enum Failure {
+    /// The delivery is refused.
+    Refused(Refusal),
+    /// Memory was refused.
+    OutOfMemory,
+}
+
+impl From<AllocError> for Failure {
+    ghost from_gives = { λ _ e. e ≡ OutOfMemory };
+
+    fn from(_e: AllocError) -> Failure {
+        Failure::OutOfMemory
+    }
+}
+
+impl<T: Drop> From<AllocFailed<T>> for Failure {
+    ghost from_gives = { λ _ e. e ≡ OutOfMemory };
+
+    fn from(_e: AllocFailed<T>) -> Failure {
+        Failure::OutOfMemory
+    }
+}
+
+/// The failure for a fault that speaks of no sublayout.
+pub(crate) fn refused(alloc: Global, fault: Fault) -> Failure
+    ensures { result ≡ Refused (whole fault) }
+{
+    Failure::Refused(Refusal {
+        at: Sequence::from(Vec::new(alloc)),
+        fault,
+    })
+}
+
+/// The text, copied.
+pub(crate) fn text_of(alloc: Global, text: &str) -> Result<Text, AllocError>
+    ensures { IfOk result (λ t. t ≡ text.now) }
+{
+    Ok(Text::from(String::from_str(alloc, text)?))
+}

@@ -1,0 +1,56 @@
+//! Whether the owners of a policy signed the layout.
+ghost use Rattle.std.specs.Prelude.{IfOk, MatchBool, MatchResult};
+ghost use Rattle.std.specs.FinMap.{entries};
+ghost use Rattle.it_chain.specs.First.{IsFirst};
+ghost use Rattle.it_dsse.specs.Signed.{IsSigner};
+ghost use Rattle.it_verify.specs.First.{OwnerLacks};
+ghost use Rattle.it_verify.specs.Walk.{OwnersSign, RefusedAs};
+
+use crate::failure::{Failure, refused, text_of};
+use crate::refusal::Fault;
+use it_docs::table::Table;
+use it_dsse::check::SignatureCheck;
+use it_dsse::envelope::Envelope;
+use it_dsse::key_object::KeyObject;
+use it_dsse::meter::Meter;
+use it_dsse::signed_by;
+use std::alloc::{AllocError, Global};
+
+/// Asks of each owner, in the order of the ids' bytes, whether the key signed the envelope, and stops
+/// at the first that did not.
+pub(crate) fn check_owners(
+    alloc: Global,
+    owners: &Table<KeyObject>,
+    envelope: &Envelope,
+    check: &Box<dyn SignatureCheck>,
+    meter: &mut Meter,
+) -> Result<(), Failure>
+    ensures signed { MatchResult result
+        (λ _. OwnersSign (meaning check.now) envelope.now owners.now)
+        (RefusedAs (IsFirst (OwnerLacks (meaning check.now) envelope.now) (entries owners.now))) }
+{
+    for (id, object) in owners.iter() {
+        if !signs(alloc, envelope, id.as_str(), object, check, meter)? {
+            let id = text_of(alloc, id.as_str())?;
+            return Err(refused(alloc, Fault::OwnerMissing(id)));
+        }
+    }
+    Ok(())
+}
+
+/// Whether the key under an id signed the envelope.
+fn signs(
+    alloc: Global,
+    envelope: &Envelope,
+    id: &str,
+    object: &KeyObject,
+    check: &Box<dyn SignatureCheck>,
+    meter: &mut Meter,
+) -> Result<bool, AllocError>
+    ensures signer { IfOk result (λ signs. MatchBool signs
+        (IsSigner (meaning check.now) envelope.now object.now id.now)
+        (¬ IsSigner (meaning check.now) envelope.now object.now id.now)) }
+{
+    let key = signed_by(alloc, envelope, id, object, check, meter)?;
+    Ok(key.is_some())
+}

@@ -39,10 +39,10 @@ module _ (inputs : Inputs) (inspection : Inspection) where
   RecordedOr = ((refusal : Refusal) × RecordFails inputs inspection refusal) ⊎ Recorded
 
   module _ (bytes : List ℕ) (is_first : record_at inspection.name inputs ≡ Some bytes) where
-    some_record : record_at inspection.name inputs ≢ None
+    pub some_record : record_at inspection.name inputs ≢ None
     some_record e = let none : ◌≡◌ {A = Option (List ℕ)} (Some bytes) None = sym is_first ∙ e in cc
 
-    reads_it : (link : Link) → HasRecorded inputs inspection link → LinkOf bytes link
+    pub reads_it : (link : Link) → HasRecorded inputs inspection link → LinkOf bytes link
     reads_it link h = subst (λ b. LinkOf b link) (same_Some h.bytes bytes (sym h.is_first ∙ is_first)) h.reads
 
     of_link : (found : Option Link) → Finds (LinkOf bytes) found → RecordedOr

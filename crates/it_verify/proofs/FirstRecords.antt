@@ -1,12 +1,18 @@
 -- The first record of each name, as the list of records grows at its end.
-use Rattle.std.proofs.Common.{◌≡◌, ℕ, ◌+◌, ◌<◌, List, [], ◌∷◌, ◌++◌, Bool, true, false, cond, Option, Some, None, option_map, is_some, length, take, get_or, refl, sym, ap, ◌∙◌, inl, inr}
+use Rattle.std.proofs.Common.{Bor, ◌≡◌, ℕ, ◌+◌, ◌<◌, List, [], ◌∷◌, ◌++◌, Bool, true, false, cond, Option, Some, None, option_map, is_some, length, take, get_or, refl, sym, ap, ◌∙◌, inl, inr}
+use Rattle.std.specs.BTreeMap.{BTreeMap, get_by}
+use Rattle.std.specs.Cmp.Lexicographic.{slice_cmp}
 use Rattle.std.specs.List.{find}
 use Rattle.std.specs.Option.{option_or}
+use Rattle.std.specs.Ordering.{nat_cmp}
 use Rattle.std.specs.Str.{bytes_eq}
 use Rattle.std.proofs.lemmas.Bool.{cases_Bool}
 use Rattle.std.proofs.lemmas.List.{take_more}
 use Rattle.std.proofs.lemmas.List.Folds.{find-append}
 use Rattle.std.proofs.lemmas.Slice.Eq.{bytes_eq-Decides}
+use Rattle.it_verify.specs.Documents.{record_at}
+use Rattle.it_verify.specs.Gathering.{AreFirsts}
+use Rattle.it_verify.specs.declared.inputs.Inputs.{Inputs}
 
 -- the bytes of the first record of a name
 abbrev first_of : List (List ℕ × List ℕ) → List ℕ → Option (List ℕ)
@@ -62,3 +68,10 @@ some_there (Some x) e = (x, refl)
 pub none_there : {X : Type 0} (o : Option X) → is_some o ≡ false → o ≡ None
 none_there None e = refl
 none_there (Some x) e = cc
+
+-- what is found under a name is the first record of that name
+pub found_first : (inputs : Inputs) (given : List (List ℕ × List ℕ)) (firsts : BTreeMap (Bor (List ℕ)) (Bor (List ℕ))) (name other : List ℕ) (found : Option (Bor (List ℕ)))
+    → AreFirsts given firsts → given ≡ inputs.records → other ≡ name → found ≡ get_by (λ k. slice_cmp nat_cmp other k.now) firsts
+    → option_map (λ (b : Bor (List ℕ)). b.now) found ≡ record_at name inputs
+found_first inputs given firsts name other found are all same is =
+    ap (option_map (λ (b : Bor (List ℕ)). b.now)) is ∙ are other ∙ ap (λ rs. first_of rs other) all ∙ ap (first_of inputs.records) same

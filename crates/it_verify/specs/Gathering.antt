@@ -22,11 +22,15 @@ abbrev pub AreFirsts : List (List ℕ × List ℕ) → BTreeMap (Bor (List ℕ))
 AreFirsts records firsts =
     (name : List ℕ) → option_map (λ bytes. bytes.now) (get_by (λ k. slice_cmp nat_cmp name k.now) firsts) ≡ option_map (λ given. given.1) (find (λ given. bytes_eq given.0 name) records)
 
+-- the bytes are this link, which bears the name
+abbrev pub IsLinkNamed : List ℕ → List ℕ → Link → Type 0
+IsLinkNamed name bytes link = LinkOf bytes link × (link.name ≡ name)
+
 -- the bytes of a record, if there is one, are this link of the name, or none
 abbrev pub IsRecord : List ℕ → Option (List ℕ) → Result Link Failure → Type 0
 IsRecord name None (Ok link) = ⊥
 IsRecord name None (Err (Refused refusal)) = refusal ≡ whole (RecordMissing name)
 IsRecord name None (Err OutOfMemory) = ⊤
-IsRecord name (Some bytes) (Ok link) = LinkOf bytes link × (link.name ≡ name)
-IsRecord name (Some bytes) (Err (Refused refusal)) = ((link : Link) → LinkOf bytes link → link.name ≢ name) × (refusal ≡ whole (BadRecord name))
+IsRecord name (Some bytes) (Ok link) = IsLinkNamed name bytes link
+IsRecord name (Some bytes) (Err (Refused refusal)) = ((link : Link) → ¬ IsLinkNamed name bytes link) × (refusal ≡ whole (BadRecord name))
 IsRecord name (Some bytes) (Err OutOfMemory) = ⊤

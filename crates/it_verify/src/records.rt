@@ -1,9 +1,10 @@
 //! What the inspections of a layout recorded.
 ghost use Rattle.std.specs.Prelude.{◌≡◌, IfOk, MatchResult, option_map};
 ghost use Rattle.std.specs.List.{AllZip};
+ghost use Rattle.it_base.specs.Finds.{Finds};
 ghost use Rattle.it_chain.specs.First.{IsFirst};
 ghost use Rattle.it_verify.specs.First.{RecordFails};
-ghost use Rattle.it_verify.specs.Gathering.{AreFirsts, IsRecord};
+ghost use Rattle.it_verify.specs.Gathering.{AreFirsts, IsLinkNamed, IsRecord};
 ghost use Rattle.it_verify.specs.Made.{HasRecorded};
 ghost use Rattle.it_verify.specs.Walk.{RefusedAs};
 
@@ -60,18 +61,27 @@ fn first_records<'a>(
     Ok(firsts)
 }
 
-/// The link of this name that the bytes of a record are.
+/// The link of this name that the bytes of a record are, if there is one.
 fn recorded_link(alloc: Global, name: &str, bytes: Option<&[u8]>) -> Result<Link, Failure>
-    ensures link { IsRecord name.now (option_map (λ b. b.now) bytes) result }
+    ensures link { IsRecord name.now (option_map (λ b. b.now) bytes.entry) result }
 {
     let Some(bytes) = bytes else {
         return Err(refused(alloc, Fault::RecordMissing(text_of(alloc, name)?)));
     };
+    match link_named(alloc, name, bytes)? {
+        Some(link) => Ok(link),
+        None => Err(refused(alloc, Fault::BadRecord(text_of(alloc, name)?))),
+    }
+}
+
+/// The link that the bytes are, where it bears the name.
+fn link_named(alloc: Global, name: &str, bytes: &[u8]) -> Result<Option<Link>, AllocError>
+    ensures link { IfOk result (Finds (IsLinkNamed name.now bytes.now)) }
+{
     match read_link(alloc, bytes) {
-        Ok(link) if link.name.as_str() == name => Ok(link),
-        Ok(_) | Err(DocumentFault::BadDocument) => {
-            Err(refused(alloc, Fault::BadRecord(text_of(alloc, name)?)))
-        }
-        Err(DocumentFault::OutOfMemory) => Err(Failure::OutOfMemory),
+        Ok(link) if link.name.as_str() == name => Ok(Some(link)),
+        Ok(_) => Ok(None),
+        Err(DocumentFault::BadDocument) => Ok(None),
+        Err(DocumentFault::OutOfMemory) => Err(AllocError),
     }
 }

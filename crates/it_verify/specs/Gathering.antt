@@ -11,10 +11,18 @@ use Rattle.it_dsse.specs.Envelope.{EnvelopeOf}
 use Rattle.it_dsse.specs.declared.envelope.Envelope.{Envelope}
 use Rattle.it_docs.specs.Link.{LinkOf}
 use Rattle.it_docs.specs.declared.link.Link.{Link}
-use Rattle.it_verify.specs.First.{whole}
+use Rattle.it_chain.specs.declared.refusal.ChainError.{ChainError}
+use Rattle.it_chain.specs.declared.refusal.ChainError.TheVariants as chain
+use Rattle.it_verify.specs.First.{refusal_of, whole}
 use Rattle.it_verify.specs.declared.failure.Failure.{Failure}
 use Rattle.it_verify.specs.declared.failure.Failure.TheVariants.{Refused, OutOfMemory}
 use Rattle.it_verify.specs.declared.refusal.Fault.TheVariants.{RecordMissing, BadRecord}
+
+-- ---- the links
+-- why a layout does not hold of its links, as a failure of the whole
+abbrev pub failure_of : ChainError → Failure
+failure_of (chain.Refused refusal) = Refused (refusal_of refusal)
+failure_of chain.OutOfMemory = OutOfMemory
 
 -- ---- the records of inspections
 -- under each name, the bytes of the first record that has it

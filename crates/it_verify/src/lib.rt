@@ -2,6 +2,7 @@
 //! verification rests on and comes to, with its report.
 #![tactic(auto)]
 
+mod chain_refusal;
 #[cfg(test)]
 mod command_tests;
 mod digesting;

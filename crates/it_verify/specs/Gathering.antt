@@ -11,12 +11,19 @@ use Rattle.it_dsse.specs.Envelope.{EnvelopeOf}
 use Rattle.it_dsse.specs.declared.envelope.Envelope.{Envelope}
 use Rattle.it_docs.specs.Link.{LinkOf}
 use Rattle.it_docs.specs.declared.link.Link.{Link}
+use Rattle.it_docs.specs.declared.rule.Rule.{Rule}
+use Rattle.it_docs.specs.declared.rule.Side.{Side}
+use Rattle.it_rules.specs.Item.{Links}
+use Rattle.it_rules.specs.Rules.{IsFirstFault}
 use Rattle.it_chain.specs.declared.refusal.ChainError.{ChainError}
 use Rattle.it_chain.specs.declared.refusal.ChainError.TheVariants as chain
+use Rattle.it_chain.specs.declared.refusal.RuleItem.TheVariants.{Inspection as of_inspection}
 use Rattle.it_verify.specs.First.{refusal_of, whole}
+use Rattle.it_verify.specs.Made.{recorded_in}
 use Rattle.it_verify.specs.declared.failure.Failure.{Failure}
 use Rattle.it_verify.specs.declared.failure.Failure.TheVariants.{Refused, OutOfMemory}
-use Rattle.it_verify.specs.declared.refusal.Fault.TheVariants.{RecordMissing, BadRecord}
+use Rattle.it_verify.specs.declared.refusal.Fault.TheVariants.{RecordMissing, BadRecord, RuleFailed}
+use Rattle.it_verify.specs.declared.refusal.Refusal.{Refusal}
 
 -- ---- the links
 -- why a layout does not hold of its links, as a failure of the whole
@@ -42,3 +49,9 @@ IsRecord name None (Err OutOfMemory) = ⊤
 IsRecord name (Some bytes) (Ok link) = IsLinkNamed name bytes link
 IsRecord name (Some bytes) (Err (Refused refusal)) = ((link : Link) → ¬ IsLinkNamed name bytes link) × (refusal ≡ whole (BadRecord name))
 IsRecord name (Some bytes) (Err OutOfMemory) = ⊤
+
+-- ---- the rules of inspections
+-- rules on a side of what the inspection of a name recorded fail, first the one at an index, with a path
+abbrev pub SideFails : Links → List ℕ → Side → List Rule → Link → Refusal → Type 0
+SideFails links name side rules link refusal =
+    (index : ℕ) × (path : List ℕ) × IsFirstFault rules side (recorded_in link) links index path × (refusal ≡ whole (RuleFailed (of_inspection name) side index path))

@@ -10,6 +10,7 @@ mod documents;
 mod encoding;
 mod failure;
 pub mod inputs;
+mod links;
 mod matching;
 mod name;
 pub mod outcome;
@@ -21,6 +22,7 @@ pub mod report_laws;
 #[cfg(test)]
 mod report_tests;
 mod reporting;
+mod rules;
 mod signed;
 mod signing;
 #[cfg(test)]

@@ -1,7 +1,7 @@
 //! What the `MATCH` rules of inspections and of the delivery look at.
 ghost use Rattle.std.specs.Prelude.{◌≡◌, ◌++◌, IfOk, map};
 ghost use Rattle.it_rules.specs.Item.{links_of, recorded_of};
-ghost use Rattle.it_chain.specs.Level.{links_in};
+ghost use Rattle.it_chain.specs.Level.{links_in, recorded_in as recorded_by};
 ghost use Rattle.it_verify.specs.Made.{recorded_in};
 
 use it_chain::chain::StepResult;
@@ -25,7 +25,7 @@ pub(crate) fn named_links<'a>(
 
 fn named_step(step: &StepResult) -> Named<'_>
     ensures name { result.name.now ≡ step.now.name }
-    ensures item { recorded_of result.item ≡ record { materials = step.now.materials; products = step.now.products } }
+    ensures item { recorded_of result.item ≡ recorded_by step.now }
 {
     Named {
         name: step.name.as_str(),

@@ -26,6 +26,7 @@ use Rattle.it_verify.specs.declared.inputs.Inputs.{Inputs}
 use Rattle.it_verify.specs.declared.refusal.Fault.TheVariants.{RecordMissing, BadRecord}
 use Rattle.it_verify.specs.declared.refusal.Refusal.{Refusal}
 use Rattle.it_verify.proofs.Documented.{StandsOr}
+use Rattle.it_verify.proofs.EvidenceClear.{clear_links, clear_records}
 use Rattle.it_verify.proofs.FirstOrAll.{first_or_all, none_at_good}
 use Rattle.it_verify.proofs.OneReading.{read_alike}
 
@@ -38,10 +39,10 @@ module _ (inputs : Inputs) (inspection : Inspection) where
   RecordedOr = ((refusal : Refusal) × RecordFails inputs inspection refusal) ⊎ Recorded
 
   module _ (bytes : List ℕ) (is_first : record_at inspection.name inputs ≡ Some bytes) where
-    some_record : record_at inspection.name inputs ≢ None
+    pub some_record : record_at inspection.name inputs ≢ None
     some_record e = let none : ◌≡◌ {A = Option (List ℕ)} (Some bytes) None = sym is_first ∙ e in cc
 
-    reads_it : (link : Link) → HasRecorded inputs inspection link → LinkOf bytes link
+    pub reads_it : (link : Link) → HasRecorded inputs inspection link → LinkOf bytes link
     reads_it link h = subst (λ b. LinkOf b link) (same_Some h.bytes bytes (sym h.is_first ∙ is_first)) h.reads
 
     of_link : (found : Option Link) → Finds (LinkOf bytes) found → RecordedOr
@@ -76,21 +77,14 @@ records_of inputs (i ∷ is) all =
 module _ (check : Check) (inputs : Inputs) (documents : Documents) (read : ReadAs inputs documents) where
   pub links_or : StandsOr check inputs at_links ((m : List StepResult) × Chain (setting_of check documents) inputs.depth documents.layout inputs.links m)
   links_or = elim (holds_or_fails (setting_of check documents) inputs.depth documents.layout inputs.links) [
-    | inl holds ↦ inr (
-      holds,
-      λ refusal x. chain_excludes (setting_of check documents) inputs.depth documents.layout inputs.links holds.0 x.1 holds.1
-          (read_alike inputs (λ d. ChainFirst (setting_of check d) inputs.depth d.layout inputs.links x.1) x.0 documents x.2 read x.3),
-    )
+    | inl holds ↦ inr (holds, clear_links check inputs documents read holds.0 holds.1)
     | inr fails ↦ inl (refusal_of fails.0, (documents, fails.0, read, fails.1, refl))
   ]
 
   pub records_or : StandsOr check inputs at_records ((links : List Link) × AllZip (HasRecorded inputs) documents.layout.inspections links)
   records_or = elim (first_or_all (RecordFails inputs) (Recorded inputs) (recorded_apart inputs) (recorded_or_fails inputs) documents.layout.inspections) [
     | inl found ↦ inl (found.0, (documents, read, found.1))
-    | inr goods ↦ inr (
-      records_of inputs documents.layout.inspections goods,
-      λ refusal x. none_first (RecordFails inputs) documents.layout.inspections refusal
-          (none_at_good (RecordFails inputs) (Recorded inputs) (recorded_apart inputs) documents.layout.inspections goods)
-          (read_alike inputs (λ (d : Documents). IsFirst (RecordFails inputs) d.layout.inspections refusal) x.0 documents x.1 read x.2),
-    )
+    | inr goods ↦
+        let records = records_of inputs documents.layout.inspections goods in
+        inr (records, clear_records check inputs documents read records.0 records.1)
   ]

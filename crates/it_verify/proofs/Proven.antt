@@ -26,6 +26,7 @@ use Rattle.it_verify.specs.declared.inputs.Inputs.{Inputs}
 use Rattle.it_verify.specs.declared.refusal.Fault.TheVariants.{NoExpectation, NoProvenance}
 use Rattle.it_verify.specs.declared.refusal.Refusal.{Refusal}
 use Rattle.it_verify.proofs.Documented.{StandsOr}
+use Rattle.it_verify.proofs.EvidenceClear.{file_apart, clear_provenance}
 use Rattle.it_verify.proofs.FirstOrAll.{first_or_all, none_at_good}
 use Rattle.it_verify.proofs.OneReading.{read_alike}
 
@@ -58,11 +59,6 @@ module _ (check : Check) (inputs : Inputs) (expectations : List Expectation) whe
     ]
   ]
 
-  proven_apart : (file : List ℕ × DigestSet) → IsProven file → (refusal : Refusal) → ¬ FileFails check inputs expectations file refusal
-  proven_apart file has refusal =
-      ⊎_elim (λ x. x.0 has.expectation has.fits)
-      (λ x. x.2 has.envelope has.is_line (subst (λ e. Meets check e file.1 has.envelope) (fits_one expectations file.0 has.expectation x.0 has.fits x.1) has.meets))
-
 -- ---- the place
 module _ (check : Check) (inputs : Inputs) (documents : Documents) (read : ReadAs inputs documents) where
   abbrev AllProven : Type 0
@@ -72,12 +68,10 @@ module _ (check : Check) (inputs : Inputs) (documents : Documents) (read : ReadA
   provenance_or =
       let fails = FileFails check inputs documents.policy.expectations in
       let proven = IsProven check inputs documents.policy.expectations in
-      let apart = proven_apart check inputs documents.policy.expectations in
+      let apart = file_apart check inputs documents.policy.expectations in
       elim (first_or_all fails proven apart (proven_or_fails check inputs documents.policy.expectations) (entries documents.delivered)) [
         | inl found ↦ inl (found.0, (documents, read, found.1))
-        | inr goods ↦ inr (
-          λ path digests known. All-contains proven (entries documents.delivered) (path, digests) goods (known_entry documents.delivered path digests known),
-          λ refusal x. none_first fails (entries documents.delivered) refusal (none_at_good fails proven apart (entries documents.delivered) goods)
-              (read_alike inputs (λ (d : Documents). IsFirst (FileFails check inputs d.policy.expectations) (entries d.delivered) refusal) x.0 documents x.1 read x.2),
-        )
+        | inr goods ↦
+            let all : AllProven = λ path digests known. All-contains proven (entries documents.delivered) (path, digests) goods (known_entry documents.delivered path digests known) in
+            inr (all, clear_provenance check inputs documents read all)
       ]

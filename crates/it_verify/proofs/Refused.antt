@@ -22,30 +22,9 @@ use Rattle.it_verify.specs.Made.{Evidence, HasRecorded, InspectionRulesHold, IsM
 use Rattle.it_verify.specs.declared.inputs.Inputs.{Inputs}
 use Rattle.it_verify.specs.declared.refusal.Refusal.{Refusal}
 use Rattle.it_verify.proofs.DocumentsRead.{clear_policy, clear_sums, clear_moment, clear_files, clear_envelope, clear_type, clear_owners, clear_layout}
-use Rattle.it_verify.proofs.OneReading.{read_alike, evident_alike}
+use Rattle.it_verify.proofs.EvidenceClear.{clear_links, clear_records, clear_inspections, clear_deliver, clear_provenance}
 
 module _ (check : Check) (inputs : Inputs) (documents : Documents) (evidence : Evidence) (made : IsMadeBy check inputs documents evidence) where
-  no_record : (inspections : List Inspection) (links : List Link) → AllZip (HasRecorded inputs) inspections links → NoneAt (RecordFails inputs) inspections
-  no_record [] links h = tt
-  no_record (i ∷ is) [] h = absurd h
-  no_record (i ∷ is) (l ∷ ls) h = (λ refusal. ⊎_elim (λ x. absurd (let none : ◌≡◌ {A = Option (List ℕ)} (Some h.0.bytes) None = sym h.0.is_first ∙ x.0 in cc)) (λ x. x.1 l h.0), no_record is ls h.1)
-
-  no_rule : (inspections : List Inspection) (links : List Link) → AllZip (InspectionRulesHold (links_of evidence)) inspections links
-      → NoneAt (InspectionFails (links_of evidence)) (flat_map sides_of (zip inspections links))
-  no_rule [] links h = tt
-  no_rule (i ∷ is) [] h = absurd h
-  no_rule (i ∷ is) (l ∷ ls) h = (λ refusal x. x.2.fails (h.0 Materials x.0), (λ refusal x. x.2.fails (h.0 Products x.0), no_rule is ls h.1))
-
-  no_file : (files : List (List ℕ × DigestSet)) → ((file : List ℕ × DigestSet) → Contains files file → get documents.delivered file.0 ≡ Some file.1)
-      → NoneAt (FileFails check inputs documents.policy.expectations) files
-  no_file [] known = tt
-  no_file (f ∷ fs) known =
-      let has = made.provenance f.0 f.1 (known f (in_head f fs)) in (
-        λ refusal. ⊎_elim (λ x. x.0 has.expectation has.fits)
-            (λ x. x.2 has.envelope has.is_line (subst (λ e. Meets check e f.1 has.envelope) (fits_one documents.policy.expectations f.0 has.expectation x.0 has.fits x.1) has.meets)),
-        no_file fs (λ file c. known file (in_tail f fs file c)),
-      )
-
   pub none_stands : (place : Place) (refusal : Refusal) → ¬ Stands check inputs place refusal
   none_stands at_policy refusal x = clear_policy check inputs documents.policy made.read.policy refusal x
   none_stands at_sums refusal x = clear_sums check inputs documents.delivered made.read.delivered refusal x
@@ -55,22 +34,11 @@ module _ (check : Check) (inputs : Inputs) (documents : Documents) (evidence : E
   none_stands at_payload_type refusal x = clear_type check inputs documents.envelope made.read.envelope made.read.payload_type refusal x
   none_stands at_owners refusal x = clear_owners check inputs documents.envelope made.read.envelope documents.policy made.read.policy made.owners refusal x
   none_stands at_layout refusal x = clear_layout check inputs documents.envelope made.read.envelope documents.layout made.read.layout refusal x
-  none_stands at_links refusal x =
-      chain_excludes (setting_of check documents) inputs.depth documents.layout inputs.links evidence.steps x.1 made.is_evidence.steps
-      (read_alike inputs (λ d. ChainFirst (setting_of check d) inputs.depth d.layout inputs.links x.1) x.0 documents x.2 made.read x.3)
-  none_stands at_records refusal x =
-      none_first (RecordFails inputs) documents.layout.inspections refusal (no_record documents.layout.inspections evidence.inspections made.is_evidence.inspections)
-      (read_alike inputs (λ d. IsFirst (RecordFails inputs) d.layout.inspections refusal) x.0 documents x.1 made.read x.2)
-  none_stands at_inspections refusal x =
-      none_first (InspectionFails (links_of evidence)) (flat_map sides_of (zip documents.layout.inspections evidence.inspections)) refusal
-      (no_rule documents.layout.inspections evidence.inspections made.inspection_rules)
-      (evident_alike check inputs (λ d e. IsFirst (InspectionFails (links_of e)) (flat_map sides_of (zip d.layout.inspections e.inspections)) refusal) x.0 documents x.1 evidence x.2 made.read x.3 made.is_evidence x.4)
-  none_stands at_deliver refusal x =
-      (evident_alike check inputs (λ d e. IsFirstFault d.policy.deliver Products (delivery d.delivered) (links_of e) x.2 x.3) x.0 documents x.1 evidence x.4 made.read x.5 made.is_evidence x.6).fails (made.deliver_rules x.2)
-  none_stands at_provenance refusal x =
-      none_first (FileFails check inputs documents.policy.expectations) (entries documents.delivered) refusal
-      (no_file (entries documents.delivered) (entry_known documents.delivered))
-      (read_alike inputs (λ d. IsFirst (FileFails check inputs d.policy.expectations) (entries d.delivered) refusal) x.0 documents x.1 made.read x.2)
+  none_stands at_links refusal x = clear_links check inputs documents made.read evidence.steps made.is_evidence.steps refusal x
+  none_stands at_records refusal x = clear_records check inputs documents made.read evidence.inspections made.is_evidence.inspections refusal x
+  none_stands at_inspections refusal x = clear_inspections check inputs documents made.read evidence made.is_evidence made.inspection_rules refusal x
+  none_stands at_deliver refusal x = clear_deliver check inputs documents made.read evidence made.is_evidence made.deliver_rules refusal x
+  none_stands at_provenance refusal x = clear_provenance check inputs documents made.read made.provenance refusal x
 
   none_at : (some : List Place) → NoneAt (Stands check inputs) some
   none_at [] = tt

@@ -20,6 +20,7 @@ use Rattle.it_verify.specs.declared.inputs.Inputs.{Inputs}
 use Rattle.it_verify.specs.declared.refusal.Fault.TheVariants.{RuleFailed}
 use Rattle.it_verify.specs.declared.refusal.Refusal.{Refusal}
 use Rattle.it_verify.proofs.Documented.{StandsOr}
+use Rattle.it_verify.proofs.EvidenceClear.{clear_deliver, clear_inspections}
 use Rattle.it_verify.proofs.FirstOrAll.{first_or_all, none_at_good}
 use Rattle.it_verify.proofs.OneReading.{evident_alike}
 
@@ -62,12 +63,9 @@ module _ (check : Check) (inputs : Inputs) (documents : Documents) (read : ReadA
   pub inspections_or : StandsOr check inputs at_inspections (AllZip (InspectionRulesHold (links_of evidence)) documents.layout.inspections evidence.inspections)
   inspections_or = elim (first_or_all (InspectionFails (links_of evidence)) (SideHolds (links_of evidence)) (side_apart (links_of evidence)) (side_or_fails (links_of evidence)) (judged_in documents evidence)) [
     | inl found ↦ inl (found.0, (documents, evidence, read, is_evidence, found.1))
-    | inr goods ↦ inr (
-      both_sides (links_of evidence) documents.layout.inspections evidence.inspections (HasRecorded inputs) is_evidence.inspections goods,
-      λ refusal x. none_first (InspectionFails (links_of evidence)) (judged_in documents evidence) refusal
-          (none_at_good (InspectionFails (links_of evidence)) (SideHolds (links_of evidence)) (side_apart (links_of evidence)) (judged_in documents evidence) goods)
-          (evident_alike check inputs (λ d e. IsFirst (InspectionFails (links_of e)) (judged_in d e) refusal) x.0 documents x.1 evidence x.2 read x.3 is_evidence x.4),
-    )
+    | inr goods ↦
+        let rules = both_sides (links_of evidence) documents.layout.inspections evidence.inspections (HasRecorded inputs) is_evidence.inspections goods in
+        inr (rules, clear_inspections check inputs documents read evidence is_evidence rules)
   ]
 
   abbrev DeliveryHolds : Type 0
@@ -81,4 +79,4 @@ module _ (check : Check) (inputs : Inputs) (documents : Documents) (read : ReadA
     where
       go : (fault : Option (ℕ × List ℕ)) → MatchOption fault DeliveryHolds (λ f. DeliveryFails documents evidence f.0 f.1) → StandsOr check inputs at_deliver DeliveryHolds
       go (Some f) h = inl (whole (RuleFailed Deliver Products f.0 f.1), (documents, evidence, f.0, f.1, read, is_evidence, h, refl))
-      go None h = inr (h, λ refusal x. (evident_alike check inputs (λ d e. DeliveryFails d e x.2 x.3) x.0 documents x.1 evidence x.4 read x.5 is_evidence x.6).fails (h x.2))
+      go None h = inr (h, clear_deliver check inputs documents read evidence is_evidence h)

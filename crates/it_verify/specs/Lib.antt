@@ -4,6 +4,7 @@ pub mod Digesting
 pub mod Documents
 pub mod Fault
 pub mod First
+pub mod Gathering
 pub mod Made
 pub mod Matching
 pub mod Name
@@ -12,6 +13,7 @@ pub mod Report
 pub mod ReportLaws
 pub mod Signed
 pub mod Signing
+pub mod Verdict
 pub mod Walk
 pub mod WholeLaws
 pub mod Words

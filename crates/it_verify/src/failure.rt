@@ -6,7 +6,7 @@ ghost use Rattle.it_verify.specs.declared.failure.Failure.TheVariants.{OutOfMemo
 use crate::refusal::{Fault, Refusal};
 use it_base::sequence::Sequence;
 use it_base::text::Text;
-use std::alloc::{AllocError, Global};
+use std::alloc::{AllocError, AllocFailed, Global};
 
 /// Why a verification stops before it accepts.
 #[derive(Drop)]
@@ -21,6 +21,14 @@ impl From<AllocError> for Failure {
     ghost from_gives = { λ _ e. e ≡ OutOfMemory };
 
     fn from(_e: AllocError) -> Failure {
+        Failure::OutOfMemory
+    }
+}
+
+impl<T: Drop> From<AllocFailed<T>> for Failure {
+    ghost from_gives = { λ _ e. e ≡ OutOfMemory };
+
+    fn from(_e: AllocFailed<T>) -> Failure {
         Failure::OutOfMemory
     }
 }

@@ -2,6 +2,7 @@
 //! verification rests on and comes to, with its report.
 #![tactic(auto)]
 
+mod chain_refusal;
 #[cfg(test)]
 mod command_tests;
 mod digesting;
@@ -9,21 +10,25 @@ mod documents;
 mod encoding;
 mod failure;
 pub mod inputs;
+mod links;
 mod matching;
 mod name;
 pub mod outcome;
 mod output;
 mod owners;
+mod records;
 pub mod refusal;
 pub mod report_laws;
 #[cfg(test)]
 mod report_tests;
 mod reporting;
+mod rules;
 mod signed;
 mod signing;
 #[cfg(test)]
 mod tests;
 pub mod verdict;
+mod whole;
 pub mod whole_laws;
 pub mod words;
 
@@ -33,3 +38,4 @@ pub use matching::run_match;
 pub use reporting::report;
 pub use signed::run_signed;
 pub use signing::run_sign;
+pub use whole::verify;

@@ -1,0 +1,85 @@
+-- Nothing stands at the place of the links, the records, the rules or the provenance where these are as
+-- they must be.
+use Rattle.std.proofs.Common.{◌≡◌, ℕ, List, [], ◌∷◌, flat_map, zip, Contains, Some, None, Option, sym, subst, ◌∙◌, ⊎_elim}
+use Rattle.std.specs.List.{AllZip}
+use Rattle.std.specs.FinMap.{entries, get}
+use Rattle.it_digest.specs.declared.compare.DigestSet.{DigestSet}
+use Rattle.it_dsse.specs.Check.{Check}
+use Rattle.it_docs.specs.declared.link.Link.{Link}
+use Rattle.it_docs.specs.declared.policy.Expectation.{Expectation}
+use Rattle.it_docs.specs.declared.rule.Side.TheVariants.{Materials, Products}
+use Rattle.it_docs.specs.declared.step.Inspection.{Inspection}
+use Rattle.it_rules.specs.Item.{Links}
+use Rattle.it_rules.specs.Rules.{IsFirstFault, RulesHold}
+use Rattle.it_chain.specs.Chain.{Chain}
+use Rattle.it_chain.specs.First.{First as ChainFirst, IsFirst}
+use Rattle.it_chain.specs.Walk.{NoneAt}
+use Rattle.it_chain.specs.declared.chain.StepResult.{StepResult}
+use Rattle.it_chain.proofs.Entries.{entry_known}
+use Rattle.it_chain.proofs.Excludes.{chain_excludes}
+use Rattle.it_chain.proofs.Firsts.{none_first}
+use Rattle.it_base.proofs.Members.{in_head, in_tail}
+use Rattle.it_prov.specs.Meets.{Meets}
+use Rattle.it_prov.proofs.OneFit.{fits_one}
+use Rattle.it_verify.specs.Documents.{Documents, ReadAs, setting_of}
+use Rattle.it_verify.specs.First.{at_links, at_records, at_inspections, at_deliver, at_provenance, RecordFails, InspectionFails, FileFails, Stands, sides_of}
+use Rattle.it_verify.specs.Made.{Evidence, HasProvenance, HasRecorded, InspectionRulesHold, IsEvidence, delivery, links_of}
+use Rattle.it_verify.specs.declared.inputs.Inputs.{Inputs}
+use Rattle.it_verify.specs.declared.refusal.Refusal.{Refusal}
+use Rattle.it_verify.proofs.DocumentsRead.{Clear}
+use Rattle.it_verify.proofs.OneReading.{read_alike, evident_alike}
+
+-- no inspection lacks its record
+pub no_record : (inputs : Inputs) (inspections : List Inspection) (links : List Link) → AllZip (HasRecorded inputs) inspections links → NoneAt (RecordFails inputs) inspections
+no_record inputs [] links h = tt
+no_record inputs (i ∷ is) [] h = absurd h
+no_record inputs (i ∷ is) (l ∷ ls) h =
+    (λ refusal. ⊎_elim (λ x. absurd (let none : ◌≡◌ {A = Option (List ℕ)} (Some h.0.bytes) None = sym h.0.is_first ∙ x.0 in cc)) (λ x. x.1 l h.0), no_record inputs is ls h.1)
+
+-- no rule of an inspection fails
+no_rule : (links : Links) (inspections : List Inspection) (given : List Link) → AllZip (InspectionRulesHold links) inspections given → NoneAt (InspectionFails links) (flat_map sides_of (zip inspections given))
+no_rule links [] given h = tt
+no_rule links (i ∷ is) [] h = absurd h
+no_rule links (i ∷ is) (l ∷ ls) h = (λ refusal x. x.2.fails (h.0 Materials x.0), (λ refusal x. x.2.fails (h.0 Products x.0), no_rule links is ls h.1))
+
+-- a file that has provenance does not lack it
+pub file_apart : (check : Check) (inputs : Inputs) (expectations : List Expectation) (file : List ℕ × DigestSet) → HasProvenance check inputs expectations file.0 file.1
+    → (refusal : Refusal) → ¬ FileFails check inputs expectations file refusal
+file_apart check inputs expectations file has refusal =
+    ⊎_elim (λ x. x.0 has.expectation has.fits)
+    (λ x. x.2 has.envelope has.is_line (subst (λ e. Meets check e file.1 has.envelope) (fits_one expectations file.0 has.expectation x.0 has.fits x.1) has.meets))
+
+no_file : (check : Check) (inputs : Inputs) (expectations : List Expectation) (files : List (List ℕ × DigestSet))
+    → ((file : List ℕ × DigestSet) → Contains files file → HasProvenance check inputs expectations file.0 file.1) → NoneAt (FileFails check inputs expectations) files
+no_file check inputs expectations [] has = tt
+no_file check inputs expectations (f ∷ fs) has =
+    (file_apart check inputs expectations f (has f (in_head f fs)), no_file check inputs expectations fs (λ file c. has file (in_tail f fs file c)))
+
+module _ (check : Check) (inputs : Inputs) (documents : Documents) (read : ReadAs inputs documents) where
+  pub clear_links : (m : List StepResult) → Chain (setting_of check documents) inputs.depth documents.layout inputs.links m → Clear check inputs at_links
+  clear_links m holds refusal x =
+      chain_excludes (setting_of check documents) inputs.depth documents.layout inputs.links m x.1 holds
+      (read_alike inputs (λ d. ChainFirst (setting_of check d) inputs.depth d.layout inputs.links x.1) x.0 documents x.2 read x.3)
+
+  pub clear_records : (links : List Link) → AllZip (HasRecorded inputs) documents.layout.inspections links → Clear check inputs at_records
+  clear_records links h refusal x =
+      none_first (RecordFails inputs) documents.layout.inspections refusal (no_record inputs documents.layout.inspections links h)
+      (read_alike inputs (λ d. IsFirst (RecordFails inputs) d.layout.inspections refusal) x.0 documents x.1 read x.2)
+
+  pub clear_provenance : ((path : List ℕ) (digests : DigestSet) → get documents.delivered path ≡ Some digests → HasProvenance check inputs documents.policy.expectations path digests)
+      → Clear check inputs at_provenance
+  clear_provenance has refusal x =
+      none_first (FileFails check inputs documents.policy.expectations) (entries documents.delivered) refusal
+      (no_file check inputs documents.policy.expectations (entries documents.delivered) (λ file c. has file.0 file.1 (entry_known documents.delivered file c)))
+      (read_alike inputs (λ d. IsFirst (FileFails check inputs d.policy.expectations) (entries d.delivered) refusal) x.0 documents x.1 read x.2)
+
+  module _ (evidence : Evidence) (is_evidence : IsEvidence check inputs documents evidence) where
+    pub clear_inspections : AllZip (InspectionRulesHold (links_of evidence)) documents.layout.inspections evidence.inspections → Clear check inputs at_inspections
+    clear_inspections h refusal x =
+        none_first (InspectionFails (links_of evidence)) (flat_map sides_of (zip documents.layout.inspections evidence.inspections)) refusal
+        (no_rule (links_of evidence) documents.layout.inspections evidence.inspections h)
+        (evident_alike check inputs (λ d e. IsFirst (InspectionFails (links_of e)) (flat_map sides_of (zip d.layout.inspections e.inspections)) refusal) x.0 documents x.1 evidence x.2 read x.3 is_evidence x.4)
+
+    pub clear_deliver : RulesHold documents.policy.deliver Products (delivery documents.delivered) (links_of evidence) → Clear check inputs at_deliver
+    clear_deliver h refusal x =
+        (evident_alike check inputs (λ d e. IsFirstFault d.policy.deliver Products (delivery d.delivered) (links_of e) x.2 x.3) x.0 documents x.1 evidence x.4 read x.5 is_evidence x.6).fails (h x.2)

@@ -1,3 +1,4 @@
+pub mod Asking
 pub mod Attesting
 pub mod Entries
 pub mod Fitting

@@ -1,3 +1,4 @@
+pub mod Cost
 pub mod Finding
 pub mod Fits
 pub mod Judged

@@ -1,6 +1,8 @@
 //! The search for the provenance of a delivered file.
-ghost use Rattle.std.specs.Prelude.{◌≡◌, IfErr, IfOk};
+ghost use Rattle.std.specs.Prelude.{◌≡◌, ◌*◌, ◌≤◌, IfErr, IfOk, OnOk};
+ghost use Rattle.it_prov.specs.Cost.{RaisedBy, key_count, signature_count};
 ghost use Rattle.it_prov.specs.Finding.{IsFound, IsMissing, NoneFits};
+ghost use Rattle.it_prov.specs.Fits.{Fits};
 
 use crate::fault::ProvError;
 use crate::fits::fitting;
@@ -20,7 +22,8 @@ use std::alloc::{AllocError, Global};
 /// matches the path speaks of the file, and no other. An envelope meets it where one of its builders
 /// signed the envelope, and the payload is a Statement with provenance that names this builder, with
 /// the build type and the parameters that are expected, and a subject of which agrees with the
-/// digests. Each signature is checked by `check`, which counts in `meter`.
+/// digests. Each signature is checked by `check`, which counts in `meter`: at most once for each key
+/// of the expected builders and each signature.
 ///
 /// # Errors
 ///
@@ -43,6 +46,11 @@ pub fn find_provenance(
     ensures no_provenance { IfErr result (λ e. (named : _) → e ≡ ProvError.NoProvenance named
         → (named ≡ path.now)
         × IsMissing (meaning check.now) expectations.now path.now digests envelopes.now) }
+    ensures at_most { (expectation : _) → Fits expectations.now path.now expectation
+        → RaisedBy (λ n. n ≤ key_count expectation.builders * signature_count envelopes.now)
+        meter.old meter.new }
+    ensures unasked { NoneFits expectations.now path.now → meter.new ≡ meter.old }
+    ensures at_least { OnOk result (RaisedBy (λ n. 1 ≤ n) meter.old meter.new) }
 {
     let Some(expectation) = fitting(expectations, path) else {
         return Err(ProvError::NoExpectation(text_of(alloc, path)?));

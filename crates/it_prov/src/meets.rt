@@ -1,5 +1,6 @@
 //! Which envelopes meet an expectation.
-ghost use Rattle.std.specs.Prelude.{◌≡◌, ◌↔◌, IfOk, IsTrue, MatchOption};
+ghost use Rattle.std.specs.Prelude.{◌≡◌, ◌↔◌, ◌*◌, ◌≤◌, IfOk, IsSome, IsTrue, MatchOption, length};
+ghost use Rattle.it_prov.specs.Cost.{RaisedBy, key_count, signature_count};
 ghost use Rattle.it_prov.specs.Finding.{IsFirstToMeet, NoneMeets};
 ghost use Rattle.it_prov.specs.Judged.{HasNames, IsExpected};
 ghost use Rattle.it_prov.specs.Meets.{Meets};
@@ -28,6 +29,10 @@ pub(crate) fn first_to_meet(
     ensures answer { IfOk result (λ found. MatchOption found
         (NoneMeets (meaning check.now) expectation.now digests.now envelopes.now)
         (IsFirstToMeet (meaning check.now) expectation.now digests.now envelopes.now)) }
+    ensures at_most { RaisedBy (λ n. n
+        ≤ key_count expectation.now.builders * signature_count envelopes.now) meter.old meter.new }
+    ensures at_least { IfOk result (λ found. IsSome found
+        → RaisedBy (λ n. 1 ≤ n) meter.old meter.new) }
 {
     let ignored = set_of(alloc, expectation.ignore.as_slice())?;
     for (index, envelope) in envelopes.iter().enumerate() {
@@ -59,6 +64,11 @@ fn meets(
     requires { HasNames expectation.now.ignore ignored.now }
     ensures answer { IfOk result (λ met. IsTrue met
         ↔ Meets (meaning check.now) expectation.now digests.now envelope.now) }
+    ensures at_most { RaisedBy (λ n. n
+        ≤ key_count expectation.now.builders * length envelope.now.signatures)
+        meter.old meter.new }
+    ensures at_least { IfOk result (λ met. IsTrue met
+        → RaisedBy (λ n. 1 ≤ n) meter.old meter.new) }
 {
     let Some(provenance) = attested(alloc, envelope, digests)? else {
         return Ok(false);

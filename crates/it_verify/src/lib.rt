@@ -23,6 +23,8 @@ mod tests;
 pub mod verdict;
 pub mod whole_laws;
 pub mod words;
+#[cfg(test)]
+mod words_tests;
 
 pub use digesting::{check_name, run_digest};
 pub use encoding::run_pae;

@@ -129,6 +129,7 @@ fn shown(alloc: Global, words: &Words) -> Result<String, AllocError> {
             }
             Ok(all)
         }
+        Words::Verify(_) => String::from_str(alloc, "verify"),
     }
 }
 

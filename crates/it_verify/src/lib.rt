@@ -31,6 +31,8 @@ pub mod verdict;
 mod whole;
 pub mod whole_laws;
 pub mod words;
+#[cfg(test)]
+mod words_tests;
 
 pub use digesting::{check_name, run_digest};
 pub use encoding::run_pae;

@@ -37,6 +37,10 @@ fn run<R: Env + Files + Print + AllocGlobal>(rt: &R) -> Result<Status, Fault> {
         Words::Pae(words) => encoding::run(rt, &words),
         Words::Sign(words) => signing::run(rt, &words),
         Words::Digest(words) => digesting::run(rt, &words),
+        Words::Verify(_) => Err(Fault::Words(String::from_str(
+            rt.alloc(),
+            "verify is not here yet",
+        )?)),
     }
 }
 

@@ -16,6 +16,7 @@ mod name;
 pub mod outcome;
 mod output;
 mod owners;
+mod provenance;
 mod records;
 pub mod refusal;
 pub mod report_laws;

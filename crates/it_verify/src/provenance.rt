@@ -25,10 +25,7 @@ use std::alloc::{AllocError, Global};
 /// # Errors
 ///
 /// `AllocError` where memory was refused.
-pub(crate) fn envelopes_in(
-    alloc: Global,
-    provenance: &[u8],
-) -> Result<Vec<Envelope>, AllocError>
+pub(crate) fn envelopes_in(alloc: Global, provenance: &[u8]) -> Result<Vec<Envelope>, AllocError>
     ensures envelopes { IfOk result (λ envelopes. AreRead (lines_of provenance.now) envelopes.items) }
 {
     let mut envelopes = Vec::new(alloc);
@@ -65,7 +62,15 @@ pub(crate) fn find_each(
         (RefusedAs (IsFirst (FileLacks (meaning check.now) expectations.now envelopes.now) (entries delivered.now))) }
 {
     for (path, digests) in delivered.iter() {
-        find_one(alloc, path.as_str(), *digests, expectations, envelopes, check, meter)?;
+        find_one(
+            alloc,
+            path.as_str(),
+            *digests,
+            expectations,
+            envelopes,
+            check,
+            meter,
+        )?;
     }
     Ok(())
 }

@@ -69,8 +69,9 @@ pub fn read_sums(alloc: Global, bytes: &[u8]) -> Result<Artifacts, SumsFault>
     Ok(sums)
 }
 
-/// The first line, without its line feed, and what follows it.
-fn split_line(text: &[u8]) -> (&[u8], &[u8])
+/// The first line of a text that is not empty, without its line feed, and what follows it. Takes no
+/// memory.
+pub fn split_line(text: &[u8]) -> (&[u8], &[u8])
     requires { 0 < length text.now }
     ensures lines { lines_of text.now ≡ result.0.now ∷ lines_of result.1.now }
     ensures shorter { length result.1.now < length text.now }

@@ -7,10 +7,13 @@ use Rattle.std.specs.Cmp.Lexicographic.{slice_cmp}
 use Rattle.std.specs.List.{find}
 use Rattle.std.specs.Ordering.{nat_cmp}
 use Rattle.std.specs.Str.{bytes_eq}
+use Rattle.it_digest.specs.declared.compare.DigestSet.{DigestSet}
+use Rattle.it_dsse.specs.Check.{Check}
 use Rattle.it_dsse.specs.Envelope.{EnvelopeOf}
 use Rattle.it_dsse.specs.declared.envelope.Envelope.{Envelope}
 use Rattle.it_docs.specs.Link.{LinkOf}
 use Rattle.it_docs.specs.declared.link.Link.{Link}
+use Rattle.it_docs.specs.declared.policy.Expectation.{Expectation}
 use Rattle.it_docs.specs.declared.rule.Rule.{Rule}
 use Rattle.it_docs.specs.declared.rule.Side.{Side}
 use Rattle.it_rules.specs.Item.{Links}
@@ -18,11 +21,12 @@ use Rattle.it_rules.specs.Rules.{IsFirstFault}
 use Rattle.it_chain.specs.declared.refusal.ChainError.{ChainError}
 use Rattle.it_chain.specs.declared.refusal.ChainError.TheVariants as chain
 use Rattle.it_chain.specs.declared.refusal.RuleItem.TheVariants.{Inspection as of_inspection}
+use Rattle.it_prov.specs.Finding.{IsFound, IsMissing, NoneFits}
 use Rattle.it_verify.specs.First.{refusal_of, whole}
 use Rattle.it_verify.specs.Made.{recorded_in}
 use Rattle.it_verify.specs.declared.failure.Failure.{Failure}
 use Rattle.it_verify.specs.declared.failure.Failure.TheVariants.{Refused, OutOfMemory}
-use Rattle.it_verify.specs.declared.refusal.Fault.TheVariants.{RecordMissing, BadRecord, RuleFailed}
+use Rattle.it_verify.specs.declared.refusal.Fault.TheVariants.{RecordMissing, BadRecord, RuleFailed, NoExpectation, NoProvenance}
 use Rattle.it_verify.specs.declared.refusal.Refusal.{Refusal}
 
 -- ---- the links
@@ -55,3 +59,22 @@ IsRecord name (Some bytes) (Err OutOfMemory) = ⊤
 abbrev pub SideFails : Links → List ℕ → Side → List Rule → Link → Refusal → Type 0
 SideFails links name side rules link refusal =
     (index : ℕ) × (path : List ℕ) × IsFirstFault rules side (recorded_in link) links index path × (refusal ≡ whole (RuleFailed (of_inspection name) side index path))
+
+-- ---- provenance
+-- the envelopes that lines read as, in their order; a line that reads as none is passed over
+abbrev pub AreRead : List (List ℕ) → List Envelope → Type 0
+AreRead [] envelopes = envelopes ≡ []
+AreRead (line ∷ lines) envelopes =
+    ((envelope : Envelope) × (rest : List Envelope) × EnvelopeOf line envelope × (envelopes ≡ envelope ∷ rest) × AreRead lines rest)
+    ⊎ (((envelope : Envelope) → ¬ EnvelopeOf line envelope) × AreRead lines envelopes)
+
+module _ (check : Check) (expectations : List Expectation) (envelopes : List Envelope) where
+  -- one of the envelopes meets the expectation that speaks of a file
+  abbrev pub FileProven : List ℕ × DigestSet → Type 0
+  FileProven file = (index : ℕ) × IsFound check expectations file.0 file.1 envelopes index
+
+  -- no expectation speaks of a file, or none of the envelopes meets the one that does
+  abbrev pub FileLacks : List ℕ × DigestSet → Refusal → Type 0
+  FileLacks file refusal =
+      (NoneFits expectations file.0 × (refusal ≡ whole (NoExpectation file.0)))
+      ⊎ (IsMissing check expectations file.0 file.1 envelopes × (refusal ≡ whole (NoProvenance file.0)))

@@ -20,18 +20,13 @@ use Rattle.it_rules.specs.Item.{Recorded, Links}
 use Rattle.it_rules.specs.Rules.{RulesHold}
 use Rattle.it_chain.specs.Chain.{Chain}
 use Rattle.it_chain.specs.Level.{links_in}
-use Rattle.it_chain.specs.declared.chain.StepResult.{StepResult}
 use Rattle.it_prov.specs.Fits.{Fits}
 use Rattle.it_prov.specs.Meets.{Meets}
 use Rattle.it_verify.specs.Documents.{Documents, ReadAs, IsProvenanceLine, record_at, setting_of}
+pub use Rattle.it_verify.specs.declared.evidence.Evidence.{Evidence}
 use Rattle.it_verify.specs.declared.inputs.Inputs.{Inputs}
 use Rattle.it_verify.specs.declared.verdict.Verdict.{Verdict}
 use Rattle.it_verify.specs.declared.verdict.Verdict.TheVariants.{Accepted}
-
--- what the steps of the layout and its inspections recorded
-pub record Evidence : Type 0 where
-  pub steps : List StepResult
-  pub inspections : List Link
 
 -- an inspection recorded this: the first record of its name is a link of that name. Nobody here runs
 -- inspections (this profile's choice)

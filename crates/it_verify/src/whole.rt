@@ -1,11 +1,23 @@
 //! Whether a delivery is accepted.
-ghost use Rattle.std.specs.Prelude.{◌≤◌, IfOk};
-ghost use Rattle.it_verify.specs.Made.{Made};
+ghost use Rattle.std.specs.Prelude.{◌≡◌, ◌≤◌, IfOk, MatchResult, map};
+ghost use Rattle.std.specs.FinMap.{keys};
+ghost use Rattle.it_verify.specs.First.{First};
+ghost use Rattle.it_verify.specs.Made.{Made, verdict_of};
 ghost use Rattle.it_verify.specs.Verdict.{IsVerdict, OnAccepted, OnRefused};
+ghost use Rattle.it_verify.specs.Walk.{RefusedAs};
 
+use crate::documents::{Documents, read_documents};
+use crate::evidence::{Evidence, gather};
+use crate::failure::Failure;
 use crate::inputs::Inputs;
-use crate::verdict::Answer;
+use crate::judging::judge;
+use crate::verdict::{Answer, Verdict};
+use it_base::sequence::Sequence;
+use it_base::text::Text;
+use it_chain::chain::StepResult;
+use it_digest::artifacts::Artifacts;
 use it_dsse::check::SignatureCheck;
+use it_dsse::meter::Meter;
 use std::alloc::{AllocError, Global};
 
 /// Verifies delivered files (in-toto 1.0 section 5.2; SLSA v1.0, verifying artifacts): were they made
@@ -30,5 +42,66 @@ pub fn verify(
     ensures accepted { IfOk result (λ answer. OnAccepted answer.verdict (Made (meaning check.now) inputs.now)) }
     ensures refused { IfOk result (λ answer. OnRefused answer.verdict (¬ Made (meaning check.now) inputs.now)) }
 {
-    Err(AllocError)
+    let mut meter = Meter { asked: 0 };
+    let verdict = match accepted(alloc, inputs, check, &mut meter) {
+        Ok(verdict) => verdict,
+        Err(Failure::Refused(refusal)) => Verdict::Refused(refusal),
+        Err(Failure::OutOfMemory) => return Err(AllocError),
+    };
+    Ok(Answer {
+        verdict,
+        asked: meter.asked,
+    })
+}
+
+/// The verdict on inputs, where it accepts.
+fn accepted(
+    alloc: Global,
+    inputs: &Inputs,
+    check: &Box<dyn SignatureCheck>,
+    meter: &mut Meter,
+) -> Result<Verdict, Failure>
+    requires { inputs.now.depth ≤ 8 }
+    ensures verdict { MatchResult result (IsVerdict (meaning check.now) inputs.now)
+        (RefusedAs (First (meaning check.now) inputs.now)) }
+{
+    let documents = read_documents(alloc, inputs, check, meter)?;
+    let evidence = gather(alloc, inputs, &documents, check, meter)?;
+    judge(alloc, inputs, &documents, &evidence, check, meter)?;
+    Ok(verdict_of(alloc, &documents.delivered, evidence)?)
+}
+
+/// The verdict that accepts what was delivered with this evidence.
+fn verdict_of(
+    alloc: Global,
+    delivered: &Artifacts,
+    evidence: Evidence,
+) -> Result<Verdict, AllocError>
+    ensures verdict { IfOk result (λ verdict. verdict ≡ Verdict.Accepted
+        (map (λ result. (result.name, result.keys)) evidence.steps) (keys delivered.now)) }
+{
+    Ok(Verdict::Accepted {
+        steps: Sequence::from(signed_steps(alloc, evidence.steps.into_vec())?),
+        files: Sequence::from(paths_of(alloc, delivered)?),
+    })
+}
+
+/// The name of each step, with how many different keys signed for it.
+fn signed_steps(alloc: Global, results: Vec<StepResult>) -> Result<Vec<(Text, u64)>, AllocError>
+    ensures steps { IfOk result (λ steps. steps.items
+        ≡ map (λ result. (result.name, result.keys)) results.items) }
+{
+    let steps = results.into_iter();
+    steps.map(|step| (step.name, step.keys)).collect(alloc)
+}
+
+/// The paths, in the order of their bytes.
+fn paths_of(alloc: Global, delivered: &Artifacts) -> Result<Vec<Text>, AllocError>
+    ensures paths { IfOk result (λ paths. paths.items ≡ keys delivered.now) }
+{
+    let mut paths = Vec::new(alloc);
+    for path in delivered.paths() {
+        paths.push(Text::from(String::from_str(alloc, path.as_str())?))?;
+    }
+    Ok(paths)
 }

@@ -27,7 +27,7 @@ loop-name-preserved c =
           let none : old r.0 ≡ None = ap (option_map (λ (b : Bor (List ℕ)). b.now)) (none_there (at_name c.loop-name.firsts r.0) (rw c.as_str-name.ensures at (sym c.contains_key.ensures ∙ w.if-not-contains_key.true))) in
           first_more c.args.records.now i r old (bytes_at c.if-not-contains_key.firsts) c.loop-name-test.true c.loop-name-item.is c.loop-name.invariant
           (λ q. rw w.firsts-is (rw c.as_str-name.ensures at (ap (option_map (λ (b : Bor (List ℕ)). b.now)) (btree_map_updates_str name c.loop-name.firsts w.insert.new.self (Some w.as_slice.result) w.in_ok-insert.ensures.updates q)) ∙ shown_if (λ (b : Bor (List ℕ)). b.now) (bytes_eq r.0 q) w.as_slice.result (at_name c.loop-name.firsts q)
-              ∙ ap (λ bytes. cond (bytes_eq r.0 q) (Some bytes) (old q)) w.as_slice.ensures ∙ first_new r.0 r.1 old none q))
+          ∙ ap (λ bytes. cond (bytes_eq r.0 q) (Some bytes) (old q)) w.as_slice.ensures ∙ first_new r.0 r.1 old none q))
       | else-not-contains_key w ↦
           let there = some_there (at_name c.loop-name.firsts r.0) (rw c.as_str-name.ensures at (sym c.contains_key.ensures ∙ w.if-not-contains_key.false)) in
           first_more c.args.records.now i r old (bytes_at c.if-not-contains_key.firsts) c.loop-name-test.true c.loop-name-item.is c.loop-name.invariant

@@ -1,0 +1,113 @@
+-- Provenance of delivered files among the envelopes that lines read as.
+use Rattle.std.proofs.Common.{◌≡◌, ◌⊎◌, ℕ, List, [], ◌∷◌, ◌++◌, Contains, Some, inl, inr, ⊎_elim, refl, sym, subst}
+use Rattle.std.specs.FinMap.{entries, get}
+use Rattle.std.specs.List.{AllByRecursion}
+use Rattle.std.proofs.lemmas.List.Elements.{All-contains, All-from_recursion}
+use Rattle.it_base.proofs.Members.{in_cases, in_head, in_none, in_tail}
+use Rattle.it_digest.specs.Artifacts.{ArtifactMap}
+use Rattle.it_digest.specs.Sums.{lines_of}
+use Rattle.it_digest.specs.declared.compare.DigestSet.{DigestSet}
+use Rattle.it_dsse.specs.Check.{Check}
+use Rattle.it_dsse.specs.Envelope.{EnvelopeOf}
+use Rattle.it_dsse.specs.declared.envelope.Envelope.{Envelope}
+use Rattle.it_docs.specs.declared.policy.Expectation.{Expectation}
+use Rattle.it_rules.proofs.Listed.{Contains-from_place}
+use Rattle.it_chain.specs.First.{IsFirst}
+use Rattle.it_chain.specs.Walk.{NoneAt}
+use Rattle.it_chain.proofs.Documents.{envelope_same}
+use Rattle.it_chain.proofs.Entries.{known_entry}
+use Rattle.it_prov.specs.Finding.{IsFound, NoneMeets}
+use Rattle.it_prov.specs.Meets.{Meets}
+use Rattle.it_prov.proofs.OneFit.{fits_one}
+use Rattle.it_verify.specs.Documents.{IsProvenanceLine}
+use Rattle.it_verify.specs.First.{FileFails}
+use Rattle.it_verify.specs.Gathering.{AreRead, FileLacks, FileProven}
+use Rattle.it_verify.specs.Made.{HasProvenance}
+use Rattle.it_verify.specs.Walk.{RefusedAs}
+use Rattle.it_verify.specs.declared.failure.Failure.{Failure}
+use Rattle.it_verify.specs.declared.inputs.Inputs.{Inputs}
+use Rattle.it_verify.specs.declared.refusal.Refusal.{Refusal}
+use Rattle.it_verify.proofs.Failures.{fails_at}
+
+-- ---- among envelopes
+module _ (check : Check) (expectations : List Expectation) (envelopes : List Envelope) where
+  abbrev Proven : List ℕ × DigestSet → Type 0
+  Proven = FileProven check expectations envelopes
+
+  abbrev Lacks : List ℕ × DigestSet → Refusal → Type 0
+  Lacks = FileLacks check expectations envelopes
+
+  proven_apart : (file : List ℕ × DigestSet) → Proven file → (refusal : Refusal) → ¬ Lacks file refusal
+  proven_apart file h refusal =
+      let found = h.1 in
+      let first = found.first in
+      ⊎_elim (λ x. x.0 found.expectation found.fits)
+      (λ x. x.0.none_meets first.envelope (Contains-from_place envelopes h.0 first.envelope first.stands)
+      (subst (λ e. Meets check e file.1 first.envelope) (fits_one expectations file.0 found.expectation x.0.expectation found.fits x.0.fits) first.meets))
+
+  none_lacks : (files : List (List ℕ × DigestSet)) → AllByRecursion Proven files → NoneAt Lacks files
+  none_lacks [] h = tt
+  none_lacks (f ∷ files) h = (proven_apart f h.0, none_lacks files h.1)
+
+  pub proven_more : (done : List (List ℕ × DigestSet)) (file : List ℕ × DigestSet) → AllByRecursion Proven done → Proven file → AllByRecursion Proven (done ++ file ∷ [])
+  proven_more [] file h last = (last, tt)
+  proven_more (d ∷ done) file h last = (h.0, proven_more done file h.1 last)
+
+  -- the first file that lacks provenance
+  pub first_lacks : (files done : List (List ℕ × DigestSet)) (file : List ℕ × DigestSet) (rest : List (List ℕ × DigestSet)) (e : Failure) → files ≡ done ++ file ∷ rest → AllByRecursion Proven done
+      → RefusedAs (Lacks file) e → RefusedAs (IsFirst Lacks files) e
+  first_lacks files done file rest e all proven lacks = subst (λ fs. RefusedAs (IsFirst Lacks fs) e) (sym all) (fails_at Lacks done file rest e (none_lacks done proven) lacks)
+
+-- ---- envelopes and lines
+-- a line that reads as an envelope among those that are read
+line_of : (lines : List (List ℕ)) (envelopes : List Envelope) → AreRead lines envelopes → (envelope : Envelope) → Contains envelopes envelope → (line : List ℕ) × Contains lines line × EnvelopeOf line envelope
+line_of [] envelopes are envelope c = absurd (in_none envelope (subst (λ es. Contains es envelope) are c))
+line_of (line ∷ lines) envelopes are envelope c =
+    let later : (rest : List Envelope) → AreRead lines rest → Contains rest envelope → (l : List ℕ) × Contains (line ∷ lines) l × EnvelopeOf l envelope =
+    λ rest some d. let found = line_of lines rest some envelope d in (found.0, in_tail line lines found.0 found.1, found.2) in
+    ⊎_elim (λ x. ⊎_elim (λ same. (line, in_head line lines, subst (EnvelopeOf line) same x.2)) (later x.1 x.4) (in_cases x.0 x.1 envelope (subst (λ es. Contains es envelope) x.3 c)))
+    (λ x. later envelopes x.1 c) are
+
+-- the envelope that a line reads as is among those that are read
+read_of : (lines : List (List ℕ)) (envelopes : List Envelope) → AreRead lines envelopes → (envelope : Envelope) (line : List ℕ) → Contains lines line → EnvelopeOf line envelope → Contains envelopes envelope
+read_of [] envelopes are envelope line c reads = absurd (in_none line c)
+read_of (first ∷ lines) envelopes are envelope line c reads =
+    let later : (rest : List Envelope) → AreRead lines rest → Contains lines line → Contains rest envelope = λ rest some d. read_of lines rest some envelope line d reads in
+    ⊎_elim (λ x. subst (λ es. Contains es envelope) (sym x.3)
+    (⊎_elim (λ same. subst (Contains (x.0 ∷ x.1)) (envelope_same line x.0 envelope (subst (λ l. EnvelopeOf l x.0) same x.2) reads) (in_head x.0 x.1)) (λ d. in_tail x.0 x.1 envelope (later x.1 x.4 d)) (in_cases first lines line c)))
+    (λ x. ⊎_elim (λ same. absurd (x.0 envelope (subst (λ l. EnvelopeOf l envelope) (sym same) reads))) (later envelopes x.1) (in_cases first lines line c)) are
+
+-- what stands first where the same stands at each place
+first_alike : {P : Type 0} (At Bt : P → Refusal → Type 0) → ((p : P) (r : Refusal) → At p r → Bt p r) → ((p : P) (r : Refusal) → Bt p r → At p r) → (ps : List P) (r : Refusal) → IsFirst At ps r → IsFirst Bt ps r
+first_alike At Bt there back [] r h = h
+first_alike At Bt there back (p ∷ ps) r h = ⊎_elim (λ x. inl (there p r x)) (λ x. inr (λ q y. x.0 q (back p q y), first_alike At Bt there back ps r x.1)) h
+
+module _ (check : Check) (inputs : Inputs) (expectations : List Expectation) (envelopes : List Envelope) (are : AreRead (lines_of inputs.provenance) envelopes) where
+  is_line : (envelope : Envelope) → Contains envelopes envelope → IsProvenanceLine inputs envelope
+  is_line envelope c = let found = line_of (lines_of inputs.provenance) envelopes are envelope c in record { line = found.0; stands = found.1; reads = found.2 }
+
+  has_provenance : (file : List ℕ × DigestSet) → FileProven check expectations envelopes file → HasProvenance check inputs expectations file.0 file.1
+  has_provenance file h =
+      let first = h.1.first in
+      record { expectation = h.1.expectation; envelope = first.envelope; fits = h.1.fits; is_line = is_line first.envelope (Contains-from_place envelopes h.0 first.envelope first.stands); meets = first.meets }
+
+  lacks_fails : (file : List ℕ × DigestSet) (refusal : Refusal) → FileLacks check expectations envelopes file refusal → FileFails check inputs expectations file refusal
+  lacks_fails file refusal =
+      ⊎_elim inl
+      (λ x. inr (x.0.expectation, x.0.fits, λ envelope is. x.0.none_meets envelope (read_of (lines_of inputs.provenance) envelopes are envelope is.line is.stands is.reads), x.1))
+
+  fails_lacks : (file : List ℕ × DigestSet) (refusal : Refusal) → FileFails check inputs expectations file refusal → FileLacks check expectations envelopes file refusal
+  fails_lacks file refusal =
+      ⊎_elim inl
+      (λ x. inr (record { expectation = x.0; fits = x.1; none_meets = λ envelope c. x.2 envelope (is_line envelope c) }, x.3))
+
+  -- each delivered file has provenance
+  pub all_proven : (delivered : ArtifactMap) → AllByRecursion (FileProven check expectations envelopes) (entries delivered)
+      → (path : List ℕ) (digests : DigestSet) → get delivered path ≡ Some digests → HasProvenance check inputs expectations path digests
+  all_proven delivered h path digests known =
+      has_provenance (path, digests)
+      (All-contains (FileProven check expectations envelopes) (entries delivered) (path, digests) (All-from_recursion (FileProven check expectations envelopes) (entries delivered) h) (known_entry delivered path digests known))
+
+  -- the first that has none
+  pub first_unproven : (delivered : ArtifactMap) (refusal : Refusal) → IsFirst (FileLacks check expectations envelopes) (entries delivered) refusal → IsFirst (FileFails check inputs expectations) (entries delivered) refusal
+  first_unproven delivered refusal = first_alike (FileLacks check expectations envelopes) (FileFails check inputs expectations) lacks_fails fails_lacks (entries delivered) refusal

@@ -1,0 +1,62 @@
+//! What the steps of a layout and its inspections recorded.
+ghost use Rattle.std.specs.Prelude.{◌≤◌, MatchResult};
+ghost use Rattle.it_verify.specs.First.{First};
+ghost use Rattle.it_verify.specs.Made.{IsEvidence};
+ghost use Rattle.it_verify.specs.Walk.{DocumentsHold, RefusedAs};
+
+use crate::documents::Documents;
+use crate::failure::Failure;
+use crate::inputs::Inputs;
+use crate::records::recorded_links;
+use it_base::sequence::Sequence;
+use it_chain::chain::StepResult;
+use it_chain::verify_chain;
+use it_docs::link::Link;
+use it_dsse::check::SignatureCheck;
+use it_dsse::meter::Meter;
+use std::alloc::Global;
+
+/// What the steps of a layout and its inspections recorded.
+#[derive(Drop)]
+pub(crate) struct Evidence {
+    /// One record for each step, in the layout's order.
+    pub steps: Sequence<StepResult>,
+    /// One link for each inspection, in the layout's order.
+    pub inspections: Sequence<Link>,
+}
+
+/// Verifies the layout over the links, and finds what its inspections recorded. Each signature is
+/// checked by `check`, which counts in `meter`.
+///
+/// # Errors
+///
+/// `Refused` with the first failure of the layout, and else with the first inspection that has no
+/// record of its name. `OutOfMemory` where memory was refused.
+pub(crate) fn gather(
+    alloc: Global,
+    inputs: &Inputs,
+    documents: &Documents,
+    check: &Box<dyn SignatureCheck>,
+    meter: &mut Meter,
+) -> Result<Evidence, Failure>
+    requires shallow { inputs.now.depth ≤ 8 }
+    requires documents { DocumentsHold (meaning check.now) inputs.now documents.now }
+    ensures evidence { MatchResult result
+        (IsEvidence (meaning check.now) inputs.now documents.now)
+        (RefusedAs (First (meaning check.now) inputs.now)) }
+{
+    let chain = verify_chain(
+        alloc,
+        &documents.layout,
+        &inputs.links,
+        documents.moment,
+        inputs.depth,
+        check,
+        meter,
+    )?;
+    let links = recorded_links(alloc, inputs, documents.layout.inspections.as_slice())?;
+    Ok(Evidence {
+        steps: chain.steps,
+        inspections: Sequence::from(links),
+    })
+}

@@ -1,0 +1,61 @@
+//! Whether the rules hold over what was recorded, and whether the delivered files have provenance.
+ghost use Rattle.std.specs.Prelude.{MatchResult};
+ghost use Rattle.it_verify.specs.First.{First};
+ghost use Rattle.it_verify.specs.Made.{IsEvidence, IsMadeBy};
+ghost use Rattle.it_verify.specs.Walk.{DocumentsHold, RefusedAs};
+
+use crate::documents::Documents;
+use crate::evidence::Evidence;
+use crate::failure::Failure;
+use crate::inputs::Inputs;
+use crate::links::named_links;
+use crate::provenance::{envelopes_in, find_each};
+use crate::rules::{run_deliver_rules, run_inspection_rules};
+use it_dsse::check::SignatureCheck;
+use it_dsse::meter::Meter;
+use std::alloc::Global;
+
+/// Judges the rules of the inspections and those on what is delivered over the evidence, and looks for
+/// the provenance of each delivered file. Each signature is checked by `check`, which counts in
+/// `meter`.
+///
+/// # Errors
+///
+/// `Refused` with the first rule that fails, and else with the first file that has no provenance.
+/// `OutOfMemory` where memory was refused.
+pub(crate) fn judge(
+    alloc: Global,
+    inputs: &Inputs,
+    documents: &Documents,
+    evidence: &Evidence,
+    check: &Box<dyn SignatureCheck>,
+    meter: &mut Meter,
+) -> Result<(), Failure>
+    requires documents { DocumentsHold (meaning check.now) inputs.now documents.now }
+    requires evidence { IsEvidence (meaning check.now) inputs.now documents.now evidence.now }
+    ensures made { MatchResult result
+        (λ _. IsMadeBy (meaning check.now) inputs.now documents.now evidence.now)
+        (RefusedAs (First (meaning check.now) inputs.now)) }
+{
+    let recorded = evidence.inspections.as_slice();
+    let links = named_links(alloc, evidence.steps.as_slice(), recorded)?;
+    let inspections = documents.layout.inspections.as_slice();
+    run_inspection_rules(alloc, inspections, recorded, links.as_slice())?;
+    let delivered = &documents.delivered;
+    run_deliver_rules(
+        alloc,
+        documents.policy.deliver.as_slice(),
+        delivered,
+        links.as_slice(),
+    )?;
+    let envelopes = envelopes_in(alloc, inputs.provenance.as_slice())?;
+    let expectations = documents.policy.expectations.as_slice();
+    find_each(
+        alloc,
+        expectations,
+        delivered,
+        envelopes.as_slice(),
+        check,
+        meter,
+    )
+}

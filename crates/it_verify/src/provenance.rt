@@ -1,0 +1,98 @@
+//! Whether each delivered file has provenance.
+ghost use Rattle.std.specs.Prelude.{IfOk, MatchResult};
+ghost use Rattle.std.specs.FinMap.{entries};
+ghost use Rattle.std.specs.List.{AllByRecursion};
+ghost use Rattle.it_digest.specs.Sums.{lines_of};
+ghost use Rattle.it_chain.specs.First.{IsFirst};
+ghost use Rattle.it_verify.specs.Gathering.{AreRead, FileLacks, FileProven};
+ghost use Rattle.it_verify.specs.Walk.{RefusedAs};
+
+use crate::failure::{Failure, refused};
+use crate::refusal::Fault;
+use it_digest::artifacts::Artifacts;
+use it_digest::compare::DigestSet;
+use it_digest::sums::split_line;
+use it_docs::policy::Expectation;
+use it_dsse::check::SignatureCheck;
+use it_dsse::envelope::{Envelope, EnvelopeFault};
+use it_dsse::meter::Meter;
+use it_prov::fault::ProvError;
+use it_prov::find_provenance;
+use std::alloc::{AllocError, Global};
+
+/// The envelopes of the provenance, one a line. A line that is none is passed over.
+///
+/// # Errors
+///
+/// `AllocError` where memory was refused.
+pub(crate) fn envelopes_in(alloc: Global, provenance: &[u8]) -> Result<Vec<Envelope>, AllocError>
+    ensures envelopes { IfOk result (λ envelopes. AreRead (lines_of provenance.now) envelopes.items) }
+{
+    let mut envelopes = Vec::new(alloc);
+    let mut rest = provenance;
+    while !rest.is_empty() {
+        let (line, after) = split_line(rest);
+        match Envelope::read(alloc, line) {
+            Ok(envelope) => envelopes.push(envelope)?,
+            Err(EnvelopeFault::BadEnvelope) => {}
+            Err(EnvelopeFault::OutOfMemory) => return Err(AllocError),
+        }
+        rest = after;
+    }
+    Ok(envelopes)
+}
+
+/// Looks for provenance of each delivered file among the envelopes, in the order of the paths' bytes.
+/// Each signature is checked by `check`, which counts in `meter`.
+///
+/// # Errors
+///
+/// `Refused` with the first file of which no expectation speaks, or that has no provenance.
+/// `OutOfMemory` where memory was refused.
+pub(crate) fn find_each(
+    alloc: Global,
+    expectations: &[Expectation],
+    delivered: &Artifacts,
+    envelopes: &[Envelope],
+    check: &Box<dyn SignatureCheck>,
+    meter: &mut Meter,
+) -> Result<(), Failure>
+    ensures provenance { MatchResult result
+        (λ _. AllByRecursion (FileProven (meaning check.now) expectations.now envelopes.now) (entries delivered.now))
+        (RefusedAs (IsFirst (FileLacks (meaning check.now) expectations.now envelopes.now) (entries delivered.now))) }
+{
+    for (path, digests) in delivered.iter() {
+        find_one(
+            alloc,
+            path.as_str(),
+            *digests,
+            expectations,
+            envelopes,
+            check,
+            meter,
+        )?;
+    }
+    Ok(())
+}
+
+/// Looks for provenance of the file at a path.
+fn find_one(
+    alloc: Global,
+    path: &str,
+    digests: DigestSet,
+    expectations: &[Expectation],
+    envelopes: &[Envelope],
+    check: &Box<dyn SignatureCheck>,
+    meter: &mut Meter,
+) -> Result<(), Failure>
+    ensures provenance { MatchResult result
+        (λ _. FileProven (meaning check.now) expectations.now envelopes.now (path.now, digests))
+        (RefusedAs (FileLacks (meaning check.now) expectations.now envelopes.now (path.now, digests))) }
+{
+    match find_provenance(alloc, path, digests, expectations, envelopes, check, meter) {
+        Ok(_) => Ok(()),
+        Err(ProvError::NoExpectation(path)) => Err(refused(alloc, Fault::NoExpectation(path))),
+        Err(ProvError::NoProvenance(path)) => Err(refused(alloc, Fault::NoProvenance(path))),
+        Err(ProvError::OutOfMemory) => Err(Failure::OutOfMemory),
+    }
+}

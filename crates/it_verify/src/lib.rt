@@ -31,6 +31,7 @@ mod signing;
 #[cfg(test)]
 mod tests;
 pub mod verdict;
+mod verifying;
 mod whole;
 pub mod whole_laws;
 pub mod words;
@@ -43,4 +44,5 @@ pub use matching::run_match;
 pub use reporting::report;
 pub use signed::run_signed;
 pub use signing::run_sign;
+pub use verifying::run_verify;
 pub use whole::verify;

@@ -19,7 +19,7 @@ use Rattle.it_prov.specs.Cost.{RaisedBy, key_count, signature_count}
 pub raised_none : (most : ℕ) (meter now : Meter) → now ≡ meter → RaisedBy (λ n. n ≤ most) meter now
 raised_none most meter now same = (0, omega arith, same ∙ sym (raised-zero meter))
 
-raised_then : (P Q R : ℕ → Type 0) → ((m n : ℕ) → P m → Q n → R (m + n)) → (start now new : Meter) → RaisedBy P start now → RaisedBy Q now new → RaisedBy R start new
+pub raised_then : (P Q R : ℕ → Type 0) → ((m n : ℕ) → P m → Q n → R (m + n)) → (start now new : Meter) → RaisedBy P start now → RaisedBy Q now new → RaisedBy R start new
 raised_then P Q R both start now new h k = (h.0 + k.0, both h.0 k.0 h.1 k.1, k.2 ∙ ap (λ m. raised m k.0) h.2 ∙ raised_more start h.0 k.0)
 
 -- a meter that has been raised, and once more

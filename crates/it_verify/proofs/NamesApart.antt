@@ -11,8 +11,9 @@ use Rattle.it_docs.specs.declared.layout.Layout.{Layout}
 use Rattle.it_docs.specs.declared.link.Link.{Link}
 use Rattle.it_docs.specs.declared.step.Inspection.{Inspection}
 use Rattle.it_docs.specs.declared.step.Step.{Step}
-use Rattle.it_rules.specs.Item.{Links, Recorded}
+use Rattle.it_rules.specs.Item.{Links, Recorded, links_of as lent_of}
 use Rattle.it_rules.specs.Rules.{NamesDiffer}
+use Rattle.it_rules.specs.declared.item.Named.{Named}
 use Rattle.it_chain.specs.Chain.{Chain}
 use Rattle.it_chain.specs.Contents.{Contents}
 use Rattle.it_chain.specs.Counted.{Setting}
@@ -61,3 +62,9 @@ module _ (check : Check) (inputs : Inputs) (documents : Documents) (evidence : E
   pub links_differ : NamesDiffer (links_of evidence)
   links_differ = links_apart (links_of evidence) (names_of documents.layout.steps documents.layout.inspections) link_names
       (AllPairs-from_IsDistinct bytes_eq-Decides (names_of documents.layout.steps documents.layout.inspections) documents.layout.names_differ)
+
+-- links that are lent are those of the evidence
+pub lent_links : (evidence : Evidence) (steps : List StepResult) (inspections : List Link) (made lent : List Named) → lent ≡ made → lent_of made ≡ links_in steps ++ map (λ link. (link.name, recorded_in link)) inspections
+    → steps ≡ evidence.steps → inspections ≡ evidence.inspections → lent_of lent ≡ links_of evidence
+lent_links evidence steps inspections made lent same are all_steps all_inspections =
+    ap lent_of same ∙ are ∙ (λ k. links_in (all_steps k) ++ map (λ link. (link.name, recorded_in link)) (all_inspections k))

@@ -1,12 +1,12 @@
 -- What a verification comes to, from what each of its parts comes to.
-use Rattle.std.proofs.Common.{◌≡◌, ℕ, List, [], ◌∷◌, ◌++◌, flat_map, zip, refl, sym, subst}
+use Rattle.std.proofs.Common.{◌≡◌, ℕ, List, [], ◌∷◌, ◌++◌, flat_map, zip, Result, Ok, Err, MatchResult, refl, sym, subst}
 use Rattle.std.specs.FinMap.{entries, get}
 use Rattle.std.specs.List.{AllByRecursion, AllZip}
 use Rattle.it_digest.specs.Sums.{lines_of}
 use Rattle.it_dsse.specs.Check.{Check}
 use Rattle.it_dsse.specs.declared.envelope.Envelope.{Envelope}
 use Rattle.it_docs.specs.declared.rule.Side.TheVariants.{Products}
-use Rattle.it_rules.specs.Rules.{IsFirstFault, RulesHold}
+use Rattle.it_rules.specs.Rules.{RulesHold}
 use Rattle.it_chain.specs.Chain.{Chain}
 use Rattle.it_chain.specs.First.{First as ChainFirst, IsFirst}
 use Rattle.it_chain.specs.Walk.{NoneAt}
@@ -14,18 +14,16 @@ use Rattle.it_chain.specs.declared.chain.StepResult.{StepResult}
 use Rattle.it_chain.specs.declared.refusal.ChainError.{ChainError}
 use Rattle.it_chain.specs.declared.refusal.ChainError.TheVariants as chain
 use Rattle.it_chain.specs.declared.refusal.ChainRefusal.{ChainRefusal}
-use Rattle.it_chain.specs.declared.refusal.RuleItem.TheVariants.{Deliver}
 use Rattle.it_chain.proofs.Firsts.{none_append}
 use Rattle.it_verify.specs.Documents.{Documents, setting_of}
 use Rattle.it_verify.specs.First.{First, InspectionFails, Place, RecordFails, Stands, at_deliver, at_inspections, at_links, at_provenance, at_records, refusal_of, sides_of, whole}
-use Rattle.it_verify.specs.Gathering.{AreRead, FileLacks, FileProven, failure_of}
+use Rattle.it_verify.specs.Gathering.{AreRead, DeliverFails, FileLacks, FileProven, failure_of}
 use Rattle.it_verify.specs.Made.{Evidence, HasRecorded, InspectionRulesHold, IsEvidence, IsMadeBy, Made, delivery, links_of, verdict_of}
 use Rattle.it_verify.specs.Verdict.{IsVerdict, OnAccepted, OnRefused}
 use Rattle.it_verify.specs.Walk.{DocumentsHold, RefusedAs, document_places}
 use Rattle.it_verify.specs.declared.failure.Failure.{Failure}
 use Rattle.it_verify.specs.declared.failure.Failure.TheVariants.{Refused}
 use Rattle.it_verify.specs.declared.inputs.Inputs.{Inputs}
-use Rattle.it_verify.specs.declared.refusal.Fault.TheVariants.{RuleFailed}
 use Rattle.it_verify.specs.declared.refusal.Refusal.{Refusal}
 use Rattle.it_verify.specs.declared.verdict.Verdict.{Verdict}
 use Rattle.it_verify.specs.declared.verdict.Verdict.TheVariants as verdict
@@ -81,21 +79,16 @@ module _ (check : Check) (inputs : Inputs) (documents : Documents) (hold : Docum
       judged : NoneAt At (evidence_places ++ at_inspections ∷ [])
       judged = none_append At evidence_places (at_inspections ∷ []) gathered (clear_inspections check inputs documents hold.read evidence is_evidence inspection_rules, tt)
 
-      abbrev DeliverFails : Refusal → Type 0
-      DeliverFails refusal =
-          (index : ℕ) × (path : List ℕ) × IsFirstFault documents.policy.deliver Products (delivery documents.delivered) (links_of evidence) index path
-          × (refusal ≡ whole (RuleFailed Deliver Products index path))
-
       -- those hold, and a rule on what is delivered fails
-      pub deliver_fails : (e : Failure) → RefusedAs DeliverFails e → Fails e
+      pub deliver_fails : (e : Failure) → RefusedAs (DeliverFails (links_of evidence) documents.policy.deliver documents.delivered) e → Fails e
       deliver_fails e fails =
           fails_at At (evidence_places ++ at_inspections ∷ []) at_deliver (at_provenance ∷ []) e judged
-          (refused_weaker DeliverFails (At at_deliver) e (λ r x. (documents, evidence, x.0, x.1, hold.read, is_evidence, x.2, x.3)) fails)
+          (refused_weaker (DeliverFails (links_of evidence) documents.policy.deliver documents.delivered) (At at_deliver) e (λ r x. (documents, evidence, x.0, x.1, hold.read, is_evidence, x.2, x.3)) fails)
 
       module _ (deliver : RulesHold documents.policy.deliver Products (delivery documents.delivered) (links_of evidence)) (envelopes : List Envelope) (are : AreRead (lines_of inputs.provenance) envelopes) where
         -- ---- provenance
         -- those hold too, and a file lacks provenance
-        pub provenance_fails : (e : Failure) → RefusedAs (IsFirst (FileLacks check documents.policy.expectations envelopes) (entries documents.delivered)) e → Fails e
+        provenance_fails : (e : Failure) → RefusedAs (IsFirst (FileLacks check documents.policy.expectations envelopes) (entries documents.delivered)) e → Fails e
         provenance_fails e fails =
             fails_at At (evidence_places ++ at_inspections ∷ at_deliver ∷ []) at_provenance [] e
             (none_append At evidence_places (at_inspections ∷ at_deliver ∷ []) gathered
@@ -104,7 +97,7 @@ module _ (check : Check) (inputs : Inputs) (documents : Documents) (hold : Docum
             (λ r x. (documents, hold.read, first_unproven check inputs documents.policy.expectations envelopes are documents.delivered r x)) fails)
 
         -- each file has it
-        pub made_by : AllByRecursion (FileProven check documents.policy.expectations envelopes) (entries documents.delivered) → IsMadeBy check inputs documents evidence
+        made_by : AllByRecursion (FileProven check documents.policy.expectations envelopes) (entries documents.delivered) → IsMadeBy check inputs documents evidence
         made_by proven = record {
           read = hold.read;
           some_file = hold.some_file;
@@ -114,6 +107,13 @@ module _ (check : Check) (inputs : Inputs) (documents : Documents) (hold : Docum
           deliver_rules = deliver;
           provenance = all_proven check inputs documents.policy.expectations envelopes are documents.delivered proven;
         }
+
+        -- each has it, or one does not
+        pub judged_whole : (a : Result (Unit {0}) Failure)
+            → MatchResult a (λ _. AllByRecursion (FileProven check documents.policy.expectations envelopes) (entries documents.delivered)) (RefusedAs (IsFirst (FileLacks check documents.policy.expectations envelopes) (entries documents.delivered)))
+            → MatchResult a (λ _. IsMadeBy check inputs documents evidence) Fails
+        judged_whole (Ok x) h = made_by h
+        judged_whole (Err e) h = provenance_fails e h
 
 -- ---- the verdict
 module _ (check : Check) (inputs : Inputs) where

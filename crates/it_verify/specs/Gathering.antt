@@ -7,6 +7,7 @@ use Rattle.std.specs.Cmp.Lexicographic.{slice_cmp}
 use Rattle.std.specs.List.{find}
 use Rattle.std.specs.Ordering.{nat_cmp}
 use Rattle.std.specs.Str.{bytes_eq}
+use Rattle.it_digest.specs.Artifacts.{ArtifactMap}
 use Rattle.it_digest.specs.declared.compare.DigestSet.{DigestSet}
 use Rattle.it_dsse.specs.Check.{Check}
 use Rattle.it_dsse.specs.Envelope.{EnvelopeOf}
@@ -16,14 +17,15 @@ use Rattle.it_docs.specs.declared.link.Link.{Link}
 use Rattle.it_docs.specs.declared.policy.Expectation.{Expectation}
 use Rattle.it_docs.specs.declared.rule.Rule.{Rule}
 use Rattle.it_docs.specs.declared.rule.Side.{Side}
+use Rattle.it_docs.specs.declared.rule.Side.TheVariants.{Products}
 use Rattle.it_rules.specs.Item.{Links}
 use Rattle.it_rules.specs.Rules.{IsFirstFault}
 use Rattle.it_chain.specs.declared.refusal.ChainError.{ChainError}
 use Rattle.it_chain.specs.declared.refusal.ChainError.TheVariants as chain
-use Rattle.it_chain.specs.declared.refusal.RuleItem.TheVariants.{Inspection as of_inspection}
+use Rattle.it_chain.specs.declared.refusal.RuleItem.TheVariants.{Deliver, Inspection as of_inspection}
 use Rattle.it_prov.specs.Finding.{IsFound, IsMissing, NoneFits}
 use Rattle.it_verify.specs.First.{refusal_of, whole}
-use Rattle.it_verify.specs.Made.{recorded_in}
+use Rattle.it_verify.specs.Made.{delivery, recorded_in}
 use Rattle.it_verify.specs.declared.failure.Failure.{Failure}
 use Rattle.it_verify.specs.declared.failure.Failure.TheVariants.{Refused, OutOfMemory}
 use Rattle.it_verify.specs.declared.refusal.Fault.TheVariants.{RecordMissing, BadRecord, RuleFailed, NoExpectation, NoProvenance}
@@ -59,6 +61,12 @@ IsRecord name (Some bytes) (Err OutOfMemory) = ⊤
 abbrev pub SideFails : Links → List ℕ → Side → List Rule → Link → Refusal → Type 0
 SideFails links name side rules link refusal =
     (index : ℕ) × (path : List ℕ) × IsFirstFault rules side (recorded_in link) links index path × (refusal ≡ whole (RuleFailed (of_inspection name) side index path))
+
+-- ---- the rules on what is delivered
+-- they fail, first the one at an index, with a path
+abbrev pub DeliverFails : Links → List Rule → ArtifactMap → Refusal → Type 0
+DeliverFails links rules delivered refusal =
+    (index : ℕ) × (path : List ℕ) × IsFirstFault rules Products (delivery delivered) links index path × (refusal ≡ whole (RuleFailed Deliver Products index path))
 
 -- ---- provenance
 -- the envelopes that lines read as, in their order; a line that reads as none is passed over

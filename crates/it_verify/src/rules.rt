@@ -1,11 +1,11 @@
 //! The artifact rules of inspections, and those on what is delivered.
-ghost use Rattle.std.specs.Prelude.{◌≡◌, List, MatchResult, flat_map, zip, ℕ};
+ghost use Rattle.std.specs.Prelude.{MatchResult, flat_map, zip};
 ghost use Rattle.std.specs.List.{AllByRecursion};
 ghost use Rattle.it_rules.specs.Item.{links_of};
-ghost use Rattle.it_rules.specs.Rules.{IsFirstFault, NamesDiffer, RulesHold};
+ghost use Rattle.it_rules.specs.Rules.{NamesDiffer, RulesHold};
 ghost use Rattle.it_chain.specs.First.{IsFirst};
-ghost use Rattle.it_verify.specs.First.{InspectionFails, sides_of, whole};
-ghost use Rattle.it_verify.specs.Gathering.{SideFails};
+ghost use Rattle.it_verify.specs.First.{InspectionFails, sides_of};
+ghost use Rattle.it_verify.specs.Gathering.{DeliverFails, SideFails};
 ghost use Rattle.it_verify.specs.Made.{InspectionRulesHold, delivery, recorded_in};
 ghost use Rattle.it_verify.specs.Walk.{RefusedAs};
 
@@ -95,9 +95,7 @@ pub(crate) fn run_deliver_rules(
     requires { NamesDiffer (links_of links.now) }
     ensures rules { MatchResult result
         (λ _. RulesHold rules.now Side.Products (delivery delivered.now) (links_of links.now))
-        (RefusedAs (λ refusal. (index : ℕ) × (path : List ℕ)
-        × IsFirstFault rules.now Side.Products (delivery delivered.now) (links_of links.now) index path
-        × (refusal ≡ whole (Fault.RuleFailed RuleItem.Deliver Side.Products index path)))) }
+        (RefusedAs (DeliverFails (links_of links.now) rules.now delivered.now)) }
 {
     let none = Artifacts::new(alloc);
     let item = Item {

@@ -3,8 +3,6 @@
 #![tactic(auto)]
 
 mod chain_refusal;
-#[cfg(test)]
-mod command_tests;
 mod digesting;
 mod documents;
 mod encoding;
@@ -22,21 +20,15 @@ mod provenance;
 mod records;
 pub mod refusal;
 pub mod report_laws;
-#[cfg(test)]
-mod report_tests;
 mod reporting;
 mod rules;
 mod signed;
 mod signing;
-#[cfg(test)]
-mod tests;
 pub mod verdict;
 mod verifying;
 mod whole;
 pub mod whole_laws;
 pub mod words;
-#[cfg(test)]
-mod words_tests;
 
 pub use digesting::{check_name, run_digest};
 pub use encoding::run_pae;

@@ -1,12 +1,11 @@
-use crate::name::push_name;
-use crate::outcome::{RunFault, Status, exit_of};
-use crate::run_signed;
-use crate::words::{Words, WordsFault, read_words};
 use it_digest::reader::DigestFault;
 use it_dsse::check::SignatureCheck;
 use it_dsse::ring::HmacRing;
-use std::alloc::{AllocError, Global};
-use std::io;
+use it_rows::devices::{Full, Pipe, strings};
+use it_verify::outcome::{RunFault, Status, exit_of};
+use it_verify::run_signed;
+use it_verify::words::{Words, WordsFault, read_words};
+use std::alloc::Global;
 use std::io::Write;
 use std::test::Fail;
 
@@ -24,47 +23,6 @@ const BY_BOB_AS_BOB: &str = r#"{"payload":"","payloadType":"t",
 const BY_BOB_AS_ALICE: &str = r#"{"payload":"","payloadType":"t",
     "signatures":[{"keyid":"alice","sig":"5Muo03wp7lLlZM99VU6tv5lM8pdjKFy9F2qSi0aI4Sk="}]}"#;
 
-// Takes one byte a call, and fails at the call of this number.
-#[derive(Drop)]
-struct Reluctant {
-    taken: [u8; 16],
-    count: usize,
-    fails_at: usize,
-}
-
-impl Write for Reluctant {
-    fn write(&mut self, bytes: &[u8]) -> io::Result<usize> {
-        let place = self.count;
-        if place >= self.taken.len() || place + 1 == self.fails_at {
-            return Err(io::Error::from(io::ErrorKind::BrokenPipe));
-        }
-        let Some(byte) = bytes.first() else {
-            return Ok(0);
-        };
-        self.taken[place] = *byte;
-        self.count = place + 1;
-        Ok(1)
-    }
-
-    fn flush(&mut self) -> io::Result<()> {
-        Ok(())
-    }
-}
-
-// Takes nothing.
-#[derive(Drop)]
-struct Full;
-
-impl Write for Full {
-    fn write(&mut self, _bytes: &[u8]) -> io::Result<usize> {
-        Ok(0)
-    }
-
-    fn flush(&mut self) -> io::Result<()> {
-        Ok(())
-    }
-}
-
 fn signed<W: Write>(
     alloc: Global,
     envelope: &str,
@@ -74,40 +32,6 @@ fn signed<W: Write>(
     let ids = ring.ids(alloc)?;
     let check: Box<dyn SignatureCheck> = Box::new(alloc, ring)?;
     Ok(run_signed(alloc, envelope.as_bytes(), ids.as_slice(), &check, out))
-}
-
-fn texts(alloc: Global, words: &[&str]) -> Result<Vec<String>, AllocError> {
-    let mut texts = Vec::new(alloc);
-    for word in words {
-        texts.push(String::from_str(alloc, word)?)?;
-    }
-    Ok(texts)
-}
-
-#[test]
-fn writes_names(rt: HostRuntime) -> Result<(), Fail> {
-    let alloc = rt.alloc();
-    let rows: [(&[u8], &str); 9] = [
-        (b"", "\\e"),
-        (b"alice", "alice"),
-        (b"!~", "!~"),
-        (b"-", "-"),
-        (b"a/b", "a/b"),
-        (b"x\ny", "x\\x0ay"),
-        (b" \x7f", "\\x20\\x7f"),
-        (b"\\e", "\\x5ce"),
-        ("é".as_bytes(), "\\xc3\\xa9"),
-    ];
-    for (name, want) in rows {
-        let mut text = Vec::from_slice(alloc, b"> ")?;
-        push_name(&mut text, name)?;
-        assert_eq!(rt;
-            text.as_slice(),
-            format!(in alloc; "> {want}")?.as_bytes(),
-            "{want}"
-        );
-    }
-    Ok(())
 }
 
 #[test]
@@ -155,40 +79,46 @@ fn names_an_empty_id(rt: HostRuntime) -> Result<(), Fail> {
 
 #[test]
 fn stops_where_a_write_fails(rt: HostRuntime) -> Result<(), Fail> {
+    let alloc = rt.alloc();
     let want = "bob\nbobz\n".as_bytes();
-    for fails_at in 1..=want.len() {
-        let mut out = Reluctant {
-            taken: [0; 16],
-            count: 0,
-            fails_at,
-        };
-        assert_eq!(rt;
-            signed(rt.alloc(), BY_BOB, &mut out)?,
-            Err(RunFault::Write),
-            "{fails_at}"
-        );
-        assert_eq!(rt; out.count, fails_at - 1);
-        assert_eq!(rt;
-            out.taken.get(..out.count),
-            want.get(..out.count),
-            "{fails_at}"
-        );
+    for full in [Full::AnswersAnError, Full::TakesNothing] {
+        for room in 0..want.len() {
+            let mut pipe = Pipe {
+                taken: Vec::new(alloc),
+                room,
+                most: 1,
+                full,
+            };
+            let outcome = signed(alloc, BY_BOB, &mut pipe)?;
+            assert_eq!(rt; outcome, Err(RunFault::Write), "{full:?} at {room}");
+            assert_eq!(rt; pipe.taken.as_slice(), &want[..room], "{full:?} at {room}");
+        }
     }
-    let mut out = Reluctant {
-        taken: [0; 16],
-        count: 0,
-        fails_at: 0,
+    let mut pipe = Pipe {
+        taken: Vec::new(alloc),
+        room: usize::MAX,
+        most: 1,
+        full: Full::TakesNothing,
     };
-    assert_eq!(rt; signed(rt.alloc(), BY_BOB, &mut out)?, Ok(Status::Good));
-    assert_eq!(rt; out.taken.get(..out.count), Some(want));
+    assert_eq!(rt; signed(alloc, BY_BOB, &mut pipe)?, Ok(Status::Good));
+    assert_eq!(rt; pipe.taken.as_slice(), want);
+    Ok(())
+}
+
+#[test]
+fn writes_nothing_to_a_full_writer(rt: HostRuntime) -> Result<(), Fail> {
+    let alloc = rt.alloc();
+    let mut pipe = Pipe {
+        taken: Vec::new(alloc),
+        room: 0,
+        most: 1,
+        full: Full::TakesNothing,
+    };
     assert_eq!(rt;
-        signed(rt.alloc(), BY_BOB, &mut Full)?,
-        Err(RunFault::Write)
-    );
-    assert_eq!(rt;
-        signed(rt.alloc(), BY_BOB_AS_ALICE, &mut Full)?,
+        signed(alloc, BY_BOB_AS_ALICE, &mut pipe)?,
         Ok(Status::Refused)
     );
+    assert!(rt; pipe.taken.is_empty());
     Ok(())
 }
 
@@ -222,7 +152,7 @@ fn reads_words(rt: HostRuntime) -> Result<(), Fail> {
         (&["/bin/x", "signed", "-", "--ring=a=b"], "-", "a=b"),
     ];
     for (words, envelope, ring) in rows {
-        match read_words(alloc, texts(alloc, words)?.as_slice())? {
+        match read_words(alloc, strings(alloc, words)?.as_slice())? {
             Words::Signed(read) => {
                 assert_eq!(rt; read.envelope.as_str(), envelope, "{words:?}");
                 assert_eq!(rt; read.ring.as_str(), ring, "{words:?}");
@@ -257,7 +187,7 @@ fn refuses_words(rt: HostRuntime) -> Result<(), Fail> {
         (&["itv", "signed", "a", "--ring", "b", "--help"], "'--help'"),
     ];
     for (words, named) in rows {
-        match read_words(alloc, texts(alloc, words)?.as_slice()) {
+        match read_words(alloc, strings(alloc, words)?.as_slice()) {
             Err(WordsFault::Unread(note)) => {
                 assert!(rt; note.as_str().contains(named), "{words:?}: {note}");
                 assert!(rt; !note.as_str().contains("\n"), "{note}");

@@ -1,10 +1,10 @@
 //! The definitions of artifact rules as a slow program: each path is judged by itself over the
 //! whole list, and nothing is kept from one rule to the next.
-use crate::item::{Item, Named};
 use it_digest::artifacts::Artifacts;
 use it_digest::compare::{Compare, DigestSet};
 use it_docs::rule::{Rule, Side};
 use it_glob::Pattern;
+use it_rules::item::{Item, Named};
 use std::alloc::{AllocError, Global};
 
 /// The least index of a rule that does not hold, with the path with which it fails.

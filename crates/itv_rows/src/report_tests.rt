@@ -1,23 +1,20 @@
-use crate::refusal::{Fault, Refusal};
-use crate::report;
-use crate::verdict::Verdict;
 use it_base::sequence::Sequence;
 use it_base::text::Text;
 use it_chain::refusal::RuleItem;
 use it_docs::layout_fault::LayoutPart;
 use it_docs::policy_fault::PolicyPart;
 use it_docs::rule::Side;
+use it_rows::devices::text;
+use it_verify::refusal::{Fault, Refusal};
+use it_verify::report;
+use it_verify::verdict::Verdict;
 use std::alloc::{AllocError, Global};
 use std::test::Fail;
-
-fn name(alloc: Global, text: &str) -> Result<Text, AllocError> {
-    Ok(Text::from(String::from_str(alloc, text)?))
-}
 
 fn pairs(alloc: Global, names: &[(&str, &str)]) -> Result<Sequence<(Text, Text)>, AllocError> {
     let mut pairs = Vec::new(alloc);
     for (step, id) in names {
-        pairs.push((name(alloc, step)?, name(alloc, id)?))?;
+        pairs.push((text(alloc, step)?, text(alloc, id)?))?;
     }
     Ok(Sequence::from(pairs))
 }
@@ -37,6 +34,29 @@ fn written(alloc: Global, head: &str, lines: &str) -> Result<String, AllocError>
 }
 
 #[test]
+fn writes_names(rt: HostRuntime) -> Result<(), Fail> {
+    let alloc = rt.alloc();
+    let rows = [
+        ("", "\\e"),
+        ("alice", "alice"),
+        ("!~", "!~"),
+        ("-", "-"),
+        ("a/b", "a/b"),
+        ("x\ny", "x\\x0ay"),
+        (" \x7f", "\\x20\\x7f"),
+        ("\\e", "\\x5ce"),
+        ("é", "\\xc3\\xa9"),
+    ];
+    for (name, want) in rows {
+        let (_, found) = told(alloc, &[], Fault::BadRecord(text(alloc, name)?))?;
+        let line = format!(in alloc; "name {want}\n")?;
+        let want = written(alloc, "51 BadRecord", line.as_str())?;
+        assert_eq!(rt; found.as_slice(), want.as_bytes(), "{name}");
+    }
+    Ok(())
+}
+
+#[test]
 fn tells_faults_alone(rt: HostRuntime) -> Result<(), Fail> {
     let alloc = rt.alloc();
     let rows = [
@@ -49,10 +69,10 @@ fn tells_faults_alone(rt: HostRuntime) -> Result<(), Fail> {
         (Fault::InspectionInSublayout, "35 InspectionInSublayout"),
     ];
     for (fault, want) in Vec::from_array(alloc, rows)? {
-        let (head, text) = told(alloc, &[], fault)?;
+        let (head, found) = told(alloc, &[], fault)?;
         assert_eq!(rt; head.as_str(), want);
         assert_eq!(rt;
-            text.as_slice(),
+            found.as_slice(),
             written(alloc, want, "")?.as_bytes(),
             "{want}"
         );
@@ -99,10 +119,10 @@ fn tells_lines_and_parts_of_policies(rt: HostRuntime) -> Result<(), Fail> {
         (Fault::BadSums(1000), "12 BadSums", "line 1000\n"),
     ];
     for (fault, want, lines) in Vec::from_array(alloc, rows)? {
-        let (head, text) = told(alloc, &[], fault)?;
+        let (head, found) = told(alloc, &[], fault)?;
         assert_eq!(rt; head.as_str(), want);
         assert_eq!(rt;
-            text.as_slice(),
+            found.as_slice(),
             written(alloc, want, lines)?.as_bytes(),
             "{lines}"
         );
@@ -123,38 +143,38 @@ fn tells_parts_of_layouts(rt: HostRuntime) -> Result<(), Fail> {
         (LayoutPart::Inspects, "part inspects\n"),
         (LayoutPart::Inspect(0), "part inspect 0\n"),
         (
-            LayoutPart::DuplicateName(name(alloc, "a/b c")?),
+            LayoutPart::DuplicateName(text(alloc, "a/b c")?),
             "part duplicate a/b\\x20c\n",
         ),
         (
-            LayoutPart::DuplicateName(name(alloc, "")?),
+            LayoutPart::DuplicateName(text(alloc, "")?),
             "part duplicate \\e\n",
         ),
     ];
     for (part, lines) in Vec::from_array(alloc, rows)? {
-        let (head, text) = told(alloc, &[], Fault::BadLayout(part))?;
+        let (head, found) = told(alloc, &[], Fault::BadLayout(part))?;
         assert_eq!(rt; head.as_str(), "23 BadLayout");
         let want = written(alloc, "23 BadLayout", lines)?;
-        assert_eq!(rt; text.as_slice(), want.as_bytes(), "{lines}");
+        assert_eq!(rt; found.as_slice(), want.as_bytes(), "{lines}");
     }
     Ok(())
 }
 
 fn of_steps(alloc: Global) -> Result<Vec<(Fault, &'static str, &'static str)>, AllocError> {
     let two = Fault::TwoPayloads {
-        step: name(alloc, "build")?,
-        id: name(alloc, "a\\b")?,
+        step: text(alloc, "build")?,
+        id: text(alloc, "a\\b")?,
     };
     let few = Fault::Threshold {
-        step: name(alloc, "")?,
+        step: text(alloc, "")?,
         found: 0,
         needed: 18446744073709551615,
     };
     let other = Fault::Disagree {
-        step: name(alloc, "é~\x7f")?,
-        id: name(alloc, "-")?,
+        step: text(alloc, "é~\x7f")?,
+        id: text(alloc, "-")?,
     };
-    let owner = Fault::OwnerMissing(name(alloc, "owner\n")?);
+    let owner = Fault::OwnerMissing(text(alloc, "owner\n")?);
     let rows = [
         (owner, "22 OwnerMissing", "key owner\\x0a\n"),
         (two, "31 TwoPayloads", "step build\nkey a\\x5cb\n"),
@@ -169,10 +189,10 @@ fn of_steps(alloc: Global) -> Result<Vec<(Fault, &'static str, &'static str)>, A
 }
 
 fn of_files(alloc: Global) -> Result<Vec<(Fault, &'static str, &'static str)>, AllocError> {
-    let missing = Fault::RecordMissing(name(alloc, "test")?);
-    let bad = Fault::BadRecord(name(alloc, "a/b")?);
-    let unexpected = Fault::NoExpectation(name(alloc, "bin/app")?);
-    let unproved = Fault::NoProvenance(name(alloc, " ")?);
+    let missing = Fault::RecordMissing(text(alloc, "test")?);
+    let bad = Fault::BadRecord(text(alloc, "a/b")?);
+    let unexpected = Fault::NoExpectation(text(alloc, "bin/app")?);
+    let unproved = Fault::NoProvenance(text(alloc, " ")?);
     let rows = [
         (missing, "50 RecordMissing", "name test\n"),
         (bad, "51 BadRecord", "name a/b\n"),
@@ -186,9 +206,9 @@ fn of_files(alloc: Global) -> Result<Vec<(Fault, &'static str, &'static str)>, A
 fn tells_faults_of_steps(rt: HostRuntime) -> Result<(), Fail> {
     let alloc = rt.alloc();
     for (fault, want, lines) in of_steps(alloc)? {
-        let (head, text) = told(alloc, &[], fault)?;
+        let (head, found) = told(alloc, &[], fault)?;
         assert_eq!(rt; head.as_str(), want);
-        assert_eq!(rt; text.as_slice(), written(alloc, want, lines)?.as_bytes());
+        assert_eq!(rt; found.as_slice(), written(alloc, want, lines)?.as_bytes());
     }
     Ok(())
 }
@@ -197,9 +217,9 @@ fn tells_faults_of_steps(rt: HostRuntime) -> Result<(), Fail> {
 fn tells_faults_of_files(rt: HostRuntime) -> Result<(), Fail> {
     let alloc = rt.alloc();
     for (fault, want, lines) in of_files(alloc)? {
-        let (head, text) = told(alloc, &[], fault)?;
+        let (head, found) = told(alloc, &[], fault)?;
         assert_eq!(rt; head.as_str(), want);
-        assert_eq!(rt; text.as_slice(), written(alloc, want, lines)?.as_bytes());
+        assert_eq!(rt; found.as_slice(), written(alloc, want, lines)?.as_bytes());
     }
     Ok(())
 }
@@ -209,14 +229,14 @@ fn tells_failing_rules(rt: HostRuntime) -> Result<(), Fail> {
     let alloc = rt.alloc();
     let rows = [
         (
-            RuleItem::Step(name(alloc, "build")?),
+            RuleItem::Step(text(alloc, "build")?),
             Side::Materials,
             0,
             "src/a",
             "item step build\nside materials\nrule 0\npath src/a\n",
         ),
         (
-            RuleItem::Inspection(name(alloc, "un pack")?),
+            RuleItem::Inspection(text(alloc, "un pack")?),
             Side::Products,
             12,
             "",
@@ -231,17 +251,17 @@ fn tells_failing_rules(rt: HostRuntime) -> Result<(), Fail> {
         ),
     ];
     for (item, side, index, path, lines) in Vec::from_array(alloc, rows)? {
-        let path = name(alloc, path)?;
+        let path = text(alloc, path)?;
         let fault = Fault::RuleFailed {
             item,
             side,
             index,
             path,
         };
-        let (head, text) = told(alloc, &[], fault)?;
+        let (head, found) = told(alloc, &[], fault)?;
         assert_eq!(rt; head.as_str(), "40 RuleFailed");
         let want = written(alloc, "40 RuleFailed", lines)?;
-        assert_eq!(rt; text.as_slice(), want.as_bytes(), "{lines}");
+        assert_eq!(rt; found.as_slice(), want.as_bytes(), "{lines}");
     }
     Ok(())
 }
@@ -259,9 +279,9 @@ fn tells_where_a_fault_is(rt: HostRuntime) -> Result<(), Fail> {
         (&[("-", "/")], "at -/\\x2f\n"),
     ];
     for (at, line) in rows {
-        let (_, text) = told(alloc, at, Fault::Expired)?;
+        let (_, found) = told(alloc, at, Fault::Expired)?;
         let want = format!(in alloc; "refused 30 Expired\n{line}")?;
-        assert_eq!(rt; text.as_slice(), want.as_bytes(), "{line}");
+        assert_eq!(rt; found.as_slice(), want.as_bytes(), "{line}");
     }
     Ok(())
 }
@@ -270,14 +290,14 @@ fn tells_where_a_fault_is(rt: HostRuntime) -> Result<(), Fail> {
 fn tells_what_is_accepted(rt: HostRuntime) -> Result<(), Fail> {
     let alloc = rt.alloc();
     let steps = [
-        (name(alloc, "fetch")?, 2),
-        (name(alloc, "a b/c")?, 0),
-        (name(alloc, "")?, 18446744073709551615),
+        (text(alloc, "fetch")?, 2),
+        (text(alloc, "a b/c")?, 0),
+        (text(alloc, "")?, 18446744073709551615),
     ];
     let files = [
-        name(alloc, "lib/x")?,
-        name(alloc, "app")?,
-        name(alloc, "\n")?,
+        text(alloc, "lib/x")?,
+        text(alloc, "app")?,
+        text(alloc, "\n")?,
     ];
     let verdict = Verdict::Accepted {
         steps: Sequence::from(Vec::from_array(alloc, steps)?),

@@ -1,29 +1,25 @@
-use crate::layout_fault::{LayoutFault, LayoutPart};
-use crate::layout_reading::read_layout;
-use crate::link::read_link;
-use crate::moment::read_moment;
-use crate::policy_fault::{PolicyFault, PolicyPart};
-use crate::policy_reading::read_policy;
-use crate::rule::{Rule, Side, read_rule};
-use crate::statement::read_statement;
-use crate::tree::Tree;
+use crate::devices::{ABC, NOTHING, nested, text};
 use it_base::document::read_document;
 use it_base::parts::FromDocument;
 use it_base::text::Text;
+use it_docs::layout_fault::{LayoutFault, LayoutPart};
+use it_docs::layout_reading::read_layout;
+use it_docs::link::read_link;
+use it_docs::moment::read_moment;
+use it_docs::policy_fault::{PolicyFault, PolicyPart};
+use it_docs::policy_reading::read_policy;
+use it_docs::rule::{Rule, Side, read_rule};
+use it_docs::statement::read_statement;
+use it_docs::tree::Tree;
 use std::alloc::{AllocError, Global};
 use std::test::Fail;
-
-// The SHA-256 of `abc` and of no bytes.
-const A: &str = "ba7816bf8f01cfea414140de5dae2223b00361a396177a9cb410ff61f20015ad";
-
-const B: &str = "e3b0c44298fc1c149afbf4c8996fb92427ae41e4649b934ca495991b7852b855";
 
 const K: &str = "{\"keytype\":\"hmac\",\"scheme\":\"hmac-sha256\",\"keyval\":{\"public\":\"p\"}}";
 
 fn texts(alloc: Global, words: &[&str]) -> Result<Vec<Text>, AllocError> {
     let mut texts = Vec::new(alloc);
     for word in words {
-        texts.push(Text::from(String::from_str(alloc, word)?))?;
+        texts.push(text(alloc, word)?)?;
     }
     Ok(texts)
 }
@@ -293,24 +289,17 @@ fn names_the_first_bad_part_of_a_layout(rt: HostRuntime) -> Result<(), Fail> {
     Ok(())
 }
 
-fn nested(alloc: Global, levels: usize) -> Result<String, AllocError> {
-    let mut lists = String::new(alloc);
-    for _ in 0..levels {
-        lists.push('[')?;
-    }
-    for _ in 0..levels {
-        lists.push(']')?;
-    }
-    let rest = format!(in alloc; ",\"readme\":{}", lists.as_str())?;
+fn nested_layout(alloc: Global, levels: usize) -> Result<String, AllocError> {
+    let rest = format!(in alloc; ",\"readme\":{}", nested(alloc, levels)?.as_str())?;
     layout_text(alloc, FRONT, "[]", rest.as_str())
 }
 
 #[test]
 fn reads_nested_documents(rt: HostRuntime) -> Result<(), Fail> {
     let alloc = rt.alloc();
-    let deep = nested(alloc, 126)?;
+    let deep = nested_layout(alloc, 126)?;
     assert_eq!(rt; layout_part(alloc, deep.as_str())?.as_str(), "none");
-    let deeper = nested(alloc, 127)?;
+    let deeper = nested_layout(alloc, 127)?;
     assert_eq!(rt; layout_part(alloc, deeper.as_str())?.as_str(), "json");
     Ok(())
 }
@@ -325,8 +314,10 @@ fn link_text(alloc: Global, materials: &str, products: &str) -> Result<String, A
 #[test]
 fn reads_links(rt: HostRuntime) -> Result<(), Fail> {
     let alloc = rt.alloc();
-    let materials = format!(in alloc; "{{\"src/a\":{{\"sha256\":\"{B}\",\"md5\":7}},\"x\":null}}")?;
-    let products = format!(in alloc; "{{\"app\":{{\"sha256\":\"{A}\"}}}}")?;
+    let materials = format!(in alloc;
+        "{{\"src/a\":{{\"sha256\":\"{NOTHING}\",\"md5\":7}},\"x\":null}}"
+    )?;
+    let products = format!(in alloc; "{{\"app\":{{\"sha256\":\"{ABC}\"}}}}")?;
     let text = link_text(alloc, materials.as_str(), products.as_str())?;
     let Ok(link) = read_link(alloc, text.as_bytes()) else {
         return Err("no link")?;
@@ -336,7 +327,7 @@ fn reads_links(rt: HostRuntime) -> Result<(), Fail> {
     assert!(rt; link.materials.get("x").is_none());
     let digests = link.products.get("app").ok_or("no app")?;
     let sha256 = digests.sha256.ok_or("no sha256")?;
-    assert_eq!(rt; hex::encode(alloc, sha256.as_slice())?.as_str(), A);
+    assert_eq!(rt; hex::encode(alloc, sha256.as_slice())?.as_str(), ABC);
     assert!(rt; digests.sha512.is_none());
     for (materials, reads) in [
         ("null", true),
@@ -372,7 +363,7 @@ const PREDICATE: &str = "{\"buildDefinition\":{\"buildType\":\"https://ci.exampl
 fn reads_statements(rt: HostRuntime) -> Result<(), Fail> {
     let alloc = rt.alloc();
     let subject = format!(in alloc;
-        "[{{\"name\":\"app\",\"digest\":{{\"sha256\":\"{A}\"}}}},{{}}]"
+        "[{{\"name\":\"app\",\"digest\":{{\"sha256\":\"{ABC}\"}}}},{{}}]"
     )?;
     let text = statement_text(alloc, subject.as_str(), PREDICATE)?;
     let Ok(statement) = read_statement(alloc, text.as_bytes()) else {

@@ -1,9 +1,9 @@
 ghost use Rattle.std.specs.Prelude.{◌≤◌};
 
-use crate::bundle::Bundle;
-use crate::chain::Chain;
-use crate::refusal::{ChainError, ChainFault, ChainRefusal};
-use crate::verify_chain;
+use it_chain::bundle::Bundle;
+use it_chain::chain::Chain;
+use it_chain::refusal::{ChainError, ChainFault, ChainRefusal};
+use it_chain::verify_chain;
 use it_docs::layout_reading::read_layout;
 use it_dsse::check::SignatureCheck;
 use it_dsse::meter::Meter;

@@ -1,5 +1,3 @@
-use crate::fault::ProvError;
-use crate::find_provenance;
 use it_base::text::Text;
 use it_digest::compare::DigestSet;
 use it_digest::sums::read_sums;
@@ -9,6 +7,8 @@ use it_dsse::envelope::Envelope;
 use it_dsse::meter::Meter;
 use it_dsse::ring::HmacRing;
 use it_dsse::signing::sign;
+use it_prov::fault::ProvError;
+use it_prov::find_provenance;
 use std::alloc::{AllocError, Global};
 use std::test::Fail;
 

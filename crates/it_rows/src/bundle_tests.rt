@@ -1,4 +1,4 @@
-use crate::bundle::{Bundle, BundleFault};
+use it_chain::bundle::{Bundle, BundleFault};
 use std::alloc::Global;
 use std::test::Fail;
 

@@ -1,20 +1,15 @@
-use crate::artifacts::Artifacts;
-use crate::compare::{Compare, DigestSet};
-use crate::reader::{DigestFault, sha256_of_reader};
-use crate::sums::{SumsFault, read_sums};
+use crate::devices::{ABC, NOTHING, Source, map_of};
 use hex::{FromHex, FromHexError};
+use it_digest::artifacts::Artifacts;
+use it_digest::compare::{Compare, DigestSet};
+use it_digest::reader::{DigestFault, sha256_of_reader};
+use it_digest::sums::{SumsFault, read_sums};
 use std::alloc::{AllocError, Global};
-use std::io::{self, ErrorKind, Read};
 use std::test::Fail;
-
-// The SHA-256 of `abc`, of no bytes and of a million times `a`, and the SHA-512 of `abc`
-// (FIPS 180-4, NIST's examples).
-const ABC: &str = "ba7816bf8f01cfea414140de5dae2223b00361a396177a9cb410ff61f20015ad";
 
 const UPPER_CASE_ABC: &str = "BA7816BF8F01CFEA414140DE5DAE2223B00361A396177A9CB410FF61F20015AD";
 
-const NOTHING: &str = "e3b0c44298fc1c149afbf4c8996fb92427ae41e4649b934ca495991b7852b855";
-
+// The SHA-256 of a million times `a`, and the SHA-512 of `abc` (FIPS 180-4, NIST's examples).
 const MILLION: &str = "cdc76e5c9914fb9281a1c7e284d73e67f1809a48a497200e046d39ccc7112cd0";
 
 const LONG_ABC: &str =
@@ -36,14 +31,6 @@ fn with_sha512(set: DigestSet) -> Result<DigestSet, FromHexError> {
         sha256: set.sha256,
         sha512: Some(<[u8; 64] as FromHex>::from_hex(LONG_ABC)?),
     })
-}
-
-fn map_of(alloc: Global, entries: &[(&str, DigestSet)]) -> Result<Artifacts, AllocError> {
-    let mut map = Artifacts::new(alloc);
-    for (path, digests) in entries {
-        map.insert(String::from_str(alloc, path)?, *digests)?;
-    }
-    Ok(map)
 }
 
 fn all_with(alloc: Global, paths: &[&str], digests: DigestSet) -> Result<Artifacts, AllocError> {
@@ -129,38 +116,6 @@ fn same_maps_are_equal(rt: HostRuntime) -> Result<(), Fail> {
     Ok(())
 }
 
-// Gives the same byte one read at a time, and fails at the read with this number.
-struct Device {
-    bytes: u64,
-    reads: u64,
-    fails_at: Option<u64>,
-}
-
-impl Read for Device {
-    fn read(&mut self, buf: &mut [u8]) -> io::Result<usize> {
-        self.reads = self.reads.saturating_add(1);
-        if self.fails_at == Some(self.reads) {
-            return Err(io::Error::from(ErrorKind::Other));
-        }
-        if self.bytes == 0 || buf.is_empty() {
-            return Ok(0);
-        }
-        self.bytes -= 1;
-        buf[0] = b'a';
-        Ok(1)
-    }
-}
-
-impl Drop for Device {
-    fn drop(self) {
-        let Device {
-            bytes: _,
-            reads: _,
-            fails_at: _,
-        } = self;
-    }
-}
-
 #[test]
 fn digests_what_a_reader_gives(rt: HostRuntime) -> Result<(), Fail> {
     let mut abc: &[u8] = b"abc";
@@ -189,15 +144,15 @@ fn digests_what_a_reader_gives(rt: HostRuntime) -> Result<(), Fail> {
 #[test]
 fn stops_at_a_fault_of_the_reader(rt: HostRuntime) {
     for fails_at in 1..5 {
-        let mut device = Device {
+        let mut source = Source {
             bytes: 3,
             reads: 0,
             fails_at: Some(fails_at),
         };
-        assert_eq!(rt; sha256_of_reader(&mut device, 3), Err(DigestFault::Read));
-        assert_eq!(rt; device.reads, fails_at);
+        assert_eq!(rt; sha256_of_reader(&mut source, 3), Err(DigestFault::Read));
+        assert_eq!(rt; source.reads, fails_at);
     }
-    let mut endless = Device {
+    let mut endless = Source {
         bytes: u64::MAX,
         reads: 0,
         fails_at: None,

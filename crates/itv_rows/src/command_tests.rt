@@ -1,11 +1,10 @@
-use crate::outcome::{RunFault, Status};
-use crate::words::{Words, WordsFault, read_words};
-use crate::{run_digest, run_match, run_pae, run_sign};
 use it_digest::reader::DigestFault;
 use it_dsse::ring::HmacRing;
+use it_rows::devices::{Source, strings};
+use it_verify::outcome::{RunFault, Status};
+use it_verify::words::{Words, WordsFault, read_words};
+use it_verify::{run_digest, run_match, run_pae, run_sign};
 use std::alloc::{AllocError, Global};
-use std::io;
-use std::io::Read;
 use std::test::Fail;
 
 const KIND: &str = "application/vnd.in-toto+json";
@@ -13,24 +12,6 @@ const KIND: &str = "application/vnd.in-toto+json";
 // The code was computed by another program.
 const SIGNED: &str =
     "{\"payload\":\"e30=\",\"payloadType\":\"application/vnd.in-toto+json\",\"signatures\":[{\"keyid\":\"alice\",\"sig\":\"GYvlMgoDSh7aimmYQa+mVXbtzb6hq2TIJDLz8mP3+D0=\"}]}\n";
-
-// Each read fails.
-#[derive(Drop)]
-struct Broken;
-
-impl Read for Broken {
-    fn read(&mut self, _bytes: &mut [u8]) -> io::Result<usize> {
-        Err(io::Error::from(io::ErrorKind::BrokenPipe))
-    }
-}
-
-fn texts(alloc: Global, words: &[&str]) -> Result<Vec<String>, AllocError> {
-    let mut texts = Vec::new(alloc);
-    for word in words {
-        texts.push(String::from_str(alloc, word)?)?;
-    }
-    Ok(texts)
-}
 
 #[test]
 fn says_whether_a_pattern_matches(rt: HostRuntime) -> Result<(), Fail> {
@@ -99,7 +80,12 @@ fn refuses_files_without_a_line(rt: HostRuntime) -> Result<(), Fail> {
     assert_eq!(rt; input, b"abc".as_slice());
     let outcome = run_digest(alloc, "a", &mut input, 2, &mut out);
     assert_eq!(rt; outcome, Err(RunFault::Digest(DigestFault::TooLarge)));
-    let outcome = run_digest(alloc, "a", &mut Broken, 2, &mut out);
+    let mut broken = Source {
+        bytes: 0,
+        reads: 0,
+        fails_at: Some(1),
+    };
+    let outcome = run_digest(alloc, "a", &mut broken, 2, &mut out);
     assert_eq!(rt; outcome, Err(RunFault::Digest(DigestFault::Read)));
     assert!(rt; out.is_empty());
     Ok(())
@@ -149,7 +135,7 @@ fn reads_the_words_of_each_command(rt: HostRuntime) -> Result<(), Fail> {
         (&["itv", "digest", "a", "b", "--", "-c"], "digest a b -c"),
     ];
     for (words, want) in rows {
-        let read = read_words(alloc, texts(alloc, words)?.as_slice())?;
+        let read = read_words(alloc, strings(alloc, words)?.as_slice())?;
         let text = shown(alloc, &read)?;
         assert_eq!(rt; text.as_str(), want, "{words:?}");
     }
@@ -172,7 +158,7 @@ fn refuses_the_words_of_no_command(rt: HostRuntime) -> Result<(), Fail> {
         &["itv", "verify"],
     ];
     for words in rows {
-        let read = read_words(alloc, texts(alloc, words)?.as_slice());
+        let read = read_words(alloc, strings(alloc, words)?.as_slice());
         assert!(rt; matches!(read, Err(WordsFault::Unread(_))), "{words:?}");
     }
     Ok(())

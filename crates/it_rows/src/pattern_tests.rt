@@ -1,4 +1,4 @@
-use crate::Pattern;
+use it_glob::Pattern;
 use std::alloc::{AllocError, Global};
 use std::test::Fail;
 

@@ -1,29 +1,17 @@
-use crate::base64_text::{base64_part, base64_text_of};
-use crate::document::{member, read_document};
-use crate::hexadecimal_text::hexadecimal_part;
-use crate::parts::{from_bytes, part, part_or};
-use crate::sequence::Sequence;
-use crate::text::Text;
-use crate::writing::{WriteError, write_all_of};
+use crate::devices::{Full, Pipe, nested, text};
+use it_base::base64_text::{base64_part, base64_text_of};
+use it_base::document::{member, read_document};
+use it_base::hexadecimal_text::hexadecimal_part;
+use it_base::parts::{from_bytes, part, part_or};
+use it_base::sequence::Sequence;
+use it_base::text::Text;
+use it_base::writing::{WriteError, write_all_of};
 use serde_json::Value;
-use std::alloc::{AllocError, Global};
-use std::io;
-use std::io::Write;
+use std::alloc::Global;
 use std::test::Fail;
 
 fn document(alloc: Global, text: &str) -> Result<Value, Fail> {
     Ok(read_document(alloc, text.as_bytes())?.ok_or("no document")?)
-}
-
-fn nested(alloc: Global, levels: usize) -> Result<String, AllocError> {
-    let mut text = String::new(alloc);
-    for _ in 0..levels {
-        text.push('[')?;
-    }
-    for _ in 0..levels {
-        text.push(']')?;
-    }
-    Ok(text)
 }
 
 #[test]
@@ -106,8 +94,7 @@ fn reads_parts_that_may_be_missing(rt: HostRuntime) -> Result<(), Fail> {
         ("c", None),
         ("d", Some("-")),
     ] {
-        let missing = Text::from(String::from_str(alloc, "-")?);
-        let found = part_or(alloc, &value, name, missing)?;
+        let found = part_or(alloc, &value, name, text(alloc, "-")?)?;
         assert_eq!(rt; found.as_ref().map(Text::as_str), want, "{name}");
     }
     Ok(())
@@ -193,58 +180,27 @@ fn decodes_hexadecimal(rt: HostRuntime) -> Result<(), Fail> {
     Ok(())
 }
 
-/// Takes two bytes at most at a write. Once it holds as many as it has room for, it answers an error
-/// or takes nothing, once, and has room for more from then on.
-#[derive(Drop)]
-struct Pipe {
-    taken: Vec<u8>,
-    room: usize,
-    full: Full,
-}
-
-#[derive(Clone, Copy, Debug)]
-enum Full {
-    AnswersAnError,
-    TakesNothing,
-}
-
-impl Write for Pipe {
-    fn write(&mut self, buf: &[u8]) -> io::Result<usize> {
-        let left = self.room.saturating_sub(self.taken.len());
-        if left == 0 {
-            self.room = usize::MAX;
-            return match self.full {
-                Full::AnswersAnError => Err(io::Error::from(io::ErrorKind::BrokenPipe)),
-                Full::TakesNothing => Ok(0),
-            };
-        }
-        let count = buf.len().min(left).min(2);
-        self.taken.extend_from_slice(&buf[..count])?;
-        Ok(count)
-    }
-
-    fn flush(&mut self) -> io::Result<()> {
-        Ok(())
-    }
-}
-
 #[test]
 fn writes_all_or_stops(rt: HostRuntime) -> Result<(), Fail> {
     let alloc = rt.alloc();
     let text = b"hello";
     for full in [Full::AnswersAnError, Full::TakesNothing] {
         for room in 0..6 {
-            let taken = Vec::new(alloc);
-            let mut pipe = Pipe { taken, room, full };
+            let mut pipe = Pipe {
+                taken: Vec::new(alloc),
+                room,
+                most: 2,
+                full,
+            };
             let answer = write_all_of(&mut pipe, text);
             let want = if room < 5 { Err(WriteError) } else { Ok(()) };
             assert_eq!(rt; answer, want, "{full:?} at {room}");
             assert_eq!(rt; pipe.taken.as_slice(), &text[..room], "{full:?} at {room}");
         }
-        let taken = Vec::new(alloc);
         let mut pipe = Pipe {
-            taken,
+            taken: Vec::new(alloc),
             room: 0,
+            most: 2,
             full,
         };
         assert!(rt; write_all_of(&mut pipe, b"").is_ok());

@@ -2,14 +2,14 @@ ghost use Rattle.std.specs.Prelude.{◌<◌};
 
 mod by_definition;
 
-use crate::item::{Item, Named};
-use crate::rules::{RuleFault, run_rules};
+use crate::devices::{map_of, text};
 use by_definition::first_fault;
-use it_base::text::Text;
 use it_digest::artifacts::Artifacts;
 use it_digest::compare::DigestSet;
 use it_docs::rule::{Rule, Side};
 use it_glob::Pattern;
+use it_rules::item::{Item, Named};
+use it_rules::rules::{RuleFault, run_rules};
 use std::alloc::{AllocError, Global};
 use std::test::Fail;
 
@@ -53,18 +53,6 @@ fn empty() -> DigestSet {
         sha256: None,
         sha512: None,
     }
-}
-
-fn map_of(alloc: Global, entries: &[(&str, DigestSet)]) -> Result<Artifacts, AllocError> {
-    let mut map = Artifacts::new(alloc);
-    for (path, digests) in entries {
-        map.insert(String::from_str(alloc, path)?, *digests)?;
-    }
-    Ok(map)
-}
-
-fn text(alloc: Global, text: &str) -> Result<Text, AllocError> {
-    Ok(Text::from(String::from_str(alloc, text)?))
 }
 
 fn create(alloc: Global, pattern: &str) -> Result<Rule, AllocError> {

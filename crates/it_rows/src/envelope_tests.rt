@@ -1,21 +1,16 @@
-use crate::check::SignatureCheck;
-use crate::encoding::pae;
-use crate::envelope::{Envelope, EnvelopeFault, Signature};
-use crate::key_object::KeyObject;
-use crate::mac::hmac_sha256;
-use crate::meter::Meter;
-use crate::ring::{HmacRing, RingFault};
-use crate::signed::signed_by;
-use crate::signers::signed_ids;
-use crate::signing::{SignFault, sign};
-use crate::written::WriteFault;
+use crate::devices::{Full, Pipe, strings, text};
 use it_base::parts::from_bytes;
 use it_base::sequence::Sequence;
-use it_base::text::Text;
+use it_dsse::check::SignatureCheck;
+use it_dsse::envelope::{Envelope, EnvelopeFault, Signature};
+use it_dsse::key_object::KeyObject;
+use it_dsse::meter::Meter;
+use it_dsse::ring::{HmacRing, RingFault};
+use it_dsse::signing::{SignFault, sign};
+use it_dsse::written::WriteFault;
+use it_dsse::{hmac_sha256, pae, signed_by, signed_ids};
 use sha2::{Digest, Sha256};
 use std::alloc::{AllocError, Global};
-use std::io;
-use std::io::Write;
 use std::test::Fail;
 
 #[test]
@@ -116,10 +111,6 @@ fn digests_keys_longer_than_a_block(rt: HostRuntime) -> Result<(), Fail> {
     let by_digest = hmac_sha256(&digest, b"Sample message for keylen");
     assert_eq!(rt; by_digest, longer);
     Ok(())
-}
-
-fn text(alloc: Global, text: &str) -> Result<Text, AllocError> {
-    Ok(Text::from(String::from_str(alloc, text)?))
 }
 
 fn joined(alloc: Global, texts: &[String]) -> Result<String, AllocError> {
@@ -406,10 +397,7 @@ fn lists_signers(rt: HostRuntime) -> Result<(), Fail> {
         alloc,
         &[("bob", ""), ("alice", "alice"), ("owner", "carol")],
     )?;
-    let mut ids = Vec::new(alloc);
-    for id in ["carol", "bobz", "alice", "owner", "bob", "alice"] {
-        ids.push(String::from_str(alloc, id)?)?;
-    }
+    let ids = strings(alloc, &["carol", "bobz", "alice", "owner", "bob", "alice"])?;
     let signers = signed_ids(alloc, &envelope, ids.as_slice(), &object, &check)?;
     let signers = joined(alloc, signers.as_slice())?;
     assert_eq!(rt; signers.as_str(), "bobz alice bob alice ");
@@ -493,40 +481,6 @@ fn writes_one_spelling(rt: HostRuntime) -> Result<(), Fail> {
     Ok(())
 }
 
-/// Takes one byte at a write. Once it has no more room it answers an error or takes nothing, once,
-/// and has room for more from then on.
-#[derive(Drop)]
-struct Pipe {
-    taken: Vec<u8>,
-    room: usize,
-    full: Full,
-}
-
-#[derive(Clone, Copy, Debug)]
-enum Full {
-    AnswersAnError,
-    TakesNothing,
-}
-
-impl Write for Pipe {
-    fn write(&mut self, buf: &[u8]) -> io::Result<usize> {
-        if self.taken.len() >= self.room {
-            self.room = usize::MAX;
-            return match self.full {
-                Full::AnswersAnError => Err(io::Error::from(io::ErrorKind::BrokenPipe)),
-                Full::TakesNothing => Ok(0),
-            };
-        }
-        let count = buf.len().min(1);
-        self.taken.extend_from_slice(&buf[..count])?;
-        Ok(count)
-    }
-
-    fn flush(&mut self) -> io::Result<()> {
-        Ok(())
-    }
-}
-
 #[test]
 fn stops_at_a_failed_write(rt: HostRuntime) -> Result<(), Fail> {
     let alloc = rt.alloc();
@@ -534,8 +488,12 @@ fn stops_at_a_failed_write(rt: HostRuntime) -> Result<(), Fail> {
     let text = SIGNED.as_bytes();
     for full in [Full::AnswersAnError, Full::TakesNothing] {
         for (room, _) in text.iter().enumerate() {
-            let taken = Vec::new(alloc);
-            let mut pipe = Pipe { taken, room, full };
+            let mut pipe = Pipe {
+                taken: Vec::new(alloc),
+                room,
+                most: 1,
+                full,
+            };
             let answer = envelope.write(alloc, &mut pipe);
             assert_eq!(rt; answer, Err(WriteFault::Write), "{full:?} at {room}");
             assert_eq!(rt; pipe.taken.as_slice(), &text[..room], "{full:?} at {room}");

@@ -1,10 +1,13 @@
 -- Some expectation fits a path, or none does.
-use Rattle.std.proofs.Common.{◌⊎◌, ℕ, List, [], ◌∷◌, inl, inr, Contains, refl, sym, ap, subst}
+use Rattle.std.proofs.Common.{◌≡◌, ◌⊎◌, ◌+◌, ◌<◌, ℕ, List, [], ◌∷◌, ◌++◌, length, get_or, take, drop, Option, Some, None, MatchOption, Bor, inl, inr, Contains, refl, sym, ap, subst, arith, ◌∙◌}
+use Rattle.std.specs.List.{AllWithin, HoldsAt}
+use Rattle.std.proofs.lemmas.List.{drop_more, get_or-take, length-take, take-append-drop}
 use Rattle.std.proofs.lemmas.List.Elements.{Contains-append_right}
 use Rattle.it_base.proofs.Members.{in_head, in_cases, in_none}
 use Rattle.it_base.proofs.Settled.{Settled, settled_by}
 use Rattle.it_glob.proofs.Decided.{is_match, is_match-Decides}
 use Rattle.it_docs.specs.declared.policy.Expectation.{Expectation}
+use Rattle.it_prov.specs.Finding.{NoneFits}
 use Rattle.it_prov.specs.Fits.{SpeaksOf, Fits}
 
 module _ (path : List ℕ) where
@@ -33,8 +36,33 @@ module _ (path : List ℕ) where
     ]
   ]
 
-  pub fits_or_none : (expectations : List Expectation) → ((expectation : Expectation) × Fits expectations path expectation) ⊎ ((expectation : Expectation) → ¬ Fits expectations path expectation)
+  -- where no expectation speaks of the path, none fits it
+  silent_fits_none : (expectations : List Expectation) → ((expectation : Expectation) → Contains expectations expectation → ¬ SpeaksOf path expectation) → NoneFits expectations path
+  silent_fits_none expectations silent e fits = silent e (subst (λ xs. Contains xs e) (sym fits.they_are) (Contains-append_right fits.front (e ∷ fits.rest) e (in_head e fits.rest))) fits.speaks
+
+  pub fits_or_none : (expectations : List Expectation) → ((expectation : Expectation) × Fits expectations path expectation) ⊎ NoneFits expectations path
   fits_or_none expectations = elim (fits_or_silent expectations) [
     | inl found ↦ inl found
-    | inr silent ↦ inr (λ e fits. silent e (subst (λ xs. Contains xs e) (sym fits.they_are) (Contains-append_right fits.front (e ∷ fits.rest) e (in_head e fits.rest))) fits.speaks)
+    | inr silent ↦ inr (silent_fits_none expectations silent)
   ]
+
+  -- the first that speaks of the path fits it
+  fits_at : (expectations : List Expectation) (expectation : Expectation) (i : ℕ) → i < length expectations → get_or expectations i expectation ≡ expectation → SpeaksOf path expectation
+      → AllWithin (λ other. ¬ SpeaksOf path other) expectations 0 i → Fits expectations path expectation
+  fits_at expectations expectation i below is speaks before = record {
+    front = take i expectations;
+    rest = drop (i + 1) expectations;
+    they_are = sym (take-append-drop i expectations) ∙ ap (λ xs. take i expectations ++ xs) (drop_more expectations i expectation below ∙ ap (λ x. x ∷ drop (i + 1) expectations) is);
+    speaks = speaks;
+    none_before = λ other c.
+        let within : c.0 < i = omega (arith, c.1, length-take i expectations) in
+        subst (λ x. ¬ SpeaksOf path x) (sym (get_or-take i expectations c.0 other within) ∙ c.2) (before c.0 other (omega arith) within);
+  }
+
+  -- what a search for the first that speaks of the path comes to
+  pub fits_found : (expectations : List Expectation) (found : Option (Bor Expectation))
+      → MatchOption found (AllWithin (λ other. ¬ SpeaksOf path other) expectations 0 (length expectations))
+      (λ x. SpeaksOf path x.now × (i : ℕ) × (i < length expectations) × HoldsAt (λ y. y ≡ x.now) expectations i × AllWithin (λ other. ¬ SpeaksOf path other) expectations 0 i)
+      → MatchOption found (NoneFits expectations path) (λ x. Fits expectations path x.now)
+  fits_found expectations None silent = silent_fits_none expectations (λ other c. subst (λ x. ¬ SpeaksOf path x) c.2 (silent c.0 other (omega arith) c.1))
+  fits_found expectations (Some x) h = fits_at expectations x.now h.1 h.2 (h.3 x.now) h.0 h.4

@@ -1,4 +1,11 @@
+pub mod Asking
+pub mod Attesting
+pub mod Entries
 pub mod Fitting
 pub mod Meeting
+pub mod NameSets
 pub mod OneFit
-pub mod Parameters
+pub mod ParametersSettled
+pub mod Searching
+pub mod Signing
+pub mod Trees

@@ -17,3 +17,7 @@ module _ {X : Type 0} where
 
 pub fits_one : (expectations : List Expectation) (path : List ℕ) (a b : Expectation) → Fits expectations path a → Fits expectations path b → a ≡ b
 fits_one expectations path a b h k = same_first (SpeaksOf path) h.front k.front h.rest k.rest a b (sym h.they_are ∙ k.they_are) h.speaks k.speaks h.none_before k.none_before
+
+-- what is so of an expectation that fits is so of each that does
+pub of_each_fit : (P : Expectation → Type 0) (expectations : List Expectation) (path : List ℕ) (found : Expectation) → Fits expectations path found → P found → (expectation : Expectation) → Fits expectations path expectation → P expectation
+of_each_fit P expectations path found fits p expectation other = subst P (fits_one expectations path found expectation fits other) p

@@ -1,2 +1,5 @@
+pub mod Cost
+pub mod Finding
 pub mod Fits
+pub mod Judged
 pub mod Meets

@@ -2,4 +2,14 @@
 //! and which envelopes meet it.
 #![tactic(auto)]
 
+mod attests;
+mod builders;
 pub mod fault;
+mod finding;
+mod fits;
+mod meets;
+mod parameters;
+#[cfg(test)]
+mod tests;
+
+pub use finding::find_provenance;

@@ -15,7 +15,7 @@ use Rattle.it_docs.specs.declared.policy.Policy.{Policy}
 use Rattle.it_chain.specs.First.{IsFirst}
 use Rattle.it_chain.specs.Walk.{NoneAt}
 use Rattle.it_chain.proofs.Firsts.{none_append}
-use Rattle.it_verify.specs.First.{Place, at_policy, at_sums, at_moment, at_files, at_envelope, at_payload_type, at_owners, at_layout, First, OwnerLacks, Stands, places, whole}
+use Rattle.it_verify.specs.First.{Place, at_sums, at_moment, at_files, at_envelope, at_payload_type, at_owners, at_layout, First, OwnerLacks, Stands, places, whole}
 use Rattle.it_verify.specs.Walk.{OwnersSign, RefusedAs}
 use Rattle.it_verify.specs.declared.failure.Failure.{Failure}
 use Rattle.it_verify.specs.declared.inputs.Inputs.{Inputs}

@@ -1,6 +1,6 @@
 -- Where the documents read, some file is delivered and the owners signed, nothing stands at the places
 -- that speak of the documents alone.
-use Rattle.std.proofs.Common.{◌≡◌, ◌≢◌, ℕ, ℤ, List, [], ◌∷◌, Contains, Some, sym, subst}
+use Rattle.std.proofs.Common.{◌≡◌, ◌≢◌, ℕ, ℤ, List, [], ◌∷◌, Contains, sym, subst}
 use Rattle.std.specs.FinMap.{empty, entries}
 use Rattle.it_base.proofs.Members.{in_head, in_tail}
 use Rattle.it_digest.specs.Artifacts.{ArtifactMap}

@@ -2,7 +2,7 @@
 use Rattle.std.proofs.Common.{List, ◌∷◌, ◌++◌, inl}
 use Rattle.it_chain.specs.First.{IsFirst}
 use Rattle.it_chain.specs.Walk.{NoneAt}
-use Rattle.it_chain.proofs.Firsts.{first_before, first_behind}
+use Rattle.it_chain.proofs.Firsts.{first_behind}
 use Rattle.it_verify.specs.Walk.{RefusedAs}
 use Rattle.it_verify.specs.declared.failure.Failure.{Failure}
 use Rattle.it_verify.specs.declared.failure.Failure.TheVariants.{Refused, OutOfMemory}

@@ -1,13 +1,14 @@
--- What the first line of a report tells.
+-- What the first line of a report tells, and what stands behind it.
 use Rattle.std.proofs.Common.{◌≡◌, ◌==◌, Bool, true, false, get_or, ◌<◌, ◌^◌, ℕ, List, ◌∷◌, ◌++◌, codes, refl, sym, ap, ◌∙◌, append_assoc, lit<}
 use Rattle.std.specs.Prelude.{decimal}
 use Rattle.std.proofs.lemmas.Fmt.{decimal_injective}
 use Rattle.it_verify.proofs.Cut.{Lacks, Lacks-append, Lacks-decimal, Lacks-test, cut}
 use Rattle.it_verify.specs.Fault.{name_of, number_of}
-use Rattle.it_verify.specs.ReportLaws.{FirstLinesTell, ReportsTell}
+use Rattle.it_verify.specs.ReportLaws.{FirstLinesTell}
 use Rattle.it_verify.specs.Report.{first_line, further_lines, report_of}
 use Rattle.it_verify.specs.declared.refusal.Fault.{Fault}
 use Rattle.it_verify.specs.declared.refusal.Fault.TheVariants.{BadPolicy, BadSums, BadMoment, NoFiles, BadEnvelope, WrongPayloadType, OwnerMissing, BadLayout, Expired, TwoPayloads, TooDeep, Threshold, Disagree, InspectionInSublayout, RuleFailed, RecordMissing, BadRecord, NoExpectation, NoProvenance}
+use Rattle.it_verify.specs.declared.refusal.Refusal.{Refusal}
 use Rattle.it_verify.specs.declared.verdict.Verdict.{Verdict}
 use Rattle.it_verify.specs.declared.verdict.Verdict.TheVariants.{Accepted, Refused}
 
@@ -72,9 +73,15 @@ report-is : (verdict : Verdict) → report_of verdict ≡ words verdict ++ 10 �
 report-is (Accepted steps files) = refl
 report-is (Refused refusal) = append_assoc (words (Refused refusal)) (codes "\n") (further_lines (Refused refusal))
 
+-- equal reports have equal words and equal other lines
+parts_same : (a b : Verdict) → report_of a ≡ report_of b → (words a ≡ words b) × (further_lines a ≡ further_lines b)
+parts_same a b same = cut 10 (words a) (words b) (further_lines a) (further_lines b) (words-lack a) (words-lack b) (sym (report-is a) ∙ same ∙ report-is b)
+
 same_words : (a b : Verdict) → report_of a ≡ report_of b → words a ≡ words b
-same_words a b same =
-    (cut 10 (words a) (words b) (further_lines a) (further_lines b) (words-lack a) (words-lack b) (sym (report-is a) ∙ same ∙ report-is b)).0
+same_words a b same = (parts_same a b same).0
+
+pub same_further : (a b : Verdict) → report_of a ≡ report_of b → further_lines a ≡ further_lines b
+same_further a b same = (parts_same a b same).1
 
 first-is : (verdict : Verdict) → first_line verdict ≡ words verdict ++ codes "\n"
 first-is (Accepted steps files) = refl
@@ -87,20 +94,20 @@ first_lines_tell a b differ same = differ (first-is a ∙ ap (λ text. text ++ c
 abbrev begins_accepted : List ℕ → Bool
 begins_accepted text = get_or text 0 0 == 97
 
-pub reports_tell : ReportsTell
-reports_tell (Accepted steps files) (Accepted other_steps other_files) same = tt
-reports_tell (Accepted steps files) (Refused refusal) same =
+-- the report of what is accepted is none of what is refused
+pub accepts_or_refuses : (steps : List (List ℕ × ℕ)) (files : List (List ℕ)) (refusal : Refusal) → ¬ (report_of (Accepted steps files) ≡ report_of (Refused refusal))
+accepts_or_refuses steps files refusal same =
     let apart : true ≡ false = ap begins_accepted (same_words (Accepted steps files) (Refused refusal) same) in cc
-reports_tell (Refused refusal) (Accepted steps files) same =
-    let apart : false ≡ true = ap begins_accepted (same_words (Refused refusal) (Accepted steps files) same) in cc
-reports_tell (Refused refusal) (Refused other) same =
-    let number = number_of refusal.fault in
-    let other_number = number_of other.fault in
-    let small = number_is_small refusal.fault in
-    let other_small = number_is_small other.fault in
-    let words_same = same_words (Refused refusal) (Refused other) same in
-    let after_word : decimal number ++ codes " " ++ name_of refusal.fault ≡ decimal other_number ++ codes " " ++ name_of other.fault = cc in
-    let parts = cut 32 (decimal number) (decimal other_number) (name_of refusal.fault) (name_of other.fault)
-    (Lacks-decimal 32 number (lit< tt) small) (Lacks-decimal 32 other_number (lit< tt) other_small)
-    (sym (append_assoc (decimal number) (codes " ") (name_of refusal.fault)) ∙ after_word ∙ append_assoc (decimal other_number) (codes " ") (name_of other.fault)) in
-    record { number = decimal_injective number other_number small other_small parts.0; name = parts.1 }
+
+-- the number of a refusal's fault
+pub same_number : (a b : Refusal) → report_of (Refused a) ≡ report_of (Refused b) → number_of a.fault ≡ number_of b.fault
+same_number a b same =
+    let number = number_of a.fault in
+    let other = number_of b.fault in
+    let small = number_is_small a.fault in
+    let other_small = number_is_small b.fault in
+    let words_same = same_words (Refused a) (Refused b) same in
+    let after_word : decimal number ++ codes " " ++ name_of a.fault ≡ decimal other ++ codes " " ++ name_of b.fault = cc in
+    let parts = cut 32 (decimal number) (decimal other) (name_of a.fault) (name_of b.fault) (Lacks-decimal 32 number (lit< tt) small) (Lacks-decimal 32 other (lit< tt) other_small)
+    (sym (append_assoc (decimal number) (codes " ") (name_of a.fault)) ∙ after_word ∙ append_assoc (decimal other) (codes " ") (name_of b.fault)) in
+    decimal_injective number other small other_small parts.0

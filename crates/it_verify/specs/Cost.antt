@@ -19,18 +19,22 @@ use Rattle.it_verify.specs.declared.inputs.Inputs.{Inputs}
 abbrev pub AreOwners : Inputs → Policy × Envelope → Type 0
 AreOwners inputs (policy, envelope) = PolicyOf inputs.policy policy × EnvelopeOf inputs.layout envelope
 
+-- the owners cost a check for each of them and each signature of the layout
+abbrev pub OwnersCost : Inputs → ℕ → Type 0
+OwnersCost inputs = CostsIfFound (AreOwners inputs) (λ read n. n ≡ len read.0.owners * length read.1.signatures)
+
 -- a delivered file costs a check for each key of the expected builders and each signature
 abbrev pub FileCosts : List Expectation → ℕ → List ℕ → ℕ → Type 0
 FileCosts expectations signatures path = CostsIfFound (Fits expectations path) (λ expectation n. n ≡ sum_by (λ builder. len builder.keys) expectation.builders * signatures)
 
--- what a verification costs: a check for each owner and each signature of the layout, what the layout
--- costs over the links, and what the delivered files cost
+-- what a verification costs: what the owners cost, what the layout costs over the links, and what the
+-- delivered files cost
 pub record Costs (check : Check) (inputs : Inputs) (n : ℕ) : Type 0 where
   pub owners : ℕ
   pub links : ℕ
   pub signatures : ℕ
   pub files : ℕ
-  pub of_owners : CostsIfFound (AreOwners inputs) (λ read n. n ≡ len read.0.owners * length read.1.signatures) owners
+  pub of_owners : OwnersCost inputs owners
   pub of_links : CostsIfFound (ReadAs inputs) (λ documents. ChainCosts (setting_of check documents) inputs.depth documents.layout inputs.links) links
   pub of_lines : IsSum (λ line. CostsIfFound (EnvelopeOf line) HasSignatures) (lines_of inputs.provenance) signatures
   pub of_files : CostsIfFound (ReadAs inputs) (λ documents. IsSum (FileCosts documents.policy.expectations signatures) (keys documents.delivered)) files

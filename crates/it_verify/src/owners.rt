@@ -1,8 +1,9 @@
 //! Whether the owners of a policy signed the layout.
-ghost use Rattle.std.specs.Prelude.{IfOk, MatchBool, MatchResult};
-ghost use Rattle.std.specs.FinMap.{entries};
+ghost use Rattle.std.specs.Prelude.{◌*◌, ◌≤◌, IfOk, IsTrue, MatchBool, MatchResult, OnOk, length};
+ghost use Rattle.std.specs.FinMap.{entries, len};
 ghost use Rattle.it_chain.specs.First.{IsFirst};
 ghost use Rattle.it_dsse.specs.Signed.{IsSigner};
+ghost use Rattle.it_prov.specs.Cost.{RaisedBy};
 ghost use Rattle.it_verify.specs.First.{OwnerLacks};
 ghost use Rattle.it_verify.specs.Walk.{OwnersSign, RefusedAs};
 
@@ -28,6 +29,9 @@ pub(crate) fn check_owners(
     ensures signed { MatchResult result
         (λ _. OwnersSign (meaning check.now) envelope.now owners.now)
         (RefusedAs (IsFirst (OwnerLacks (meaning check.now) envelope.now) (entries owners.now))) }
+    ensures at_most { RaisedBy (λ n. n ≤ len owners.now * length envelope.now.signatures)
+        meter.old meter.new }
+    ensures at_least { OnOk result (RaisedBy (λ n. len owners.now ≤ n) meter.old meter.new) }
 {
     for (id, object) in owners.iter() {
         if !signs(alloc, envelope, id.as_str(), object, check, meter)? {
@@ -50,6 +54,9 @@ fn signs(
     ensures signer { IfOk result (λ signs. MatchBool signs
         (IsSigner (meaning check.now) envelope.now object.now id.now)
         (¬ IsSigner (meaning check.now) envelope.now object.now id.now)) }
+    ensures at_most { RaisedBy (λ n. n ≤ length envelope.now.signatures) meter.old meter.new }
+    ensures at_least { IfOk result (λ signs. IsTrue signs
+        → RaisedBy (λ n. 1 ≤ n) meter.old meter.new) }
 {
     let key = signed_by(alloc, envelope, id, object, check, meter)?;
     Ok(key.is_some())

@@ -1,16 +1,15 @@
 //! Laws about the report and the names in it: functions that do nothing, and whose contracts say what
 //! is true of every verdict and every name.
-ghost use Rattle.it_verify.specs.ReportLaws.{FirstLinesTell, FormsAreWords, FormsTell, ReportsTell};
+ghost use Rattle.it_verify.specs.ReportLaws.{FirstLinesTell, FormsAreWords, FormsTell, ReportTells};
 
 /// Where the first lines of two verdicts differ, their reports do.
 pub fn first_lines_tell()
     ensures { FirstLinesTell }
 {}
 
-/// Equal reports are of verdicts that both accept, or that both refuse for a fault of the same number
-/// and name.
-pub fn reports_tell()
-    ensures { ReportsTell }
+/// Equal reports are of equal verdicts: who reads a report knows all of the verdict.
+pub fn report_tells()
+    ensures { ReportTells }
 {}
 
 /// Names that are written alike are the same.

@@ -1,37 +1,20 @@
 -- Parameters are those that are expected, or they are not.
-use Rattle.std.proofs.Common.{◌≡◌, ℕ, List, [], ◌∷◌, Option, Some, None, Ordering, Less, Equal, Greater, nat_cmp, inl, inr, Contains, IsTrue, refl, sym, subst, ◌∙◌}
-use Rattle.std.specs.Cmp.Lexicographic.{slice_cmp}
-use Rattle.std.specs.FinMap.{slice_cmp-IsAntisymmetric, nat_cmp-IsAntisymmetric}
-use Rattle.std.specs.Ordering.{match_ordering}
+use Rattle.std.proofs.Common.{◌≡◌, ℕ, List, Option, Some, None, inl, inr, Contains, IsTrue, refl, sym, subst, ◌∙◌}
 use Rattle.std.specs.Set.{is_member}
 use Rattle.std.specs.Str.{bytes_eq}
 use Rattle.std.proofs.lemmas.Map.Made.{is_member-Decides}
 use Rattle.std.proofs.lemmas.Option.{same_Some}
 use Rattle.std.proofs.lemmas.Slice.Eq.{bytes_eq-Decides}
-use Rattle.it_base.proofs.Members.{in_head, in_tail}
 use Rattle.it_base.proofs.Settled.{Settled, settled_by, every_or_not}
 use Rattle.it_docs.specs.Equal.{equal}
-use Rattle.it_docs.specs.Json.{Json, Fields, no_fields, field}
+use Rattle.it_docs.specs.Json.{Json, Fields}
 use Rattle.it_docs.specs.TreeOf.{field_at}
 use Rattle.it_docs.specs.declared.policy.Expectation.{Expectation}
+use Rattle.it_prov.specs.Judged.{MayStand}
 use Rattle.it_prov.specs.Meets.{ParametersMeet, StandsEqual}
+use Rattle.it_prov.proofs.Trees.{named, names_in}
 
 -- ---- what holds of every field
-abbrev names_in : Fields → List (List ℕ)
-names_in no_fields = []
-names_in (field l t fs) = l ∷ names_in fs
-
-named_by : (name l : List ℕ) (t tree : Json) (fs : Fields) (o : Ordering) → slice_cmp nat_cmp name l ≡ o → match_ordering o (field_at name fs) (Some t) (field_at name fs) ≡ Some tree
-    → (field_at name fs ≡ Some tree → Contains (names_in fs) name) → Contains (l ∷ names_in fs) name
-named_by name l t tree fs Equal same e later = subst (Contains (l ∷ names_in fs)) (sym (slice_cmp-IsAntisymmetric nat_cmp-IsAntisymmetric name l same)) (in_head l (names_in fs))
-named_by name l t tree fs Less same e later = in_tail l (names_in fs) name (later e)
-named_by name l t tree fs Greater same e later = in_tail l (names_in fs) name (later e)
-
--- the name of a field is among the names
-named : (name : List ℕ) (tree : Json) (fields : Fields) → field_at name fields ≡ Some tree → Contains (names_in fields) name
-named name tree no_fields e = cc
-named name tree (field l t fs) e = named_by name l t tree fs (slice_cmp nat_cmp name l) refl e (named name tree fs)
-
 module _ (P : List ℕ → Json → Type 0) (each : (name : List ℕ) (tree : Json) → Settled (P name tree)) where
   at_name : (name : List ℕ) (found : Option Json) → Settled ((tree : Json) → found ≡ Some tree → P name tree)
   at_name name None = inl (λ tree e. cc)
@@ -54,11 +37,8 @@ stands_or_not fields name expected = go (field_at name fields) refl
       | inr other ↦ inr (λ s. other (subst (λ t. IsTrue (equal t expected)) (same_Some s.given given (sym s.stands ∙ e)) s.is_equal))
     ]
 
-abbrev IsIgnored : Expectation → List ℕ → Type 0
-IsIgnored expectation name = field_at name expectation.parameters ≡ None → Contains expectation.ignore name
-
-ignored_or_not : (expectation : Expectation) (name : List ℕ) → Settled (IsIgnored expectation name)
-ignored_or_not expectation name = go (field_at name expectation.parameters)
+may_stand_or_not : (expectation : Expectation) (name : List ℕ) → Settled (MayStand expectation name)
+may_stand_or_not expectation name = go (field_at name expectation.parameters)
   where
     go : (found : Option Json) → Settled (found ≡ None → Contains expectation.ignore name)
     go (Some t) = inl (λ e. cc)
@@ -70,7 +50,7 @@ ignored_or_not expectation name = go (field_at name expectation.parameters)
 pub parameters_meet_or_not : (expectation : Expectation) (parameters : Fields) → Settled (ParametersMeet expectation parameters)
 parameters_meet_or_not expectation parameters = elim (every_field (StandsEqual parameters) (stands_or_not parameters) expectation.parameters) [
   | inr n ↦ inr (λ m. n m.expected_stand)
-  | inl stand ↦ elim (every_field (λ name given. IsIgnored expectation name) (λ name given. ignored_or_not expectation name) parameters) [
+  | inl stand ↦ elim (every_field (λ name given. MayStand expectation name) (λ name given. may_stand_or_not expectation name) parameters) [
     | inl ignored ↦ inl (record { expected_stand = stand; others_ignored = ignored })
     | inr n ↦ inr (λ m. n m.others_ignored)
   ]

@@ -1,0 +1,13 @@
+use Rattle.std.proofs.Common.{◌*◌, drop, take}
+use Rattle.it_prov.specs.Cost.{key_count, signature_count}
+use Rattle.it_prov.specs.Finding.{NoneMeets}
+use Rattle.it_prov.proofs.Asking.{Leaves}
+use Rattle.it_prov.proofs.meets.first_to_meet.Given as goal
+
+-- no envelope so far meets the expectation, and the rest leave each of their signatures to be tried
+-- once for each key
+abbrev pub invariant-loop-index : goal.invariant-loop-index
+invariant-loop-index g l = record {
+  none : NoneMeets ((goal.SignatureCheck-dyn g (l.check.vtable, l.check.value)).meaning l.check.value) l.expectation l.digests (take l.index l.envelopes);
+  asked : Leaves (key_count l.expectation.builders * signature_count (drop l.index l.envelopes)) (key_count l.expectation.builders * signature_count l.envelopes) l.fn.meter l.meter;
+}

@@ -1,0 +1,36 @@
+-- What the search for the provenance of a delivered file comes to (SLSA v1.0, verifying artifacts).
+use Rattle.std.specs.Prelude.{◌≡◌, ℕ, List, Some, take, Contains}
+use Rattle.std.specs.List.{slice_get}
+use Rattle.it_digest.specs.declared.compare.DigestSet.{DigestSet}
+use Rattle.it_dsse.specs.Check.{Check}
+use Rattle.it_dsse.specs.declared.envelope.Envelope.{Envelope}
+use Rattle.it_docs.specs.declared.policy.Expectation.{Expectation}
+use Rattle.it_prov.specs.Fits.{Fits}
+use Rattle.it_prov.specs.Meets.{Meets}
+
+-- no envelope meets an expectation
+abbrev pub NoneMeets : Check → Expectation → DigestSet → List Envelope → Type 0
+NoneMeets check expectation digests envelopes = (envelope : Envelope) → Contains envelopes envelope → ¬ Meets check expectation digests envelope
+
+-- the envelope at an index meets an expectation, and none before it does
+pub record IsFirstToMeet (check : Check) (expectation : Expectation) (digests : DigestSet) (envelopes : List Envelope) (index : ℕ) : Type 0 where
+  pub envelope : Envelope
+  pub stands : slice_get envelopes index ≡ Some envelope
+  pub meets : Meets check expectation digests envelope
+  pub none_before : NoneMeets check expectation digests (take index envelopes)
+
+-- the least index of an envelope that meets the expectation which fits a path
+pub record IsFound (check : Check) (expectations : List Expectation) (path : List ℕ) (digests : DigestSet) (envelopes : List Envelope) (index : ℕ) : Type 0 where
+  pub expectation : Expectation
+  pub fits : Fits expectations path expectation
+  pub first : IsFirstToMeet check expectation digests envelopes index
+
+-- no expectation fits a path
+abbrev pub NoneFits : List Expectation → List ℕ → Type 0
+NoneFits expectations path = (expectation : Expectation) → ¬ Fits expectations path expectation
+
+-- an expectation fits a path, and no envelope meets it
+pub record IsMissing (check : Check) (expectations : List Expectation) (path : List ℕ) (digests : DigestSet) (envelopes : List Envelope) : Type 0 where
+  pub expectation : Expectation
+  pub fits : Fits expectations path expectation
+  pub none_meets : NoneMeets check expectation digests envelopes

@@ -1,0 +1,49 @@
+-- What the functions that judge an envelope come to, in the words of the definitions. Nothing that is
+-- trusted stands here.
+use Rattle.std.specs.Prelude.{◌≡◌, ◌↔◌, ℕ, List, Bool, Some, None, Contains, IsTrue}
+use Rattle.std.specs.Borrow.{Bor}
+use Rattle.std.specs.BTreeMap.{is_at}
+use Rattle.std.specs.BTreeSet.{BTreeSet}
+use Rattle.std.specs.Cmp.Lexicographic.{slice_cmp}
+use Rattle.std.specs.List.{list_any}
+use Rattle.std.specs.Ordering.{nat_cmp}
+use Rattle.it_dsse.specs.Check.{Check}
+use Rattle.it_dsse.specs.declared.envelope.Envelope.{Envelope}
+use Rattle.it_docs.specs.Json.{Json, Fields}
+use Rattle.it_docs.specs.TreeOf.{field_at}
+use Rattle.it_docs.specs.declared.policy.Builder.{Builder}
+use Rattle.it_docs.specs.declared.policy.Expectation.{Expectation}
+use Rattle.it_docs.specs.declared.statement.Provenance.{Provenance}
+use Rattle.it_prov.specs.Meets.{ParametersMeet, SignedByBuilder, StandsEqual}
+
+-- whether a name is one of these lent ones
+abbrev pub is_among : List (Bor (List ℕ)) → List ℕ → Bool
+is_among lent name = list_any (is_at (λ key. slice_cmp nat_cmp name key.now)) lent
+
+-- a set has the names of a list, and no others
+abbrev pub HasNames : List (List ℕ) → BTreeSet (Bor (List ℕ)) → Type 0
+HasNames names set = (name : List ℕ) → IsTrue (is_among set.keys name) ↔ Contains names name
+
+-- what is expected under a name stands there
+abbrev pub IsMet : Fields → Fields → List ℕ → Type 0
+IsMet expected given name = (tree : Json) → field_at name expected ≡ Some tree → StandsEqual given name tree
+
+-- a parameter may stand under a name: one is expected there, or the name may be ignored
+abbrev pub MayStand : Expectation → List ℕ → Type 0
+MayStand expectation name = field_at name expectation.parameters ≡ None → Contains expectation.ignore name
+
+-- P holds of each name under which there is a tree
+abbrev pub OfEachName : (List ℕ → Type 0) → Fields → Type 0
+OfEachName P fields = (name : List ℕ) (tree : Json) → field_at name fields ≡ Some tree → P name
+
+-- the build is of the expected type and has the expected parameters
+pub record IsExpected (expectation : Expectation) (provenance : Provenance) : Type 0 where
+  pub build_type : provenance.build_type ≡ expectation.build_type
+  pub parameters : ParametersMeet expectation provenance.parameters
+
+-- one of the builders has this id, and signed the envelope
+pub record IsBuiltBy (check : Check) (envelope : Envelope) (builders : List Builder) (id : List ℕ) : Type 0 where
+  pub builder : Builder
+  pub stands : Contains builders builder
+  pub id_is : id ≡ builder.id
+  pub signed : SignedByBuilder check envelope builder

@@ -1,0 +1,69 @@
+//! The search for the provenance of a delivered file.
+ghost use Rattle.std.specs.Prelude.{◌≡◌, ◌*◌, ◌≤◌, IfErr, IfOk, OnOk};
+ghost use Rattle.it_prov.specs.Cost.{RaisedBy, key_count, signature_count};
+ghost use Rattle.it_prov.specs.Finding.{IsFound, IsMissing, NoneFits};
+ghost use Rattle.it_prov.specs.Fits.{Fits};
+
+use crate::fault::ProvError;
+use crate::fits::fitting;
+use crate::meets::first_to_meet;
+use it_base::text::Text;
+use it_digest::compare::DigestSet;
+use it_docs::policy::Expectation;
+use it_dsse::check::SignatureCheck;
+use it_dsse::envelope::Envelope;
+use it_dsse::meter::Meter;
+use std::alloc::{AllocError, Global};
+
+/// The index of the first envelope that is provenance of a delivered file (SLSA v1.0, verifying
+/// artifacts).
+///
+/// The file has this `path` and these `digests`. The first of the `expectations` whose pattern
+/// matches the path speaks of the file, and no other. An envelope meets it where one of its builders
+/// signed the envelope, and the payload is a Statement with provenance that names this builder, with
+/// the build type and the parameters that are expected, and a subject of which agrees with the
+/// digests. Each signature is checked by `check`, which counts in `meter`: at most once for each key
+/// of the expected builders and each signature.
+///
+/// # Errors
+///
+/// `NoExpectation` with the path where no expectation's pattern matches it, `NoProvenance` with the
+/// path where none of the `envelopes` meets the expectation, and `OutOfMemory` where memory was
+/// refused.
+pub fn find_provenance(
+    alloc: Global,
+    path: &str,
+    digests: DigestSet,
+    expectations: &[Expectation],
+    envelopes: &[Envelope],
+    check: &Box<dyn SignatureCheck>,
+    meter: &mut Meter,
+) -> Result<usize, ProvError>
+    ensures found { IfOk result (IsFound (meaning check.now) expectations.now path.now digests
+        envelopes.now) }
+    ensures no_expectation { IfErr result (λ e. (named : _) → e ≡ ProvError.NoExpectation named
+        → (named ≡ path.now) × NoneFits expectations.now path.now) }
+    ensures no_provenance { IfErr result (λ e. (named : _) → e ≡ ProvError.NoProvenance named
+        → (named ≡ path.now)
+        × IsMissing (meaning check.now) expectations.now path.now digests envelopes.now) }
+    ensures at_most { (expectation : _) → Fits expectations.now path.now expectation
+        → RaisedBy (λ n. n ≤ key_count expectation.builders * signature_count envelopes.now)
+        meter.old meter.new }
+    ensures unasked { NoneFits expectations.now path.now → meter.new ≡ meter.old }
+    ensures at_least { OnOk result (RaisedBy (λ n. 1 ≤ n) meter.old meter.new) }
+{
+    let Some(expectation) = fitting(expectations, path) else {
+        return Err(ProvError::NoExpectation(text_of(alloc, path)?));
+    };
+    match first_to_meet(alloc, expectation, &digests, envelopes, check, meter)? {
+        Some(index) => Ok(index),
+        None => Err(ProvError::NoProvenance(text_of(alloc, path)?)),
+    }
+}
+
+/// The text, copied.
+fn text_of(alloc: Global, text: &str) -> Result<Text, AllocError>
+    ensures { IfOk result (λ t. t ≡ text.now) }
+{
+    Ok(Text::from(String::from_str(alloc, text)?))
+}

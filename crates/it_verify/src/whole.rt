@@ -43,15 +43,28 @@ pub fn verify(
     ensures refused { IfOk result (λ answer. OnRefused answer.verdict (¬ Made (meaning check.now) inputs.now)) }
 {
     let mut meter = Meter { asked: 0 };
-    let verdict = match accepted(alloc, inputs, check, &mut meter) {
-        Ok(verdict) => verdict,
-        Err(Failure::Refused(refusal)) => Verdict::Refused(refusal),
-        Err(Failure::OutOfMemory) => return Err(AllocError),
-    };
+    let verdict = verdict_on(alloc, inputs, check, &mut meter)?;
     Ok(Answer {
         verdict,
         asked: meter.asked,
     })
+}
+
+/// The verdict on inputs.
+fn verdict_on(
+    alloc: Global,
+    inputs: &Inputs,
+    check: &Box<dyn SignatureCheck>,
+    meter: &mut Meter,
+) -> Result<Verdict, AllocError>
+    requires { inputs.now.depth ≤ 8 }
+    ensures verdict { IfOk result (IsVerdict (meaning check.now) inputs.now) }
+{
+    match accepted(alloc, inputs, check, meter) {
+        Ok(verdict) => Ok(verdict),
+        Err(Failure::Refused(refusal)) => Ok(Verdict::Refused(refusal)),
+        Err(Failure::OutOfMemory) => Err(AllocError),
+    }
 }
 
 /// The verdict on inputs, where it accepts.

@@ -1,0 +1,12 @@
+use Rattle.it_verify.proofs.Verified.{on_accepted, on_refused}
+use Rattle.it_verify.proofs.whole.verify.Goals as goal
+
+pub returns-clause-accepted : goal.returns-clause-accepted
+returns-clause-accepted g c =
+    let check = (goal.SignatureCheck-dyn g (c.args.check.now.vtable, c.args.check.now.value)).meaning c.args.check.now.value in
+    on_accepted check c.args.inputs.now c.in_ok-verdict.verdict c.in_ok-verdict.ensures.verdict
+
+pub returns-clause-refused : goal.returns-clause-refused
+returns-clause-refused g c =
+    let check = (goal.SignatureCheck-dyn g (c.args.check.now.vtable, c.args.check.now.value)).meaning c.args.check.now.value in
+    on_refused check c.args.inputs.now c.in_ok-verdict.verdict c.in_ok-verdict.ensures.verdict

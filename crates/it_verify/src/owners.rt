@@ -19,6 +19,10 @@ use std::alloc::{AllocError, Global};
 
 /// Asks of each owner, in the order of the ids' bytes, whether the key signed the envelope, and stops
 /// at the first that did not.
+///
+/// # Errors
+///
+/// `Refused` for the first owner whose key did not sign, and `OutOfMemory` where memory was refused.
 pub(crate) fn check_owners(
     alloc: Global,
     owners: &Table<KeyObject>,

@@ -7,7 +7,5 @@ pub mod document;
 pub mod hexadecimal_text;
 pub mod parts;
 pub mod sequence;
-#[cfg(test)]
-mod tests;
 pub mod text;
 pub mod writing;

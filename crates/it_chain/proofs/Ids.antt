@@ -14,11 +14,11 @@ use Rattle.it_chain.specs.Answer.{Answering, Bodies, no_body, one_body, several,
 use Rattle.it_chain.specs.Contents.{Contents}
 use Rattle.it_chain.specs.Counted.{Setting, Body, of_link, of_layout, BodyOf, Counted}
 use Rattle.it_chain.specs.First.{Failing, HasTwo, at_id, Stands}
-use Rattle.it_chain.specs.Level.{Holding, Records, HasRecord, summary}
+use Rattle.it_chain.specs.Level.{Holding, Records, summary}
 use Rattle.it_chain.specs.Lower.{Lower, AnswersRight}
 use Rattle.it_chain.specs.Names.{folder_of}
 use Rattle.it_chain.specs.declared.record.IdRecord.{IdRecord}
-use Rattle.it_chain.specs.Walk.{IsGiven, Gives}
+use Rattle.it_chain.specs.Walk.{Gives}
 use Rattle.it_chain.specs.declared.chain.StepResult.{StepResult}
 use Rattle.it_chain.specs.declared.refusal.ChainRefusal.{ChainRefusal}
 use Rattle.it_chain.proofs.Counting.{listed, counts}
@@ -46,14 +46,15 @@ module _ (sub : Holding) (setting : Setting) (layout : Layout) (bundle : Content
     pub reads : BodyOf step.name payload body
     pub alone : (other : List ℕ) → Counted setting layout bundle step id other → payload ≡ other
 
-module _ (answers : Answering) (sub : Holding) (fails : Failing) (inside : Sublayouts answers sub fails) (setting : Setting) (layout : Layout) (bundle : Contents) (step : Step) where
-  -- then nothing stands at its place
-  pub none_of_given : (id : List ℕ) (o : Option IdRecord) → Gives sub setting layout bundle step id o → (refusal : ChainRefusal) → ¬ Stands sub fails setting layout bundle (at_id step id) refusal
-  none_of_given id None h refusal = ⊎_elim (λ x. h x.0.payload x.0.first) (λ k. h k.payload k.counted)
-  none_of_given id (Some r) h refusal =
+  -- nothing stands at the place of an id that does not count, or does so with one body
+  pub none_of_given : (fails : Failing) → HoldsOneWay sub → HoldsOrFails sub fails → (id : List ℕ) (given : Option IdRecord) → Gives sub setting layout bundle step id given
+      → (refusal : ChainRefusal) → ¬ Stands sub fails setting layout bundle (at_id step id) refusal
+  none_of_given fails one apart id None h refusal = ⊎_elim (λ x. h x.0.payload x.0.first) (λ k. h k.payload k.counted)
+  none_of_given fails one apart id (Some r) h refusal =
       ⊎_elim (λ x. x.0.differ (sym (h.alone x.0.payload x.0.first) ∙ h.alone x.0.other x.0.second))
-      (not_failing sub inside.one setting bundle fails inside.apart layout step id r.recorded h.recorded h.alone refusal)
+      (not_failing sub one setting bundle fails apart layout step id r.recorded h.recorded h.alone refusal)
 
+module _ (answers : Answering) (sub : Holding) (fails : Failing) (inside : Sublayouts answers sub fails) (setting : Setting) (layout : Layout) (bundle : Contents) (step : Step) where
   -- what counts for an id: nothing, one body, or two
   abbrev pub HasBodies : List ℕ → KeyNumber → Bodies → Type 0
   HasBodies id key no_body = (payload : List ℕ) → ¬ Counted setting layout bundle step id payload
@@ -94,7 +95,7 @@ module _ (answers : Answering) (sub : Holding) (fails : Failing) (inside : Subla
 
   -- what an id gives is right of its place
   tells_given : (id : List ℕ) (o : Option IdRecord) → Gives sub setting layout bundle step id o → TellsId id (Ok o)
-  tells_given id o h = ((none_of_given id o h, tt), h)
+  tells_given id o h = ((none_of_given sub setting layout bundle step fails inside.one inside.apart id o h, tt), h)
 
   tells_record : (id : List ℕ) (key : KeyNumber) (body : Body) → OneBody sub setting layout bundle step id key body → (recorded : Recorded) → Records sub bundle step.name id body recorded
       → TellsId id (Ok (Some (record { id = id; key = key; recorded = recorded })))

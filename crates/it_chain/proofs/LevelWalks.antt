@@ -1,5 +1,5 @@
 -- What a level comes to, from its steps and their rules.
-use Rattle.std.proofs.Common.{◌≡◌, ℕ, ◌<ℤ◌, List, [], ◌∷◌, ◌++◌, flat_map, zip, Result, Ok, Err, inl, inr, ⊎_elim, Contains, refl, sym, subst}
+use Rattle.std.proofs.Common.{◌≡◌, ◌<ℤ◌, List, [], ◌∷◌, ◌++◌, flat_map, zip, Err, inl, inr, ⊎_elim, Contains, refl, sym, subst}
 use Rattle.std.specs.List.{AllByRecursion, AllZip}
 use Rattle.it_docs.specs.declared.layout.Layout.{Layout}
 use Rattle.it_docs.specs.declared.step.Step.{Step}

@@ -1,5 +1,5 @@
 -- The first record that is not the same as another, and how records are judged.
-use Rattle.std.proofs.Common.{◌≡◌, ◌≢◌, ◌<◌, ◌≤◌, ◌+◌, ℕ, zero, suc, List, [], ◌∷◌, take, get_or, length, inl, inr, Result, Ok, Err, subst, sym, ap, ◌∙◌, arith}
+use Rattle.std.proofs.Common.{◌≡◌, ◌≢◌, ◌<◌, ◌≤◌, ℕ, zero, suc, List, [], ◌∷◌, take, get_or, length, inl, inr, Result, Ok, Err, subst, sym, ap, ◌∙◌, arith}
 use Rattle.std.specs.List.{AllByRecursion}
 use Rattle.it_chain.specs.Walk.{IsAgreed, IsFirstOther, IsJudged, keys_of}
 use Rattle.it_docs.specs.declared.step.Step.{Step}

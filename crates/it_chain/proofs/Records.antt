@@ -119,7 +119,7 @@ module _ (lower : Lower) (right : AnswersRight lower) (setting : Setting) (layou
   tells_entry e es false unlisted known rest =
       let gives = gives_none e unlisted in
       tells_behind At (at_id step e.0 ∷ []) (map (at_id step) (map (λ f. f.0) es)) (AreOf sub setting layout bundle step (e ∷ es)) (ids_answer lower setting answers layout bundle step (filter is_listed es))
-      (none_of_given answers sub fails inside setting layout bundle step e.0 None gives, tt)
+      (none_of_given sub setting layout bundle step fails inside.one inside.apart e.0 None gives, tt)
       (tells_weaker At (map (at_id step) (map (λ f. f.0) es)) (AreOf sub setting layout bundle step es) (AreOf sub setting layout bundle step (e ∷ es)) (ids_answer lower setting answers layout bundle step (filter is_listed es))
       (λ records are. (None, records, refl, gives, are)) rest)
 

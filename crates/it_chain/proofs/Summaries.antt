@@ -1,5 +1,5 @@
 -- What a sublayout stands for.
-use Rattle.std.proofs.Common.{◌≡◌, ◌≤◌, ◌-◌, ℕ, suc, List, [], ◌∷◌, length, get_or, ap, sym, ◌∙◌, refl, arith}
+use Rattle.std.proofs.Common.{◌≡◌, ◌≤◌, ◌-◌, List, [], ◌∷◌, length, get_or, ap, sym, ◌∙◌, refl, arith}
 use Rattle.std.specs.FinMap.{empty}
 use Rattle.it_digest.specs.Artifacts.{ArtifactMap}
 use Rattle.it_chain.specs.Level.{last_products, summary}

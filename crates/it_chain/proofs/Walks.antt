@@ -1,5 +1,5 @@
 -- What the functions that verify a level come to, put together.
-use Rattle.std.proofs.Common.{◌≡◌, ◌≢◌, ◌<◌, ◌+◌, ℕ, zero, suc, List, [], ◌∷◌, ◌++◌, map, flat_map, take, get_or, length, Option, Some, None, Result, Ok, Err, IfOk, IfErr, Bor, option_map, unwrap_or, true, inl, inr, ⊎_elim, Contains, refl, sym, ap, subst, ◌∙◌, arith}
+use Rattle.std.proofs.Common.{◌≡◌, ◌≢◌, ◌<◌, ◌+◌, ℕ, zero, suc, List, [], ◌∷◌, ◌++◌, map, flat_map, take, get_or, length, Option, Some, None, Result, Ok, Err, IfOk, IfErr, Bor, option_map, unwrap_or, true, inl, inr, Contains, refl, sym, ap, subst, ◌∙◌, arith}
 use Rattle.std.specs.FinMap.{entries, get, keys}
 use Rattle.std.specs.Bool.{◌==◌}
 use Rattle.std.proofs.lemmas.List.Elements.{Contains-append_right}
@@ -15,14 +15,14 @@ use Rattle.it_dsse.specs.declared.key_object.KeyObject.{KeyObject}
 use Rattle.it_docs.specs.declared.layout.Layout.{Layout}
 use Rattle.it_docs.specs.declared.step.Step.{Step}
 use Rattle.it_chain.specs.Answer.{with_record}
-use Rattle.it_chain.specs.Chain.{Chain, none_holds}
+use Rattle.it_chain.specs.Chain.{Chain}
 use Rattle.it_rules.specs.Item.{Recorded}
 use Rattle.it_chain.specs.Contents.{Contents, empty, files_of}
 use Rattle.it_chain.specs.Counted.{Setting, Body, of_link, of_layout, BodyOf, Counted}
-use Rattle.it_chain.specs.First.{Failing, First, HasTwo, IsFirst, Place, Stands, SublayoutFails, at_id, here, places, too_deep, uninspected}
+use Rattle.it_chain.specs.First.{Failing, First, HasTwo, IsFirst, Place, SublayoutFails, at_id, here, places}
 use Rattle.it_chain.specs.Level.{Holding, LevelHolds, Records}
 use Rattle.it_chain.specs.Names.{folder_of}
-use Rattle.it_chain.specs.Walk.{AreCandidates, BodyComes, BodyFails, CountTwo, CountsOne, Counts, FailsAt, Gives, IsCandidate, IsSigned, IsUnder, NoneAt, StandsAt, SublayoutComes, Walks, as_body, fails_below, holds_below}
+use Rattle.it_chain.specs.Walk.{AreCandidates, BodyComes, BodyFails, CountTwo, CountsOne, FailsAt, Gives, IsCandidate, IsSigned, IsUnder, NoneAt, StandsAt, SublayoutComes, Walks, as_body, fails_below, holds_below}
 use Rattle.it_chain.specs.declared.candidate.Body.{Body as Held}
 use Rattle.it_chain.specs.declared.candidate.Body.TheVariants.{Link as held_link, Layout as held_layout}
 use Rattle.it_chain.specs.declared.candidate.Candidate.{Candidate}
@@ -37,8 +37,8 @@ use Rattle.it_chain.proofs.Entries.{entry_known}
 use Rattle.it_chain.proofs.Members.{in_head}
 use Rattle.it_chain.proofs.Excludes.{chain_excludes, chain_one, none_one, uninspected_apart}
 use Rattle.it_chain.proofs.Firsts.{none_append, first_before, first_behind}
-use Rattle.it_chain.proofs.Ids.{OneBody}
-use Rattle.it_chain.proofs.Levels.{HoldsOneWay, HoldsOrFails, not_failing}
+use Rattle.it_chain.proofs.Ids.{OneBody, none_of_given}
+use Rattle.it_chain.proofs.Levels.{HoldsOneWay, HoldsOrFails}
 use Rattle.it_chain.proofs.Records.{AreOf}
 
 -- ---- places that follow each other
@@ -161,14 +161,6 @@ module _ (sub : Holding) (setting : Setting) (layout : Layout) (bundle : Content
   are_more (f ∷ es) records e given h gives =
       (h.0, h.1 ++ with_record given [], ap (λ rs. rs ++ with_record given []) h.2 ∙ record_before h.0 h.1 (with_record given []), h.3, are_more es h.1 e given h.4 gives)
 
-  -- nothing stands at the place of an id that does not count, or does so with one body
-  pub none_of_id : (fails : Failing) → HoldsOneWay sub → HoldsOrFails sub fails → (id : List ℕ) (given : Option IdRecord) → Gives sub setting layout bundle step id given
-      → (refusal : ChainRefusal) → ¬ Stands sub fails setting layout bundle (at_id step id) refusal
-  none_of_id fails one apart id None h refusal = ⊎_elim (λ x. h x.0.payload x.0.first) (λ k. h k.payload k.counted)
-  none_of_id fails one apart id (Some r) h refusal =
-      ⊎_elim (λ x. x.0.differ (sym (h.alone x.0.payload x.0.first) ∙ h.alone x.0.other x.0.second))
-      (not_failing sub one setting bundle fails apart layout step id r.recorded h.recorded h.alone refusal)
-
 -- ---- what counts for an id, from the candidates
 as_held : Body → Held
 as_held (of_link link) = held_link link
@@ -247,7 +239,7 @@ module _ (setting : Setting) (depth : ℕ) (layout : Layout) (bundle : Contents)
 
   -- nothing stands where an id gives a record or none
   pub walks_given : (given : Option IdRecord) → GivesOf given → WalksId (Ok given)
-  walks_given given h = ((none_of_id Sub setting layout bundle step Fails (one_below setting depth) (apart_below setting depth) id given h, tt), h)
+  walks_given given h = ((none_of_given Sub setting layout bundle step Fails (one_below setting depth) (apart_below setting depth) id given h, tt), h)
 
   pub walks_two : (e : ChainError) → HasTwo Sub Fails setting layout bundle step id → e ≡ Refused (here (TwoPayloads step.name id)) → WalksId (Err e)
   walks_two e two is = subst (λ x. WalksId (Err x)) (sym is) (inl (inl (two, refl)))

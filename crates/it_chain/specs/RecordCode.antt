@@ -1,5 +1,5 @@
 -- The code of recorded artifacts: that of their two maps.
-use Rattle.std.specs.Prelude.{◌≡◌, ℕ, List, refl}
+use Rattle.std.specs.Prelude.{refl}
 use Rattle.std.specs.Coded.{Coded, code_by, coded×, coded_ℕ, coded_list}
 use Rattle.std.specs.FinMap as finite
 use Rattle.it_digest.specs.Artifacts.{ArtifactMap}

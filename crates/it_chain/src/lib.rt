@@ -14,10 +14,6 @@ mod names;
 mod record;
 pub mod refusal;
 mod step_rules;
-#[cfg(test)]
-mod tests;
 mod verify;
-#[cfg(test)]
-mod verify_tests;
 
 pub use verify::verify_chain;

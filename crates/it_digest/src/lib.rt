@@ -6,5 +6,3 @@ pub mod artifacts;
 pub mod compare;
 pub mod reader;
 pub mod sums;
-#[cfg(test)]
-mod tests;

@@ -19,7 +19,5 @@ pub mod rule;
 pub mod statement;
 pub mod step;
 pub mod table;
-#[cfg(test)]
-mod tests;
 mod text;
 pub mod tree;

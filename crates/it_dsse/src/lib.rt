@@ -14,8 +14,6 @@ mod ring_index;
 mod signed;
 mod signers;
 pub mod signing;
-#[cfg(test)]
-mod tests;
 pub mod written;
 
 pub use encoding::pae;

@@ -6,7 +6,5 @@ mod item;
 mod matching;
 mod pattern;
 mod reading;
-#[cfg(test)]
-mod tests;
 
 pub use pattern::Pattern;

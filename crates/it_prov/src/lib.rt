@@ -9,7 +9,5 @@ mod finding;
 mod fits;
 mod meets;
 mod parameters;
-#[cfg(test)]
-mod tests;
 
 pub use finding::find_provenance;

@@ -7,5 +7,3 @@ mod folder_prefix;
 pub mod item;
 mod queue;
 pub mod rules;
-#[cfg(test)]
-mod tests;

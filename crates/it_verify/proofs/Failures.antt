@@ -17,7 +17,3 @@ module _ {P : Type 0} (At : P → Refusal → Type 0) where
   -- what stands at a place, behind places at which nothing does
   pub fails_at : (before : List P) (p : P) (later : List P) (e : Failure) → NoneAt At before → RefusedAs (At p) e → RefusedAs (IsFirst At (before ++ p ∷ later)) e
   fails_at before p later e none h = refused_weaker (At p) (IsFirst At (before ++ p ∷ later)) e (λ r x. first_behind At before (p ∷ later) r none (inl x)) h
-
-  -- what stands first behind places at which nothing does
-  pub fails_behind : (before later : List P) (e : Failure) → NoneAt At before → RefusedAs (IsFirst At later) e → RefusedAs (IsFirst At (before ++ later)) e
-  fails_behind before later e none h = refused_weaker (IsFirst At later) (IsFirst At (before ++ later)) e (λ r. first_behind At before later r none) h

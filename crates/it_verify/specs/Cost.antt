@@ -1,7 +1,6 @@
 -- How many checks of validity a verification may ask for (a word of this project; no standard speaks
 -- of it).
 use Rattle.std.specs.Prelude.{◌≡◌, ℕ, ◌+◌, ◌*◌, List, length}
-use Rattle.std.specs.List.{sum_by}
 use Rattle.std.specs.FinMap.{keys, len}
 use Rattle.it_digest.specs.Sums.{lines_of}
 use Rattle.it_dsse.specs.Check.{Check}
@@ -11,6 +10,7 @@ use Rattle.it_docs.specs.Policy.{PolicyOf}
 use Rattle.it_docs.specs.declared.policy.Expectation.{Expectation}
 use Rattle.it_docs.specs.declared.policy.Policy.{Policy}
 use Rattle.it_chain.specs.Cost.{Costs as ChainCosts, CostsIfFound, HasSignatures, IsSum}
+use Rattle.it_prov.specs.Cost.{key_count}
 use Rattle.it_prov.specs.Fits.{Fits}
 use Rattle.it_verify.specs.Documents.{ReadAs, setting_of}
 use Rattle.it_verify.specs.declared.inputs.Inputs.{Inputs}
@@ -25,7 +25,7 @@ OwnersCost inputs = CostsIfFound (AreOwners inputs) (λ read n. n ≡ len read.0
 
 -- a delivered file costs a check for each key of the expected builders and each signature
 abbrev pub FileCosts : List Expectation → ℕ → List ℕ → ℕ → Type 0
-FileCosts expectations signatures path = CostsIfFound (Fits expectations path) (λ expectation n. n ≡ sum_by (λ builder. len builder.keys) expectation.builders * signatures)
+FileCosts expectations signatures path = CostsIfFound (Fits expectations path) (λ expectation n. n ≡ key_count expectation.builders * signatures)
 
 -- what a verification costs: what the owners cost, what the layout costs over the links, and what the
 -- delivered files cost

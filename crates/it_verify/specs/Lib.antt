@@ -14,6 +14,7 @@ pub mod ReportLaws
 pub mod Signed
 pub mod Signing
 pub mod Verdict
+pub mod Verifying
 pub mod Walk
 pub mod WholeLaws
 pub mod Words

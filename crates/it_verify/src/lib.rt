@@ -3,8 +3,6 @@
 #![tactic(auto)]
 
 mod chain_refusal;
-#[cfg(test)]
-mod command_tests;
 mod digesting;
 mod documents;
 mod encoding;
@@ -22,15 +20,12 @@ mod provenance;
 mod records;
 pub mod refusal;
 pub mod report_laws;
-#[cfg(test)]
-mod report_tests;
 mod reporting;
 mod rules;
 mod signed;
 mod signing;
-#[cfg(test)]
-mod tests;
 pub mod verdict;
+mod verifying;
 mod whole;
 pub mod whole_laws;
 pub mod words;
@@ -41,4 +36,5 @@ pub use matching::run_match;
 pub use reporting::report;
 pub use signed::run_signed;
 pub use signing::run_sign;
+pub use verifying::run_verify;
 pub use whole::verify;

@@ -3,7 +3,7 @@ ghost use Rattle.std.specs.Prelude.{◌≡◌, [], false, IfOk, IfErr, map, stri
 ghost use Rattle.clap.specs.Words.{app_of, fault_of, subcommand_of, subcommand_rows_of, with_subcommand};
 ghost use Rattle.clap.specs.declared.builder.command.Command.TheViews.{out-Command};
 ghost use Rattle.it_base.specs.Finds.{Finds};
-ghost use Rattle.it_verify.specs.Words.{AreWordsOf, NamesCommand, program};
+ghost use Rattle.it_verify.specs.Words.{AreWordsOf, GoesNoDeeper, NamesCommand, program};
 ghost use Rattle.it_verify.specs.declared.words.WordsFault.TheVariants.{OutOfMemory};
 
 mod arguments;
@@ -13,6 +13,7 @@ pub mod matching;
 mod note;
 pub mod signed;
 pub mod signing;
+pub mod verifying;
 
 use clap::{ArgMatches, Command};
 use digesting::DigestWords;
@@ -22,6 +23,7 @@ use signed::SignedWords;
 use signing::SignWords;
 use std::alloc::{AllocError, Global};
 use thiserror::Error;
+use verifying::VerifyWords;
 
 /// A command with its values.
 #[derive(Drop)]
@@ -36,6 +38,9 @@ pub enum Words {
     Sign(SignWords),
     /// `itv digest FILE..`: the SHA-256 of each file.
     Digest(DigestWords),
+    /// `itv verify --policy F --layout F --links DIR --sums F --at MOMENT --ring F [--provenance F]
+    /// [--records DIR] [--depth N]`: whether delivered files were made as the owners laid down.
+    Verify(VerifyWords),
 }
 
 /// Why the words are no command.
@@ -59,13 +64,15 @@ impl From<AllocError> for WordsFault {
 
 /// The command that the words name, with its values. The first word is the program's name.
 ///
-/// No word asks for help: `--help`, `-h`, `help` and `--version` are words that do not parse.
+/// No word asks for help: `--help`, `-h`, `help` and `--version` are words that do not parse. The
+/// depth of a verification is at most 8.
 ///
 /// # Errors
 ///
 /// `Unread` where the words are no command, and `OutOfMemory` where memory was refused.
 pub fn read_words(alloc: Global, words: &[String]) -> Result<Words, WordsFault>
     ensures ok { IfOk result (AreWordsOf (map string_bytes words.now)) }
+    ensures depth { IfOk result GoesNoDeeper }
     ensures err { IfErr result (λ fault. (command : _)
         → AreWordsOf (map string_bytes words.now) command → fault ≡ WordsFault.OutOfMemory) }
 {
@@ -100,7 +107,8 @@ fn command<'a>(alloc: Global) -> Result<Command<'a>, AllocError>
     let program = with_command(program, matching::command(alloc)?)?;
     let program = with_command(program, encoding::command(alloc)?)?;
     let program = with_command(program, signing::command(alloc)?)?;
-    with_command(program, digesting::command(alloc)?)
+    let program = with_command(program, digesting::command(alloc)?)?;
+    with_command(program, verifying::command(alloc)?)
 }
 
 fn with_command<'a>(program: Command<'a>, command: Command<'a>) -> Result<Command<'a>, AllocError>
@@ -120,6 +128,7 @@ fn named(alloc: Global, matches: &ArgMatches<'_>) -> Result<Option<Words>, Alloc
         Some(("pae", values)) => Ok(encoding::read(alloc, values)?.map(Words::Pae)),
         Some(("sign", values)) => Ok(signing::read(alloc, values)?.map(Words::Sign)),
         Some(("digest", values)) => Ok(digesting::read(alloc, values)?.map(Words::Digest)),
+        Some(("verify", values)) => Ok(verifying::read(alloc, values)?.map(Words::Verify)),
         _ => Ok(None),
     }
 }

@@ -12,7 +12,7 @@ pub(crate) fn run<R: Files + Print + AllocGlobal>(
     rt: &R,
     words: &PaeWords,
 ) -> Result<Status, Fault> {
-    let body = read_file(rt, &words.body)?;
+    let body = read_file(rt, words.body.as_str())?;
     let mut out = io::writer(rt);
     let kind = words.kind.as_str();
     Ok(run_pae(rt.alloc(), kind, body.as_slice(), &mut out)?)

@@ -23,6 +23,12 @@ pub(crate) enum Fault {
     /// A file has more bytes than this.
     #[error("{path} is larger than {limit} bytes")]
     TooLarge { path: String, limit: u64 },
+    /// A folder has a name in it that is not UTF-8.
+    #[error("cannot read {path}: a name in it is not UTF-8")]
+    BadName { path: String },
+    /// A folder has more entries that are read than this.
+    #[error("{path} has more than {limit} entries to read")]
+    TooMany { path: String, limit: usize },
     /// A file is no ring.
     #[error("{path} is no ring of secrets")]
     BadRing { path: String },
@@ -78,6 +84,17 @@ impl Fault {
         }
         match unreadable(alloc, path, error) {
             Ok(fault) => fault,
+            Err(error) => Fault::from(error),
+        }
+    }
+
+    /// The fault of a folder of which an entry cannot be read.
+    pub(crate) fn of_listing(alloc: Global, path: &str, error: &io::Error) -> Fault {
+        if error.kind() != io::ErrorKind::InvalidFilename {
+            return Fault::of_file(alloc, path, error);
+        }
+        match String::from_str(alloc, path) {
+            Ok(path) => Fault::BadName { path },
             Err(error) => Fault::from(error),
         }
     }

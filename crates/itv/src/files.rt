@@ -2,7 +2,6 @@
 ghost use Rattle.std.specs.Prelude.{◌≡◌, ◌<◌, ◌-◌, ◌^◌, length, IfOk, IfSome, IsNone};
 
 use crate::fault::Fault;
-use it_base::text::Text;
 use it_dsse::ring::{HmacRing, RingFault};
 use std::alloc::{AllocError, Global};
 use std::io::Read;
@@ -13,9 +12,8 @@ use std::{fs, io};
 pub(crate) const MOST_BYTES: u64 = 8_388_608;
 
 /// The bytes of a file, up to the limit.
-pub(crate) fn read_file<R: Files + AllocGlobal>(rt: &R, path: &Text) -> Result<Vec<u8>, Fault> {
+pub(crate) fn read_file<R: Files + AllocGlobal>(rt: &R, path: &str) -> Result<Vec<u8>, Fault> {
     let alloc = rt.alloc();
-    let path = path.as_str();
     let bytes = match fs::open(rt, path) {
         Ok(file) => read_limited(alloc, file, MOST_BYTES),
         Err(error) => Err(error),
@@ -31,13 +29,13 @@ pub(crate) fn read_file<R: Files + AllocGlobal>(rt: &R, path: &Text) -> Result<V
 }
 
 /// The ring that a file is.
-pub(crate) fn read_ring<R: Files + AllocGlobal>(rt: &R, path: &Text) -> Result<HmacRing, Fault> {
+pub(crate) fn read_ring<R: Files + AllocGlobal>(rt: &R, path: &str) -> Result<HmacRing, Fault> {
     let alloc = rt.alloc();
     let bytes = read_file(rt, path)?;
     match HmacRing::read(alloc, bytes.as_slice()) {
         Ok(ring) => Ok(ring),
         Err(RingFault::BadRing) => Err(Fault::BadRing {
-            path: String::from_str(alloc, path.as_str())?,
+            path: String::from_str(alloc, path)?,
         }),
         Err(RingFault::OutOfMemory) => Err(Fault::from(AllocError)),
     }

@@ -7,11 +7,13 @@ mod digesting;
 mod encoding;
 mod fault;
 mod files;
+mod folders;
 mod matching;
 mod signed;
 mod signing;
 #[cfg(test)]
 mod tests;
+mod verifying;
 
 use fault::{Fault, exit_status};
 use it_verify::outcome::Status;
@@ -37,6 +39,7 @@ fn run<R: Env + Files + Print + AllocGlobal>(rt: &R) -> Result<Status, Fault> {
         Words::Pae(words) => encoding::run(rt, &words),
         Words::Sign(words) => signing::run(rt, &words),
         Words::Digest(words) => digesting::run(rt, &words),
+        Words::Verify(words) => verifying::run(rt, &words),
     }
 }
 

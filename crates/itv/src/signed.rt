@@ -14,8 +14,8 @@ pub(crate) fn run<R: Files + Print + AllocGlobal>(
     words: &SignedWords,
 ) -> Result<Status, Fault> {
     let alloc = rt.alloc();
-    let envelope = read_file(rt, &words.envelope)?;
-    let ring = read_ring(rt, &words.ring)?;
+    let envelope = read_file(rt, words.envelope.as_str())?;
+    let ring = read_ring(rt, words.ring.as_str())?;
     let ids = ring.ids(alloc)?;
     let check: Box<dyn SignatureCheck> = Box::new(alloc, ring)?;
     let mut out = io::writer(rt);

@@ -13,8 +13,8 @@ pub(crate) fn run<R: Files + Print + AllocGlobal>(
     words: &SignWords,
 ) -> Result<Status, Fault> {
     let alloc = rt.alloc();
-    let body = read_file(rt, &words.body)?;
-    let ring = read_ring(rt, &words.ring)?;
+    let body = read_file(rt, words.body.as_str())?;
+    let ring = read_ring(rt, words.ring.as_str())?;
     let id = words.key.as_str();
     let kind = words.kind.as_str();
     let mut out = io::writer(rt);

@@ -2,7 +2,7 @@
 ghost use Rattle.std.specs.Prelude.{◌≡◌, false, map, option_map};
 ghost use Rattle.clap.specs.Words.{found_of};
 ghost use Rattle.clap.specs.Walk.{all_of, first_of, rows_of, rule_of};
-ghost use Rattle.it_verify.specs.Words.{needed_option, needed_word, needed_words};
+ghost use Rattle.it_verify.specs.Words.{needed_option, needed_word, needed_words, plain_option};
 
 use clap::{Arg, ArgAction, ArgMatches};
 use std::alloc::Global;
@@ -26,15 +26,20 @@ pub(super) fn needed_words<'a>(alloc: Global, name: &'a str, shown: &'a str) -> 
         .action(ArgAction::Append)
 }
 
+/// An option that may be left out, with one value.
+pub(super) fn plain_option<'a>(alloc: Global, name: &'a str, shown: &'a str) -> Arg<'a>
+    ensures rule { rule_of result ≡ plain_option name.entry.now }
+    ensures local { result.global ≡ false }
+{
+    Arg::new(alloc, name).long(name).value_name(shown)
+}
+
 /// An option that has to be given, with one value.
 pub(super) fn needed_option<'a>(alloc: Global, name: &'a str, shown: &'a str) -> Arg<'a>
     ensures rule { rule_of result ≡ needed_option name.entry.now }
     ensures local { result.global ≡ false }
 {
-    Arg::new(alloc, name)
-        .long(name)
-        .value_name(shown)
-        .required(true)
+    plain_option(alloc, name, shown).required(true)
 }
 
 /// The value that was given to an argument.

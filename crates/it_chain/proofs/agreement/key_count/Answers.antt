@@ -1,9 +1,9 @@
-use Rattle.std.proofs.Common.{◌≡◌, ◌∙◌, sym, ap, arith, nat_eq, rules, get_or, take_all, List, ℕ, [], ◌∷◌, ◌++◌, subst, take, map, true, false, refl}
+use Rattle.std.proofs.Common.{◌≡◌, ◌∙◌, sym, ap, arith, nat_eq, get_or, take_all, List, [], ◌∷◌, ◌++◌, take, map, refl}
 use Rattle.std.specs.List.{IsDistinct, list_any}
 use Rattle.std.specs.Cmp.{nat_eq_equiv}
 use Rattle.std.proofs.lemmas.Map.Made.{length-from_keys}
 use Rattle.it_chain.specs.declared.record.IdRecord.{IdRecord}
-use Rattle.it_chain.proofs.KeyCounts.{SameMembers, once_new, same_new, same_old}
+use Rattle.it_chain.proofs.KeyCounts.{once_new, same_new, same_old}
 use Rattle.it_chain.proofs.agreement.key_count.Goals as goal
 use Rattle.it_chain.proofs.agreement.key_count.Goals.{then-not-contains+in_ok-push, else-not-contains}
 

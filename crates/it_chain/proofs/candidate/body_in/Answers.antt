@@ -1,5 +1,4 @@
-use Rattle.std.proofs.Common.{rules}
-use Rattle.it_chain.proofs.Candidates.{no_body, other_name}
+use Rattle.it_chain.proofs.Candidates.{no_body}
 use Rattle.it_chain.proofs.candidate.body_in.Goals as goal
 
 pub returns-in_default : goal.returns-in_default

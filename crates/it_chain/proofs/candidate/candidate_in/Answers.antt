@@ -1,5 +1,3 @@
-use Rattle.std.proofs.Common.{rules}
-use Rattle.it_chain.proofs.Candidates.{other_type, other_payload}
 use Rattle.it_chain.proofs.candidate.candidate_in.Goals as goal
 
 pub returns-in_default : goal.returns-in_default

@@ -1,8 +1,8 @@
-use Rattle.std.proofs.Common.{◌≡◌, ◌∙◌, ◌+◌, ◌++◌, ◌∷◌, [], List, take, drop, take_all, Contains, true, None, sym, ap, subst, refl, arith}
+use Rattle.std.proofs.Common.{◌≡◌, ◌∙◌, ◌+◌, ◌++◌, ◌∷◌, [], List, take, drop, take_all, Contains, true, sym, ap, subst, arith}
 use Rattle.std.proofs.lemmas.List.{take_more, take-append-drop}
 use Rattle.std.proofs.lemmas.List.Elements.{Contains-append_left, Contains-get_or}
 use Rattle.it_chain.specs.declared.candidate.Candidate.{Candidate}
-use Rattle.it_chain.proofs.SoFar.{SoFar, begun, one_of, passed_by, repeated, two_of}
+use Rattle.it_chain.proofs.SoFar.{begun, one_of, passed_by, repeated, two_of}
 use Rattle.it_chain.proofs.counted.counted.Goals as goal
 use Rattle.it_chain.proofs.counted.counted.Goals.{in-Some+in-None, in-Some+in-Some-first+else-not-is_same_payload, in_default}
 

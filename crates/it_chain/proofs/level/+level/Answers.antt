@@ -1,4 +1,4 @@
-use Rattle.std.proofs.Common.{◌≡◌, ◌∙◌, ◌<ℤ◌, ◌-◌, ℕ, List, [], ◌∷◌, ◌++◌, None, Some, Contains, map, zip, Err, flat_map, append_assoc, append-nil, true, refl, rules, sym, ap, subst, string_bytes, unwrap_or, arith}
+use Rattle.std.proofs.Common.{◌≡◌, ◌∙◌, ◌<ℤ◌, ◌-◌, ℕ, List, [], ◌∷◌, ◌++◌, None, Some, Contains, map, zip, Err, flat_map, append_assoc, append-nil, true, rules, sym, ap, subst, string_bytes, unwrap_or, arith}
 use Rattle.std.specs.FinMap.{entries, get, keys}
 use Rattle.std.proofs.lemmas.Int.{ints}
 use Rattle.std.proofs.lemmas.Result.{err_from_is_err_and}
@@ -11,11 +11,12 @@ use Rattle.it_chain.specs.Level.{StepHolds, links_in}
 use Rattle.it_chain.specs.Walk.{AreRuled, BodyComes, FailsAt, Gives, NoneAt, StandsAt, as_body, fails_below, holds_below}
 use Rattle.it_chain.specs.declared.refusal.ChainError.TheVariants.{Refused}
 use Rattle.it_chain.specs.declared.refusal.ChainFault.TheVariants.{TwoPayloads}
-use Rattle.it_chain.proofs.LevelWalks.{expired_first, level_holds, rules_fail, steps_fail}
+use Rattle.it_chain.proofs.Ids.{none_of_given}
+use Rattle.it_chain.proofs.LevelWalks.{level_holds, rules_fail, steps_fail}
 use Rattle.it_chain.proofs.LevelRules.{links_differ}
 use Rattle.it_chain.proofs.Records.{AreOf, are_records}
 use Rattle.it_chain.proofs.StepWalks.{judged_walks}
-use Rattle.it_chain.proofs.Walks.{are_more, none_ids, none_of_id, entry_at, folder_or, ids_fail, level_below, nil_of, fails_before, fails_at, none_counts, none_more, one_counts, one_below, apart_below, two_count, walks_behind, walks_body, walks_given, walks_one, walks_two, zip_more}
+use Rattle.it_chain.proofs.Walks.{are_more, none_ids, entry_at, folder_or, ids_fail, level_below, nil_of, fails_before, fails_at, none_counts, none_more, one_counts, one_below, apart_below, two_count, walks_behind, walks_body, walks_given, walks_one, walks_two, zip_more}
 use Rattle.it_chain.proofs.level.+level.Goals as goal
 
 pub verify_id-returns-in_err-recorded-in-One : goal.verify_id-returns-in_err-recorded-in-One
@@ -101,7 +102,7 @@ verify_ids-loop-id-preserved g t c =
       (
         l.0 ++ e ∷ [],
         all ∙ sym (append_assoc l.0 (e ∷ []) rest),
-        none_ids (StandsAt s v.depth v.layout.now v.links.now) step l.0 e l.2 (none_of_id (holds_below s v.depth) s v.layout.now v.links.now step (fails_below s v.depth) (one_below s v.depth) (apart_below s v.depth) e.0 None gives),
+        none_ids (StandsAt s v.depth v.layout.now v.links.now) step l.0 e l.2 (none_of_given (holds_below s v.depth) s v.layout.now v.links.now step (fails_below s v.depth) (one_below s v.depth) (apart_below s v.depth) e.0 None gives),
         subst (AreOf (holds_below s v.depth) s v.layout.now v.links.now step (l.0 ++ e ∷ [])) (append-nil c.loop-id.records.items)
             (are_more (holds_below s v.depth) s v.layout.now v.links.now step l.0 c.loop-id.records.items e None l.3 gives),
       ),
@@ -124,7 +125,7 @@ verify_ids-loop-id-preserved-in_default g t c =
       (
         l.0 ++ e ∷ [],
         all ∙ sym (append_assoc l.0 (e ∷ []) rest),
-        none_ids (StandsAt s v.depth v.layout.now v.links.now) step l.0 e l.2 (none_of_id (holds_below s v.depth) s v.layout.now v.links.now step (fails_below s v.depth) (one_below s v.depth) (apart_below s v.depth) e.0 (None) gives),
+        none_ids (StandsAt s v.depth v.layout.now v.links.now) step l.0 e l.2 (none_of_given (holds_below s v.depth) s v.layout.now v.links.now step (fails_below s v.depth) (one_below s v.depth) (apart_below s v.depth) e.0 (None) gives),
         subst (AreOf (holds_below s v.depth) s v.layout.now v.links.now step (l.0 ++ e ∷ [])) (append-nil c.loop-id.records.items)
             (are_more (holds_below s v.depth) s v.layout.now v.links.now step l.0 c.loop-id.records.items e (None) l.3 gives),
       ),
@@ -147,7 +148,7 @@ verify_ids-loop-id-preserved-in-Continue-branch-2 g t c =
       (
         l.0 ++ e ∷ [],
         all ∙ sym (append_assoc l.0 (e ∷ []) rest),
-        none_ids (StandsAt s v.depth v.layout.now v.links.now) step l.0 e l.2 (none_of_id (holds_below s v.depth) s v.layout.now v.links.now step (fails_below s v.depth) (one_below s v.depth) (apart_below s v.depth) e.0 (Some c.in-Some-record.record) gives),
+        none_ids (StandsAt s v.depth v.layout.now v.links.now) step l.0 e l.2 (none_of_given (holds_below s v.depth) s v.layout.now v.links.now step (fails_below s v.depth) (one_below s v.depth) (apart_below s v.depth) e.0 (Some c.in-Some-record.record) gives),
         subst (AreOf (holds_below s v.depth) s v.layout.now v.links.now step (l.0 ++ e ∷ [])) (sym c.in_ok-push.ensures.items)
             (are_more (holds_below s v.depth) s v.layout.now v.links.now step l.0 c.loop-id.records.items e (Some c.in-Some-record.record) l.3 gives),
       ),

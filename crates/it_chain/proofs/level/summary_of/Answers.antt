@@ -1,4 +1,4 @@
-use Rattle.std.proofs.Common.{◌≡◌, ◌∙◌, arith}
+use Rattle.std.proofs.Common.{arith}
 use Rattle.it_chain.proofs.Summaries.{summary_between}
 use Rattle.it_chain.proofs.level.summary_of.Goals as goal
 

@@ -1,4 +1,4 @@
-use Rattle.std.proofs.Common.{◌≡◌, ◌≢◌, ◌++◌, List, ℕ, [], lit<, length, true, ap, ◌∙◌, ◌==◌}
+use Rattle.std.proofs.Common.{◌≡◌, ◌≢◌, [], lit<, length, true, ap, ◌∙◌, ◌==◌}
 use Rattle.std.proofs.lemmas.Str.Pattern.{contains_char}
 use Rattle.it_chain.proofs.Claims.{claimed_by}
 use Rattle.it_chain.proofs.names.is_claimed.Goals as goal

@@ -1,0 +1,117 @@
+//! What the rows share: texts, digests that are known, and readers and writers that fail.
+use it_base::text::Text;
+use it_digest::artifacts::Artifacts;
+use it_digest::compare::DigestSet;
+use std::alloc::{AllocError, Global};
+use std::io;
+use std::io::{ErrorKind, Read, Write};
+
+/// The SHA-256 of `abc` in hexadecimal (FIPS 180-4, NIST's examples).
+pub const ABC: &str = "ba7816bf8f01cfea414140de5dae2223b00361a396177a9cb410ff61f20015ad";
+
+/// The SHA-256 of no bytes in hexadecimal (NIST's examples).
+pub const NOTHING: &str = "e3b0c44298fc1c149afbf4c8996fb92427ae41e4649b934ca495991b7852b855";
+
+/// The text, as a `Text`.
+pub fn text(alloc: Global, text: &str) -> Result<Text, AllocError> {
+    Ok(Text::from(String::from_str(alloc, text)?))
+}
+
+/// Copies of the words.
+pub fn strings(alloc: Global, words: &[&str]) -> Result<Vec<String>, AllocError> {
+    let mut strings = Vec::new(alloc);
+    for word in words {
+        strings.push(String::from_str(alloc, word)?)?;
+    }
+    Ok(strings)
+}
+
+/// The text of so many lists, each inside the one before.
+pub fn nested(alloc: Global, levels: usize) -> Result<String, AllocError> {
+    let mut text = String::new(alloc);
+    for _ in 0..levels {
+        text.push('[')?;
+    }
+    for _ in 0..levels {
+        text.push(']')?;
+    }
+    Ok(text)
+}
+
+/// The map with these entries.
+pub fn map_of(alloc: Global, entries: &[(&str, DigestSet)]) -> Result<Artifacts, AllocError> {
+    let mut map = Artifacts::new(alloc);
+    for (path, digests) in entries {
+        map.insert(String::from_str(alloc, path)?, *digests)?;
+    }
+    Ok(map)
+}
+
+/// Takes `most` bytes at most at a write. Once it holds as many as it has room for, it answers an
+/// error or takes nothing, once, and has room for more from then on.
+#[derive(Drop)]
+pub struct Pipe {
+    /// What it took.
+    pub taken: Vec<u8>,
+    /// How many bytes it has room for.
+    pub room: usize,
+    /// How many bytes it takes at a write.
+    pub most: usize,
+    /// How it answers once it is full.
+    pub full: Full,
+}
+
+/// How a pipe that is full answers.
+#[derive(Clone, Copy, Debug)]
+pub enum Full {
+    /// With an error.
+    AnswersAnError,
+    /// With none of the bytes.
+    TakesNothing,
+}
+
+impl Write for Pipe {
+    fn write(&mut self, buf: &[u8]) -> io::Result<usize> {
+        let left = self.room.saturating_sub(self.taken.len());
+        if left == 0 {
+            self.room = usize::MAX;
+            return match self.full {
+                Full::AnswersAnError => Err(io::Error::from(ErrorKind::BrokenPipe)),
+                Full::TakesNothing => Ok(0),
+            };
+        }
+        let count = buf.len().min(left).min(self.most);
+        self.taken.extend_from_slice(&buf[..count])?;
+        Ok(count)
+    }
+
+    fn flush(&mut self) -> io::Result<()> {
+        Ok(())
+    }
+}
+
+/// Gives the same byte one read at a time, so many times, and fails at the read with this number.
+#[derive(Drop)]
+pub struct Source {
+    /// How many bytes it has.
+    pub bytes: u64,
+    /// How many reads there were.
+    pub reads: u64,
+    /// The number of the read that fails, counted from 1.
+    pub fails_at: Option<u64>,
+}
+
+impl Read for Source {
+    fn read(&mut self, buf: &mut [u8]) -> io::Result<usize> {
+        self.reads = self.reads.saturating_add(1);
+        if self.fails_at == Some(self.reads) {
+            return Err(io::Error::from(ErrorKind::Other));
+        }
+        if self.bytes == 0 || buf.is_empty() {
+            return Ok(0);
+        }
+        self.bytes -= 1;
+        buf[0] = b'a';
+        Ok(1)
+    }
+}

@@ -1,0 +1,503 @@
+use crate::devices::{Full, Pipe, strings, text};
+use it_base::parts::from_bytes;
+use it_base::sequence::Sequence;
+use it_dsse::check::SignatureCheck;
+use it_dsse::envelope::{Envelope, EnvelopeFault, Signature};
+use it_dsse::key_object::KeyObject;
+use it_dsse::meter::Meter;
+use it_dsse::ring::{HmacRing, RingFault};
+use it_dsse::signing::{SignFault, sign};
+use it_dsse::written::WriteFault;
+use it_dsse::{hmac_sha256, pae, signed_by, signed_ids};
+use sha2::{Digest, Sha256};
+use std::alloc::{AllocError, Global};
+use std::test::Fail;
+
+#[test]
+fn encodes(rt: HostRuntime) -> Result<(), Fail> {
+    let alloc = rt.alloc();
+    // The example of the DSSE specification, an empty body, and a type of more bytes than characters.
+    let rows = [
+        (
+            "http://example.com/HelloWorld",
+            "hello world",
+            "DSSEv1 29 http://example.com/HelloWorld 11 hello world",
+        ),
+        (
+            "application/vnd.in-toto+json",
+            "",
+            "DSSEv1 28 application/vnd.in-toto+json 0 ",
+        ),
+        ("größe", "ok", "DSSEv1 7 größe 2 ok"),
+    ];
+    for (kind, body, want) in rows {
+        let bytes = pae(alloc, kind, body.as_bytes())?;
+        assert_eq!(rt; bytes.as_slice(), want.as_bytes(), "{kind}");
+    }
+    Ok(())
+}
+
+#[test]
+fn computes_codes(rt: HostRuntime) -> Result<(), Fail> {
+    let alloc = rt.alloc();
+    let counted: [u8; 25] = [
+        1, 2, 3, 4, 5, 6, 7, 8, 9, 10, 11, 12, 13, 14, 15, 16, 17, 18, 19, 20, 21, 22, 23, 24, 25,
+    ];
+    let long = [0xaa; 131];
+    // The seven cases of RFC 4231; of the fifth the first 16 bytes are given.
+    let rows: [(&[u8], &[u8], &str); 7] = [
+        (
+            &[0x0b; 20],
+            b"Hi There",
+            "b0344c61d8db38535ca8afceaf0bf12b881dc200c9833da726e9376c2e32cff7",
+        ),
+        (
+            b"Jefe",
+            b"what do ya want for nothing?",
+            "5bdcc146bf60754e6a042426089575c75a003f089d2739839dec58b964ec3843",
+        ),
+        (
+            &[0xaa; 20],
+            &[0xdd; 50],
+            "773ea91e36800e46854db8ebd09181a72959098b3ef8c122d9635514ced565fe",
+        ),
+        (
+            &counted,
+            &[0xcd; 50],
+            "82558a389a443c0ea4cc819899f2083a85f0faa3e578f8077a2e3ff46729665b",
+        ),
+        (
+            &[0x0c; 20],
+            b"Test With Truncation",
+            "a3b6167473100ee06e0c796c2955552b",
+        ),
+        (
+            &long,
+            b"Test Using Larger Than Block-Size Key - Hash Key First",
+            "60e431591ee0b67f0d8a26aacbf5b77f8e0bc6213728c5140546040f0ee37f54",
+        ),
+        (
+            &long,
+            b"This is a test using a larger than block-size key and a larger than block-size data. The key needs to be hashed before being used by the HMAC algorithm.",
+            "9b09ffa71b942fcb27635fbcd5b0e944bfdc63644f0713938a7f51535c3a35e2",
+        ),
+    ];
+    for (key, message, want) in rows {
+        let code = hmac_sha256(key, message);
+        let text = hex::encode(alloc, code.as_slice())?;
+        assert!(rt; text.as_str().starts_with(want), "{want}");
+    }
+    Ok(())
+}
+
+// A key of one block stands for itself, and a longer one for its digest. The codes were computed by
+// another program.
+#[test]
+fn digests_keys_longer_than_a_block(rt: HostRuntime) -> Result<(), Fail> {
+    let alloc = rt.alloc();
+    let block = hmac_sha256(&[0xaa; 64], b"Sample message for keylen");
+    let text = hex::encode(alloc, block.as_slice())?;
+    assert_eq!(rt;
+        text.as_str(),
+        "a7c8a4e5e9dfc9097262c3c2891710074e4640d6a1056d21853b2e1a83461c13"
+    );
+    let longer = hmac_sha256(&[0xaa; 65], b"Sample message for keylen");
+    let text = hex::encode(alloc, longer.as_slice())?;
+    assert_eq!(rt;
+        text.as_str(),
+        "e420ce7f8eeb9d8561ba3a72173e9b1e7ff195126116eeb3fb0463ea2c9e8938"
+    );
+    let digest = Sha256::digest([0xaa; 65].as_slice());
+    let by_digest = hmac_sha256(&digest, b"Sample message for keylen");
+    assert_eq!(rt; by_digest, longer);
+    Ok(())
+}
+
+fn joined(alloc: Global, texts: &[String]) -> Result<String, AllocError> {
+    let mut all = String::new(alloc);
+    for text in texts {
+        all.push_str(text.as_str())?;
+        all.push(' ')?;
+    }
+    Ok(all)
+}
+
+#[test]
+fn reads_envelopes(rt: HostRuntime) -> Result<(), Fail> {
+    let alloc = rt.alloc();
+    for payload in ["-_8=", "+/8="] {
+        let bytes = format!(in alloc;
+            "{{\"payload\":\"{payload}\",\"payloadType\":\"t\",\"other\":7,\"signatures\":[{{\"sig\":\"Zg==\"}},{{\"sig\":\"\",\"keyid\":\"a\"}}]}}"
+        )?;
+        match Envelope::read(alloc, bytes.as_bytes()) {
+            Ok(envelope) => {
+                assert_eq!(rt; envelope.payload.as_slice(), [0xfb, 0xff].as_slice());
+                assert_eq!(rt; envelope.payload_type.as_str(), "t");
+                let signatures = envelope.signatures.as_slice();
+                assert_eq!(rt; signatures.len(), 2);
+                assert_eq!(rt; signatures[0].keyid.as_str(), "");
+                assert_eq!(rt; signatures[0].sig.as_slice(), b"f".as_slice());
+                assert_eq!(rt; signatures[1].keyid.as_str(), "a");
+                assert_eq!(rt; signatures[1].sig.as_slice(), b"".as_slice());
+            }
+            Err(_) => panic!(rt; "{payload}"),
+        }
+    }
+    Ok(())
+}
+
+#[test]
+fn refuses_bytes_that_are_no_envelope(rt: HostRuntime) -> Result<(), Fail> {
+    let alloc = rt.alloc();
+    let texts = [
+        "",
+        "[]",
+        "{}",
+        "{\"payload\":\"\",\"payloadType\":\"t\"}",
+        "{\"payload\":\"\",\"payloadType\":\"t\",\"signatures\":null}",
+        "{\"payload\":\"\",\"payloadType\":7,\"signatures\":[]}",
+        "{\"payloadType\":\"t\",\"signatures\":[]}",
+        "{\"payload\":\"-/8=\",\"payloadType\":\"t\",\"signatures\":[]}",
+        "{\"payload\":\"+/8\",\"payloadType\":\"t\",\"signatures\":[]}",
+        "{\"payload\":\"e31=\",\"payloadType\":\"t\",\"signatures\":[]}",
+        "{\"payload\":\"\",\"payloadType\":\"t\",\"signatures\":[{}]}",
+        "{\"payload\":\"\",\"payloadType\":\"t\",\"signatures\":[{\"sig\":\"\",\"keyid\":7}]}",
+        "{\"payload\":\"\",\"payloadType\":\"t\",\"signatures\":[{\"sig\":\"\"},{\"sig\":\"e31=\"}]}",
+    ];
+    for text in texts {
+        match Envelope::read(alloc, text.as_bytes()) {
+            Ok(_) => panic!(rt; "{text}"),
+            Err(e) => assert!(rt; e == EnvelopeFault::BadEnvelope, "{text}"),
+        }
+    }
+    let no_hint =
+        "{\"payload\":\"\",\"payloadType\":\"t\",\"signatures\":[{\"sig\":\"\",\"keyid\":null}]}";
+    assert!(rt; Envelope::read(alloc, no_hint.as_bytes()).is_ok());
+    Ok(())
+}
+
+#[test]
+fn reads_key_objects(rt: HostRuntime) -> Result<(), Fail> {
+    let alloc = rt.alloc();
+    let rows = [
+        (
+            "{\"keytype\":\"hmac\",\"scheme\":\"s\",\"keyval\":{\"public\":\"p\"},\"keyid\":7}",
+            Some(("hmac", "s", "p")),
+        ),
+        ("{}", Some(("", "", ""))),
+        (
+            "{\"keytype\":7,\"scheme\":null,\"keyval\":[\"p\"]}",
+            Some(("", "", "")),
+        ),
+        ("[]", None),
+        ("\"hmac\"", None),
+    ];
+    for (document, want) in rows {
+        match (from_bytes::<KeyObject>(alloc, document.as_bytes())?, want) {
+            (Some(object), Some((keytype, scheme, public))) => {
+                assert_eq!(rt; object.keytype.as_str(), keytype, "{document}");
+                assert_eq!(rt; object.scheme.as_str(), scheme, "{document}");
+                assert_eq!(rt; object.public.as_str(), public, "{document}");
+            }
+            (None, None) => {}
+            (_, _) => panic!(rt; "{document}"),
+        }
+    }
+    Ok(())
+}
+
+const RING: &str =
+    "[{\"id\":\"owner\",\"secret\":\"6f776e6572\"},{\"id\":\"alice\",\"secret\":\"616c696365\"},{\"id\":\"bobz\",\"secret\":\"626F6200\"},{\"id\":\"bob\",\"secret\":\"626f62\"},{\"id\":\"carol\",\"secret\":\"6361726f6c\"}]";
+
+fn ring(alloc: Global) -> Result<HmacRing, Fail> {
+    Ok(
+        HmacRing::read(alloc, RING.as_bytes())
+            .ok()
+            .ok_or("no ring")?,
+    )
+}
+
+#[test]
+fn refuses_bytes_that_are_no_ring(rt: HostRuntime) -> Result<(), Fail> {
+    let alloc = rt.alloc();
+    let texts = [
+        "",
+        "{}",
+        "[{}]",
+        "[{\"id\":\"a\"}]",
+        "[{\"secret\":\"00\"}]",
+        "[{\"id\":\"a\",\"secret\":\"0\"}]",
+        "[{\"id\":\"a\",\"secret\":\"0g\"}]",
+        "[{\"id\":7,\"secret\":\"00\"}]",
+        "[{\"id\":\"a\",\"secret\":\"00\"},{\"id\":\"b\",\"secret\":\"\"},{\"id\":\"a\",\"secret\":\"11\"}]",
+    ];
+    for text in texts {
+        match HmacRing::read(alloc, text.as_bytes()) {
+            Ok(_) => panic!(rt; "{text}"),
+            Err(e) => assert!(rt; e == RingFault::BadRing, "{text}"),
+        }
+    }
+    assert!(rt; HmacRing::read(alloc, b"[]").is_ok());
+    Ok(())
+}
+
+fn ring_text(alloc: Global, entries: usize) -> Result<String, AllocError> {
+    let mut text = String::from_str(alloc, "[")?;
+    for n in 0..entries {
+        if n > 0 {
+            text.push(',')?;
+        }
+        write!(text, "{{\"id\":\"{n}\",\"secret\":\"\"}}")?;
+    }
+    text.push(']')?;
+    Ok(text)
+}
+
+#[test]
+fn reads_a_full_ring(rt: HostRuntime) -> Result<(), Fail> {
+    let alloc = rt.alloc();
+    let full = ring_text(alloc, 65536)?;
+    let ring = HmacRing::read(alloc, full.as_bytes())
+        .ok()
+        .ok_or("no ring")?;
+    assert_eq!(rt; ring.ids(alloc)?.len(), 65536);
+    let object = object(alloc)?;
+    assert_eq!(rt; ring.key("65535", &object), Some(0));
+    let over = ring_text(alloc, 65537)?;
+    match HmacRing::read(alloc, over.as_bytes()) {
+        Ok(_) => panic!(rt; "read"),
+        Err(e) => assert!(rt; e == RingFault::BadRing),
+    }
+    Ok(())
+}
+
+fn object(alloc: Global) -> Result<KeyObject, AllocError> {
+    Ok(KeyObject {
+        keytype: text(alloc, "hmac")?,
+        scheme: text(alloc, "hmac-sha256")?,
+        public: text(alloc, "")?,
+    })
+}
+
+#[test]
+fn knows_the_keys_of_a_ring(rt: HostRuntime) -> Result<(), Fail> {
+    let alloc = rt.alloc();
+    let ring = ring(alloc)?;
+    let ids = ring.ids(alloc)?;
+    let ids = joined(alloc, ids.as_slice())?;
+    assert_eq!(rt; ids.as_str(), "alice bob bobz carol owner ");
+    let object = object(alloc)?;
+    // `bob` and `bobz` have one key: a secret is filled with zero bytes to a block.
+    let rows = [
+        ("owner", Some(0)),
+        ("alice", Some(1)),
+        ("bobz", Some(2)),
+        ("bob", Some(2)),
+        ("carol", Some(4)),
+        ("dave", None),
+        ("", None),
+    ];
+    for (id, want) in rows {
+        assert_eq!(rt; ring.key(id, &object), want, "{id}");
+    }
+    let other = KeyObject {
+        scheme: text(alloc, "ed25519")?,
+        ..object
+    };
+    assert_eq!(rt; ring.key("alice", &other), None);
+    Ok(())
+}
+
+#[test]
+fn checks_signatures_by_a_ring(rt: HostRuntime) -> Result<(), Fail> {
+    let alloc = rt.alloc();
+    let ring = ring(alloc)?;
+    let code = hmac_sha256(b"alice", b"message");
+    let rows = [
+        (1, b"message".as_slice(), code.as_slice(), true),
+        (1, b"messagf".as_slice(), code.as_slice(), false),
+        (0, b"message".as_slice(), code.as_slice(), false),
+        (1, b"message".as_slice(), &code[..31], false),
+        (5, b"message".as_slice(), code.as_slice(), false),
+    ];
+    let mut meter = Meter {
+        asked: u64::MAX - 2,
+    };
+    for (key, message, sig, want) in rows {
+        assert_eq!(rt; ring.valid(key, message, sig, &mut meter), want, "{key}");
+    }
+    assert_eq!(rt; meter.asked, u64::MAX);
+    Ok(())
+}
+
+fn signature(alloc: Global, secret: &[u8], hint: &str) -> Result<Signature, AllocError> {
+    let message = pae(alloc, "t", b"body")?;
+    let code = hmac_sha256(secret, message.as_slice());
+    Ok(Signature {
+        keyid: text(alloc, hint)?,
+        sig: Sequence::from(Vec::from_slice(alloc, code.as_slice())?),
+    })
+}
+
+fn envelope(alloc: Global, signers: &[(&str, &str)]) -> Result<Envelope, AllocError> {
+    let mut signatures = Vec::new(alloc);
+    for (secret, hint) in signers {
+        signatures.push(signature(alloc, secret.as_bytes(), hint)?)?;
+    }
+    Ok(Envelope {
+        payload: Sequence::from(Vec::from_slice(alloc, b"body")?),
+        payload_type: text(alloc, "t")?,
+        signatures: Sequence::from(signatures),
+    })
+}
+
+#[test]
+fn finds_signers(rt: HostRuntime) -> Result<(), Fail> {
+    let alloc = rt.alloc();
+    let check: Box<dyn SignatureCheck> = Box::new(alloc, ring(alloc)?)?;
+    let object = object(alloc)?;
+    let rows: [(&[(&str, &str)], &str, Option<u32>, u64); 9] = [
+        (&[("bob", "")], "alice", None, 8),
+        (&[("bob", "")], "bob", Some(2), 8),
+        (&[("bob", "")], "bobz", Some(2), 8),
+        (&[("bob", "bob")], "bob", Some(2), 8),
+        (&[("bob", "bob")], "bobz", None, 7),
+        (&[("bob", "alice")], "bob", None, 7),
+        (&[("bob", "")], "dave", None, 7),
+        (
+            &[
+                ("x", ""),
+                ("alice", "bob"),
+                ("y", "alice"),
+                ("alice", ""),
+                ("alice", ""),
+            ],
+            "alice",
+            Some(1),
+            10,
+        ),
+        (&[], "alice", None, 7),
+    ];
+    for (signers, id, want, asked) in rows {
+        let mut meter = Meter { asked: 7 };
+        let envelope = envelope(alloc, signers)?;
+        let found = signed_by(alloc, &envelope, id, &object, &check, &mut meter)?;
+        assert_eq!(rt; found, want, "{id}");
+        assert_eq!(rt; meter.asked, asked, "{id}");
+    }
+    Ok(())
+}
+
+#[test]
+fn lists_signers(rt: HostRuntime) -> Result<(), Fail> {
+    let alloc = rt.alloc();
+    let check: Box<dyn SignatureCheck> = Box::new(alloc, ring(alloc)?)?;
+    let object = object(alloc)?;
+    let envelope = envelope(
+        alloc,
+        &[("bob", ""), ("alice", "alice"), ("owner", "carol")],
+    )?;
+    let ids = strings(alloc, &["carol", "bobz", "alice", "owner", "bob", "alice"])?;
+    let signers = signed_ids(alloc, &envelope, ids.as_slice(), &object, &check)?;
+    let signers = joined(alloc, signers.as_slice())?;
+    assert_eq!(rt; signers.as_str(), "bobz alice bob alice ");
+    Ok(())
+}
+
+const KIND: &str = "application/vnd.in-toto+json";
+
+// The code is that of the body's pre-authentication encoding under the secret `alice`, as Python's
+// hmac, hashlib and base64 give it.
+const SIGNED: &str =
+    "{\"payload\":\"e30=\",\"payloadType\":\"application/vnd.in-toto+json\",\"signatures\":[{\"keyid\":\"alice\",\"sig\":\"GYvlMgoDSh7aimmYQa+mVXbtzb6hq2TIJDLz8mP3+D0=\"}]}";
+
+fn signed(alloc: Global) -> Result<Envelope, Fail> {
+    Ok(
+        sign(alloc, &ring(alloc)?, "alice", KIND, b"{}")
+            .ok()
+            .ok_or("not signed")?,
+    )
+}
+
+fn read(alloc: Global, text: &str) -> Result<Envelope, Fail> {
+    Ok(
+        Envelope::read(alloc, text.as_bytes())
+            .ok()
+            .ok_or("no envelope")?,
+    )
+}
+
+fn written(alloc: Global, envelope: &Envelope) -> Result<String, Fail> {
+    let mut out = Vec::new(alloc);
+    envelope.write(alloc, &mut out).ok().ok_or("not written")?;
+    Ok(String::from_utf8(out).ok().ok_or("no text")?)
+}
+
+#[test]
+fn signs(rt: HostRuntime) -> Result<(), Fail> {
+    let alloc = rt.alloc();
+    let envelope = signed(alloc)?;
+    assert_eq!(rt; written(alloc, &envelope)?.as_str(), SIGNED);
+    match sign(alloc, &ring(alloc)?, "dave", KIND, b"{}") {
+        Ok(_) => panic!(rt; "signed"),
+        Err(e) => assert!(rt; e == SignFault::UnknownKey),
+    }
+    Ok(())
+}
+
+#[test]
+fn writes_what_reads_back(rt: HostRuntime) -> Result<(), Fail> {
+    let alloc = rt.alloc();
+    // No signatures; no hint, texts that JSON escapes, and the marks of the standard alphabet.
+    let texts = [
+        "{\"payload\":\"\",\"payloadType\":\"\",\"signatures\":[]}",
+        "{\"payload\":\"+/8=\",\"payloadType\":\"\\\"größe\\n\",\"signatures\":[{\"keyid\":\"\",\"sig\":\"Zg==\"},{\"keyid\":\"a\",\"sig\":\"\"}]}",
+    ];
+    for text in texts {
+        let found = read(alloc, text)?;
+        assert_eq!(rt; written(alloc, &found)?.as_str(), text);
+    }
+    let back = read(alloc, written(alloc, &signed(alloc)?)?.as_str())?;
+    assert_eq!(rt; back.payload.as_slice(), b"{}".as_slice());
+    assert_eq!(rt; back.payload_type.as_str(), KIND);
+    let signatures = back.signatures.as_slice();
+    assert_eq!(rt; signatures.len(), 1);
+    assert_eq!(rt; signatures[0].keyid.as_str(), "alice");
+    assert_eq!(rt; signatures[0].sig.as_slice().len(), 32);
+    Ok(())
+}
+
+#[test]
+fn writes_one_spelling(rt: HostRuntime) -> Result<(), Fail> {
+    let alloc = rt.alloc();
+    let found = read(
+        alloc,
+        " {\"signatures\":[{\"sig\":\"_w==\",\"other\":7}],\"payloadType\":\"t\",\"payload\":\"-_8=\"} ",
+    )?;
+    assert_eq!(rt;
+        written(alloc, &found)?.as_str(),
+        "{\"payload\":\"+/8=\",\"payloadType\":\"t\",\"signatures\":[{\"keyid\":\"\",\"sig\":\"/w==\"}]}"
+    );
+    Ok(())
+}
+
+#[test]
+fn stops_at_a_failed_write(rt: HostRuntime) -> Result<(), Fail> {
+    let alloc = rt.alloc();
+    let envelope = signed(alloc)?;
+    let text = SIGNED.as_bytes();
+    for full in [Full::AnswersAnError, Full::TakesNothing] {
+        for (room, _) in text.iter().enumerate() {
+            let mut pipe = Pipe {
+                taken: Vec::new(alloc),
+                room,
+                most: 1,
+                full,
+            };
+            let answer = envelope.write(alloc, &mut pipe);
+            assert_eq!(rt; answer, Err(WriteFault::Write), "{full:?} at {room}");
+            assert_eq!(rt; pipe.taken.as_slice(), &text[..room], "{full:?} at {room}");
+        }
+    }
+    Ok(())
+}

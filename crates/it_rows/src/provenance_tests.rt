@@ -1,0 +1,236 @@
+use it_base::text::Text;
+use it_digest::compare::DigestSet;
+use it_digest::sums::read_sums;
+use it_docs::policy_reading::read_policy;
+use it_dsse::check::SignatureCheck;
+use it_dsse::envelope::Envelope;
+use it_dsse::meter::Meter;
+use it_dsse::ring::HmacRing;
+use it_dsse::signing::sign;
+use it_prov::fault::ProvError;
+use it_prov::find_provenance;
+use std::alloc::{AllocError, Global};
+use std::test::Fail;
+
+const KIND: &str = "application/vnd.in-toto+json";
+
+const RING: &str =
+    "[{\"id\":\"carol\",\"secret\":\"6361726f6c\"},{\"id\":\"builder\",\"secret\":\"6275696c646572\"}]";
+
+// The SHA-256 of `abc`, and that of no bytes.
+const A: &str = "ba7816bf8f01cfea414140de5dae2223b00361a396177a9cb410ff61f20015ad";
+
+const B: &str = "e3b0c44298fc1c149afbf4c8996fb92427ae41e4649b934ca495991b7852b855";
+
+const REF: &str = "\"ref\":\"v1\"";
+
+fn ring(alloc: Global) -> Result<HmacRing, Fail> {
+    Ok(
+        HmacRing::read(alloc, RING.as_bytes())
+            .ok()
+            .ok_or("no ring")?,
+    )
+}
+
+// An expectation of files of which the builder is the one of the base case.
+fn expectation_of(alloc: Global, files: &str, parameters: &str) -> Result<String, AllocError> {
+    format!(in alloc;
+        "{{\"files\":\"{files}\",\"builders\":[{{\"id\":\"https://ci.example/1\",\"keys\":{{\"builder\":{{\"scheme\":\"hmac-sha256\"}}}}}}],\"buildType\":\"https://ci.example/make\",\"parameters\":{{{parameters}}},\"ignore\":[\"note\"]}}"
+    )
+}
+
+// What a Statement says of its subjects, the type of its build, the parameters and the builder.
+#[derive(Drop)]
+struct Said<'a> {
+    subjects: &'a str,
+    build_type: &'a str,
+    parameters: &'a str,
+    builder: &'a str,
+}
+
+// What the Statement of the base case says, with these subjects and parameters.
+fn as_base<'a>(subjects: &'a str, parameters: &'a str) -> Said<'a> {
+    Said {
+        subjects,
+        build_type: "https://ci.example/make",
+        parameters,
+        builder: "https://ci.example/1",
+    }
+}
+
+// A subject of a name and a SHA-256.
+fn subject_of(alloc: Global, name: &str, digest: &str) -> Result<String, AllocError> {
+    format!(in alloc; "{{\"name\":\"{name}\",\"digest\":{{\"sha256\":\"{digest}\"}}}}")
+}
+
+// The envelope of a Statement, signed by the key of an id.
+fn signed_as(alloc: Global, id: &str, kind: &str, said: &Said) -> Result<Envelope, Fail> {
+    let (subjects, build_type) = (said.subjects, said.build_type);
+    let (parameters, builder) = (said.parameters, said.builder);
+    let body = format!(in alloc;
+        "{{\"_type\":\"https://in-toto.io/Statement/v1\",\"subject\":[{subjects}],\"predicateType\":\"https://slsa.dev/provenance/v1\",\"predicate\":{{\"buildDefinition\":{{\"buildType\":\"{build_type}\",\"externalParameters\":{{{parameters}}}}},\"runDetails\":{{\"builder\":{{\"id\":\"{builder}\"}}}}}}}}"
+    )?;
+    Ok(
+        sign(alloc, &ring(alloc)?, id, kind, body.as_bytes())
+            .ok()
+            .ok_or("not signed")?,
+    )
+}
+
+// The digests of a file with this SHA-256.
+fn digests_of(alloc: Global, digest: &str) -> Result<DigestSet, Fail> {
+    let line = format!(in alloc; "{digest}  file")?;
+    let sums = read_sums(alloc, line.as_bytes()).ok().ok_or("no sums")?;
+    Ok(sums.get("file").ok_or("no file")?)
+}
+
+// What the search comes to, in words.
+fn told(
+    alloc: Global,
+    expectations: &str,
+    envelopes: &[Envelope],
+    path: &str,
+    digest: &str,
+) -> Result<String, Fail> {
+    let text = format!(in alloc;
+        "{{\"owners\":{{\"owner\":{{}}}},\"expectations\":[{expectations}]}}"
+    )?;
+    let policy = read_policy(alloc, text.as_bytes()).ok().ok_or("no policy")?;
+    let digests = digests_of(alloc, digest)?;
+    let check: Box<dyn SignatureCheck> = Box::new(alloc, ring(alloc)?)?;
+    let mut meter = Meter { asked: 0 };
+    let expectations = policy.expectations.as_slice();
+    let found = find_provenance(
+        alloc,
+        path,
+        digests,
+        expectations,
+        envelopes,
+        &check,
+        &mut meter,
+    );
+    Ok(told_answer(alloc, &found)?)
+}
+
+fn told_answer(alloc: Global, found: &Result<usize, ProvError>) -> Result<String, AllocError> {
+    match found {
+        Ok(index) => format!(in alloc; "{index}"),
+        Err(ProvError::NoExpectation(path)) => told_path(alloc, "no expectation", path),
+        Err(ProvError::NoProvenance(path)) => told_path(alloc, "no provenance", path),
+        Err(ProvError::OutOfMemory) => String::from_str(alloc, "out of memory"),
+    }
+}
+
+fn told_path(alloc: Global, what: &str, path: &Text) -> Result<String, AllocError> {
+    let path = path.as_str();
+    format!(in alloc; "{what} {path}")
+}
+
+// What the search for `app` comes to, where the base case's builder alone signed one Statement.
+fn told_one(alloc: Global, expected: &str, kind: &str, said: &Said) -> Result<String, Fail> {
+    let expectation = expectation_of(alloc, "*", expected)?;
+    let envelope = signed_as(alloc, "builder", kind, said)?;
+    told(alloc, expectation.as_str(), &[envelope], "app", A)
+}
+
+#[test]
+fn finds_the_first_that_the_builder_signed(rt: HostRuntime) -> Result<(), Fail> {
+    let alloc = rt.alloc();
+    let expectation = expectation_of(alloc, "*", REF)?;
+    let app = subject_of(alloc, "app", A)?;
+    let said = as_base(app.as_str(), REF);
+    let of_carol = signed_as(alloc, "carol", KIND, &said)?;
+    let of_builder = signed_as(alloc, "builder", KIND, &said)?;
+    let again = signed_as(alloc, "builder", KIND, &said)?;
+    let envelopes = [of_carol, of_builder, again];
+    let envelopes = envelopes.as_slice();
+    let first = told(alloc, expectation.as_str(), &envelopes[1..], "app", A)?;
+    assert_eq!(rt; first.as_str(), "0");
+    let second = told(alloc, expectation.as_str(), envelopes, "app", A)?;
+    assert_eq!(rt; second.as_str(), "1");
+    let none = told(alloc, expectation.as_str(), &envelopes[..1], "app", A)?;
+    assert_eq!(rt; none.as_str(), "no provenance app");
+    Ok(())
+}
+
+#[test]
+fn asks_the_first_expectation_alone(rt: HostRuntime) -> Result<(), Fail> {
+    let alloc = rt.alloc();
+    let app = subject_of(alloc, "app", A)?;
+    let envelopes = [signed_as(alloc, "builder", KIND, &as_base(app.as_str(), REF))?];
+    let base = expectation_of(alloc, "*", REF)?;
+    let base = base.as_str();
+    let both = format!(in alloc;
+        "{{\"files\":\"lib*\",\"buildType\":\"https://ci.example/make\"}},{base}"
+    )?;
+    let lib = told(alloc, both.as_str(), &envelopes, "lib", A)?;
+    assert_eq!(rt; lib.as_str(), "no provenance lib");
+    let app = told(alloc, both.as_str(), &envelopes, "app", A)?;
+    assert_eq!(rt; app.as_str(), "0");
+    let of_app = expectation_of(alloc, "app", REF)?;
+    let other = told(alloc, of_app.as_str(), &envelopes, "lib", A)?;
+    assert_eq!(rt; other.as_str(), "no expectation lib");
+    Ok(())
+}
+
+#[test]
+fn looks_at_digests_of_subjects(rt: HostRuntime) -> Result<(), Fail> {
+    let alloc = rt.alloc();
+    let bare = told_one(alloc, REF, KIND, &as_base("{\"name\":\"app\"}", REF))?;
+    assert_eq!(rt; bare.as_str(), "no provenance app");
+    let app = subject_of(alloc, "app", A)?;
+    let lib = subject_of(alloc, "lib", A)?;
+    let (app, lib) = (app.as_str(), lib.as_str());
+    let both = format!(in alloc; "{app},{lib}")?;
+    let said = as_base(both.as_str(), REF);
+    let envelopes = [signed_as(alloc, "builder", KIND, &said)?];
+    let expectation = expectation_of(alloc, "*", REF)?;
+    let other = told(alloc, expectation.as_str(), &envelopes, "lib", B)?;
+    assert_eq!(rt; other.as_str(), "no provenance lib");
+    let same = told(alloc, expectation.as_str(), &envelopes, "renamed", A)?;
+    assert_eq!(rt; same.as_str(), "0");
+    Ok(())
+}
+
+#[test]
+fn compares_parameters(rt: HostRuntime) -> Result<(), Fail> {
+    let alloc = rt.alloc();
+    let app = subject_of(alloc, "app", A)?;
+    let rows = [
+        ("\"ref\":1.0", "\"ref\":1.0", "no provenance app"),
+        ("\"ref\":1", "\"ref\":1", "0"),
+        (REF, "\"ref\":\"v2\"", "no provenance app"),
+        (REF, "", "no provenance app"),
+        (REF, "\"extra\":1,\"ref\":\"v1\"", "no provenance app"),
+        (REF, "\"note\":1,\"ref\":\"v1\"", "0"),
+        ("", "\"note\":1.0", "0"),
+        ("\"note\":1", "\"note\":2", "no provenance app"),
+    ];
+    for (expected, given, answer) in rows {
+        let told = told_one(alloc, expected, KIND, &as_base(app.as_str(), given))?;
+        assert_eq!(rt; told.as_str(), answer);
+    }
+    Ok(())
+}
+
+#[test]
+fn wants_the_builder_and_the_types(rt: HostRuntime) -> Result<(), Fail> {
+    let alloc = rt.alloc();
+    let app = subject_of(alloc, "app", A)?;
+    let app = app.as_str();
+    let other_builder = Said {
+        builder: "https://ci.example/2",
+        ..as_base(app, REF)
+    };
+    let builder = told_one(alloc, REF, KIND, &other_builder)?;
+    assert_eq!(rt; builder.as_str(), "no provenance app");
+    let other_build = Said {
+        build_type: "https://ci.example/test",
+        ..as_base(app, REF)
+    };
+    let build_type = told_one(alloc, REF, KIND, &other_build)?;
+    assert_eq!(rt; build_type.as_str(), "no provenance app");
+    let kind = told_one(alloc, REF, "text/plain", &as_base(app, REF))?;
+    assert_eq!(rt; kind.as_str(), "no provenance app");
+    Ok(())
+}

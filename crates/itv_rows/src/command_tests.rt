@@ -1,0 +1,165 @@
+use it_digest::reader::DigestFault;
+use it_dsse::ring::HmacRing;
+use it_rows::devices::{Source, strings};
+use it_verify::outcome::{RunFault, Status};
+use it_verify::words::{Words, WordsFault, read_words};
+use it_verify::{run_digest, run_match, run_pae, run_sign};
+use std::alloc::{AllocError, Global};
+use std::test::Fail;
+
+const KIND: &str = "application/vnd.in-toto+json";
+
+// The code was computed by another program.
+const SIGNED: &str =
+    "{\"payload\":\"e30=\",\"payloadType\":\"application/vnd.in-toto+json\",\"signatures\":[{\"keyid\":\"alice\",\"sig\":\"GYvlMgoDSh7aimmYQa+mVXbtzb6hq2TIJDLz8mP3+D0=\"}]}\n";
+
+#[test]
+fn says_whether_a_pattern_matches(rt: HostRuntime) -> Result<(), Fail> {
+    let alloc = rt.alloc();
+    let rows = [
+        ("", "", "yes\n", Status::Good),
+        ("*", "a/b", "yes\n", Status::Good),
+        ("a*b", "axbxb", "yes\n", Status::Good),
+        ("?", "é", "yes\n", Status::Good),
+        ("[!a]", "", "no\n", Status::Refused),
+        ("A", "a", "no\n", Status::Refused),
+    ];
+    for (pattern, path, want, status) in rows {
+        let mut out = Vec::new(alloc);
+        let outcome = run_match(alloc, pattern, path, &mut out);
+        assert_eq!(rt; outcome, Ok(status), "{pattern} {path}");
+        assert_eq!(rt; out.as_slice(), want.as_bytes(), "{pattern} {path}");
+    }
+    Ok(())
+}
+
+#[test]
+fn writes_what_is_signed(rt: HostRuntime) -> Result<(), Fail> {
+    let alloc = rt.alloc();
+    let mut out = Vec::new(alloc);
+    assert_eq!(rt; run_pae(alloc, KIND, b"", &mut out), Ok(Status::Good));
+    let want = "DSSEv1 28 application/vnd.in-toto+json 0 ";
+    assert_eq!(rt; out.as_slice(), want.as_bytes());
+    Ok(())
+}
+
+#[test]
+fn signs_a_body(rt: HostRuntime) -> Result<(), Fail> {
+    let alloc = rt.alloc();
+    let ring = HmacRing::read(alloc, br#"[{"id":"alice","secret":"616c696365"}]"#)?;
+    let mut out = Vec::new(alloc);
+    let outcome = run_sign(alloc, &ring, "alice", KIND, b"{}", &mut out);
+    assert_eq!(rt; outcome, Ok(Status::Good));
+    assert_eq!(rt; out.as_slice(), SIGNED.as_bytes());
+    let mut out = Vec::new(alloc);
+    let outcome = run_sign(alloc, &ring, "dave", KIND, b"{}", &mut out);
+    assert_eq!(rt; outcome, Err(RunFault::UnknownKey));
+    assert!(rt; out.is_empty());
+    Ok(())
+}
+
+#[test]
+fn writes_the_line_of_a_file(rt: HostRuntime) -> Result<(), Fail> {
+    let alloc = rt.alloc();
+    let mut out = Vec::new(alloc);
+    let mut input = b"abc".as_slice();
+    let outcome = run_digest(alloc, "a b", &mut input, 3, &mut out);
+    assert_eq!(rt; outcome, Ok(Status::Good));
+    let want = "ba7816bf8f01cfea414140de5dae2223b00361a396177a9cb410ff61f20015ad  a b\n";
+    assert_eq!(rt; out.as_slice(), want.as_bytes());
+    Ok(())
+}
+
+#[test]
+fn refuses_files_without_a_line(rt: HostRuntime) -> Result<(), Fail> {
+    let alloc = rt.alloc();
+    let mut out = Vec::new(alloc);
+    let mut input = b"abc".as_slice();
+    let outcome = run_digest(alloc, "a\nb", &mut input, 3, &mut out);
+    assert_eq!(rt; outcome, Err(RunFault::BadName));
+    assert_eq!(rt; input, b"abc".as_slice());
+    let outcome = run_digest(alloc, "a", &mut input, 2, &mut out);
+    assert_eq!(rt; outcome, Err(RunFault::Digest(DigestFault::TooLarge)));
+    let mut broken = Source {
+        bytes: 0,
+        reads: 0,
+        fails_at: Some(1),
+    };
+    let outcome = run_digest(alloc, "a", &mut broken, 2, &mut out);
+    assert_eq!(rt; outcome, Err(RunFault::Digest(DigestFault::Read)));
+    assert!(rt; out.is_empty());
+    Ok(())
+}
+
+fn shown(alloc: Global, words: &Words) -> Result<String, AllocError> {
+    match words {
+        Words::Signed(_) => String::from_str(alloc, "signed"),
+        Words::Match(words) => {
+            format!(in alloc; "match {} {}", words.pattern.as_str(), words.path.as_str())
+        }
+        Words::Pae(words) => {
+            format!(in alloc; "pae {} {}", words.body.as_str(), words.kind.as_str())
+        }
+        Words::Sign(words) => {
+            let body = words.body.as_str();
+            let ring = words.ring.as_str();
+            let key = words.key.as_str();
+            let kind = words.kind.as_str();
+            format!(in alloc; "sign {body} {ring} {key} {kind}")
+        }
+        Words::Digest(words) => {
+            let mut all = String::from_str(alloc, "digest")?;
+            for file in words.files.as_slice() {
+                all.push(' ')?;
+                all.push_str(file.as_str())?;
+            }
+            Ok(all)
+        }
+        Words::Verify(_) => String::from_str(alloc, "verify"),
+    }
+}
+
+#[test]
+fn reads_the_words_of_each_command(rt: HostRuntime) -> Result<(), Fail> {
+    let alloc = rt.alloc();
+    let rows: [(&[&str], &str); 7] = [
+        (&["itv", "match", "a*b", "axbxb"], "match a*b axbxb"),
+        (&["itv", "match", "--", "-a", "-a"], "match -a -a"),
+        (&["itv", "match", "", ""], "match  "),
+        (&["itv", "pae", "b", "--type", "t"], "pae b t"),
+        (
+            &["itv", "sign", "--key", "k", "--ring=r", "b", "--type", "t"],
+            "sign b r k t",
+        ),
+        (&["itv", "digest", "a"], "digest a"),
+        (&["itv", "digest", "a", "b", "--", "-c"], "digest a b -c"),
+    ];
+    for (words, want) in rows {
+        let read = read_words(alloc, strings(alloc, words)?.as_slice())?;
+        let text = shown(alloc, &read)?;
+        assert_eq!(rt; text.as_str(), want, "{words:?}");
+    }
+    Ok(())
+}
+
+#[test]
+fn refuses_the_words_of_no_command(rt: HostRuntime) -> Result<(), Fail> {
+    let alloc = rt.alloc();
+    let rows: [&[&str]; 8] = [
+        &["itv", "match", "a"],
+        &["itv", "match", "a", "b", "c"],
+        &["itv", "match", "-a", "-a"],
+        &["itv", "pae", "b"],
+        &["itv", "sign", "b", "--ring", "r", "--key", "k"],
+        &[
+            "itv", "sign", "b", "--ring", "r", "--ring", "r", "--key", "k", "--type", "t",
+        ],
+        &["itv", "digest"],
+        &["itv", "verify"],
+    ];
+    for words in rows {
+        let read = read_words(alloc, strings(alloc, words)?.as_slice());
+        assert!(rt; matches!(read, Err(WordsFault::Unread(_))), "{words:?}");
+    }
+    Ok(())
+}

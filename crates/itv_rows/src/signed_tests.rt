@@ -1,0 +1,199 @@
+use it_digest::reader::DigestFault;
+use it_dsse::check::SignatureCheck;
+use it_dsse::ring::HmacRing;
+use it_rows::devices::{Full, Pipe, strings};
+use it_verify::outcome::{RunFault, Status, exit_of};
+use it_verify::run_signed;
+use it_verify::words::{Words, WordsFault, read_words};
+use std::alloc::Global;
+use std::io::Write;
+use std::test::Fail;
+
+const RING: &str = r#"[{"id":"owner","secret":"6f776e6572"},{"id":"alice","secret":"616c696365"},
+    {"id":"bob","secret":"626f62"},{"id":"bobz","secret":"626f6200"},
+    {"id":"carol","secret":"6361726f6c"},{"id":"builder","secret":"6275696c646572"}]"#;
+
+// Signed with bob's secret, which is bobz's key too. The code was computed by another program.
+const BY_BOB: &str = r#"{"payload":"","payloadType":"t",
+    "signatures":[{"sig":"5Muo03wp7lLlZM99VU6tv5lM8pdjKFy9F2qSi0aI4Sk="}]}"#;
+
+const BY_BOB_AS_BOB: &str = r#"{"payload":"","payloadType":"t",
+    "signatures":[{"keyid":"bob","sig":"5Muo03wp7lLlZM99VU6tv5lM8pdjKFy9F2qSi0aI4Sk="}]}"#;
+
+const BY_BOB_AS_ALICE: &str = r#"{"payload":"","payloadType":"t",
+    "signatures":[{"keyid":"alice","sig":"5Muo03wp7lLlZM99VU6tv5lM8pdjKFy9F2qSi0aI4Sk="}]}"#;
+
+fn signed<W: Write>(
+    alloc: Global,
+    envelope: &str,
+    out: &mut W,
+) -> Result<Result<Status, RunFault>, Fail> {
+    let ring = HmacRing::read(alloc, RING.as_bytes())?;
+    let ids = ring.ids(alloc)?;
+    let check: Box<dyn SignatureCheck> = Box::new(alloc, ring)?;
+    Ok(run_signed(alloc, envelope.as_bytes(), ids.as_slice(), &check, out))
+}
+
+#[test]
+fn names_signers(rt: HostRuntime) -> Result<(), Fail> {
+    let alloc = rt.alloc();
+    let rows = [
+        (
+            r#"{"payload":"","payloadType":"t","signatures":[]}"#,
+            "",
+            Status::Refused,
+        ),
+        (
+            r#"{"payload":"","payloadType":"t"}"#,
+            "refused 20 BadEnvelope\nat -\n",
+            Status::Refused,
+        ),
+        (BY_BOB, "bob\nbobz\n", Status::Good),
+        (BY_BOB_AS_BOB, "bob\n", Status::Good),
+        (BY_BOB_AS_ALICE, "", Status::Refused),
+    ];
+    for (envelope, want, status) in rows {
+        let mut out = Vec::new(alloc);
+        assert_eq!(rt;
+            signed(alloc, envelope, &mut out)?,
+            Ok(status),
+            "{envelope}"
+        );
+        assert_eq!(rt; out.as_slice(), want.as_bytes(), "{envelope}");
+    }
+    Ok(())
+}
+
+#[test]
+fn names_an_empty_id(rt: HostRuntime) -> Result<(), Fail> {
+    let alloc = rt.alloc();
+    let ring = HmacRing::read(alloc, br#"[{"id":"","secret":"626f62"}]"#)?;
+    let ids = ring.ids(alloc)?;
+    let check: Box<dyn SignatureCheck> = Box::new(alloc, ring)?;
+    let mut out = Vec::new(alloc);
+    let status = run_signed(alloc, BY_BOB.as_bytes(), ids.as_slice(), &check, &mut out);
+    assert_eq!(rt; status, Ok(Status::Good));
+    assert_eq!(rt; out.as_slice(), b"\\e\n".as_slice());
+    Ok(())
+}
+
+#[test]
+fn stops_where_a_write_fails(rt: HostRuntime) -> Result<(), Fail> {
+    let alloc = rt.alloc();
+    let want = "bob\nbobz\n".as_bytes();
+    for full in [Full::AnswersAnError, Full::TakesNothing] {
+        for room in 0..want.len() {
+            let mut pipe = Pipe {
+                taken: Vec::new(alloc),
+                room,
+                most: 1,
+                full,
+            };
+            let outcome = signed(alloc, BY_BOB, &mut pipe)?;
+            assert_eq!(rt; outcome, Err(RunFault::Write), "{full:?} at {room}");
+            assert_eq!(rt; pipe.taken.as_slice(), &want[..room], "{full:?} at {room}");
+        }
+    }
+    let mut pipe = Pipe {
+        taken: Vec::new(alloc),
+        room: usize::MAX,
+        most: 1,
+        full: Full::TakesNothing,
+    };
+    assert_eq!(rt; signed(alloc, BY_BOB, &mut pipe)?, Ok(Status::Good));
+    assert_eq!(rt; pipe.taken.as_slice(), want);
+    Ok(())
+}
+
+#[test]
+fn writes_nothing_to_a_full_writer(rt: HostRuntime) -> Result<(), Fail> {
+    let alloc = rt.alloc();
+    let mut pipe = Pipe {
+        taken: Vec::new(alloc),
+        room: 0,
+        most: 1,
+        full: Full::TakesNothing,
+    };
+    assert_eq!(rt;
+        signed(alloc, BY_BOB_AS_ALICE, &mut pipe)?,
+        Ok(Status::Refused)
+    );
+    assert!(rt; pipe.taken.is_empty());
+    Ok(())
+}
+
+#[test]
+fn ends_with_a_status(rt: HostRuntime) {
+    assert_eq!(rt; exit_of(&Ok(Status::Good)), 0);
+    assert_eq!(rt; exit_of(&Ok(Status::Refused)), 1);
+    assert_eq!(rt; exit_of(&Err(RunFault::Write)), 2);
+    assert_eq!(rt; exit_of(&Err(RunFault::OutOfMemory)), 3);
+    assert_eq!(rt; exit_of(&Err(RunFault::UnknownKey)), 2);
+    assert_eq!(rt; exit_of(&Err(RunFault::BadName)), 2);
+    assert_eq!(rt; exit_of(&Err(RunFault::Digest(DigestFault::Read))), 2);
+    assert_eq!(rt; exit_of(&Err(RunFault::Digest(DigestFault::TooLarge))), 2);
+}
+
+#[test]
+fn reads_words(rt: HostRuntime) -> Result<(), Fail> {
+    let alloc = rt.alloc();
+    let rows: [(&[&str], &str, &str); 8] = [
+        (&["itv", "signed", "a", "--ring", "b"], "a", "b"),
+        (&["itv", "signed", "--ring", "b", "a"], "a", "b"),
+        (&["itv", "signed", "--ring=b", "a"], "a", "b"),
+        (&["itv", "signed", "--ring=-b", "a"], "a", "-b"),
+        (&["itv", "signed", "--ring", "b", "--", "-a"], "-a", "b"),
+        (
+            &["itv", "signed", "--ring", "b", "--", "--help"],
+            "--help",
+            "b",
+        ),
+        (&["itv", "signed", "", "--ring", ""], "", ""),
+        (&["/bin/x", "signed", "-", "--ring=a=b"], "-", "a=b"),
+    ];
+    for (words, envelope, ring) in rows {
+        match read_words(alloc, strings(alloc, words)?.as_slice())? {
+            Words::Signed(read) => {
+                assert_eq!(rt; read.envelope.as_str(), envelope, "{words:?}");
+                assert_eq!(rt; read.ring.as_str(), ring, "{words:?}");
+            }
+            _ => panic!(rt; "{words:?}"),
+        }
+    }
+    Ok(())
+}
+
+#[test]
+fn refuses_words(rt: HostRuntime) -> Result<(), Fail> {
+    let alloc = rt.alloc();
+    let rows: [(&[&str], &str); 15] = [
+        (&[], "subcommand"),
+        (&["itv"], "subcommand"),
+        (&["itv", "--help"], "'--help'"),
+        (&["itv", "-h"], "'-h'"),
+        (&["itv", "help"], "'help'"),
+        (&["itv", "--version"], "'--version'"),
+        (&["itv", "signs", "a", "--ring", "b"], "'signs'"),
+        (&["itv", "signed", "--ring", "b"], "<ENVELOPE>"),
+        (&["itv", "signed", "a"], "--ring <F>"),
+        (&["itv", "signed", "a", "--ring"], "'--ring <F>'"),
+        (&["itv", "signed", "a", "b", "--ring", "c"], "'b'"),
+        (
+            &["itv", "signed", "a", "--ring", "b", "--ring", "b"],
+            "'--ring <F>'",
+        ),
+        (&["itv", "signed", "-a", "--ring", "b"], "'-a'"),
+        (&["itv", "signed", "a", "--ring", "-b"], "'-b'"),
+        (&["itv", "signed", "a", "--ring", "b", "--help"], "'--help'"),
+    ];
+    for (words, named) in rows {
+        match read_words(alloc, strings(alloc, words)?.as_slice()) {
+            Err(WordsFault::Unread(note)) => {
+                assert!(rt; note.as_str().contains(named), "{words:?}: {note}");
+                assert!(rt; !note.as_str().contains("\n"), "{note}");
+            }
+            _ => panic!(rt; "{words:?}"),
+        }
+    }
+    Ok(())
+}

@@ -7,11 +7,15 @@ use it_base::sequence::Sequence;
 use it_base::text::Text;
 use it_base::writing::{WriteError, write_all_of};
 use serde_json::Value;
-use std::alloc::Global;
+use std::alloc::{AllocError, Global};
 use std::test::Fail;
 
 fn document(alloc: Global, text: &str) -> Result<Value, Fail> {
     Ok(read_document(alloc, text.as_bytes())?.ok_or("no document")?)
+}
+
+fn is_document(alloc: Global, bytes: &[u8]) -> Result<bool, AllocError> {
+    Ok(read_document(alloc, bytes)?.is_some())
 }
 
 #[test]
@@ -28,11 +32,19 @@ fn reads_documents(rt: HostRuntime) -> Result<(), Fail> {
         "[\"\t\"]",
     ];
     for text in no_documents {
-        assert!(rt; read_document(alloc, text.as_bytes())?.is_none(), "{text}");
+        assert!(rt; !is_document(alloc, text.as_bytes())?, "{text}");
     }
-    assert!(rt; read_document(alloc, b"[\"\xff\"]")?.is_none());
-    assert!(rt; read_document(alloc, nested(alloc, 127)?.as_bytes())?.is_some());
-    assert!(rt; read_document(alloc, nested(alloc, 128)?.as_bytes())?.is_none());
+    assert!(rt; !is_document(alloc, b"[\"\xff\"]")?);
+    Ok(())
+}
+
+#[test]
+fn reads_documents_up_to_a_depth(rt: HostRuntime) -> Result<(), Fail> {
+    let alloc = rt.alloc();
+    for (levels, reads) in [(127, true), (128, false)] {
+        let text = nested(alloc, levels)?;
+        assert_eq!(rt; is_document(alloc, text.as_bytes())?, reads, "{levels}");
+    }
     assert_eq!(rt; document(alloc, " 17 ")?.as_u64(), Some(17));
     Ok(())
 }
@@ -59,6 +71,28 @@ fn looks_members_up(rt: HostRuntime) -> Result<(), Fail> {
     Ok(())
 }
 
+// The text that a part is in brackets, or `none`.
+fn shown_text(alloc: Global, value: &Value, name: &str) -> Result<String, AllocError> {
+    match part::<Text>(alloc, value, name)? {
+        Some(text) => format!(in alloc; "[{}]", text.as_str()),
+        None => String::from_str(alloc, "none"),
+    }
+}
+
+// The texts that a part lists, each in brackets, or `none`.
+fn shown_texts(alloc: Global, value: &Value, name: &str) -> Result<String, AllocError> {
+    let Some(texts) = part::<Sequence<Text>>(alloc, value, name)? else {
+        return String::from_str(alloc, "none");
+    };
+    let mut all = String::new(alloc);
+    for text in texts.as_slice() {
+        all.push_str("[")?;
+        all.push_str(text.as_str())?;
+        all.push_str("]")?;
+    }
+    Ok(all)
+}
+
 #[test]
 fn reads_parts(rt: HostRuntime) -> Result<(), Fail> {
     let alloc = rt.alloc();
@@ -66,20 +100,14 @@ fn reads_parts(rt: HostRuntime) -> Result<(), Fail> {
         alloc,
         "{\"text\":\"gr\u{f6}\u{df}e\",\"texts\":[\"x\",\"\"],\"mixed\":[\"x\",null]}",
     )?;
-    let text = part::<Text>(alloc, &value, "text")?.ok_or("no text")?;
-    assert_eq!(rt; text.as_str(), "größe");
-    assert!(rt; part::<Text>(alloc, &value, "texts")?.is_none());
-    assert!(rt; part::<Text>(alloc, &value, "none")?.is_none());
-    let texts = part::<Sequence<Text>>(alloc, &value, "texts")?.ok_or("no texts")?;
-    let texts = texts.as_slice();
-    assert_eq!(rt; texts.len(), 2);
-    assert_eq!(rt; texts[0].as_str(), "x");
-    assert_eq!(rt; texts[1].as_str(), "");
-    for name in ["mixed", "text", "none"] {
-        assert!(rt;
-            part::<Sequence<Text>>(alloc, &value, name)?.is_none(),
-            "{name}"
-        );
+    for (name, text, texts) in [
+        ("text", "[größe]", "none"),
+        ("texts", "none", "[x][]"),
+        ("mixed", "none", "none"),
+        ("none", "none", "none"),
+    ] {
+        assert_eq!(rt; shown_text(alloc, &value, name)?.as_str(), text, "{name}");
+        assert_eq!(rt; shown_texts(alloc, &value, name)?.as_str(), texts, "{name}");
     }
     Ok(())
 }
@@ -100,43 +128,71 @@ fn reads_parts_that_may_be_missing(rt: HostRuntime) -> Result<(), Fail> {
     Ok(())
 }
 
+// The text that a whole document is, or `none`.
+fn whole_text(alloc: Global, bytes: &[u8]) -> Result<String, AllocError> {
+    match from_bytes::<Text>(alloc, bytes)? {
+        Some(text) => String::from_str(alloc, text.as_str()),
+        None => String::from_str(alloc, "none"),
+    }
+}
+
 #[test]
 fn reads_whole_documents(rt: HostRuntime) -> Result<(), Fail> {
     let alloc = rt.alloc();
-    let text = from_bytes::<Text>(alloc, b" \"a\\u0000b\" ")?.ok_or("no text")?;
-    assert_eq!(rt; text.as_str(), "a\0b");
-    assert!(rt; from_bytes::<Text>(alloc, b"[]")?.is_none());
-    assert!(rt; from_bytes::<Text>(alloc, b"\"a\" b")?.is_none());
+    let rows = [
+        (" \"a\\u0000b\" ", "a\0b"),
+        ("[]", "none"),
+        ("\"a\" b", "none"),
+    ];
+    for (document, want) in rows {
+        let found = whole_text(alloc, document.as_bytes())?;
+        assert_eq!(rt; found.as_str(), want, "{document}");
+    }
     Ok(())
+}
+
+// A document with this text as its member `a`.
+fn with_part(alloc: Global, text: &str) -> Result<Value, Fail> {
+    let text = format!(in alloc; "{{\"a\":{text}}}")?;
+    document(alloc, text.as_str())
+}
+
+fn from_base64(alloc: Global, part: &str) -> Result<Option<Vec<u8>>, Fail> {
+    let value = with_part(alloc, part)?;
+    Ok(base64_part(alloc, &value, "a")?.map(Sequence::into_vec))
+}
+
+fn from_hexadecimal(alloc: Global, part: &str) -> Result<Option<Vec<u8>>, Fail> {
+    let value = with_part(alloc, part)?;
+    Ok(hexadecimal_part(alloc, &value, "a")?.map(Sequence::into_vec))
 }
 
 #[test]
 fn decodes_base64(rt: HostRuntime) -> Result<(), Fail> {
     let alloc = rt.alloc();
     // The vectors of RFC 4648 section 10, both alphabets, and texts that are refused.
-    let rows: [(&str, Option<&[u8]>); 15] = [
-        ("", Some(b"")),
-        ("Zg==", Some(b"f")),
-        ("Zm8=", Some(b"fo")),
-        ("Zm9v", Some(b"foo")),
-        ("Zm9vYg==", Some(b"foob")),
-        ("Zm9vYmE=", Some(b"fooba")),
-        ("Zm9vYmFy", Some(b"foobar")),
-        ("-_8=", Some(b"\xfb\xff")),
-        ("+/8=", Some(b"\xfb\xff")),
-        ("-/8=", None),
-        ("+/8", None),
-        ("e31=", None),
-        ("Zg", None),
-        ("Zg==\\n", None),
-        ("Zm 9v", None),
+    let rows: [(&str, Option<&[u8]>); 16] = [
+        ("\"\"", Some(b"")),
+        ("\"Zg==\"", Some(b"f")),
+        ("\"Zm8=\"", Some(b"fo")),
+        ("\"Zm9v\"", Some(b"foo")),
+        ("\"Zm9vYg==\"", Some(b"foob")),
+        ("\"Zm9vYmE=\"", Some(b"fooba")),
+        ("\"Zm9vYmFy\"", Some(b"foobar")),
+        ("\"-_8=\"", Some(b"\xfb\xff")),
+        ("\"+/8=\"", Some(b"\xfb\xff")),
+        ("\"-/8=\"", None),
+        ("\"+/8\"", None),
+        ("\"e31=\"", None),
+        ("\"Zg\"", None),
+        ("\"Zg==\\n\"", None),
+        ("\"Zm 9v\"", None),
+        ("7", None),
     ];
     for (text, want) in rows {
-        let value = document(alloc, format!(in alloc; "{{\"a\":\"{text}\"}}")?.as_str())?;
-        let found = base64_part(alloc, &value, "a")?;
-        assert_eq!(rt; found.as_ref().map(Sequence::as_slice), want, "{text}");
+        let found = from_base64(alloc, text)?;
+        assert_eq!(rt; found.as_ref().map(Vec::as_slice), want, "{text}");
     }
-    assert!(rt; base64_part(alloc, &document(alloc, "{\"a\":7}")?, "a")?.is_none());
     Ok(())
 }
 
@@ -163,20 +219,19 @@ fn encodes_base64(rt: HostRuntime) -> Result<(), Fail> {
 #[test]
 fn decodes_hexadecimal(rt: HostRuntime) -> Result<(), Fail> {
     let alloc = rt.alloc();
-    let rows: [(&str, Option<&[u8]>); 6] = [
-        ("", Some(b"")),
-        ("666F6F", Some(b"foo")),
-        ("666f6f", Some(b"foo")),
-        ("6", None),
-        ("6g", None),
-        (" 66", None),
+    let rows: [(&str, Option<&[u8]>); 7] = [
+        ("\"\"", Some(b"")),
+        ("\"666F6F\"", Some(b"foo")),
+        ("\"666f6f\"", Some(b"foo")),
+        ("\"6\"", None),
+        ("\"6g\"", None),
+        ("\" 66\"", None),
+        ("7", None),
     ];
     for (text, want) in rows {
-        let value = document(alloc, format!(in alloc; "{{\"a\":\"{text}\"}}")?.as_str())?;
-        let found = hexadecimal_part(alloc, &value, "a")?;
-        assert_eq!(rt; found.as_ref().map(Sequence::as_slice), want, "{text}");
+        let found = from_hexadecimal(alloc, text)?;
+        assert_eq!(rt; found.as_ref().map(Vec::as_slice), want, "{text}");
     }
-    assert!(rt; hexadecimal_part(alloc, &document(alloc, "{\"a\":7}")?, "a")?.is_none());
     Ok(())
 }
 

@@ -79,16 +79,26 @@ fn maps_paths(rt: HostRuntime) -> Result<(), Fail> {
     let nothing = sha256(NOTHING)?;
     let mut map = Artifacts::new(alloc);
     assert!(rt; map.is_empty());
-    assert_eq!(rt; map.insert(String::from_str(alloc, "é")?, abc)?, None);
-    assert_eq!(rt; map.insert(String::from_str(alloc, "a")?, nothing)?, None);
-    assert_eq!(rt; map.insert(String::from_str(alloc, "B")?, abc)?, None);
-    assert_eq!(rt;
-        map.insert(String::from_str(alloc, "a")?, abc)?,
-        Some(nothing)
-    );
+    let rows = [
+        ("é", abc, None),
+        ("a", nothing, None),
+        ("B", abc, None),
+        ("a", abc, Some(nothing)),
+    ];
+    for (path, digests, before) in rows {
+        let path = String::from_str(alloc, path)?;
+        assert_eq!(rt; map.insert(path, digests)?, before);
+    }
     assert!(rt; !map.is_empty());
     assert_eq!(rt; map.get("a"), Some(abc));
     assert_eq!(rt; map.get("b"), None);
+    Ok(())
+}
+
+#[test]
+fn goes_over_paths_by_their_bytes(rt: HostRuntime) -> Result<(), Fail> {
+    let abc = sha256(ABC)?;
+    let map = map_of(rt.alloc(), &[("é", abc), ("a", abc), ("B", abc)])?;
     let mut paths = map.paths();
     let mut entries = map.iter();
     for want in ["B", "a", "é"] {
@@ -107,37 +117,40 @@ fn maps_paths(rt: HostRuntime) -> Result<(), Fail> {
 fn same_maps_are_equal(rt: HostRuntime) -> Result<(), Fail> {
     let alloc = rt.alloc();
     let abc = sha256(ABC)?;
+    let nothing = sha256(NOTHING)?;
+    let both = with_sha512(abc)?;
+    let rows: [(&[(&str, DigestSet)], bool); 5] = [
+        (&[("b", abc), ("a", abc)], true),
+        (&[("a", abc)], false),
+        (&[("a", abc), ("c", abc)], false),
+        (&[("a", abc), ("b", nothing)], false),
+        (&[("a", abc), ("b", both)], false),
+    ];
     let map = map_of(alloc, &[("a", abc), ("b", abc)])?;
-    assert!(rt; map.same_as(&map_of(alloc, &[("b", abc), ("a", abc)])?));
-    assert!(rt; !map.same_as(&map_of(alloc, &[("a", abc)])?));
-    assert!(rt; !map.same_as(&map_of(alloc, &[("a", abc), ("c", abc)])?));
-    assert!(rt; !map.same_as(&map_of(alloc, &[("a", abc), ("b", sha256(NOTHING)?)])?));
-    assert!(rt; !map.same_as(&map_of(alloc, &[("a", abc), ("b", with_sha512(abc)?)])?));
+    for (entries, same) in rows {
+        let other = map_of(alloc, entries)?;
+        assert_eq!(rt; map.same_as(&other), same);
+    }
     Ok(())
 }
 
 #[test]
 fn digests_what_a_reader_gives(rt: HostRuntime) -> Result<(), Fail> {
-    let mut abc: &[u8] = b"abc";
-    assert_eq!(rt; sha256_of_reader(&mut abc, 3), Ok(digest(ABC)?));
-    let mut abc: &[u8] = b"abc";
-    assert_eq!(rt; sha256_of_reader(&mut abc, 2), Err(DigestFault::TooLarge));
-    let mut abc: &[u8] = b"abc";
-    assert_eq!(rt; sha256_of_reader(&mut abc, u64::MAX), Ok(digest(ABC)?));
-    let mut nothing: &[u8] = b"";
-    assert_eq!(rt; sha256_of_reader(&mut nothing, 0), Ok(digest(NOTHING)?));
-
     let million = vec![in rt.alloc(); b'a'; 1_000_000]?;
-    let mut reader = million.as_slice();
-    assert_eq!(rt;
-        sha256_of_reader(&mut reader, 1_000_000),
-        Ok(digest(MILLION)?)
-    );
-    let mut reader = million.as_slice();
-    assert_eq!(rt;
-        sha256_of_reader(&mut reader, 999_999),
-        Err(DigestFault::TooLarge)
-    );
+    let million = million.as_slice();
+    let abc = b"abc".as_slice();
+    let rows = [
+        (abc, 3, Ok(digest(ABC)?)),
+        (abc, 2, Err(DigestFault::TooLarge)),
+        (abc, u64::MAX, Ok(digest(ABC)?)),
+        (b"".as_slice(), 0, Ok(digest(NOTHING)?)),
+        (million, 1_000_000, Ok(digest(MILLION)?)),
+        (million, 999_999, Err(DigestFault::TooLarge)),
+    ];
+    for (bytes, limit, want) in rows {
+        let mut reader = bytes;
+        assert_eq!(rt; sha256_of_reader(&mut reader, limit), want, "{limit}");
+    }
     Ok(())
 }
 

@@ -122,26 +122,31 @@ fn joined(alloc: Global, texts: &[String]) -> Result<String, AllocError> {
     Ok(all)
 }
 
+// What an envelope says: its type, the payload and each signature behind its hint.
+fn shown(alloc: Global, text: &str) -> Result<String, Fail> {
+    let envelope = read(alloc, text)?;
+    let kind = envelope.payload_type.as_str();
+    let payload = hex::encode(alloc, envelope.payload.as_slice())?;
+    let mut all = format!(in alloc; "{kind} {payload}")?;
+    for signature in envelope.signatures.as_slice() {
+        let code = hex::encode(alloc, signature.sig.as_slice())?;
+        all.push_str(" ")?;
+        all.push_str(signature.keyid.as_str())?;
+        all.push_str(":")?;
+        all.push_str(code.as_str())?;
+    }
+    Ok(all)
+}
+
 #[test]
 fn reads_envelopes(rt: HostRuntime) -> Result<(), Fail> {
     let alloc = rt.alloc();
     for payload in ["-_8=", "+/8="] {
-        let bytes = format!(in alloc;
+        let text = format!(in alloc;
             "{{\"payload\":\"{payload}\",\"payloadType\":\"t\",\"other\":7,\"signatures\":[{{\"sig\":\"Zg==\"}},{{\"sig\":\"\",\"keyid\":\"a\"}}]}}"
         )?;
-        match Envelope::read(alloc, bytes.as_bytes()) {
-            Ok(envelope) => {
-                assert_eq!(rt; envelope.payload.as_slice(), [0xfb, 0xff].as_slice());
-                assert_eq!(rt; envelope.payload_type.as_str(), "t");
-                let signatures = envelope.signatures.as_slice();
-                assert_eq!(rt; signatures.len(), 2);
-                assert_eq!(rt; signatures[0].keyid.as_str(), "");
-                assert_eq!(rt; signatures[0].sig.as_slice(), b"f".as_slice());
-                assert_eq!(rt; signatures[1].keyid.as_str(), "a");
-                assert_eq!(rt; signatures[1].sig.as_slice(), b"".as_slice());
-            }
-            Err(_) => panic!(rt; "{payload}"),
-        }
+        let said = shown(alloc, text.as_str())?;
+        assert_eq!(rt; said.as_str(), "t fbff :66 a:", "{payload}");
     }
     Ok(())
 }
@@ -176,32 +181,34 @@ fn refuses_bytes_that_are_no_envelope(rt: HostRuntime) -> Result<(), Fail> {
     Ok(())
 }
 
+// What a key object says, each text behind a slash, or `none`.
+fn shown_object(alloc: Global, document: &str) -> Result<String, AllocError> {
+    match from_bytes::<KeyObject>(alloc, document.as_bytes())? {
+        None => String::from_str(alloc, "none"),
+        Some(object) => {
+            let (keytype, scheme) = (object.keytype.as_str(), object.scheme.as_str());
+            let public = object.public.as_str();
+            format!(in alloc; "/{keytype}/{scheme}/{public}")
+        }
+    }
+}
+
 #[test]
 fn reads_key_objects(rt: HostRuntime) -> Result<(), Fail> {
     let alloc = rt.alloc();
     let rows = [
         (
             "{\"keytype\":\"hmac\",\"scheme\":\"s\",\"keyval\":{\"public\":\"p\"},\"keyid\":7}",
-            Some(("hmac", "s", "p")),
+            "/hmac/s/p",
         ),
-        ("{}", Some(("", "", ""))),
-        (
-            "{\"keytype\":7,\"scheme\":null,\"keyval\":[\"p\"]}",
-            Some(("", "", "")),
-        ),
-        ("[]", None),
-        ("\"hmac\"", None),
+        ("{}", "///"),
+        ("{\"keytype\":7,\"scheme\":null,\"keyval\":[\"p\"]}", "///"),
+        ("[]", "none"),
+        ("\"hmac\"", "none"),
     ];
     for (document, want) in rows {
-        match (from_bytes::<KeyObject>(alloc, document.as_bytes())?, want) {
-            (Some(object), Some((keytype, scheme, public))) => {
-                assert_eq!(rt; object.keytype.as_str(), keytype, "{document}");
-                assert_eq!(rt; object.scheme.as_str(), scheme, "{document}");
-                assert_eq!(rt; object.public.as_str(), public, "{document}");
-            }
-            (None, None) => {}
-            (_, _) => panic!(rt; "{document}"),
-        }
+        let said = shown_object(alloc, document)?;
+        assert_eq!(rt; said.as_str(), want, "{document}");
     }
     Ok(())
 }
@@ -253,21 +260,32 @@ fn ring_text(alloc: Global, entries: usize) -> Result<String, AllocError> {
     Ok(text)
 }
 
+// How many ids the ring of so many entries has, or none where it is no ring.
+fn ids_of_ring(alloc: Global, entries: usize) -> Result<Option<usize>, Fail> {
+    let text = ring_text(alloc, entries)?;
+    match HmacRing::read(alloc, text.as_bytes()) {
+        Ok(ring) => Ok(Some(ring.ids(alloc)?.len())),
+        Err(RingFault::BadRing) => Ok(None),
+        Err(_) => Err(Fail::from("no memory")),
+    }
+}
+
 #[test]
 fn reads_a_full_ring(rt: HostRuntime) -> Result<(), Fail> {
+    let alloc = rt.alloc();
+    assert_eq!(rt; ids_of_ring(alloc, 65536)?, Some(65536));
+    assert_eq!(rt; ids_of_ring(alloc, 65537)?, None);
+    Ok(())
+}
+
+#[test]
+fn finds_the_key_of_the_last_entry(rt: HostRuntime) -> Result<(), Fail> {
     let alloc = rt.alloc();
     let full = ring_text(alloc, 65536)?;
     let ring = HmacRing::read(alloc, full.as_bytes())
         .ok()
         .ok_or("no ring")?;
-    assert_eq!(rt; ring.ids(alloc)?.len(), 65536);
-    let object = object(alloc)?;
-    assert_eq!(rt; ring.key("65535", &object), Some(0));
-    let over = ring_text(alloc, 65537)?;
-    match HmacRing::read(alloc, over.as_bytes()) {
-        Ok(_) => panic!(rt; "read"),
-        Err(e) => assert!(rt; e == RingFault::BadRing),
-    }
+    assert_eq!(rt; ring.key("65535", &object(alloc)?), Some(0));
     Ok(())
 }
 
@@ -280,31 +298,39 @@ fn object(alloc: Global) -> Result<KeyObject, AllocError> {
 }
 
 #[test]
-fn knows_the_keys_of_a_ring(rt: HostRuntime) -> Result<(), Fail> {
+fn orders_ids_by_their_bytes(rt: HostRuntime) -> Result<(), Fail> {
     let alloc = rt.alloc();
-    let ring = ring(alloc)?;
-    let ids = ring.ids(alloc)?;
+    let ids = ring(alloc)?.ids(alloc)?;
     let ids = joined(alloc, ids.as_slice())?;
     assert_eq!(rt; ids.as_str(), "alice bob bobz carol owner ");
-    let object = object(alloc)?;
+    Ok(())
+}
+
+// The number of an id's key, asked for with a key object of this scheme.
+fn number_of(alloc: Global, id: &str, scheme: &str) -> Result<Option<u32>, Fail> {
+    let object = KeyObject {
+        scheme: text(alloc, scheme)?,
+        ..object(alloc)?
+    };
+    Ok(ring(alloc)?.key(id, &object))
+}
+
+#[test]
+fn knows_the_keys_of_a_ring(rt: HostRuntime) -> Result<(), Fail> {
     // `bob` and `bobz` have one key: a secret is filled with zero bytes to a block.
     let rows = [
-        ("owner", Some(0)),
-        ("alice", Some(1)),
-        ("bobz", Some(2)),
-        ("bob", Some(2)),
-        ("carol", Some(4)),
-        ("dave", None),
-        ("", None),
+        ("owner", "hmac-sha256", Some(0)),
+        ("alice", "hmac-sha256", Some(1)),
+        ("bobz", "hmac-sha256", Some(2)),
+        ("bob", "hmac-sha256", Some(2)),
+        ("carol", "hmac-sha256", Some(4)),
+        ("dave", "hmac-sha256", None),
+        ("", "hmac-sha256", None),
+        ("alice", "ed25519", None),
     ];
-    for (id, want) in rows {
-        assert_eq!(rt; ring.key(id, &object), want, "{id}");
+    for (id, scheme, want) in rows {
+        assert_eq!(rt; number_of(rt.alloc(), id, scheme)?, want, "{id}");
     }
-    let other = KeyObject {
-        scheme: text(alloc, "ed25519")?,
-        ..object
-    };
-    assert_eq!(rt; ring.key("alice", &other), None);
     Ok(())
 }
 
@@ -351,19 +377,26 @@ fn envelope(alloc: Global, signers: &[(&str, &str)]) -> Result<Envelope, AllocEr
     })
 }
 
+// The number of the id's key, where it signed, and the meter afterwards, which stood at 7.
+fn found(alloc: Global, signers: &[(&str, &str)], id: &str) -> Result<(Option<u32>, u64), Fail> {
+    let check: Box<dyn SignatureCheck> = Box::new(alloc, ring(alloc)?)?;
+    let envelope = envelope(alloc, signers)?;
+    let object = object(alloc)?;
+    let mut meter = Meter { asked: 7 };
+    let number = signed_by(alloc, &envelope, id, &object, &check, &mut meter)?;
+    Ok((number, meter.asked))
+}
+
 #[test]
 fn finds_signers(rt: HostRuntime) -> Result<(), Fail> {
-    let alloc = rt.alloc();
-    let check: Box<dyn SignatureCheck> = Box::new(alloc, ring(alloc)?)?;
-    let object = object(alloc)?;
-    let rows: [(&[(&str, &str)], &str, Option<u32>, u64); 9] = [
-        (&[("bob", "")], "alice", None, 8),
-        (&[("bob", "")], "bob", Some(2), 8),
-        (&[("bob", "")], "bobz", Some(2), 8),
-        (&[("bob", "bob")], "bob", Some(2), 8),
-        (&[("bob", "bob")], "bobz", None, 7),
-        (&[("bob", "alice")], "bob", None, 7),
-        (&[("bob", "")], "dave", None, 7),
+    let rows: [(&[(&str, &str)], &str, (Option<u32>, u64)); 9] = [
+        (&[("bob", "")], "alice", (None, 8)),
+        (&[("bob", "")], "bob", (Some(2), 8)),
+        (&[("bob", "")], "bobz", (Some(2), 8)),
+        (&[("bob", "bob")], "bob", (Some(2), 8)),
+        (&[("bob", "bob")], "bobz", (None, 7)),
+        (&[("bob", "alice")], "bob", (None, 7)),
+        (&[("bob", "")], "dave", (None, 7)),
         (
             &[
                 ("x", ""),
@@ -373,17 +406,12 @@ fn finds_signers(rt: HostRuntime) -> Result<(), Fail> {
                 ("alice", ""),
             ],
             "alice",
-            Some(1),
-            10,
+            (Some(1), 10),
         ),
-        (&[], "alice", None, 7),
+        (&[], "alice", (None, 7)),
     ];
-    for (signers, id, want, asked) in rows {
-        let mut meter = Meter { asked: 7 };
-        let envelope = envelope(alloc, signers)?;
-        let found = signed_by(alloc, &envelope, id, &object, &check, &mut meter)?;
-        assert_eq!(rt; found, want, "{id}");
-        assert_eq!(rt; meter.asked, asked, "{id}");
+    for (signers, id, want) in rows {
+        assert_eq!(rt; found(rt.alloc(), signers, id)?, want, "{id}");
     }
     Ok(())
 }
@@ -457,13 +485,17 @@ fn writes_what_reads_back(rt: HostRuntime) -> Result<(), Fail> {
         let found = read(alloc, text)?;
         assert_eq!(rt; written(alloc, &found)?.as_str(), text);
     }
-    let back = read(alloc, written(alloc, &signed(alloc)?)?.as_str())?;
-    assert_eq!(rt; back.payload.as_slice(), b"{}".as_slice());
-    assert_eq!(rt; back.payload_type.as_str(), KIND);
-    let signatures = back.signatures.as_slice();
-    assert_eq!(rt; signatures.len(), 1);
-    assert_eq!(rt; signatures[0].keyid.as_str(), "alice");
-    assert_eq!(rt; signatures[0].sig.as_slice().len(), 32);
+    Ok(())
+}
+
+#[test]
+fn reads_back_what_it_signed(rt: HostRuntime) -> Result<(), Fail> {
+    let alloc = rt.alloc();
+    let text = written(alloc, &signed(alloc)?)?;
+    assert_eq!(rt;
+        shown(alloc, text.as_str())?.as_str(),
+        "application/vnd.in-toto+json 7b7d alice:198be5320a034a1eda8a699841afa65576edcdbea1ab64c82432f3f263f7f83d"
+    );
     Ok(())
 }
 

@@ -1,5 +1,6 @@
 use it_glob::Pattern;
 use std::alloc::{AllocError, Global};
+use std::process::Abort;
 use std::test::Fail;
 
 fn repeated(alloc: Global, part: &str, times: usize) -> Result<String, AllocError> {
@@ -8,6 +9,19 @@ fn repeated(alloc: Global, part: &str, times: usize) -> Result<String, AllocErro
         text.push_str(part)?;
     }
     Ok(text)
+}
+
+// Whether each pattern matches its path is as the row says.
+fn match_as_said(
+    rt: &impl Abort,
+    alloc: Global,
+    rows: &[(&str, &str, bool)],
+) -> Result<(), Fail> {
+    for (pattern, path, want) in rows {
+        let read = Pattern::read(alloc, pattern)?;
+        assert_eq!(rt; read.matches(path), *want, "{pattern} on {path}");
+    }
+    Ok(())
 }
 
 #[test]
@@ -27,11 +41,7 @@ fn matches_whole_texts(rt: HostRuntime) -> Result<(), Fail> {
         ("?", "", false),
         ("?", "/", true),
     ];
-    for (pattern, path, want) in rows {
-        let read = Pattern::read(rt.alloc(), pattern)?;
-        assert_eq!(rt; read.matches(path), want, "{pattern} on {path}");
-    }
-    Ok(())
+    match_as_said(&rt, rt.alloc(), rows.as_slice())
 }
 
 #[test]
@@ -44,11 +54,7 @@ fn compares_scalar_values(rt: HostRuntime) -> Result<(), Fail> {
         ("\\*", "x", false),
         ("^", "^", true),
     ];
-    for (pattern, path, want) in rows {
-        let read = Pattern::read(rt.alloc(), pattern)?;
-        assert_eq!(rt; read.matches(path), want, "{pattern} on {path}");
-    }
-    Ok(())
+    match_as_said(&rt, rt.alloc(), rows.as_slice())
 }
 
 #[test]
@@ -93,11 +99,7 @@ fn reads_sets(rt: HostRuntime) -> Result<(), Fail> {
         ("[[*", "[[a", true),
         ("[a][", "a[", true),
     ];
-    for (pattern, path, want) in rows {
-        let read = Pattern::read(rt.alloc(), pattern)?;
-        assert_eq!(rt; read.matches(path), want, "{pattern} on {path}");
-    }
-    Ok(())
+    match_as_said(&rt, rt.alloc(), rows.as_slice())
 }
 
 #[test]

@@ -17,8 +17,8 @@ use Rattle.it_verify.specs.First.{OwnerLacks, whole}
 use Rattle.it_verify.specs.Walk.{OwnersSign, RefusedAs}
 use Rattle.it_verify.specs.declared.failure.Failure.{Failure}
 use Rattle.it_verify.specs.declared.failure.Failure.TheVariants.{Refused}
-use Rattle.it_verify.specs.declared.refusal.Fault.TheVariants.{OwnerMissing}
-use Rattle.it_verify.specs.declared.refusal.Refusal.{Refusal}
+use Rattle.it_report.specs.declared.refusal.Fault.TheVariants.{OwnerMissing}
+use Rattle.it_report.specs.declared.refusal.Refusal.{Refusal}
 use Rattle.it_verify.proofs.Failures.{fails_at}
 use Rattle.it_verify.proofs.FirstOrAll.{none_at_good}
 

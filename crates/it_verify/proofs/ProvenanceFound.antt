@@ -26,7 +26,7 @@ use Rattle.it_verify.specs.Made.{HasProvenance}
 use Rattle.it_verify.specs.Walk.{RefusedAs}
 use Rattle.it_verify.specs.declared.failure.Failure.{Failure}
 use Rattle.it_verify.specs.declared.inputs.Inputs.{Inputs}
-use Rattle.it_verify.specs.declared.refusal.Refusal.{Refusal}
+use Rattle.it_report.specs.declared.refusal.Refusal.{Refusal}
 use Rattle.it_verify.proofs.Failures.{fails_at}
 
 -- ---- among envelopes

@@ -28,8 +28,8 @@ use Rattle.it_verify.specs.First.{refusal_of, whole}
 use Rattle.it_verify.specs.Made.{delivery, recorded_in}
 use Rattle.it_verify.specs.declared.failure.Failure.{Failure}
 use Rattle.it_verify.specs.declared.failure.Failure.TheVariants.{Refused, OutOfMemory}
-use Rattle.it_verify.specs.declared.refusal.Fault.TheVariants.{RecordMissing, BadRecord, RuleFailed, NoExpectation, NoProvenance}
-use Rattle.it_verify.specs.declared.refusal.Refusal.{Refusal}
+use Rattle.it_report.specs.declared.refusal.Fault.TheVariants.{RecordMissing, BadRecord, RuleFailed, NoExpectation, NoProvenance}
+use Rattle.it_report.specs.declared.refusal.Refusal.{Refusal}
 
 -- ---- the links
 -- why a layout does not hold of its links, as a failure of the whole

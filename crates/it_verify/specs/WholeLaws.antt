@@ -5,7 +5,7 @@ use Rattle.it_verify.specs.Documents.{Documents}
 use Rattle.it_verify.specs.First.{First, Place, Stands}
 use Rattle.it_verify.specs.Made.{Evidence, IsMadeBy, Made, verdict_of}
 use Rattle.it_verify.specs.declared.inputs.Inputs.{Inputs}
-use Rattle.it_verify.specs.declared.refusal.Refusal.{Refusal}
+use Rattle.it_report.specs.declared.refusal.Refusal.{Refusal}
 
 -- what was made as the owners laid down has no first fault
 abbrev pub MadeNotRefused : Type 0

@@ -4,8 +4,8 @@ ghost use Rattle.it_verify.specs.First.{fault_of, refusal_of};
 ghost use Rattle.it_verify.specs.Gathering.{failure_of};
 
 use crate::failure::Failure;
-use crate::refusal::{Fault, Refusal};
 use it_chain::refusal::{ChainError, ChainFault, ChainRefusal};
+use it_report::refusal::{Fault, Refusal};
 
 impl From<ChainFault> for Fault {
     ghost from_gives = { λ inner fault. fault ≡ fault_of inner };

@@ -8,7 +8,6 @@ ghost use Rattle.it_verify.specs.Gathering.{AreRead, FileLacks, FileProven};
 ghost use Rattle.it_verify.specs.Walk.{RefusedAs};
 
 use crate::failure::{Failure, refused};
-use crate::refusal::Fault;
 use it_digest::artifacts::Artifacts;
 use it_digest::compare::DigestSet;
 use it_digest::sums::split_line;
@@ -18,6 +17,7 @@ use it_dsse::envelope::{Envelope, EnvelopeFault};
 use it_dsse::meter::Meter;
 use it_prov::fault::ProvError;
 use it_prov::find_provenance;
+use it_report::refusal::Fault;
 use std::alloc::{AllocError, Global};
 
 /// The envelopes of the provenance, one a line. A line that is none is passed over.

@@ -1,10 +1,10 @@
 //! `itv digest FILE..`.
 use crate::fault::Fault;
 use it_base::text::Text;
+use it_commands::outcome::{RunFault, Status};
+use it_commands::{check_name, run_digest};
 use it_digest::reader::DigestFault;
-use it_verify::outcome::{RunFault, Status};
-use it_verify::words::digesting::DigestWords;
-use it_verify::{check_name, run_digest};
+use it_words::digesting::DigestWords;
 use std::rt::Files;
 use std::{fs, io};
 

@@ -1,9 +1,9 @@
 //! `itv pae BODY --type TYPE`.
 use crate::fault::Fault;
 use crate::files::read_file;
-use it_verify::outcome::Status;
-use it_verify::run_pae;
-use it_verify::words::encoding::PaeWords;
+use it_commands::outcome::Status;
+use it_commands::run_pae;
+use it_words::encoding::PaeWords;
 use std::io;
 use std::rt::Files;
 

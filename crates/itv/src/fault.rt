@@ -2,8 +2,8 @@
 ghost use Rattle.std.specs.Prelude.{◌≡◌};
 ghost use Rattle.itv.specs.Fault.{program_status};
 
-use it_verify::outcome::{RunFault, Status, exit_of};
-use it_verify::words::WordsFault;
+use it_commands::outcome::{RunFault, Status, exit_of};
+use it_words::WordsFault;
 use std::alloc::{AllocError, AllocFailed, Global};
 use std::io;
 use thiserror::Error;

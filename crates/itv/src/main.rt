@@ -16,8 +16,8 @@ mod tests;
 mod verifying;
 
 use fault::{Fault, exit_status};
-use it_verify::outcome::Status;
-use it_verify::words::{Words, read_words};
+use it_commands::outcome::Status;
+use it_words::{Words, read_words};
 use std::env;
 use std::process::ExitCode;
 use std::rt::{Env, Files};

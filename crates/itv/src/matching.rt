@@ -1,8 +1,8 @@
 //! `itv match PATTERN PATH`.
 use crate::fault::Fault;
-use it_verify::outcome::Status;
-use it_verify::run_match;
-use it_verify::words::matching::MatchWords;
+use it_commands::outcome::Status;
+use it_commands::run_match;
+use it_words::matching::MatchWords;
 use std::io;
 
 /// Writes to standard output whether the pattern matches the path.

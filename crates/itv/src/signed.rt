@@ -1,10 +1,10 @@
 //! `itv signed ENVELOPE --ring F`.
 use crate::fault::Fault;
 use crate::files::{read_file, read_ring};
+use it_commands::outcome::Status;
+use it_commands::run_signed;
 use it_dsse::check::SignatureCheck;
-use it_verify::outcome::Status;
-use it_verify::run_signed;
-use it_verify::words::signed::SignedWords;
+use it_words::signed::SignedWords;
 use std::io;
 use std::rt::Files;
 

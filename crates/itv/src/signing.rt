@@ -1,9 +1,9 @@
 //! `itv sign BODY --ring F --key ID --type TYPE`.
 use crate::fault::Fault;
 use crate::files::{read_file, read_ring};
-use it_verify::outcome::{RunFault, Status};
-use it_verify::run_sign;
-use it_verify::words::signing::SignWords;
+use it_commands::outcome::{RunFault, Status};
+use it_commands::run_sign;
+use it_words::signing::SignWords;
 use std::io;
 use std::rt::Files;
 

@@ -6,11 +6,11 @@ use crate::files::{read_file, read_ring};
 use crate::folders::{read_links, read_records};
 use it_base::sequence::Sequence;
 use it_base::text::Text;
+use it_commands::outcome::Status;
+use it_commands::run_verify;
 use it_dsse::check::SignatureCheck;
 use it_verify::inputs::Inputs;
-use it_verify::outcome::Status;
-use it_verify::run_verify;
-use it_verify::words::verifying::VerifyWords;
+use it_words::verifying::VerifyWords;
 use std::io;
 use std::rt::Files;
 

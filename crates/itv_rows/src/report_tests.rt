@@ -4,11 +4,12 @@ use it_chain::refusal::RuleItem;
 use it_docs::layout_fault::LayoutPart;
 use it_docs::policy_fault::PolicyPart;
 use it_docs::rule::Side;
+use it_report::refusal::{Fault, Refusal};
+use it_report::report;
+use it_report::verdict::Verdict;
 use it_rows::devices::text;
-use it_verify::refusal::{Fault, Refusal};
-use it_verify::report;
-use it_verify::verdict::Verdict;
 use std::alloc::{AllocError, Global};
+use std::process::Abort;
 use std::test::Fail;
 
 fn pairs(alloc: Global, names: &[(&str, &str)]) -> Result<Sequence<(Text, Text)>, AllocError> {
@@ -31,6 +32,17 @@ fn told(alloc: Global, at: &[(&str, &str)], fault: Fault) -> Result<(String, Vec
 
 fn written(alloc: Global, head: &str, lines: &str) -> Result<String, AllocError> {
     format!(in alloc; "refused {head}\nat -\n{lines}")
+}
+
+// What each refusal says of itself, and its report, are as the row says.
+fn tells(rt: &impl Abort, alloc: Global, rows: Vec<(Fault, &str, &str)>) -> Result<(), Fail> {
+    for (fault, want, lines) in rows {
+        let (head, found) = told(alloc, &[], fault)?;
+        assert_eq!(rt; head.as_str(), want);
+        let report = written(alloc, want, lines)?;
+        assert_eq!(rt; found.as_slice(), report.as_bytes(), "{want} {lines}");
+    }
+    Ok(())
 }
 
 #[test]
@@ -60,24 +72,15 @@ fn writes_names(rt: HostRuntime) -> Result<(), Fail> {
 fn tells_faults_alone(rt: HostRuntime) -> Result<(), Fail> {
     let alloc = rt.alloc();
     let rows = [
-        (Fault::BadMoment, "13 BadMoment"),
-        (Fault::NoFiles, "14 NoFiles"),
-        (Fault::BadEnvelope, "20 BadEnvelope"),
-        (Fault::WrongPayloadType, "21 WrongPayloadType"),
-        (Fault::Expired, "30 Expired"),
-        (Fault::TooDeep, "32 TooDeep"),
-        (Fault::InspectionInSublayout, "35 InspectionInSublayout"),
+        (Fault::BadMoment, "13 BadMoment", ""),
+        (Fault::NoFiles, "14 NoFiles", ""),
+        (Fault::BadEnvelope, "20 BadEnvelope", ""),
+        (Fault::WrongPayloadType, "21 WrongPayloadType", ""),
+        (Fault::Expired, "30 Expired", ""),
+        (Fault::TooDeep, "32 TooDeep", ""),
+        (Fault::InspectionInSublayout, "35 InspectionInSublayout", ""),
     ];
-    for (fault, want) in Vec::from_array(alloc, rows)? {
-        let (head, found) = told(alloc, &[], fault)?;
-        assert_eq!(rt; head.as_str(), want);
-        assert_eq!(rt;
-            found.as_slice(),
-            written(alloc, want, "")?.as_bytes(),
-            "{want}"
-        );
-    }
-    Ok(())
+    tells(&rt, alloc, Vec::from_array(alloc, rows)?)
 }
 
 #[test]
@@ -118,46 +121,27 @@ fn tells_lines_and_parts_of_policies(rt: HostRuntime) -> Result<(), Fail> {
         (Fault::BadSums(1), "12 BadSums", "line 1\n"),
         (Fault::BadSums(1000), "12 BadSums", "line 1000\n"),
     ];
-    for (fault, want, lines) in Vec::from_array(alloc, rows)? {
-        let (head, found) = told(alloc, &[], fault)?;
-        assert_eq!(rt; head.as_str(), want);
-        assert_eq!(rt;
-            found.as_slice(),
-            written(alloc, want, lines)?.as_bytes(),
-            "{lines}"
-        );
-    }
-    Ok(())
+    tells(&rt, alloc, Vec::from_array(alloc, rows)?)
 }
 
 #[test]
 fn tells_parts_of_layouts(rt: HostRuntime) -> Result<(), Fail> {
     let alloc = rt.alloc();
+    let spaced = text(alloc, "a/b c")?;
+    let empty = text(alloc, "")?;
     let rows = [
-        (LayoutPart::Json, "part json\n"),
-        (LayoutPart::WrongType, "part type\n"),
-        (LayoutPart::Expires, "part expires\n"),
-        (LayoutPart::Keys, "part keys\n"),
-        (LayoutPart::Steps, "part steps\n"),
-        (LayoutPart::Step(10), "part step 10\n"),
-        (LayoutPart::Inspects, "part inspects\n"),
-        (LayoutPart::Inspect(0), "part inspect 0\n"),
-        (
-            LayoutPart::DuplicateName(text(alloc, "a/b c")?),
-            "part duplicate a/b\\x20c\n",
-        ),
-        (
-            LayoutPart::DuplicateName(text(alloc, "")?),
-            "part duplicate \\e\n",
-        ),
+        (Fault::BadLayout(LayoutPart::Json), "23 BadLayout", "part json\n"),
+        (Fault::BadLayout(LayoutPart::WrongType), "23 BadLayout", "part type\n"),
+        (Fault::BadLayout(LayoutPart::Expires), "23 BadLayout", "part expires\n"),
+        (Fault::BadLayout(LayoutPart::Keys), "23 BadLayout", "part keys\n"),
+        (Fault::BadLayout(LayoutPart::Steps), "23 BadLayout", "part steps\n"),
+        (Fault::BadLayout(LayoutPart::Step(10)), "23 BadLayout", "part step 10\n"),
+        (Fault::BadLayout(LayoutPart::Inspects), "23 BadLayout", "part inspects\n"),
+        (Fault::BadLayout(LayoutPart::Inspect(0)), "23 BadLayout", "part inspect 0\n"),
+        (Fault::BadLayout(LayoutPart::DuplicateName(spaced)), "23 BadLayout", "part duplicate a/b\\x20c\n"),
+        (Fault::BadLayout(LayoutPart::DuplicateName(empty)), "23 BadLayout", "part duplicate \\e\n"),
     ];
-    for (part, lines) in Vec::from_array(alloc, rows)? {
-        let (head, found) = told(alloc, &[], Fault::BadLayout(part))?;
-        assert_eq!(rt; head.as_str(), "23 BadLayout");
-        let want = written(alloc, "23 BadLayout", lines)?;
-        assert_eq!(rt; found.as_slice(), want.as_bytes(), "{lines}");
-    }
-    Ok(())
+    tells(&rt, alloc, Vec::from_array(alloc, rows)?)
 }
 
 fn of_steps(alloc: Global) -> Result<Vec<(Fault, &'static str, &'static str)>, AllocError> {
@@ -205,65 +189,58 @@ fn of_files(alloc: Global) -> Result<Vec<(Fault, &'static str, &'static str)>, A
 #[test]
 fn tells_faults_of_steps(rt: HostRuntime) -> Result<(), Fail> {
     let alloc = rt.alloc();
-    for (fault, want, lines) in of_steps(alloc)? {
-        let (head, found) = told(alloc, &[], fault)?;
-        assert_eq!(rt; head.as_str(), want);
-        assert_eq!(rt; found.as_slice(), written(alloc, want, lines)?.as_bytes());
-    }
-    Ok(())
+    tells(&rt, alloc, of_steps(alloc)?)
 }
 
 #[test]
 fn tells_faults_of_files(rt: HostRuntime) -> Result<(), Fail> {
     let alloc = rt.alloc();
-    for (fault, want, lines) in of_files(alloc)? {
-        let (head, found) = told(alloc, &[], fault)?;
-        assert_eq!(rt; head.as_str(), want);
-        assert_eq!(rt; found.as_slice(), written(alloc, want, lines)?.as_bytes());
-    }
-    Ok(())
+    tells(&rt, alloc, of_files(alloc)?)
+}
+
+fn rule_failed(
+    alloc: Global,
+    item: RuleItem,
+    side: Side,
+    index: usize,
+    path: &str,
+) -> Result<Fault, AllocError> {
+    let path = text(alloc, path)?;
+    Ok(Fault::RuleFailed {
+        item,
+        side,
+        index,
+        path,
+    })
+}
+
+fn of_rules(alloc: Global) -> Result<Vec<(Fault, &'static str, &'static str)>, AllocError> {
+    let build = RuleItem::Step(text(alloc, "build")?);
+    let unpack = RuleItem::Inspection(text(alloc, "un pack")?);
+    let rows = [
+        (
+            rule_failed(alloc, build, Side::Materials, 0, "src/a")?,
+            "40 RuleFailed",
+            "item step build\nside materials\nrule 0\npath src/a\n",
+        ),
+        (
+            rule_failed(alloc, unpack, Side::Products, 12, "")?,
+            "40 RuleFailed",
+            "item inspection un\\x20pack\nside products\nrule 12\npath \\e\n",
+        ),
+        (
+            rule_failed(alloc, RuleItem::Deliver, Side::Products, 1, "app")?,
+            "40 RuleFailed",
+            "item deliver\nside products\nrule 1\npath app\n",
+        ),
+    ];
+    Ok(Vec::from_array(alloc, rows)?)
 }
 
 #[test]
 fn tells_failing_rules(rt: HostRuntime) -> Result<(), Fail> {
     let alloc = rt.alloc();
-    let rows = [
-        (
-            RuleItem::Step(text(alloc, "build")?),
-            Side::Materials,
-            0,
-            "src/a",
-            "item step build\nside materials\nrule 0\npath src/a\n",
-        ),
-        (
-            RuleItem::Inspection(text(alloc, "un pack")?),
-            Side::Products,
-            12,
-            "",
-            "item inspection un\\x20pack\nside products\nrule 12\npath \\e\n",
-        ),
-        (
-            RuleItem::Deliver,
-            Side::Products,
-            1,
-            "app",
-            "item deliver\nside products\nrule 1\npath app\n",
-        ),
-    ];
-    for (item, side, index, path, lines) in Vec::from_array(alloc, rows)? {
-        let path = text(alloc, path)?;
-        let fault = Fault::RuleFailed {
-            item,
-            side,
-            index,
-            path,
-        };
-        let (head, found) = told(alloc, &[], fault)?;
-        assert_eq!(rt; head.as_str(), "40 RuleFailed");
-        let want = written(alloc, "40 RuleFailed", lines)?;
-        assert_eq!(rt; found.as_slice(), want.as_bytes(), "{lines}");
-    }
-    Ok(())
+    tells(&rt, alloc, of_rules(alloc)?)
 }
 
 #[test]
@@ -286,39 +263,37 @@ fn tells_where_a_fault_is(rt: HostRuntime) -> Result<(), Fail> {
     Ok(())
 }
 
+// The report of what is accepted, with these steps and files.
+fn accepted(alloc: Global, steps: &[(&str, u64)], files: &[&str]) -> Result<Vec<u8>, AllocError> {
+    let mut named = Vec::new(alloc);
+    for (step, keys) in steps {
+        named.push((text(alloc, step)?, *keys))?;
+    }
+    let mut paths = Vec::new(alloc);
+    for file in files {
+        paths.push(text(alloc, file)?)?;
+    }
+    let verdict = Verdict::Accepted {
+        steps: Sequence::from(named),
+        files: Sequence::from(paths),
+    };
+    report(alloc, &verdict)
+}
+
 #[test]
 fn tells_what_is_accepted(rt: HostRuntime) -> Result<(), Fail> {
     let alloc = rt.alloc();
-    let steps = [
-        (text(alloc, "fetch")?, 2),
-        (text(alloc, "a b/c")?, 0),
-        (text(alloc, "")?, 18446744073709551615),
-    ];
-    let files = [
-        text(alloc, "lib/x")?,
-        text(alloc, "app")?,
-        text(alloc, "\n")?,
-    ];
-    let verdict = Verdict::Accepted {
-        steps: Sequence::from(Vec::from_array(alloc, steps)?),
-        files: Sequence::from(Vec::from_array(alloc, files)?),
-    };
+    let steps = [("fetch", 2), ("a b/c", 0), ("", 18446744073709551615)];
+    let found = accepted(alloc, &steps, &["lib/x", "app", "\n"])?;
     let want =
         "accepted\nstep fetch 2\nstep a\\x20b/c 0\nstep \\e 18446744073709551615\nfile lib/x\nfile app\nfile \\x0a\n";
-    assert_eq!(rt; report(alloc, &verdict)?.as_slice(), want.as_bytes());
+    assert_eq!(rt; found.as_slice(), want.as_bytes());
     Ok(())
 }
 
 #[test]
 fn tells_that_nothing_is_accepted(rt: HostRuntime) -> Result<(), Fail> {
-    let alloc = rt.alloc();
-    let verdict = Verdict::Accepted {
-        steps: Sequence::from(Vec::new(alloc)),
-        files: Sequence::from(Vec::new(alloc)),
-    };
-    assert_eq!(rt;
-        report(alloc, &verdict)?.as_slice(),
-        b"accepted\n".as_slice()
-    );
+    let found = accepted(rt.alloc(), &[], &[])?;
+    assert_eq!(rt; found.as_slice(), b"accepted\n".as_slice());
     Ok(())
 }

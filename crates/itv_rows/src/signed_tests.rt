@@ -1,10 +1,10 @@
+use it_commands::outcome::{RunFault, Status, exit_of};
+use it_commands::run_signed;
 use it_digest::reader::DigestFault;
 use it_dsse::check::SignatureCheck;
 use it_dsse::ring::HmacRing;
 use it_rows::devices::{Full, Pipe, strings};
-use it_verify::outcome::{RunFault, Status, exit_of};
-use it_verify::run_signed;
-use it_verify::words::{Words, WordsFault, read_words};
+use it_words::{Words, WordsFault, read_words};
 use std::alloc::Global;
 use std::io::Write;
 use std::test::Fail;

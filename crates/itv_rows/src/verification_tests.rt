@@ -4,9 +4,9 @@ use crate::base_case::{
 };
 use it_base::sequence::Sequence;
 use it_chain::bundle::Bundle;
+use it_commands::outcome::{RunFault, Status};
 use it_rows::devices::{Full, Pipe, text};
 use it_verify::inputs::Inputs;
-use it_verify::outcome::{RunFault, Status};
 use std::alloc::Global;
 use std::test::Fail;
 

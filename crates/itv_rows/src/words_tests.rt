@@ -1,5 +1,5 @@
-use it_verify::words::verifying::VerifyWords;
-use it_verify::words::{Words, WordsFault, read_words};
+use it_words::verifying::VerifyWords;
+use it_words::{Words, WordsFault, read_words};
 use std::alloc::{AllocError, Global};
 use std::test::Fail;
 

@@ -3,7 +3,7 @@ use Rattle.it_dsse.specs.declared.key_object.KeyObject.{KeyObject}
 use Rattle.it_docs.specs.Table.{named_entries}
 use Rattle.it_verify.specs.First.{whole}
 use Rattle.it_verify.specs.declared.failure.Failure.TheVariants.{Refused}
-use Rattle.it_verify.specs.declared.refusal.Fault.TheVariants.{OwnerMissing}
+use Rattle.it_report.specs.declared.refusal.Fault.TheVariants.{OwnerMissing}
 use Rattle.it_verify.proofs.Owning.{all_at_least, all_at_most, all_sign, asked_more, none_asked, one_at_most, owner_missing}
 use Rattle.it_verify.proofs.owners.check_owners.Goals as goal
 

@@ -1,3 +1,5 @@
+ghost use Rattle.std.specs.Prelude.{◌≤◌, IfOk, length};
+
 use super::{Kind, entries, read_links, read_records};
 use crate::fault::Fault;
 use std::alloc::{Allocator, Global};
@@ -9,23 +11,23 @@ use std::test::Fail;
 
 // What stands at a path.
 #[derive(Clone, Copy)]
-enum Node {
-    // So many zero bytes.
+enum Node<'a> {
+    // So many bytes, whichever they are.
     File(usize),
     // Names, each with a zero byte at its end, and so many files more, of which each is empty.
-    Folder(&'static [u8], usize),
+    Folder(&'a [u8], usize),
     // Neither a file nor a folder: it cannot be opened.
     Device,
 }
 
 // Files in memory. What stands nowhere is an empty file, but for what is gone.
 #[derive(Clone, Copy)]
-struct Disk {
-    nodes: &'static [(&'static str, Node)],
+struct Disk<'a> {
+    nodes: &'a [(&'a str, Node<'a>)],
 }
 
-impl Disk {
-    fn node(&self, path: &str) -> io::Result<Node> {
+impl<'a> Disk<'a> {
+    fn node(&self, path: &str) -> io::Result<Node<'a>> {
         let path = path.strip_suffix("/").unwrap_or(path);
         for (place, node) in self.nodes {
             if *place == path {
@@ -47,19 +49,19 @@ fn unsupported() -> io::Error {
     io::Error::from(io::ErrorKind::Unsupported)
 }
 
-impl Files for Disk {
-    type File = Zeros;
+impl<'a> Files for Disk<'a> {
+    type File = Blank;
 
-    type Dir = Names;
+    type Dir = Names<'a>;
 
-    fn open_file(&self, _how: &OpenOptions, path: &str) -> io::Result<Zeros> {
+    fn open_file(&self, _how: &OpenOptions, path: &str) -> io::Result<Blank> {
         match self.node(path)? {
-            Node::File(left) => Ok(Zeros { left }),
+            Node::File(left) => Ok(Blank { left }),
             _ => Err(unsupported()),
         }
     }
 
-    fn open_dir(&self, path: &str) -> io::Result<Names> {
+    fn open_dir(&self, path: &str) -> io::Result<Names<'a>> {
         match self.node(path)? {
             Node::Folder(names, further) => Ok(Names { names, further }),
             _ => Err(unsupported()),
@@ -104,26 +106,19 @@ impl Files for Disk {
 }
 
 #[derive(Drop)]
-struct Zeros {
+struct Blank {
     left: usize,
 }
 
-impl Read for Zeros {
+impl Read for Blank {
     fn read(&mut self, bytes: &mut [u8]) -> io::Result<usize> {
-        let mut count = 0;
-        for byte in bytes.iter_mut() {
-            if self.left == 0 {
-                break;
-            }
-            *byte = 0;
-            self.left -= 1;
-            count += 1;
-        }
+        let count = self.left.min(bytes.len());
+        self.left -= count;
         Ok(count)
     }
 }
 
-impl Write for Zeros {
+impl Write for Blank {
     fn write(&mut self, _bytes: &[u8]) -> io::Result<usize> {
         Err(unsupported())
     }
@@ -133,13 +128,13 @@ impl Write for Zeros {
     }
 }
 
-impl Seek for Zeros {
+impl Seek for Blank {
     fn seek(&mut self, _to: SeekFrom) -> io::Result<u64> {
         Err(unsupported())
     }
 }
 
-impl OpenFile for Zeros {
+impl OpenFile for Blank {
     fn metadata(&self) -> io::Result<Metadata> {
         Err(unsupported())
     }
@@ -159,12 +154,12 @@ impl OpenFile for Zeros {
 
 // Gives one name a read.
 #[derive(Drop)]
-struct Names {
-    names: &'static [u8],
+struct Names<'a> {
+    names: &'a [u8],
     further: usize,
 }
 
-impl Read for Names {
+impl<'a> Read for Names<'a> {
     fn read(&mut self, bytes: &mut [u8]) -> io::Result<usize> {
         if let Some(end) = self.names.iter().position(|byte| *byte == 0) {
             let (name, rest) = self.names.split_at(end + 1);
@@ -176,16 +171,25 @@ impl Read for Names {
         }
         self.further -= 1;
         let digit = |place: usize| b'0' + (self.further / place % 10) as u8;
-        let name = [digit(1000), digit(100), digit(10), digit(1)];
-        let count = put(bytes, name.as_slice())?;
-        match bytes.get_mut(count..) {
-            Some(rest) => Ok(count + put(rest, b".link\0")?),
-            None => Err(unsupported()),
-        }
+        let name = [
+            digit(1000),
+            digit(100),
+            digit(10),
+            digit(1),
+            b'.',
+            b'l',
+            b'i',
+            b'n',
+            b'k',
+            0,
+        ];
+        put(bytes, name.as_slice())
     }
 }
 
-fn put(bytes: &mut [u8], name: &[u8]) -> io::Result<usize> {
+fn put(bytes: &mut [u8], name: &[u8]) -> io::Result<usize>
+    ensures { IfOk result (λ count. count ≤ length bytes.old) }
+{
     match bytes.get_mut(..name.len()) {
         Some(front) => {
             front.copy_from_slice(name);
@@ -195,7 +199,7 @@ fn put(bytes: &mut [u8], name: &[u8]) -> io::Result<usize> {
     }
 }
 
-const MIXED: &[(&str, Node)] = &[
+static MIXED: [(&str, Node<'static>); 7] = [
     (
         "d",
         Node::Folder(
@@ -211,11 +215,7 @@ const MIXED: &[(&str, Node)] = &[
     ("d/pipe.d", Node::Device),
 ];
 
-fn shown(
-    alloc: Global,
-    nodes: &'static [(&'static str, Node)],
-    depth: u8,
-) -> Result<String, Fault> {
+fn shown(alloc: Global, nodes: &[(&str, Node<'_>)], depth: u8) -> Result<String, Fault> {
     let mut text = String::new(alloc);
     for entry in entries(&(Disk { nodes }, alloc), "d", depth)? {
         text.push_str(entry.name.as_str())?;
@@ -230,12 +230,12 @@ fn shown(
 #[test]
 fn reads_links_and_folders_in_order(rt: HostRuntime) -> Result<(), Fail> {
     let alloc = rt.alloc();
-    let deep = shown(alloc, MIXED, 1)?;
+    let deep = shown(alloc, MIXED.as_slice(), 1)?;
     assert_eq!(rt;
         deep.as_str(),
         ".git/ .link B.link a.link x.y/ x.y.link/ z.link "
     );
-    let flat = shown(alloc, MIXED, 0)?;
+    let flat = shown(alloc, MIXED.as_slice(), 0)?;
     assert_eq!(rt; flat.as_str(), ".link B.link a.link z.link ");
     Ok(())
 }
@@ -243,15 +243,15 @@ fn reads_links_and_folders_in_order(rt: HostRuntime) -> Result<(), Fail> {
 #[test]
 fn stops_at_what_cannot_be_listed(rt: HostRuntime) -> Result<(), Fail> {
     let alloc = rt.alloc();
-    let gone: &[(&str, Node)] = &[("d", Node::Folder(b"gone.link\0", 0))];
+    let gone: &[(&str, Node<'_>)] = &[("d", Node::Folder(b"gone.link\0", 0))];
     assert!(rt; matches!(shown(alloc, gone, 1), Err(Fault::Unreadable { .. })));
     assert!(rt; matches!(shown(alloc, gone, 0), Err(Fault::Unreadable { .. })));
-    let gone: &[(&str, Node)] = &[("d", Node::Folder(b"gone.d\0", 0))];
+    let gone: &[(&str, Node<'_>)] = &[("d", Node::Folder(b"gone.d\0", 0))];
     assert!(rt; matches!(shown(alloc, gone, 1), Err(Fault::Unreadable { .. })));
     assert_eq!(rt; shown(alloc, gone, 0)?.as_str(), "");
-    let odd: &[(&str, Node)] = &[("d", Node::Folder(b"a\xff\0", 0))];
+    let odd: &[(&str, Node<'_>)] = &[("d", Node::Folder(b"a\xff\0", 0))];
     assert!(rt; matches!(shown(alloc, odd, 0), Err(Fault::BadName { .. })));
-    let file: &[(&str, Node)] = &[("d", Node::File(0))];
+    let file: &[(&str, Node<'_>)] = &[("d", Node::File(0))];
     assert!(rt; matches!(shown(alloc, file, 0), Err(Fault::Unreadable { .. })));
     Ok(())
 }
@@ -259,7 +259,7 @@ fn stops_at_what_cannot_be_listed(rt: HostRuntime) -> Result<(), Fail> {
 #[test]
 fn counts_what_is_read(rt: HostRuntime) -> Result<(), Fail> {
     let alloc = rt.alloc();
-    let rows: [(&[(&str, Node)], u8, bool); 5] = [
+    let rows: [(&[(&str, Node<'_>)], u8, bool); 5] = [
         (&[("d", Node::Folder(b"a\0b.txt\0", 1_000))], 1, true),
         (&[("d", Node::Folder(b"", 1_001))], 1, false),
         (&[("d", Node::Folder(b"x.link\0", 1_000))], 0, false),
@@ -291,7 +291,7 @@ fn counts_what_is_read(rt: HostRuntime) -> Result<(), Fail> {
 }
 
 // The deepest folder cannot be read.
-const NESTED: &[(&str, Node)] = &[
+static NESTED: [(&str, Node<'static>); 5] = [
     ("d", Node::Folder(b"a.b\0", 1_000 - 1)),
     ("d/a.b", Node::Folder(b"c.d\0", 0)),
     ("d/a.b/c.d", Node::Folder(b"e.f\0", 0)),
@@ -302,7 +302,12 @@ const NESTED: &[(&str, Node)] = &[
 #[test]
 fn reads_folders_down_to_the_depth(rt: HostRuntime) -> Result<(), Fail> {
     let alloc = rt.alloc();
-    let disk = (Disk { nodes: NESTED }, alloc);
+    let disk = (
+        Disk {
+            nodes: NESTED.as_slice(),
+        },
+        alloc,
+    );
     assert!(rt; read_links(&disk, "d", 0)?.dir("a.b").is_none());
     for depth in 1..3 {
         let links = read_links(&disk, "d", depth)?;
@@ -321,7 +326,7 @@ fn reads_folders_down_to_the_depth(rt: HostRuntime) -> Result<(), Fail> {
 #[test]
 fn reads_records_under_their_names(rt: HostRuntime) -> Result<(), Fail> {
     let alloc = rt.alloc();
-    let nodes: &[(&str, Node)] = &[
+    let nodes: &[(&str, Node<'_>)] = &[
         (
             "r",
             Node::Folder(b"b.c.link\0.link\0a.link\0a\0x.link\0a.json\0", 0),

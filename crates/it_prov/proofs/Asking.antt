@@ -1,5 +1,5 @@
 -- How far a meter was raised.
-use Rattle.std.proofs.Common.{◌≡◌, ℕ, suc, ◌+◌, ◌*◌, ◌<◌, ◌≤◌, List, [], ◌∷◌, Bool, true, false, ◌&&◌, cond, length, get_or, drop, filter, Option, Some, None, is_some, inl, inr, Contains, IsTrue, refl, sym, ap, subst, arith, ◌∙◌}
+use Rattle.std.proofs.Common.{◌≡◌, ℕ, suc, ◌+◌, ◌*◌, ◌<◌, ◌≤◌, List, [], ◌∷◌, Bool, true, false, ◌&&◌, cond, length, get_or, drop, filter, Option, Some, None, is_some, inl, inr, Contains, refl, sym, ap, arith, ◌∙◌}
 use Rattle.std.specs.FinMap.{len}
 use Rattle.std.specs.List.{sum_by}
 use Rattle.std.proofs.lemmas.List.Sums.{sum_by-drop_more}

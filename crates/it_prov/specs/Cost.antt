@@ -7,7 +7,6 @@ use Rattle.it_dsse.specs.Meter.{raised}
 use Rattle.it_dsse.specs.declared.envelope.Envelope.{Envelope}
 use Rattle.it_dsse.specs.declared.meter.Meter.{Meter}
 use Rattle.it_docs.specs.declared.policy.Builder.{Builder}
-use Rattle.it_docs.specs.declared.policy.Expectation.{Expectation}
 
 -- how many keys builders have
 abbrev pub key_count : List Builder → ℕ

@@ -9,7 +9,7 @@ use Rattle.std.proofs.lemmas.Option.{same_Some}
 use Rattle.it_chain.specs.First.{IsBefore}
 use Rattle.it_chain.proofs.Members.{in_head, in_tail, in_cases, in_none}
 
-abbrev order : List ℕ → List ℕ → Ordering
+abbrev pub order : List ℕ → List ℕ → Ordering
 order = slice_cmp nat_cmp
 
 both_of : (a b : Bool) → T (a && b) → T a × T b

@@ -1,6 +1,7 @@
 pub mod Alikes
 pub mod Candidates
-pub mod Claims
+pub mod ClaimedFiles
+pub mod ClaimedNames
 pub mod Counting
 pub mod Decided
 pub mod Deciding
@@ -11,7 +12,6 @@ pub mod Excludes
 pub mod Firsts
 pub mod Ids
 pub mod Judging
-pub mod KeyCounts
 pub mod LevelAnswers
 pub mod LevelRules
 pub mod LevelWalks
@@ -24,8 +24,11 @@ pub mod Orders
 pub mod Others
 pub mod Outcomes
 pub mod Records
+pub mod SignerLists
+pub mod SignerWalks
 pub mod SoFar
 pub mod Ruled
+pub mod SortedIds
 pub mod StepWalks
 pub mod Summaries
 pub mod Walks

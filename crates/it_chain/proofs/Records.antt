@@ -31,7 +31,17 @@ none_before first others in_order r c before = elim (in_cases first others r c) 
   | inr later ↦ one_before first.id r.id (in_order.0 r later) before
 ]
 
+-- whether a step lists the id of an entry
+abbrev pub is_listed : Step → List ℕ × KeyObject → Bool
+is_listed step entry = list_any (bytes_eq entry.0) step.pubkeys
+
 module _ (sub : Holding) (setting : Setting) (layout : Layout) (bundle : Contents) (step : Step) where
+  -- an id that the step does not list
+  pub gives_none : (e : List ℕ × KeyObject) → is_listed step e ≡ false → Gives sub setting layout bundle step e.0 None
+  gives_none e unlisted payload c =
+      let is : is_listed step e ≡ true = (is_member-Decides bytes_eq-Decides step.pubkeys e.0).1 c.listed in
+      cc
+
   -- the records of entries of the map of keys
   abbrev pub AreOf : List (List ℕ × KeyObject) → List IdRecord → Type 0
   AreOf [] records = records ≡ []
@@ -96,41 +106,32 @@ module _ (lower : Lower) (right : AnswersRight lower) (setting : Setting) (layou
   abbrev At : Place → ChainRefusal → Type 0
   At = Stands sub fails setting layout bundle
 
-  abbrev is_listed : List ℕ × KeyObject → Bool
-  is_listed entry = list_any (bytes_eq entry.0) step.pubkeys
-
-  -- an id that the step does not list
-  gives_none : (e : List ℕ × KeyObject) → is_listed e ≡ false → Gives sub setting layout bundle step e.0 None
-  gives_none e unlisted payload c =
-      let is : is_listed e ≡ true = (is_member-Decides bytes_eq-Decides step.pubkeys e.0).1 c.listed in
-      cc
-
-  tells_entry : (e : List ℕ × KeyObject) (es : List (List ℕ × KeyObject)) (listed : Bool) → is_listed e ≡ listed → get layout.keys e.0 ≡ Some e.1
-      → Tells At (map (at_id step) (map (λ f. f.0) es)) (AreOf sub setting layout bundle step es) (ids_answer lower setting answers layout bundle step (filter is_listed es))
+  tells_entry : (e : List ℕ × KeyObject) (es : List (List ℕ × KeyObject)) (listed : Bool) → is_listed step e ≡ listed → get layout.keys e.0 ≡ Some e.1
+      → Tells At (map (at_id step) (map (λ f. f.0) es)) (AreOf sub setting layout bundle step es) (ids_answer lower setting answers layout bundle step (filter (is_listed step) es))
       → Tells At (map (at_id step) (map (λ f. f.0) (e ∷ es))) (AreOf sub setting layout bundle step (e ∷ es))
-      (ids_answer lower setting answers layout bundle step (cond listed (e ∷ filter is_listed es) (filter is_listed es)))
+      (ids_answer lower setting answers layout bundle step (cond listed (e ∷ filter (is_listed step) es) (filter (is_listed step) es)))
   tells_entry e es true is known rest =
       tells_then At (at_id step e.0 ∷ []) (map (at_id step) (map (λ f. f.0) es)) (Gives sub setting layout bundle step e.0) (AreOf sub setting layout bundle step (e ∷ es))
       (id_answer lower setting answers layout bundle step e) _
       (tells_id lower right setting layout bundle step answers sub fails inside e.0 e.1 ((is_member-Decides bytes_eq-Decides step.pubkeys e.0).0 is) known)
       (λ given none gives. tells_made At (map (at_id step) (map (λ f. f.0) es)) (AreOf sub setting layout bundle step es) (AreOf sub setting layout bundle step (e ∷ es))
-      (ids_answer lower setting answers layout bundle step (filter is_listed es)) (with_record given) rest
+      (ids_answer lower setting answers layout bundle step (filter (is_listed step) es)) (with_record given) rest
       (λ records none' are. (given, records, refl, gives, are)))
   tells_entry e es false unlisted known rest =
-      let gives = gives_none e unlisted in
-      tells_behind At (at_id step e.0 ∷ []) (map (at_id step) (map (λ f. f.0) es)) (AreOf sub setting layout bundle step (e ∷ es)) (ids_answer lower setting answers layout bundle step (filter is_listed es))
+      let gives = gives_none sub setting layout bundle step e unlisted in
+      tells_behind At (at_id step e.0 ∷ []) (map (at_id step) (map (λ f. f.0) es)) (AreOf sub setting layout bundle step (e ∷ es)) (ids_answer lower setting answers layout bundle step (filter (is_listed step) es))
       (none_of_given sub setting layout bundle step fails inside.one inside.apart e.0 None gives, tt)
-      (tells_weaker At (map (at_id step) (map (λ f. f.0) es)) (AreOf sub setting layout bundle step es) (AreOf sub setting layout bundle step (e ∷ es)) (ids_answer lower setting answers layout bundle step (filter is_listed es))
+      (tells_weaker At (map (at_id step) (map (λ f. f.0) es)) (AreOf sub setting layout bundle step es) (AreOf sub setting layout bundle step (e ∷ es)) (ids_answer lower setting answers layout bundle step (filter (is_listed step) es))
       (λ records are. (None, records, refl, gives, are)) rest)
 
   tells_entries : (es : List (List ℕ × KeyObject)) → ((e : List ℕ × KeyObject) → Contains es e → get layout.keys e.0 ≡ Some e.1)
-      → Tells At (map (at_id step) (map (λ f. f.0) es)) (AreOf sub setting layout bundle step es) (ids_answer lower setting answers layout bundle step (filter is_listed es))
+      → Tells At (map (at_id step) (map (λ f. f.0) es)) (AreOf sub setting layout bundle step es) (ids_answer lower setting answers layout bundle step (filter (is_listed step) es))
   tells_entries [] known = (tt, refl)
-  tells_entries (e ∷ es) known = tells_entry e es (is_listed e) refl (known e (in_head e es)) (tells_entries es (λ f c. known f (in_tail e es f c)))
+  tells_entries (e ∷ es) known = tells_entry e es (is_listed step e) refl (known e (in_head e es)) (tells_entries es (λ f c. known f (in_tail e es f c)))
 
   -- the records of a step are what is answered, or the first place of its ids at which something stands
   pub tells_records : Tells At (map (at_id step) (keys layout.keys)) (AreRecords sub setting layout bundle step) (ids_answer lower setting answers layout bundle step (signers layout step))
   tells_records =
       tells_weaker At (map (at_id step) (keys layout.keys)) (AreOf sub setting layout bundle step (entries layout.keys)) (AreRecords sub setting layout bundle step)
-      (ids_answer lower setting answers layout bundle step (filter is_listed (entries layout.keys))) (are_records sub setting layout bundle step)
+      (ids_answer lower setting answers layout bundle step (filter (is_listed step) (entries layout.keys))) (are_records sub setting layout bundle step)
       (tells_entries (entries layout.keys) (entry_known layout.keys))

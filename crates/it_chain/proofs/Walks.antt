@@ -1,10 +1,8 @@
 -- What the functions that verify a level come to, put together.
-use Rattle.std.proofs.Common.{◌≡◌, ◌≢◌, ◌<◌, ◌+◌, ℕ, zero, suc, List, [], ◌∷◌, ◌++◌, map, flat_map, take, get_or, length, Option, Some, None, Result, Ok, Err, IfOk, IfErr, Bor, option_map, unwrap_or, true, inl, inr, Contains, refl, sym, ap, subst, ◌∙◌, arith}
-use Rattle.std.specs.FinMap.{entries, get, keys}
+use Rattle.std.proofs.Common.{◌≡◌, ◌≢◌, ◌<◌, ◌+◌, ℕ, zero, suc, List, [], ◌∷◌, ◌++◌, flat_map, take, get_or, length, Option, Some, None, Result, Ok, Err, IfOk, IfErr, Bor, option_map, unwrap_or, true, inl, inr, Contains, refl, sym, ap, subst, ◌∙◌, arith}
+use Rattle.std.specs.FinMap.{get}
 use Rattle.std.specs.Bool.{◌==◌}
-use Rattle.std.proofs.lemmas.List.Elements.{Contains-append_right}
 use Rattle.std.proofs.lemmas.Bool.Decides.{Decides-eqb}
-use Rattle.it_docs.specs.Table.{Named}
 use Rattle.std.specs.List.{AllZip}
 use Rattle.std.proofs.lemmas.List.{take_more}
 use Rattle.std.proofs.lemmas.Option.{same_Some}
@@ -19,10 +17,11 @@ use Rattle.it_chain.specs.Chain.{Chain}
 use Rattle.it_rules.specs.Item.{Recorded}
 use Rattle.it_chain.specs.Contents.{Contents, empty, files_of}
 use Rattle.it_chain.specs.Counted.{Setting, Body, of_link, of_layout, BodyOf, Counted}
-use Rattle.it_chain.specs.First.{Failing, First, HasTwo, IsFirst, Place, SublayoutFails, at_id, here, places}
+use Rattle.it_chain.specs.First.{Failing, First, HasTwo, IsFirst, SublayoutFails, at_id, here, places}
 use Rattle.it_chain.specs.Level.{Holding, LevelHolds, Records}
-use Rattle.it_chain.specs.Names.{folder_of}
-use Rattle.it_chain.specs.Walk.{AreCandidates, BodyComes, BodyFails, CountTwo, CountsOne, FailsAt, Gives, IsCandidate, IsSigned, IsUnder, NoneAt, StandsAt, SublayoutComes, Walks, as_body, fails_below, holds_below}
+use Rattle.it_chain.specs.Names.{IsClaimed, folder_of}
+use Rattle.it_chain.specs.Walk.{AreCandidates, BodyComes, BodyFails, CountTwo, CountsOne, FailsAt, Gives, IsRead, IsSigned, IsUnder, NoneAt, StandsAt, SublayoutComes, Walks, as_body, fails_below, holds_below}
+use Rattle.it_chain.specs.declared.bundle.File.{File}
 use Rattle.it_chain.specs.declared.candidate.Body.{Body as Held}
 use Rattle.it_chain.specs.declared.candidate.Body.TheVariants.{Link as held_link, Layout as held_layout}
 use Rattle.it_chain.specs.declared.candidate.Candidate.{Candidate}
@@ -33,8 +32,7 @@ use Rattle.it_chain.specs.declared.refusal.ChainError.{ChainError}
 use Rattle.it_chain.specs.declared.refusal.ChainError.TheVariants.{Refused, OutOfMemory}
 use Rattle.it_chain.specs.declared.refusal.ChainFault.TheVariants.{InspectionInSublayout, TooDeep, TwoPayloads}
 use Rattle.it_chain.specs.declared.refusal.ChainRefusal.{ChainRefusal}
-use Rattle.it_chain.proofs.Entries.{entry_known}
-use Rattle.it_chain.proofs.Members.{in_head}
+use Rattle.it_chain.proofs.ClaimedFiles.{in_those, of_those}
 use Rattle.it_chain.proofs.Excludes.{chain_excludes, chain_one, none_one, uninspected_apart}
 use Rattle.it_chain.proofs.Firsts.{none_append, first_before, first_behind}
 use Rattle.it_chain.proofs.Ids.{OneBody, none_of_given}
@@ -175,15 +173,16 @@ module _ (sub : Holding) (fails : Failing) (setting : Setting) (layout : Layout)
     (are : AreCandidates step.name (files_of bundle) candidates) (listed : Contains step.pubkeys id) (known : get layout.keys id ≡ Some object) where
   counted_of : (candidate : Candidate) (key : KeyNumber) → IsSigned setting.check id object candidates candidate key → Counted setting layout bundle step id candidate.envelope.payload
   counted_of candidate key h =
-      let file = are.each candidate h.stands in
+      let file = are.2.each candidate h.stands in
+      let from = of_those (λ (f : File). IsClaimed step.name f.name) (files_of bundle) are.0 are.1 file.0 file.1 in
       record {
         file = file.0;
         envelope = candidate.envelope;
         object = object;
         key = key;
         body = as_body candidate.body;
-        stands = file.1;
-        claimed = file.2.claimed;
+        stands = from.0;
+        claimed = from.1;
         is_envelope = file.2.is_envelope;
         type_is = file.2.type_is;
         payload_is = refl;
@@ -197,8 +196,8 @@ module _ (sub : Holding) (fails : Failing) (setting : Setting) (layout : Layout)
   candidate_of payload c =
       let same : c.object ≡ object = same_Some c.object object (sym c.known ∙ known) in
       let reads : BodyOf step.name c.envelope.payload (as_body (as_held c.body)) = subst (BodyOf step.name c.envelope.payload) (held_back c.body) (subst (λ p. BodyOf step.name p c.body) (sym c.payload_is) c.reads) in
-      let is : IsCandidate step.name c.file (record { envelope = c.envelope; body = as_held c.body }) = record { claimed = c.claimed; is_envelope = c.is_envelope; type_is = c.type_is; reads = reads } in
-      let found = are.all c.file (record { envelope = c.envelope; body = as_held c.body }) c.stands is in
+      let is : IsRead step.name c.file.bytes (record { envelope = c.envelope; body = as_held c.body }) = record { is_envelope = c.is_envelope; type_is = c.type_is; reads = reads } in
+      let found = are.2.all c.file (record { envelope = c.envelope; body = as_held c.body }) (in_those (λ (f : File). IsClaimed step.name f.name) (files_of bundle) are.0 are.1 c.file c.stands c.claimed) is in
       let signed : Signed setting.check found.0.envelope id object c.key = subst (λ e. Signed setting.check e id object c.key) (sym found.2) (subst (λ o. Signed setting.check c.envelope id o c.key) same c.signed) in
       (found.0, record { stands = found.1; signed = signed }, ap (λ (e : Envelope). e.payload) found.2 ∙ c.payload_is)
 
@@ -220,7 +219,7 @@ module _ (sub : Holding) (fails : Failing) (setting : Setting) (layout : Layout)
     payload = one.candidate.envelope.payload;
     counted = counted_of one.candidate key one.is;
     key_is = refl;
-    reads = subst (λ (b : Held). BodyOf step.name one.candidate.envelope.payload (as_body b)) (sym one.body_is) ((are.each one.candidate one.is.stands).2.reads);
+    reads = subst (λ (b : Held). BodyOf step.name one.candidate.envelope.payload (as_body b)) (sym one.body_is) ((are.2.each one.candidate one.is.stands).2.reads);
     alone = λ other c. let found = candidate_of other c in one.alone found.0 c.key found.1 ∙ found.2;
   }
 
@@ -284,26 +283,6 @@ pub folder_or : (found : Option (Bor Contents)) (none : Bor Contents) (folder : 
 folder_or None none folder e is = is ∙ ap (λ o. unwrap_or o empty) e
 folder_or (Some x) none folder e is = ap (λ o. unwrap_or o empty) e
 
--- ---- the ids of a map of keys
 pub nil_of : {X : Type 0} (xs : List X) → (length xs == 0) ≡ true → xs ≡ []
 nil_of [] h = refl
 nil_of (x ∷ xs) h = let none : length (x ∷ xs) ≡ 0 = (Decides-eqb (length (x ∷ xs)) 0).0 h in absurd (omega (arith, none))
-
-pub entry_at : (keys_of : Named KeyObject) (done : List (List ℕ × KeyObject)) (e : List ℕ × KeyObject) (rest : List (List ℕ × KeyObject)) → entries keys_of ≡ done ++ e ∷ rest → get keys_of e.0 ≡ Some e.1
-entry_at keys_of done e rest all = entry_known keys_of e (subst (λ es. Contains es e) (sym all) (Contains-append_right done (e ∷ rest) e (in_head e rest)))
-
-module _ (At : Place → ChainRefusal → Type 0) (step : Step) where
-  abbrev ids_of : List (List ℕ × KeyObject) → List Place
-  ids_of es = map (at_id step) (map (λ e. e.0) es)
-
-  pub none_ids : (done : List (List ℕ × KeyObject)) (e : List ℕ × KeyObject) → NoneAt At (ids_of done) → ((r : ChainRefusal) → ¬ At (at_id step e.0) r) → NoneAt At (ids_of (done ++ e ∷ []))
-  none_ids [] e none last = (last, tt)
-  none_ids (d ∷ done) e none last = (none.0, none_ids done e none.1 last)
-
-  fails_there : (done : List (List ℕ × KeyObject)) (e : List ℕ × KeyObject) (rest : List (List ℕ × KeyObject)) (err : ChainError) → NoneAt At (ids_of done) → FailsAt At (at_id step e.0 ∷ []) err → FailsAt At (ids_of (done ++ e ∷ rest)) err
-  fails_there [] e rest err none h = fails_before At (at_id step e.0 ∷ []) (ids_of rest) err h
-  fails_there (d ∷ done) e rest err none h = fails_behind At (at_id step d.0 ∷ []) (ids_of (done ++ e ∷ rest)) err (none.0, tt) (fails_there done e rest err none.1 h)
-
-  pub ids_fail : (keys_of : Named KeyObject) (done : List (List ℕ × KeyObject)) (e : List ℕ × KeyObject) (rest : List (List ℕ × KeyObject)) (err : ChainError) → entries keys_of ≡ done ++ e ∷ rest
-      → NoneAt At (ids_of done) → FailsAt At (at_id step e.0 ∷ []) err → FailsAt At (map (at_id step) (keys keys_of)) err
-  ids_fail keys_of done e rest err all none h = subst (λ es. FailsAt At (ids_of es) err) (sym all) (fails_there done e rest err none h)

@@ -3,6 +3,7 @@ pub mod Answer
 pub mod BundleCode
 pub mod BundleView
 pub mod Chain
+pub mod Claims
 pub mod Contents
 pub mod Cost
 pub mod Counted
@@ -12,4 +13,5 @@ pub mod Level
 pub mod Lower
 pub mod Names
 pub mod RecordCode
+pub mod Signers
 pub mod Walk

@@ -1,6 +1,6 @@
 -- What the functions that verify a level come to, in the words of the definitions. Nothing that is
 -- trusted stands here.
-use Rattle.std.specs.Prelude.{◌≡◌, ◌≢◌, ◌⊎◌, ◌<◌, ◌≤◌, ℕ, zero, suc, List, [], ◌∷◌, Option, None, Some, Result, Ok, Err, map, Contains, ⊤}
+use Rattle.std.specs.Prelude.{◌≡◌, ◌≢◌, ◌⊎◌, ◌<◌, ◌≤◌, ℕ, zero, suc, List, [], ◌∷◌, Option, None, Some, Result, Ok, Err, map, slice_get, Contains, ⊤}
 use Rattle.std.specs.List.{AllByRecursion}
 use Rattle.std.specs.Set.{distinct_count}
 use Rattle.it_dsse.specs.Check.{Check, KeyNumber}
@@ -16,11 +16,12 @@ use Rattle.it_docs.specs.declared.rule.Side.TheVariants.{Materials, Products}
 use Rattle.it_rules.specs.Item.{Recorded, Links}
 use Rattle.it_rules.specs.Rules.{IsFirstFault, RulesHold}
 use Rattle.it_chain.specs.Chain.{Chain, none_holds}
+use Rattle.it_chain.specs.Claims.{AreClaimed}
 use Rattle.it_chain.specs.Contents.{Contents}
 use Rattle.it_chain.specs.Counted.{Setting, Body, of_link, of_layout, BodyOf, Counted, same_key}
 use Rattle.it_chain.specs.First.{Failing, First, IsBefore, IsFirst, Place, Stands, here, too_deep, under, uninspected}
 use Rattle.it_chain.specs.Level.{Holding, HasRecord, Records, StepRulesHold, recorded_in}
-use Rattle.it_chain.specs.Names.{IsClaimed, folder_of}
+use Rattle.it_chain.specs.Names.{folder_of}
 use Rattle.it_chain.specs.declared.bundle.File.{File}
 use Rattle.it_chain.specs.declared.candidate.Candidate.{Candidate}
 use Rattle.it_chain.specs.declared.candidate.Body.{Body as Held}
@@ -74,17 +75,24 @@ as_body (held_layout layout) = of_layout layout
 abbrev pub IsBody : List ℕ → List ℕ → Held → Type 0
 IsBody step payload body = BodyOf step payload (as_body body)
 
--- a file is claimed for a step, and is this envelope of a body
-pub record IsCandidate (step : List ℕ) (file : File) (candidate : Candidate) : Type 0 where
-  pub claimed : IsClaimed step file.name
-  pub is_envelope : EnvelopeOf file.bytes candidate.envelope
+-- the bytes are this envelope of a body for a step
+pub record IsRead (step bytes : List ℕ) (candidate : Candidate) : Type 0 where
+  pub is_envelope : EnvelopeOf bytes candidate.envelope
   pub type_is : candidate.envelope.payload_type ≡ in_toto_type
   pub reads : IsBody step candidate.envelope.payload candidate.body
 
+-- a file stands at a place, and its bytes are such an envelope
+abbrev pub IsReadAt : List ℕ → List File → ℕ → Candidate → Type 0
+IsReadAt step files place candidate = (file : File) × (slice_get files place ≡ Some file) × IsRead step file.bytes candidate
+
 -- the envelopes of the files that are such, and no others
-pub record AreCandidates (step : List ℕ) (files : List File) (candidates : List Candidate) : Type 0 where
-  pub each : (candidate : Candidate) → Contains candidates candidate → (file : File) × Contains files file × IsCandidate step file candidate
-  pub all : (file : File) (candidate : Candidate) → Contains files file → IsCandidate step file candidate → (found : Candidate) × Contains candidates found × (found.envelope ≡ candidate.envelope)
+pub record AreRead (step : List ℕ) (files : List File) (candidates : List Candidate) : Type 0 where
+  pub each : (candidate : Candidate) → Contains candidates candidate → (file : File) × Contains files file × IsRead step file.bytes candidate
+  pub all : (file : File) (candidate : Candidate) → Contains files file → IsRead step file.bytes candidate → (found : Candidate) × Contains candidates found × (found.envelope ≡ candidate.envelope)
+
+-- the same of the files that are claimed for a step
+abbrev pub AreCandidates : List ℕ → List File → List Candidate → Type 0
+AreCandidates step files candidates = (claimed : List File) × AreClaimed step files claimed × AreRead step claimed candidates
 
 -- ---- what counts for a key id
 module _ (check : Check) (id : List ℕ) (object : KeyObject) (candidates : List Candidate) where

@@ -1,5 +1,7 @@
 //! How the records of a step are judged.
 ghost use Rattle.std.specs.Prelude.{◌≡◌, ◌↔◌, IfOk, IsTrue, map};
+ghost use Rattle.std.specs.BTreeSet.{IsFromIterResult};
+ghost use Rattle.std.specs.Ordering.{nat_cmp};
 ghost use Rattle.std.specs.Set.{distinct_count};
 ghost use Rattle.it_chain.specs.Counted.{same_key};
 ghost use Rattle.it_chain.specs.Walk.{IsAgreed, IsJudged};
@@ -10,6 +12,7 @@ use crate::record::{IdRecord, Recorded};
 use crate::refusal::{ChainError, ChainFault};
 use it_docs::step::Step;
 use std::alloc::{AllocError, Global};
+use std::collections::BTreeSet;
 
 /// The record of a step, where enough different keys signed and all records are the same.
 pub(crate) fn judged(
@@ -40,13 +43,14 @@ fn key_count(alloc: Global, records: &[IdRecord]) -> Result<u64, AllocError>
     ensures { IfOk result
         (λ n. n ≡ distinct_count same_key (map (λ r. r.key) records.now)) }
 {
-    let mut keys: Vec<u32> = Vec::new(alloc);
-    for record in records {
-        if !keys.contains(&record.key) {
-            keys.push(record.key)?;
-        }
-    }
+    let keys = keys_in(alloc, records)?;
     Ok(keys.len() as u64)
+}
+
+fn keys_in(alloc: Global, records: &[IdRecord]) -> Result<BTreeSet<u32>, AllocError>
+    ensures { IfOk result (IsFromIterResult nat_cmp (map (λ r. r.key) records.now)) }
+{
+    records.iter().map(|record| record.key).collect(alloc)
 }
 
 /// The record of a step, where all the others are the same as the first.

@@ -4,10 +4,10 @@ ghost use Rattle.it_base.specs.Finds.{Finds};
 ghost use Rattle.it_dsse.specs.Envelope.{EnvelopeOf};
 ghost use Rattle.it_docs.specs.Layout.{LayoutOf};
 ghost use Rattle.it_docs.specs.Link.{LinkOf};
-ghost use Rattle.it_chain.specs.Walk.{AreCandidates, IsBody, IsCandidate};
+ghost use Rattle.it_chain.specs.Claims.{files_at};
+ghost use Rattle.it_chain.specs.Walk.{AreRead, IsBody, IsRead, IsReadAt};
 
 use crate::bundle::File;
-use crate::names::is_claimed;
 use it_docs::fault::DocumentFault;
 use it_docs::layout::Layout;
 use it_docs::layout_fault::LayoutFault;
@@ -37,30 +37,43 @@ pub(crate) struct Candidate {
     pub body: Body,
 }
 
-/// The envelopes of the files that are claimed for a step, where their payloads are bodies.
+/// The envelopes of the files at some places, where their payloads are bodies for a step.
 pub(crate) fn candidates(
     alloc: Global,
     step: &str,
     files: &[File],
+    places: &[usize],
 ) -> Result<Vec<Candidate>, AllocError>
-    ensures { IfOk result (λ found. AreCandidates step.now files.now found.items) }
+    ensures { IfOk result
+        (λ found. AreRead step.now (files_at files.now places.now) found.items) }
 {
     let mut found = Vec::new(alloc);
-    for file in files {
-        if let Some(candidate) = candidate_in(alloc, step, file)? {
+    for place in places {
+        if let Some(candidate) = candidate_at(alloc, step, files, *place)? {
             found.push(candidate)?;
         }
     }
     Ok(found)
 }
 
-fn candidate_in(alloc: Global, step: &str, file: &File) -> Result<Option<Candidate>, AllocError>
-    ensures { IfOk result (Finds (IsCandidate step.now file.now)) }
+fn candidate_at(
+    alloc: Global,
+    step: &str,
+    files: &[File],
+    place: usize,
+) -> Result<Option<Candidate>, AllocError>
+    ensures { IfOk result (Finds (IsReadAt step.now files.now place)) }
 {
-    if !is_claimed(step, file.name.as_str()) {
-        return Ok(None);
+    match files.get(place) {
+        Some(file) => candidate_in(alloc, step, file.bytes.as_slice()),
+        None => Ok(None),
     }
-    let Some(envelope) = envelope_in(alloc, file.bytes.as_slice())? else {
+}
+
+fn candidate_in(alloc: Global, step: &str, bytes: &[u8]) -> Result<Option<Candidate>, AllocError>
+    ensures { IfOk result (Finds (IsRead step.now bytes.now)) }
+{
+    let Some(envelope) = envelope_in(alloc, bytes)? else {
         return Ok(None);
     };
     if envelope.payload_type.as_str() != IN_TOTO {

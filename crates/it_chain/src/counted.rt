@@ -1,10 +1,9 @@
 //! What counts for a key id.
-ghost use Rattle.std.specs.Prelude.{◌≡◌, ◌↔◌, IfOk, IsTrue, Contains};
+ghost use Rattle.std.specs.Prelude.{◌≡◌, ◌↔◌, IfOk, IsTrue};
 ghost use Rattle.it_chain.specs.Walk.{Counts};
 
 use crate::candidate::{Body, Candidate};
 use crate::checking::Checking;
-use it_base::text::Text;
 use it_dsse::key_object::KeyObject;
 use it_dsse::meter::Meter;
 use std::alloc::{AllocError, Global};
@@ -54,11 +53,4 @@ fn is_same_payload(one: &Candidate, other: &Candidate) -> bool
     ensures { IsTrue result ↔ (one.now.envelope.payload ≡ other.now.envelope.payload) }
 {
     one.envelope.payload.as_slice() == other.envelope.payload.as_slice()
-}
-
-/// Whether a step lists a key id.
-pub(crate) fn lists(ids: &[Text], id: &str) -> bool
-    ensures { IsTrue result ↔ Contains ids.now id.now }
-{
-    ids.iter().any(|listed| listed.as_str() == id)
 }

@@ -2,10 +2,13 @@
 ghost use Rattle.std.specs.Prelude.{◌≡◌, ◌≤◌, ◌∷◌, [], IfOk, Some, Contains, map, flat_map};
 ghost use Rattle.std.specs.FinMap.{get, keys};
 ghost use Rattle.std.specs.List.{AllZip};
+ghost use Rattle.it_chain.specs.Answer.{signers as signers_of};
+ghost use Rattle.it_chain.specs.Claims.{ClaimsIn};
 ghost use Rattle.it_chain.specs.Contents.{files_of};
 ghost use Rattle.it_chain.specs.First.{at_id, places, step_places};
 ghost use Rattle.it_chain.specs.Level.{LevelHolds, StepHolds, summary};
 ghost use Rattle.it_chain.specs.Names.{folder_of};
+ghost use Rattle.it_chain.specs.Signers.{entry_of};
 ghost use Rattle.it_chain.specs.Walk.{AreCandidates, AreRecords, BodyComes, SublayoutComes, Gives, StandsAt, Walks, as_body, holds_below, fails_below};
 
 use crate::agreement::judged;
@@ -13,17 +16,18 @@ use crate::bundle::Bundle;
 use crate::candidate::{Body, Candidate, candidates};
 use crate::chain::{Chain, StepResult};
 use crate::checking::Checking;
-use crate::counted::{Counting, counted, lists};
+use crate::claims::Claims;
+use crate::counted::{Counting, counted};
 use crate::fault::{refused, text_of, under};
 use crate::names::folder_name;
 use crate::record::{IdRecord, Recorded};
 use crate::refusal::{ChainError, ChainFault};
+use crate::signers::{Signer, signers};
 use crate::step_rules::run_step_rules;
 use it_base::sequence::Sequence;
 use it_digest::artifacts::Artifacts;
 use it_docs::layout::Layout;
 use it_docs::step::Step;
-use it_dsse::key_object::KeyObject;
 use it_dsse::meter::Meter;
 use std::alloc::{AllocError, Global};
 
@@ -55,7 +59,8 @@ pub(crate) fn verify_level<C: Checking>(
     if level.layout.expires < checking.moment() {
         return Err(refused(alloc, ChainFault::Expired));
     }
-    let steps = verify_steps(alloc, checking, level, meter)?;
+    let claims = Claims::of(alloc, level.links.files())?;
+    let steps = verify_steps(alloc, checking, level, &claims, meter)?;
     run_step_rules(alloc, level.layout.steps.as_slice(), steps.as_slice())?;
     Ok(Chain {
         steps: Sequence::from(steps),
@@ -68,9 +73,11 @@ fn verify_steps<C: Checking>(
     alloc: Global,
     checking: &C,
     level: &Level,
+    claims: &Claims,
     meter: &mut Meter,
 ) -> Result<Vec<StepResult>, ChainError>
     requires shallow { level.now.depth ≤ 8 }
+    requires claims { ClaimsIn (files_of level.now.links.now) claims.now }
     ensures { Walks (StandsAt (C.setting checking.now) level.now.depth level.now.layout.now level.now.links.now)
         (flat_map (step_places level.now.layout.now) level.now.layout.now.steps)
         (λ results. AllZip (StepHolds (holds_below (C.setting checking.now) level.now.depth)
@@ -78,7 +85,7 @@ fn verify_steps<C: Checking>(
 {
     let mut results = Vec::new(alloc);
     for step in level.layout.steps.as_slice() {
-        results.push(verify_step(alloc, checking, level, step, meter)?)?;
+        results.push(verify_step(alloc, checking, level, claims, step, meter)?)?;
     }
     Ok(results)
 }
@@ -89,17 +96,30 @@ fn verify_step<C: Checking>(
     alloc: Global,
     checking: &C,
     level: &Level,
+    claims: &Claims,
     step: &Step,
     meter: &mut Meter,
 ) -> Result<StepResult, ChainError>
     requires shallow { level.now.depth ≤ 8 }
+    requires claims { ClaimsIn (files_of level.now.links.now) claims.now }
     ensures { Walks (StandsAt (C.setting checking.now) level.now.depth level.now.layout.now level.now.links.now)
         (step_places level.now.layout.now step.now)
         (StepHolds (holds_below (C.setting checking.now) level.now.depth)
         (C.setting checking.now) level.now.layout.now level.now.links.now step.now) result }
 {
-    let found = candidates(alloc, step.name.as_str(), level.links.files())?;
-    let records = verify_ids(alloc, checking, level, step, found.as_slice(), meter)?;
+    let name = step.name.as_str();
+    let found = candidates(alloc, name, level.links.files(), claims.places(name))?;
+    let signers = signers(alloc, level.layout, step)?;
+    let signers = signers.as_slice();
+    let records = verify_ids(
+        alloc,
+        checking,
+        level,
+        step,
+        signers,
+        found.as_slice(),
+        meter,
+    )?;
     judged(alloc, step, records.as_slice())
 }
 
@@ -110,10 +130,12 @@ fn verify_ids<C: Checking>(
     checking: &C,
     level: &Level,
     step: &Step,
+    signers: &[Signer],
     found: &[Candidate],
     meter: &mut Meter,
 ) -> Result<Vec<IdRecord>, ChainError>
     requires shallow { level.now.depth ≤ 8 }
+    requires signers { map entry_of signers.now ≡ signers_of level.now.layout.now step.now }
     requires candidates { AreCandidates step.now.name (files_of level.now.links.now) found.now }
     ensures { Walks (StandsAt (C.setting checking.now) level.now.depth level.now.layout.now level.now.links.now)
         (map (at_id step.now) (keys level.now.layout.now.keys))
@@ -121,21 +143,10 @@ fn verify_ids<C: Checking>(
         (C.setting checking.now) level.now.layout.now level.now.links.now step.now records.items) result }
 {
     let mut records = Vec::new(alloc);
-    for (id, object) in level.layout.keys.iter() {
-        if lists(step.pubkeys.as_slice(), id.as_str()) {
-            let record = verify_id(
-                alloc,
-                checking,
-                level,
-                step,
-                id.as_str(),
-                object,
-                found,
-                meter,
-            )?;
-            if let Some(record) = record {
-                records.push(record)?;
-            }
+    for signer in signers {
+        let record = verify_id(alloc, checking, level, step, signer, found, meter)?;
+        if let Some(record) = record {
+            records.push(record)?;
         }
     }
     Ok(records)
@@ -148,21 +159,21 @@ fn verify_id<C: Checking>(
     checking: &C,
     level: &Level,
     step: &Step,
-    id: &str,
-    object: &KeyObject,
+    signer: &Signer,
     found: &[Candidate],
     meter: &mut Meter,
 ) -> Result<Option<IdRecord>, ChainError>
     requires shallow { level.now.depth ≤ 8 }
     requires candidates { AreCandidates step.now.name (files_of level.now.links.now) found.now }
-    requires listed { Contains step.now.pubkeys id.now }
-    requires known { get level.now.layout.now.keys id.now ≡ Some object.now }
+    requires listed { Contains step.now.pubkeys signer.now.id.now }
+    requires known { get level.now.layout.now.keys signer.now.id.now ≡ Some signer.now.object.now }
     ensures { Walks (StandsAt (C.setting checking.now) level.now.depth level.now.layout.now level.now.links.now)
-        (at_id step.now id.now ∷ [])
+        (at_id step.now signer.now.id.now ∷ [])
         (Gives (holds_below (C.setting checking.now) level.now.depth)
-        (C.setting checking.now) level.now.layout.now level.now.links.now step.now id.now) result }
+        (C.setting checking.now) level.now.layout.now level.now.links.now step.now signer.now.id.now) result }
 {
-    match counted(alloc, checking, id, object, found, meter)? {
+    let id = signer.id;
+    match counted(alloc, checking, id, signer.object, found, meter)? {
         Counting::Nothing => Ok(None),
         Counting::Several => Err(refused(
             alloc,
@@ -172,15 +183,8 @@ fn verify_id<C: Checking>(
             },
         )),
         Counting::One(key, body) => {
-            let recorded = verify_body(
-                alloc,
-                checking,
-                level,
-                step.name.as_str(),
-                id,
-                body,
-                meter,
-            )?;
+            let name = step.name.as_str();
+            let recorded = verify_body(alloc, checking, level, name, id, body, meter)?;
             Ok(Some(IdRecord {
                 id: text_of(alloc, id)?,
                 key,

@@ -6,6 +6,7 @@ pub mod bundle;
 mod candidate;
 pub mod chain;
 mod checking;
+mod claims;
 mod counted;
 mod fault;
 pub mod laws;
@@ -13,6 +14,7 @@ mod level;
 mod names;
 mod record;
 pub mod refusal;
+mod signers;
 mod step_rules;
 mod verify;
 

@@ -4,24 +4,14 @@ ghost use Rattle.it_chain.specs.Names.{IsClaimed, first_characters, folder_name 
 
 use std::alloc::{AllocError, Global};
 
-/// Whether a file's name claims the file for a step.
-pub(crate) fn is_claimed(step: &str, name: &str) -> bool
-    ensures { IsTrue result ↔ IsClaimed step.now name.now }
+/// The name of the step that a file's name claims the file for.
+pub(crate) fn claimed_step(name: &str) -> Option<&str>
+    ensures { MatchOption result ((step : List ℕ) → ¬ IsClaimed step name.now)
+        (λ step. IsClaimed step.now name.now) }
 {
-    match middle_of(step, name) {
-        Some(middle) => !middle.is_empty() && !middle.contains('.'),
-        None => false,
-    }
-}
-
-/// What stands between the step's name with a full stop and `.link`.
-fn middle_of<'a>(step: &str, name: &'a str) -> Option<&'a str>
-    ensures { MatchOption result ((middle : List ℕ) → name.now ≢ step.now ++ codes "." ++ middle ++ codes ".link")
-        (λ middle. name.now ≡ step.now ++ codes "." ++ middle.now ++ codes ".link") }
-{
-    let rest = name.strip_prefix(step)?;
-    let rest = rest.strip_prefix('.')?;
-    rest.strip_suffix(".link")
+    let front = name.strip_suffix(".link")?;
+    let (step, middle) = front.rsplit_once('.')?;
+    if middle.is_empty() { None } else { Some(step) }
 }
 
 /// The name of the folder that a sublayout's files are in.

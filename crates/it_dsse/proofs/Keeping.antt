@@ -3,18 +3,21 @@ use Rattle.std.proofs.Common.{◌≡◌, ℕ, ◌+◌, ◌<◌, inl, inr, List, 
 use Rattle.std.proofs.lemmas.List.{take_more, map-append}
 use Rattle.it_dsse.specs.Signed.{AreThose}
 
-keep_last : {X : Type 0} (P : X → Type 0) (xs kept : List X) (x : X) → AreThose P xs kept → P x → AreThose P (xs ++ x ∷ []) (kept ++ x ∷ [])
+-- the last element is kept
+pub keep_last : {X : Type 0} (P : X → Type 0) (xs kept : List X) (x : X) → AreThose P xs kept → P x → AreThose P (xs ++ x ∷ []) (kept ++ x ∷ [])
 keep_last P [] kept x h p = inl (p, ([], ap (λ l. l ++ x ∷ []) h, refl))
 keep_last P (y ∷ xs) kept x (inl h) p =
     inl (h.0, (h.1.0 ++ x ∷ [], ap (λ l. l ++ x ∷ []) h.1.1, keep_last P xs h.1.0 x h.1.2 p))
 keep_last P (y ∷ xs) kept x (inr h) p = inr (h.0, keep_last P xs kept x h.1 p)
 
-pass_last : {X : Type 0} (P : X → Type 0) (xs kept : List X) (x : X) → AreThose P xs kept → ¬ P x → AreThose P (xs ++ x ∷ []) kept
+-- the last element is passed over
+pub pass_last : {X : Type 0} (P : X → Type 0) (xs kept : List X) (x : X) → AreThose P xs kept → ¬ P x → AreThose P (xs ++ x ∷ []) kept
 pass_last P [] kept x h p = inr (p, h)
 pass_last P (y ∷ xs) kept x (inl h) p = inl (h.0, (h.1.0, h.1.1, pass_last P xs h.1.0 x h.1.2 p))
 pass_last P (y ∷ xs) kept x (inr h) p = inr (h.0, pass_last P xs kept x h.1 p)
 
-cut : {A X : Type 0} (f : A → X) (list : List A) (i : ℕ) (a : A) → i < length list → a ≡ get_or list i a → map f (take (i + 1) list) ≡ map f (take i list) ++ f a ∷ []
+-- the first elements and the next, by a view of them
+pub cut : {A X : Type 0} (f : A → X) (list : List A) (i : ℕ) (a : A) → i < length list → a ≡ get_or list i a → map f (take (i + 1) list) ≡ map f (take i list) ++ f a ∷ []
 cut f list i a below here = ap (map f) (take_more list i a below ∙ ap (λ b. take i list ++ b ∷ []) (sym here)) ∙ map-append f (take i list) (a ∷ [])
 
 -- one more element is kept, by a view of the elements

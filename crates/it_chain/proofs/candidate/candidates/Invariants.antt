@@ -1,7 +1,8 @@
 use Rattle.std.proofs.Common.{take}
-use Rattle.it_chain.specs.Walk.{AreCandidates}
+use Rattle.it_chain.specs.Claims.{files_at}
+use Rattle.it_chain.specs.Walk.{AreRead}
 use Rattle.it_chain.proofs.candidate.candidates.Given as goal
 
--- the candidates among the files so far
-abbrev pub invariant-loop-file : goal.invariant-loop-file
-invariant-loop-file l = AreCandidates l.step (take l.file-index l.files) l.found.items
+-- the candidates among the files at the places so far
+abbrev pub invariant-loop-place : goal.invariant-loop-place
+invariant-loop-place l = AreRead l.step (files_at l.files (take l.place-index l.places)) l.found.items

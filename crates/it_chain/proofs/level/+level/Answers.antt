@@ -1,40 +1,39 @@
-use Rattle.std.proofs.Common.{◌≡◌, ◌∙◌, ◌<ℤ◌, ◌-◌, ℕ, List, [], ◌∷◌, ◌++◌, None, Some, Contains, map, zip, Err, flat_map, append_assoc, append-nil, true, rules, sym, ap, subst, string_bytes, unwrap_or, arith}
-use Rattle.std.specs.FinMap.{entries, get, keys}
+use Rattle.std.proofs.Common.{◌≡◌, ◌∙◌, ◌<ℤ◌, ◌+◌, ◌-◌, [], ◌∷◌, None, Some, Contains, map, zip, Err, flat_map, append-nil, rules, sym, ap, subst, unwrap_or, take, take_all, arith}
+use Rattle.std.specs.FinMap.{keys}
 use Rattle.std.proofs.lemmas.Int.{ints}
+use Rattle.std.proofs.lemmas.List.Elements.{Contains-get_or}
 use Rattle.std.proofs.lemmas.Result.{err_from_is_err_and}
-use Rattle.it_dsse.specs.declared.key_object.KeyObject.{KeyObject}
-use Rattle.it_docs.specs.Table.{named_entries}
 use Rattle.it_chain.specs.Contents.{empty, folder_at}
 use Rattle.it_chain.specs.Names.{folder_name, folder_of}
 use Rattle.it_chain.specs.First.{step_places, at_id, at_records, at_threshold, here}
 use Rattle.it_chain.specs.Level.{StepHolds, links_in}
-use Rattle.it_chain.specs.Walk.{AreRuled, BodyComes, FailsAt, Gives, NoneAt, StandsAt, as_body, fails_below, holds_below}
+use Rattle.it_chain.specs.Walk.{AreRuled, BodyComes, FailsAt, Gives, StandsAt, as_body, fails_below, holds_below}
 use Rattle.it_chain.specs.declared.refusal.ChainError.TheVariants.{Refused}
 use Rattle.it_chain.specs.declared.refusal.ChainFault.TheVariants.{TwoPayloads}
-use Rattle.it_chain.proofs.Ids.{none_of_given}
 use Rattle.it_chain.proofs.LevelWalks.{level_holds, rules_fail, steps_fail}
 use Rattle.it_chain.proofs.LevelRules.{links_differ}
-use Rattle.it_chain.proofs.Records.{AreOf, are_records}
 use Rattle.it_chain.proofs.StepWalks.{judged_walks}
-use Rattle.it_chain.proofs.Walks.{are_more, none_ids, entry_at, folder_or, ids_fail, level_below, nil_of, fails_before, fails_at, none_counts, none_more, one_counts, one_below, apart_below, two_count, walks_behind, walks_body, walks_given, walks_one, walks_two, zip_more}
+use Rattle.it_chain.proofs.SignerWalks.{AreWalked, signer_known, signer_listed, walked_all, walked_fail, walked_more, walked_none}
+use Rattle.it_chain.proofs.Walks.{folder_or, level_below, nil_of, fails_before, fails_at, none_counts, none_more, one_counts, one_below, apart_below, two_count, walks_behind, walks_body, walks_given, walks_one, walks_two, zip_more}
 use Rattle.it_chain.proofs.level.+level.Goals as goal
+use Rattle.it_chain.proofs.level.+level.Goals.{verify_ids-in-Some+in_ok-push, verify_ids-in_default}
 
 pub verify_id-returns-in_err-recorded-in-One : goal.verify_id-returns-in_err-recorded-in-One
 verify_id-returns-in_err-recorded-in-One g t c =
     let s = g.C.Checking.setting c.args.checking.now in
     let l = c.args.level.now in
-    let one = one_counts (holds_below s l.depth) (fails_below s l.depth) s l.layout.now l.links.now c.args.step.now c.args.id.now c.args.object.now c.args.found.now c.requires.1.1.1.1.0 c.requires.1.1.1.1.1.0 c.requires.1.1.1.1.1.1
+    let one = one_counts (holds_below s l.depth) (fails_below s l.depth) s l.layout.now l.links.now c.args.step.now c.args.signer.now.id.now c.args.signer.now.object.now c.args.found.now c.requires.candidates c.requires.listed c.requires.known
     c.in-One.key c.in-One.body.now (rw c.in-One.is at c.in_ok-counted.ensures) in
     let p = err_from_is_err_and c.from_residual-in_err-recorded-in-One.result c.from_residual-in_err-recorded-in-One.ensures.1 in
-    rw (p.1, p.2) (walks_body s l.depth l.layout.now l.links.now c.args.step.now c.args.id.now c.in-One.key (as_body c.in-One.body.now) c.in_err-recorded-in-One.field-0.0 one
-    (subst (λ n. BodyComes (holds_below s l.depth) (fails_below s l.depth) l.links.now n c.args.id.now (as_body c.in-One.body.now) (Err c.in_err-recorded-in-One.field-0.0)) c.as_str-in-One.ensures c.in_err-recorded-in-One.ensures))
+    rw (p.1, p.2) (walks_body s l.depth l.layout.now l.links.now c.args.step.now c.args.signer.now.id.now c.in-One.key (as_body c.in-One.body.now) c.in_err-recorded-in-One.field-0.0 one
+    (subst (λ n. BodyComes (holds_below s l.depth) (fails_below s l.depth) l.links.now n c.args.signer.now.id.now (as_body c.in-One.body.now) (Err c.in_err-recorded-in-One.field-0.0)) c.as_str-name.ensures c.in_err-recorded-in-One.ensures))
 
 pub verify_id-returns-in-Nothing : goal.verify_id-returns-in-Nothing
 verify_id-returns-in-Nothing g t c =
     let s = g.C.Checking.setting c.args.checking.now in
     let l = c.args.level.now in
-    walks_given s l.depth l.layout.now l.links.now c.args.step.now c.args.id.now None
-    (none_counts (holds_below s l.depth) (fails_below s l.depth) s l.layout.now l.links.now c.args.step.now c.args.id.now c.args.object.now c.args.found.now c.requires.1.1.1.1.0 c.requires.1.1.1.1.1.0 c.requires.1.1.1.1.1.1
+    walks_given s l.depth l.layout.now l.links.now c.args.step.now c.args.signer.now.id.now None
+    (none_counts (holds_below s l.depth) (fails_below s l.depth) s l.layout.now l.links.now c.args.step.now c.args.signer.now.id.now c.args.signer.now.object.now c.args.found.now c.requires.candidates c.requires.listed c.requires.known
     (rw c.in-Nothing.is at c.in_ok-counted.ensures))
 
 pub verify_id-returns-in_ok-text_of-in-Several-2 : goal.verify_id-returns-in_ok-text_of-in-Several-2
@@ -42,9 +41,9 @@ verify_id-returns-in_ok-text_of-in-Several-2 g t c =
     let s = g.C.Checking.setting c.args.checking.now in
     let l = c.args.level.now in
     let name : c.in_ok-text_of-in-Several.field-0 ≡ c.args.step.now.name = c.in_ok-text_of-in-Several.ensures ∙ c.as_str.ensures in
-    let id : c.in_ok-text_of-in-Several-2.field-0 ≡ c.args.id.now = c.in_ok-text_of-in-Several-2.ensures in
-    walks_two s l.depth l.layout.now l.links.now c.args.step.now c.args.id.now c.refused.result
-    (two_count (holds_below s l.depth) (fails_below s l.depth) s l.layout.now l.links.now c.args.step.now c.args.id.now c.args.object.now c.args.found.now c.requires.1.1.1.1.0 c.requires.1.1.1.1.1.0 c.requires.1.1.1.1.1.1
+    let id : c.in_ok-text_of-in-Several-2.field-0 ≡ c.args.signer.now.id.now = c.in_ok-text_of-in-Several-2.ensures in
+    walks_two s l.depth l.layout.now l.links.now c.args.step.now c.args.signer.now.id.now c.refused.result
+    (two_count (holds_below s l.depth) (fails_below s l.depth) s l.layout.now l.links.now c.args.step.now c.args.signer.now.id.now c.args.signer.now.object.now c.args.found.now c.requires.candidates c.requires.listed c.requires.known
     (rw c.in-Several.is at c.in_ok-counted.ensures))
     (c.refused.ensures ∙ (λ k. Refused (here (TwoPayloads (name k) (id k)))))
 
@@ -52,127 +51,69 @@ pub verify_id-returns-in_ok-text_of-in-One : goal.verify_id-returns-in_ok-text_o
 verify_id-returns-in_ok-text_of-in-One g t c =
     let s = g.C.Checking.setting c.args.checking.now in
     let l = c.args.level.now in
-    let one = one_counts (holds_below s l.depth) (fails_below s l.depth) s l.layout.now l.links.now c.args.step.now c.args.id.now c.args.object.now c.args.found.now c.requires.1.1.1.1.0 c.requires.1.1.1.1.1.0 c.requires.1.1.1.1.1.1
+    let one = one_counts (holds_below s l.depth) (fails_below s l.depth) s l.layout.now l.links.now c.args.step.now c.args.signer.now.id.now c.args.signer.now.object.now c.args.found.now c.requires.candidates c.requires.listed c.requires.known
     c.in-One.key c.in-One.body.now (rw c.in-One.is at c.in_ok-counted.ensures) in
-    let id : c.in_ok-text_of-in-One.field-0 ≡ c.args.id.now = c.in_ok-text_of-in-One.ensures in
-    walks_one s l.depth l.layout.now l.links.now c.args.step.now c.args.id.now c.in-One.key (as_body c.in-One.body.now) c.in_ok-recorded-in-One.recorded
-    (record { id = c.in_ok-text_of-in-One.field-0; key = c.in-One.key; recorded = c.in_ok-recorded-in-One.recorded }) one (rw c.as_str-in-One.ensures at c.in_ok-recorded-in-One.ensures)
+    let id : c.in_ok-text_of-in-One.field-0 ≡ c.args.signer.now.id.now = c.in_ok-text_of-in-One.ensures in
+    walks_one s l.depth l.layout.now l.links.now c.args.step.now c.args.signer.now.id.now c.in-One.key (as_body c.in-One.body.now) c.in_ok-recorded-in-One.recorded
+    (record { id = c.in_ok-text_of-in-One.field-0; key = c.in-One.key; recorded = c.in_ok-recorded-in-One.recorded }) one (rw c.as_str-name.ensures at c.in_ok-recorded-in-One.ensures)
     (λ k. record { id = id k; key = c.in-One.key; recorded = c.in_ok-recorded-in-One.recorded })
-
-pub verify_ids-loop-id-init : goal.verify_ids-loop-id-init
-verify_ids-loop-id-init g t c = (tt, tt, ([], sym c.iter-id-items.ensures ∙ ap named_entries (sym c.into_iter-id-iterator.ensures.into_iter_gives), tt, c.new-records.ensures.items))
-
-pub verify_ids-verify_id-requires : goal.verify_ids-verify_id-requires
-verify_ids-verify_id-requires g t c κs within =
-    let l = c.loop-id.invariant.2 in
-    let layout = c.args.level.now.layout.now in
-    let e : List ℕ × KeyObject = (string_bytes c.in-Some.id.now, c.in-Some.object.now) in
-    let rest = named_entries c.next.new.self in
-    let all : entries layout.keys ≡ l.0 ++ e ∷ rest = l.1 ∙ ap (λ es. l.0 ++ named_entries es) c.in-Some.ensures.steps in
-    let key = c.as_str-then-lists.ensures.value in
-    let listed : Contains c.args.step.now.pubkeys c.as_str-then-lists.result.now =
-    subst (Contains c.args.step.now.pubkeys) (c.as_str.ensures.value ∙ sym key) (subst (λ xs. Contains xs c.as_str.result.now) c.as_slice.ensures (c.lists.ensures.0 c.if-lists.true)) in
-    let known : get layout.keys c.as_str-then-lists.result.now ≡ Some c.in-Some.object.now = ap (get layout.keys) key ∙ entry_at layout.keys l.0 e rest all in
-    (search rules, (search rules, (c.requires.shallow, (c.requires.candidates, (listed, known)))))
 
 pub verify_ids-returns-in_err-record : goal.verify_ids-returns-in_err-record
 verify_ids-returns-in_err-record g t c =
-    let l = c.loop-id.invariant.2 in
     let s = g.C.Checking.setting c.args.checking.now in
     let v = c.args.level.now in
-    let e : List ℕ × KeyObject = (string_bytes c.in-Some.id.now, c.in-Some.object.now) in
-    let rest = named_entries c.next.new.self in
-    let all : entries v.layout.now.keys ≡ l.0 ++ e ∷ rest = l.1 ∙ ap (λ es. l.0 ++ named_entries es) c.in-Some.ensures.steps in
     let p = err_from_is_err_and c.from_residual.result c.from_residual.ensures.1 in
-    rw (p.1, p.2) (ids_fail (StandsAt s v.depth v.layout.now v.links.now) c.args.step.now v.layout.now.keys l.0 e rest c.in_err-record.field-0.0 all l.2 (rw c.as_str-then-lists.ensures.value at c.in_err-record.ensures))
+    rw (p.1, p.2) (walked_fail s v.depth v.layout.now v.links.now c.args.step.now c.args.signers.now c.loop-signer.signer-index c.signer-item.result c.loop-signer.records.items c.loop-signer-test.true c.signer-item.is c.loop-signer.invariant
+    c.in_err-record.field-0.0 c.requires.signers c.in_err-record.ensures)
 
-pub verify_ids-loop-id-preserved : goal.verify_ids-loop-id-preserved
-verify_ids-loop-id-preserved g t c =
-    let l = c.loop-id.invariant.2 in
+pub verify_ids-loop-signer-init : goal.verify_ids-loop-signer-init
+verify_ids-loop-signer-init g t c =
+    let v = c.args.level.now in
+    rw c.new-records.ensures.items (walked_none (g.C.Checking.setting c.args.checking.now) v.depth v.layout.now v.links.now c.args.step.now)
+
+pub verify_ids-verify_id-requires : goal.verify_ids-verify_id-requires
+verify_ids-verify_id-requires g t c κs within =
+    let all = c.args.signers.now in
+    let signer = c.signer-item.result in
+    let stands : Contains all signer = subst (Contains all) (sym c.signer-item.is) (Contains-get_or all c.loop-signer.signer-index signer c.loop-signer-test.true) in
+    (search rules, (search rules, (c.requires.shallow, (c.requires.candidates, (signer_listed c.args.level.now.layout.now c.args.step.now all c.requires.signers signer stands, signer_known c.args.level.now.layout.now c.args.step.now all c.requires.signers signer stands)))))
+
+pub verify_ids-loop-signer-preserved : goal.verify_ids-loop-signer-preserved
+verify_ids-loop-signer-preserved g t c =
     let s = g.C.Checking.setting c.args.checking.now in
     let v = c.args.level.now in
     let step = c.args.step.now in
-    let e : List ℕ × KeyObject = (string_bytes c.in-Some.id.now, c.in-Some.object.now) in
-    let rest = named_entries c.next.new.self in
-    let all : entries v.layout.now.keys ≡ l.0 ++ e ∷ rest = l.1 ∙ ap (λ es. l.0 ++ named_entries es) c.in-Some.ensures.steps in
-    let gives : Gives (holds_below s v.depth) s v.layout.now v.links.now step e.0 None = λ payload counted.
-    let is : c.lists.result ≡ true = c.lists.ensures.1 (subst (λ xs. Contains xs c.as_str.result.now) (sym c.as_slice.ensures) (subst (Contains step.pubkeys) (sym c.as_str.ensures.value) counted.listed)) in cc in (
-      tt,
-      tt,
-      (
-        l.0 ++ e ∷ [],
-        all ∙ sym (append_assoc l.0 (e ∷ []) rest),
-        none_ids (StandsAt s v.depth v.layout.now v.links.now) step l.0 e l.2 (none_of_given (holds_below s v.depth) s v.layout.now v.links.now step (fails_below s v.depth) (one_below s v.depth) (apart_below s v.depth) e.0 None gives),
-        subst (AreOf (holds_below s v.depth) s v.layout.now v.links.now step (l.0 ++ e ∷ [])) (append-nil c.loop-id.records.items)
-            (are_more (holds_below s v.depth) s v.layout.now v.links.now step l.0 c.loop-id.records.items e None l.3 gives),
-      ),
-    )
-
-pub verify_ids-loop-id-preserved-in_default : goal.verify_ids-loop-id-preserved-in_default
-verify_ids-loop-id-preserved-in_default g t c =
-    let l = c.loop-id.invariant.2 in
-    let s = g.C.Checking.setting c.args.checking.now in
-    let v = c.args.level.now in
-    let step = c.args.step.now in
-    let e : List ℕ × KeyObject = (string_bytes c.in-Some.id.now, c.in-Some.object.now) in
-    let rest = named_entries c.next.new.self in
-    let all : entries v.layout.now.keys ≡ l.0 ++ e ∷ rest = l.1 ∙ ap (λ es. l.0 ++ named_entries es) c.in-Some.ensures.steps in
-    let gives : Gives (holds_below s v.depth) s v.layout.now v.links.now step e.0 (None) =
-    subst (λ id. Gives (holds_below s v.depth) s v.layout.now v.links.now step id (None)) c.as_str-then-lists.ensures.value
-    (subst (Gives (holds_below s v.depth) s v.layout.now v.links.now step c.as_str-then-lists.result.now) c.in_default.is c.in_ok-record.ensures.1) in (
-      tt,
-      tt,
-      (
-        l.0 ++ e ∷ [],
-        all ∙ sym (append_assoc l.0 (e ∷ []) rest),
-        none_ids (StandsAt s v.depth v.layout.now v.links.now) step l.0 e l.2 (none_of_given (holds_below s v.depth) s v.layout.now v.links.now step (fails_below s v.depth) (one_below s v.depth) (apart_below s v.depth) e.0 (None) gives),
-        subst (AreOf (holds_below s v.depth) s v.layout.now v.links.now step (l.0 ++ e ∷ [])) (append-nil c.loop-id.records.items)
-            (are_more (holds_below s v.depth) s v.layout.now v.links.now step l.0 c.loop-id.records.items e (None) l.3 gives),
-      ),
-    )
-
-pub verify_ids-loop-id-preserved-in-Continue-branch-2 : goal.verify_ids-loop-id-preserved-in-Continue-branch-2
-verify_ids-loop-id-preserved-in-Continue-branch-2 g t c =
-    let l = c.loop-id.invariant.2 in
-    let s = g.C.Checking.setting c.args.checking.now in
-    let v = c.args.level.now in
-    let step = c.args.step.now in
-    let e : List ℕ × KeyObject = (string_bytes c.in-Some.id.now, c.in-Some.object.now) in
-    let rest = named_entries c.next.new.self in
-    let all : entries v.layout.now.keys ≡ l.0 ++ e ∷ rest = l.1 ∙ ap (λ es. l.0 ++ named_entries es) c.in-Some.ensures.steps in
-    let gives : Gives (holds_below s v.depth) s v.layout.now v.links.now step e.0 (Some c.in-Some-record.record) =
-    subst (λ id. Gives (holds_below s v.depth) s v.layout.now v.links.now step id (Some c.in-Some-record.record)) c.as_str-then-lists.ensures.value
-    (subst (Gives (holds_below s v.depth) s v.layout.now v.links.now step c.as_str-then-lists.result.now) c.in-Some-record.is c.in_ok-record.ensures.1) in (
-      tt,
-      tt,
-      (
-        l.0 ++ e ∷ [],
-        all ∙ sym (append_assoc l.0 (e ∷ []) rest),
-        none_ids (StandsAt s v.depth v.layout.now v.links.now) step l.0 e l.2 (none_of_given (holds_below s v.depth) s v.layout.now v.links.now step (fails_below s v.depth) (one_below s v.depth) (apart_below s v.depth) e.0 (Some c.in-Some-record.record) gives),
-        subst (AreOf (holds_below s v.depth) s v.layout.now v.links.now step (l.0 ++ e ∷ [])) (sym c.in_ok-push.ensures.items)
-            (are_more (holds_below s v.depth) s v.layout.now v.links.now step l.0 c.loop-id.records.items e (Some c.in-Some-record.record) l.3 gives),
-      ),
-    )
+    let found = c.args.signers.now in
+    let i = c.loop-signer.signer-index in
+    let signer = c.signer-item.result in
+    let records = c.loop-signer.records.items in
+    elim c.match-record.branch [
+      | verify_ids-in-Some+in_ok-push w ↦
+          rw (w.records-is, w.in_ok-push.ensures.items)
+          (walked_more s v.depth v.layout.now v.links.now step found i signer records c.loop-signer-test.true c.signer-item.is c.loop-signer.invariant (Some w.in-Some.record) c.in_ok-record.ensures.0
+          (subst (Gives (holds_below s v.depth) s v.layout.now v.links.now step signer.id.now) w.in-Some.is c.in_ok-record.ensures.1))
+      | verify_ids-in_default w ↦
+          rw w.records-is
+          (subst (AreWalked s v.depth v.layout.now v.links.now step (take (i + 1) found)) (append-nil records)
+          (walked_more s v.depth v.layout.now v.links.now step found i signer records c.loop-signer-test.true c.signer-item.is c.loop-signer.invariant None c.in_ok-record.ensures.0
+          (subst (Gives (holds_below s v.depth) s v.layout.now v.links.now step signer.id.now) w.in_default.is c.in_ok-record.ensures.1)))
+    ]
 
 pub verify_ids-returns : goal.verify_ids-returns
 verify_ids-returns g t c =
-    let l = c.loop-id.invariant.2 in
     let s = g.C.Checking.setting c.args.checking.now in
     let v = c.args.level.now in
-    let step = c.args.step.now in
-    let over : c.loop-id.id-iterator ≡ [] = search rules in
-    let all : entries v.layout.now.keys ≡ l.0 = l.1 ∙ ap (λ es. l.0 ++ named_entries es) over ∙ append-nil l.0 in (
-      subst (λ es. NoneAt (StandsAt s v.depth v.layout.now v.links.now) (map (at_id step) (map (λ f. f.0) es))) (sym all) l.2,
-      are_records (holds_below s v.depth) s v.layout.now v.links.now step c.loop-id.records.items
-          (subst (λ es. AreOf (holds_below s v.depth) s v.layout.now v.links.now step es c.loop-id.records.items) (sym all) l.3),
-    )
+    let found = c.args.signers.now in
+    let all : take c.loop-signer.signer-index found ≡ found = take_all c.loop-signer.signer-index found (omega arith) in
+    walked_all s v.depth v.layout.now v.links.now c.args.step.now found c.loop-signer.records.items c.requires.signers
+    (subst (λ ss. AreWalked s v.depth v.layout.now v.links.now c.args.step.now ss c.loop-signer.records.items) all c.loop-signer.invariant)
 
 pub verify_level-returns-in_err-steps : goal.verify_level-returns-in_err-steps
 verify_level-returns-in_err-steps g t c =
     let s = g.C.Checking.setting c.args.checking.now in
     let v = c.args.level.now in
     let in_time : ¬ (v.layout.now.expires <ℤ s.moment) = λ late. absurd (omega (arith, ints, late, c.if-level-moment.false, c.moment.ensures)) in
-    let p = err_from_is_err_and c.from_residual.result c.from_residual.ensures.1 in
+    let p = err_from_is_err_and c.from_residual-in_err-steps.result c.from_residual-in_err-steps.ensures.1 in
     rw (p.1, p.2) (steps_fail (holds_below s v.depth) (fails_below s v.depth) (one_below s v.depth) (apart_below s v.depth) s v.layout.now v.links.now c.in_err-steps.field-0.0 in_time c.in_err-steps.ensures)
 
 pub verify_level-run_step_rules-requires : goal.verify_level-run_step_rules-requires

@@ -1,12 +1,9 @@
-use Rattle.std.proofs.Common.{◌≡◌, ◌+◌, ◌*◌, List, ℕ, ◌++◌, take, map, flat_map}
-use Rattle.std.specs.FinMap.{entries}
+use Rattle.std.proofs.Common.{◌+◌, ◌*◌, take, flat_map}
 use Rattle.std.specs.List.{AllZip}
-use Rattle.it_dsse.specs.declared.key_object.KeyObject.{KeyObject}
-use Rattle.it_docs.specs.Table.{named_entries}
-use Rattle.it_chain.specs.First.{at_id, step_places}
+use Rattle.it_chain.specs.First.{step_places}
 use Rattle.it_chain.specs.Level.{StepHolds}
 use Rattle.it_chain.specs.Walk.{StandsAt, NoneAt, holds_below}
-use Rattle.it_chain.proofs.Records.{AreOf}
+use Rattle.it_chain.proofs.SignerWalks.{AreWalked}
 use Rattle.it_chain.proofs.level.+level.Given as goal
 
 abbrev pub decreases-verify_sublayout : goal.decreases-verify_sublayout
@@ -39,13 +36,6 @@ invariant-verify_steps-loop-step g l =
     NoneAt (StandsAt setting l.level.depth layout bundle) (flat_map (step_places layout) (take l.step-index l.step-items))
     × AllZip (StepHolds (holds_below setting l.level.depth) setting layout bundle) (take l.step-index l.step-items) l.results.items
 
--- nothing stands at the ids so far, of which these are the records
-abbrev pub invariant-verify_ids-loop-id : goal.invariant-verify_ids-loop-id
-invariant-verify_ids-loop-id g l =
-    let setting = g.C.Checking.setting l.checking in
-    let layout = l.level.layout.now in
-    let bundle = l.level.links.now in
-    (goal.iterator-verify_ids-loop-id g).can_next l.id-iterator × (goal.iterator-verify_ids-loop-id g).is_finite l.id-iterator
-    × ((done : List (List ℕ × KeyObject)) × (entries layout.keys ≡ done ++ named_entries l.id-iterator)
-    × NoneAt (StandsAt setting l.level.depth layout bundle) (map (at_id l.step) (map (λ e. e.0) done))
-    × AreOf (holds_below setting l.level.depth) setting layout bundle l.step done l.records.items)
+-- nothing stands at the ids of the signers so far, of which these are the records
+abbrev pub invariant-verify_ids-loop-signer : goal.invariant-verify_ids-loop-signer
+invariant-verify_ids-loop-signer g l = AreWalked (g.C.Checking.setting l.checking) l.level.depth l.level.layout.now l.level.links.now l.step (take l.signer-index l.signers) l.records.items

@@ -1,6 +1,7 @@
 -- Which files can count for a step, and which envelopes a list of candidates has.
-use Rattle.std.proofs.Common.{◌≡◌, ◌≢◌, ℕ, List, [], ◌∷◌, ◌++◌, Option, Some, None, slice_get, ⊎_elim, Contains, refl, sym, ap, subst, append-nil, ◌∙◌}
+use Rattle.std.proofs.Common.{◌≡◌, ◌≢◌, ℕ, List, [], ◌∷◌, ◌++◌, ◌≤◌, length, arith, Option, Some, None, slice_get, ⊎_elim, Contains, refl, sym, ap, subst, append-nil, ◌∙◌}
 use Rattle.std.specs.List.{cons_option}
+use Rattle.std.proofs.lemmas.List.Sums.{sum_by_push}
 use Rattle.std.proofs.lemmas.List.Elements.{Contains-append_left, Contains-append_right, Contains-append_cases, filter_map-append}
 use Rattle.it_dsse.specs.Envelope.{EnvelopeOf}
 use Rattle.it_dsse.specs.declared.envelope.Envelope.{Envelope}
@@ -10,12 +11,15 @@ use Rattle.it_docs.specs.PayloadType.{in_toto_type}
 use Rattle.it_docs.specs.declared.layout.Layout.{Layout}
 use Rattle.it_docs.specs.declared.link.Link.{Link}
 use Rattle.it_docs.proofs.Same.{link_same}
+use Rattle.it_chain.specs.Asked.{signature_count}
 use Rattle.it_chain.specs.Claims.{files_at}
+use Rattle.it_chain.specs.Cost.{CostsIfFound, HasSignatures, IsSum}
 use Rattle.it_chain.specs.Walk.{AreRead, IsBody, IsRead, IsReadAt}
 use Rattle.it_chain.specs.declared.bundle.File.{File}
 use Rattle.it_chain.specs.declared.candidate.Body.{Body as Held}
 use Rattle.it_chain.specs.declared.candidate.Body.TheVariants.{Link as held_link, Layout as held_layout}
 use Rattle.it_chain.specs.declared.candidate.Candidate.{Candidate}
+use Rattle.it_chain.proofs.Asking.{sum_last}
 use Rattle.it_chain.proofs.Documents.{envelope_same, link_or_layout}
 use Rattle.it_chain.proofs.Members.{in_head, in_cases, in_none}
 
@@ -38,8 +42,11 @@ module _ (step bytes : List ℕ) (envelope : Envelope) (is : EnvelopeOf bytes en
       none candidate.body (subst (λ (e : Envelope). IsBody step e.payload candidate.body) (envelope_same bytes candidate.envelope envelope h.is_envelope is) h.reads)
 
 -- ---- the candidates of a list of files
+abbrev HasEnvelope : File → ℕ → Type 0
+HasEnvelope file = CostsIfFound (EnvelopeOf file.bytes) HasSignatures
+
 pub none_yet : (step : List ℕ) → AreRead step [] []
-none_yet step = record { each = λ c among. absurd (in_none c among); all = λ file c among. absurd (in_none file among) }
+none_yet step = record { each = λ c among. absurd (in_none c among); all = λ file c among. absurd (in_none file among); most = λ n h. omega arith }
 
 module _ (step : List ℕ) (files : List File) (file : File) (found : List Candidate) (are : AreRead step files found) where
   passed_all : ((candidate : Candidate) → ¬ IsRead step file.bytes candidate) → (f : File) (candidate : Candidate) → Contains (files ++ file ∷ []) f → IsRead step f.bytes candidate
@@ -52,6 +59,7 @@ module _ (step : List ℕ) (files : List File) (file : File) (found : List Candi
   passed none = record {
     each = λ c among. let f = are.each c among in (f.0, Contains-append_left files (file ∷ []) f.0 f.1, f.2);
     all = passed_all none;
+    most = λ n h. let parts = sum_last HasEnvelope files file n h in omega (arith, are.most parts.0 parts.2, parts.4);
   }
 
   module _ (new : Candidate) (is : IsRead step file.bytes new) where
@@ -70,8 +78,17 @@ module _ (step : List ℕ) (files : List File) (file : File) (found : List Candi
         (λ later. absurd (in_none f later)) (in_cases file [] f last))
         (Contains-append_cases files (file ∷ []) f among)
 
+    signatures_in : (n : ℕ) → HasEnvelope file n → length new.envelope.signatures ≤ n
+    signatures_in n h = ⊎_elim (λ x. let same = ap (λ (e : Envelope). length e.signatures) (envelope_same file.bytes new.envelope x.0 is.is_envelope x.1) in omega (arith, same, x.2)) (λ none. absurd (none.0 new.envelope is.is_envelope)) h
+
+    added_most : (n : ℕ) → IsSum HasEnvelope (files ++ file ∷ []) n → signature_count (found ++ new ∷ []) ≤ n
+    added_most n h =
+        let parts = sum_last HasEnvelope files file n h in
+        let more = sum_by_push (λ (c : Candidate). length c.envelope.signatures) found new in
+        omega (arith, more, are.most parts.0 parts.2, signatures_in parts.1 parts.3, parts.4)
+
     pub added : AreRead step (files ++ file ∷ []) (found ++ new ∷ [])
-    added = record { each = added_each; all = added_all }
+    added = record { each = added_each; all = added_all; most = added_most }
 
 -- ---- the candidates of the files at places
 module _ (step : List ℕ) (files : List File) (places : List ℕ) (place : ℕ) (found : List Candidate) (are : AreRead step (files_at files places) found) where

@@ -1,7 +1,9 @@
 pub mod Alikes
+pub mod Asking
 pub mod Candidates
 pub mod ClaimedFiles
 pub mod ClaimedNames
+pub mod Costing
 pub mod Counting
 pub mod Decided
 pub mod Deciding
@@ -13,6 +15,7 @@ pub mod Firsts
 pub mod Ids
 pub mod Judging
 pub mod LevelAnswers
+pub mod LevelAsking
 pub mod LevelRules
 pub mod LevelWalks
 pub mod Levels

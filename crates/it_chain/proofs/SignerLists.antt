@@ -24,7 +24,7 @@ use Rattle.it_chain.proofs.Records.{is_listed}
 
 -- ---- lists whose ids rise
 module _ {X : Type 0} where
-  abbrev Rises : List (List ℕ × X) → Type 0
+  abbrev pub Rises : List (List ℕ × X) → Type 0
   Rises [] = Unit {0}
   Rises (e ∷ es) = ((f : List ℕ × X) → Contains es f → IsBefore e.0 f.0) × Rises es
 
@@ -50,7 +50,7 @@ module _ {X : Type 0} where
   rises_cond e es fs true before rest = (before, rest)
   rises_cond e es fs false before rest = rest
 
-  rises_filter : (p : List ℕ × X → Bool) (es : List (List ℕ × X)) → T (is_sorted order es) → Rises (filter p es)
+  pub rises_filter : (p : List ℕ × X → Bool) (es : List (List ℕ × X)) → T (is_sorted order es) → Rises (filter p es)
   rises_filter p [] sorted = tt
   rises_filter p (e ∷ es) sorted =
       let parts = first_below e es sorted in

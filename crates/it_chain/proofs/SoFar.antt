@@ -8,6 +8,11 @@ use Rattle.it_chain.specs.Walk.{IsSigned, CountsOne, CountTwo}
 use Rattle.it_chain.specs.declared.candidate.Candidate.{Candidate}
 use Rattle.it_chain.proofs.Members.{in_head, in_cases, in_none}
 
+-- where one is signed, a signature was asked for
+abbrev pub least_first : Option (KeyNumber × Bor Candidate) → ℕ
+least_first None = 0
+least_first (Some first) = 1
+
 module _ (check : Check) (id : List ℕ) (object : KeyObject) where
   -- a candidate that is signed, and none with another payload
   pub record IsFirstSigned (candidates : List Candidate) (key : KeyNumber) (first : Candidate) : Type 0 where

@@ -1,5 +1,6 @@
 pub mod Alike
 pub mod Answer
+pub mod Asked
 pub mod BundleCode
 pub mod BundleView
 pub mod Chain

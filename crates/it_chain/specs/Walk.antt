@@ -15,9 +15,11 @@ use Rattle.it_docs.specs.declared.rule.Side.{Side}
 use Rattle.it_docs.specs.declared.rule.Side.TheVariants.{Materials, Products}
 use Rattle.it_rules.specs.Item.{Recorded, Links}
 use Rattle.it_rules.specs.Rules.{IsFirstFault, RulesHold}
+use Rattle.it_chain.specs.Asked.{signature_count}
 use Rattle.it_chain.specs.Chain.{Chain, none_holds}
 use Rattle.it_chain.specs.Claims.{AreClaimed}
 use Rattle.it_chain.specs.Contents.{Contents}
+use Rattle.it_chain.specs.Cost.{CostsIfFound, HasSignatures, IsSum}
 use Rattle.it_chain.specs.Counted.{Setting, Body, of_link, of_layout, BodyOf, Counted, same_key}
 use Rattle.it_chain.specs.First.{Failing, First, IsBefore, IsFirst, Place, Stands, here, too_deep, under, uninspected}
 use Rattle.it_chain.specs.Level.{Holding, HasRecord, Records, StepRulesHold, recorded_in}
@@ -89,6 +91,7 @@ IsReadAt step files place candidate = (file : File) × (slice_get files place �
 pub record AreRead (step : List ℕ) (files : List File) (candidates : List Candidate) : Type 0 where
   pub each : (candidate : Candidate) → Contains candidates candidate → (file : File) × Contains files file × IsRead step file.bytes candidate
   pub all : (file : File) (candidate : Candidate) → Contains files file → IsRead step file.bytes candidate → (found : Candidate) × Contains candidates found × (found.envelope ≡ candidate.envelope)
+  pub most : (n : ℕ) → IsSum (λ file. CostsIfFound (EnvelopeOf file.bytes) HasSignatures) files n → signature_count candidates ≤ n
 
 -- the same of the files that are claimed for a step
 abbrev pub AreCandidates : List ℕ → List File → List Candidate → Type 0

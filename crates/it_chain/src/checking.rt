@@ -1,7 +1,8 @@
 //! What a layout is checked with.
-ghost use Rattle.std.specs.Prelude.{◌≡◌, IfOk};
+ghost use Rattle.std.specs.Prelude.{◌≡◌, IfOk, OnErr};
 ghost use Rattle.it_base.specs.Finds.{Finds};
-ghost use Rattle.it_dsse.specs.Signed.{Signed};
+ghost use Rattle.it_dsse.specs.Meter.{raised};
+ghost use Rattle.it_dsse.specs.Signed.{Signed, tries};
 ghost use Rattle.it_chain.specs.Counted.{Setting};
 
 use it_dsse::check::SignatureCheck;
@@ -29,8 +30,11 @@ pub(crate) trait Checking: Drop {
         object: &KeyObject,
         meter: &mut Meter,
     ) -> Result<Option<u32>, AllocError>
-        ensures { IfOk result
-            (Finds (Signed (setting self.now).check envelope.now id.now object.now)) };
+        ensures answer { IfOk result
+            (Finds (Signed (setting self.now).check envelope.now id.now object.now)) }
+        ensures counted { IfOk result (λ _. meter.new
+            ≡ raised meter.old (tries (setting self.now).check envelope.now id.now object.now)) }
+        ensures err { OnErr result (meter.new ≡ meter.old) };
 }
 
 /// A check that was lent, and a moment.

@@ -1,5 +1,6 @@
 //! What counts for a key id.
 ghost use Rattle.std.specs.Prelude.{◌≡◌, ◌↔◌, IfOk, IsTrue};
+ghost use Rattle.it_chain.specs.Asked.{Asks, SignaturesIn, least_counted};
 ghost use Rattle.it_chain.specs.Walk.{Counts};
 
 use crate::candidate::{Body, Candidate};
@@ -27,8 +28,9 @@ pub(crate) fn counted<'a, C: Checking>(
     candidates: &'a [Candidate],
     meter: &mut Meter,
 ) -> Result<Counting<'a>, AllocError>
-    ensures { IfOk result
+    ensures answer { IfOk result
         (Counts (C.setting checking.now).check id.now object.now candidates.now) }
+    ensures asked { Asks least_counted (SignaturesIn candidates.now) meter.old meter.new result }
 {
     let mut first: Option<(u32, &'a Candidate)> = None;
     for candidate in candidates {

@@ -1,10 +1,12 @@
 //! A layout over a bundle, with its sublayouts.
-ghost use Rattle.std.specs.Prelude.{◌≡◌, ◌≤◌, ◌∷◌, [], IfOk, Some, Contains, map, flat_map};
+ghost use Rattle.std.specs.Prelude.{◌≡◌, ◌≤◌, ◌∷◌, [], IfOk, Some, Contains, length, map, flat_map};
 ghost use Rattle.std.specs.FinMap.{get, keys};
 ghost use Rattle.std.specs.List.{AllZip};
 ghost use Rattle.it_chain.specs.Answer.{signers as signers_of};
+ghost use Rattle.it_chain.specs.Asked.{Asks, BodyCosts, IdCosts, cost_below, key_total, least_given, signature_count};
 ghost use Rattle.it_chain.specs.Claims.{ClaimsIn};
 ghost use Rattle.it_chain.specs.Contents.{files_of};
+ghost use Rattle.it_chain.specs.Cost.{IsSum, LevelCosts, StepCosts};
 ghost use Rattle.it_chain.specs.First.{at_id, places, step_places};
 ghost use Rattle.it_chain.specs.Level.{LevelHolds, StepHolds, summary};
 ghost use Rattle.it_chain.specs.Names.{folder_of};
@@ -51,10 +53,13 @@ pub(crate) fn verify_level<C: Checking>(
     meter: &mut Meter,
 ) -> Result<Chain, ChainError>
     requires shallow { level.now.depth ≤ 8 }
-    ensures { Walks (StandsAt (C.setting checking.now) level.now.depth level.now.layout.now level.now.links.now)
+    ensures answer { Walks (StandsAt (C.setting checking.now) level.now.depth level.now.layout.now level.now.links.now)
         (places level.now.layout.now)
         (λ chain. LevelHolds (holds_below (C.setting checking.now) level.now.depth)
         (C.setting checking.now) level.now.layout.now level.now.links.now chain.steps) result }
+    ensures asked { Asks (λ chain. key_total chain.steps)
+        (LevelCosts (cost_below (C.setting checking.now) level.now.depth)
+        (C.setting checking.now) level.now.layout.now level.now.links.now) meter.old meter.new result }
 {
     if level.layout.expires < checking.moment() {
         return Err(refused(alloc, ChainFault::Expired));
@@ -78,10 +83,13 @@ fn verify_steps<C: Checking>(
 ) -> Result<Vec<StepResult>, ChainError>
     requires shallow { level.now.depth ≤ 8 }
     requires claims { ClaimsIn (files_of level.now.links.now) claims.now }
-    ensures { Walks (StandsAt (C.setting checking.now) level.now.depth level.now.layout.now level.now.links.now)
+    ensures answer { Walks (StandsAt (C.setting checking.now) level.now.depth level.now.layout.now level.now.links.now)
         (flat_map (step_places level.now.layout.now) level.now.layout.now.steps)
         (λ results. AllZip (StepHolds (holds_below (C.setting checking.now) level.now.depth)
         (C.setting checking.now) level.now.layout.now level.now.links.now) level.now.layout.now.steps results.items) result }
+    ensures asked { Asks (λ results. key_total results.items)
+        (LevelCosts (cost_below (C.setting checking.now) level.now.depth)
+        (C.setting checking.now) level.now.layout.now level.now.links.now) meter.old meter.new result }
 {
     let mut results = Vec::new(alloc);
     for step in level.layout.steps.as_slice() {
@@ -102,10 +110,13 @@ fn verify_step<C: Checking>(
 ) -> Result<StepResult, ChainError>
     requires shallow { level.now.depth ≤ 8 }
     requires claims { ClaimsIn (files_of level.now.links.now) claims.now }
-    ensures { Walks (StandsAt (C.setting checking.now) level.now.depth level.now.layout.now level.now.links.now)
+    ensures answer { Walks (StandsAt (C.setting checking.now) level.now.depth level.now.layout.now level.now.links.now)
         (step_places level.now.layout.now step.now)
         (StepHolds (holds_below (C.setting checking.now) level.now.depth)
         (C.setting checking.now) level.now.layout.now level.now.links.now step.now) result }
+    ensures asked { Asks (λ found. found.keys)
+        (StepCosts (cost_below (C.setting checking.now) level.now.depth)
+        (C.setting checking.now) level.now.layout.now level.now.links.now step.now) meter.old meter.new result }
 {
     let name = step.name.as_str();
     let found = candidates(alloc, name, level.links.files(), claims.places(name))?;
@@ -137,10 +148,14 @@ fn verify_ids<C: Checking>(
     requires shallow { level.now.depth ≤ 8 }
     requires signers { map entry_of signers.now ≡ signers_of level.now.layout.now step.now }
     requires candidates { AreCandidates step.now.name (files_of level.now.links.now) found.now }
-    ensures { Walks (StandsAt (C.setting checking.now) level.now.depth level.now.layout.now level.now.links.now)
+    ensures answer { Walks (StandsAt (C.setting checking.now) level.now.depth level.now.layout.now level.now.links.now)
         (map (at_id step.now) (keys level.now.layout.now.keys))
         (λ records. AreRecords (holds_below (C.setting checking.now) level.now.depth)
         (C.setting checking.now) level.now.layout.now level.now.links.now step.now records.items) result }
+    ensures asked { Asks (λ records. length records.items)
+        (IsSum (λ signer. IdCosts (cost_below (C.setting checking.now) level.now.depth)
+        (C.setting checking.now) level.now.layout.now level.now.links.now step.now (signature_count found.now)
+        signer.id.now) signers.now) meter.old meter.new result }
 {
     let mut records = Vec::new(alloc);
     for signer in signers {
@@ -167,10 +182,14 @@ fn verify_id<C: Checking>(
     requires candidates { AreCandidates step.now.name (files_of level.now.links.now) found.now }
     requires listed { Contains step.now.pubkeys signer.now.id.now }
     requires known { get level.now.layout.now.keys signer.now.id.now ≡ Some signer.now.object.now }
-    ensures { Walks (StandsAt (C.setting checking.now) level.now.depth level.now.layout.now level.now.links.now)
+    ensures answer { Walks (StandsAt (C.setting checking.now) level.now.depth level.now.layout.now level.now.links.now)
         (at_id step.now signer.now.id.now ∷ [])
         (Gives (holds_below (C.setting checking.now) level.now.depth)
         (C.setting checking.now) level.now.layout.now level.now.links.now step.now signer.now.id.now) result }
+    ensures asked { Asks least_given
+        (IdCosts (cost_below (C.setting checking.now) level.now.depth)
+        (C.setting checking.now) level.now.layout.now level.now.links.now step.now (signature_count found.now)
+        signer.now.id.now) meter.old meter.new result }
 {
     let id = signer.id;
     match counted(alloc, checking, id, signer.object, found, meter)? {
@@ -206,9 +225,12 @@ fn verify_body<C: Checking>(
     meter: &mut Meter,
 ) -> Result<Recorded, ChainError>
     requires shallow { level.now.depth ≤ 8 }
-    ensures { BodyComes (holds_below (C.setting checking.now) level.now.depth)
+    ensures answer { BodyComes (holds_below (C.setting checking.now) level.now.depth)
         (fails_below (C.setting checking.now) level.now.depth)
         level.now.links.now step.now id.now (as_body body.now) result }
+    ensures asked { Asks (λ _. 0)
+        (BodyCosts (cost_below (C.setting checking.now) level.now.depth)
+        level.now.links.now step.now id.now (as_body body.now)) meter.old meter.new result }
 {
     match body {
         Body::Link(link) => Ok(Recorded {
@@ -236,9 +258,12 @@ fn verify_sublayout<C: Checking>(
     meter: &mut Meter,
 ) -> Result<Chain, ChainError>
     requires shallow { level.now.depth ≤ 8 }
-    ensures { SublayoutComes (holds_below (C.setting checking.now) level.now.depth)
+    ensures answer { SublayoutComes (holds_below (C.setting checking.now) level.now.depth)
         (fails_below (C.setting checking.now) level.now.depth)
         sublayout.now (folder_of step.now id.now level.now.links.now) result }
+    ensures asked { Asks (λ _. 0)
+        (cost_below (C.setting checking.now) level.now.depth
+        sublayout.now (folder_of step.now id.now level.now.links.now)) meter.old meter.new result }
 {
     if level.depth == 0 {
         return Err(refused(alloc, ChainFault::TooDeep));

@@ -6,5 +6,6 @@ pub mod RingIds
 pub mod Rings
 pub mod SignerSettled
 pub mod Sorting
+pub mod Tries
 pub mod Trying
 pub mod Vouching

@@ -6,14 +6,14 @@ use Rattle.it_chain.proofs.SoFar.{begun, one_of, passed_by, repeated, two_of}
 use Rattle.it_chain.proofs.counted.counted.Goals as goal
 use Rattle.it_chain.proofs.counted.counted.Goals.{in-Some+in-None, in-Some+in-Some-first+else-not-is_same_payload, in_default}
 
-pub returns-then-not-is_same_payload : goal.returns-then-not-is_same_payload
-returns-then-not-is_same_payload g c =
+pub returns-then-not-is_same_payload-clause-answer : goal.returns-then-not-is_same_payload-clause-answer
+returns-then-not-is_same_payload-clause-answer g c =
     let check = (g.C.Checking.setting c.args.checking.now).check in
     let i = c.loop-candidate.candidate-index in
     let all = c.args.candidates.now in
     let new = c.candidate-item.result in
-    let first = rw c.in-Some-first.is at c.loop-candidate.invariant in
-    let signs = rw c.in-Some.is at c.in_ok-key.ensures in
+    let first = rw c.in-Some-first.is at c.loop-candidate.invariant.so_far in
+    let signs = rw c.in-Some.is at c.in_ok-key.ensures.answer in
     let before : Contains all c.in-Some-first.found.now =
     subst (λ (xs : List Candidate). Contains xs c.in-Some-first.found.now) (take-append-drop i all) (Contains-append_left (take i all) (drop i all) c.in-Some-first.found.now first.is.stands) in
     let there : Contains all new = subst (Contains all) (sym c.candidate-item.is) (Contains-get_or all i new c.loop-candidate-test.true) in
@@ -31,22 +31,34 @@ loop-candidate-preserved g c =
     let more : take (i + 1) all ≡ take i all ++ new ∷ [] = take_more all i new c.loop-candidate-test.true ∙ ap (λ x. take i all ++ x ∷ []) (sym c.candidate-item.is) in
     elim c.match-branch-2.branch [
       | in-Some+in-None w ↦
-          let signs = rw w.in-Some.is at c.in_ok-key.ensures in
-          rw (w.first-is, more) (begun check id object (take i all) new w.in-Some.key signs (rw w.in-None.is at c.loop-candidate.invariant))
+          let signs = rw w.in-Some.is at c.in_ok-key.ensures.answer in
+          rw w.first-is
+          (record {
+            so_far = rw more (begun check id object (take i all) new w.in-Some.key signs (rw w.in-None.is at c.loop-candidate.invariant.so_far));
+            asked = rw w.meter-is ?;
+          })
       | in-Some+in-Some-first+else-not-is_same_payload w ↦
           let same = w.is_same_payload.ensures.0 w.if-not-is_same_payload.false in
-          rw (w.first-is, w.in-Some-first.is, more) (repeated check id object (take i all) new w.in-Some-first.field-0-0 w.in-Some-first.found same (rw w.in-Some-first.is at c.loop-candidate.invariant))
+          rw (w.first-is, w.in-Some-first.is)
+          (record {
+            so_far = rw more (repeated check id object (take i all) new w.in-Some-first.field-0-0 w.in-Some-first.found same (rw w.in-Some-first.is at c.loop-candidate.invariant.so_far));
+            asked = ?;
+          })
       | in_default w ↦
-          rw (w.first-is, more) (passed_by check id object (take i all) new c.loop-candidate.first (rw w.in_default.is at c.in_ok-key.ensures) c.loop-candidate.invariant)
+          rw w.first-is
+          (record {
+            so_far = rw more (passed_by check id object (take i all) new c.loop-candidate.first (rw w.in_default.is at c.in_ok-key.ensures.answer) c.loop-candidate.invariant.so_far);
+            asked = ?;
+          })
     ]
 
-pub returns-in-None-first : goal.returns-in-None-first
-returns-in-None-first g c =
+pub returns-in-None-first-clause-answer : goal.returns-in-None-first-clause-answer
+returns-in-None-first-clause-answer g c =
     let all : take c.loop-candidate.candidate-index c.args.candidates.now ≡ c.args.candidates.now = take_all c.loop-candidate.candidate-index c.args.candidates.now (omega arith) in
-    rw (c.in-None-first.is, all) at c.loop-candidate.invariant
+    rw (c.in-None-first.is, all) at c.loop-candidate.invariant.so_far
 
-pub returns-in-Some-first-2 : goal.returns-in-Some-first-2
-returns-in-Some-first-2 g c =
+pub returns-in-Some-first-2-clause-answer : goal.returns-in-Some-first-2-clause-answer
+returns-in-Some-first-2-clause-answer g c =
     let all : take c.loop-candidate.candidate-index c.args.candidates.now ≡ c.args.candidates.now = take_all c.loop-candidate.candidate-index c.args.candidates.now (omega arith) in
     one_of (g.C.Checking.setting c.args.checking.now).check c.args.id.now c.args.object.now c.args.candidates.now c.in-Some-first-2.key c.in-Some-first-2.found
-    (rw (c.in-Some-first-2.is, all) at c.loop-candidate.invariant)
+    (rw (c.in-Some-first-2.is, all) at c.loop-candidate.invariant.so_far)

@@ -3,13 +3,17 @@ use Rattle.std.specs.FinMap.{keys}
 use Rattle.std.proofs.lemmas.Int.{ints}
 use Rattle.std.proofs.lemmas.List.Elements.{Contains-get_or}
 use Rattle.std.proofs.lemmas.Result.{err_from_is_err_and}
+use Rattle.it_chain.specs.Asked.{RaisedWithin, cost_below, key_total}
 use Rattle.it_chain.specs.Contents.{empty, folder_at}
+use Rattle.it_chain.specs.Cost.{StepCosts}
 use Rattle.it_chain.specs.Names.{folder_name, folder_of}
 use Rattle.it_chain.specs.First.{step_places, at_id, at_records, at_threshold, here}
 use Rattle.it_chain.specs.Level.{StepHolds, links_in}
 use Rattle.it_chain.specs.Walk.{AreRuled, BodyComes, FailsAt, Gives, StandsAt, as_body, fails_below, holds_below}
 use Rattle.it_chain.specs.declared.refusal.ChainError.TheVariants.{Refused}
 use Rattle.it_chain.specs.declared.refusal.ChainFault.TheVariants.{TwoPayloads}
+use Rattle.it_chain.proofs.Asking.{within_least, within_none}
+use Rattle.it_chain.proofs.LevelAsking.{LevelSum, SignersSum, signer_fails, signer_more, step_fails, step_more}
 use Rattle.it_chain.proofs.LevelWalks.{level_holds, rules_fail, steps_fail}
 use Rattle.it_chain.proofs.LevelRules.{links_differ}
 use Rattle.it_chain.proofs.StepWalks.{judged_walks}
@@ -18,58 +22,63 @@ use Rattle.it_chain.proofs.Walks.{folder_or, level_below, nil_of, fails_before, 
 use Rattle.it_chain.proofs.level.+level.Goals as goal
 use Rattle.it_chain.proofs.level.+level.Goals.{verify_ids-in-Some+in_ok-push, verify_ids-in_default}
 
-pub verify_id-returns-in_err-recorded-in-One : goal.verify_id-returns-in_err-recorded-in-One
-verify_id-returns-in_err-recorded-in-One g t c =
+pub verify_id-returns-in_err-recorded-in-One-clause-answer : goal.verify_id-returns-in_err-recorded-in-One-clause-answer
+verify_id-returns-in_err-recorded-in-One-clause-answer g t c =
     let s = g.C.Checking.setting c.args.checking.now in
     let l = c.args.level.now in
     let one = one_counts (holds_below s l.depth) (fails_below s l.depth) s l.layout.now l.links.now c.args.step.now c.args.signer.now.id.now c.args.signer.now.object.now c.args.found.now c.requires.candidates c.requires.listed c.requires.known
-    c.in-One.key c.in-One.body.now (rw c.in-One.is at c.in_ok-counted.ensures) in
+    c.in-One.key c.in-One.body.now (rw c.in-One.is at c.in_ok-counted.ensures.answer) in
     let p = err_from_is_err_and c.from_residual-in_err-recorded-in-One.result c.from_residual-in_err-recorded-in-One.ensures.1 in
     rw (p.1, p.2) (walks_body s l.depth l.layout.now l.links.now c.args.step.now c.args.signer.now.id.now c.in-One.key (as_body c.in-One.body.now) c.in_err-recorded-in-One.field-0.0 one
-    (subst (λ n. BodyComes (holds_below s l.depth) (fails_below s l.depth) l.links.now n c.args.signer.now.id.now (as_body c.in-One.body.now) (Err c.in_err-recorded-in-One.field-0.0)) c.as_str-name.ensures c.in_err-recorded-in-One.ensures))
+    (subst (λ n. BodyComes (holds_below s l.depth) (fails_below s l.depth) l.links.now n c.args.signer.now.id.now (as_body c.in-One.body.now) (Err c.in_err-recorded-in-One.field-0.0)) c.as_str-name.ensures c.in_err-recorded-in-One.ensures.answer))
 
-pub verify_id-returns-in-Nothing : goal.verify_id-returns-in-Nothing
-verify_id-returns-in-Nothing g t c =
+pub verify_id-returns-in-Nothing-clause-answer : goal.verify_id-returns-in-Nothing-clause-answer
+verify_id-returns-in-Nothing-clause-answer g t c =
     let s = g.C.Checking.setting c.args.checking.now in
     let l = c.args.level.now in
     walks_given s l.depth l.layout.now l.links.now c.args.step.now c.args.signer.now.id.now None
     (none_counts (holds_below s l.depth) (fails_below s l.depth) s l.layout.now l.links.now c.args.step.now c.args.signer.now.id.now c.args.signer.now.object.now c.args.found.now c.requires.candidates c.requires.listed c.requires.known
-    (rw c.in-Nothing.is at c.in_ok-counted.ensures))
+    (rw c.in-Nothing.is at c.in_ok-counted.ensures.answer))
 
-pub verify_id-returns-in_ok-text_of-in-Several-2 : goal.verify_id-returns-in_ok-text_of-in-Several-2
-verify_id-returns-in_ok-text_of-in-Several-2 g t c =
+pub verify_id-returns-in_ok-text_of-in-Several-2-clause-answer : goal.verify_id-returns-in_ok-text_of-in-Several-2-clause-answer
+verify_id-returns-in_ok-text_of-in-Several-2-clause-answer g t c =
     let s = g.C.Checking.setting c.args.checking.now in
     let l = c.args.level.now in
     let name : c.in_ok-text_of-in-Several.field-0 ≡ c.args.step.now.name = c.in_ok-text_of-in-Several.ensures ∙ c.as_str.ensures in
     let id : c.in_ok-text_of-in-Several-2.field-0 ≡ c.args.signer.now.id.now = c.in_ok-text_of-in-Several-2.ensures in
     walks_two s l.depth l.layout.now l.links.now c.args.step.now c.args.signer.now.id.now c.refused.result
     (two_count (holds_below s l.depth) (fails_below s l.depth) s l.layout.now l.links.now c.args.step.now c.args.signer.now.id.now c.args.signer.now.object.now c.args.found.now c.requires.candidates c.requires.listed c.requires.known
-    (rw c.in-Several.is at c.in_ok-counted.ensures))
+    (rw c.in-Several.is at c.in_ok-counted.ensures.answer))
     (c.refused.ensures ∙ (λ k. Refused (here (TwoPayloads (name k) (id k)))))
 
-pub verify_id-returns-in_ok-text_of-in-One : goal.verify_id-returns-in_ok-text_of-in-One
-verify_id-returns-in_ok-text_of-in-One g t c =
+pub verify_id-returns-in_ok-text_of-in-One-clause-answer : goal.verify_id-returns-in_ok-text_of-in-One-clause-answer
+verify_id-returns-in_ok-text_of-in-One-clause-answer g t c =
     let s = g.C.Checking.setting c.args.checking.now in
     let l = c.args.level.now in
     let one = one_counts (holds_below s l.depth) (fails_below s l.depth) s l.layout.now l.links.now c.args.step.now c.args.signer.now.id.now c.args.signer.now.object.now c.args.found.now c.requires.candidates c.requires.listed c.requires.known
-    c.in-One.key c.in-One.body.now (rw c.in-One.is at c.in_ok-counted.ensures) in
+    c.in-One.key c.in-One.body.now (rw c.in-One.is at c.in_ok-counted.ensures.answer) in
     let id : c.in_ok-text_of-in-One.field-0 ≡ c.args.signer.now.id.now = c.in_ok-text_of-in-One.ensures in
     walks_one s l.depth l.layout.now l.links.now c.args.step.now c.args.signer.now.id.now c.in-One.key (as_body c.in-One.body.now) c.in_ok-recorded-in-One.recorded
-    (record { id = c.in_ok-text_of-in-One.field-0; key = c.in-One.key; recorded = c.in_ok-recorded-in-One.recorded }) one (rw c.as_str-name.ensures at c.in_ok-recorded-in-One.ensures)
+    (record { id = c.in_ok-text_of-in-One.field-0; key = c.in-One.key; recorded = c.in_ok-recorded-in-One.recorded }) one (rw c.as_str-name.ensures at c.in_ok-recorded-in-One.ensures.answer)
     (λ k. record { id = id k; key = c.in-One.key; recorded = c.in_ok-recorded-in-One.recorded })
 
-pub verify_ids-returns-in_err-record : goal.verify_ids-returns-in_err-record
-verify_ids-returns-in_err-record g t c =
+pub verify_ids-returns-in_err-record-clause-answer : goal.verify_ids-returns-in_err-record-clause-answer
+verify_ids-returns-in_err-record-clause-answer g t c =
     let s = g.C.Checking.setting c.args.checking.now in
     let v = c.args.level.now in
     let p = err_from_is_err_and c.from_residual.result c.from_residual.ensures.1 in
-    rw (p.1, p.2) (walked_fail s v.depth v.layout.now v.links.now c.args.step.now c.args.signers.now c.loop-signer.signer-index c.signer-item.result c.loop-signer.records.items c.loop-signer-test.true c.signer-item.is c.loop-signer.invariant
-    c.in_err-record.field-0.0 c.requires.signers c.in_err-record.ensures)
+    rw (p.1, p.2) (walked_fail s v.depth v.layout.now v.links.now c.args.step.now c.args.signers.now c.loop-signer.signer-index c.signer-item.result c.loop-signer.records.items c.loop-signer-test.true c.signer-item.is c.loop-signer.invariant.walked
+    c.in_err-record.field-0.0 c.requires.signers c.in_err-record.ensures.answer)
 
 pub verify_ids-loop-signer-init : goal.verify_ids-loop-signer-init
 verify_ids-loop-signer-init g t c =
     let v = c.args.level.now in
-    rw c.new-records.ensures.items (walked_none (g.C.Checking.setting c.args.checking.now) v.depth v.layout.now v.links.now c.args.step.now)
+    let s = g.C.Checking.setting c.args.checking.now in
+    rw c.new-records.ensures.items
+    (record {
+      walked = walked_none s v.depth v.layout.now v.links.now c.args.step.now;
+      asked = within_none (SignersSum s v.depth v.layout.now v.links.now c.args.step.now c.args.found.now []) c.args.meter.now c.args.meter.now refl;
+    })
 
 pub verify_ids-verify_id-requires : goal.verify_ids-verify_id-requires
 verify_ids-verify_id-requires g t c κs within =
@@ -87,93 +96,120 @@ verify_ids-loop-signer-preserved g t c =
     let i = c.loop-signer.signer-index in
     let signer = c.signer-item.result in
     let records = c.loop-signer.records.items in
+    let asked = signer_more s v.depth v.layout.now v.links.now c.args.meter.now c.loop-signer.meter c.verify_id.new.meter i step c.args.found.now found signer records c.loop-signer-test.true c.signer-item.is c.loop-signer.invariant.asked in
     elim c.match-record.branch [
       | verify_ids-in-Some+in_ok-push w ↦
           rw (w.records-is, w.in_ok-push.ensures.items)
-          (walked_more s v.depth v.layout.now v.links.now step found i signer records c.loop-signer-test.true c.signer-item.is c.loop-signer.invariant (Some w.in-Some.record) c.in_ok-record.ensures.0
-          (subst (Gives (holds_below s v.depth) s v.layout.now v.links.now step signer.id.now) w.in-Some.is c.in_ok-record.ensures.1))
+          (record {
+            walked = walked_more s v.depth v.layout.now v.links.now step found i signer records c.loop-signer-test.true c.signer-item.is c.loop-signer.invariant.walked (Some w.in-Some.record) c.in_ok-record.ensures.answer.0
+                (subst (Gives (holds_below s v.depth) s v.layout.now v.links.now step signer.id.now) w.in-Some.is c.in_ok-record.ensures.answer.1);
+            asked = asked (Some w.in-Some.record) (rw w.in-Some.is at c.in_ok-record.ensures.asked);
+          })
       | verify_ids-in_default w ↦
-          rw w.records-is
-          (subst (AreWalked s v.depth v.layout.now v.links.now step (take (i + 1) found)) (append-nil records)
-          (walked_more s v.depth v.layout.now v.links.now step found i signer records c.loop-signer-test.true c.signer-item.is c.loop-signer.invariant None c.in_ok-record.ensures.0
-          (subst (Gives (holds_below s v.depth) s v.layout.now v.links.now step signer.id.now) w.in_default.is c.in_ok-record.ensures.1)))
+          rw (w.records-is, ← (append-nil records))
+          (record {
+            walked = walked_more s v.depth v.layout.now v.links.now step found i signer records c.loop-signer-test.true c.signer-item.is c.loop-signer.invariant.walked None c.in_ok-record.ensures.answer.0
+                (subst (Gives (holds_below s v.depth) s v.layout.now v.links.now step signer.id.now) w.in_default.is c.in_ok-record.ensures.answer.1);
+            asked = asked None (rw w.in_default.is at c.in_ok-record.ensures.asked);
+          })
     ]
 
-pub verify_ids-returns : goal.verify_ids-returns
-verify_ids-returns g t c =
+pub verify_ids-returns-in_err-record-clause-asked : goal.verify_ids-returns-in_err-record-clause-asked
+verify_ids-returns-in_err-record-clause-asked g t c =
+    let s = g.C.Checking.setting c.args.checking.now in
+    let v = c.args.level.now in
+    let p = err_from_is_err_and c.from_residual.result c.from_residual.ensures.1 in
+    rw p.1 (signer_fails s v.depth v.layout.now v.links.now c.args.meter.now c.loop-signer.meter c.verify_id.new.meter c.loop-signer.signer-index c.args.step.now c.args.found.now c.args.signers.now c.signer-item.result c.loop-signer.records.items
+    c.loop-signer-test.true c.signer-item.is c.loop-signer.invariant.asked 0 c.in_err-record.ensures.asked)
+
+pub verify_ids-returns-clause-asked : goal.verify_ids-returns-clause-asked
+verify_ids-returns-clause-asked g t c =
+    let s = g.C.Checking.setting c.args.checking.now in
+    let v = c.args.level.now in
+    let found = c.args.signers.now in
+    let all : take c.loop-signer.signer-index found ≡ found = take_all c.loop-signer.signer-index found (omega arith) in
+    subst (λ ss. RaisedWithin (length c.loop-signer.records.items) (SignersSum s v.depth v.layout.now v.links.now c.args.step.now c.args.found.now ss) c.args.meter.now c.loop-signer.meter) all c.loop-signer.invariant.asked
+
+pub verify_ids-returns-clause-answer : goal.verify_ids-returns-clause-answer
+verify_ids-returns-clause-answer g t c =
     let s = g.C.Checking.setting c.args.checking.now in
     let v = c.args.level.now in
     let found = c.args.signers.now in
     let all : take c.loop-signer.signer-index found ≡ found = take_all c.loop-signer.signer-index found (omega arith) in
     walked_all s v.depth v.layout.now v.links.now c.args.step.now found c.loop-signer.records.items c.requires.signers
-    (subst (λ ss. AreWalked s v.depth v.layout.now v.links.now c.args.step.now ss c.loop-signer.records.items) all c.loop-signer.invariant)
+    (subst (λ ss. AreWalked s v.depth v.layout.now v.links.now c.args.step.now ss c.loop-signer.records.items) all c.loop-signer.invariant.walked)
 
-pub verify_level-returns-in_err-steps : goal.verify_level-returns-in_err-steps
-verify_level-returns-in_err-steps g t c =
+pub verify_level-returns-in_err-steps-clause-answer : goal.verify_level-returns-in_err-steps-clause-answer
+verify_level-returns-in_err-steps-clause-answer g t c =
     let s = g.C.Checking.setting c.args.checking.now in
     let v = c.args.level.now in
     let in_time : ¬ (v.layout.now.expires <ℤ s.moment) = λ late. absurd (omega (arith, ints, late, c.if-level-moment.false, c.moment.ensures)) in
     let p = err_from_is_err_and c.from_residual-in_err-steps.result c.from_residual-in_err-steps.ensures.1 in
-    rw (p.1, p.2) (steps_fail (holds_below s v.depth) (fails_below s v.depth) (one_below s v.depth) (apart_below s v.depth) s v.layout.now v.links.now c.in_err-steps.field-0.0 in_time c.in_err-steps.ensures)
+    rw (p.1, p.2) (steps_fail (holds_below s v.depth) (fails_below s v.depth) (one_below s v.depth) (apart_below s v.depth) s v.layout.now v.links.now c.in_err-steps.field-0.0 in_time c.in_err-steps.ensures.answer)
 
 pub verify_level-run_step_rules-requires : goal.verify_level-run_step_rules-requires
 verify_level-run_step_rules-requires g t c =
     let s = g.C.Checking.setting c.args.checking.now in
     let v = c.args.level.now in
-    rw c.as_slice-2.ensures.value (links_differ (holds_below s v.depth) (fails_below s v.depth) (one_below s v.depth) s v.layout.now v.links.now c.in_ok-steps.steps.items c.in_ok-steps.ensures.1)
+    rw c.as_slice-2.ensures.value (links_differ (holds_below s v.depth) (fails_below s v.depth) (one_below s v.depth) s v.layout.now v.links.now c.in_ok-steps.steps.items c.in_ok-steps.ensures.answer.1)
 
-pub verify_level-returns-in_err-run_step_rules : goal.verify_level-returns-in_err-run_step_rules
-verify_level-returns-in_err-run_step_rules g t c =
+pub verify_level-returns-in_err-run_step_rules-clause-answer : goal.verify_level-returns-in_err-run_step_rules-clause-answer
+verify_level-returns-in_err-run_step_rules-clause-answer g t c =
     let s = g.C.Checking.setting c.args.checking.now in
     let v = c.args.level.now in
     let in_time : ¬ (v.layout.now.expires <ℤ s.moment) = λ late. absurd (omega (arith, ints, late, c.if-level-moment.false, c.moment.ensures)) in
     let p = err_from_is_err_and c.from_residual-in_err-run_step_rules.result c.from_residual-in_err-run_step_rules.ensures.1 in
-    rw (p.1, p.2) (rules_fail (holds_below s v.depth) (fails_below s v.depth) (one_below s v.depth) (apart_below s v.depth) s v.layout.now v.links.now c.in_ok-steps.steps.items c.in_ok-steps.ensures.1
-    c.in_err-run_step_rules.field-0.0 in_time c.in_ok-steps.ensures.0 (subst (λ rs. AreRuled (links_in rs) (zip v.layout.now.steps rs) (Err c.in_err-run_step_rules.field-0.0)) c.as_slice-2.ensures.value
+    rw (p.1, p.2) (rules_fail (holds_below s v.depth) (fails_below s v.depth) (one_below s v.depth) (apart_below s v.depth) s v.layout.now v.links.now c.in_ok-steps.steps.items c.in_ok-steps.ensures.answer.1
+    c.in_err-run_step_rules.field-0.0 in_time c.in_ok-steps.ensures.answer.0 (subst (λ rs. AreRuled (links_in rs) (zip v.layout.now.steps rs) (Err c.in_err-run_step_rules.field-0.0)) c.as_slice-2.ensures.value
     (subst (λ ss. AreRuled (links_in c.as_slice-2.result.now) (zip ss c.as_slice-2.result.now) (Err c.in_err-run_step_rules.field-0.0)) c.as_slice.ensures c.in_err-run_step_rules.ensures)))
 
-pub verify_level-returns : goal.verify_level-returns
-verify_level-returns g t c =
+pub verify_level-returns-clause-answer : goal.verify_level-returns-clause-answer
+verify_level-returns-clause-answer g t c =
     let s = g.C.Checking.setting c.args.checking.now in
     let v = c.args.level.now in
     let in_time : ¬ (v.layout.now.expires <ℤ s.moment) = λ late. absurd (omega (arith, ints, late, c.if-level-moment.false, c.moment.ensures)) in
-    rw c.from.ensures (level_holds (holds_below s v.depth) (fails_below s v.depth) (one_below s v.depth) (apart_below s v.depth) s v.layout.now v.links.now c.in_ok-steps.steps.items c.in_ok-steps.ensures.1 in_time
+    rw c.from.ensures (level_holds (holds_below s v.depth) (fails_below s v.depth) (one_below s v.depth) (apart_below s v.depth) s v.layout.now v.links.now c.in_ok-steps.steps.items c.in_ok-steps.ensures.answer.1 in_time
     (rw (c.as_slice.ensures, c.as_slice-2.ensures.value) at c.in_ok-run_step_rules.ensures))
 
-pub verify_step-returns-in_err-records : goal.verify_step-returns-in_err-records
-verify_step-returns-in_err-records g t c =
+pub verify_step-returns-in_err-records-clause-answer : goal.verify_step-returns-in_err-records-clause-answer
+verify_step-returns-in_err-records-clause-answer g t c =
     let s = g.C.Checking.setting c.args.checking.now in
     let l = c.args.level.now in
     let step = c.args.step.now in
     let p = err_from_is_err_and c.from_residual-in_err-records.result c.from_residual-in_err-records.ensures.1 in
-    rw (p.1, p.2) (fails_before (StandsAt s l.depth l.layout.now l.links.now) (map (at_id step) (keys l.layout.now.keys)) (at_threshold step ∷ at_records step ∷ []) c.in_err-records.field-0.0 c.in_err-records.ensures)
+    rw (p.1, p.2) (fails_before (StandsAt s l.depth l.layout.now l.links.now) (map (at_id step) (keys l.layout.now.keys)) (at_threshold step ∷ at_records step ∷ []) c.in_err-records.field-0.0 c.in_err-records.ensures.answer)
 
-pub verify_step-returns : goal.verify_step-returns
-verify_step-returns g t c =
+pub verify_step-returns-clause-answer : goal.verify_step-returns-clause-answer
+verify_step-returns-clause-answer g t c =
     let s = g.C.Checking.setting c.args.checking.now in
     let v = c.args.level.now in
     let step = c.args.step.now in
-    walks_behind (StandsAt s v.depth v.layout.now v.links.now) (map (at_id step) (keys v.layout.now.keys)) (at_threshold step ∷ at_records step ∷ []) (StepHolds (holds_below s v.depth) s v.layout.now v.links.now step) c.judged.result c.in_ok-records.ensures.0
-    (judged_walks (holds_below s v.depth) (fails_below s v.depth) (one_below s v.depth) s v.layout.now v.links.now step c.in_ok-records.records.items c.in_ok-records.ensures.1 c.judged.result (rw c.as_slice-2.ensures.value at c.judged.ensures))
+    walks_behind (StandsAt s v.depth v.layout.now v.links.now) (map (at_id step) (keys v.layout.now.keys)) (at_threshold step ∷ at_records step ∷ []) (StepHolds (holds_below s v.depth) s v.layout.now v.links.now step) c.judged.result c.in_ok-records.ensures.answer.0
+    (judged_walks (holds_below s v.depth) (fails_below s v.depth) (one_below s v.depth) s v.layout.now v.links.now step c.in_ok-records.records.items c.in_ok-records.ensures.answer.1 c.judged.result (rw c.as_slice-2.ensures.value at c.judged.ensures))
 
-pub verify_steps-returns-in_err-verify_step : goal.verify_steps-returns-in_err-verify_step
-verify_steps-returns-in_err-verify_step g t c =
+pub verify_steps-returns-in_err-verify_step-clause-answer : goal.verify_steps-returns-in_err-verify_step-clause-answer
+verify_steps-returns-in_err-verify_step-clause-answer g t c =
     let s = g.C.Checking.setting c.args.checking.now in
     let v = c.args.level.now in
     let p = err_from_is_err_and c.from_residual.result c.from_residual.ensures.1 in
-    rw (p.1, p.2) (subst (λ xs. FailsAt (StandsAt s v.depth v.layout.now v.links.now) (flat_map (step_places v.layout.now) xs) c.in_err-verify_step.field-0.0) c.as_slice-step-items.ensures (fails_at (StandsAt s v.depth v.layout.now v.links.now) (step_places v.layout.now) c.as_slice-step-items.result.now c.loop-step.step-index c.step-item.result c.in_err-verify_step.field-0.0 c.loop-step-test.true c.step-item.is c.loop-step.invariant.0 c.in_err-verify_step.ensures))
+    rw (p.1, p.2) (subst (λ xs. FailsAt (StandsAt s v.depth v.layout.now v.links.now) (flat_map (step_places v.layout.now) xs) c.in_err-verify_step.field-0.0) c.as_slice-step-items.ensures (fails_at (StandsAt s v.depth v.layout.now v.links.now) (step_places v.layout.now) c.as_slice-step-items.result.now c.loop-step.step-index c.step-item.result c.in_err-verify_step.field-0.0 c.loop-step-test.true c.step-item.is c.loop-step.invariant.none c.in_err-verify_step.ensures.answer))
 
 pub verify_steps-loop-step-preserved : goal.verify_steps-loop-step-preserved
 verify_steps-loop-step-preserved g t c =
     let s = g.C.Checking.setting c.args.checking.now in
     let v = c.args.level.now in
-    let steps = c.as_slice-step-items.result.now in (
-      none_more (StandsAt s v.depth v.layout.now v.links.now) (step_places v.layout.now) steps c.loop-step.step-index c.step-item.result c.loop-step-test.true c.step-item.is c.loop-step.invariant.0 c.in_ok-verify_step.ensures.0,
-      rw c.in_ok-push.ensures.items (zip_more (StepHolds (holds_below s v.depth) s v.layout.now v.links.now) steps c.loop-step.step-index c.step-item.result c.loop-step.results.items c.in_ok-verify_step.field-0 c.loop-step-test.true c.step-item.is c.loop-step.invariant.1 c.in_ok-verify_step.ensures.1),
-    )
+    let steps = c.as_slice-step-items.result.now in
+    let i = c.loop-step.step-index in
+    let step = c.step-item.result in
+    let result = c.in_ok-verify_step.field-0 in
+    record {
+      none = none_more (StandsAt s v.depth v.layout.now v.links.now) (step_places v.layout.now) steps i step c.loop-step-test.true c.step-item.is c.loop-step.invariant.none c.in_ok-verify_step.ensures.answer.0;
+      hold = rw c.in_ok-push.ensures.items (zip_more (StepHolds (holds_below s v.depth) s v.layout.now v.links.now) steps i step c.loop-step.results.items result c.loop-step-test.true c.step-item.is c.loop-step.invariant.hold c.in_ok-verify_step.ensures.answer.1);
+      asked = rw c.in_ok-push.ensures.items (step_more s v.depth v.layout.now v.links.now c.args.meter.now c.loop-step.meter c.verify_step.new.meter i steps step c.loop-step.results.items result c.loop-step-test.true c.step-item.is c.loop-step.invariant.asked c.in_ok-verify_step.ensures.asked);
+    }
 
-pub verify_sublayout-returns : goal.verify_sublayout-returns
-verify_sublayout-returns g t c =
+pub verify_sublayout-returns-clause-answer : goal.verify_sublayout-returns-clause-answer
+verify_sublayout-returns-clause-answer g t c =
     let s = g.C.Checking.setting c.args.checking.now in
     let v = c.args.level.now in
     let links = v.links.now in
@@ -181,4 +217,97 @@ verify_sublayout-returns g t c =
     let bare : c.args.sublayout.now.inspections ≡ [] = sym c.as_slice.ensures ∙ nil_of c.as_slice.result.now (sym c.is_empty.ensures ∙ c.if-not-is_empty.false) in
     let folder : c.unwrap_or.result.now ≡ folder_of c.args.step.now c.args.id.now links =
     ap (λ r. r.now) c.unwrap_or.ensures ∙ folder_or c.dir.result _ (folder_at c.as_str.result.now links) c.dir.ensures c.new-none.ensures ∙ ap (λ n. unwrap_or (folder_at n links) empty) name in
-    level_below s c.args.sublayout.now (folder_of c.args.step.now c.args.id.now links) v.depth (v.depth - 1) (omega (arith, c.if-level-eq0.false)) bare c.verify_level.result (rw folder at c.verify_level.ensures)
+    level_below s c.args.sublayout.now (folder_of c.args.step.now c.args.id.now links) v.depth (v.depth - 1) (omega (arith, c.if-level-eq0.false)) bare c.verify_level.result (rw folder at c.verify_level.ensures.answer)
+
+pub verify_steps-loop-step-init : goal.verify_steps-loop-step-init
+verify_steps-loop-step-init g t c =
+    let s = g.C.Checking.setting c.args.checking.now in
+    let v = c.args.level.now in
+    rw c.new-results.ensures.items (record { none = tt; hold = tt; asked = within_none (LevelSum s v.depth v.layout.now v.links.now []) c.args.meter.now c.args.meter.now refl })
+
+pub verify_steps-returns-in_err-verify_step-clause-asked : goal.verify_steps-returns-in_err-verify_step-clause-asked
+verify_steps-returns-in_err-verify_step-clause-asked g t c =
+    let s = g.C.Checking.setting c.args.checking.now in
+    let v = c.args.level.now in
+    let p = err_from_is_err_and c.from_residual.result c.from_residual.ensures.1 in
+    rw (p.1, ← c.as_slice-step-items.ensures)
+    (step_fails s v.depth v.layout.now v.links.now c.args.meter.now c.loop-step.meter c.verify_step.new.meter c.loop-step.step-index c.as_slice-step-items.result.now c.step-item.result (key_total c.loop-step.results.items) c.loop-step-test.true c.step-item.is
+    c.loop-step.invariant.asked c.in_err-verify_step.ensures.asked)
+
+pub verify_steps-returns-clause-asked : goal.verify_steps-returns-clause-asked
+verify_steps-returns-clause-asked g t c =
+    let s = g.C.Checking.setting c.args.checking.now in
+    let v = c.args.level.now in
+    let steps = c.as_slice-step-items.result.now in
+    let all : take c.loop-step.step-index steps ≡ v.layout.now.steps = take_all c.loop-step.step-index steps (omega arith) ∙ c.as_slice-step-items.ensures in
+    subst (λ ss. RaisedWithin (key_total c.loop-step.results.items) (LevelSum s v.depth v.layout.now v.links.now ss) c.args.meter.now c.loop-step.meter) all c.loop-step.invariant.asked
+
+pub verify_level-returns-then-level-moment-clause-asked : goal.verify_level-returns-then-level-moment-clause-asked
+verify_level-returns-then-level-moment-clause-asked g t c =
+    let s = g.C.Checking.setting c.args.checking.now in
+    let v = c.args.level.now in
+    within_none (LevelSum s v.depth v.layout.now v.links.now v.layout.now.steps) c.args.meter.now c.args.meter.now refl
+
+pub verify_level-returns-in_err-claims-clause-asked : goal.verify_level-returns-in_err-claims-clause-asked
+verify_level-returns-in_err-claims-clause-asked g t c =
+    let s = g.C.Checking.setting c.args.checking.now in
+    let v = c.args.level.now in
+    let p = err_from_is_err_and c.from_residual.result c.from_residual.ensures.1 in
+    rw p.1 (within_none (LevelSum s v.depth v.layout.now v.links.now v.layout.now.steps) c.args.meter.now c.args.meter.now refl)
+
+pub verify_level-returns-in_err-steps-clause-asked : goal.verify_level-returns-in_err-steps-clause-asked
+verify_level-returns-in_err-steps-clause-asked g t c =
+    let p = err_from_is_err_and c.from_residual-in_err-steps.result c.from_residual-in_err-steps.ensures.1 in
+    rw p.1 c.in_err-steps.ensures.asked
+
+pub verify_level-returns-in_err-run_step_rules-clause-asked : goal.verify_level-returns-in_err-run_step_rules-clause-asked
+verify_level-returns-in_err-run_step_rules-clause-asked g t c =
+    let s = g.C.Checking.setting c.args.checking.now in
+    let v = c.args.level.now in
+    let p = err_from_is_err_and c.from_residual-in_err-run_step_rules.result c.from_residual-in_err-run_step_rules.ensures.1 in
+    rw p.1 (within_least 0 (key_total c.in_ok-steps.steps.items) (LevelSum s v.depth v.layout.now v.links.now v.layout.now.steps) c.args.meter.now c.verify_steps.new.meter (omega arith) c.in_ok-steps.ensures.asked)
+
+pub verify_level-returns-clause-asked : goal.verify_level-returns-clause-asked
+verify_level-returns-clause-asked g t c = rw c.from.ensures c.in_ok-steps.ensures.asked
+
+pub verify_step-returns-in_err-found-clause-asked : goal.verify_step-returns-in_err-found-clause-asked
+verify_step-returns-in_err-found-clause-asked g t c =
+    let s = g.C.Checking.setting c.args.checking.now in
+    let v = c.args.level.now in
+    let p = err_from_is_err_and c.from_residual.result c.from_residual.ensures.1 in
+    rw p.1 (within_none (StepCosts (cost_below s v.depth) s v.layout.now v.links.now c.args.step.now) c.args.meter.now c.args.meter.now refl)
+
+pub verify_step-returns-in_err-signers-clause-asked : goal.verify_step-returns-in_err-signers-clause-asked
+verify_step-returns-in_err-signers-clause-asked g t c =
+    let s = g.C.Checking.setting c.args.checking.now in
+    let v = c.args.level.now in
+    let p = err_from_is_err_and c.from_residual-in_err-signers.result c.from_residual-in_err-signers.ensures.1 in
+    rw p.1 (within_none (StepCosts (cost_below s v.depth) s v.layout.now v.links.now c.args.step.now) c.args.meter.now c.args.meter.now refl)
+
+pub verify_step-returns-in_err-records-clause-asked : goal.verify_step-returns-in_err-records-clause-asked
+verify_step-returns-in_err-records-clause-asked g t c = ?
+
+pub verify_step-returns-clause-asked : goal.verify_step-returns-clause-asked
+verify_step-returns-clause-asked g t c = ?
+
+pub verify_sublayout-returns-then-level-eq0-clause-asked : goal.verify_sublayout-returns-then-level-eq0-clause-asked
+verify_sublayout-returns-then-level-eq0-clause-asked g t c =
+    let s = g.C.Checking.setting c.args.checking.now in
+    let v = c.args.level.now in
+    within_none (cost_below s v.depth c.args.sublayout.now (folder_of c.args.step.now c.args.id.now v.links.now)) c.args.meter.now c.args.meter.now refl
+
+pub verify_sublayout-returns-then-not-is_empty-clause-asked : goal.verify_sublayout-returns-then-not-is_empty-clause-asked
+verify_sublayout-returns-then-not-is_empty-clause-asked g t c =
+    let s = g.C.Checking.setting c.args.checking.now in
+    let v = c.args.level.now in
+    within_none (cost_below s v.depth c.args.sublayout.now (folder_of c.args.step.now c.args.id.now v.links.now)) c.args.meter.now c.args.meter.now refl
+
+pub verify_sublayout-returns-in_err-name-clause-asked : goal.verify_sublayout-returns-in_err-name-clause-asked
+verify_sublayout-returns-in_err-name-clause-asked g t c =
+    let s = g.C.Checking.setting c.args.checking.now in
+    let v = c.args.level.now in
+    let p = err_from_is_err_and c.from_residual.result c.from_residual.ensures.1 in
+    rw p.1 (within_none (cost_below s v.depth c.args.sublayout.now (folder_of c.args.step.now c.args.id.now v.links.now)) c.args.meter.now c.args.meter.now refl)
+
+pub verify_sublayout-returns-clause-asked : goal.verify_sublayout-returns-clause-asked
+verify_sublayout-returns-clause-asked g t c = ?

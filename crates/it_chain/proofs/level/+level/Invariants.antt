@@ -1,8 +1,10 @@
-use Rattle.std.proofs.Common.{◌+◌, ◌*◌, take, flat_map}
+use Rattle.std.proofs.Common.{◌+◌, ◌*◌, length, take, flat_map}
 use Rattle.std.specs.List.{AllZip}
+use Rattle.it_chain.specs.Asked.{RaisedWithin, key_total}
 use Rattle.it_chain.specs.First.{step_places}
 use Rattle.it_chain.specs.Level.{StepHolds}
 use Rattle.it_chain.specs.Walk.{StandsAt, NoneAt, holds_below}
+use Rattle.it_chain.proofs.LevelAsking.{LevelSum, SignersSum}
 use Rattle.it_chain.proofs.SignerWalks.{AreWalked}
 use Rattle.it_chain.proofs.level.+level.Given as goal
 
@@ -27,15 +29,26 @@ decreases-verify_steps g l = 7 * l.level.now.depth + 5
 abbrev pub decreases-verify_level : goal.decreases-verify_level
 decreases-verify_level g l = 7 * l.level.now.depth + 6
 
--- nothing stands at the steps so far, which hold with the results
+-- nothing stands at the steps so far, which hold with the results, and no more was asked than they cost
 abbrev pub invariant-verify_steps-loop-step : goal.invariant-verify_steps-loop-step
 invariant-verify_steps-loop-step g l =
     let setting = g.C.Checking.setting l.checking in
     let layout = l.level.layout.now in
     let bundle = l.level.links.now in
-    NoneAt (StandsAt setting l.level.depth layout bundle) (flat_map (step_places layout) (take l.step-index l.step-items))
-    × AllZip (StepHolds (holds_below setting l.level.depth) setting layout bundle) (take l.step-index l.step-items) l.results.items
+    record {
+      none : NoneAt (StandsAt setting l.level.depth layout bundle) (flat_map (step_places layout) (take l.step-index l.step-items));
+      hold : AllZip (StepHolds (holds_below setting l.level.depth) setting layout bundle) (take l.step-index l.step-items) l.results.items;
+      asked : RaisedWithin (key_total l.results.items) (LevelSum setting l.level.depth layout bundle (take l.step-index l.step-items)) l.fn.meter l.meter;
+    }
 
--- nothing stands at the ids of the signers so far, of which these are the records
+-- nothing stands at the ids of the signers so far, of which these are the records, and no more was
+-- asked than they cost
 abbrev pub invariant-verify_ids-loop-signer : goal.invariant-verify_ids-loop-signer
-invariant-verify_ids-loop-signer g l = AreWalked (g.C.Checking.setting l.checking) l.level.depth l.level.layout.now l.level.links.now l.step (take l.signer-index l.signers) l.records.items
+invariant-verify_ids-loop-signer g l =
+    let setting = g.C.Checking.setting l.checking in
+    let layout = l.level.layout.now in
+    let bundle = l.level.links.now in
+    record {
+      walked : AreWalked setting l.level.depth layout bundle l.step (take l.signer-index l.signers) l.records.items;
+      asked : RaisedWithin (length l.records.items) (SignersSum setting l.level.depth layout bundle l.step l.found (take l.signer-index l.signers)) l.fn.meter l.meter;
+    }

@@ -1,5 +1,5 @@
 -- Meters that are raised by one call after another.
-use Rattle.std.proofs.Common.{◌≡◌, ℕ, zero, suc, ◌+◌, ◌<◌, ◌≤◌, List, [], ◌∷◌, ◌++◌, length, get_or, take, Result, Ok, Err, refl, sym, ap, subst, arith, ◌∙◌}
+use Rattle.std.proofs.Common.{◌≡◌, ℕ, zero, suc, ◌+◌, ◌<◌, ◌≤◌, List, [], ◌∷◌, ◌++◌, length, get_or, take, refl, sym, ap, subst, arith, ◌∙◌}
 use Rattle.std.specs.List.{sum_by}
 use Rattle.std.proofs.lemmas.List.{take_more}
 use Rattle.std.proofs.lemmas.List.Sums.{sum_by-cons}
@@ -10,7 +10,7 @@ use Rattle.it_dsse.specs.declared.key_object.KeyObject.{KeyObject}
 use Rattle.it_dsse.specs.declared.meter.Meter.{Meter}
 use Rattle.it_dsse.proofs.Tries.{signed_tries, tries_at_most}
 use Rattle.it_dsse.proofs.Trying.{raised-zero, raised_more}
-use Rattle.it_chain.specs.Asked.{Asks, RaisedWithin, SignaturesIn}
+use Rattle.it_chain.specs.Asked.{RaisedWithin, SignaturesIn}
 use Rattle.it_chain.specs.Cost.{IsSum}
 use Rattle.it_chain.specs.declared.candidate.Candidate.{Candidate}
 
@@ -37,10 +37,6 @@ within_then l k least P Q R old now new less parts h j = (
   ),
   j.2 ∙ ap (λ m. raised m j.0) h.2 ∙ raised_more old h.0 j.0,
 )
-
--- ---- a value, or an error
-pub asks_err : {A E : Type 0} (least : A → ℕ) (Most : ℕ → Type 0) (old new : Meter) (e : E) (r : Result A E) → r ≡ Err e → RaisedWithin 0 Most old new → Asks least Most old new r
-asks_err least Most old new e r is h = subst (Asks least Most old new) (sym is) h
 
 -- ---- calls in a loop
 module _ {X : Type 0} (Costs : X → ℕ → Type 0) where

@@ -1,8 +1,8 @@
 -- What the ids of a step cost together, from what the step costs.
-use Rattle.std.proofs.Common.{◌≡◌, ◌≢◌, ℕ, ◌+◌, ◌*◌, ◌<◌, ◌≤◌, List, [], ◌∷◌, map, filter, length, Bool, true, false, cond, Option, None, Some, inl, inr, ⊎_elim, bytes_eq, Contains, refl, sym, ap, subst, arith, ◌∙◌}
+use Rattle.std.proofs.Common.{◌≡◌, ◌≢◌, ℕ, ◌+◌, ◌*◌, ◌≤◌, List, [], ◌∷◌, map, length, Bool, true, false, cond, inl, inr, ⊎_elim, bytes_eq, Contains, refl, sym, ap, subst, arith, ◌∙◌}
 use Rattle.std.specs.Cmp.Lexicographic.{nat_list_eq_equiv}
 use Rattle.std.specs.FinMap.{entries, entries_sorted}
-use Rattle.std.specs.List.{AllByRecursion, IsDistinct, list_any}
+use Rattle.std.specs.List.{AllByRecursion, IsDistinct}
 use Rattle.std.specs.Set.{distinct_count, is_member, unique_keys}
 use Rattle.std.proofs.lemmas.List.{length-map}
 use Rattle.std.proofs.lemmas.Map.Made.{is_member-Decides, length-le_from_is_member}
@@ -17,7 +17,7 @@ use Rattle.it_docs.proofs.Same.{layout_same}
 use Rattle.it_chain.specs.Answer.{signers}
 use Rattle.it_chain.specs.Asked.{IdCosts, signature_count}
 use Rattle.it_chain.specs.Contents.{Contents, files_of}
-use Rattle.it_chain.specs.Cost.{Costing, CostsIfFound, FileHas, HasSignatures, IsSum, IsSublayout, StepCosts}
+use Rattle.it_chain.specs.Cost.{Costing, CostsIfFound, FileHas, HasSignatures, IsSum, StepCosts}
 use Rattle.it_chain.specs.Counted.{Setting, Counted}
 use Rattle.it_chain.specs.First.{IsBefore}
 use Rattle.it_chain.specs.Names.{IsClaimed, folder_of}
@@ -52,11 +52,11 @@ total_more c f (x ∷ xs) = let rest = total_more c f xs in omega (arith, rest)
 if_same : List ℕ → ℕ → List ℕ → ℕ
 if_same id c other = cond (bytes_eq other id) c 0
 
-module _ {X : Type 0} where
-  other_id : (id other : List ℕ) (c : ℕ) (same : Bool) → bytes_eq other id ≡ same → other ≢ id → cond same c 0 ≡ 0
-  other_id id other c true e differ = absurd (differ ((bytes_eq-Decides other id).0 e))
-  other_id id other c false e differ = refl
+other_id : (id other : List ℕ) (c : ℕ) (same : Bool) → bytes_eq other id ≡ same → other ≢ id → cond same c 0 ≡ 0
+other_id id other c true e differ = absurd (differ ((bytes_eq-Decides other id).0 e))
+other_id id other c false e differ = refl
 
+module _ {X : Type 0} where
   none_after : (id : List ℕ) (c : ℕ) (es : List (List ℕ × X)) → ((f : List ℕ × X) → Contains es f → f.0 ≢ id) → total (λ e. if_same id c e.0) es ≡ 0
   unfolding if_same
   none_after id c [] differ = refl
@@ -92,7 +92,7 @@ module _ (sub : Costing) (setting : Setting) (layout : Layout) (bundle : Content
 
   in_share : (id payload : List ℕ) (sublayout : Layout) (bodies : List (List ℕ × List ℕ)) (n : ℕ) (h : IsSum Cost bodies n) → Contains bodies (id, payload) → LayoutOf payload sublayout
       → (m : ℕ) × sub sublayout (folder_of step.name id bundle) m × (m ≤ share id bodies n h)
-  unfolding share, if_same
+  unfolding share if_same
   in_share id payload sublayout [] n h c is = absurd (in_none (id, payload) c)
   in_share id payload sublayout (body ∷ bodies) n h c is = elim (in_cases body bodies (id, payload) c) [
     | inl same ↦
@@ -154,8 +154,7 @@ claimed_sum step (file ∷ files) claimed n are h = ⊎_elim
     (λ k.
     let rest = claimed_sum step files k.1.0 h.1 k.1.2 h.3 in
     let here : CostsIfFound (EnvelopeOf file.bytes) HasSignatures h.0 =
-    ⊎_elim (λ found. inl (found.0, found.1.1, found.2)) (λ none. inr (λ e is. none.0 e (k.0, is), none.1)) h.2 in
-    (
+    ⊎_elim (λ found. inl (found.0, found.1.1, found.2)) (λ none. inr (λ e is. none.0 e (k.0, is), none.1)) h.2 in (
       h.0 + rest.0,
       subst (λ fs. IsSum (λ (f : File). CostsIfFound (EnvelopeOf f.bytes) HasSignatures) fs (h.0 + rest.0)) (sym k.1.1) (h.0, rest.0, here, rest.1, refl),
       omega (arith, h.4, rest.2),

@@ -1,18 +1,17 @@
 -- How far the functions that verify a level raise the meter, put together.
-use Rattle.std.proofs.Common.{◌≡◌, ℕ, zero, suc, ◌+◌, ◌<◌, ◌≤◌, List, [], ◌∷◌, ◌++◌, map, length, get_or, take, Option, None, Some, Result, Ok, Err, refl, sym, ap, subst, arith, append-nil, ◌∙◌}
-use Rattle.std.specs.List.{sum_by}
-use Rattle.std.specs.Set.{distinct_count}
+use Rattle.std.proofs.Common.{◌≡◌, ℕ, zero, suc, ◌+◌, ◌<◌, ◌≤◌, List, [], ◌∷◌, ◌++◌, map, length, get_or, take, Option, None, Some, Result, Ok, Err, IfOk, sym, ap, subst, arith, append-nil}
 use Rattle.std.proofs.lemmas.List.Sums.{sum_by_push}
 use Rattle.std.proofs.lemmas.List.{length-map, length_push}
 use Rattle.std.proofs.lemmas.Map.Made.{distinct_count-le}
 use Rattle.it_dsse.specs.Check.{KeyNumber}
+use Rattle.it_dsse.specs.Meter.{RaisedBy}
 use Rattle.it_dsse.specs.declared.meter.Meter.{Meter}
 use Rattle.it_docs.specs.declared.layout.Layout.{Layout}
 use Rattle.it_docs.specs.declared.step.Step.{Step}
 use Rattle.it_chain.specs.Answer.{signers, with_record}
 use Rattle.it_chain.specs.Asked.{Asks, BodyCosts, IdCosts, RaisedWithin, SignaturesIn, cost_below, key_total, least_given, signature_count}
 use Rattle.it_chain.specs.Contents.{Contents, files_of}
-use Rattle.it_chain.specs.Cost.{Costing, Costs, IsSum, LevelCosts, StepCosts}
+use Rattle.it_chain.specs.Cost.{Costs, IsSum, LevelCosts, StepCosts}
 use Rattle.it_chain.specs.Counted.{Setting, Body, of_link, of_layout, same_key}
 use Rattle.it_chain.specs.Level.{Holding}
 use Rattle.it_chain.specs.Signers.{entry_of}
@@ -22,7 +21,6 @@ use Rattle.it_chain.specs.declared.chain.StepResult.{StepResult}
 use Rattle.it_chain.specs.declared.chain.Chain.{Chain as ChainOf}
 use Rattle.it_chain.specs.declared.record.IdRecord.{IdRecord}
 use Rattle.it_chain.specs.declared.refusal.ChainError.{ChainError}
-use Rattle.it_chain.specs.declared.refusal.ChainError.TheVariants.{Refused, OutOfMemory}
 use Rattle.it_chain.specs.declared.signers.Signer.{Signer}
 use Rattle.it_chain.proofs.Asking.{sum_of, within_more, within_part, within_then, within_weaker}
 use Rattle.it_chain.proofs.Costing.{ids_cost}
@@ -70,9 +68,9 @@ module _ (setting : Setting) (depth : ℕ) (layout : Layout) (bundle : Contents)
       let more = sum_by_push (λ (r : StepResult). r.keys) results result in
       within_more (StepCosts (cost_below setting depth) setting layout bundle) steps i step below here (key_total results) result.keys old now new before next (key_total (results ++ result ∷ [])) (omega (arith, more))
 
-  pub step_fails : (steps : List Step) (step : Step) (least : ℕ) → i < length steps → step ≡ get_or steps i step → RaisedWithin least (LevelSum setting depth layout bundle (take i steps)) old now
-      → RaisedWithin 0 (StepCosts (cost_below setting depth) setting layout bundle step) now new → RaisedWithin 0 (LevelSum setting depth layout bundle steps) old new
-  step_fails steps step least below here before next = within_part (StepCosts (cost_below setting depth) setting layout bundle) steps i step below here least 0 old now new before next 0 (omega arith)
+  pub step_fails : (steps : List Step) (step : Step) (least of_step : ℕ) → i < length steps → step ≡ get_or steps i step → RaisedWithin least (LevelSum setting depth layout bundle (take i steps)) old now
+      → RaisedWithin of_step (StepCosts (cost_below setting depth) setting layout bundle step) now new → RaisedWithin 0 (LevelSum setting depth layout bundle steps) old new
+  step_fails steps step least of_step below here before next = within_part (StepCosts (cost_below setting depth) setting layout bundle) steps i step below here least of_step old now new before next 0 (omega arith)
 
   module _ (step : Step) (found : List Candidate) (signers : List Signer) (signer : Signer) (records : List IdRecord) (below : i < length signers) (here : signer ≡ get_or signers i signer)
       (before : RaisedWithin (length records) (SignersSum setting depth layout bundle step found (take i signers)) old now) where
@@ -111,7 +109,7 @@ module _ (setting : Setting) (depth : ℕ) (layout : Layout) (bundle : Contents)
 
 -- ---- an id
 module _ (setting : Setting) (depth : ℕ) (layout : Layout) (bundle : Contents) (step : Step) (found : List Candidate) (id : List ℕ) where
-  abbrev OfId : ℕ → Type 0
+  abbrev pub OfId : ℕ → Type 0
   OfId = IdCosts (cost_below setting depth) setting layout bundle step (signature_count found) id
 
   -- its candidates alone
@@ -129,3 +127,18 @@ module _ (setting : Setting) (depth : ℕ) (layout : Layout) (bundle : Contents)
   body_raises sub key body one old now new =
       within_then 1 0 1 (SignaturesIn found) (BodyCosts (cost_below setting depth) bundle step.name id body) OfId old now new (omega arith)
       (λ n cost. (signature_count found, cost.sublayouts, sum_of (λ (c : Candidate). length c.envelope.signatures) found, body_cost sub key body one n cost, omega (arith, cost.sum)))
+
+-- ---- a layout over a bundle
+module _ (setting : Setting) (depth : ℕ) (layout : Layout) (bundle : Contents) (old new : Meter) where
+  abbrev AskedOf : Result ChainOf ChainError → Type 0
+  AskedOf = Asks (λ (chain : ChainOf). key_total chain.steps) (LevelCosts (cost_below setting depth) setting layout bundle) old new
+
+  -- no more is asked than it costs
+  pub chain_at_most : (a : Result ChainOf ChainError) → AskedOf a → (n : ℕ) → Costs setting depth layout bundle n → RaisedBy (λ m. m ≤ n) old new
+  chain_at_most (Ok chain) h n cost = (h.0, h.1.1 n (costs_of setting depth layout bundle n cost), h.2)
+  chain_at_most (Err e) h n cost = (h.0, h.1.1 n (costs_of setting depth layout bundle n cost), h.2)
+
+  -- and for each key of a step
+  pub chain_at_least : (a : Result ChainOf ChainError) → AskedOf a → IfOk a (λ chain. RaisedBy (λ m. key_total chain.steps ≤ m) old new)
+  chain_at_least (Ok chain) h = (h.0, h.1.0, h.2)
+  chain_at_least (Err e) h = tt

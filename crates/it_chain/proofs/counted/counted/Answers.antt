@@ -1,8 +1,11 @@
-use Rattle.std.proofs.Common.{◌≡◌, ◌∙◌, ◌+◌, ◌++◌, ◌∷◌, [], List, take, drop, take_all, Contains, true, sym, ap, subst, arith}
+use Rattle.std.proofs.Common.{◌≡◌, ◌∙◌, ◌+◌, ◌++◌, ◌∷◌, [], List, take, drop, take_all, Contains, true, refl, sym, ap, subst, arith}
 use Rattle.std.proofs.lemmas.List.{take_more, take-append-drop}
 use Rattle.std.proofs.lemmas.List.Elements.{Contains-append_left, Contains-get_or}
+use Rattle.std.proofs.lemmas.Result.{err_from_is_err_and}
+use Rattle.it_chain.specs.Asked.{SignaturesIn}
 use Rattle.it_chain.specs.declared.candidate.Candidate.{Candidate}
-use Rattle.it_chain.proofs.SoFar.{begun, one_of, passed_by, repeated, two_of}
+use Rattle.it_chain.proofs.Asking.{asked_before, asked_first, asked_last, asked_more, within_none}
+use Rattle.it_chain.proofs.SoFar.{begun, least_first, none_so_far, one_of, passed_by, repeated, two_of}
 use Rattle.it_chain.proofs.counted.counted.Goals as goal
 use Rattle.it_chain.proofs.counted.counted.Goals.{in-Some+in-None, in-Some+in-Some-first+else-not-is_same_payload, in_default}
 
@@ -28,6 +31,9 @@ loop-candidate-preserved g c =
     let i = c.loop-candidate.candidate-index in
     let all = c.args.candidates.now in
     let new = c.candidate-item.result in
+    let old = c.args.meter.now in
+    let now = c.loop-candidate.meter in
+    let next = c.signed_by.new.meter in
     let more : take (i + 1) all ≡ take i all ++ new ∷ [] = take_more all i new c.loop-candidate-test.true ∙ ap (λ x. take i all ++ x ∷ []) (sym c.candidate-item.is) in
     elim c.match-branch-2.branch [
       | in-Some+in-None w ↦
@@ -35,20 +41,20 @@ loop-candidate-preserved g c =
           rw w.first-is
           (record {
             so_far = rw more (begun check id object (take i all) new w.in-Some.key signs (rw w.in-None.is at c.loop-candidate.invariant.so_far));
-            asked = rw w.meter-is ?;
+            asked = asked_first check id object all i new c.loop-candidate-test.true c.candidate-item.is old now next (least_first c.loop-candidate.first) c.loop-candidate.invariant.asked c.in_ok-key.ensures.counted w.in-Some.key signs;
           })
       | in-Some+in-Some-first+else-not-is_same_payload w ↦
           let same = w.is_same_payload.ensures.0 w.if-not-is_same_payload.false in
           rw (w.first-is, w.in-Some-first.is)
           (record {
             so_far = rw more (repeated check id object (take i all) new w.in-Some-first.field-0-0 w.in-Some-first.found same (rw w.in-Some-first.is at c.loop-candidate.invariant.so_far));
-            asked = ?;
+            asked = asked_more check id object all i new c.loop-candidate-test.true c.candidate-item.is old now next 1 (rw w.in-Some-first.is at c.loop-candidate.invariant.asked) c.in_ok-key.ensures.counted;
           })
       | in_default w ↦
           rw w.first-is
           (record {
             so_far = rw more (passed_by check id object (take i all) new c.loop-candidate.first (rw w.in_default.is at c.in_ok-key.ensures.answer) c.loop-candidate.invariant.so_far);
-            asked = ?;
+            asked = asked_more check id object all i new c.loop-candidate-test.true c.candidate-item.is old now next (least_first c.loop-candidate.first) c.loop-candidate.invariant.asked c.in_ok-key.ensures.counted;
           })
     ]
 
@@ -62,3 +68,32 @@ returns-in-Some-first-2-clause-answer g c =
     let all : take c.loop-candidate.candidate-index c.args.candidates.now ≡ c.args.candidates.now = take_all c.loop-candidate.candidate-index c.args.candidates.now (omega arith) in
     one_of (g.C.Checking.setting c.args.checking.now).check c.args.id.now c.args.object.now c.args.candidates.now c.in-Some-first-2.key c.in-Some-first-2.found
     (rw (c.in-Some-first-2.is, all) at c.loop-candidate.invariant.so_far)
+
+pub loop-candidate-init : goal.loop-candidate-init
+loop-candidate-init g c = record {
+  so_far = none_so_far (g.C.Checking.setting c.args.checking.now).check c.args.id.now c.args.object.now;
+  asked = within_none (SignaturesIn []) c.args.meter.now c.args.meter.now refl;
+}
+
+pub returns-in_err-key-clause-asked : goal.returns-in_err-key-clause-asked
+returns-in_err-key-clause-asked g c =
+    let check = (g.C.Checking.setting c.args.checking.now).check in
+    let p = err_from_is_err_and c.from_residual.result c.from_residual.ensures.1 in
+    rw p.1 (asked_before check c.args.id.now c.args.object.now c.args.candidates.now c.loop-candidate.candidate-index c.candidate-item.result c.loop-candidate-test.true c.candidate-item.is c.args.meter.now c.loop-candidate.meter c.signed_by.new.meter
+    (least_first c.loop-candidate.first) c.loop-candidate.invariant.asked c.in_err-key.ensures.err)
+
+pub returns-then-not-is_same_payload-clause-asked : goal.returns-then-not-is_same_payload-clause-asked
+returns-then-not-is_same_payload-clause-asked g c =
+    let check = (g.C.Checking.setting c.args.checking.now).check in
+    asked_last check c.args.id.now c.args.object.now c.args.candidates.now c.loop-candidate.candidate-index c.candidate-item.result c.loop-candidate-test.true c.candidate-item.is c.args.meter.now c.loop-candidate.meter c.signed_by.new.meter
+    (least_first c.loop-candidate.first) c.loop-candidate.invariant.asked c.in_ok-key.ensures.counted
+
+pub returns-in-None-first-clause-asked : goal.returns-in-None-first-clause-asked
+returns-in-None-first-clause-asked g c =
+    let all : take c.loop-candidate.candidate-index c.args.candidates.now ≡ c.args.candidates.now = take_all c.loop-candidate.candidate-index c.args.candidates.now (omega arith) in
+    rw (c.in-None-first.is, all) at c.loop-candidate.invariant.asked
+
+pub returns-in-Some-first-2-clause-asked : goal.returns-in-Some-first-2-clause-asked
+returns-in-Some-first-2-clause-asked g c =
+    let all : take c.loop-candidate.candidate-index c.args.candidates.now ≡ c.args.candidates.now = take_all c.loop-candidate.candidate-index c.args.candidates.now (omega arith) in
+    rw (c.in-Some-first-2.is, all) at c.loop-candidate.invariant.asked

@@ -1,19 +1,21 @@
-use Rattle.std.proofs.Common.{◌≡◌, ◌∙◌, ◌<ℤ◌, ◌+◌, ◌-◌, [], ◌∷◌, None, Some, Contains, map, zip, Err, flat_map, append-nil, rules, sym, ap, subst, unwrap_or, take, take_all, arith}
+use Rattle.std.proofs.Common.{◌≡◌, ◌∙◌, ◌<ℤ◌, ◌-◌, [], ◌∷◌, None, Some, Contains, map, zip, Err, flat_map, append-nil, rules, refl, sym, ap, subst, unwrap_or, length, take, take_all, arith}
 use Rattle.std.specs.FinMap.{keys}
 use Rattle.std.proofs.lemmas.Int.{ints}
 use Rattle.std.proofs.lemmas.List.Elements.{Contains-get_or}
 use Rattle.std.proofs.lemmas.Result.{err_from_is_err_and}
 use Rattle.it_chain.specs.Asked.{RaisedWithin, cost_below, key_total}
-use Rattle.it_chain.specs.Contents.{empty, folder_at}
+use Rattle.it_chain.specs.Answer.{signers as signers_of}
+use Rattle.it_chain.specs.Contents.{empty, files_of, folder_at}
 use Rattle.it_chain.specs.Cost.{StepCosts}
 use Rattle.it_chain.specs.Names.{folder_name, folder_of}
 use Rattle.it_chain.specs.First.{step_places, at_id, at_records, at_threshold, here}
 use Rattle.it_chain.specs.Level.{StepHolds, links_in}
-use Rattle.it_chain.specs.Walk.{AreRuled, BodyComes, FailsAt, Gives, StandsAt, as_body, fails_below, holds_below}
+use Rattle.it_chain.specs.Signers.{entry_of}
+use Rattle.it_chain.specs.Walk.{AreCandidates, AreRuled, BodyComes, FailsAt, Gives, StandsAt, as_body, fails_below, holds_below}
 use Rattle.it_chain.specs.declared.refusal.ChainError.TheVariants.{Refused}
 use Rattle.it_chain.specs.declared.refusal.ChainFault.TheVariants.{TwoPayloads}
 use Rattle.it_chain.proofs.Asking.{within_least, within_none}
-use Rattle.it_chain.proofs.LevelAsking.{LevelSum, SignersSum, signer_fails, signer_more, step_fails, step_more}
+use Rattle.it_chain.proofs.LevelAsking.{LevelSum, OfId, SignersSum, below_asks, body_raises, candidates_raise, signer_fails, signer_more, step_asks, step_fails, step_more, step_raises}
 use Rattle.it_chain.proofs.LevelWalks.{level_holds, rules_fail, steps_fail}
 use Rattle.it_chain.proofs.LevelRules.{links_differ}
 use Rattle.it_chain.proofs.StepWalks.{judged_walks}
@@ -121,6 +123,14 @@ verify_ids-returns-in_err-record-clause-asked g t c =
     let p = err_from_is_err_and c.from_residual.result c.from_residual.ensures.1 in
     rw p.1 (signer_fails s v.depth v.layout.now v.links.now c.args.meter.now c.loop-signer.meter c.verify_id.new.meter c.loop-signer.signer-index c.args.step.now c.args.found.now c.args.signers.now c.signer-item.result c.loop-signer.records.items
     c.loop-signer-test.true c.signer-item.is c.loop-signer.invariant.asked 0 c.in_err-record.ensures.asked)
+
+pub verify_ids-returns-in_err-push-clause-asked : goal.verify_ids-returns-in_err-push-clause-asked
+verify_ids-returns-in_err-push-clause-asked g t c =
+    let s = g.C.Checking.setting c.args.checking.now in
+    let v = c.args.level.now in
+    let p = err_from_is_err_and c.from_residual-in_err-push.result c.from_residual-in_err-push.ensures.1 in
+    rw p.1 (signer_fails s v.depth v.layout.now v.links.now c.args.meter.now c.loop-signer.meter c.verify_id.new.meter c.loop-signer.signer-index c.args.step.now c.args.found.now c.args.signers.now c.signer-item.result c.loop-signer.records.items
+    c.loop-signer-test.true c.signer-item.is c.loop-signer.invariant.asked 1 (rw c.in-Some.is at c.in_ok-record.ensures.asked))
 
 pub verify_ids-returns-clause-asked : goal.verify_ids-returns-clause-asked
 verify_ids-returns-clause-asked g t c =
@@ -230,9 +240,18 @@ verify_steps-returns-in_err-verify_step-clause-asked g t c =
     let s = g.C.Checking.setting c.args.checking.now in
     let v = c.args.level.now in
     let p = err_from_is_err_and c.from_residual.result c.from_residual.ensures.1 in
-    rw (p.1, ← c.as_slice-step-items.ensures)
-    (step_fails s v.depth v.layout.now v.links.now c.args.meter.now c.loop-step.meter c.verify_step.new.meter c.loop-step.step-index c.as_slice-step-items.result.now c.step-item.result (key_total c.loop-step.results.items) c.loop-step-test.true c.step-item.is
-    c.loop-step.invariant.asked c.in_err-verify_step.ensures.asked)
+    rw p.1 (subst (λ ss. RaisedWithin 0 (LevelSum s v.depth v.layout.now v.links.now ss) c.args.meter.now c.verify_step.new.meter) c.as_slice-step-items.ensures
+    (step_fails s v.depth v.layout.now v.links.now c.args.meter.now c.loop-step.meter c.verify_step.new.meter c.loop-step.step-index c.as_slice-step-items.result.now c.step-item.result (key_total c.loop-step.results.items) 0 c.loop-step-test.true c.step-item.is
+    c.loop-step.invariant.asked c.in_err-verify_step.ensures.asked))
+
+pub verify_steps-returns-in_err-push-clause-asked : goal.verify_steps-returns-in_err-push-clause-asked
+verify_steps-returns-in_err-push-clause-asked g t c =
+    let s = g.C.Checking.setting c.args.checking.now in
+    let v = c.args.level.now in
+    let p = err_from_is_err_and c.from_residual-in_err-push.result c.from_residual-in_err-push.ensures.1 in
+    rw p.1 (subst (λ ss. RaisedWithin 0 (LevelSum s v.depth v.layout.now v.links.now ss) c.args.meter.now c.verify_step.new.meter) c.as_slice-step-items.ensures
+    (step_fails s v.depth v.layout.now v.links.now c.args.meter.now c.loop-step.meter c.verify_step.new.meter c.loop-step.step-index c.as_slice-step-items.result.now c.step-item.result (key_total c.loop-step.results.items) c.in_ok-verify_step.field-0.keys c.loop-step-test.true c.step-item.is
+    c.loop-step.invariant.asked c.in_ok-verify_step.ensures.asked))
 
 pub verify_steps-returns-clause-asked : goal.verify_steps-returns-clause-asked
 verify_steps-returns-clause-asked g t c =
@@ -285,10 +304,22 @@ verify_step-returns-in_err-signers-clause-asked g t c =
     rw p.1 (within_none (StepCosts (cost_below s v.depth) s v.layout.now v.links.now c.args.step.now) c.args.meter.now c.args.meter.now refl)
 
 pub verify_step-returns-in_err-records-clause-asked : goal.verify_step-returns-in_err-records-clause-asked
-verify_step-returns-in_err-records-clause-asked g t c = ?
+verify_step-returns-in_err-records-clause-asked g t c =
+    let s = g.C.Checking.setting c.args.checking.now in
+    let v = c.args.level.now in
+    let p = err_from_is_err_and c.from_residual-in_err-records.result c.from_residual-in_err-records.ensures.1 in
+    let are : AreCandidates c.args.step.now.name (files_of v.links.now) c.as_slice.result.now = search rules in
+    let same : map entry_of c.as_slice-signers.result.now ≡ signers_of v.layout.now c.args.step.now = search rules in
+    rw p.1 (step_raises s v.depth v.layout.now v.links.now c.args.step.now c.as_slice.result.now are c.as_slice-signers.result.now same c.args.meter.now c.verify_ids.new.meter 0 c.in_err-records.ensures.asked)
 
 pub verify_step-returns-clause-asked : goal.verify_step-returns-clause-asked
-verify_step-returns-clause-asked g t c = ?
+verify_step-returns-clause-asked g t c =
+    let s = g.C.Checking.setting c.args.checking.now in
+    let v = c.args.level.now in
+    let are : AreCandidates c.args.step.now.name (files_of v.links.now) c.as_slice.result.now = search rules in
+    let same : map entry_of c.as_slice-signers.result.now ≡ signers_of v.layout.now c.args.step.now = search rules in
+    step_asks s v.depth v.layout.now v.links.now c.args.step.now c.as_slice.result.now are c.as_slice-signers.result.now same c.args.meter.now c.verify_ids.new.meter c.in_ok-records.records.items c.judged.result
+    (rw c.as_slice-2.ensures.value at c.judged.ensures) c.in_ok-records.ensures.asked
 
 pub verify_sublayout-returns-then-level-eq0-clause-asked : goal.verify_sublayout-returns-then-level-eq0-clause-asked
 verify_sublayout-returns-then-level-eq0-clause-asked g t c =
@@ -310,4 +341,75 @@ verify_sublayout-returns-in_err-name-clause-asked g t c =
     rw p.1 (within_none (cost_below s v.depth c.args.sublayout.now (folder_of c.args.step.now c.args.id.now v.links.now)) c.args.meter.now c.args.meter.now refl)
 
 pub verify_sublayout-returns-clause-asked : goal.verify_sublayout-returns-clause-asked
-verify_sublayout-returns-clause-asked g t c = ?
+verify_sublayout-returns-clause-asked g t c =
+    let s = g.C.Checking.setting c.args.checking.now in
+    let v = c.args.level.now in
+    let links = v.links.now in
+    let name : c.as_str.result.now ≡ folder_name c.args.step.now c.args.id.now = c.as_str.ensures.value ∙ c.in_ok-name.ensures in
+    let folder : c.unwrap_or.result.now ≡ folder_of c.args.step.now c.args.id.now links =
+    ap (λ r. r.now) c.unwrap_or.ensures ∙ folder_or c.dir.result _ (folder_at c.as_str.result.now links) c.dir.ensures c.new-none.ensures ∙ ap (λ n. unwrap_or (folder_at n links) empty) name in
+    below_asks s c.args.sublayout.now (folder_of c.args.step.now c.args.id.now links) c.args.meter.now c.verify_level.new.meter v.depth (v.depth - 1) (omega (arith, c.if-level-eq0.false)) c.verify_level.result (rw folder at c.verify_level.ensures.asked)
+
+pub verify_id-returns-in_err-counted-clause-asked : goal.verify_id-returns-in_err-counted-clause-asked
+verify_id-returns-in_err-counted-clause-asked g t c =
+    let s = g.C.Checking.setting c.args.checking.now in
+    let l = c.args.level.now in
+    let p = err_from_is_err_and c.from_residual.result c.from_residual.ensures.1 in
+    rw p.1 (candidates_raise s l.depth l.layout.now l.links.now c.args.step.now c.args.found.now c.args.signer.now.id.now 0 c.args.meter.now c.counted.new.meter c.in_err-counted.ensures.asked)
+
+pub verify_id-returns-in_err-text_of-in-Several-clause-asked : goal.verify_id-returns-in_err-text_of-in-Several-clause-asked
+verify_id-returns-in_err-text_of-in-Several-clause-asked g t c =
+    let s = g.C.Checking.setting c.args.checking.now in
+    let l = c.args.level.now in
+    let p = err_from_is_err_and c.from_residual-in_err-text_of-in-Several.result c.from_residual-in_err-text_of-in-Several.ensures.1 in
+    rw p.1 (candidates_raise s l.depth l.layout.now l.links.now c.args.step.now c.args.found.now c.args.signer.now.id.now 0 c.args.meter.now c.counted.new.meter (rw c.in-Several.is at c.in_ok-counted.ensures.asked))
+
+pub verify_id-returns-in_err-text_of-in-Several-2-clause-asked : goal.verify_id-returns-in_err-text_of-in-Several-2-clause-asked
+verify_id-returns-in_err-text_of-in-Several-2-clause-asked g t c =
+    let s = g.C.Checking.setting c.args.checking.now in
+    let l = c.args.level.now in
+    let p = err_from_is_err_and c.from_residual-in_err-text_of-in-Several-2.result c.from_residual-in_err-text_of-in-Several-2.ensures.1 in
+    rw p.1 (candidates_raise s l.depth l.layout.now l.links.now c.args.step.now c.args.found.now c.args.signer.now.id.now 0 c.args.meter.now c.counted.new.meter (rw c.in-Several.is at c.in_ok-counted.ensures.asked))
+
+pub verify_id-returns-in_ok-text_of-in-Several-2-clause-asked : goal.verify_id-returns-in_ok-text_of-in-Several-2-clause-asked
+verify_id-returns-in_ok-text_of-in-Several-2-clause-asked g t c =
+    let s = g.C.Checking.setting c.args.checking.now in
+    let l = c.args.level.now in
+    candidates_raise s l.depth l.layout.now l.links.now c.args.step.now c.args.found.now c.args.signer.now.id.now 0 c.args.meter.now c.counted.new.meter (rw c.in-Several.is at c.in_ok-counted.ensures.asked)
+
+pub verify_id-returns-in-Nothing-clause-asked : goal.verify_id-returns-in-Nothing-clause-asked
+verify_id-returns-in-Nothing-clause-asked g t c =
+    let s = g.C.Checking.setting c.args.checking.now in
+    let l = c.args.level.now in
+    candidates_raise s l.depth l.layout.now l.links.now c.args.step.now c.args.found.now c.args.signer.now.id.now 0 c.args.meter.now c.counted.new.meter (rw c.in-Nothing.is at c.in_ok-counted.ensures.asked)
+
+pub verify_id-returns-in_err-recorded-in-One-clause-asked : goal.verify_id-returns-in_err-recorded-in-One-clause-asked
+verify_id-returns-in_err-recorded-in-One-clause-asked g t c =
+    let s = g.C.Checking.setting c.args.checking.now in
+    let l = c.args.level.now in
+    let one = one_counts (holds_below s l.depth) (fails_below s l.depth) s l.layout.now l.links.now c.args.step.now c.args.signer.now.id.now c.args.signer.now.object.now c.args.found.now c.requires.candidates c.requires.listed c.requires.known
+    c.in-One.key c.in-One.body.now (rw c.in-One.is at c.in_ok-counted.ensures.answer) in
+    let p = err_from_is_err_and c.from_residual-in_err-recorded-in-One.result c.from_residual-in_err-recorded-in-One.ensures.1 in
+    rw p.1 (within_least 0 1 (OfId s l.depth l.layout.now l.links.now c.args.step.now c.args.found.now c.args.signer.now.id.now) c.args.meter.now c.verify_body.new.meter (omega arith)
+    (body_raises s l.depth l.layout.now l.links.now c.args.step.now c.args.found.now c.args.signer.now.id.now (holds_below s l.depth) c.in-One.key (as_body c.in-One.body.now) one c.args.meter.now c.counted.new.meter c.verify_body.new.meter
+    (rw c.in-One.is at c.in_ok-counted.ensures.asked) (rw c.as_str-name.ensures at c.in_err-recorded-in-One.ensures.asked)))
+
+pub verify_id-returns-in_err-text_of-in-One-clause-asked : goal.verify_id-returns-in_err-text_of-in-One-clause-asked
+verify_id-returns-in_err-text_of-in-One-clause-asked g t c =
+    let s = g.C.Checking.setting c.args.checking.now in
+    let l = c.args.level.now in
+    let one = one_counts (holds_below s l.depth) (fails_below s l.depth) s l.layout.now l.links.now c.args.step.now c.args.signer.now.id.now c.args.signer.now.object.now c.args.found.now c.requires.candidates c.requires.listed c.requires.known
+    c.in-One.key c.in-One.body.now (rw c.in-One.is at c.in_ok-counted.ensures.answer) in
+    let p = err_from_is_err_and c.from_residual-in_err-text_of-in-One.result c.from_residual-in_err-text_of-in-One.ensures.1 in
+    rw p.1 (within_least 0 1 (OfId s l.depth l.layout.now l.links.now c.args.step.now c.args.found.now c.args.signer.now.id.now) c.args.meter.now c.verify_body.new.meter (omega arith)
+    (body_raises s l.depth l.layout.now l.links.now c.args.step.now c.args.found.now c.args.signer.now.id.now (holds_below s l.depth) c.in-One.key (as_body c.in-One.body.now) one c.args.meter.now c.counted.new.meter c.verify_body.new.meter
+    (rw c.in-One.is at c.in_ok-counted.ensures.asked) (rw c.as_str-name.ensures at c.in_ok-recorded-in-One.ensures.asked)))
+
+pub verify_id-returns-in_ok-text_of-in-One-clause-asked : goal.verify_id-returns-in_ok-text_of-in-One-clause-asked
+verify_id-returns-in_ok-text_of-in-One-clause-asked g t c =
+    let s = g.C.Checking.setting c.args.checking.now in
+    let l = c.args.level.now in
+    let one = one_counts (holds_below s l.depth) (fails_below s l.depth) s l.layout.now l.links.now c.args.step.now c.args.signer.now.id.now c.args.signer.now.object.now c.args.found.now c.requires.candidates c.requires.listed c.requires.known
+    c.in-One.key c.in-One.body.now (rw c.in-One.is at c.in_ok-counted.ensures.answer) in
+    body_raises s l.depth l.layout.now l.links.now c.args.step.now c.args.found.now c.args.signer.now.id.now (holds_below s l.depth) c.in-One.key (as_body c.in-One.body.now) one c.args.meter.now c.counted.new.meter c.verify_body.new.meter
+    (rw c.in-One.is at c.in_ok-counted.ensures.asked) (rw c.as_str-name.ensures at c.in_ok-recorded-in-One.ensures.asked)

@@ -1,5 +1,6 @@
 use Rattle.std.proofs.Common.{rules, w64}
 use Rattle.std.proofs.lemmas.Int.{to_z-of_z}
+use Rattle.it_chain.proofs.LevelAsking.{chain_at_least, chain_at_most}
 use Rattle.it_chain.proofs.Walks.{ok_of, bad_of}
 use Rattle.it_chain.proofs.verify.verify_chain.Goals as goal
 
@@ -8,3 +9,10 @@ returns-clause-ok g c = rw (to_z-of_z w64 c.args.moment (search rules)) at (ok_o
 
 pub returns-clause-bad : goal.returns-clause-bad
 returns-clause-bad g c = rw (to_z-of_z w64 c.args.moment (search rules)) at (bad_of _ c.args.depth c.args.layout.now c.args.links.now c.verify_level.result c.verify_level.ensures.answer)
+
+pub returns-clause-at_most : goal.returns-clause-at_most
+returns-clause-at_most g c =
+    rw (to_z-of_z w64 c.args.moment (search rules)) at (chain_at_most _ c.args.depth c.args.layout.now c.args.links.now c.args.meter.now c.verify_level.new.meter c.verify_level.result c.verify_level.ensures.asked)
+
+pub returns-clause-at_least : goal.returns-clause-at_least
+returns-clause-at_least g c = chain_at_least _ c.args.depth c.args.layout.now c.args.links.now c.args.meter.now c.verify_level.new.meter c.verify_level.result c.verify_level.ensures.asked

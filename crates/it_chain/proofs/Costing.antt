@@ -3,7 +3,7 @@ use Rattle.std.proofs.Common.{◌≡◌, ◌≢◌, ℕ, ◌+◌, ◌*◌, ◌�
 use Rattle.std.specs.Cmp.Lexicographic.{nat_list_eq_equiv}
 use Rattle.std.specs.FinMap.{entries, entries_sorted}
 use Rattle.std.specs.List.{AllByRecursion, IsDistinct}
-use Rattle.std.specs.Set.{distinct_count, is_member, unique_keys}
+use Rattle.std.specs.Set.{distinct_count, unique_keys}
 use Rattle.std.proofs.lemmas.List.{length-map}
 use Rattle.std.proofs.lemmas.Map.Made.{is_member-Decides, length-le_from_is_member}
 use Rattle.std.proofs.lemmas.Nat.{mul-le}
@@ -30,6 +30,7 @@ use Rattle.it_chain.proofs.Members.{in_cases, in_head, in_none, in_tail, of_filt
 use Rattle.it_chain.proofs.Orders.{one_before}
 use Rattle.it_chain.proofs.Records.{is_listed}
 use Rattle.it_chain.proofs.SignerLists.{Rises, rises_filter}
+use Rattle.it_chain.proofs.Uniques.{in_unique}
 
 -- ---- sums over lists
 abbrev total : {X : Type 0} → (X → ℕ) → List X → ℕ
@@ -111,15 +112,6 @@ module _ (sub : Costing) (setting : Setting) (layout : Layout) (bundle : Content
       omega (arith, both, here, rest, h.4)
 
 -- ---- how many signers a step has
-unique_at : (x : List ℕ) (xs : List (List ℕ)) (q : List ℕ) (held : Bool) → is_member bytes_eq xs x ≡ held → Contains (x ∷ xs) q → (Contains xs q → Contains (unique_keys bytes_eq xs) q)
-    → Contains (cond held (unique_keys bytes_eq xs) (x ∷ unique_keys bytes_eq xs)) q
-unique_at x xs q true is c rest = ⊎_elim (λ same. rest (subst (Contains xs) same ((is_member-Decides bytes_eq-Decides xs x).0 is))) rest (in_cases x xs q c)
-unique_at x xs q false is c rest = ⊎_elim (λ same. subst (Contains (x ∷ unique_keys bytes_eq xs)) same (in_head x (unique_keys bytes_eq xs))) (λ later. in_tail x (unique_keys bytes_eq xs) q (rest later)) (in_cases x xs q c)
-
-in_unique : (xs : List (List ℕ)) (q : List ℕ) → Contains xs q → Contains (unique_keys bytes_eq xs) q
-in_unique [] q c = c
-in_unique (x ∷ xs) q c = unique_at x xs q (is_member bytes_eq xs x) refl c (in_unique xs q)
-
 not_same : (a b : List ℕ) (same : Bool) → bytes_eq a b ≡ same → IsBefore a b → same ≡ false
 not_same a b true is before = let e : a ≡ b = (bytes_eq-Decides a b).0 is in let itself : IsBefore b b = subst (λ t. IsBefore t b) e before in absurd (one_before b b itself itself)
 not_same a b false is before = refl
@@ -142,7 +134,7 @@ module _ {X : Type 0} where
   pub few_ids : (listed : List (List ℕ)) (es : List (List ℕ × X)) → Rises es → ((e : List ℕ × X) → Contains es e → Contains listed e.0) → length es ≤ distinct_count bytes_eq listed
   few_ids listed es rises all =
       let few = length-le_from_is_member nat_list_eq_equiv (map (λ (e : List ℕ × X). e.0) es) (unique_keys bytes_eq listed) (ids_distinct es rises)
-      (λ q is. (is_member-Decides bytes_eq-Decides (unique_keys bytes_eq listed) q).1 (in_unique listed q (ids_listed listed es all q ((is_member-Decides bytes_eq-Decides (map (λ (e : List ℕ × X). e.0) es) q).0 is)))) in
+      (λ q is. (is_member-Decides bytes_eq-Decides (unique_keys bytes_eq listed) q).1 (in_unique bytes_eq bytes_eq-Decides listed q (ids_listed listed es all q ((is_member-Decides bytes_eq-Decides (map (λ (e : List ℕ × X). e.0) es) q).0 is)))) in
       let same = length-map es (λ (e : List ℕ × X). e.0) in
       omega (arith, few, same)
 

@@ -30,10 +30,12 @@ pub mod Records
 pub mod SignerLists
 pub mod SignerWalks
 pub mod SoFar
+pub mod SomeCost
 pub mod Ruled
 pub mod SortedIds
 pub mod StepWalks
 pub mod Summaries
+pub mod Uniques
 pub mod Walks
 pub mod Withheld
 pub mod Zips

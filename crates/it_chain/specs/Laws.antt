@@ -7,6 +7,7 @@ use Rattle.it_chain.specs.Alike.{Alike, ComesToTheSame, FoldersCompare, HasCopie
 use Rattle.it_chain.specs.Answer.{answer}
 use Rattle.it_chain.specs.Chain.{Chain}
 use Rattle.it_chain.specs.Contents.{Contents}
+use Rattle.it_chain.specs.Cost.{Costs}
 use Rattle.it_chain.specs.Counted.{Setting, Found}
 use Rattle.it_chain.specs.First.{First}
 use Rattle.it_chain.specs.Lower.{Lower, AnswersRight}
@@ -96,3 +97,7 @@ abbrev pub HoldsOrFails : Type 0
 HoldsOrFails =
     (setting : Setting) (depth : ℕ) (layout : Layout) (bundle : Contents)
     → ((m : List StepResult) × Chain setting depth layout bundle m) ⊎ ((refusal : ChainRefusal) × First setting depth layout bundle refusal)
+
+-- a layout over a bundle costs some number of checks
+abbrev pub HasCost : Type 0
+HasCost = (setting : Setting) (depth : ℕ) (layout : Layout) (bundle : Contents) → (n : ℕ) × Costs setting depth layout bundle n

@@ -1,0 +1,163 @@
+-- That a layout over a bundle costs some number of checks.
+use Rattle.std.proofs.Common.{◌≡◌, ℕ, zero, suc, ◌+◌, ◌*◌, List, [], ◌∷◌, ◌++◌, length, filter_map, Bool, true, false, ◌&&◌, Option, None, Some, inl, inr, ⊎_elim, bytes_eq, Decides, Contains, refl, sym, ap, subst}
+use Rattle.std.specs.FinMap.{entries, get}
+use Rattle.std.specs.Set.{distinct_count, unique_keys}
+use Rattle.std.proofs.lemmas.Bool.Decides.{Decides-and, Decides-like}
+use Rattle.std.proofs.lemmas.List.Elements.{Contains-append_cases, Contains-append_left, Contains-append_right}
+use Rattle.std.proofs.lemmas.Map.Made.{is_member-Decides}
+use Rattle.std.proofs.lemmas.Option.{same_Some}
+use Rattle.std.proofs.lemmas.Slice.Eq.{bytes_eq-Decides}
+use Rattle.it_base.specs.Finds.{Finds}
+use Rattle.it_dsse.specs.Check.{KeyNumber}
+use Rattle.it_dsse.specs.Envelope.{EnvelopeOf}
+use Rattle.it_dsse.specs.declared.key_object.KeyObject.{KeyObject}
+use Rattle.it_docs.specs.Layout.{LayoutOf}
+use Rattle.it_docs.specs.declared.layout.Layout.{Layout}
+use Rattle.it_docs.specs.declared.step.Step.{Step}
+use Rattle.it_chain.specs.Answer.{payloads_for, signers}
+use Rattle.it_chain.specs.Contents.{Contents, files_of}
+use Rattle.it_chain.specs.Cost.{Costing, Costs, CostsIfFound, FileHas, HasSignatures, IsSublayout, IsSum, LevelCosts, StepCosts, no_cost}
+use Rattle.it_chain.specs.Counted.{Setting, Body}
+use Rattle.it_chain.specs.Lower.{AnswersRight, Lower}
+use Rattle.it_chain.specs.Names.{IsClaimed, folder_of}
+use Rattle.it_chain.specs.declared.bundle.File.{File}
+use Rattle.it_chain.proofs.Counting.{counts, listed}
+use Rattle.it_chain.proofs.Decided.{the_lower, the_lower-right}
+use Rattle.it_chain.proofs.Entries.{entry_known, known_entry}
+use Rattle.it_chain.proofs.Members.{in_cases, in_filter, in_filter_map, in_head, in_none, in_tail, of_filter, of_filter_map}
+use Rattle.it_chain.proofs.Records.{is_listed}
+use Rattle.it_chain.proofs.Uniques.{in_unique, of_unique, unique_differ}
+
+-- ---- sums, and what is found
+some_sum : {X : Type 0} (Cost : X → ℕ → Type 0) → ((x : X) → (n : ℕ) × Cost x n) → (xs : List X) → (n : ℕ) × IsSum Cost xs n
+some_sum Cost each [] = (0, refl)
+some_sum Cost each (x ∷ xs) = let first = each x in let others = some_sum Cost each xs in (first.0 + others.0, (first.0, others.0, first.1, others.1, refl))
+
+some_if_found : {X : Type 0} (Is : X → Type 0) (Cost : X → ℕ → Type 0) → ((x : X) → (n : ℕ) × Cost x n) → (found : Option X) → Finds Is found → (n : ℕ) × CostsIfFound Is Cost n
+some_if_found Is Cost each None none = (0, inr (none, refl))
+some_if_found Is Cost each (Some x) is = let cost = each x in (cost.0, inl (x, is, cost.1))
+
+finds_both : {X : Type 0} (A : Type 0) (P : X → Type 0) → A → (found : Option X) → Finds P found → Finds (λ x. A × P x) found
+finds_both A P a None none = λ x both. none x both.1
+finds_both A P a (Some x) is = (a, is)
+
+-- ---- pairs of texts
+abbrev is_pair : List ℕ × List ℕ → List ℕ × List ℕ → Bool
+is_pair a b = bytes_eq a.0 b.0 && bytes_eq a.1 b.1
+
+is_pair-Decides : (a b : List ℕ × List ℕ) → Decides (is_pair a b) (a ≡ b)
+is_pair-Decides a b =
+    Decides-like (is_pair a b) (λ h i. (h.0 i, h.1 i)) (λ e. (ap (λ (p : List ℕ × List ℕ). p.0) e, ap (λ (p : List ℕ × List ℕ). p.1) e))
+    (Decides-and (bytes_eq a.0 b.0) (bytes_eq a.1 b.1) (bytes_eq-Decides a.0 b.0) (bytes_eq-Decides a.1 b.1))
+
+-- the pair of an id and a payload that reads as a layout
+abbrev pair_if : List ℕ → List ℕ → Option Layout → Option (List ℕ × List ℕ)
+pair_if id payload None = None
+pair_if id payload (Some sublayout) = Some (id, payload)
+
+found_at : (id payload : List ℕ) (sublayout : Layout) (found : Option Layout) → Finds (LayoutOf payload) found → LayoutOf payload sublayout → pair_if id payload found ≡ Some (id, payload)
+found_at id payload sublayout None none is = absurd (none sublayout is)
+found_at id payload sublayout (Some l) found is = refl
+
+read_at : (id payload : List ℕ) (pair : List ℕ × List ℕ) (found : Option Layout) → Finds (LayoutOf payload) found → pair_if id payload found ≡ Some pair → (l : Layout) × LayoutOf payload l × ((id, payload) ≡ pair)
+read_at id payload pair None none e = cc
+read_at id payload pair (Some l) is e = (l, is, same_Some (id, payload) pair e)
+
+-- ---- what is listed for each of some elements
+module _ {X Y : Type 0} (f : X → List Y) where
+  joined : List X → List Y
+  joined [] = []
+  joined (x ∷ xs) = f x ++ joined xs
+
+  in_joined : (xs : List X) (x : X) (y : Y) → Contains xs x → Contains (f x) y → Contains (joined xs) y
+  unfolding joined
+  in_joined [] x y c d = absurd (in_none x c)
+  in_joined (z ∷ xs) x y c d =
+      ⊎_elim (λ head. Contains-append_left (f z) (joined xs) y (subst (λ w. Contains (f w) y) (sym head) d)) (λ later. Contains-append_right (f z) (joined xs) y (in_joined xs x y later d)) (in_cases z xs x c)
+
+  of_joined : (xs : List X) (y : Y) → Contains (joined xs) y → (x : X) × Contains xs x × Contains (f x) y
+  unfolding joined
+  of_joined [] y c = absurd (in_none y c)
+  of_joined (z ∷ xs) y c =
+      ⊎_elim (λ here. (z, in_head z xs, here)) (λ later. let found = of_joined xs y later in (found.0, in_tail z xs found.0 found.1, found.2)) (Contains-append_cases (f z) (joined xs) y c)
+
+module _ (lower : Lower) (right : AnswersRight lower) where
+  -- ---- the signatures of the files that are claimed
+  file_has : (step : Step) (file : File) (claimed : Bool) → lower.is_claimed step.name file.name ≡ claimed → (n : ℕ) × FileHas step file n
+  file_has step file true is =
+      some_if_found (λ envelope. IsClaimed step.name file.name × EnvelopeOf file.bytes envelope) HasSignatures (λ envelope. (length envelope.signatures, refl)) (lower.envelope_of file.bytes)
+      (finds_both (IsClaimed step.name file.name) (EnvelopeOf file.bytes) ((right.claimed step.name file.name).0 is) (lower.envelope_of file.bytes) (right.envelope file.bytes))
+  file_has step file false is = (0, inr (λ envelope h. let claimed : lower.is_claimed step.name file.name ≡ true = (right.claimed step.name file.name).1 h.0 in cc, refl))
+
+  -- ---- the sublayouts that count
+  module _ (setting : Setting) (layout : Layout) (bundle : Contents) (step : Step) where
+    abbrev sublayout_at : List ℕ → List ℕ × Body → Option (List ℕ × List ℕ)
+    sublayout_at id body = pair_if id body.0 (lower.layout_of body.0)
+
+    of_key : List ℕ → Option KeyNumber → List (List ℕ × List ℕ)
+    of_key id None = []
+    of_key id (Some key) = filter_map (sublayout_at id) (payloads_for lower setting step bundle id key)
+
+    abbrev of_signer : List ℕ × KeyObject → List (List ℕ × List ℕ)
+    of_signer signer = of_key signer.0 (setting.check.key_of signer.0 signer.1)
+
+    sublayouts : List (List ℕ × List ℕ)
+    sublayouts = unique_keys is_pair (joined of_signer (signers layout step))
+
+    counted_in : (id payload : List ℕ) → IsSublayout setting layout bundle step id payload → Contains sublayouts (id, payload)
+    unfolding sublayouts of_key
+    counted_in id payload h =
+        let c = h.counted in
+        let signer : Contains (signers layout step) (id, c.object) =
+        in_filter (is_listed step) (entries layout.keys) (id, c.object) ((is_member-Decides bytes_eq-Decides step.pubkeys id).1 c.listed) (known_entry layout.keys id c.object c.known) in
+        let among : Contains (of_key id (Some c.key)) (id, payload) =
+        in_filter_map (sublayout_at id) (payloads_for lower setting step bundle id c.key) (payload, c.body) (id, payload) (found_at id payload h.sublayout (lower.layout_of payload) (right.layout payload) h.reads)
+        (listed lower right setting step layout bundle id payload c) in
+        in_unique is_pair is_pair-Decides (joined of_signer (signers layout step)) (id, payload)
+        (in_joined of_signer (signers layout step) (id, c.object) (id, payload) signer (subst (λ k. Contains (of_key id k) (id, payload)) (sym c.signed.key) among))
+
+    of_numbered : (id : List ℕ) (object : KeyObject) (pair : List ℕ × List ℕ) → Contains step.pubkeys id → get layout.keys id ≡ Some object → (number : Option KeyNumber) → setting.check.key_of id object ≡ number
+        → Contains (of_key id number) pair → IsSublayout setting layout bundle step pair.0 pair.1
+    unfolding of_key
+    of_numbered id object pair pubkey known None numbered c = absurd (in_none pair c)
+    of_numbered id object pair pubkey known (Some key) numbered c =
+        let made = of_filter_map (sublayout_at id) (payloads_for lower setting step bundle id key) pair c in
+        let read = read_at id made.0.0 pair (lower.layout_of made.0.0) (right.layout made.0.0) made.1 in
+        let counted = counts lower right setting step layout bundle id made.0.0 object key made.0.1 pubkey known numbered made.2 in
+        subst (λ (p : List ℕ × List ℕ). IsSublayout setting layout bundle step p.0 p.1) read.2 (record { sublayout = read.0; counted = counted.0; reads = read.1 })
+
+    counted_of : (id payload : List ℕ) → Contains sublayouts (id, payload) → IsSublayout setting layout bundle step id payload
+    unfolding sublayouts
+    counted_of id payload c =
+        let signer = of_joined of_signer (signers layout step) (id, payload) (of_unique is_pair is_pair-Decides (joined of_signer (signers layout step)) (id, payload) c) in
+        let entry = of_filter (is_listed step) (entries layout.keys) signer.0 signer.1 in
+        of_numbered signer.0.0 signer.0.1 (id, payload) ((is_member-Decides bytes_eq-Decides step.pubkeys signer.0.0).0 entry.0) (entry_known layout.keys signer.0 entry.1)
+        (setting.check.key_of signer.0.0 signer.0.1) refl signer.2
+
+    step_costs : (sub : Costing) → ((l : Layout) (b : Contents) → (n : ℕ) × sub l b n) → (n : ℕ) × StepCosts sub setting layout bundle step n
+    unfolding sublayouts
+    step_costs sub each =
+        let files = some_sum (FileHas step) (λ file. file_has step file (lower.is_claimed step.name file.name) refl) (files_of bundle) in
+        let below = some_sum (λ (body : List ℕ × List ℕ). CostsIfFound (LayoutOf body.1) (λ sublayout. sub sublayout (folder_of step.name body.0 bundle)))
+        (λ body. some_if_found (LayoutOf body.1) (λ sublayout. sub sublayout (folder_of step.name body.0 bundle)) (λ sublayout. each sublayout (folder_of step.name body.0 bundle)) (lower.layout_of body.1) (right.layout body.1)) sublayouts in (
+          distinct_count bytes_eq step.pubkeys * files.0 + below.0,
+          record {
+            signatures = files.0;
+            sublayouts = below.0;
+            of_files = files.1;
+            of_sublayouts = record {
+              bodies = sublayouts;
+              once = unique_differ is_pair is_pair-Decides (joined of_signer (signers layout step));
+              are_those = λ id payload. (counted_of id payload, counted_in id payload);
+              sum = below.1;
+            };
+            sum = refl;
+          },
+        )
+
+level_costs : (sub : Costing) → ((l : Layout) (b : Contents) → (n : ℕ) × sub l b n) → (setting : Setting) (layout : Layout) (bundle : Contents) → (n : ℕ) × LevelCosts sub setting layout bundle n
+level_costs sub each setting layout bundle = some_sum (StepCosts sub setting layout bundle) (λ step. step_costs the_lower the_lower-right setting layout bundle step sub each) layout.steps
+
+pub some_cost : (setting : Setting) (depth : ℕ) (layout : Layout) (bundle : Contents) → (n : ℕ) × Costs setting depth layout bundle n
+some_cost setting zero layout bundle = level_costs no_cost (λ l b. (0, refl)) setting layout bundle
+some_cost setting (suc depth) layout bundle = level_costs (Costs setting depth) (some_cost setting depth) setting layout bundle

@@ -22,6 +22,7 @@ pub mod Levels
 pub mod Lookups
 pub mod Members
 pub mod Numbers
+pub mod OneCost
 pub mod OneFirst
 pub mod Orders
 pub mod Others

@@ -1,8 +1,7 @@
 -- That a layout over a bundle costs some number of checks.
-use Rattle.std.proofs.Common.{◌≡◌, ℕ, zero, suc, ◌+◌, ◌*◌, List, [], ◌∷◌, ◌++◌, length, filter_map, Bool, true, false, ◌&&◌, Option, None, Some, inl, inr, ⊎_elim, bytes_eq, Decides, Contains, refl, sym, ap, subst}
+use Rattle.std.proofs.Common.{◌≡◌, ℕ, zero, suc, ◌+◌, ◌*◌, List, [], ◌∷◌, ◌++◌, length, filter_map, Bool, true, false, Option, None, Some, inl, inr, ⊎_elim, bytes_eq, Contains, refl, sym, subst}
 use Rattle.std.specs.FinMap.{entries, get}
 use Rattle.std.specs.Set.{distinct_count, unique_keys}
-use Rattle.std.proofs.lemmas.Bool.Decides.{Decides-and, Decides-like}
 use Rattle.std.proofs.lemmas.List.Elements.{Contains-append_cases, Contains-append_left, Contains-append_right}
 use Rattle.std.proofs.lemmas.Map.Made.{is_member-Decides}
 use Rattle.std.proofs.lemmas.Option.{same_Some}
@@ -26,7 +25,7 @@ use Rattle.it_chain.proofs.Decided.{the_lower, the_lower-right}
 use Rattle.it_chain.proofs.Entries.{entry_known, known_entry}
 use Rattle.it_chain.proofs.Members.{in_cases, in_filter, in_filter_map, in_head, in_none, in_tail, of_filter, of_filter_map}
 use Rattle.it_chain.proofs.Records.{is_listed}
-use Rattle.it_chain.proofs.Uniques.{in_unique, of_unique, unique_differ}
+use Rattle.it_chain.proofs.Uniques.{in_unique, pair_eq, pair_eq-Decides, of_unique, unique_differ}
 
 -- ---- sums, and what is found
 some_sum : {X : Type 0} (Cost : X → ℕ → Type 0) → ((x : X) → (n : ℕ) × Cost x n) → (xs : List X) → (n : ℕ) × IsSum Cost xs n
@@ -40,15 +39,6 @@ some_if_found Is Cost each (Some x) is = let cost = each x in (cost.0, inl (x, i
 finds_both : {X : Type 0} (A : Type 0) (P : X → Type 0) → A → (found : Option X) → Finds P found → Finds (λ x. A × P x) found
 finds_both A P a None none = λ x both. none x both.1
 finds_both A P a (Some x) is = (a, is)
-
--- ---- pairs of texts
-abbrev is_pair : List ℕ × List ℕ → List ℕ × List ℕ → Bool
-is_pair a b = bytes_eq a.0 b.0 && bytes_eq a.1 b.1
-
-is_pair-Decides : (a b : List ℕ × List ℕ) → Decides (is_pair a b) (a ≡ b)
-is_pair-Decides a b =
-    Decides-like (is_pair a b) (λ h i. (h.0 i, h.1 i)) (λ e. (ap (λ (p : List ℕ × List ℕ). p.0) e, ap (λ (p : List ℕ × List ℕ). p.1) e))
-    (Decides-and (bytes_eq a.0 b.0) (bytes_eq a.1 b.1) (bytes_eq-Decides a.0 b.0) (bytes_eq-Decides a.1 b.1))
 
 -- the pair of an id and a payload that reads as a layout
 abbrev pair_if : List ℕ → List ℕ → Option Layout → Option (List ℕ × List ℕ)
@@ -102,7 +92,7 @@ module _ (lower : Lower) (right : AnswersRight lower) where
     of_signer signer = of_key signer.0 (setting.check.key_of signer.0 signer.1)
 
     sublayouts : List (List ℕ × List ℕ)
-    sublayouts = unique_keys is_pair (joined of_signer (signers layout step))
+    sublayouts = unique_keys pair_eq (joined of_signer (signers layout step))
 
     counted_in : (id payload : List ℕ) → IsSublayout setting layout bundle step id payload → Contains sublayouts (id, payload)
     unfolding sublayouts of_key
@@ -113,7 +103,7 @@ module _ (lower : Lower) (right : AnswersRight lower) where
         let among : Contains (of_key id (Some c.key)) (id, payload) =
         in_filter_map (sublayout_at id) (payloads_for lower setting step bundle id c.key) (payload, c.body) (id, payload) (found_at id payload h.sublayout (lower.layout_of payload) (right.layout payload) h.reads)
         (listed lower right setting step layout bundle id payload c) in
-        in_unique is_pair is_pair-Decides (joined of_signer (signers layout step)) (id, payload)
+        in_unique pair_eq pair_eq-Decides (joined of_signer (signers layout step)) (id, payload)
         (in_joined of_signer (signers layout step) (id, c.object) (id, payload) signer (subst (λ k. Contains (of_key id k) (id, payload)) (sym c.signed.key) among))
 
     of_numbered : (id : List ℕ) (object : KeyObject) (pair : List ℕ × List ℕ) → Contains step.pubkeys id → get layout.keys id ≡ Some object → (number : Option KeyNumber) → setting.check.key_of id object ≡ number
@@ -129,7 +119,7 @@ module _ (lower : Lower) (right : AnswersRight lower) where
     counted_of : (id payload : List ℕ) → Contains sublayouts (id, payload) → IsSublayout setting layout bundle step id payload
     unfolding sublayouts
     counted_of id payload c =
-        let signer = of_joined of_signer (signers layout step) (id, payload) (of_unique is_pair is_pair-Decides (joined of_signer (signers layout step)) (id, payload) c) in
+        let signer = of_joined of_signer (signers layout step) (id, payload) (of_unique pair_eq pair_eq-Decides (joined of_signer (signers layout step)) (id, payload) c) in
         let entry = of_filter (is_listed step) (entries layout.keys) signer.0 signer.1 in
         of_numbered signer.0.0 signer.0.1 (id, payload) ((is_member-Decides bytes_eq-Decides step.pubkeys signer.0.0).0 entry.0) (entry_known layout.keys signer.0 entry.1)
         (setting.check.key_of signer.0.0 signer.0.1) refl signer.2
@@ -147,7 +137,7 @@ module _ (lower : Lower) (right : AnswersRight lower) where
             of_files = files.1;
             of_sublayouts = record {
               bodies = sublayouts;
-              once = unique_differ is_pair is_pair-Decides (joined of_signer (signers layout step));
+              once = unique_differ pair_eq pair_eq-Decides (joined of_signer (signers layout step));
               are_those = λ id payload. (counted_of id payload, counted_in id payload);
               sum = below.1;
             };

@@ -1,11 +1,24 @@
--- The keys of a list, each once.
-use Rattle.std.proofs.Common.{◌≡◌, ◌≢◌, List, [], ◌∷◌, Bool, true, false, cond, Decides, Contains, ⊎_elim, refl, sym, subst}
+-- The keys of a list, each once, and pairs of texts as keys.
+use Rattle.std.proofs.Common.{◌≡◌, ◌≢◌, ℕ, List, [], ◌∷◌, Bool, true, false, ◌&&◌, cond, bytes_eq, Decides, Contains, ⊎_elim, refl, sym, ap, subst}
 use Rattle.std.specs.List.{AllByRecursion, AllPairs, IsDistinct}
 use Rattle.std.specs.Set.{is_member, unique_keys}
+use Rattle.std.proofs.lemmas.Bool.Decides.{Decides-and, Decides-like}
 use Rattle.std.proofs.lemmas.Map.Keys.{IsDistinct-cons}
 use Rattle.std.proofs.lemmas.Map.Made.{AllPairs-from_IsDistinct, is_member-Decides}
+use Rattle.std.proofs.lemmas.Slice.Eq.{bytes_eq-Decides}
 use Rattle.it_chain.proofs.Members.{in_cases, in_head, in_tail}
 
+-- ---- pairs of texts
+-- whether two pairs are one
+abbrev pub pair_eq : List ℕ × List ℕ → List ℕ × List ℕ → Bool
+pair_eq a b = bytes_eq a.0 b.0 && bytes_eq a.1 b.1
+
+pub pair_eq-Decides : (a b : List ℕ × List ℕ) → Decides (pair_eq a b) (a ≡ b)
+pair_eq-Decides a b =
+    Decides-like (pair_eq a b) (λ h i. (h.0 i, h.1 i)) (λ e. (ap (λ (p : List ℕ × List ℕ). p.0) e, ap (λ (p : List ℕ × List ℕ). p.1) e))
+    (Decides-and (bytes_eq a.0 b.0) (bytes_eq a.1 b.1) (bytes_eq-Decides a.0 b.0) (bytes_eq-Decides a.1 b.1))
+
+-- ---- each key once
 module _ {K : Type 0} (eq : K → K → Bool) (same : (a b : K) → Decides (eq a b) (a ≡ b)) where
   in_unique_at : (x : K) (xs : List K) (q : K) (held : Bool) → is_member eq xs x ≡ held → Contains (x ∷ xs) q → (Contains xs q → Contains (unique_keys eq xs) q) → Contains (cond held (unique_keys eq xs) (x ∷ unique_keys eq xs)) q
   in_unique_at x xs q true is c rest = ⊎_elim (λ head. rest (subst (Contains xs) head ((is_member-Decides same xs x).0 is))) rest (in_cases x xs q c)
@@ -35,7 +48,7 @@ module _ {K : Type 0} (eq : K → K → Bool) (same : (a b : K) → Decides (eq 
   distinct_at x xs true is rest = rest
   distinct_at x xs false is rest = IsDistinct-cons eq x (unique_keys eq xs) (all_unlike x (unique_keys eq xs) (λ y c. unlike x y xs (eq x y) refl is (of_unique xs y c))) rest
 
-  unique_distinct : (xs : List K) → IsDistinct eq (unique_keys eq xs)
+  pub unique_distinct : (xs : List K) → IsDistinct eq (unique_keys eq xs)
   unfolding IsDistinct
   unique_distinct [] = tt
   unique_distinct (x ∷ xs) = distinct_at x xs (is_member eq xs x) refl (unique_distinct xs)

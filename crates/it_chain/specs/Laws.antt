@@ -101,3 +101,9 @@ HoldsOrFails =
 -- a layout over a bundle costs some number of checks
 abbrev pub HasCost : Type 0
 HasCost = (setting : Setting) (depth : ℕ) (layout : Layout) (bundle : Contents) → (n : ℕ) × Costs setting depth layout bundle n
+
+-- and no other
+abbrev pub CostIsOne : Type 0
+CostIsOne =
+    (setting : Setting) (depth : ℕ) (layout : Layout) (bundle : Contents) (m n : ℕ)
+    → Costs setting depth layout bundle m → Costs setting depth layout bundle n → m ≡ n

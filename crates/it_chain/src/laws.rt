@@ -1,6 +1,6 @@
 //! Laws about the definitions of chains: functions that do nothing, and whose contracts say what is
 //! true of every layout, bundle and check.
-ghost use Rattle.it_chain.specs.Laws.{AlikeChains, AnswerIsRight, ChainGoesDeeper, ChainIsOne, ChainOrFirst, FirstIsOne, FoundIsOne, HasCost, HoldsOrFails, NoiseIsAlike, SomeAnswersRight, WithheldChains};
+ghost use Rattle.it_chain.specs.Laws.{AlikeChains, AnswerIsRight, ChainGoesDeeper, ChainIsOne, ChainOrFirst, CostIsOne, FirstIsOne, FoundIsOne, HasCost, HoldsOrFails, NoiseIsAlike, SomeAnswersRight, WithheldChains};
 
 /// The number of different keys that signed what counts for a step is one number.
 pub fn found_is_one()
@@ -63,7 +63,12 @@ pub fn holds_or_fails()
     ensures { HoldsOrFails }
 {}
 
-/// A layout over a bundle costs some number of checks, so that the bound on checks is never empty.
+/// A layout over a bundle costs some number of checks: with `cost_is_one`, always just one.
 pub fn has_cost()
     ensures { HasCost }
+{}
+
+/// A layout over a bundle costs one number of checks at most.
+pub fn cost_is_one()
+    ensures { CostIsOne }
 {}

@@ -1,6 +1,7 @@
 -- How many checks of validity a verification may ask for (a word of this project; no standard speaks
 -- of it).
-use Rattle.std.specs.Prelude.{◌≡◌, ℕ, ◌+◌, ◌*◌, List, length}
+use Rattle.std.specs.Prelude.{◌≡◌, ◌≤◌, ℕ, ◌+◌, ◌-◌, ◌*◌, ◌^◌, List, length, min, ⊤}
+use Rattle.std.specs.List.{sum_by}
 use Rattle.std.specs.FinMap.{keys, len}
 use Rattle.it_digest.specs.Sums.{lines_of}
 use Rattle.it_dsse.specs.Check.{Check}
@@ -12,8 +13,10 @@ use Rattle.it_docs.specs.declared.policy.Policy.{Policy}
 use Rattle.it_chain.specs.Cost.{Costs as ChainCosts, CostsIfFound, HasSignatures, IsSum}
 use Rattle.it_prov.specs.Cost.{key_count}
 use Rattle.it_prov.specs.Fits.{Fits}
-use Rattle.it_verify.specs.Documents.{ReadAs, setting_of}
+use Rattle.it_verify.specs.Documents.{Documents, ReadAs, setting_of}
 use Rattle.it_verify.specs.declared.inputs.Inputs.{Inputs}
+use Rattle.it_verify.specs.declared.verdict.Verdict.{Verdict}
+use Rattle.it_verify.specs.declared.verdict.Verdict.TheVariants.{Accepted, Refused}
 
 -- a policy and an envelope that the inputs read as
 abbrev pub AreOwners : Inputs → Policy × Envelope → Type 0
@@ -23,9 +26,21 @@ AreOwners inputs (policy, envelope) = PolicyOf inputs.policy policy × EnvelopeO
 abbrev pub OwnersCost : Inputs → ℕ → Type 0
 OwnersCost inputs = CostsIfFound (AreOwners inputs) (λ read n. n ≡ len read.0.owners * length read.1.signatures)
 
+-- how many signatures the lines of the provenance have that read as envelopes
+abbrev pub LinesHave : Inputs → ℕ → Type 0
+LinesHave inputs = IsSum (λ line. CostsIfFound (EnvelopeOf line) HasSignatures) (lines_of inputs.provenance)
+
 -- a delivered file costs a check for each key of the expected builders and each signature
 abbrev pub FileCosts : List Expectation → ℕ → List ℕ → ℕ → Type 0
 FileCosts expectations signatures path = CostsIfFound (Fits expectations path) (λ expectation n. n ≡ key_count expectation.builders * signatures)
+
+-- what the layout costs over the links
+abbrev pub LinksCost : Check → Inputs → Documents → ℕ → Type 0
+LinksCost check inputs documents = ChainCosts (setting_of check documents) inputs.depth documents.layout inputs.links
+
+-- what the delivered files cost, over so many signatures
+abbrev pub FilesCost : Documents → ℕ → ℕ → Type 0
+FilesCost documents signatures = IsSum (FileCosts documents.policy.expectations signatures) (keys documents.delivered)
 
 -- what a verification costs: what the owners cost, what the layout costs over the links, and what the
 -- delivered files cost
@@ -35,7 +50,17 @@ pub record Costs (check : Check) (inputs : Inputs) (n : ℕ) : Type 0 where
   pub signatures : ℕ
   pub files : ℕ
   pub of_owners : OwnersCost inputs owners
-  pub of_links : CostsIfFound (ReadAs inputs) (λ documents. ChainCosts (setting_of check documents) inputs.depth documents.layout inputs.links) links
-  pub of_lines : IsSum (λ line. CostsIfFound (EnvelopeOf line) HasSignatures) (lines_of inputs.provenance) signatures
-  pub of_files : CostsIfFound (ReadAs inputs) (λ documents. IsSum (FileCosts documents.policy.expectations signatures) (keys documents.delivered)) files
+  pub of_links : CostsIfFound (ReadAs inputs) (LinksCost check inputs) links
+  pub of_lines : LinesHave inputs signatures
+  pub of_files : CostsIfFound (ReadAs inputs) (λ documents. FilesCost documents signatures) files
   pub sum : n ≡ owners + links + files
+
+-- the fewest checks that an accepted verdict takes: one for each owner, each key that signed for a step,
+-- and each delivered file
+abbrev pub fewest : Policy → List (List ℕ × ℕ) → List (List ℕ) → ℕ
+fewest policy steps files = len policy.owners + sum_by (λ step. step.1) steps + length files
+
+-- a verdict that accepts took at least that many, as far as the count had room
+abbrev pub AsksEnough : Inputs → ℕ → Verdict → Type 0
+AsksEnough inputs asked (Accepted steps files) = (policy : Policy) → PolicyOf inputs.policy policy → min (fewest policy steps files) (2 ^ 64 - 1) ≤ asked
+AsksEnough inputs asked (Refused refusal) = ⊤

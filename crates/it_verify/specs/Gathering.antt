@@ -1,6 +1,6 @@
 -- What the functions that gather evidence and judge it come to, in the words of the definitions. Nothing
 -- that is trusted stands here.
-use Rattle.std.specs.Prelude.{◌≡◌, ◌≢◌, ◌⊎◌, ℕ, List, [], ◌∷◌, Option, Some, None, Result, Ok, Err, option_map, ⊤}
+use Rattle.std.specs.Prelude.{◌≡◌, ◌≢◌, ◌≤◌, ◌⊎◌, ℕ, List, [], ◌∷◌, Option, Some, None, Result, Ok, Err, option_map, ⊤}
 use Rattle.std.specs.Borrow.{Bor}
 use Rattle.std.specs.BTreeMap.{BTreeMap, get_by}
 use Rattle.std.specs.Cmp.Lexicographic.{slice_cmp}
@@ -12,9 +12,12 @@ use Rattle.it_digest.specs.declared.compare.DigestSet.{DigestSet}
 use Rattle.it_dsse.specs.Check.{Check}
 use Rattle.it_dsse.specs.Envelope.{EnvelopeOf}
 use Rattle.it_dsse.specs.declared.envelope.Envelope.{Envelope}
+use Rattle.it_dsse.specs.declared.meter.Meter.{Meter}
 use Rattle.it_docs.specs.Link.{LinkOf}
 use Rattle.it_docs.specs.declared.link.Link.{Link}
+use Rattle.it_docs.specs.Policy.{PolicyOf}
 use Rattle.it_docs.specs.declared.policy.Expectation.{Expectation}
+use Rattle.it_docs.specs.declared.policy.Policy.{Policy}
 use Rattle.it_docs.specs.declared.rule.Rule.{Rule}
 use Rattle.it_docs.specs.declared.rule.Side.{Side}
 use Rattle.it_docs.specs.declared.rule.Side.TheVariants.{Products}
@@ -23,13 +26,18 @@ use Rattle.it_rules.specs.Rules.{IsFirstFault}
 use Rattle.it_chain.specs.declared.refusal.ChainError.{ChainError}
 use Rattle.it_chain.specs.declared.refusal.ChainError.TheVariants as chain
 use Rattle.it_chain.specs.declared.refusal.RuleItem.TheVariants.{Deliver, Inspection as of_inspection}
+use Rattle.it_prov.specs.Cost.{RaisedBy}
 use Rattle.it_prov.specs.Finding.{IsFound, IsMissing, NoneFits}
+use Rattle.it_verify.specs.Cost.{fewest}
 use Rattle.it_verify.specs.First.{refusal_of, whole}
 use Rattle.it_verify.specs.Made.{delivery, recorded_in}
 use Rattle.it_verify.specs.declared.failure.Failure.{Failure}
 use Rattle.it_verify.specs.declared.failure.Failure.TheVariants.{Refused, OutOfMemory}
 use Rattle.it_verify.specs.declared.refusal.Fault.TheVariants.{RecordMissing, BadRecord, RuleFailed, NoExpectation, NoProvenance}
+use Rattle.it_verify.specs.declared.inputs.Inputs.{Inputs}
 use Rattle.it_verify.specs.declared.refusal.Refusal.{Refusal}
+use Rattle.it_verify.specs.declared.verdict.Verdict.{Verdict}
+use Rattle.it_verify.specs.declared.verdict.Verdict.TheVariants as verdict
 
 -- ---- the links
 -- why a layout does not hold of its links, as a failure of the whole
@@ -86,3 +94,9 @@ module _ (check : Check) (expectations : List Expectation) (envelopes : List Env
   FileLacks file refusal =
       (NoneFits expectations file.0 × (refusal ≡ whole (NoExpectation file.0)))
       ⊎ (IsMissing check expectations file.0 file.1 envelopes × (refusal ≡ whole (NoProvenance file.0)))
+
+-- ---- the whole
+-- a verdict that accepts raised a meter by the fewest checks that it takes, or more
+abbrev pub TakesEnough : Inputs → Meter → Meter → Verdict → Type 0
+TakesEnough inputs old new (verdict.Accepted steps files) = (policy : Policy) → PolicyOf inputs.policy policy → RaisedBy (λ n. fewest policy steps files ≤ n) old new
+TakesEnough inputs old new (verdict.Refused refusal) = ⊤

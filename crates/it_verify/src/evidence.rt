@@ -1,5 +1,8 @@
 //! What the steps of a layout and its inspections recorded.
-ghost use Rattle.std.specs.Prelude.{◌≤◌, MatchResult};
+ghost use Rattle.std.specs.Prelude.{◌≤◌, IfOk, MatchResult, ℕ};
+ghost use Rattle.std.specs.List.{sum_by};
+ghost use Rattle.it_prov.specs.Cost.{RaisedBy};
+ghost use Rattle.it_verify.specs.Cost.{LinksCost};
 ghost use Rattle.it_verify.specs.First.{First};
 ghost use Rattle.it_verify.specs.Made.{IsEvidence};
 ghost use Rattle.it_verify.specs.Walk.{DocumentsHold, RefusedAs};
@@ -44,6 +47,10 @@ pub(crate) fn gather(
     ensures evidence { MatchResult result
         (IsEvidence (meaning check.now) inputs.now documents.now)
         (RefusedAs (First (meaning check.now) inputs.now)) }
+    ensures at_most { (most : ℕ) → LinksCost (meaning check.now) inputs.now documents.now most
+        → RaisedBy (λ n. n ≤ most) meter.old meter.new }
+    ensures at_least { IfOk result (λ evidence.
+        RaisedBy (λ n. sum_by (λ step. step.keys) evidence.steps ≤ n) meter.old meter.new) }
 {
     let chain = verify_chain(
         alloc,

@@ -1,9 +1,12 @@
 //! Whether each delivered file has provenance.
-ghost use Rattle.std.specs.Prelude.{IfOk, MatchResult};
-ghost use Rattle.std.specs.FinMap.{entries};
+ghost use Rattle.std.specs.Prelude.{◌≤◌, IfOk, MatchResult, OnOk, ℕ};
+ghost use Rattle.std.specs.FinMap.{entries, keys, len};
 ghost use Rattle.std.specs.List.{AllByRecursion};
 ghost use Rattle.it_digest.specs.Sums.{lines_of};
+ghost use Rattle.it_chain.specs.Cost.{IsSum};
 ghost use Rattle.it_chain.specs.First.{IsFirst};
+ghost use Rattle.it_prov.specs.Cost.{RaisedBy, signature_count};
+ghost use Rattle.it_verify.specs.Cost.{FileCosts};
 ghost use Rattle.it_verify.specs.Gathering.{AreRead, FileLacks, FileProven};
 ghost use Rattle.it_verify.specs.Walk.{RefusedAs};
 
@@ -60,6 +63,10 @@ pub(crate) fn find_each(
     ensures provenance { MatchResult result
         (λ _. AllByRecursion (FileProven (meaning check.now) expectations.now envelopes.now) (entries delivered.now))
         (RefusedAs (IsFirst (FileLacks (meaning check.now) expectations.now envelopes.now) (entries delivered.now))) }
+    ensures at_most { (most : ℕ)
+        → IsSum (FileCosts expectations.now (signature_count envelopes.now)) (keys delivered.now) most
+        → RaisedBy (λ n. n ≤ most) meter.old meter.new }
+    ensures at_least { OnOk result (RaisedBy (λ n. len delivered.now ≤ n) meter.old meter.new) }
 {
     for (path, digests) in delivered.iter() {
         find_one(
@@ -88,6 +95,10 @@ fn find_one(
     ensures provenance { MatchResult result
         (λ _. FileProven (meaning check.now) expectations.now envelopes.now (path.now, digests))
         (RefusedAs (FileLacks (meaning check.now) expectations.now envelopes.now (path.now, digests))) }
+    ensures at_most { (most : ℕ)
+        → FileCosts expectations.now (signature_count envelopes.now) path.now most
+        → RaisedBy (λ n. n ≤ most) meter.old meter.new }
+    ensures at_least { OnOk result (RaisedBy (λ n. 1 ≤ n) meter.old meter.new) }
 {
     match find_provenance(alloc, path, digests, expectations, envelopes, check, meter) {
         Ok(_) => Ok(()),

@@ -1,7 +1,10 @@
 //! Whether a delivery is accepted.
-ghost use Rattle.std.specs.Prelude.{◌≡◌, ◌≤◌, IfOk, MatchResult, map};
+ghost use Rattle.std.specs.Prelude.{◌≡◌, ◌≤◌, IfOk, MatchResult, map, ℕ};
 ghost use Rattle.std.specs.FinMap.{keys};
+ghost use Rattle.it_prov.specs.Cost.{RaisedBy};
+ghost use Rattle.it_verify.specs.Cost.{AsksEnough, Costs};
 ghost use Rattle.it_verify.specs.First.{First};
+ghost use Rattle.it_verify.specs.Gathering.{TakesEnough};
 ghost use Rattle.it_verify.specs.Made.{Made, verdict_of};
 ghost use Rattle.it_verify.specs.Verdict.{IsVerdict, OnAccepted, OnRefused};
 ghost use Rattle.it_verify.specs.Walk.{RefusedAs};
@@ -29,6 +32,12 @@ use std::alloc::{AllocError, Global};
 /// delivered, and each delivered file has signed provenance that meets its expectation. Otherwise it is
 /// `Refused`, with the first thing that does not hold.
 ///
+/// A check is asked for at most once for each owner and each signature of the layout, for each id of a
+/// step and each signature of a file that is claimed for it, and so in sublayouts, and for each key of
+/// the builders that are expected of a delivered file and each signature of the provenance. Where the
+/// verdict is `Accepted`, one was asked for at least for each owner, each key of a step and each
+/// delivered file.
+///
 /// # Errors
 ///
 /// `AllocError` where memory was refused.
@@ -41,6 +50,9 @@ pub fn verify(
     ensures answers { IfOk result (λ answer. IsVerdict (meaning check.now) inputs.now answer.verdict) }
     ensures accepted { IfOk result (λ answer. OnAccepted answer.verdict (Made (meaning check.now) inputs.now)) }
     ensures refused { IfOk result (λ answer. OnRefused answer.verdict (¬ Made (meaning check.now) inputs.now)) }
+    ensures asked_at_most { IfOk result (λ answer. (most : ℕ)
+        → Costs (meaning check.now) inputs.now most → answer.asked ≤ most) }
+    ensures asked_at_least { IfOk result (λ answer. AsksEnough inputs.now answer.asked answer.verdict) }
 {
     let mut meter = Meter { asked: 0 };
     let verdict = verdict_on(alloc, inputs, check, &mut meter)?;
@@ -59,6 +71,9 @@ fn verdict_on(
 ) -> Result<Verdict, AllocError>
     requires { inputs.now.depth ≤ 8 }
     ensures verdict { IfOk result (IsVerdict (meaning check.now) inputs.now) }
+    ensures at_most { (most : ℕ) → Costs (meaning check.now) inputs.now most
+        → RaisedBy (λ n. n ≤ most) meter.old meter.new }
+    ensures at_least { IfOk result (TakesEnough inputs.now meter.old meter.new) }
 {
     match accepted(alloc, inputs, check, meter) {
         Ok(verdict) => Ok(verdict),
@@ -77,25 +92,27 @@ fn accepted(
     requires { inputs.now.depth ≤ 8 }
     ensures verdict { MatchResult result (IsVerdict (meaning check.now) inputs.now)
         (RefusedAs (First (meaning check.now) inputs.now)) }
+    ensures at_most { (most : ℕ) → Costs (meaning check.now) inputs.now most
+        → RaisedBy (λ n. n ≤ most) meter.old meter.new }
+    ensures at_least { IfOk result (TakesEnough inputs.now meter.old meter.new) }
 {
     let documents = read_documents(alloc, inputs, check, meter)?;
     let evidence = gather(alloc, inputs, &documents, check, meter)?;
     judge(alloc, inputs, &documents, &evidence, check, meter)?;
-    Ok(verdict_of(alloc, &documents.delivered, evidence)?)
+    Ok(verdict_of(alloc, &documents, evidence)?)
 }
 
 /// The verdict that accepts what was delivered with this evidence.
 fn verdict_of(
     alloc: Global,
-    delivered: &Artifacts,
+    documents: &Documents,
     evidence: Evidence,
 ) -> Result<Verdict, AllocError>
-    ensures verdict { IfOk result (λ verdict. verdict ≡ Verdict.Accepted
-        (map (λ result. (result.name, result.keys)) evidence.steps) (keys delivered.now)) }
+    ensures verdict { IfOk result (λ verdict. verdict ≡ verdict_of documents.now evidence) }
 {
     Ok(Verdict::Accepted {
         steps: Sequence::from(signed_steps(alloc, evidence.steps.into_vec())?),
-        files: Sequence::from(paths_of(alloc, delivered)?),
+        files: Sequence::from(paths_of(alloc, &documents.delivered)?),
     })
 }
 

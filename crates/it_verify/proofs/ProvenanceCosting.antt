@@ -1,0 +1,119 @@
+-- How many checks the search for the provenance of delivered files may ask for.
+use Rattle.std.proofs.Common.{◌≡◌, ℕ, ◌+◌, ◌*◌, ◌≤◌, List, [], ◌∷◌, ◌++◌, map, length, ⊎_elim, refl, sym, ap, subst, ◌∙◌, arith}
+use Rattle.std.specs.FinMap.{entries, keys, len, len-entries}
+use Rattle.std.specs.List.{AllByRecursion}
+use Rattle.std.proofs.lemmas.List.{append-nil, append_assoc, length-append, map-append}
+use Rattle.it_digest.specs.Artifacts.{ArtifactMap}
+use Rattle.it_digest.specs.declared.compare.DigestSet.{DigestSet}
+use Rattle.it_dsse.specs.Check.{Check}
+use Rattle.it_dsse.specs.declared.envelope.Envelope.{Envelope}
+use Rattle.it_dsse.specs.declared.meter.Meter.{Meter}
+use Rattle.it_docs.specs.declared.policy.Expectation.{Expectation}
+use Rattle.it_chain.specs.Cost.{IsSum}
+use Rattle.it_chain.specs.First.{IsFirst}
+use Rattle.it_prov.specs.Cost.{RaisedBy, key_count, signature_count}
+use Rattle.it_prov.specs.Finding.{NoneFits}
+use Rattle.it_prov.specs.Fits.{Fits}
+use Rattle.it_prov.proofs.Asking.{raised_none, raised_then}
+use Rattle.it_verify.specs.Cost.{FileCosts}
+use Rattle.it_verify.specs.Gathering.{FileLacks, FileProven}
+use Rattle.it_verify.specs.Walk.{RefusedAs}
+use Rattle.it_verify.specs.declared.failure.Failure.{Failure}
+use Rattle.it_verify.proofs.ProvenanceFound.{first_lacks, proven_more}
+
+-- the sum over two lists is the sum of two
+sum_append : {X : Type 0} (Costs : X → ℕ → Type 0) (xs ys : List X) (n : ℕ) → IsSum Costs (xs ++ ys) n → (a : ℕ) × (b : ℕ) × IsSum Costs xs a × IsSum Costs ys b × (n ≡ a + b)
+sum_append Costs [] ys n h = (0, n, refl, h, omega arith)
+sum_append Costs (x ∷ xs) ys n h =
+    let rest = sum_append Costs xs ys h.1 h.3 in
+    let total = h.4 in
+    let parts = rest.4 in
+    (h.0 + rest.0, rest.1, (h.0, rest.0, h.2, rest.2, refl), rest.3, omega arith)
+
+-- one file, from what is promised of the expectation that fits it
+pub file_at_most : (expectations : List Expectation) (path : List ℕ) (signatures : ℕ) (start new : Meter)
+    → ((expectation : Expectation) → Fits expectations path expectation → RaisedBy (λ n. n ≤ key_count expectation.builders * signatures) start new) → (NoneFits expectations path → new ≡ start)
+    → (most : ℕ) → FileCosts expectations signatures path most → RaisedBy (λ n. n ≤ most) start new
+file_at_most expectations path signatures start new fits none most =
+    ⊎_elim (λ x. subst (λ m. RaisedBy (λ n. n ≤ m) start new) (sym x.2) (fits x.0 x.1)) (λ x. raised_none most start new (none x.0))
+
+module _ (check : Check) (expectations : List Expectation) (envelopes : List Envelope) (delivered : ArtifactMap) (start : Meter) where
+  abbrev Cost : List ℕ → ℕ → Type 0
+  Cost = FileCosts expectations (signature_count envelopes)
+
+  abbrev paths_of : List (List ℕ × DigestSet) → List (List ℕ)
+  paths_of files = map (λ file. file.0) files
+
+  -- the files before the rest have provenance, and the meter was raised for them
+  pub record Searched (now : Meter) (rest : List (List ℕ × DigestSet)) : Type 0 where
+    pub done : List (List ℕ × DigestSet)
+    pub all : entries delivered ≡ done ++ rest
+    pub proven : AllByRecursion (FileProven check expectations envelopes) done
+    pub at_most : (most : ℕ) → IsSum Cost (paths_of done) most → RaisedBy (λ n. n ≤ most) start now
+    pub at_least : RaisedBy (λ n. length done ≤ n) start now
+
+  pub none_searched : Searched start (entries delivered)
+  none_searched = record {
+    done = [];
+    all = refl;
+    proven = tt;
+    at_most = λ most cost. raised_none most start start refl;
+    at_least = let none = raised_none 0 start start refl in (none.0, omega arith, none.2);
+  }
+
+  module _ (now new : Meter) (file : List ℕ × DigestSet) (rest : List (List ℕ × DigestSet)) (searched : Searched now (file ∷ rest)) where
+    abbrev next : List (List ℕ × DigestSet)
+    next = searched.done ++ file ∷ []
+
+    all_next : entries delivered ≡ next ++ rest
+    all_next = searched.all ∙ sym (append_assoc searched.done (file ∷ []) rest)
+
+    module _ (one_at_most : (most : ℕ) → Cost file.0 most → RaisedBy (λ n. n ≤ most) now new) where
+      next_at_most : (most : ℕ) → IsSum Cost (paths_of next) most → RaisedBy (λ n. n ≤ most) start new
+      next_at_most most cost =
+          let parts = sum_append Cost (paths_of searched.done) (file.0 ∷ []) most (subst (λ ps. IsSum Cost ps most) (map-append (λ (f : List ℕ × DigestSet). f.0) searched.done (file ∷ [])) cost) in
+          let last = parts.3 in
+          let none = last.3 in
+          let first = last.4 in
+          let total = parts.4 in
+          raised_then (λ n. n ≤ parts.0) (λ n. n ≤ last.0) (λ n. n ≤ most) (λ m n p q. omega arith) start now new (searched.at_most parts.0 parts.2) (one_at_most last.0 last.2)
+
+      -- a file more
+      pub one_searched : FileProven check expectations envelopes file → RaisedBy (λ n. 1 ≤ n) now new → Searched new rest
+      one_searched is_proven at_least = record {
+        done = next;
+        all = all_next;
+        proven = proven_more check expectations envelopes searched.done file searched.proven is_proven;
+        at_most = next_at_most;
+        at_least = raised_then (λ n. length searched.done ≤ n) (λ n. 1 ≤ n) (λ n. length next ≤ n)
+            (λ m n p q. let long : length next ≡ length searched.done + 1 = length-append searched.done (file ∷ []) in omega arith) start now new searched.at_least at_least;
+      }
+
+      -- the checks up to a file, whatever comes after it
+      pub up_to_one : (most : ℕ) → IsSum Cost (keys delivered) most → RaisedBy (λ n. n ≤ most) start new
+      up_to_one most cost =
+          let split : keys delivered ≡ paths_of next ++ paths_of rest = ap paths_of all_next ∙ map-append (λ (f : List ℕ × DigestSet). f.0) next rest in
+          let parts = sum_append Cost (paths_of next) (paths_of rest) most (subst (λ ps. IsSum Cost ps most) split cost) in
+          let total = parts.4 in
+          let h = next_at_most parts.0 parts.2 in
+          let few = h.1 in
+          (h.0, omega arith, h.2)
+
+    -- the first file that lacks provenance
+    pub one_lacks : (e : Failure) → RefusedAs (FileLacks check expectations envelopes file) e → RefusedAs (IsFirst (FileLacks check expectations envelopes) (entries delivered)) e
+    one_lacks e lacks = first_lacks check expectations envelopes (entries delivered) searched.done file rest e searched.all searched.proven lacks
+
+  module _ (now : Meter) (searched : Searched now []) where
+    all_done : entries delivered ≡ searched.done
+    all_done = searched.all ∙ append-nil searched.done
+
+    pub all_searched : AllByRecursion (FileProven check expectations envelopes) (entries delivered)
+    all_searched = subst (AllByRecursion (FileProven check expectations envelopes)) (sym all_done) searched.proven
+
+    pub all_at_most : (most : ℕ) → IsSum Cost (keys delivered) most → RaisedBy (λ n. n ≤ most) start now
+    all_at_most most cost = searched.at_most most (subst (λ files. IsSum Cost (paths_of files) most) all_done cost)
+
+    pub all_at_least : RaisedBy (λ n. len delivered ≤ n) start now
+    all_at_least =
+        let many : len delivered ≡ length searched.done = len-entries delivered ∙ ap length all_done in
+        subst (λ k. RaisedBy (λ n. k ≤ n) start now) (sym many) searched.at_least

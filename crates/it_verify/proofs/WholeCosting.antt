@@ -1,0 +1,105 @@
+-- How many checks a verification asks for, from what each of its parts asks for.
+use Rattle.std.proofs.Common.{◌≡◌, ℕ, ◌+◌, ◌-◌, ◌≤◌, ◌^◌, List, [], ◌∷◌, map, min, length, ⊎_elim, refl, sym, ap, subst, ◌∙◌, arith}
+use Rattle.std.specs.FinMap.{entries, keys, len, len-entries}
+use Rattle.std.specs.List.{sum_by}
+use Rattle.std.proofs.lemmas.List.{length-map}
+use Rattle.std.proofs.lemmas.List.Sums.{sum_by-cons}
+use Rattle.it_digest.specs.Sums.{lines_of}
+use Rattle.it_digest.specs.declared.compare.DigestSet.{DigestSet}
+use Rattle.it_dsse.specs.Check.{Check}
+use Rattle.it_dsse.specs.declared.envelope.Envelope.{Envelope}
+use Rattle.it_dsse.specs.declared.meter.Meter.{Meter}
+use Rattle.it_docs.specs.Policy.{PolicyOf}
+use Rattle.it_docs.specs.declared.policy.Policy.{Policy}
+use Rattle.it_docs.proofs.Same.{policy_same}
+use Rattle.it_chain.specs.declared.chain.StepResult.{StepResult}
+use Rattle.it_prov.specs.Cost.{RaisedBy, signature_count}
+use Rattle.it_prov.proofs.Asking.{raised_then}
+use Rattle.it_verify.specs.Cost.{AsksEnough, Costs, FilesCost, LinesHave, LinksCost, OwnersCost, fewest}
+use Rattle.it_verify.specs.Documents.{Documents, ReadAs}
+use Rattle.it_verify.specs.Gathering.{AreRead, TakesEnough}
+use Rattle.it_verify.specs.Made.{Evidence, verdict_of}
+use Rattle.it_verify.specs.declared.inputs.Inputs.{Inputs}
+use Rattle.it_verify.specs.declared.verdict.Verdict.{Verdict}
+use Rattle.it_verify.specs.declared.verdict.Verdict.TheVariants.{Accepted, Refused}
+use Rattle.it_verify.proofs.Lines.{lines_have}
+use Rattle.it_verify.proofs.OneReading.{read_alike}
+
+raised_weaker : (P Q : ℕ → Type 0) → ((n : ℕ) → P n → Q n) → (old new : Meter) → RaisedBy P old new → RaisedBy Q old new
+raised_weaker P Q f old new h = (h.0, f h.0 h.1, h.2)
+
+sum_by-map : {X Y : Type 0} (f : Y → ℕ) (g : X → Y) (xs : List X) → sum_by f (map g xs) ≡ sum_by (λ x. f (g x)) xs
+sum_by-map f g [] = refl
+sum_by-map f g (x ∷ xs) = sum_by-cons f (g x) (map g xs) ∙ ap (λ n. f (g x) + n) (sum_by-map f g xs) ∙ sym (sum_by-cons (λ y. f (g y)) x xs)
+
+-- ---- at most
+-- the delivered files, over the envelopes that the lines read as
+pub files_cost : (inputs : Inputs) (documents : Documents) (envelopes : List Envelope) → AreRead (lines_of inputs.provenance) envelopes → (old new : Meter)
+    → ((most : ℕ) → FilesCost documents (signature_count envelopes) most → RaisedBy (λ n. n ≤ most) old new)
+    → (signatures most : ℕ) → LinesHave inputs signatures → FilesCost documents signatures most → RaisedBy (λ n. n ≤ most) old new
+files_cost inputs documents envelopes are old new raised signatures most lines cost =
+    raised most (subst (λ n. FilesCost documents n most) (lines_have (lines_of inputs.provenance) envelopes are signatures lines) cost)
+
+module _ (check : Check) (inputs : Inputs) (start now : Meter) (owners : (most : ℕ) → OwnersCost inputs most → RaisedBy (λ n. n ≤ most) start now) where
+  -- after the owners
+  pub owners_most : (most : ℕ) → Costs check inputs most → RaisedBy (λ n. n ≤ most) start now
+  owners_most most cost =
+      let total = cost.sum in
+      raised_weaker (λ n. n ≤ cost.owners) (λ n. n ≤ most) (λ n few. omega arith) start now (owners cost.owners cost.of_owners)
+
+  module _ (documents : Documents) (read : ReadAs inputs documents) (then_now : Meter) (links : (most : ℕ) → LinksCost check inputs documents most → RaisedBy (λ n. n ≤ most) now then_now) where
+    both : (most : ℕ) (cost : Costs check inputs most) → RaisedBy (λ n. n ≤ cost.owners + cost.links) start then_now
+    both most cost =
+        let of_links : LinksCost check inputs documents cost.links = ⊎_elim (λ x. read_alike inputs (λ d. LinksCost check inputs d cost.links) x.0 documents x.1 read x.2) (λ x. absurd (x.0 documents read)) cost.of_links in
+        raised_then (λ n. n ≤ cost.owners) (λ n. n ≤ cost.links) (λ n. n ≤ cost.owners + cost.links) (λ m n p q. omega arith) start now then_now (owners cost.owners cost.of_owners) (links cost.links of_links)
+
+    -- after the layout over the links
+    pub links_most : (most : ℕ) → Costs check inputs most → RaisedBy (λ n. n ≤ most) start then_now
+    links_most most cost =
+        let total = cost.sum in
+        raised_weaker (λ n. n ≤ cost.owners + cost.links) (λ n. n ≤ most) (λ n few. omega arith) start then_now (both most cost)
+
+    -- after the delivered files
+    pub files_most : (new : Meter) → ((signatures most : ℕ) → LinesHave inputs signatures → FilesCost documents signatures most → RaisedBy (λ n. n ≤ most) then_now new)
+        → (most : ℕ) → Costs check inputs most → RaisedBy (λ n. n ≤ most) start new
+    files_most new files most cost =
+        let of_files : FilesCost documents cost.signatures cost.files = ⊎_elim (λ x. read_alike inputs (λ d. FilesCost d cost.signatures cost.files) x.0 documents x.1 read x.2) (λ x. absurd (x.0 documents read)) cost.of_files in
+        let total = cost.sum in
+        raised_then (λ n. n ≤ cost.owners + cost.links) (λ n. n ≤ cost.files) (λ n. n ≤ most) (λ m n p q. omega arith) start then_now new (both most cost) (files cost.signatures cost.files cost.of_lines of_files)
+
+-- ---- at least
+module _ (inputs : Inputs) (documents : Documents) (read : ReadAs inputs documents) (evidence : Evidence) where
+  fewest_is : (policy : Policy) → PolicyOf inputs.policy policy
+      → fewest policy (map (λ (r : StepResult). (r.name, r.keys)) evidence.steps) (keys documents.delivered) ≡ len documents.policy.owners + sum_by (λ (r : StepResult). r.keys) evidence.steps + len documents.delivered
+  fewest_is policy is_policy =
+      let owners = ap (λ (p : Policy). len p.owners) (policy_same inputs.policy policy documents.policy is_policy read.policy) in
+      let signed = sum_by-map (λ (s : List ℕ × ℕ). s.1) (λ (r : StepResult). (r.name, r.keys)) evidence.steps in
+      let files : length (keys documents.delivered) ≡ len documents.delivered = length-map (entries documents.delivered) (λ (e : List ℕ × DigestSet). e.0) ∙ sym (len-entries documents.delivered) in
+      λ i. owners i + signed i + files i
+
+  pub takes_enough : (answer : Verdict) (start now then_now new : Meter) → answer ≡ verdict_of documents evidence → RaisedBy (λ n. len documents.policy.owners ≤ n) start now
+      → RaisedBy (λ n. sum_by (λ (r : StepResult). r.keys) evidence.steps ≤ n) now then_now → RaisedBy (λ n. len documents.delivered ≤ n) then_now new → TakesEnough inputs start new answer
+  takes_enough answer start now then_now new is owners steps files =
+      let signed = sum_by (λ (r : StepResult). r.keys) evidence.steps in
+      let owned = len documents.policy.owners in
+      let both = raised_then (λ n. owned ≤ n) (λ n. signed ≤ n) (λ n. owned + signed ≤ n) (λ m n p q. omega arith) start now then_now owners steps in
+      let all = raised_then (λ n. owned + signed ≤ n) (λ n. len documents.delivered ≤ n) (λ n. owned + signed + len documents.delivered ≤ n) (λ m n p q. omega arith) start then_now new both files in
+      subst (TakesEnough inputs start new) (sym is) (λ policy is_policy. subst (λ k. RaisedBy (λ n. k ≤ n) start new) (sym (fewest_is policy is_policy)) all)
+
+-- ---- the count of an answer, which begins at 0
+module _ (start new : Meter) (from_zero : start.asked ≡ 0) where
+  pub asked_most : (most : ℕ) → RaisedBy (λ n. n ≤ most) start new → new.asked ≤ most
+  asked_most most h =
+      let few = h.1 in
+      let is = ap (λ (m : Meter). m.asked) h.2 in
+      omega arith
+
+  asked_enough : (least : ℕ) → RaisedBy (λ n. least ≤ n) start new → min least (2 ^ 64 - 1) ≤ new.asked
+  asked_enough least h =
+      let many = h.1 in
+      let is = ap (λ (m : Meter). m.asked) h.2 in
+      omega arith
+
+  pub asks_enough : (inputs : Inputs) (answer : Verdict) → TakesEnough inputs start new answer → AsksEnough inputs new.asked answer
+  asks_enough inputs (Accepted steps files) h = λ policy is_policy. asked_enough (fewest policy steps files) (h policy is_policy)
+  asks_enough inputs (Refused refusal) h = tt

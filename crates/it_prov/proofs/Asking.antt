@@ -1,19 +1,19 @@
 -- How far a meter was raised.
-use Rattle.std.proofs.Common.{◌≡◌, ℕ, suc, ◌+◌, ◌*◌, ◌<◌, ◌≤◌, List, [], ◌∷◌, Bool, true, false, ◌&&◌, cond, length, get_or, drop, filter, Option, Some, None, is_some, inl, inr, Contains, IsTrue, refl, sym, ap, subst, arith, ◌∙◌}
+use Rattle.std.proofs.Common.{◌≡◌, ℕ, ◌+◌, ◌*◌, ◌<◌, ◌≤◌, List, ◌∷◌, true, length, get_or, drop, Option, Some, None, is_some, sym, ap, arith, ◌∙◌}
 use Rattle.std.specs.FinMap.{len}
 use Rattle.std.specs.List.{sum_by}
 use Rattle.std.proofs.lemmas.List.Sums.{sum_by-drop_more}
 use Rattle.it_base.specs.Finds.{Finds}
-use Rattle.it_base.proofs.Members.{in_cases, in_none}
 use Rattle.it_dsse.specs.Check.{Check, KeyNumber}
-use Rattle.it_dsse.specs.Meter.{raised}
-use Rattle.it_dsse.specs.Signed.{Signed, first_place, is_admitted, message_of, tries}
+use Rattle.it_dsse.specs.Meter.{RaisedBy, raised}
+use Rattle.it_dsse.specs.Signed.{Signed, tries}
 use Rattle.it_dsse.specs.declared.envelope.Envelope.{Envelope}
 use Rattle.it_dsse.specs.declared.key_object.KeyObject.{KeyObject}
 use Rattle.it_dsse.specs.declared.meter.Meter.{Meter}
-use Rattle.it_dsse.proofs.Trying.{first_place_step, raised-zero, raised_more}
+use Rattle.it_dsse.proofs.Tries.{signed_tries}
+use Rattle.it_dsse.proofs.Trying.{raised-zero, raised_more}
 use Rattle.it_docs.specs.declared.policy.Builder.{Builder}
-use Rattle.it_prov.specs.Cost.{RaisedBy, key_count, signature_count}
+use Rattle.it_prov.specs.Cost.{key_count, signature_count}
 
 -- ---- one call after another
 pub raised_none : (most : ℕ) (meter now : Meter) → now ≡ meter → RaisedBy (λ n. n ≤ most) meter now
@@ -66,48 +66,8 @@ module _ (start now new : Meter) (i : ℕ) where
       leaves_less (keys * length envelope.signatures) (keys * rest) (keys * signature_count (drop i envelopes)) (keys * signature_count envelopes) start now new (ap (λ n. keys * n) split ∙ omega arith)
 
 -- ---- one key
-step_at_most : (a b : Bool) (n m : ℕ) → n ≤ m → cond (a && b) 1 (cond a 1 0 + n) ≤ suc m
-step_at_most true true n m h = omega arith
-step_at_most true false n m h = omega arith
-step_at_most false b n m h = omega arith
-
-step_at_least : (a b : Bool) (n : ℕ) → 1 ≤ n → 1 ≤ cond (a && b) 1 (cond a 1 0 + n)
-step_at_least true true n h = omega arith
-step_at_least true false n h = omega arith
-step_at_least false b n h = omega arith
-
-step_admitted : (a b : Bool) (n : ℕ) → a ≡ true → 1 ≤ cond (a && b) 1 (cond a 1 0 + n)
-step_admitted true true n e = omega arith
-step_admitted true false n e = omega arith
-step_admitted false b n e = cc
-
-module _ {X : Type 0} (p q : X → Bool) where
-  tried_at_most : (xs : List X) → first_place q (filter p xs) ≤ length xs
-  unfolding first_place
-  tried_at_most [] = omega arith
-  tried_at_most (x ∷ xs) = rw (first_place_step p q x xs) (step_at_most (p x) (q x) (first_place q (filter p xs)) (length xs) (tried_at_most xs))
-
-  tried_at_least : (xs : List X) (x : X) → Contains xs x → p x ≡ true → 1 ≤ first_place q (filter p xs)
-  tried_at_least [] x c passes = absurd (in_none x c)
-  tried_at_least (y ∷ ys) x c passes = rw (first_place_step p q y ys) (elim (in_cases y ys x c) [
-    | inl same ↦ step_admitted (p y) (q y) (first_place q (filter p ys)) (ap p same ∙ passes)
-    | inr later ↦ step_at_least (p y) (q y) (first_place q (filter p ys)) (tried_at_least ys x later passes)
-  ])
-
-module _ (check : Check) (envelope : Envelope) (id : List ℕ) (object : KeyObject) where
-  -- no more signatures are tried than there are
-  pub tries_at_most : tries check envelope id object ≤ length envelope.signatures
-  tries_at_most = elim (check.key_of id object) as (λ o. check.key_of id object ≡ o → tries check envelope id object ≤ length envelope.signatures) [
-    | None ↦ λ e. rw e (omega arith)
-    | Some n ↦ λ e. rw e (tried_at_most (is_admitted id) (λ s. check.is_valid n (message_of envelope) s.sig) envelope.signatures)
-  ] refl
-
-  signed_tries : (n : KeyNumber) → Signed check envelope id object n → 1 ≤ tries check envelope id object
-  signed_tries n signed =
-      let s = signed.signature in
-      rw signed.key (tried_at_least (is_admitted id) (λ s. check.is_valid n (message_of envelope) s.sig) envelope.signatures s.1 (s.0, s.2, s.3) s.4.admitted)
-
-  -- where the key signed, a signature is tried
-  pub tries_at_least : (found : Option KeyNumber) → Finds (Signed check envelope id object) found → is_some found ≡ true → 1 ≤ tries check envelope id object
-  tries_at_least None none e = cc
-  tries_at_least (Some n) signed e = signed_tries n signed
+-- where the key signed, a signature is tried
+pub tries_at_least : (check : Check) (envelope : Envelope) (id : List ℕ) (object : KeyObject) (found : Option KeyNumber) → Finds (Signed check envelope id object) found → is_some found ≡ true
+    → 1 ≤ tries check envelope id object
+tries_at_least check envelope id object None none e = cc
+tries_at_least check envelope id object (Some n) signed e = signed_tries check envelope id object n signed

@@ -1,13 +1,10 @@
 -- How many checks of validity the search for provenance may ask for (a word of this project; no standard
 -- speaks of it).
-use Rattle.std.specs.Prelude.{◌≡◌, ℕ, List, length}
+use Rattle.std.specs.Prelude.{ℕ, List, length}
 use Rattle.std.specs.List.{sum_by}
 use Rattle.std.specs.FinMap.{len}
-use Rattle.it_dsse.specs.Meter.{raised}
 use Rattle.it_dsse.specs.declared.envelope.Envelope.{Envelope}
-use Rattle.it_dsse.specs.declared.meter.Meter.{Meter}
 use Rattle.it_docs.specs.declared.policy.Builder.{Builder}
-use Rattle.it_docs.specs.declared.policy.Expectation.{Expectation}
 
 -- how many keys builders have
 abbrev pub key_count : List Builder → ℕ
@@ -16,7 +13,3 @@ key_count builders = sum_by (λ builder. len builder.keys) builders
 -- how many signatures envelopes have
 abbrev pub signature_count : List Envelope → ℕ
 signature_count envelopes = sum_by (λ envelope. length envelope.signatures) envelopes
-
--- a meter was raised by a number of which P holds, as far as it had room
-abbrev pub RaisedBy : (ℕ → Type 0) → Meter → Meter → Type 0
-RaisedBy P old new = (n : ℕ) × P n × (new ≡ raised old n)

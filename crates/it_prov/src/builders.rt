@@ -1,8 +1,9 @@
 //! Who built what an envelope attests.
 ghost use Rattle.std.specs.Prelude.{◌≡◌, ◌↔◌, ◌*◌, ◌≤◌, IfOk, IsTrue, length};
 ghost use Rattle.std.specs.FinMap.{len};
+ghost use Rattle.it_dsse.specs.Meter.{RaisedBy};
 ghost use Rattle.it_dsse.specs.Signed.{IsSigner};
-ghost use Rattle.it_prov.specs.Cost.{RaisedBy, key_count};
+ghost use Rattle.it_prov.specs.Cost.{key_count};
 ghost use Rattle.it_prov.specs.Judged.{IsBuiltBy};
 ghost use Rattle.it_prov.specs.Meets.{SignedByBuilder};
 

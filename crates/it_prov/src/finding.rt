@@ -1,6 +1,7 @@
 //! The search for the provenance of a delivered file.
 ghost use Rattle.std.specs.Prelude.{◌≡◌, ◌*◌, ◌≤◌, IfErr, IfOk, OnOk};
-ghost use Rattle.it_prov.specs.Cost.{RaisedBy, key_count, signature_count};
+ghost use Rattle.it_dsse.specs.Meter.{RaisedBy};
+ghost use Rattle.it_prov.specs.Cost.{key_count, signature_count};
 ghost use Rattle.it_prov.specs.Finding.{IsFound, IsMissing, NoneFits};
 ghost use Rattle.it_prov.specs.Fits.{Fits};
 

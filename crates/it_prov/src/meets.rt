@@ -1,6 +1,7 @@
 //! Which envelopes meet an expectation.
 ghost use Rattle.std.specs.Prelude.{◌≡◌, ◌↔◌, ◌*◌, ◌≤◌, IfOk, IsSome, IsTrue, MatchOption, length};
-ghost use Rattle.it_prov.specs.Cost.{RaisedBy, key_count, signature_count};
+ghost use Rattle.it_dsse.specs.Meter.{RaisedBy};
+ghost use Rattle.it_prov.specs.Cost.{key_count, signature_count};
 ghost use Rattle.it_prov.specs.Finding.{IsFirstToMeet, NoneMeets};
 ghost use Rattle.it_prov.specs.Judged.{HasNames, IsExpected};
 ghost use Rattle.it_prov.specs.Meets.{Meets};

@@ -2,13 +2,13 @@
 use Rattle.std.proofs.Common.{◌≡◌, ◌*◌, ◌≤◌, ℕ, length, ⊎_elim, subst, sym, ◌∙◌}
 use Rattle.std.specs.FinMap.{len}
 use Rattle.it_dsse.specs.Envelope.{EnvelopeOf}
+use Rattle.it_dsse.specs.Meter.{RaisedBy}
 use Rattle.it_dsse.specs.declared.envelope.Envelope.{Envelope}
 use Rattle.it_dsse.specs.declared.meter.Meter.{Meter}
 use Rattle.it_docs.specs.Policy.{PolicyOf}
 use Rattle.it_docs.specs.declared.policy.Policy.{Policy}
 use Rattle.it_docs.proofs.Same.{policy_same}
 use Rattle.it_chain.proofs.Documents.{envelope_same}
-use Rattle.it_prov.specs.Cost.{RaisedBy}
 use Rattle.it_verify.specs.Cost.{OwnersCost}
 use Rattle.it_verify.specs.declared.inputs.Inputs.{Inputs}
 

@@ -3,6 +3,7 @@ use Rattle.std.proofs.Common.{◌≡◌, ◌+◌, ◌*◌, ◌≤◌, ◌++◌, 
 use Rattle.std.specs.FinMap.{entries, len, len-entries}
 use Rattle.std.proofs.lemmas.List.Elements.{All-contains, All-nil, All-push}
 use Rattle.it_dsse.specs.Check.{Check}
+use Rattle.it_dsse.specs.Meter.{RaisedBy}
 use Rattle.it_dsse.specs.Signed.{IsSigner}
 use Rattle.it_dsse.specs.declared.envelope.Envelope.{Envelope}
 use Rattle.it_dsse.specs.declared.key_object.KeyObject.{KeyObject}
@@ -11,7 +12,6 @@ use Rattle.it_dsse.proofs.Trying.{raised-zero}
 use Rattle.it_docs.specs.Table.{Named}
 use Rattle.it_chain.specs.First.{IsFirst}
 use Rattle.it_chain.proofs.Entries.{known_entry}
-use Rattle.it_prov.specs.Cost.{RaisedBy}
 use Rattle.it_prov.proofs.Asking.{raised_none, raised_then}
 use Rattle.it_verify.specs.First.{OwnerLacks, whole}
 use Rattle.it_verify.specs.Walk.{OwnersSign, RefusedAs}

@@ -6,12 +6,13 @@ use Rattle.std.proofs.lemmas.List.{append-nil, append_assoc, length-append, map-
 use Rattle.it_digest.specs.Artifacts.{ArtifactMap}
 use Rattle.it_digest.specs.declared.compare.DigestSet.{DigestSet}
 use Rattle.it_dsse.specs.Check.{Check}
+use Rattle.it_dsse.specs.Meter.{RaisedBy}
 use Rattle.it_dsse.specs.declared.envelope.Envelope.{Envelope}
 use Rattle.it_dsse.specs.declared.meter.Meter.{Meter}
 use Rattle.it_docs.specs.declared.policy.Expectation.{Expectation}
 use Rattle.it_chain.specs.Cost.{IsSum}
 use Rattle.it_chain.specs.First.{IsFirst}
-use Rattle.it_prov.specs.Cost.{RaisedBy, key_count, signature_count}
+use Rattle.it_prov.specs.Cost.{key_count, signature_count}
 use Rattle.it_prov.specs.Finding.{NoneFits}
 use Rattle.it_prov.specs.Fits.{Fits}
 use Rattle.it_prov.proofs.Asking.{raised_none, raised_then}

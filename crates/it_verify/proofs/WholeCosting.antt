@@ -7,13 +7,14 @@ use Rattle.std.proofs.lemmas.List.Sums.{sum_by-cons}
 use Rattle.it_digest.specs.Sums.{lines_of}
 use Rattle.it_digest.specs.declared.compare.DigestSet.{DigestSet}
 use Rattle.it_dsse.specs.Check.{Check}
+use Rattle.it_dsse.specs.Meter.{RaisedBy}
 use Rattle.it_dsse.specs.declared.envelope.Envelope.{Envelope}
 use Rattle.it_dsse.specs.declared.meter.Meter.{Meter}
 use Rattle.it_docs.specs.Policy.{PolicyOf}
 use Rattle.it_docs.specs.declared.policy.Policy.{Policy}
 use Rattle.it_docs.proofs.Same.{policy_same}
 use Rattle.it_chain.specs.declared.chain.StepResult.{StepResult}
-use Rattle.it_prov.specs.Cost.{RaisedBy, signature_count}
+use Rattle.it_prov.specs.Cost.{signature_count}
 use Rattle.it_prov.proofs.Asking.{raised_then}
 use Rattle.it_verify.specs.Cost.{AsksEnough, Costs, FilesCost, LinesHave, LinksCost, OwnersCost, fewest}
 use Rattle.it_verify.specs.Documents.{Documents, ReadAs}

@@ -11,6 +11,7 @@ use Rattle.it_digest.specs.Artifacts.{ArtifactMap}
 use Rattle.it_digest.specs.declared.compare.DigestSet.{DigestSet}
 use Rattle.it_dsse.specs.Check.{Check}
 use Rattle.it_dsse.specs.Envelope.{EnvelopeOf}
+use Rattle.it_dsse.specs.Meter.{RaisedBy}
 use Rattle.it_dsse.specs.declared.envelope.Envelope.{Envelope}
 use Rattle.it_dsse.specs.declared.meter.Meter.{Meter}
 use Rattle.it_docs.specs.Link.{LinkOf}
@@ -26,7 +27,6 @@ use Rattle.it_rules.specs.Rules.{IsFirstFault}
 use Rattle.it_chain.specs.declared.refusal.ChainError.{ChainError}
 use Rattle.it_chain.specs.declared.refusal.ChainError.TheVariants as chain
 use Rattle.it_chain.specs.declared.refusal.RuleItem.TheVariants.{Deliver, Inspection as of_inspection}
-use Rattle.it_prov.specs.Cost.{RaisedBy}
 use Rattle.it_prov.specs.Finding.{IsFound, IsMissing, NoneFits}
 use Rattle.it_verify.specs.Cost.{fewest}
 use Rattle.it_verify.specs.First.{refusal_of, whole}

@@ -2,6 +2,7 @@
 ghost use Rattle.std.specs.Prelude.{◌≡◌, ◌≢◌, ◌≤◌, IfOk, MatchResult, ℕ, ℤ};
 ghost use Rattle.std.specs.FinMap.{empty, len};
 ghost use Rattle.it_digest.specs.Sums.{IsFirstBadLine, SumsOf};
+ghost use Rattle.it_dsse.specs.Meter.{RaisedBy};
 ghost use Rattle.it_docs.specs.Layout.{LayoutOf};
 ghost use Rattle.it_docs.specs.LayoutPart.{LayoutPartOf};
 ghost use Rattle.it_docs.specs.Moment.{MomentOf};
@@ -11,7 +12,6 @@ ghost use Rattle.it_docs.specs.PolicyPart.{PolicyPartOf};
 ghost use Rattle.it_docs.specs.declared.layout_fault.LayoutPart.{LayoutPart};
 ghost use Rattle.it_docs.specs.declared.policy_fault.PolicyPart.{PolicyPart};
 ghost use Rattle.it_dsse.specs.Envelope.{EnvelopeOf};
-ghost use Rattle.it_prov.specs.Cost.{RaisedBy};
 ghost use Rattle.it_verify.specs.Cost.{OwnersCost};
 ghost use Rattle.it_verify.specs.First.{First, whole};
 ghost use Rattle.it_verify.specs.Walk.{DocumentsHold, RefusedAs};

@@ -1,7 +1,7 @@
 //! What the steps of a layout and its inspections recorded.
 ghost use Rattle.std.specs.Prelude.{◌≤◌, IfOk, MatchResult, ℕ};
 ghost use Rattle.std.specs.List.{sum_by};
-ghost use Rattle.it_prov.specs.Cost.{RaisedBy};
+ghost use Rattle.it_dsse.specs.Meter.{RaisedBy};
 ghost use Rattle.it_verify.specs.Cost.{LinksCost};
 ghost use Rattle.it_verify.specs.First.{First};
 ghost use Rattle.it_verify.specs.Made.{IsEvidence};

@@ -1,7 +1,7 @@
 //! Whether the rules hold over what was recorded, and whether the delivered files have provenance.
 ghost use Rattle.std.specs.Prelude.{◌≤◌, MatchResult, OnOk, ℕ};
 ghost use Rattle.std.specs.FinMap.{len};
-ghost use Rattle.it_prov.specs.Cost.{RaisedBy};
+ghost use Rattle.it_dsse.specs.Meter.{RaisedBy};
 ghost use Rattle.it_verify.specs.Cost.{FilesCost, LinesHave};
 ghost use Rattle.it_verify.specs.First.{First};
 ghost use Rattle.it_verify.specs.Made.{IsEvidence, IsMadeBy};

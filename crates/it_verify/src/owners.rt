@@ -1,9 +1,9 @@
 //! Whether the owners of a policy signed the layout.
 ghost use Rattle.std.specs.Prelude.{◌*◌, ◌≤◌, IfOk, IsTrue, MatchBool, MatchResult, OnOk, length};
 ghost use Rattle.std.specs.FinMap.{entries, len};
+ghost use Rattle.it_dsse.specs.Meter.{RaisedBy};
 ghost use Rattle.it_chain.specs.First.{IsFirst};
 ghost use Rattle.it_dsse.specs.Signed.{IsSigner};
-ghost use Rattle.it_prov.specs.Cost.{RaisedBy};
 ghost use Rattle.it_verify.specs.First.{OwnerLacks};
 ghost use Rattle.it_verify.specs.Walk.{OwnersSign, RefusedAs};
 

@@ -1,7 +1,7 @@
 //! Whether a delivery is accepted.
 ghost use Rattle.std.specs.Prelude.{◌≡◌, ◌≤◌, IfOk, MatchResult, map, ℕ};
 ghost use Rattle.std.specs.FinMap.{keys};
-ghost use Rattle.it_prov.specs.Cost.{RaisedBy};
+ghost use Rattle.it_dsse.specs.Meter.{RaisedBy};
 ghost use Rattle.it_verify.specs.Cost.{AsksEnough, Costs};
 ghost use Rattle.it_verify.specs.First.{First};
 ghost use Rattle.it_verify.specs.Gathering.{TakesEnough};

@@ -2,7 +2,8 @@ use Rattle.std.proofs.Common.{◌≡◌, ◌∙◌, ◌+◌, ◌*◌, ◌≤◌,
 use Rattle.std.specs.FinMap.{len}
 use Rattle.std.proofs.lemmas.Slice.Eq.{bytes_eq-Decides}
 use Rattle.it_base.proofs.Members.{in_none}
-use Rattle.it_prov.specs.Cost.{RaisedBy, key_count}
+use Rattle.it_dsse.specs.Meter.{RaisedBy}
+use Rattle.it_prov.specs.Cost.{key_count}
 use Rattle.it_prov.proofs.Asking.{leaves_all, leaves_at_most, leaves_builder, raised_none, raised_once_more}
 use Rattle.it_prov.proofs.Meeting.{Built}
 use Rattle.it_prov.proofs.Searching.{none_all, none_more, stands_at}

@@ -1,6 +1,7 @@
 use Rattle.std.proofs.Common.{◌∙◌, sym}
 use Rattle.it_dsse.specs.Signed.{tries}
-use Rattle.it_prov.proofs.Asking.{tries_at_least, tries_at_most}
+use Rattle.it_dsse.proofs.Tries.{tries_at_most}
+use Rattle.it_prov.proofs.Asking.{tries_at_least}
 use Rattle.it_prov.proofs.builders.is_signer.Goals as goal
 
 pub returns-clause-at_most : goal.returns-clause-at_most

@@ -1,5 +1,6 @@
 use Rattle.std.proofs.Common.{◌*◌, ◌≤◌}
-use Rattle.it_prov.specs.Cost.{RaisedBy, key_count, signature_count}
+use Rattle.it_dsse.specs.Meter.{RaisedBy}
+use Rattle.it_prov.specs.Cost.{key_count, signature_count}
 use Rattle.it_prov.proofs.OneFit.{of_each_fit}
 use Rattle.it_prov.proofs.finding.find_provenance.Goals as goal
 

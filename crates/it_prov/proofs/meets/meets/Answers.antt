@@ -1,9 +1,7 @@
-use Rattle.std.proofs.Common.{◌≡◌, ◌↔◌, ◌*◌, ◌≤◌, true, length, IfOk, IsTrue, refl}
+use Rattle.std.proofs.Common.{◌≡◌, ◌↔◌, true, IfOk, IsTrue}
 use Rattle.std.proofs.lemmas.Result.{IfOk-weaker}
-use Rattle.it_prov.specs.Cost.{RaisedBy, key_count}
 use Rattle.it_prov.specs.Judged.{IsBuiltBy}
 use Rattle.it_prov.specs.Meets.{Meets}
-use Rattle.it_prov.proofs.Asking.{raised_none}
 use Rattle.it_prov.proofs.Meeting.{built_of, expected_of, meets_by}
 use Rattle.it_prov.proofs.meets.meets.Goals as goal
 

@@ -14,11 +14,8 @@ use Rattle.it_docs.specs.declared.step.Inspection.{Inspection}
 use Rattle.it_docs.proofs.LinkDecided.{link_of, link_of-finds}
 use Rattle.it_docs.proofs.Same.{link_same}
 use Rattle.it_chain.specs.Chain.{Chain}
-use Rattle.it_chain.specs.First.{First as ChainFirst, IsFirst}
 use Rattle.it_chain.specs.declared.chain.StepResult.{StepResult}
 use Rattle.it_chain.proofs.Deciding.{holds_or_fails}
-use Rattle.it_chain.proofs.Excludes.{chain_excludes}
-use Rattle.it_chain.proofs.Firsts.{none_first}
 use Rattle.it_verify.specs.Documents.{Documents, ReadAs, record_at, setting_of}
 use Rattle.it_verify.specs.First.{at_links, at_records, RecordFails, refusal_of, whole}
 use Rattle.it_verify.specs.Made.{HasRecorded}
@@ -27,8 +24,7 @@ use Rattle.it_verify.specs.declared.refusal.Fault.TheVariants.{RecordMissing, Ba
 use Rattle.it_verify.specs.declared.refusal.Refusal.{Refusal}
 use Rattle.it_verify.proofs.Documented.{StandsOr}
 use Rattle.it_verify.proofs.EvidenceClear.{clear_links, clear_records}
-use Rattle.it_verify.proofs.FirstOrAll.{first_or_all, none_at_good}
-use Rattle.it_verify.proofs.OneReading.{read_alike}
+use Rattle.it_verify.proofs.FirstOrAll.{first_or_all}
 
 -- ---- one record
 module _ (inputs : Inputs) (inspection : Inspection) where

@@ -1,5 +1,5 @@
 -- Each delivered file has provenance, or its place has something.
-use Rattle.std.proofs.Common.{◌≡◌, ◌⊎◌, ℕ, List, Option, Some, None, inl, inr, refl, subst, ⊎_elim}
+use Rattle.std.proofs.Common.{◌≡◌, ◌⊎◌, ℕ, List, Option, Some, None, inl, inr, refl, subst}
 use Rattle.std.specs.FinMap.{entries, get}
 use Rattle.std.proofs.lemmas.List.Elements.{All-contains}
 use Rattle.it_base.specs.Finds.{Finds}
@@ -11,14 +11,11 @@ use Rattle.it_dsse.specs.Envelope.{EnvelopeOf}
 use Rattle.it_dsse.specs.declared.envelope.Envelope.{Envelope}
 use Rattle.it_dsse.proofs.Decided.{envelope_of, envelope_of-finds}
 use Rattle.it_docs.specs.declared.policy.Expectation.{Expectation}
-use Rattle.it_chain.specs.First.{IsFirst}
 use Rattle.it_chain.proofs.Documents.{envelope_same}
 use Rattle.it_chain.proofs.Entries.{known_entry}
-use Rattle.it_chain.proofs.Firsts.{none_first}
 use Rattle.it_prov.specs.Meets.{Meets}
 use Rattle.it_prov.proofs.Fitting.{fits_or_none}
 use Rattle.it_prov.proofs.Meeting.{meets_or_not}
-use Rattle.it_prov.proofs.OneFit.{fits_one}
 use Rattle.it_verify.specs.Documents.{Documents, ReadAs}
 use Rattle.it_verify.specs.First.{at_provenance, FileFails, whole}
 use Rattle.it_verify.specs.Made.{HasProvenance}
@@ -27,8 +24,7 @@ use Rattle.it_verify.specs.declared.refusal.Fault.TheVariants.{NoExpectation, No
 use Rattle.it_verify.specs.declared.refusal.Refusal.{Refusal}
 use Rattle.it_verify.proofs.Documented.{StandsOr}
 use Rattle.it_verify.proofs.EvidenceClear.{file_apart, clear_provenance}
-use Rattle.it_verify.proofs.FirstOrAll.{first_or_all, none_at_good}
-use Rattle.it_verify.proofs.OneReading.{read_alike}
+use Rattle.it_verify.proofs.FirstOrAll.{first_or_all}
 
 -- ---- one line, for an expectation and a digest set
 module _ (check : Check) (expectation : Expectation) (digests : DigestSet) where

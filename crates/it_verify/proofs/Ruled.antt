@@ -10,9 +10,7 @@ use Rattle.it_docs.specs.declared.step.Inspection.{Inspection}
 use Rattle.it_rules.specs.Item.{Links}
 use Rattle.it_rules.specs.Rules.{IsFirstFault, RulesHold}
 use Rattle.it_rules.proofs.FaultDecided.{fault_of, fault_of-is}
-use Rattle.it_chain.specs.First.{IsFirst}
 use Rattle.it_chain.specs.declared.refusal.RuleItem.TheVariants.{Inspection as of_inspection, Deliver}
-use Rattle.it_chain.proofs.Firsts.{none_first}
 use Rattle.it_verify.specs.Documents.{Documents, ReadAs}
 use Rattle.it_verify.specs.First.{at_inspections, at_deliver, InspectionFails, sides_of, whole}
 use Rattle.it_verify.specs.Made.{Evidence, HasRecorded, InspectionRulesHold, IsEvidence, delivery, links_of, recorded_in, rules_on}
@@ -21,8 +19,7 @@ use Rattle.it_verify.specs.declared.refusal.Fault.TheVariants.{RuleFailed}
 use Rattle.it_verify.specs.declared.refusal.Refusal.{Refusal}
 use Rattle.it_verify.proofs.Documented.{StandsOr}
 use Rattle.it_verify.proofs.EvidenceClear.{clear_deliver, clear_inspections}
-use Rattle.it_verify.proofs.FirstOrAll.{first_or_all, none_at_good}
-use Rattle.it_verify.proofs.OneReading.{evident_alike}
+use Rattle.it_verify.proofs.FirstOrAll.{first_or_all}
 
 -- ---- the rules of one inspection on one side
 module _ (links : Links) where

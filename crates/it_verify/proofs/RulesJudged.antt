@@ -1,8 +1,7 @@
 -- How the rules of inspections are judged, one inspection after the other.
-use Rattle.std.proofs.Common.{◌≡◌, ◌⊎◌, ℕ, List, [], ◌∷◌, ◌++◌, flat_map, zip, length, inl, inr, ⊎_elim, refl, sym, subst, arith}
+use Rattle.std.proofs.Common.{◌≡◌, ◌⊎◌, List, [], ◌∷◌, ◌++◌, flat_map, zip, length, inl, inr, ⊎_elim, refl, sym, subst, arith}
 use Rattle.std.specs.List.{AllByRecursion, AllZip}
 use Rattle.it_docs.specs.declared.link.Link.{Link}
-use Rattle.it_docs.specs.declared.rule.Side.{Side}
 use Rattle.it_docs.specs.declared.rule.Side.TheVariants.{Materials, Products}
 use Rattle.it_docs.specs.declared.step.Inspection.{Inspection}
 use Rattle.it_rules.specs.Item.{Links}

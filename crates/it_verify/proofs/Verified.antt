@@ -1,6 +1,6 @@
 -- What a verification comes to, from what each of its parts comes to.
-use Rattle.std.proofs.Common.{◌≡◌, ℕ, List, [], ◌∷◌, ◌++◌, flat_map, zip, Result, Ok, Err, MatchResult, refl, sym, subst}
-use Rattle.std.specs.FinMap.{entries, get}
+use Rattle.std.proofs.Common.{◌≡◌, List, [], ◌∷◌, ◌++◌, flat_map, zip, Result, Ok, Err, MatchResult, refl, sym, subst}
+use Rattle.std.specs.FinMap.{entries}
 use Rattle.std.specs.List.{AllByRecursion, AllZip}
 use Rattle.it_digest.specs.Sums.{lines_of}
 use Rattle.it_dsse.specs.Check.{Check}
@@ -16,7 +16,7 @@ use Rattle.it_chain.specs.declared.refusal.ChainError.TheVariants as chain
 use Rattle.it_chain.specs.declared.refusal.ChainRefusal.{ChainRefusal}
 use Rattle.it_chain.proofs.Firsts.{none_append}
 use Rattle.it_verify.specs.Documents.{Documents, setting_of}
-use Rattle.it_verify.specs.First.{First, InspectionFails, Place, RecordFails, Stands, at_deliver, at_inspections, at_links, at_provenance, at_records, refusal_of, sides_of, whole}
+use Rattle.it_verify.specs.First.{First, InspectionFails, Place, RecordFails, Stands, at_deliver, at_inspections, at_links, at_provenance, at_records, refusal_of, sides_of}
 use Rattle.it_verify.specs.Gathering.{AreRead, DeliverFails, FileLacks, FileProven, failure_of}
 use Rattle.it_verify.specs.Made.{Evidence, HasRecorded, InspectionRulesHold, IsEvidence, IsMadeBy, Made, delivery, links_of, verdict_of}
 use Rattle.it_verify.specs.Verdict.{IsVerdict, OnAccepted, OnRefused}

@@ -7,7 +7,7 @@ use Rattle.it_chain.specs.First.{IsFirst}
 use Rattle.it_prov.proofs.Asking.{raised_none}
 use Rattle.it_verify.specs.First.{InspectionFails, sides_of}
 use Rattle.it_verify.specs.Gathering.{DeliverFails}
-use Rattle.it_verify.specs.Made.{delivery, links_of}
+use Rattle.it_verify.specs.Made.{delivery}
 use Rattle.it_verify.specs.Walk.{RefusedAs}
 use Rattle.it_verify.proofs.NamesApart.{lent_links, links_differ}
 use Rattle.it_verify.proofs.RulesJudged.{Hold}

@@ -1,4 +1,4 @@
-use Rattle.std.proofs.Common.{◌≡◌, List, ℕ, Bor, map, rules}
+use Rattle.std.proofs.Common.{List, ℕ, rules}
 use Rattle.std.proofs.lemmas.Iterator.{YieldsList-from_map_by, YieldsList-from_slice}
 use Rattle.std.proofs.lemmas.Iterator.Consumers.{YieldsList-from_chain, map_from_collect}
 use Rattle.it_chain.specs.declared.chain.StepResult.{StepResult}

@@ -1,7 +1,5 @@
-use Rattle.std.proofs.Common.{◌≡◌, ◌∙◌, [], ◌∷◌, ◌++◌, Err, append_assoc, append-nil, sym, ap, subst}
-use Rattle.std.proofs.lemmas.List.{nil_from_length}
+use Rattle.std.proofs.Common.{◌≡◌, ◌∙◌, [], ◌∷◌, ◌++◌, Err, append_assoc, sym, ap}
 use Rattle.it_digest.specs.Sums.{lines_of}
-use Rattle.it_verify.specs.Gathering.{AreRead}
 use Rattle.it_verify.proofs.Lines.{read_more, read_past}
 use Rattle.it_verify.proofs.provenance.envelopes_in.Goals as goal
 

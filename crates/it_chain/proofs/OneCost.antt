@@ -18,21 +18,21 @@ use Rattle.it_chain.proofs.Members.{in_cases, in_head, in_none, in_tail}
 use Rattle.it_chain.proofs.Uniques.{pair_eq, pair_eq-Decides}
 
 -- each thing costs one number
-abbrev IsOne : {X : Type 0} → (X → ℕ → Type 0) → Type 0
+abbrev pub IsOne : {X : Type 0} → (X → ℕ → Type 0) → Type 0
 IsOne {X} Cost = (x : X) (m n : ℕ) → Cost x m → Cost x n → m ≡ n
 
 all_are : {X : Type 0} (P : X → Type 0) (xs : List X) → AllByRecursion P xs → (x : X) → Contains xs x → P x
 all_are P [] all x c = absurd (in_none x c)
 all_are P (y ∷ ys) all x c = ⊎_elim (λ same. subst P same all.0) (all_are P ys all.1 x) (in_cases y ys x c)
 
-one_if_found : {X : Type 0} (Is : X → Type 0) (Cost : X → ℕ → Type 0) → ((x y : X) → Is x → Is y → x ≡ y) → IsOne Cost → (m n : ℕ) → CostsIfFound Is Cost m → CostsIfFound Is Cost n → m ≡ n
+pub one_if_found : {X : Type 0} (Is : X → Type 0) (Cost : X → ℕ → Type 0) → ((x y : X) → Is x → Is y → x ≡ y) → IsOne Cost → (m n : ℕ) → CostsIfFound Is Cost m → CostsIfFound Is Cost n → m ≡ n
 one_if_found Is Cost same one m n h k = ⊎_elim
     (λ x. ⊎_elim (λ y. one x.0 m n x.2 (subst (λ z. Cost z n) (same y.0 x.0 y.1 x.1) y.2)) (λ none. absurd (none.0 x.0 x.1)) k)
     (λ none. ⊎_elim (λ y. absurd (none.0 y.0 y.1)) (λ also. none.1 ∙ sym also.1) k) h
 
 -- ---- sums
 module _ {X : Type 0} (Cost : X → ℕ → Type 0) (one : IsOne Cost) where
-  one_sum : IsOne (IsSum Cost)
+  pub one_sum : IsOne (IsSum Cost)
   one_sum [] m n h k = h ∙ sym k
   one_sum (x ∷ xs) m n h k =
       let first = one x h.0 k.0 h.2 k.2 in

@@ -28,11 +28,11 @@ use Rattle.it_chain.proofs.Records.{is_listed}
 use Rattle.it_chain.proofs.Uniques.{in_unique, pair_eq, pair_eq-Decides, of_unique, unique_differ}
 
 -- ---- sums, and what is found
-some_sum : {X : Type 0} (Cost : X → ℕ → Type 0) → ((x : X) → (n : ℕ) × Cost x n) → (xs : List X) → (n : ℕ) × IsSum Cost xs n
+pub some_sum : {X : Type 0} (Cost : X → ℕ → Type 0) → ((x : X) → (n : ℕ) × Cost x n) → (xs : List X) → (n : ℕ) × IsSum Cost xs n
 some_sum Cost each [] = (0, refl)
 some_sum Cost each (x ∷ xs) = let first = each x in let others = some_sum Cost each xs in (first.0 + others.0, (first.0, others.0, first.1, others.1, refl))
 
-some_if_found : {X : Type 0} (Is : X → Type 0) (Cost : X → ℕ → Type 0) → ((x : X) → (n : ℕ) × Cost x n) → (found : Option X) → Finds Is found → (n : ℕ) × CostsIfFound Is Cost n
+pub some_if_found : {X : Type 0} (Is : X → Type 0) (Cost : X → ℕ → Type 0) → ((x : X) → (n : ℕ) × Cost x n) → (found : Option X) → Finds Is found → (n : ℕ) × CostsIfFound Is Cost n
 some_if_found Is Cost each None none = (0, inr (none, refl))
 some_if_found Is Cost each (Some x) is = let cost = each x in (cost.0, inl (x, is, cost.1))
 

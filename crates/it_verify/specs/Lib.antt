@@ -1,5 +1,6 @@
 pub mod Alike
 pub mod Cost
+pub mod CostLaws
 pub mod Digesting
 pub mod Documents
 pub mod Fault

@@ -3,6 +3,7 @@
 #![tactic(auto)]
 
 mod chain_refusal;
+pub mod cost_laws;
 mod digesting;
 mod documents;
 mod encoding;

@@ -1,0 +1,68 @@
+-- That a verification of inputs costs some number of checks.
+use Rattle.std.proofs.Common.{◌≡◌, ◌⊎◌, ℕ, ◌+◌, ◌*◌, List, length, inl, inr, refl}
+use Rattle.std.specs.FinMap.{keys, len}
+use Rattle.it_digest.specs.Sums.{lines_of}
+use Rattle.it_dsse.specs.Check.{Check}
+use Rattle.it_dsse.specs.Envelope.{EnvelopeOf}
+use Rattle.it_dsse.proofs.Decided.{envelope_of, envelope_of-finds}
+use Rattle.it_docs.specs.declared.policy.Expectation.{Expectation}
+use Rattle.it_chain.specs.Cost.{CostsIfFound, HasSignatures}
+use Rattle.it_chain.proofs.SomeCost.{some_cost, some_if_found, some_sum}
+use Rattle.it_prov.specs.Cost.{key_count}
+use Rattle.it_prov.specs.Fits.{Fits}
+use Rattle.it_prov.proofs.Fitting.{fits_or_none}
+use Rattle.it_verify.specs.Cost.{AreOwners, Costs, FileCosts, FilesCost, LinksCost}
+use Rattle.it_verify.specs.Documents.{Documents, ReadAs, setting_of}
+use Rattle.it_verify.specs.First.{Place, at_policy, at_sums, at_moment, at_envelope, at_payload_type, at_layout, Stands}
+use Rattle.it_verify.specs.declared.inputs.Inputs.{Inputs}
+use Rattle.it_verify.specs.declared.refusal.Refusal.{Refusal}
+use Rattle.it_verify.proofs.Documented.{StandsOr, policy_or, sums_or, moment_or, envelope_or, payload_type_or, layout_or}
+use Rattle.it_verify.proofs.DocumentsRead.{clear_policy, clear_sums, clear_moment, clear_envelope, clear_type, clear_layout}
+
+-- something of which P holds, or none
+abbrev SomeOrNone : {X : Type 0} → (X → Type 0) → Type 0
+SomeOrNone {X} P = ((x : X) × P x) ⊎ ((x : X) → ¬ P x)
+
+some_or_none : {X : Type 0} (Is : X → Type 0) (Cost : X → ℕ → Type 0) → ((x : X) → (n : ℕ) × Cost x n) → SomeOrNone Is → (n : ℕ) × CostsIfFound Is Cost n
+some_or_none Is Cost each (inl found) = let cost = each found.0 in (cost.0, inl (found.0, found.1, cost.1))
+some_or_none Is Cost each (inr none) = (0, inr (none, refl))
+
+line_cost : (line : List ℕ) → (n : ℕ) × CostsIfFound (EnvelopeOf line) HasSignatures n
+line_cost line = some_if_found (EnvelopeOf line) HasSignatures (λ envelope. (length envelope.signatures, refl)) (envelope_of line) (envelope_of-finds line)
+
+file_cost : (expectations : List Expectation) (signatures : ℕ) (path : List ℕ) → (n : ℕ) × FileCosts expectations signatures path n
+file_cost expectations signatures path =
+    some_or_none (Fits expectations path) (λ expectation n. n ≡ key_count expectation.builders * signatures) (λ expectation. (key_count expectation.builders * signatures, refl)) (fits_or_none path expectations)
+
+module _ (check : Check) (inputs : Inputs) where
+  -- where something stands at a place at which nothing stands if P holds, nothing is so
+  then_found : {X : Type 0} (P : X → Type 0) {G : Type 0} (place : Place) → StandsOr check inputs place G → ((x : X) → P x → (refusal : Refusal) → ¬ Stands check inputs place refusal) → (G → SomeOrNone P) → SomeOrNone P
+  then_found P place (inl found) clear next = inr (λ x is. clear x is found.0 found.1)
+  then_found P place (inr given) clear next = next given.0
+
+  owners_or_none : SomeOrNone (AreOwners inputs)
+  owners_or_none =
+      then_found (AreOwners inputs) at_policy (policy_or check inputs) (λ read are. clear_policy check inputs read.0 are.0) (λ policy.
+      then_found (AreOwners inputs) at_envelope (envelope_or check inputs) (λ read are. clear_envelope check inputs read.1 are.1) (λ envelope.
+      inl ((policy.0, envelope.0), (policy.1, envelope.1))))
+
+  read_or_none : SomeOrNone (ReadAs inputs)
+  read_or_none =
+      then_found (ReadAs inputs) at_policy (policy_or check inputs) (λ documents read. clear_policy check inputs documents.policy read.policy) (λ policy.
+      then_found (ReadAs inputs) at_sums (sums_or check inputs) (λ documents read. clear_sums check inputs documents.delivered read.delivered) (λ sums.
+      then_found (ReadAs inputs) at_moment (moment_or check inputs) (λ documents read. clear_moment check inputs documents.moment read.moment) (λ moment.
+      then_found (ReadAs inputs) at_envelope (envelope_or check inputs) (λ documents read. clear_envelope check inputs documents.envelope read.envelope) (λ envelope.
+      then_found (ReadAs inputs) at_payload_type (payload_type_or check inputs envelope.0 envelope.1) (λ documents read. clear_type check inputs documents.envelope read.envelope read.payload_type) (λ payload_type.
+      then_found (ReadAs inputs) at_layout (layout_or check inputs envelope.0 envelope.1) (λ documents read. clear_layout check inputs documents.envelope read.envelope documents.layout read.layout) (λ layout.
+      let documents : Documents = record { policy = policy.0; delivered = sums.0; moment = moment.0; envelope = envelope.0; layout = layout.0 } in
+      inl (documents, record { policy = policy.1; delivered = sums.1; moment = moment.1; envelope = envelope.1; payload_type = payload_type; layout = layout.1 })))))))
+
+  pub inputs_cost : (n : ℕ) × Costs check inputs n
+  inputs_cost =
+      let owners = some_or_none (AreOwners inputs) (λ read n. n ≡ len read.0.owners * length read.1.signatures) (λ read. (len read.0.owners * length read.1.signatures, refl)) owners_or_none in
+      let links = some_or_none (ReadAs inputs) (LinksCost check inputs) (λ documents. some_cost (setting_of check documents) inputs.depth documents.layout inputs.links) read_or_none in
+      let lines = some_sum (λ line. CostsIfFound (EnvelopeOf line) HasSignatures) line_cost (lines_of inputs.provenance) in
+      let files = some_or_none (ReadAs inputs) (λ documents. FilesCost documents lines.0) (λ documents. some_sum (FileCosts documents.policy.expectations lines.0) (file_cost documents.policy.expectations lines.0) (keys documents.delivered)) read_or_none in (
+        owners.0 + links.0 + files.0,
+        record { owners = owners.0; links = links.0; signatures = lines.0; files = files.0; of_owners = owners.1; of_links = links.1; of_lines = lines.1; of_files = files.1; sum = refl },
+      )

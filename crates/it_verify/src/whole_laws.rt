@@ -1,6 +1,6 @@
 //! Laws about a verification as a whole: functions that do nothing, and whose contracts say what is true
 //! of all inputs and every check.
-ghost use Rattle.it_verify.specs.WholeLaws.{MadeNotRefused, MadeOrFirst, MadeOrRefused, RefusalIsOne, VerdictIsOne};
+ghost use Rattle.it_verify.specs.WholeLaws.{AlikeInputs, MadeNotRefused, MadeOrFirst, MadeOrRefused, RefusalIsOne, VerdictIsOne};
 
 /// What was made as the owners laid down is never refused.
 pub fn made_not_refused()
@@ -27,4 +27,9 @@ pub fn refusal_is_one()
 /// What was made as the owners laid down is accepted with one list of steps and of files.
 pub fn verdict_is_one()
     ensures { VerdictIsOne }
+{}
+
+/// Inputs in which the same counts have the same verdict, and the same report.
+pub fn alike_inputs()
+    ensures { AlikeInputs }
 {}

@@ -32,7 +32,7 @@ use Rattle.it_chain.proofs.Zips.{of_zip}
 recorded_same : (r b : StepResult) → IsNoMore r b → recorded_in r ≡ recorded_in b
 recorded_same r b h = λ i. record { materials = h.materials i; products = h.products i }
 
-links_same : (rs bs : List StepResult) → AllZip IsNoMore rs bs → links_in rs ≡ links_in bs
+pub links_same : (rs bs : List StepResult) → AllZip IsNoMore rs bs → links_in rs ≡ links_in bs
 links_same [] [] h = refl
 links_same [] (b ∷ bs) h = absurd h
 links_same (r ∷ rs) [] h = absurd h

@@ -22,7 +22,7 @@ use Rattle.it_base.proofs.Members.{in_head, in_tail}
 use Rattle.it_prov.specs.Meets.{Meets}
 use Rattle.it_prov.proofs.OneFit.{fits_one}
 use Rattle.it_verify.specs.Documents.{Documents, ReadAs, setting_of}
-use Rattle.it_verify.specs.First.{at_links, at_records, at_inspections, at_deliver, at_provenance, RecordFails, InspectionFails, FileFails, Stands, sides_of}
+use Rattle.it_verify.specs.First.{at_links, at_records, at_inspections, at_deliver, at_provenance, RecordFails, InspectionFails, FileFails, sides_of}
 use Rattle.it_verify.specs.Made.{Evidence, HasProvenance, HasRecorded, InspectionRulesHold, IsEvidence, delivery, links_of}
 use Rattle.it_verify.specs.declared.inputs.Inputs.{Inputs}
 use Rattle.it_verify.specs.declared.refusal.Refusal.{Refusal}

@@ -9,6 +9,7 @@ use Rattle.it_verify.specs.declared.inputs.Inputs.{Inputs}
 use Rattle.it_verify.specs.declared.refusal.Refusal.{Refusal}
 use Rattle.it_verify.proofs.Documented.{StandsOr, policy_or, sums_or, moment_or, files_or, envelope_or, payload_type_or, owners_or, layout_or}
 use Rattle.it_verify.proofs.Evident.{links_or, records_or}
+use Rattle.it_verify.proofs.FirstOrAll.{first_stands}
 use Rattle.it_verify.proofs.Proven.{provenance_or}
 use Rattle.it_verify.proofs.Refused.{none_stands}
 use Rattle.it_verify.proofs.Ruled.{inspections_or, deliver_or}
@@ -56,14 +57,10 @@ module _ (check : Check) (inputs : Inputs) where
   unfolding Outcome
   made_or_refused = outcome
 
-  some_stands : (some : List Place) (refusal : Refusal) → IsFirst (Stands check inputs) some refusal → (place : Place) × Stands check inputs place refusal
-  some_stands [] refusal h = absurd h
-  some_stands (place ∷ others) refusal h = elim h [ inl stands ↦ (place, stands) | inr later ↦ some_stands others refusal later.1 ]
-
   made_where_clear : ((place : Place) (refusal : Refusal) → ¬ Stands check inputs place refusal) → Made check inputs
   made_where_clear clear = elim made_or_refused [
     | inl made ↦ made
-    | inr refused ↦ absurd (let found = some_stands places refused.0 refused.1 in clear found.0 refused.0 found.1)
+    | inr refused ↦ absurd (let found = first_stands (Stands check inputs) places refused.0 refused.1 in clear found.0 refused.0 found.2)
   ]
 
   pub made_or_first : Made check inputs ↔ ((place : Place) (refusal : Refusal) → ¬ Stands check inputs place refusal)

@@ -28,6 +28,7 @@ use Rattle.it_verify.specs.declared.failure.Failure.{Failure}
 use Rattle.it_verify.specs.declared.inputs.Inputs.{Inputs}
 use Rattle.it_verify.specs.declared.refusal.Refusal.{Refusal}
 use Rattle.it_verify.proofs.Failures.{fails_at}
+use Rattle.it_verify.proofs.FirstOrAll.{first_alike}
 
 -- ---- among envelopes
 module _ (check : Check) (expectations : List Expectation) (envelopes : List Envelope) where
@@ -77,11 +78,6 @@ read_of (first ∷ lines) envelopes are envelope line c reads =
     (⊎_elim (λ same. subst (Contains (x.0 ∷ x.1)) (envelope_same line x.0 envelope (subst (λ l. EnvelopeOf l x.0) same x.2) reads) (in_head x.0 x.1)) (λ d. in_tail x.0 x.1 envelope (later x.1 x.4 d)) (in_cases first lines line c)))
     (λ x. ⊎_elim (λ same. absurd (x.0 envelope (subst (λ l. EnvelopeOf l envelope) (sym same) reads))) (later envelopes x.1) (in_cases first lines line c)) are
 
--- what stands first where the same stands at each place
-first_alike : {P : Type 0} (At Bt : P → Refusal → Type 0) → ((p : P) (r : Refusal) → At p r → Bt p r) → ((p : P) (r : Refusal) → Bt p r → At p r) → (ps : List P) (r : Refusal) → IsFirst At ps r → IsFirst Bt ps r
-first_alike At Bt there back [] r h = h
-first_alike At Bt there back (p ∷ ps) r h = ⊎_elim (λ x. inl (there p r x)) (λ x. inr (λ q y. x.0 q (back p q y), first_alike At Bt there back ps r x.1)) h
-
 module _ (check : Check) (inputs : Inputs) (expectations : List Expectation) (envelopes : List Envelope) (are : AreRead (lines_of inputs.provenance) envelopes) where
   is_line : (envelope : Envelope) → Contains envelopes envelope → IsProvenanceLine inputs envelope
   is_line envelope c = let found = line_of (lines_of inputs.provenance) envelopes are envelope c in record { line = found.0; stands = found.1; reads = found.2 }
@@ -110,4 +106,4 @@ module _ (check : Check) (inputs : Inputs) (expectations : List Expectation) (en
 
   -- the first that has none
   pub first_unproven : (delivered : ArtifactMap) (refusal : Refusal) → IsFirst (FileLacks check expectations envelopes) (entries delivered) refusal → IsFirst (FileFails check inputs expectations) (entries delivered) refusal
-  first_unproven delivered refusal = first_alike (FileLacks check expectations envelopes) (FileFails check inputs expectations) lacks_fails fails_lacks (entries delivered) refusal
+  first_unproven delivered refusal = first_alike (FileLacks check expectations envelopes) (FileFails check inputs expectations) (entries delivered) (λ file c. lacks_fails file) (λ file c. fails_lacks file) refusal

@@ -1,24 +1,11 @@
 -- What is made as laid down is never refused.
-use Rattle.std.proofs.Common.{◌≡◌, ℕ, List, [], ◌∷◌, flat_map, zip, Contains, Some, None, Option, sym, subst, ◌∙◌, ⊎_elim}
-use Rattle.std.specs.List.{AllZip}
-use Rattle.std.specs.FinMap.{entries, get}
-use Rattle.it_digest.specs.declared.compare.DigestSet.{DigestSet}
+use Rattle.std.proofs.Common.{List, [], ◌∷◌}
 use Rattle.it_dsse.specs.Check.{Check}
-use Rattle.it_docs.specs.declared.link.Link.{Link}
-use Rattle.it_docs.specs.declared.rule.Side.TheVariants.{Materials, Products}
-use Rattle.it_docs.specs.declared.step.Inspection.{Inspection}
-use Rattle.it_rules.specs.Rules.{IsFirstFault}
-use Rattle.it_chain.specs.First.{First as ChainFirst, IsFirst}
-use Rattle.it_chain.proofs.Entries.{entry_known}
-use Rattle.it_chain.proofs.Excludes.{chain_excludes}
 use Rattle.it_chain.proofs.Firsts.{none_first}
 use Rattle.it_chain.specs.Walk.{NoneAt}
-use Rattle.it_base.proofs.Members.{in_head, in_tail}
-use Rattle.it_prov.specs.Meets.{Meets}
-use Rattle.it_prov.proofs.OneFit.{fits_one}
-use Rattle.it_verify.specs.Documents.{Documents, setting_of}
-use Rattle.it_verify.specs.First.{Place, at_policy, at_sums, at_moment, at_files, at_envelope, at_payload_type, at_owners, at_layout, at_links, at_records, at_inspections, at_deliver, at_provenance, RecordFails, InspectionFails, FileFails, First, Stands, places, sides_of}
-use Rattle.it_verify.specs.Made.{Evidence, HasRecorded, InspectionRulesHold, IsMadeBy, Made, delivery, links_of}
+use Rattle.it_verify.specs.Documents.{Documents}
+use Rattle.it_verify.specs.First.{Place, at_policy, at_sums, at_moment, at_files, at_envelope, at_payload_type, at_owners, at_layout, at_links, at_records, at_inspections, at_deliver, at_provenance, First, Stands, places}
+use Rattle.it_verify.specs.Made.{Evidence, IsMadeBy, Made}
 use Rattle.it_verify.specs.declared.inputs.Inputs.{Inputs}
 use Rattle.it_verify.specs.declared.refusal.Refusal.{Refusal}
 use Rattle.it_verify.proofs.DocumentsRead.{clear_policy, clear_sums, clear_moment, clear_files, clear_envelope, clear_type, clear_owners, clear_layout}

@@ -1,11 +1,20 @@
 -- What is shown of the definitions of a verification as a whole.
-use Rattle.std.specs.Prelude.{◌≡◌, ◌↔◌, ◌⊎◌}
+use Rattle.std.specs.Prelude.{◌≡◌, ◌≤◌, ◌↔◌, ◌⊎◌, ℕ, List}
+use Rattle.std.specs.List.{AllZip}
 use Rattle.it_dsse.specs.Check.{Check}
+use Rattle.it_verify.specs.Alike.{Alike, Within}
 use Rattle.it_verify.specs.Documents.{Documents}
 use Rattle.it_verify.specs.First.{First, Place, Stands}
 use Rattle.it_verify.specs.Made.{Evidence, IsMadeBy, Made, verdict_of}
+use Rattle.it_verify.specs.Verdict.{IsVerdict}
+use Rattle.it_verify.specs.Verifying.{IsVerifyOutput}
 use Rattle.it_verify.specs.declared.inputs.Inputs.{Inputs}
+use Rattle.it_verify.specs.declared.outcome.Status.{Status}
+use Rattle.it_verify.specs.declared.refusal.Fault.{Fault}
+use Rattle.it_verify.specs.declared.refusal.Fault.TheVariants.{NoProvenance, Threshold}
 use Rattle.it_verify.specs.declared.refusal.Refusal.{Refusal}
+use Rattle.it_verify.specs.declared.verdict.Verdict.{Verdict}
+use Rattle.it_verify.specs.declared.verdict.Verdict.TheVariants.{Accepted, Refused}
 
 -- what was made as the owners laid down has no first fault
 abbrev pub MadeNotRefused : Type 0
@@ -29,3 +38,33 @@ abbrev pub VerdictIsOne : Type 0
 VerdictIsOne =
     (check : Check) (inputs : Inputs) (documents other : Documents) (evidence given : Evidence)
     → IsMadeBy check inputs documents evidence → IsMadeBy check inputs other given → verdict_of documents evidence ≡ verdict_of other given
+
+-- inputs come to the same: whatever is the verdict on the first is that on the others, and so is its report
+pub record ComesToTheSame (check : Check) (inputs other : Inputs) : Type 0 where
+  pub verdict : (verdict : Verdict) → IsVerdict check inputs verdict ↔ IsVerdict check other verdict
+  pub report : (text : List ℕ) (status : Status) → IsVerifyOutput check inputs text status ↔ IsVerifyOutput check other text status
+
+-- inputs in which the same counts come to the same
+abbrev pub AlikeInputs : Type 0
+AlikeInputs = (check : Check) (inputs other : Inputs) → Alike check inputs other → ComesToTheSame check inputs other
+
+-- the same step, with no more different keys
+abbrev pub HasNoMoreKeys : List ℕ × ℕ → List ℕ × ℕ → Type 0
+HasNoMoreKeys step before = (step.0 ≡ before.0) × (step.1 ≤ before.1)
+
+-- too few different keys signed, or a delivered file has no provenance
+abbrev pub IsWithheld : Fault → Type 0
+IsWithheld fault = ((step : List ℕ) × (found : ℕ) × (needed : ℕ) × (fault ≡ Threshold step found needed)) ⊎ ((path : List ℕ) × (fault ≡ NoProvenance path))
+
+-- a verdict only withholds what one before it accepted: it accepts the same steps and files, no step
+-- having more keys, or refuses what is withheld
+abbrev pub OnlyWithholds : Verdict → Verdict → Type 0
+OnlyWithholds (Accepted steps files) (Accepted before all) = AllZip HasNoMoreKeys steps before × (files ≡ all)
+OnlyWithholds (Accepted steps files) (Refused refusal) = ⊥
+OnlyWithholds (Refused refusal) before = IsWithheld refusal.fault
+
+-- who takes away what counts from what was made as the owners laid down can only withhold
+abbrev pub WithheldInputs : Type 0
+WithheldInputs =
+    (check : Check) (inputs other : Inputs) (documents : Documents) (evidence : Evidence) (verdict : Verdict) → Within check inputs other
+    → IsMadeBy check other documents evidence → IsVerdict check inputs verdict → OnlyWithholds verdict (verdict_of documents evidence)

@@ -1,6 +1,6 @@
 //! Laws about a verification as a whole: functions that do nothing, and whose contracts say what is true
 //! of all inputs and every check.
-ghost use Rattle.it_verify.specs.WholeLaws.{MadeNotRefused, MadeOrFirst, MadeOrRefused, RefusalIsOne, VerdictIsOne};
+ghost use Rattle.it_verify.specs.WholeLaws.{AlikeInputs, MadeNotRefused, MadeOrFirst, MadeOrRefused, RefusalIsOne, VerdictIsOne, WithheldInputs};
 
 /// What was made as the owners laid down is never refused.
 pub fn made_not_refused()
@@ -27,4 +27,16 @@ pub fn refusal_is_one()
 /// What was made as the owners laid down is accepted with one list of steps and of files.
 pub fn verdict_is_one()
     ensures { VerdictIsOne }
+{}
+
+/// Inputs in which the same counts have the same verdict, and the same report.
+pub fn alike_inputs()
+    ensures { AlikeInputs }
+{}
+
+/// Inputs in which less counts than in others that were made as the owners laid down are accepted
+/// with the same steps and files, no step having more keys, or are refused for too few keys or for
+/// want of provenance.
+pub fn withheld_inputs()
+    ensures { WithheldInputs }
 {}

@@ -1,0 +1,182 @@
+-- Inputs in which the same counts have the same verdict, and the same report.
+use Rattle.std.proofs.Common.{◌↔◌, ℕ, List, ◌∷◌, Contains, inl, inr, refl, sym, subst, ⊎_elim}
+use Rattle.std.specs.FinMap.{entries}
+use Rattle.std.proofs.lemmas.List.Elements.{Contains-append_right}
+use Rattle.it_base.proofs.Members.{in_head}
+use Rattle.it_digest.specs.declared.compare.DigestSet.{DigestSet}
+use Rattle.it_dsse.specs.Check.{Check}
+use Rattle.it_dsse.specs.declared.envelope.Envelope.{Envelope}
+use Rattle.it_docs.specs.Statement.{StatementOf}
+use Rattle.it_docs.specs.declared.policy.Expectation.{Expectation}
+use Rattle.it_chain.specs.Alike.{Alike as ChainAlike, ComesToTheSame as ChainsCome}
+use Rattle.it_chain.specs.Chain.{Chain}
+use Rattle.it_chain.specs.First.{First as ChainFirst}
+use Rattle.it_chain.proofs.Alikes.{alike_chains}
+use Rattle.it_chain.proofs.Zips.{zip_weaker}
+use Rattle.it_prov.specs.Fits.{Fits}
+use Rattle.it_prov.specs.Meets.{Meets}
+use Rattle.it_verify.specs.Alike.{Alike, IsAttested}
+use Rattle.it_verify.specs.Documents.{Documents, ReadAs, IsProvenanceLine, setting_of}
+use Rattle.it_verify.specs.First.{Place, at_links, at_inspections, at_deliver, at_provenance, FileFails, Stands, places}
+use Rattle.it_verify.specs.Made.{Evidence, HasRecorded, IsEvidence, IsMadeBy}
+use Rattle.it_verify.specs.Verdict.{IsVerdict}
+use Rattle.it_verify.specs.Verifying.{IsVerifyOutput}
+use Rattle.it_verify.specs.WholeLaws.{ComesToTheSame}
+use Rattle.it_verify.specs.declared.inputs.Inputs.{Inputs}
+use Rattle.it_verify.specs.declared.outcome.Status.{Status}
+use Rattle.it_verify.specs.declared.refusal.Refusal.{Refusal}
+use Rattle.it_verify.specs.declared.verdict.Verdict.{Verdict}
+use Rattle.it_verify.specs.declared.verdict.Verdict.TheVariants.{Accepted, Refused}
+use Rattle.it_verify.proofs.Counterparts.{Carried, Share, at_each, recorded_there, reread, share_back, share_of, with_envelope}
+use Rattle.it_verify.proofs.FirstOrAll.{first_alike}
+
+alike_share : (check : Check) (a b : Inputs) → Alike check a b → Share check a b
+alike_share = share_of ChainAlike (λ here there. here ↔ there)
+
+alike_back : (check : Check) (a b : Inputs) → Alike check a b → Alike check b a
+alike_back check a b h =
+    let share = share_back check a b (alike_share check a b h) in
+    record {
+      policy = share.policy;
+      sums = share.sums;
+      moment = share.moment;
+      depth = share.depth;
+      layout = share.layout;
+      records = share.records;
+      bundles = λ documents read.
+          let same = h.bundles (with_envelope documents (reread check b a share documents read).other) (reread check b a share documents read).read in
+          subst (λ depth. ChainAlike (setting_of check documents) depth documents.layout b.links a.links) h.depth (same.1, same.0);
+      provenance = λ documents id payload object read key.
+          let same = h.provenance (with_envelope documents (reread check b a share documents read).other) id payload object (reread check b a share documents read).read key in
+          (same.1, same.0);
+    }
+
+fits_stands : (expectations : List Expectation) (path : List ℕ) (expectation : Expectation) → Fits expectations path expectation → Contains expectations expectation
+fits_stands expectations path expectation fits =
+    subst (λ es. Contains es expectation) (sym fits.they_are) (Contains-append_right fits.front (expectation ∷ fits.rest) expectation (in_head expectation fits.rest))
+
+-- what attests the same payload, signed by the same key, meets the same expectation
+meets_attested : (check : Check) (inputs : Inputs) (expectation : Expectation) (digests : DigestSet) (envelope : Envelope) (m : Meets check expectation digests envelope)
+    → (given : IsAttested check inputs m.signed.id m.signed.object envelope.payload) → Meets check expectation digests given.envelope
+meets_attested check inputs expectation digests envelope m given = record {
+  builder = m.builder;
+  provenance = m.provenance;
+  is_expected = m.is_expected;
+  signed = record { id = m.signed.id; object = m.signed.object; key = given.signed.0; is_key = m.signed.is_key; signed = given.signed.1 };
+  attests = record {
+    statement = m.attests.statement;
+    subject = m.attests.subject;
+    type_is = given.payload_type;
+    reads = subst (λ payload. StatementOf payload m.attests.statement) (sym given.payload_is) m.attests.reads;
+    provenance_is = m.attests.provenance_is;
+    is_subject = m.attests.is_subject;
+    digests_agree = m.attests.digests_agree;
+  };
+  built_by = m.built_by;
+  build_type = m.build_type;
+  parameters = m.parameters;
+}
+
+-- ---- from inputs to alike ones
+module _ (check : Check) (a b : Inputs) (h : Alike check a b) (documents : Documents) (read : ReadAs a documents) where
+  chains : ChainsCome (setting_of check documents) a.depth documents.layout a.links b.links
+  chains = alike_chains (setting_of check documents) a.depth documents.layout a.links b.links (h.bundles documents read)
+
+  evidence_there : (other : Envelope) (evidence : Evidence) → IsEvidence check a documents evidence → IsEvidence check b (with_envelope documents other) evidence
+  evidence_there other evidence is = record {
+    steps = subst (λ depth. Chain (setting_of check documents) depth documents.layout b.links evidence.steps) h.depth ((chains.chain evidence.steps).0 is.steps);
+    inspections = zip_weaker (HasRecorded a) (HasRecorded b) (recorded_there check a b (alike_share check a b h)) documents.layout.inspections evidence.inspections is.inspections;
+  }
+
+  -- what meets an expectation in the others has its like in the inputs
+  meets_here : (expectation : Expectation) (digests : DigestSet) (envelope : Envelope) → Contains documents.policy.expectations expectation → IsProvenanceLine b envelope → Meets check expectation digests envelope
+      → (other : Envelope) × IsProvenanceLine a other × Meets check expectation digests other
+  meets_here expectation digests envelope expected is m =
+      let there : IsAttested check b m.signed.id m.signed.object envelope.payload =
+      record { envelope = envelope; is_line = is; payload_type = m.attests.type_is; payload_is = refl; signed = (m.signed.key, m.signed.signed) } in
+      let here : IsAttested check a m.signed.id m.signed.object envelope.payload = (h.provenance documents m.signed.id envelope.payload m.signed.object read
+      (record { expectation = expectation; builder = m.builder; is_expected = expected; is_builder = m.is_expected; is_key = m.signed.is_key })).1 there in
+      (here.envelope, here.is_line, meets_attested check a expectation digests envelope m here)
+
+  file_fails_there : (file : List ℕ × DigestSet) (refusal : Refusal) → FileFails check a documents.policy.expectations file refusal → FileFails check b documents.policy.expectations file refusal
+  file_fails_there file refusal =
+      ⊎_elim inl
+      (λ x. inr (
+        x.0,
+        x.1,
+        λ envelope is m. let found = meets_here x.0 file.1 envelope (fits_stands documents.policy.expectations file.0 x.0 x.1) is m in x.2 found.0 found.1 found.2,
+        x.3,
+      ))
+
+module _ (check : Check) (a b : Inputs) (h : Alike check a b) where
+  share : Share check a b
+  share = alike_share check a b h
+
+  back : Alike check b a
+  back = alike_back check a b h
+
+  links_there : Carried check a b at_links
+  links_there refusal x =
+      let again = reread check a b share x.0 x.2 in
+      let first = ((chains check a b h x.0 x.2).first x.1).0 x.3 in
+      (with_envelope x.0 again.other, x.1, again.read, subst (λ depth. ChainFirst (setting_of check x.0) depth x.0.layout b.links x.1) h.depth first, x.4)
+
+  inspections_there : Carried check a b at_inspections
+  inspections_there refusal x =
+      let again = reread check a b share x.0 x.2 in
+      (with_envelope x.0 again.other, x.1, again.read, evidence_there check a b h x.0 x.2 again.other x.1 x.3, x.4)
+
+  deliver_there : Carried check a b at_deliver
+  deliver_there refusal x =
+      let again = reread check a b share x.0 x.4 in
+      (with_envelope x.0 again.other, x.1, x.2, x.3, again.read, evidence_there check a b h x.0 x.4 again.other x.1 x.5, x.6, x.7)
+
+  provenance_there : Carried check a b at_provenance
+  provenance_there refusal x =
+      let again = reread check a b share x.0 x.1 in
+      let expectations = x.0.policy.expectations in (
+        with_envelope x.0 again.other,
+        again.read,
+        first_alike (FileFails check a expectations) (FileFails check b expectations) (entries x.0.delivered) (λ file c. file_fails_there check a b h x.0 x.1 file)
+            (λ file c. file_fails_there check b a back (with_envelope x.0 again.other) again.read file) refusal x.2,
+      )
+
+  stands_there : (place : Place) → Carried check a b place
+  stands_there = at_each check a b share (Carried check a b) (λ place carried. carried) links_there inspections_there deliver_there provenance_there
+
+  made_there : (documents : Documents) (evidence : Evidence) → IsMadeBy check a documents evidence → (other : Envelope) × IsMadeBy check b (with_envelope documents other) evidence
+  made_there documents evidence made =
+      let again = reread check a b share documents made.read in (
+        again.other,
+        record {
+          read = again.read;
+          some_file = made.some_file;
+          owners = λ id object known. (again.owners id object known).0 (made.owners id object known);
+          is_evidence = evidence_there check a b h documents made.read again.other evidence made.is_evidence;
+          inspection_rules = made.inspection_rules;
+          deliver_rules = made.deliver_rules;
+          provenance = λ path digests known.
+              let has = made.provenance path digests known in
+              let found = meets_here check b a back (with_envelope documents again.other) again.read has.expectation digests has.envelope
+              (fits_stands documents.policy.expectations path has.expectation has.fits) has.is_line has.meets in
+              record { expectation = has.expectation; envelope = found.0; fits = has.fits; is_line = found.1; meets = found.2 };
+        },
+      )
+
+module _ (check : Check) (a b : Inputs) (h : Alike check a b) where
+  verdict_there : (verdict : Verdict) → IsVerdict check a verdict → IsVerdict check b verdict
+  verdict_there (Accepted steps files) x = let made = made_there check a b h x.0 x.1 x.2 in (with_envelope x.0 made.0, x.1, made.1, x.3)
+  verdict_there (Refused refusal) x =
+      first_alike (Stands check a) (Stands check b) places (λ place c. stands_there check a b h place) (λ place c. stands_there check b a (alike_back check a b h) place) refusal x
+
+  output_there : (text : List ℕ) (status : Status) → IsVerifyOutput check a text status → IsVerifyOutput check b text status
+  output_there text status x = record { verdict = x.verdict; is_verdict = verdict_there x.verdict x.is_verdict; text_is = x.text_is; status_is = x.status_is }
+
+-- alike inputs come to the same
+pub alike_inputs : (check : Check) (a b : Inputs) → Alike check a b → ComesToTheSame check a b
+alike_inputs check a b h =
+    let back = alike_back check a b h in
+    record {
+      verdict = λ verdict. (verdict_there check a b h verdict, verdict_there check b a back verdict);
+      report = λ text status. (output_there check a b h text status, output_there check b a back text status);
+    }

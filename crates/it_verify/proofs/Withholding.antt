@@ -1,0 +1,149 @@
+-- Inputs within others that were made as the owners laid down are accepted with no more keys, or refused
+-- for what is withheld.
+use Rattle.std.proofs.Common.{◌≡◌, ℕ, List, [], ◌∷◌, ◌++◌, flat_map, map, zip, Some, inl, inr, refl, sym, ap, subst, ⊎_elim}
+use Rattle.std.specs.List.{AllZip}
+use Rattle.std.specs.FinMap.{entries, get, keys}
+use Rattle.it_digest.specs.declared.compare.DigestSet.{DigestSet}
+use Rattle.it_dsse.specs.Check.{Check}
+use Rattle.it_docs.specs.declared.link.Link.{Link}
+use Rattle.it_docs.specs.declared.rule.Side.TheVariants.{Products}
+use Rattle.it_rules.specs.Rules.{IsFirstFault}
+use Rattle.it_chain.specs.Alike.{Within as ChainWithin}
+use Rattle.it_chain.specs.Chain.{Chain}
+use Rattle.it_chain.specs.First.{IsFirst}
+use Rattle.it_chain.specs.Laws.{IsNoMore, IsThresholdFault, OnlyWithholds as ChainOnlyWithholds}
+use Rattle.it_chain.specs.declared.chain.StepResult.{StepResult}
+use Rattle.it_chain.specs.declared.refusal.ChainFault.{ChainFault}
+use Rattle.it_chain.specs.declared.refusal.ChainFault.TheVariants as chain
+use Rattle.it_chain.proofs.Entries.{entry_known}
+use Rattle.it_chain.proofs.Withheld.{links_same, withheld}
+use Rattle.it_chain.proofs.Zips.{zip_weaker}
+use Rattle.it_verify.specs.Alike.{Within}
+use Rattle.it_verify.specs.Documents.{Documents, ReadAs, setting_of}
+use Rattle.it_verify.specs.First.{Place, at_links, at_inspections, at_deliver, at_provenance, FileFails, InspectionFails, Stands, fault_of, places, sides_of}
+use Rattle.it_verify.specs.Made.{Evidence, HasProvenance, HasRecorded, IsEvidence, IsMadeBy, delivery, links_of, recorded_in, verdict_of}
+use Rattle.it_verify.specs.Verdict.{IsVerdict}
+use Rattle.it_verify.specs.WholeLaws.{HasNoMoreKeys, IsWithheld, OnlyWithholds}
+use Rattle.it_verify.specs.declared.inputs.Inputs.{Inputs}
+use Rattle.it_verify.specs.declared.refusal.Refusal.{Refusal}
+use Rattle.it_verify.specs.declared.verdict.Verdict.{Verdict}
+use Rattle.it_verify.specs.declared.verdict.Verdict.TheVariants.{Accepted, Refused}
+use Rattle.it_verify.proofs.Counterparts.{Carried, Reread, Share, at_each, recorded_there, reread, share_of, with_envelope}
+use Rattle.it_verify.proofs.FirstOrAll.{first_stands}
+use Rattle.it_verify.proofs.OneReading.{read_alike}
+use Rattle.it_verify.proofs.Refused.{none_stands}
+
+threshold_withheld : (fault : ChainFault) → IsThresholdFault fault → IsWithheld (fault_of fault)
+threshold_withheld (chain.Threshold step found needed) h = inl (step, found, needed, refl)
+threshold_withheld chain.Expired h = absurd h
+threshold_withheld (chain.TwoPayloads step id) h = absurd h
+threshold_withheld chain.TooDeep h = absurd h
+threshold_withheld (chain.Disagree step id) h = absurd h
+threshold_withheld chain.InspectionInSublayout h = absurd h
+threshold_withheld (chain.RuleFailed item side index path) h = absurd h
+
+no_more_keys : (results before : List StepResult) → AllZip IsNoMore results before
+    → AllZip HasNoMoreKeys (map (λ (r : StepResult). (r.name, r.keys)) results) (map (λ (r : StepResult). (r.name, r.keys)) before)
+no_more_keys [] [] h = tt
+no_more_keys [] (b ∷ bs) h = absurd h
+no_more_keys (r ∷ rs) [] h = absurd h
+no_more_keys (r ∷ rs) (b ∷ bs) h = ((h.0.name, h.0.keys), no_more_keys rs bs h.1)
+
+module _ (check : Check) (less more : Inputs) (h : Within check less more) (documents : Documents) (evidence : Evidence) (made : IsMadeBy check more documents evidence) where
+  share : Share check less more
+  share = share_of ChainWithin (λ here there. here → there) check less more h
+
+  -- ---- what the smaller inputs read as, and with which evidence
+  module _ (given : Documents) (read : ReadAs less given) where
+    again : Reread check more given
+    again = reread check less more share given read
+
+    -- what is so of the documents is so of those that the larger inputs reread
+    so_there : (F : Documents → Type 0) → F documents → F (with_envelope given again.other)
+    so_there F = read_alike more F documents (with_envelope given again.other) made.read again.read
+
+    steps_there : Chain (setting_of check given) more.depth given.layout more.links evidence.steps
+    steps_there = so_there (λ d. Chain (setting_of check d) more.depth d.layout more.links evidence.steps) made.is_evidence.steps
+
+    chain_there : Chain (setting_of check given) less.depth given.layout more.links evidence.steps
+    chain_there = subst (λ depth. Chain (setting_of check given) depth given.layout more.links evidence.steps) (sym h.depth) steps_there
+
+    chains : ChainOnlyWithholds (setting_of check given) less.depth given.layout less.links more.links
+    chains = withheld (setting_of check given) less.depth given.layout less.links more.links (h.bundles given read)
+
+    module _ (found : Evidence) (is : IsEvidence check less given found) where
+      steps_no_more : AllZip IsNoMore found.steps evidence.steps
+      steps_no_more = chains.chain found.steps evidence.steps is.steps chain_there
+
+      -- the evidence of the larger inputs: its steps, and what the inspections recorded
+      abbrev there : Evidence
+      there = record { steps = evidence.steps; inspections = found.inspections }
+
+      evidence_there : IsEvidence check more (with_envelope given again.other) there
+      evidence_there = record {
+        steps = steps_there;
+        inspections = zip_weaker (HasRecorded less) (HasRecorded more) (recorded_there check less more share) given.layout.inspections found.inspections is.inspections;
+      }
+
+      links_there : links_of found ≡ links_of there
+      links_there = ap (λ links. links ++ map (λ (link : Link). (link.name, recorded_in link)) found.inspections) (links_same found.steps evidence.steps steps_no_more)
+
+  -- ---- place by place
+  abbrev Few : Place → Type 0
+  Few place = (refusal : Refusal) → Stands check less place refusal → IsWithheld refusal.fault
+
+  -- nothing stands at a place of the larger inputs
+  not_there : (place : Place) → Carried check less more place → Few place
+  not_there place carried refusal x = absurd (none_stands check more documents evidence made place refusal (carried refusal x))
+
+  links_few : Few at_links
+  links_few refusal x =
+      let few : IsThresholdFault x.1.fault = (chains x.0 x.2).first x.1 evidence.steps x.3 (chain_there x.0 x.2) in
+      subst (λ (r : Refusal). IsWithheld r.fault) (sym x.4) (threshold_withheld x.1.fault few)
+
+  inspections_there : Carried check less more at_inspections
+  inspections_there refusal x = (
+    with_envelope x.0 (again x.0 x.2).other,
+    there x.0 x.2 x.1 x.3,
+    (again x.0 x.2).read,
+    evidence_there x.0 x.2 x.1 x.3,
+    subst (λ links. IsFirst (InspectionFails links) (flat_map sides_of (zip x.0.layout.inspections x.1.inspections)) refusal) (links_there x.0 x.2 x.1 x.3) x.4,
+  )
+
+  deliver_there : Carried check less more at_deliver
+  deliver_there refusal x = (
+    with_envelope x.0 (again x.0 x.4).other,
+    there x.0 x.4 x.1 x.5,
+    x.2,
+    x.3,
+    (again x.0 x.4).read,
+    evidence_there x.0 x.4 x.1 x.5,
+    subst (λ links. IsFirstFault x.0.policy.deliver Products (delivery x.0.delivered) links x.2 x.3) (links_there x.0 x.4 x.1 x.5) x.6,
+    x.7,
+  )
+
+  abbrev AllProven : Documents → Type 0
+  AllProven d = (path : List ℕ) (digests : DigestSet) → get d.delivered path ≡ Some digests → HasProvenance check more d.policy.expectations path digests
+
+  provenance_few : Few at_provenance
+  provenance_few refusal x =
+      let found = first_stands (FileFails check less x.0.policy.expectations) (entries x.0.delivered) refusal x.2 in
+      let has = so_there x.0 x.1 AllProven made.provenance found.0.0 found.0.1 (entry_known x.0.delivered found.0 found.1) in
+      ⊎_elim (λ none. absurd (none.0 has.expectation has.fits)) (λ lacks. inr (found.0.0, ap (λ (r : Refusal). r.fault) lacks.3)) found.2
+
+  few : (place : Place) → Few place
+  few = at_each check less more share Few not_there links_few (not_there at_inspections inspections_there) (not_there at_deliver deliver_there) provenance_few
+
+  -- ---- the verdict
+  accepted_there : (given : Documents) (found : Evidence) → IsMadeBy check less given found → OnlyWithholds (verdict_of given found) (verdict_of documents evidence)
+  accepted_there given found is =
+      (no_more_keys found.steps evidence.steps (steps_no_more given is.read found is.is_evidence), sym (so_there given is.read (λ d. keys documents.delivered ≡ keys d.delivered) refl))
+
+  verdict_withheld : (verdict : Verdict) → IsVerdict check less verdict → OnlyWithholds verdict (verdict_of documents evidence)
+  verdict_withheld (Accepted steps files) x = subst (λ v. OnlyWithholds v (verdict_of documents evidence)) (sym x.3) (accepted_there x.0 x.1 x.2)
+  verdict_withheld (Refused refusal) x = let found = first_stands (Stands check less) places refusal x in few found.0 refusal found.2
+
+-- inputs within others that were made as laid down are only withheld from
+pub withheld_inputs : (check : Check) (less more : Inputs) (documents : Documents) (evidence : Evidence) (verdict : Verdict) → Within check less more
+    → IsMadeBy check more documents evidence → IsVerdict check less verdict → OnlyWithholds verdict (verdict_of documents evidence)
+withheld_inputs check less more documents evidence verdict h made = verdict_withheld check less more h documents evidence made verdict

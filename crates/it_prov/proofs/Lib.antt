@@ -2,10 +2,12 @@ pub mod Asking
 pub mod Attesting
 pub mod Entries
 pub mod Fitting
+pub mod Holding
 pub mod Meeting
 pub mod NameSets
 pub mod OneFit
 pub mod ParametersSettled
+pub mod Saying
 pub mod Searching
 pub mod Signing
 pub mod Trees

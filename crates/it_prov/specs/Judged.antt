@@ -1,12 +1,14 @@
 -- What the functions that judge an envelope come to, in the words of the definitions. Nothing that is
 -- trusted stands here.
-use Rattle.std.specs.Prelude.{◌≡◌, ◌↔◌, ℕ, List, Bool, Some, None, Contains, IsTrue}
+use Rattle.std.specs.Prelude.{◌≡◌, ◌↔◌, ℕ, List, Bool, Option, Some, None, Contains, IsTrue}
 use Rattle.std.specs.Borrow.{Bor}
 use Rattle.std.specs.BTreeMap.{is_at}
 use Rattle.std.specs.BTreeSet.{BTreeSet}
 use Rattle.std.specs.Cmp.Lexicographic.{slice_cmp}
 use Rattle.std.specs.List.{list_any}
 use Rattle.std.specs.Ordering.{nat_cmp}
+use Rattle.it_digest.specs.Compare.{Agree}
+use Rattle.it_digest.specs.declared.compare.DigestSet.{DigestSet}
 use Rattle.it_dsse.specs.Check.{Check}
 use Rattle.it_dsse.specs.declared.envelope.Envelope.{Envelope}
 use Rattle.it_docs.specs.Json.{Json, Fields}
@@ -14,6 +16,7 @@ use Rattle.it_docs.specs.TreeOf.{field_at}
 use Rattle.it_docs.specs.declared.policy.Builder.{Builder}
 use Rattle.it_docs.specs.declared.policy.Expectation.{Expectation}
 use Rattle.it_docs.specs.declared.statement.Provenance.{Provenance}
+use Rattle.it_docs.specs.declared.statement.Statement.{Statement}
 use Rattle.it_prov.specs.Meets.{ParametersMeet, SignedByBuilder, StandsEqual}
 
 -- whether a name is one of these lent ones
@@ -47,3 +50,18 @@ pub record IsBuiltBy (check : Check) (envelope : Envelope) (builders : List Buil
   pub stands : Contains builders builder
   pub id_is : id ≡ builder.id
   pub signed : SignedByBuilder check envelope builder
+
+-- there is a Statement, a subject of which has the digests, with this provenance, which is expected
+pub record SaysExpected (expectation : Expectation) (digests : DigestSet) (found : Option Statement) (provenance : Provenance) : Type 0 where
+  pub statement : Statement
+  pub subject : DigestSet
+  pub found_is : found ≡ Some statement
+  pub provenance_is : statement.provenance ≡ Some provenance
+  pub is_subject : Contains statement.subjects subject
+  pub digests_agree : Agree subject digests
+  pub expected : IsExpected expectation provenance
+
+-- there is a provenance, and the builder that it names signed the envelope
+abbrev pub IsBuilt : Check → Envelope → List Builder → Option (Bor Provenance) → Type 0
+IsBuilt check envelope builders None = ⊥
+IsBuilt check envelope builders (Some provenance) = IsBuiltBy check envelope builders provenance.now.builder

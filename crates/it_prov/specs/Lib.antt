@@ -1,5 +1,6 @@
 pub mod Cost
 pub mod Finding
 pub mod Fits
+pub mod Held
 pub mod Judged
 pub mod Meets

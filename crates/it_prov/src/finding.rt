@@ -4,7 +4,9 @@ ghost use Rattle.it_dsse.specs.Meter.{RaisedBy};
 ghost use Rattle.it_prov.specs.Cost.{key_count, signature_count};
 ghost use Rattle.it_prov.specs.Finding.{IsFound, IsMissing, NoneFits};
 ghost use Rattle.it_prov.specs.Fits.{Fits};
+ghost use Rattle.it_prov.specs.Held.{AreHeld};
 
+use crate::attestations::Attestations;
 use crate::fault::ProvError;
 use crate::fits::fitting;
 use crate::meets::first_to_meet;
@@ -53,10 +55,51 @@ pub fn find_provenance(
     ensures unasked { NoneFits expectations.now path.now → meter.new ≡ meter.old }
     ensures at_least { OnOk result (RaisedBy (λ n. 1 ≤ n) meter.old meter.new) }
 {
+    let attestations = Attestations::of(alloc, envelopes)?;
+    find_among(
+        alloc,
+        path,
+        digests,
+        expectations,
+        &attestations,
+        check,
+        meter,
+    )
+}
+
+/// The index of the first envelope that is provenance of a delivered file, as `find_provenance` answers
+/// it, among envelopes whose Statements were read before.
+///
+/// # Errors
+///
+/// Those of `find_provenance`.
+pub fn find_among(
+    alloc: Global,
+    path: &str,
+    digests: DigestSet,
+    expectations: &[Expectation],
+    attestations: &Attestations,
+    check: &Box<dyn SignatureCheck>,
+    meter: &mut Meter,
+) -> Result<usize, ProvError>
+    requires { AreHeld attestations.now.envelopes.now attestations.now.statements.items }
+    ensures found { IfOk result (IsFound (meaning check.now) expectations.now path.now digests
+        attestations.now.envelopes.now) }
+    ensures no_expectation { IfErr result (λ e. (named : _) → e ≡ ProvError.NoExpectation named
+        → (named ≡ path.now) × NoneFits expectations.now path.now) }
+    ensures no_provenance { IfErr result (λ e. (named : _) → e ≡ ProvError.NoProvenance named
+        → (named ≡ path.now)
+        × IsMissing (meaning check.now) expectations.now path.now digests attestations.now.envelopes.now) }
+    ensures at_most { (expectation : _) → Fits expectations.now path.now expectation
+        → RaisedBy (λ n. n ≤ key_count expectation.builders * signature_count attestations.now.envelopes.now)
+        meter.old meter.new }
+    ensures unasked { NoneFits expectations.now path.now → meter.new ≡ meter.old }
+    ensures at_least { OnOk result (RaisedBy (λ n. 1 ≤ n) meter.old meter.new) }
+{
     let Some(expectation) = fitting(expectations, path) else {
         return Err(ProvError::NoExpectation(text_of(alloc, path)?));
     };
-    match first_to_meet(alloc, expectation, &digests, envelopes, check, meter)? {
+    match first_to_meet(alloc, expectation, &digests, attestations, check, meter)? {
         Some(index) => Ok(index),
         None => Err(ProvError::NoProvenance(text_of(alloc, path)?)),
     }

@@ -2,7 +2,7 @@
 //! and which envelopes meet it.
 #![tactic(auto)]
 
-mod attests;
+pub mod attestations;
 mod builders;
 pub mod fault;
 mod finding;
@@ -10,4 +10,4 @@ mod fits;
 mod meets;
 mod parameters;
 
-pub use finding::find_provenance;
+pub use finding::{find_among, find_provenance};

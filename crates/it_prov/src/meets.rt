@@ -1,85 +1,89 @@
 //! Which envelopes meet an expectation.
-ghost use Rattle.std.specs.Prelude.{◌≡◌, ◌↔◌, ◌*◌, ◌≤◌, IfOk, IsSome, IsTrue, MatchOption, length};
+ghost use Rattle.std.specs.Prelude.{◌≡◌, ◌↔◌, ◌*◌, ◌≤◌, Any, IfOk, IsSome, IsTrue, MatchOption, length};
+ghost use Rattle.it_digest.specs.Compare.{Agree};
 ghost use Rattle.it_dsse.specs.Meter.{RaisedBy};
 ghost use Rattle.it_prov.specs.Cost.{key_count, signature_count};
 ghost use Rattle.it_prov.specs.Finding.{IsFirstToMeet, NoneMeets};
-ghost use Rattle.it_prov.specs.Judged.{HasNames, IsExpected};
-ghost use Rattle.it_prov.specs.Meets.{Meets};
+ghost use Rattle.it_prov.specs.Held.{AreHeld};
+ghost use Rattle.it_prov.specs.Judged.{HasNames, IsBuilt, IsExpected, SaysExpected};
 
-use crate::attests::attested;
+use crate::attestations::Attestations;
 use crate::builders::is_built_by;
 use crate::parameters::{parameters_meet, set_of};
-use it_digest::compare::DigestSet;
+use it_digest::compare::{Compare, DigestSet};
 use it_docs::policy::Expectation;
-use it_docs::statement::Provenance;
+use it_docs::statement::{Provenance, Statement};
 use it_dsse::check::SignatureCheck;
 use it_dsse::envelope::Envelope;
 use it_dsse::meter::Meter;
 use std::alloc::{AllocError, Global};
 use std::collections::BTreeSet;
 
-/// The index of the first envelope that meets an expectation for a file with these digests.
+/// The index of the first envelope that meets an expectation for a file with these digests. Keys are
+/// asked last.
 pub(crate) fn first_to_meet(
     alloc: Global,
     expectation: &Expectation,
     digests: &DigestSet,
-    envelopes: &[Envelope],
+    attestations: &Attestations,
     check: &Box<dyn SignatureCheck>,
     meter: &mut Meter,
 ) -> Result<Option<usize>, AllocError>
+    requires { AreHeld attestations.now.envelopes.now attestations.now.statements.items }
     ensures answer { IfOk result (λ found. MatchOption found
-        (NoneMeets (meaning check.now) expectation.now digests.now envelopes.now)
-        (IsFirstToMeet (meaning check.now) expectation.now digests.now envelopes.now)) }
+        (NoneMeets (meaning check.now) expectation.now digests.now attestations.now.envelopes.now)
+        (IsFirstToMeet (meaning check.now) expectation.now digests.now attestations.now.envelopes.now)) }
     ensures at_most { RaisedBy (λ n. n
-        ≤ key_count expectation.now.builders * signature_count envelopes.now) meter.old meter.new }
+        ≤ key_count expectation.now.builders * signature_count attestations.now.envelopes.now)
+        meter.old meter.new }
     ensures at_least { IfOk result (λ found. IsSome found
         → RaisedBy (λ n. 1 ≤ n) meter.old meter.new) }
 {
     let ignored = set_of(alloc, expectation.ignore.as_slice())?;
-    for (index, envelope) in envelopes.iter().enumerate() {
-        if meets(
-            alloc,
-            expectation,
-            &ignored,
-            digests,
-            envelope,
-            check,
-            meter,
-        )? {
+    for (index, envelope) in attestations.envelopes.iter().enumerate() {
+        let statement = &attestations.statements[index];
+        let provenance = expected_in(expectation, &ignored, digests, statement);
+        if is_built(alloc, expectation, provenance, envelope, check, meter)? {
             return Ok(Some(index));
         }
     }
     Ok(None)
 }
 
-/// Whether an envelope meets an expectation. Keys are asked last.
-fn meets(
-    alloc: Global,
+/// The provenance in a Statement, where a subject has the digests and the provenance is expected.
+fn expected_in<'a>(
     expectation: &Expectation,
     ignored: &BTreeSet<&str>,
     digests: &DigestSet,
-    envelope: &Envelope,
-    check: &Box<dyn SignatureCheck>,
-    meter: &mut Meter,
-) -> Result<bool, AllocError>
+    statement: &'a Option<Statement>,
+) -> Option<&'a Provenance>
     requires { HasNames expectation.now.ignore ignored.now }
-    ensures answer { IfOk result (λ met. IsTrue met
-        ↔ Meets (meaning check.now) expectation.now digests.now envelope.now) }
-    ensures at_most { RaisedBy (λ n. n
-        ≤ key_count expectation.now.builders * length envelope.now.signatures)
-        meter.old meter.new }
-    ensures at_least { IfOk result (λ met. IsTrue met
-        → RaisedBy (λ n. 1 ≤ n) meter.old meter.new) }
+    ensures { MatchOption result
+        ((provenance : _) → ¬ SaysExpected expectation.now digests.now statement.now provenance)
+        (λ provenance. SaysExpected expectation.now digests.now statement.now provenance.now) }
 {
-    let Some(provenance) = attested(alloc, envelope, digests)? else {
-        return Ok(false);
+    let Some(statement) = statement else {
+        return None;
     };
-    if !is_expected(expectation, ignored, &provenance) {
-        return Ok(false);
+    let Some(provenance) = &statement.provenance else {
+        return None;
+    };
+    if some_agrees(statement.subjects.as_slice(), digests)
+        && is_expected(expectation, ignored, provenance)
+    {
+        Some(provenance)
+    } else {
+        None
     }
-    let builders = expectation.builders.as_slice();
-    let id = provenance.builder.as_str();
-    is_built_by(alloc, builders, id, envelope, check, meter)
+}
+
+/// Whether some subject has the digests.
+fn some_agrees(subjects: &[DigestSet], digests: &DigestSet) -> bool
+    ensures { IsTrue result ↔ Any (λ subject. Agree subject digests.now) subjects.now }
+{
+    subjects
+        .iter()
+        .any(|subject| subject.compare(digests) == Compare::Agree)
 }
 
 /// Whether a build is of the expected type and has the expected parameters.
@@ -89,4 +93,31 @@ fn is_expected(expectation: &Expectation, ignored: &BTreeSet<&str>, provenance: 
 {
     provenance.build_type.as_str() == expectation.build_type.as_str()
         && parameters_meet(expectation, ignored, &provenance.parameters)
+}
+
+/// Whether there is a provenance, and the builder that it names signed the envelope.
+fn is_built(
+    alloc: Global,
+    expectation: &Expectation,
+    provenance: Option<&Provenance>,
+    envelope: &Envelope,
+    check: &Box<dyn SignatureCheck>,
+    meter: &mut Meter,
+) -> Result<bool, AllocError>
+    ensures answer { IfOk result (λ built. IsTrue built
+        ↔ IsBuilt (meaning check.now) envelope.now expectation.now.builders provenance.entry) }
+    ensures at_most { RaisedBy (λ n. n
+        ≤ key_count expectation.now.builders * length envelope.now.signatures)
+        meter.old meter.new }
+    ensures at_least { IfOk result (λ built. IsTrue built
+        → RaisedBy (λ n. 1 ≤ n) meter.old meter.new) }
+{
+    match provenance {
+        Some(provenance) => {
+            let builders = expectation.builders.as_slice();
+            let id = provenance.builder.as_str();
+            is_built_by(alloc, builders, id, envelope, check, meter)
+        }
+        None => Ok(false),
+    }
 }

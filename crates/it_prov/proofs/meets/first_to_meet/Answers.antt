@@ -1,23 +1,37 @@
-use Rattle.std.proofs.Common.{◌≡◌, ◌+◌, ◌*◌, true, drop, refl}
+use Rattle.std.proofs.Common.{arith, ◌≡◌, ◌+◌, ◌*◌, true, drop, refl}
 use Rattle.std.proofs.lemmas.Option.{slice_get_read}
+use Rattle.it_base.specs.Finds.{Finds}
 use Rattle.it_base.proofs.Members.{in_none}
 use Rattle.it_prov.specs.Cost.{key_count, signature_count}
+use Rattle.it_prov.specs.Held.{IsHeld}
 use Rattle.it_prov.specs.Meets.{Meets}
 use Rattle.it_prov.proofs.Asking.{leaves_all, leaves_at_most, leaves_envelope, raised_once_more}
+use Rattle.it_prov.proofs.Holding.{zip_length, zip_read}
+use Rattle.it_prov.proofs.Saying.{built_meets}
 use Rattle.it_prov.proofs.Searching.{none_all, none_more}
 use Rattle.it_prov.proofs.meets.first_to_meet.Goals as goal
 
 pub loop-index-init : goal.loop-index-init
 loop-index-init g c = record {
   none = λ envelope h. absurd (in_none envelope h);
-  asked = leaves_all _ (key_count c.args.expectation.now.builders * signature_count c.args.envelopes.now) c.args.meter.now refl;
+  asked = leaves_all _ (key_count c.args.expectation.now.builders * signature_count c.args.attestations.now.envelopes.now) c.args.meter.now refl;
 }
 
+pub index-statement-requires : goal.index-statement-requires
+index-statement-requires g c = let same = zip_length _ c.args.attestations.now.envelopes.now c.args.attestations.now.statements.items c.requires in omega (arith, same, c.loop-index-test.true)
+
 pub returns-then-branch-clause-answer : goal.returns-then-branch-clause-answer
-returns-then-branch-clause-answer g c = record {
-  envelope = c.index-envelopes-index.result;
-  stands = slice_get_read c.args.envelopes.now _ c.loop-index.index c.index-envelopes-index.result refl c.loop-index-test.true c.index-envelopes-index.is;
-  meets = c.in_ok-meets.ensures.answer.0 c.if-branch.true;
+returns-then-branch-clause-answer g c =
+    let check = (goal.SignatureCheck-dyn g (c.args.check.now.vtable, c.args.check.now.value)).meaning c.args.check.now.value in
+    let attestations = c.args.attestations.now in
+    let envelope = c.envelope-item.result in
+    let found = c.index-statement.result.now in
+    let held = zip_read (λ e f. Finds (IsHeld e) f) attestations.envelopes.now attestations.statements.items c.loop-index.index envelope found c.requires c.loop-index-test.true c.envelope-item.is c.index-statement.ensures in
+    let met = built_meets check c.args.expectation.now c.args.digests.now envelope found held c.expected_in-provenance.result c.expected_in-provenance.ensures in
+    record {
+  envelope = c.envelope-item.result;
+  stands = slice_get_read c.args.attestations.now.envelopes.now _ c.loop-index.index c.envelope-item.result refl c.loop-index-test.true c.envelope-item.is;
+  meets = met.0 (c.in_ok-is_built.ensures.answer.0 c.if-branch.true);
   none_before = c.loop-index.invariant.none;
 }
 
@@ -25,39 +39,42 @@ pub returns-then-branch-clause-at_most : goal.returns-then-branch-clause-at_most
 returns-then-branch-clause-at_most g c =
     let k = key_count c.args.expectation.now.builders in
     let i = c.loop-index.index in
-    let envelopes = c.args.envelopes.now in
-    leaves_at_most (k * signature_count (drop (i + 1) envelopes)) (k * signature_count envelopes) c.args.meter.now c.meets.new.meter
-    (leaves_envelope c.args.meter.now c.loop-index.meter c.meets.new.meter i k envelopes c.index-envelopes-index.result c.loop-index-test.true c.index-envelopes-index.is c.loop-index.invariant.asked c.meets.ensures.at_most)
+    let envelopes = c.args.attestations.now.envelopes.now in
+    leaves_at_most (k * signature_count (drop (i + 1) envelopes)) (k * signature_count envelopes) c.args.meter.now c.is_built.new.meter
+    (leaves_envelope c.args.meter.now c.loop-index.meter c.is_built.new.meter i k envelopes c.envelope-item.result c.loop-index-test.true c.envelope-item.is c.loop-index.invariant.asked c.is_built.ensures.at_most)
 
 pub returns-then-branch-clause-at_least : goal.returns-then-branch-clause-at_least
-returns-then-branch-clause-at_least g c = λ h. raised_once_more _ c.args.meter.now c.loop-index.meter c.meets.new.meter c.loop-index.invariant.asked (c.in_ok-meets.ensures.at_least c.if-branch.true)
+returns-then-branch-clause-at_least g c = λ h. raised_once_more _ c.args.meter.now c.loop-index.meter c.is_built.new.meter c.loop-index.invariant.asked (c.in_ok-is_built.ensures.at_least c.if-branch.true)
 
-pub returns-in_err-meets-clause-at_most : goal.returns-in_err-meets-clause-at_most
-returns-in_err-meets-clause-at_most g c =
+pub returns-in_err-is_built-clause-at_most : goal.returns-in_err-is_built-clause-at_most
+returns-in_err-is_built-clause-at_most g c =
     let k = key_count c.args.expectation.now.builders in
     let i = c.loop-index.index in
-    let envelopes = c.args.envelopes.now in
-    leaves_at_most (k * signature_count (drop (i + 1) envelopes)) (k * signature_count envelopes) c.args.meter.now c.meets.new.meter
-    (leaves_envelope c.args.meter.now c.loop-index.meter c.meets.new.meter i k envelopes c.index-envelopes-index.result c.loop-index-test.true c.index-envelopes-index.is c.loop-index.invariant.asked c.meets.ensures.at_most)
+    let envelopes = c.args.attestations.now.envelopes.now in
+    leaves_at_most (k * signature_count (drop (i + 1) envelopes)) (k * signature_count envelopes) c.args.meter.now c.is_built.new.meter
+    (leaves_envelope c.args.meter.now c.loop-index.meter c.is_built.new.meter i k envelopes c.envelope-item.result c.loop-index-test.true c.envelope-item.is c.loop-index.invariant.asked c.is_built.ensures.at_most)
 
 pub loop-index-preserved : goal.loop-index-preserved
 loop-index-preserved g c =
     let check = (goal.SignatureCheck-dyn g (c.args.check.now.vtable, c.args.check.now.value)).meaning c.args.check.now.value in
-    let envelopes = c.args.envelopes.now in
+    let envelopes = c.args.attestations.now.envelopes.now in
     let i = c.loop-index.index in
-    let envelope = c.index-envelopes-index.result in
+    let envelope = c.envelope-item.result in
+    let found = c.index-statement.result.now in
+    let held = zip_read (λ e f. Finds (IsHeld e) f) envelopes c.args.attestations.now.statements.items i envelope found c.requires c.loop-index-test.true c.envelope-item.is c.index-statement.ensures in
+    let met = built_meets check c.args.expectation.now c.args.digests.now envelope found held c.expected_in-provenance.result c.expected_in-provenance.ensures in
     record {
-      none = none_more (Meets check c.args.expectation.now c.args.digests.now) envelopes i envelope c.loop-index-test.true c.index-envelopes-index.is
-          c.loop-index.invariant.none (λ m. let is : c.in_ok-meets.field-0 ≡ true = c.in_ok-meets.ensures.answer.1 m in cc (is, c.if-branch.false));
-      asked = leaves_envelope c.args.meter.now c.loop-index.meter c.meets.new.meter i (key_count c.args.expectation.now.builders) envelopes envelope c.loop-index-test.true c.index-envelopes-index.is c.loop-index.invariant.asked c.meets.ensures.at_most;
+      none = none_more (Meets check c.args.expectation.now c.args.digests.now) envelopes i envelope c.loop-index-test.true c.envelope-item.is
+          c.loop-index.invariant.none (λ m. let is : c.in_ok-is_built.field-0 ≡ true = c.in_ok-is_built.ensures.answer.1 (met.1 m) in cc (is, c.if-branch.false));
+      asked = leaves_envelope c.args.meter.now c.loop-index.meter c.is_built.new.meter i (key_count c.args.expectation.now.builders) envelopes envelope c.loop-index-test.true c.envelope-item.is c.loop-index.invariant.asked c.is_built.ensures.at_most;
     }
 
 pub returns-clause-answer : goal.returns-clause-answer
 returns-clause-answer g c =
     let check = (goal.SignatureCheck-dyn g (c.args.check.now.vtable, c.args.check.now.value)).meaning c.args.check.now.value in
-    none_all (Meets check c.args.expectation.now c.args.digests.now) c.args.envelopes.now c.loop-index.index c.loop-index-test.false c.loop-index.invariant.none
+    none_all (Meets check c.args.expectation.now c.args.digests.now) c.args.attestations.now.envelopes.now c.loop-index.index c.loop-index-test.false c.loop-index.invariant.none
 
 pub returns-clause-at_most : goal.returns-clause-at_most
 returns-clause-at_most g c =
     let k = key_count c.args.expectation.now.builders in
-    leaves_at_most (k * signature_count (drop c.loop-index.index c.args.envelopes.now)) (k * signature_count c.args.envelopes.now) c.args.meter.now c.loop-index.meter c.loop-index.invariant.asked
+    leaves_at_most (k * signature_count (drop c.loop-index.index c.args.attestations.now.envelopes.now)) (k * signature_count c.args.attestations.now.envelopes.now) c.args.meter.now c.loop-index.meter c.loop-index.invariant.asked

@@ -8,6 +8,6 @@ use Rattle.it_prov.proofs.meets.first_to_meet.Given as goal
 -- once for each key
 abbrev pub invariant-loop-index : goal.invariant-loop-index
 invariant-loop-index g l = record {
-  none : NoneMeets ((goal.SignatureCheck-dyn g (l.check.vtable, l.check.value)).meaning l.check.value) l.expectation l.digests (take l.index l.envelopes);
-  asked : Leaves (key_count l.expectation.builders * signature_count (drop l.index l.envelopes)) (key_count l.expectation.builders * signature_count l.envelopes) l.fn.meter l.meter;
+  none : NoneMeets ((goal.SignatureCheck-dyn g (l.check.vtable, l.check.value)).meaning l.check.value) l.expectation l.digests (take l.index l.attestations.envelopes.now);
+  asked : Leaves (key_count l.expectation.builders * signature_count (drop l.index l.attestations.envelopes.now)) (key_count l.expectation.builders * signature_count l.attestations.envelopes.now) l.fn.meter l.meter;
 }

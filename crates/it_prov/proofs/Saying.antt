@@ -1,0 +1,56 @@
+-- What an envelope attests is what the Statement says that it holds.
+use Rattle.std.proofs.Common.{◌≡◌, ◌↔◌, ℕ, List, Option, Some, None, MatchOption, ap, subst}
+use Rattle.std.specs.Borrow.{Bor}
+use Rattle.std.proofs.lemmas.Option.{same_Some}
+use Rattle.it_base.specs.Finds.{Finds}
+use Rattle.it_digest.specs.declared.compare.DigestSet.{DigestSet}
+use Rattle.it_dsse.specs.Check.{Check}
+use Rattle.it_dsse.specs.declared.envelope.Envelope.{Envelope}
+use Rattle.it_docs.specs.Statement.{StatementOf}
+use Rattle.it_docs.specs.declared.policy.Expectation.{Expectation}
+use Rattle.it_docs.specs.declared.statement.Provenance.{Provenance}
+use Rattle.it_docs.specs.declared.statement.Statement.{Statement}
+use Rattle.it_docs.proofs.Same.{statement_same}
+use Rattle.it_prov.specs.Held.{IsHeld}
+use Rattle.it_prov.specs.Judged.{IsBuilt, SaysExpected}
+use Rattle.it_prov.specs.Meets.{Attests, Meets}
+use Rattle.it_prov.proofs.Meeting.{built_of, meets_by}
+
+module _ (check : Check) (expectation : Expectation) (digests : DigestSet) (envelope : Envelope) where
+  says_attests : (found : Option Statement) → Finds (IsHeld envelope) found → (p : Provenance) → SaysExpected expectation digests found p → Attests envelope digests p
+  says_attests None held p h = absurd (let none : ◌≡◌ {A = Option Statement} None (Some h.statement) = h.found_is in cc)
+  says_attests (Some s) held p h =
+      let same : s ≡ h.statement = same_Some s h.statement h.found_is in
+      record {
+        statement = h.statement;
+        subject = h.subject;
+        type_is = held.type_is;
+        reads = subst (StatementOf envelope.payload) same held.reads;
+        provenance_is = h.provenance_is;
+        is_subject = h.is_subject;
+        digests_agree = h.digests_agree;
+      }
+
+  meets_says : (found : Option Statement) → Finds (IsHeld envelope) found → (m : Meets check expectation digests envelope) → SaysExpected expectation digests found m.provenance
+  meets_says None none m = absurd (none m.attests.statement (record { type_is = m.attests.type_is; reads = m.attests.reads }))
+  meets_says (Some s) held m =
+      let a = m.attests in
+      record {
+        statement = a.statement;
+        subject = a.subject;
+        found_is = ap Some (statement_same envelope.payload s a.statement held.reads a.reads);
+        provenance_is = a.provenance_is;
+        is_subject = a.is_subject;
+        digests_agree = a.digests_agree;
+        expected = record { build_type = m.build_type; parameters = m.parameters };
+      }
+
+  -- an envelope meets an expectation where its Statement says what is expected, and the builder that it
+  -- names signed it
+  pub built_meets : (found : Option Statement) → Finds (IsHeld envelope) found → (said : Option (Bor Provenance))
+      → MatchOption said ((p : Provenance) → ¬ SaysExpected expectation digests found p) (λ p. SaysExpected expectation digests found p.now)
+      → IsBuilt check envelope expectation.builders said ↔ Meets check expectation digests envelope
+  built_meets found held None none = (λ h. absurd h, λ m. absurd (none m.provenance (meets_says found held m)))
+  built_meets found held (Some p) says =
+      let attests = says_attests found held p.now says in
+      (meets_by check expectation digests envelope p.now attests says.expected, built_of check expectation digests envelope p.now attests)

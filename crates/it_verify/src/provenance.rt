@@ -7,6 +7,7 @@ ghost use Rattle.it_dsse.specs.Meter.{RaisedBy};
 ghost use Rattle.it_chain.specs.Cost.{IsSum};
 ghost use Rattle.it_chain.specs.First.{IsFirst};
 ghost use Rattle.it_prov.specs.Cost.{signature_count};
+ghost use Rattle.it_prov.specs.Held.{AreHeld};
 ghost use Rattle.it_verify.specs.Cost.{FileCosts};
 ghost use Rattle.it_verify.specs.Gathering.{AreRead, FileLacks, FileProven};
 ghost use Rattle.it_verify.specs.Walk.{RefusedAs};
@@ -20,8 +21,9 @@ use it_docs::policy::Expectation;
 use it_dsse::check::SignatureCheck;
 use it_dsse::envelope::{Envelope, EnvelopeFault};
 use it_dsse::meter::Meter;
+use it_prov::attestations::Attestations;
 use it_prov::fault::ProvError;
-use it_prov::find_provenance;
+use it_prov::find_among;
 use std::alloc::{AllocError, Global};
 
 /// The envelopes of the provenance, one a line. A line that is none is passed over.
@@ -69,13 +71,35 @@ pub(crate) fn find_each(
         → RaisedBy (λ n. n ≤ most) meter.old meter.new }
     ensures at_least { OnOk result (RaisedBy (λ n. len delivered.now ≤ n) meter.old meter.new) }
 {
+    let attestations = Attestations::of(alloc, envelopes)?;
+    find_each_among(alloc, expectations, delivered, &attestations, check, meter)
+}
+
+/// Looks for provenance of each delivered file among envelopes whose Statements were read.
+fn find_each_among(
+    alloc: Global,
+    expectations: &[Expectation],
+    delivered: &Artifacts,
+    attestations: &Attestations,
+    check: &Box<dyn SignatureCheck>,
+    meter: &mut Meter,
+) -> Result<(), Failure>
+    requires { AreHeld attestations.now.envelopes.now attestations.now.statements.items }
+    ensures provenance { MatchResult result
+        (λ _. AllByRecursion (FileProven (meaning check.now) expectations.now attestations.now.envelopes.now) (entries delivered.now))
+        (RefusedAs (IsFirst (FileLacks (meaning check.now) expectations.now attestations.now.envelopes.now) (entries delivered.now))) }
+    ensures at_most { (most : ℕ)
+        → IsSum (FileCosts expectations.now (signature_count attestations.now.envelopes.now)) (keys delivered.now) most
+        → RaisedBy (λ n. n ≤ most) meter.old meter.new }
+    ensures at_least { OnOk result (RaisedBy (λ n. len delivered.now ≤ n) meter.old meter.new) }
+{
     for (path, digests) in delivered.iter() {
         find_one(
             alloc,
             path.as_str(),
             *digests,
             expectations,
-            envelopes,
+            attestations,
             check,
             meter,
         )?;
@@ -89,19 +113,20 @@ fn find_one(
     path: &str,
     digests: DigestSet,
     expectations: &[Expectation],
-    envelopes: &[Envelope],
+    attestations: &Attestations,
     check: &Box<dyn SignatureCheck>,
     meter: &mut Meter,
 ) -> Result<(), Failure>
+    requires { AreHeld attestations.now.envelopes.now attestations.now.statements.items }
     ensures provenance { MatchResult result
-        (λ _. FileProven (meaning check.now) expectations.now envelopes.now (path.now, digests))
-        (RefusedAs (FileLacks (meaning check.now) expectations.now envelopes.now (path.now, digests))) }
+        (λ _. FileProven (meaning check.now) expectations.now attestations.now.envelopes.now (path.now, digests))
+        (RefusedAs (FileLacks (meaning check.now) expectations.now attestations.now.envelopes.now (path.now, digests))) }
     ensures at_most { (most : ℕ)
-        → FileCosts expectations.now (signature_count envelopes.now) path.now most
+        → FileCosts expectations.now (signature_count attestations.now.envelopes.now) path.now most
         → RaisedBy (λ n. n ≤ most) meter.old meter.new }
     ensures at_least { OnOk result (RaisedBy (λ n. 1 ≤ n) meter.old meter.new) }
 {
-    match find_provenance(alloc, path, digests, expectations, envelopes, check, meter) {
+    match find_among(alloc, path, digests, expectations, attestations, check, meter) {
         Ok(_) => Ok(()),
         Err(ProvError::NoExpectation(path)) => Err(refused(alloc, Fault::NoExpectation(path))),
         Err(ProvError::NoProvenance(path)) => Err(refused(alloc, Fault::NoProvenance(path))),

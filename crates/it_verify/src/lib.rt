@@ -3,7 +3,6 @@
 #![tactic(auto)]
 
 mod chain_refusal;
-pub mod cost_laws;
 mod digesting;
 mod documents;
 mod encoding;
@@ -11,6 +10,7 @@ mod evidence;
 mod failure;
 pub mod inputs;
 mod judging;
+pub mod laws;
 mod links;
 mod matching;
 mod name;
@@ -20,7 +20,6 @@ mod owners;
 mod provenance;
 mod records;
 pub mod refusal;
-pub mod report_laws;
 mod reporting;
 mod rules;
 mod signed;
@@ -28,7 +27,6 @@ mod signing;
 pub mod verdict;
 mod verifying;
 mod whole;
-pub mod whole_laws;
 pub mod words;
 
 pub use digesting::{check_name, run_digest};

@@ -1,5 +1,5 @@
 use Rattle.it_verify.proofs.ReportTelling.{report_tells as proof}
-use Rattle.it_verify.proofs.report_laws.report_tells.Goals as goal
+use Rattle.it_verify.proofs.laws.report_tells.Goals as goal
 
 pub returns : goal.returns
 returns c = proof

@@ -1,5 +1,5 @@
 use Rattle.it_verify.proofs.Withholding.{withheld_inputs}
-use Rattle.it_verify.proofs.whole_laws.withheld_inputs.Goals as goal
+use Rattle.it_verify.proofs.laws.withheld_inputs.Goals as goal
 
 pub returns : goal.returns
 returns c = withheld_inputs

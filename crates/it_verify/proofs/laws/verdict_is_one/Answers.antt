@@ -1,5 +1,5 @@
 use Rattle.it_verify.proofs.OneRefusal.{verdict_one}
-use Rattle.it_verify.proofs.whole_laws.verdict_is_one.Goals as goal
+use Rattle.it_verify.proofs.laws.verdict_is_one.Goals as goal
 
 pub returns : goal.returns
 returns c = verdict_one

@@ -1,5 +1,5 @@
 use Rattle.it_verify.proofs.Reports.{first_lines_tell as proof}
-use Rattle.it_verify.proofs.report_laws.first_lines_tell.Goals as goal
+use Rattle.it_verify.proofs.laws.first_lines_tell.Goals as goal
 
 pub returns : goal.returns
 returns c = proof

@@ -1,5 +1,5 @@
 use Rattle.it_verify.proofs.MadeOrRefused.{made_or_first}
-use Rattle.it_verify.proofs.whole_laws.made_or_first.Goals as goal
+use Rattle.it_verify.proofs.laws.made_or_first.Goals as goal
 
 pub returns : goal.returns
 returns c = made_or_first

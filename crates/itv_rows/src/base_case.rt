@@ -10,14 +10,15 @@ use it_dsse::ring::HmacRing;
 use it_dsse::signing::sign;
 use it_verify::inputs::Inputs;
 use it_verify::outcome::{RunFault, Status, exit_of};
-use it_verify::run_verify;
+use it_verify::{run_verify, verify};
 use std::alloc::{AllocError, Global};
 use std::io::Write;
 use std::test::Fail;
 
 pub(crate) const IN_TOTO: &str = "application/vnd.in-toto+json";
 
-const RING: &str = r#"[{"id":"owner","secret":"6f776e6572"},{"id":"alice","secret":"616c696365"},
+pub(crate) const RING: &str =
+    r#"[{"id":"owner","secret":"6f776e6572"},{"id":"alice","secret":"616c696365"},
     {"id":"bob","secret":"626f62"},{"id":"bobz","secret":"626f6200"},
     {"id":"carol","secret":"6361726f6c"},{"id":"builder","secret":"6275696c646572"}]"#;
 
@@ -102,6 +103,23 @@ pub(crate) fn signed(alloc: Global, id: &str, kind: &str, body: &str) -> Result<
     Ok(bytes)
 }
 
+/// The envelope of a body, signed by an id of the ring, as a text.
+pub(crate) fn signed_text(alloc: Global, id: &str, body: &str) -> Result<String, Fail> {
+    Ok(
+        String::from_utf8(signed(alloc, id, IN_TOTO, body)?)
+            .ok()
+            .ok_or("no text")?,
+    )
+}
+
+/// An envelope with the first byte of its first signature changed.
+pub(crate) fn with_changed_code(alloc: Global, envelope: &str) -> Result<Vec<u8>, Fail> {
+    let (front, code) = envelope.split_once("\"sig\":\"").ok_or("no signature")?;
+    let (first, rest) = code.split_at_checked(1).ok_or("no code")?;
+    let other = if first == "A" { "B" } else { "A" };
+    Ok(format!(in alloc; "{front}\"sig\":\"{other}{rest}")?.into_bytes())
+}
+
 /// Adds the envelope of a body, signed by an id, to a bundle.
 pub(crate) fn add(
     alloc: Global,
@@ -132,6 +150,23 @@ pub(crate) fn add_folder(
 pub(crate) fn layout(alloc: Global, changes: &[(&str, &str)]) -> Result<Sequence<u8>, Fail> {
     let body = filled(alloc, LAYOUT, changes)?;
     Ok(Sequence::from(signed(alloc, "owner", IN_TOTO, body.as_str())?))
+}
+
+/// A layout with one step, without rules, for one functionary.
+pub(crate) fn sublayout(
+    alloc: Global,
+    step: &str,
+    id: &str,
+    expires: &str,
+) -> Result<String, AllocError> {
+    let text =
+        r#"{"_type":"layout","expires":"EXPIRES","keys":{"alice":K,"bob":K,"bobz":K,"carol":K},
+        "steps":[{"name":"STEP","threshold":1,"pubkeys":["ID"]}],"inspect":[]}"#;
+    filled(
+        alloc,
+        text,
+        &[("EXPIRES", expires), ("STEP", step), ("ID", id)],
+    )
 }
 
 /// A policy with these changes.
@@ -210,4 +245,13 @@ pub(crate) fn reported(alloc: Global, inputs: &Inputs) -> Result<(u8, String), F
         .ok()
         .ok_or("a report that is no text")?;
     Ok((exit_of(&status), report))
+}
+
+/// How often it is asked whether a signature is valid.
+pub(crate) fn asked(alloc: Global, inputs: &Inputs) -> Result<u64, Fail> {
+    if inputs.depth > 8 {
+        return Err(Fail::from("too deep"));
+    }
+    let check: Box<dyn SignatureCheck> = Box::new(alloc, ring(alloc)?)?;
+    Ok(verify(alloc, inputs, &check)?.asked)
 }

@@ -7,6 +7,10 @@ mod base_case;
 #[cfg(test)]
 mod command_tests;
 #[cfg(test)]
+mod cut_tests;
+#[cfg(test)]
+mod noise_tests;
+#[cfg(test)]
 mod report_tests;
 #[cfg(test)]
 mod signed_tests;

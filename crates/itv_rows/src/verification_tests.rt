@@ -1,6 +1,7 @@
 use crate::base_case::{
-    ACCEPTED, IN_TOTO, LAYOUT, LINK, add, add_folder, base, filled, layout, policy, provenance,
-    records, reported, run, signed, sums, without_links,
+    ACCEPTED, IN_TOTO, LAYOUT, LINK, add, add_folder, asked, base, filled, layout, policy,
+    provenance, records, reported, run, signed, signed_text, sublayout, sums, with_changed_code,
+    without_links,
 };
 use it_base::sequence::Sequence;
 use it_chain::bundle::Bundle;
@@ -17,24 +18,15 @@ const INSPECTION: (&str, &str) = (
     "\"inspect\":[{\"_type\":\"inspection\",\"name\":\"check\",\"expected_materials\":[],\"expected_products\":[],\"run\":[]}]",
 );
 
-// A layout with one step, without rules, for one functionary.
-fn sublayout(alloc: Global, step: &str, id: &str, expires: &str) -> Result<String, Fail> {
-    let text =
-        r#"{"_type":"layout","expires":"EXPIRES","keys":{"alice":K,"bob":K,"bobz":K,"carol":K},
-        "steps":[{"name":"STEP","threshold":1,"pubkeys":["ID"]}],"inspect":[]}"#;
-    Ok(filled(
-        alloc,
-        text,
-        &[("EXPIRES", expires), ("STEP", step), ("ID", id)],
-    )?)
-}
-
 #[test]
 fn accepts_the_base_case(rt: HostRuntime) -> Result<(), Fail> {
     let alloc = rt.alloc();
-    let (exit, report) = reported(alloc, &base(alloc)?)?;
+    let inputs = base(alloc)?;
+    let (exit, report) = reported(alloc, &inputs)?;
     assert_eq!(rt; report.as_str(), ACCEPTED);
     assert_eq!(rt; exit, 0);
+    // For the owner, for alice and for the builder.
+    assert_eq!(rt; asked(alloc, &inputs)?, 3);
     Ok(())
 }
 
@@ -87,16 +79,10 @@ fn counts_signatures_that_are_valid(rt: HostRuntime) -> Result<(), Fail> {
         "alice",
         link.as_str(),
     )?;
-    let by_bob = String::from_utf8(signed(alloc, "bob", IN_TOTO, link.as_str())?)
-        .ok()
-        .ok_or("no text")?;
-    let (front, code) = by_bob.split_once("\"sig\":\"").ok_or("no signature")?;
-    let (first, rest) = code.split_at_checked(1).ok_or("no code")?;
-    let other = if first == "A" { "B" } else { "A" };
-    let changed = format!(in alloc; "{front}\"sig\":\"{other}{rest}")?;
+    let by_bob = signed_text(alloc, "bob", link.as_str())?;
     inputs.links.add_file(
         String::from_str(alloc, "build.bob.link")?,
-        changed.into_bytes(),
+        with_changed_code(alloc, by_bob.as_str())?,
     )?;
     let (_, report) = reported(alloc, &inputs)?;
     assert_eq!(rt;
@@ -109,6 +95,7 @@ fn counts_signatures_that_are_valid(rt: HostRuntime) -> Result<(), Fail> {
     )?;
     let (_, report) = reported(alloc, &inputs)?;
     assert_eq!(rt; report.as_str(), "accepted\nstep build 2\nfile app\n");
+    assert!(rt; asked(alloc, &inputs)? <= 10);
     Ok(())
 }
 
@@ -167,9 +154,7 @@ fn takes_no_hint_as_proof(rt: HostRuntime) -> Result<(), Fail> {
     let alloc = rt.alloc();
     let mut inputs = without_links(alloc)?;
     let link = filled(alloc, LINK, &[])?;
-    let by_bob = String::from_utf8(signed(alloc, "bob", IN_TOTO, link.as_str())?)
-        .ok()
-        .ok_or("no text")?;
+    let by_bob = signed_text(alloc, "bob", link.as_str())?;
     let hinted = by_bob.replace(alloc, "\"keyid\":\"bob\"", "\"keyid\":\"alice\"")?;
     inputs.links.add_file(
         String::from_str(alloc, "build.alice.link")?,
@@ -198,6 +183,39 @@ fn expires_after_the_moment(rt: HostRuntime) -> Result<(), Fail> {
         let (_, report) = reported(alloc, &inputs)?;
         assert_eq!(rt; report.as_str(), want, "{moment}");
     }
+    Ok(())
+}
+
+// What fails first is told, also where more does.
+#[test]
+fn fails_in_order(rt: HostRuntime) -> Result<(), Fail> {
+    let alloc = rt.alloc();
+    let mut inputs = without_links(alloc)?;
+    inputs.links.add_file(
+        String::from_str(alloc, "build.alice.link")?,
+        Vec::new(alloc),
+    )?;
+    inputs.moment = text(alloc, "2030-01-01T00:00:01Z")?;
+    let (_, report) = reported(alloc, &inputs)?;
+    assert_eq!(rt; report.as_str(), "refused 30 Expired\nat -\n");
+    let mut inputs = base(alloc)?;
+    let broken = ("[\"CREATE\",\"app\"]", "[\"CREATE\",\"lib\"]");
+    let further = (
+        "\"expected_command\":[]}]",
+        "\"expected_command\":[]},{\"name\":\"test\"}]",
+    );
+    inputs.layout = layout(alloc, &[broken])?;
+    let (_, report) = reported(alloc, &inputs)?;
+    assert_eq!(rt;
+        report.as_str(),
+        "refused 40 RuleFailed\nat -\nitem step build\nside products\nrule 1\npath app\n"
+    );
+    inputs.layout = layout(alloc, &[broken, further])?;
+    let (_, report) = reported(alloc, &inputs)?;
+    assert_eq!(rt;
+        report.as_str(),
+        "refused 33 Threshold\nat -\nstep test\nfound 0\nneeded 1\n"
+    );
     Ok(())
 }
 

@@ -1,0 +1,281 @@
+//! Files, signatures and lines that count for nobody leave the report as it is, byte for byte, and so
+//! does another order, a copy or another name; a file or line that is missing only takes away.
+use crate::base_case::{
+    ACCEPTED, IN_TOTO, LAYOUT, LINK, STATEMENT, add, add_folder, base, filled, layout, reported,
+    signed, signed_text, sublayout, with_changed_code, without_links,
+};
+use it_base::sequence::Sequence;
+use it_chain::bundle::Bundle;
+use it_rows::devices::text;
+use it_verify::inputs::Inputs;
+use std::alloc::Global;
+use std::test::Fail;
+
+/// How something stands among what counts for nobody: whether that stands before it, how many copies
+/// there are of it, and whether that stands behind it.
+type Stands = (bool, u64, bool);
+
+const ALONE: Stands = (false, 1, false);
+
+const AMONG_NOISE: [Stands; 4] = [
+    (false, 2, false),
+    (true, 1, false),
+    (false, 1, true),
+    (true, 2, true),
+];
+
+const WITHHELD: [Stands; 2] = [(false, 0, false), (true, 0, false)];
+
+// Bytes that count for nobody: they are empty, no JSON, not signed, signed with a changed code, signed
+// as another type, or signed by somebody who is not asked.
+fn stray(alloc: Global, id: &str, body: &str, kind: u64) -> Result<Vec<u8>, Fail> {
+    let whole = signed_text(alloc, id, body)?;
+    let (front, _) = whole.split_once("\"signatures\":").ok_or("no signatures")?;
+    match kind {
+        0 => Ok(Vec::new(alloc)),
+        1 => Ok(String::from_str(alloc, "{no JSON")?.into_bytes()),
+        2 => Ok(format!(in alloc; "{front}\"signatures\":[]}}")?.into_bytes()),
+        3 => with_changed_code(alloc, whole.as_str()),
+        4 => signed(alloc, id, "text/plain", body),
+        _ => signed(alloc, "bobz", IN_TOTO, body),
+    }
+}
+
+const KINDS: u64 = 6;
+
+// Adds files that count for nobody. If one counted, there would be two bodies.
+fn add_strays(alloc: Global, folder: &mut Bundle, step: &str, id: &str) -> Result<(), Fail> {
+    let name = format!(in alloc; "\"{step}\"")?;
+    let body = filled(
+        alloc,
+        LINK,
+        &[("\"build\"", name.as_str()), ("\"A\"", "\"B\"")],
+    )?;
+    for kind in 0..KINDS {
+        let bytes = stray(alloc, id, body.as_str(), kind)?;
+        folder.add_file(format!(in alloc; "{step}.{kind}.link")?, bytes)?;
+    }
+    Ok(())
+}
+
+// The folder of a step with the body that an id signed for it.
+fn folder(alloc: Global, step: &str, id: &str, body: &str, stands: Stands) -> Result<Bundle, Fail> {
+    let (before, copies, behind) = stands;
+    let mut folder = Bundle::new(alloc);
+    if before {
+        add_strays(alloc, &mut folder, step, id)?;
+    }
+    for copy in 0..copies {
+        let name = format!(in alloc; "{step}.{copy}.link")?;
+        add(alloc, &mut folder, name.as_str(), id, body)?;
+    }
+    if behind {
+        add_strays(alloc, &mut folder, step, id)?;
+    }
+    Ok(folder)
+}
+
+// The layout, which carol signed too: before the owner, or after.
+fn countersigned(alloc: Global, carol_first: bool) -> Result<Sequence<u8>, Fail> {
+    let body = filled(alloc, LAYOUT, &[])?;
+    let (first, second) = if carol_first {
+        ("carol", "owner")
+    } else {
+        ("owner", "carol")
+    };
+    let by_first = signed_text(alloc, first, body.as_str())?;
+    let by_second = signed_text(alloc, second, body.as_str())?;
+    let front = by_first.strip_suffix("]}").ok_or("no envelope")?;
+    let (_, code) = by_second
+        .split_once("\"signatures\":[")
+        .ok_or("no signatures")?;
+    let both = format!(in alloc; "{front},{code}")?;
+    Ok(Sequence::from(both.into_bytes()))
+}
+
+// The step of the base case recorded by a layout, whose step is recorded by a layout again; and how the
+// record of each of the three stands, from outside.
+fn in_sublayouts(alloc: Global, stands: [Stands; 3]) -> Result<Inputs, Fail> {
+    let [of_build, of_inner, of_core] = stands;
+    let later = "2030-01-01T00:00:00Z";
+    let link = filled(alloc, LINK, &[("\"build\"", "\"core\"")])?;
+    let by_bob = sublayout(alloc, "core", "carol", later)?;
+    let by_alice = sublayout(alloc, "inner", "bob", later)?;
+    let core = folder(alloc, "core", "carol", link.as_str(), of_core)?;
+    let mut inner = folder(alloc, "inner", "bob", by_bob.as_str(), of_inner)?;
+    add_folder(alloc, &mut inner, "inner.bob", core)?;
+    let mut inputs = without_links(alloc)?;
+    inputs.links = folder(alloc, "build", "alice", by_alice.as_str(), of_build)?;
+    add_folder(alloc, &mut inputs.links, "build.alice", inner)?;
+    inputs.depth = 2;
+    Ok(inputs)
+}
+
+#[test]
+fn passes_over_files_that_do_not_count(rt: HostRuntime) -> Result<(), Fail> {
+    let alloc = rt.alloc();
+    for stands in AMONG_NOISE {
+        let mut inputs = in_sublayouts(alloc, [stands, stands, stands])?;
+        for (depth, want) in [
+            (2, ACCEPTED),
+            (1, "refused 32 TooDeep\nat build/alice/inner/bob\n"),
+            (0, "refused 32 TooDeep\nat build/alice\n"),
+        ] {
+            inputs.depth = depth;
+            let (_, report) = reported(alloc, &inputs)?;
+            assert_eq!(rt; report.as_str(), want, "{stands:?}");
+        }
+    }
+    Ok(())
+}
+
+#[test]
+fn misses_files_that_are_withheld(rt: HostRuntime) -> Result<(), Fail> {
+    let alloc = rt.alloc();
+    for stands in WITHHELD {
+        let rows = [
+            ([stands, ALONE, ALONE], "-", "build"),
+            ([ALONE, stands, ALONE], "build/alice", "inner"),
+            ([ALONE, ALONE, stands], "build/alice/inner/bob", "core"),
+        ];
+        for (places, at, step) in rows {
+            let (_, report) = reported(alloc, &in_sublayouts(alloc, places)?)?;
+            let want = format!(in alloc;
+                "refused 33 Threshold\nat {at}\nstep {step}\nfound 0\nneeded 1\n"
+            )?;
+            assert_eq!(rt; report.as_str(), want.as_str());
+        }
+    }
+    Ok(())
+}
+
+// Alice, bob and carol are asked for two, and carol's link has another product.
+#[test]
+fn names_who_disagrees_in_any_order(rt: HostRuntime) -> Result<(), Fail> {
+    let alloc = rt.alloc();
+    let link = filled(alloc, LINK, &[])?;
+    let other = filled(alloc, LINK, &[("\"A\"", "\"B\"")])?;
+    let mut inputs = without_links(alloc)?;
+    inputs.layout = layout(
+        alloc,
+        &[
+            ("\"threshold\":1", "\"threshold\":2"),
+            ("[\"alice\"]", "[\"alice\",\"bob\",\"carol\"]"),
+        ],
+    )?;
+    for order in [
+        ["alice", "bob", "carol"],
+        ["carol", "bob", "alice"],
+        ["bob", "carol", "alice"],
+    ] {
+        inputs.links = Bundle::new(alloc);
+        for id in order {
+            let body = if id == "carol" {
+                other.as_str()
+            } else {
+                link.as_str()
+            };
+            add(alloc, &mut inputs.links, "build.x.link", id, body)?;
+            add_strays(alloc, &mut inputs.links, "build", id)?;
+        }
+        let (_, report) = reported(alloc, &inputs)?;
+        assert_eq!(rt;
+            report.as_str(),
+            "refused 34 Disagree\nat -\nstep build\nkey carol\n",
+            "{order:?}"
+        );
+    }
+    Ok(())
+}
+
+// Of two who signed where one is enough, either may be missing.
+#[test]
+fn accepts_without_what_is_not_needed(rt: HostRuntime) -> Result<(), Fail> {
+    let alloc = rt.alloc();
+    let link = filled(alloc, LINK, &[])?;
+    let mut inputs = without_links(alloc)?;
+    inputs.layout = layout(alloc, &[("[\"alice\"]", "[\"alice\",\"bob\"]")])?;
+    let rows: [(&[&str], &str); 3] = [
+        (&["alice", "bob"], "accepted\nstep build 2\nfile app\n"),
+        (&["alice"], ACCEPTED),
+        (&["bob"], ACCEPTED),
+    ];
+    for (ids, want) in rows {
+        inputs.links = Bundle::new(alloc);
+        for id in ids {
+            add(alloc, &mut inputs.links, "build.x.link", id, link.as_str())?;
+        }
+        let (_, report) = reported(alloc, &inputs)?;
+        assert_eq!(rt; report.as_str(), want, "{ids:?}");
+    }
+    Ok(())
+}
+
+#[test]
+fn takes_a_further_signature_on_the_layout(rt: HostRuntime) -> Result<(), Fail> {
+    let alloc = rt.alloc();
+    for carol_first in [true, false] {
+        let mut inputs = base(alloc)?;
+        inputs.layout = countersigned(alloc, carol_first)?;
+        let (_, report) = reported(alloc, &inputs)?;
+        assert_eq!(rt; report.as_str(), ACCEPTED);
+        inputs.moment = text(alloc, "2030-01-01T00:00:01Z")?;
+        let (_, report) = reported(alloc, &inputs)?;
+        assert_eq!(rt; report.as_str(), "refused 30 Expired\nat -\n");
+    }
+    Ok(())
+}
+
+fn add_line(lines: &mut Vec<u8>, line: &[u8]) -> Result<(), Fail> {
+    lines.extend_from_slice(line)?;
+    lines.push(b'\n')?;
+    Ok(())
+}
+
+// Lines of provenance that attest nothing. If one did, no other were needed.
+fn add_stray_lines(alloc: Global, lines: &mut Vec<u8>) -> Result<(), Fail> {
+    let statement = filled(alloc, STATEMENT, &[])?;
+    for kind in 0..KINDS {
+        let line = stray(alloc, "builder", statement.as_str(), kind)?;
+        add_line(lines, line.as_slice())?;
+    }
+    Ok(())
+}
+
+fn lines(alloc: Global, stands: Stands) -> Result<Sequence<u8>, Fail> {
+    let (before, copies, behind) = stands;
+    let statement = filled(alloc, STATEMENT, &[])?;
+    let line = signed(alloc, "builder", IN_TOTO, statement.as_str())?;
+    let mut lines = Vec::new(alloc);
+    if before {
+        add_stray_lines(alloc, &mut lines)?;
+    }
+    for _ in 0..copies {
+        add_line(&mut lines, line.as_slice())?;
+    }
+    if behind {
+        add_stray_lines(alloc, &mut lines)?;
+    }
+    Ok(Sequence::from(lines))
+}
+
+#[test]
+fn passes_over_lines_that_attest_nothing(rt: HostRuntime) -> Result<(), Fail> {
+    let alloc = rt.alloc();
+    let mut inputs = base(alloc)?;
+    for stands in AMONG_NOISE {
+        inputs.provenance = lines(alloc, stands)?;
+        let (_, report) = reported(alloc, &inputs)?;
+        assert_eq!(rt; report.as_str(), ACCEPTED, "{stands:?}");
+    }
+    for stands in WITHHELD {
+        inputs.provenance = lines(alloc, stands)?;
+        let (_, report) = reported(alloc, &inputs)?;
+        assert_eq!(rt;
+            report.as_str(),
+            "refused 61 NoProvenance\nat -\npath app\n",
+            "{stands:?}"
+        );
+    }
+    Ok(())
+}

@@ -1,5 +1,5 @@
 -- What an envelope attests is what the Statement says that it holds.
-use Rattle.std.proofs.Common.{◌≡◌, ◌↔◌, ℕ, List, Option, Some, None, MatchOption, ap, subst}
+use Rattle.std.proofs.Common.{◌≡◌, ◌↔◌, Option, Some, None, MatchOption, ap, subst}
 use Rattle.std.specs.Borrow.{Bor}
 use Rattle.std.proofs.lemmas.Option.{same_Some}
 use Rattle.it_base.specs.Finds.{Finds}

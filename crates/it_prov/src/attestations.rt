@@ -1,7 +1,6 @@
 //! The Statements that envelopes hold.
-ghost use Rattle.std.specs.Prelude.{◌≡◌, IfOk};
+ghost use Rattle.std.specs.Prelude.{IfOk};
 ghost use Rattle.it_base.specs.Finds.{Finds};
-ghost use Rattle.it_docs.specs.Statement.{StatementOf};
 ghost use Rattle.it_prov.specs.Held.{AreHeld, AreOf, IsHeld};
 
 use it_docs::fault::DocumentFault;
@@ -29,10 +28,7 @@ impl<'a> Attestations<'a> {
     /// # Errors
     ///
     /// `AllocError` where memory was refused.
-    pub fn of(
-        alloc: Global,
-        envelopes: &'a [Envelope],
-    ) -> Result<Attestations<'a>, AllocError>
+    pub fn of(alloc: Global, envelopes: &'a [Envelope]) -> Result<Attestations<'a>, AllocError>
         ensures { IfOk result (AreOf envelopes.now) }
     {
         Ok(Attestations {

@@ -126,7 +126,15 @@ fn find_one(
         → RaisedBy (λ n. n ≤ most) meter.old meter.new }
     ensures at_least { OnOk result (RaisedBy (λ n. 1 ≤ n) meter.old meter.new) }
 {
-    match find_among(alloc, path, digests, expectations, attestations, check, meter) {
+    match find_among(
+        alloc,
+        path,
+        digests,
+        expectations,
+        attestations,
+        check,
+        meter,
+    ) {
         Ok(_) => Ok(()),
         Err(ProvError::NoExpectation(path)) => Err(refused(alloc, Fault::NoExpectation(path))),
         Err(ProvError::NoProvenance(path)) => Err(refused(alloc, Fault::NoProvenance(path))),

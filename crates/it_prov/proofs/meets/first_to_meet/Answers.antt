@@ -29,11 +29,11 @@ returns-then-branch-clause-answer g c =
     let held = zip_read (λ e f. Finds (IsHeld e) f) attestations.envelopes.now attestations.statements.items c.loop-index.index envelope found c.requires c.loop-index-test.true c.envelope-item.is c.index-statement.ensures in
     let met = built_meets check c.args.expectation.now c.args.digests.now envelope found held c.expected_in-provenance.result c.expected_in-provenance.ensures in
     record {
-  envelope = c.envelope-item.result;
-  stands = slice_get_read c.args.attestations.now.envelopes.now _ c.loop-index.index c.envelope-item.result refl c.loop-index-test.true c.envelope-item.is;
-  meets = met.0 (c.in_ok-is_built.ensures.answer.0 c.if-branch.true);
-  none_before = c.loop-index.invariant.none;
-}
+      envelope = c.envelope-item.result;
+      stands = slice_get_read c.args.attestations.now.envelopes.now _ c.loop-index.index c.envelope-item.result refl c.loop-index-test.true c.envelope-item.is;
+      meets = met.0 (c.in_ok-is_built.ensures.answer.0 c.if-branch.true);
+      none_before = c.loop-index.invariant.none;
+    }
 
 pub returns-then-branch-clause-at_most : goal.returns-then-branch-clause-at_most
 returns-then-branch-clause-at_most g c =

@@ -2,6 +2,7 @@ pub mod Claimed
 pub mod ClaimsDecided
 pub mod Consuming
 pub mod FaultDecided
+pub mod Fronts
 pub mod Listed
 pub mod Queued
 pub mod Running

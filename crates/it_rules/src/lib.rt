@@ -6,4 +6,5 @@ mod claims;
 mod folder_prefix;
 pub mod item;
 mod queue;
+pub mod ranges;
 pub mod rules;

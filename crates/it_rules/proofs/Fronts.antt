@@ -1,20 +1,17 @@
 -- Paths in the order of their bytes, and those among them that begin with a front.
-use Rattle.std.proofs.Common.{◌≡◌, ◌≢◌, ◌||◌, inl, inr, ℕ, ◌<◌, ◌≤◌, List, [], ◌∷◌, ◌++◌, length, drop, get_or, Bool, true, false, eqb, Some, Bor, Ordering, Less, Equal, Greater, nat_cmp, true≢false, arith, refl, sym, ap, subst, ◌∙◌}
-use Rattle.std.specs.Cmp.Lexicographic.{slice_cmp}
+use Rattle.std.proofs.Common.{◌≡◌, ◌≢◌, inl, inr, ℕ, ◌<◌, ◌≤◌, List, [], ◌∷◌, ◌++◌, length, drop, get_or, true, false, eqb, Some, Bor, Ordering, Less, Equal, Greater, nat_cmp, true≢false, arith, refl, sym, ap, subst, ◌∙◌}
 use Rattle.std.specs.List.{slice_get, starts_with}
 use Rattle.std.specs.List.Sorted.{IsPartitionedBy, IsPartitionPoint}
 use Rattle.std.specs.Ordering.{is_lt, ordering_then}
 use Rattle.std.proofs.lemmas.Bool.{cases_lt, or_cases, or_left, or_right}
 use Rattle.std.proofs.lemmas.Bool.Decides.{Decides-eqb}
 use Rattle.std.proofs.lemmas.Cmp.{nat_cmp_total, nat_list_cmp_total, ranked, tied_itself}
-use Rattle.std.proofs.lemmas.Option.{get_or_from_slice_get, slice_get-get_or}
+use Rattle.std.proofs.lemmas.Option.{get_or_from_slice_get}
 use Rattle.std.proofs.lemmas.Slice.Eq.{starts_is}
 use Rattle.it_glob.specs.Pattern.{BeginsWith}
 use Rattle.it_rules.specs.Ranges.{AreInOrder, IsFrontRange, is_before, is_reached}
 use Rattle.it_rules.proofs.Listed.{slice_get_within}
-
-abbrev path_cmp : List ℕ → List ℕ → Ordering
-path_cmp = slice_cmp nat_cmp
+use Rattle.it_rules.proofs.PathOrder.{path_cmp}
 
 -- what begins with a front is not below it
 pub not_below_front : (front rest : List ℕ) → path_cmp (front ++ rest) front ≢ Less

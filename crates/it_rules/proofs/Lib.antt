@@ -2,10 +2,10 @@ pub mod Claimed
 pub mod ClaimsDecided
 pub mod FaultDecided
 pub mod Fronts
+pub mod LentPaths
 pub mod Listed
 pub mod Marking
 pub mod PathOrder
-pub mod Pathlists
 pub mod Reached
 pub mod Running
 pub mod Searching

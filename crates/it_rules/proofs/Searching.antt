@@ -12,6 +12,20 @@ use Rattle.it_rules.specs.Rules.{IsLeastMatch, IsMatch}
 use Rattle.it_rules.proofs.Listed.{same_place, slice_get_within}
 use Rattle.it_rules.proofs.PathOrder.{not_below_itself, not_both, path_cmp}
 
+module _ (paths : List (Bor (List ℕ))) (marks : List Bool) where
+  -- a pattern matches no path before a place that has no mark
+  abbrev pub NoneBefore : List ℕ → ℕ → Type 0
+  NoneBefore pattern place = (i : ℕ) (path : Bor (List ℕ)) → i < place → slice_get paths i ≡ Some path → is_marked marks i ≡ false → ¬ IsMatch pattern path.now
+
+  pub none_more : (pattern : List ℕ) (place : ℕ) (path : Bor (List ℕ)) → slice_get paths place ≡ Some path → (is_marked marks place ≡ false → ¬ IsMatch pattern path.now) → NoneBefore pattern place → NoneBefore pattern (place + 1)
+  none_more pattern place path here none h i other l there u = elim (cases_lt i place) [
+    | inl below ↦ h i other below there u
+    | inr g ↦
+        let same : place ≡ i = omega arith in
+        let one : path ≡ other = same_place paths here there same in
+        subst (λ p. ¬ IsMatch pattern p.now) one (none (ap (is_marked marks) same ∙ u))
+  ]
+
 module _ (paths : List (Bor (List ℕ))) (are : ArePaths paths) where
   below_later : (i j : ℕ) (p q : Bor (List ℕ)) → slice_get paths i ≡ Some p → slice_get paths j ≡ Some q → i < j → path_cmp p.now q.now ≡ Less
   below_later i j p q here there l =
@@ -19,21 +33,13 @@ module _ (paths : List (Bor (List ℕ))) (are : ArePaths paths) where
       let second = get_or_from_slice_get paths j q p there in
       subst (λ x. path_cmp x.now q.now ≡ Less) first (subst (λ y. path_cmp (get_or paths i p).now y.now ≡ Less) second (are.in_order i j p l (slice_get_within paths j q there)))
 
+  compares_up : (path : List ℕ) → IsNonDecreasingBy (λ p. ordering_index (path_cmp p.now path)) paths
+  compares_up path = searchable_from_sorted nat_list_cmp_total (λ p. p.now) paths path (λ k d l h.
+      let below = are.in_order k (k + 1) d (omega arith) h in
+      ap is_lt (nat_list_cmp_total.antisymm (get_or paths (k + 1) d).now (get_or paths k d).now ∙ ap ordering_reverse below))
+
   module _ (marks : List Bool) where
-    -- a pattern matches no path before a place that has no mark
-    abbrev pub NoneBefore : List ℕ → ℕ → Type 0
-    NoneBefore pattern place = (i : ℕ) (path : Bor (List ℕ)) → i < place → slice_get paths i ≡ Some path → is_marked marks i ≡ false → ¬ IsMatch pattern path.now
-
-    pub none_more : (pattern : List ℕ) (place : ℕ) (path : Bor (List ℕ)) → slice_get paths place ≡ Some path → (is_marked marks place ≡ false → ¬ IsMatch pattern path.now) → NoneBefore pattern place → NoneBefore pattern (place + 1)
-    none_more pattern place path here none h i other l there u = elim (cases_lt i place) [
-      | inl below ↦ h i other below there u
-      | inr g ↦
-          let same : place ≡ i = omega arith in
-          let one : path ≡ other = same_place paths here there same in
-          subst (λ p. ¬ IsMatch pattern p.now) one (none (ap (is_marked marks) same ∙ u))
-    ]
-
-    pub least_found : (pattern : List ℕ) (place : ℕ) (path : Bor (List ℕ)) → slice_get paths place ≡ Some path → is_marked marks place ≡ false → IsMatch pattern path.now → NoneBefore pattern place
+    pub least_found : (pattern : List ℕ) (place : ℕ) (path : Bor (List ℕ)) → slice_get paths place ≡ Some path → is_marked marks place ≡ false → IsMatch pattern path.now → NoneBefore paths marks pattern place
         → IsLeastMatch pattern (IsLeft paths marks) path.now
     least_found pattern place path here u m none = record {
       is_free = record { listed = record { place = place; lent = path; stands = here; is_path = refl }; unmarked = u };
@@ -70,11 +76,6 @@ module _ (paths : List (Bor (List ℕ))) (are : ArePaths paths) where
         unmarked : (b : Bool) → IsTrue (not b) → b ≡ false
         unmarked true h = cc h
         unmarked false h = refl
-
-    compares_up : (path : List ℕ) → IsNonDecreasingBy (λ p. ordering_index (path_cmp p.now path)) paths
-    compares_up path = searchable_from_sorted nat_list_cmp_total (λ p. p.now) paths path (λ k d l h.
-        let below = are.in_order k (k + 1) d (omega arith) h in
-        ap is_lt (nat_list_cmp_total.antisymm (get_or paths (k + 1) d).now (get_or paths k d).now ∙ ap ordering_reverse below))
 
     pub not_left : (path : List ℕ) (place : ℕ) → IsBinarySearchResult {X = Bor (List ℕ)} (λ p. path_cmp p.now path) paths (Err place) → ¬ IsLeft paths marks path
     not_left path place h left =

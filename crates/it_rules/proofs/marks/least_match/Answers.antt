@@ -18,7 +18,7 @@ loop-place-preserved c =
     let place = c.loop-place.place in
     let within : place < length paths = omega (arith, c.pattern_range-start.ensures.within) in
     let path = get_or paths place (record { ref_ptr = (0, 0); now = [] }) in
-    none_more paths c.requires.paths c.args.marks.now c.args.pattern.now place path (slice_get-get_or paths place (record { ref_ptr = (0, 0); now = [] }) within)
+    none_more paths c.args.marks.now c.args.pattern.now place path (slice_get-get_or paths place (record { ref_ptr = (0, 0); now = [] }) within)
     (elim c.else-not-marks-place.branch [
       | else-not-marks-place-via-then-not-marks-place+else-matches w ↦ λ u m. true≢false (sym (w.matches.ensures.1 m) ∙ w.if-matches.false)
       | else-not-marks-place-via-else-not-marks-place w ↦ λ u m. true≢false (sym w.if-not-marks-place.false ∙ u)

@@ -4,7 +4,7 @@ use Rattle.std.specs.FinMap.{keys}
 use Rattle.std.specs.List.Sorted.{IsStrictlySortedBy}
 use Rattle.std.specs.Str.{IsUtf8}
 use Rattle.std.proofs.lemmas.List.Elements.{All-push}
-use Rattle.it_rules.proofs.Pathlists.{are_paths_of, lent_more}
+use Rattle.it_rules.proofs.LentPaths.{are_paths_of, lent_more}
 use Rattle.it_rules.proofs.marks.paths_of.Goals as goal
 
 pub loop-path-preserved : goal.loop-path-preserved

@@ -1,14 +1,17 @@
 ghost use Rattle.std.specs.Prelude.{◌<◌};
 
 mod by_definition;
+mod by_queue;
 
 use crate::devices::{map_of, text};
 use by_definition::first_fault;
+use by_queue::first_fault as first_fault_by_queue;
 use it_digest::artifacts::Artifacts;
 use it_digest::compare::DigestSet;
 use it_docs::rule::{Rule, Side};
 use it_glob::Pattern;
 use it_rules::item::{Item, Named};
+use it_rules::ranges::front_range;
 use it_rules::rules::{RuleFault, run_rules};
 use std::alloc::{AllocError, Global};
 use std::test::Fail;
@@ -335,6 +338,37 @@ fn matches_one_of_two_folders(rt: HostRuntime) -> Result<(), Fail> {
     Ok(())
 }
 
+#[test]
+fn looks_at_the_paths_with_a_front(rt: HostRuntime) -> Result<(), Fail> {
+    let alloc = rt.alloc();
+    let rules = [allow(alloc, "a/*")?, disallow(alloc, "a*")?];
+    let products = ["b", "a0", "a/b", "a"];
+    assert!(rt; delivers(alloc, &products, &rules, Some((1, "a")))?);
+    let rules = [allow(alloc, "é*")?, disallow(alloc, "*")?];
+    assert!(rt; delivers(alloc, &["é", "éa", "ê"], &rules, Some((1, "ê")))?);
+    let rules = [disallow(alloc, "[b]")?];
+    assert!(rt; delivers(alloc, &["a", "b"], &rules, Some((0, "b")))?);
+    let rules = [
+        match_rule(alloc, "*", "src", Side::Products, "", "build")?,
+        disallow(alloc, "*")?,
+    ];
+    let same = [("src", one())];
+    assert!(rt; links(alloc, &same, &same, &rules, Some((1, "src")))?);
+    Ok(())
+}
+
+#[test]
+fn finds_the_range_of_a_front(rt: HostRuntime) {
+    let paths = ["a", "a/b", "a0", "b"];
+    assert!(rt; front_range(&paths, "a/") == (1, 2));
+    assert!(rt; front_range(&paths, "a") == (0, 3));
+    assert!(rt; front_range(&paths, "") == (0, 4));
+    assert!(rt; front_range(&paths, "b") == (3, 4));
+    assert!(rt; front_range(&paths, "a/b/") == (2, 2));
+    assert!(rt; front_range(&paths, "c") == (4, 4));
+    assert!(rt; front_range(&[], "a") == (0, 0));
+}
+
 /// Numbers that look thrown, the same in each run.
 #[derive(Drop)]
 struct Dice {
@@ -419,8 +453,8 @@ const NAMES: [&str; 8] = [
     "build", "build", "build", "test", "test", "test", "gone", "",
 ];
 
-/// Whether the run and the definitions answer alike on one generated case. The first number
-/// counts faults, the second cases without one.
+/// Whether the run, the definitions and the run by a queue answer alike on one generated case. The
+/// first number counts faults, the second cases without one.
 fn answers_alike(alloc: Global, seed: u64, counts: &mut (u64, u64)) -> Result<bool, AllocError> {
     let mut dice = Dice { state: seed };
     let materials = dice.artifacts(alloc)?;
@@ -457,11 +491,16 @@ fn answers_alike(alloc: Global, seed: u64, counts: &mut (u64, u64)) -> Result<bo
         Some(_) => counts.0 = counts.0.saturating_add(1),
         None => counts.1 = counts.1.saturating_add(1),
     }
-    let want = match &want {
+    let queued = first_fault_by_queue(alloc, side, rules.as_slice(), &item, &links)?;
+    Ok(is_as_wanted(&found, lent(&want)) && is_as_wanted(&found, lent(&queued)))
+}
+
+/// A fault with its path lent.
+fn lent(fault: &Option<(usize, String)>) -> Option<(usize, &str)> {
+    match fault {
         Some((index, path)) => Some((*index, path.as_str())),
         None => None,
-    };
-    Ok(is_as_wanted(&found, want))
+    }
 }
 
 #[test]

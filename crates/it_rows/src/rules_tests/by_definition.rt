@@ -78,7 +78,8 @@ fn is_free(
     Ok(true)
 }
 
-fn claims(
+/// Whether a rule claims a path of the side, which has these digests there.
+pub(super) fn claims(
     alloc: Global,
     rule: &Rule,
     digests: DigestSet,
@@ -136,7 +137,8 @@ fn folder(alloc: Global, prefix: &str) -> Result<String, AllocError> {
     }
 }
 
-fn on<'a>(side: Side, item: &Item<'a>) -> &'a Artifacts {
+/// The artifacts on one side.
+pub(super) fn on<'a>(side: Side, item: &Item<'a>) -> &'a Artifacts {
     match side {
         Side::Materials => item.materials,
         Side::Products => item.products,

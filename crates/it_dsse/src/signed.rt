@@ -54,7 +54,7 @@ fn is_vouched_for(
     let (mut kind_digits, mut body_digits) = ([0; MOST_DIGITS], [0; MOST_DIGITS]);
     let kind_len = decimal_in(kind.len(), &mut kind_digits);
     let body_len = decimal_in(body.len(), &mut body_digits);
-    let message = [b"DSSEv1 ", kind_len, b" ", kind, b" ", body_len, b" ", body];
+    let message: [&[u8]; 8] = [b"DSSEv1 ", kind_len, b" ", kind, b" ", body_len, b" ", body];
     let signatures = envelope.signatures.as_slice();
     any_valid(signatures, id, key, &message, check, meter)
 }

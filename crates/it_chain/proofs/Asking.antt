@@ -78,10 +78,6 @@ module _ (check : Check) (id : List ℕ) (object : KeyObject) (all : List Candid
   abbrev OfNew : ℕ → Type 0
   OfNew n = n ≡ length new.envelope.signatures
 
-  -- nothing was asked of the next
-  pub asked_before : next ≡ now → RaisedWithin 0 (SignaturesIn all) old next
-  asked_before same = within_part (λ (c : Candidate) n. n ≡ length c.envelope.signatures) all i new below here least 0 old now next before (within_none OfNew now next same) 0 (omega arith)
-
   module _ (counted : next ≡ raised now (tries check new.envelope id object)) where
     of_new : RaisedWithin 0 OfNew now next
     of_new = (tries check new.envelope id object, (omega arith, λ n is. let most = tries_at_most check new.envelope id object in omega (arith, most, is)), counted)

@@ -192,7 +192,7 @@ fn verify_id<C: Checking>(
         signer.now.id.now) meter.old meter.new result }
 {
     let id = signer.id;
-    match counted(alloc, checking, id, signer.object, found, meter)? {
+    match counted(checking, id, signer.object, found, meter) {
         Counting::Nothing => Ok(None),
         Counting::Several => Err(refused(
             alloc,

@@ -1,6 +1,7 @@
 pub mod Check
 pub mod Envelope
 pub mod Hmac
+pub mod Joined
 pub mod KeyObject
 pub mod Meter
 pub mod Pae

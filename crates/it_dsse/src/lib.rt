@@ -2,6 +2,7 @@
 #![tactic(auto)]
 
 pub mod check;
+mod decimal;
 mod encoding;
 pub mod envelope;
 pub mod key_object;
@@ -17,6 +18,6 @@ pub mod signing;
 pub mod written;
 
 pub use encoding::pae;
-pub use mac::hmac_sha256;
+pub use mac::{hmac_sha256, hmac_sha256_parts};
 pub use signed::signed_by;
 pub use signers::signed_ids;

@@ -24,7 +24,7 @@ pub fn signed_ids(
     let mut signers = Vec::new(alloc);
     for id in ids {
         let text = id.as_str();
-        if is_signer(alloc, envelope, text, object, check)? {
+        if is_signer(envelope, text, object, check) {
             signers.push(String::from_str(alloc, text)?)?;
         }
     }
@@ -32,17 +32,15 @@ pub fn signed_ids(
 }
 
 fn is_signer(
-    alloc: Global,
     envelope: &Envelope,
     id: &str,
     object: &KeyObject,
     check: &Box<dyn SignatureCheck>,
-) -> Result<bool, AllocError>
-    ensures { IfOk result (λ signs. MatchBool signs
+) -> bool
+    ensures { MatchBool result
         (IsSigner (meaning check.now) envelope.now object.now id.now)
-        (¬ IsSigner (meaning check.now) envelope.now object.now id.now)) }
+        (¬ IsSigner (meaning check.now) envelope.now object.now id.now) }
 {
     let mut meter = Meter { asked: 0 };
-    let number = signed_by(alloc, envelope, id, object, check, &mut meter)?;
-    Ok(number.is_some())
+    signed_by(envelope, id, object, check, &mut meter).is_some()
 }

@@ -43,7 +43,7 @@ pub(crate) fn first_to_meet(
     for (index, envelope) in attestations.envelopes.iter().enumerate() {
         let statement = &attestations.statements[index];
         let provenance = expected_in(expectation, &ignored, digests, statement);
-        if is_built(alloc, expectation, provenance, envelope, check, meter)? {
+        if is_built(expectation, provenance, envelope, check, meter) {
             return Ok(Some(index));
         }
     }
@@ -97,27 +97,25 @@ fn is_expected(expectation: &Expectation, ignored: &BTreeSet<&str>, provenance: 
 
 /// Whether there is a provenance, and the builder that it names signed the envelope.
 fn is_built(
-    alloc: Global,
     expectation: &Expectation,
     provenance: Option<&Provenance>,
     envelope: &Envelope,
     check: &Box<dyn SignatureCheck>,
     meter: &mut Meter,
-) -> Result<bool, AllocError>
-    ensures answer { IfOk result (λ built. IsTrue built
-        ↔ IsBuilt (meaning check.now) envelope.now expectation.now.builders provenance.entry) }
+) -> bool
+    ensures answer { IsTrue result
+        ↔ IsBuilt (meaning check.now) envelope.now expectation.now.builders provenance.entry }
     ensures at_most { RaisedBy (λ n. n
         ≤ key_count expectation.now.builders * length envelope.now.signatures)
         meter.old meter.new }
-    ensures at_least { IfOk result (λ built. IsTrue built
-        → RaisedBy (λ n. 1 ≤ n) meter.old meter.new) }
+    ensures at_least { IsTrue result → RaisedBy (λ n. 1 ≤ n) meter.old meter.new }
 {
     match provenance {
         Some(provenance) => {
             let builders = expectation.builders.as_slice();
             let id = provenance.builder.as_str();
-            is_built_by(alloc, builders, id, envelope, check, meter)
+            is_built_by(builders, id, envelope, check, meter)
         }
-        None => Ok(false),
+        None => false,
     }
 }

@@ -8,7 +8,7 @@ use it_dsse::meter::Meter;
 use it_dsse::ring::{HmacRing, RingFault};
 use it_dsse::signing::{SignFault, sign};
 use it_dsse::written::WriteFault;
-use it_dsse::{hmac_sha256, pae, signed_by, signed_ids};
+use it_dsse::{hmac_sha256, hmac_sha256_parts, pae, signed_by, signed_ids};
 use sha2::{Digest, Sha256};
 use std::alloc::{AllocError, Global};
 use std::test::Fail;
@@ -87,6 +87,21 @@ fn computes_codes(rt: HostRuntime) -> Result<(), Fail> {
         let text = hex::encode(alloc, code.as_slice())?;
         assert!(rt; text.as_str().starts_with(want), "{want}");
     }
+    Ok(())
+}
+
+// The second case of RFC 4231 in three parts, and a message of no parts.
+#[test]
+fn computes_codes_of_parts(rt: HostRuntime) -> Result<(), Fail> {
+    let alloc = rt.alloc();
+    let code = hmac_sha256_parts(b"Jefe", &[b"what do ya ", b"", b"want for nothing?"]);
+    let text = hex::encode(alloc, code.as_slice())?;
+    assert_eq!(rt;
+        text.as_str(),
+        "5bdcc146bf60754e6a042426089575c75a003f089d2739839dec58b964ec3843"
+    );
+    let nothing = hmac_sha256_parts(b"Jefe", &[]);
+    assert_eq!(rt; nothing, hmac_sha256(b"Jefe", b""));
     Ok(())
 }
 
@@ -313,12 +328,14 @@ fn checks_signatures_by_a_ring(rt: HostRuntime) -> Result<(), Fail> {
     let alloc = rt.alloc();
     let ring = ring(alloc)?;
     let code = hmac_sha256(b"alice", b"message");
-    let rows = [
-        (1, b"message".as_slice(), code.as_slice(), true),
-        (1, b"messagf".as_slice(), code.as_slice(), false),
-        (0, b"message".as_slice(), code.as_slice(), false),
-        (1, b"message".as_slice(), &code[..31], false),
-        (5, b"message".as_slice(), code.as_slice(), false),
+    let rows: [(u32, &[&[u8]], &[u8], bool); 7] = [
+        (1, &[b"message"], &code, true),
+        (1, &[b"mess", b"", b"age"], &code, true),
+        (1, &[b"age", b"mess"], &code, false),
+        (1, &[b"messagf"], &code, false),
+        (0, &[b"message"], &code, false),
+        (1, &[b"message"], &code[..31], false),
+        (5, &[b"message"], &code, false),
     ];
     let mut meter = Meter {
         asked: u64::MAX - 2,
@@ -381,7 +398,7 @@ fn finds_signers(rt: HostRuntime) -> Result<(), Fail> {
     for (signers, id, want, asked) in rows {
         let mut meter = Meter { asked: 7 };
         let envelope = envelope(alloc, signers)?;
-        let found = signed_by(alloc, &envelope, id, &object, &check, &mut meter)?;
+        let found = signed_by(&envelope, id, &object, &check, &mut meter);
         assert_eq!(rt; found, want, "{id}");
         assert_eq!(rt; meter.asked, asked, "{id}");
     }

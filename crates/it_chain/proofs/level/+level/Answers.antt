@@ -29,7 +29,7 @@ verify_id-returns-in_err-recorded-in-One-clause-answer g t c =
     let s = g.C.Checking.setting c.args.checking.now in
     let l = c.args.level.now in
     let one = one_counts (holds_below s l.depth) (fails_below s l.depth) s l.layout.now l.links.now c.args.step.now c.args.signer.now.id.now c.args.signer.now.object.now c.args.found.now c.requires.candidates c.requires.listed c.requires.known
-    c.in-One.key c.in-One.body.now (rw c.in-One.is at c.in_ok-counted.ensures.answer) in
+    c.in-One.key c.in-One.body.now c.in-One.ensures.answer in
     let p = err_from_is_err_and c.from_residual-in_err-recorded-in-One.result c.from_residual-in_err-recorded-in-One.ensures.1 in
     rw (p.1, p.2) (walks_body s l.depth l.layout.now l.links.now c.args.step.now c.args.signer.now.id.now c.in-One.key (as_body c.in-One.body.now) c.in_err-recorded-in-One.field-0.0 one
     (subst (λ n. BodyComes (holds_below s l.depth) (fails_below s l.depth) l.links.now n c.args.signer.now.id.now (as_body c.in-One.body.now) (Err c.in_err-recorded-in-One.field-0.0)) c.as_str-name.ensures c.in_err-recorded-in-One.ensures.answer))
@@ -40,7 +40,7 @@ verify_id-returns-in-Nothing-clause-answer g t c =
     let l = c.args.level.now in
     walks_given s l.depth l.layout.now l.links.now c.args.step.now c.args.signer.now.id.now None
     (none_counts (holds_below s l.depth) (fails_below s l.depth) s l.layout.now l.links.now c.args.step.now c.args.signer.now.id.now c.args.signer.now.object.now c.args.found.now c.requires.candidates c.requires.listed c.requires.known
-    (rw c.in-Nothing.is at c.in_ok-counted.ensures.answer))
+    c.in-Nothing.ensures.answer)
 
 pub verify_id-returns-in_ok-text_of-in-Several-2-clause-answer : goal.verify_id-returns-in_ok-text_of-in-Several-2-clause-answer
 verify_id-returns-in_ok-text_of-in-Several-2-clause-answer g t c =
@@ -50,7 +50,7 @@ verify_id-returns-in_ok-text_of-in-Several-2-clause-answer g t c =
     let id : c.in_ok-text_of-in-Several-2.field-0 ≡ c.args.signer.now.id.now = c.in_ok-text_of-in-Several-2.ensures in
     walks_two s l.depth l.layout.now l.links.now c.args.step.now c.args.signer.now.id.now c.refused.result
     (two_count (holds_below s l.depth) (fails_below s l.depth) s l.layout.now l.links.now c.args.step.now c.args.signer.now.id.now c.args.signer.now.object.now c.args.found.now c.requires.candidates c.requires.listed c.requires.known
-    (rw c.in-Several.is at c.in_ok-counted.ensures.answer))
+    c.in-Several.ensures.answer)
     (c.refused.ensures ∙ (λ k. Refused (here (TwoPayloads (name k) (id k)))))
 
 pub verify_id-returns-in_ok-text_of-in-One-clause-answer : goal.verify_id-returns-in_ok-text_of-in-One-clause-answer
@@ -58,7 +58,7 @@ verify_id-returns-in_ok-text_of-in-One-clause-answer g t c =
     let s = g.C.Checking.setting c.args.checking.now in
     let l = c.args.level.now in
     let one = one_counts (holds_below s l.depth) (fails_below s l.depth) s l.layout.now l.links.now c.args.step.now c.args.signer.now.id.now c.args.signer.now.object.now c.args.found.now c.requires.candidates c.requires.listed c.requires.known
-    c.in-One.key c.in-One.body.now (rw c.in-One.is at c.in_ok-counted.ensures.answer) in
+    c.in-One.key c.in-One.body.now c.in-One.ensures.answer in
     let id : c.in_ok-text_of-in-One.field-0 ≡ c.args.signer.now.id.now = c.in_ok-text_of-in-One.ensures in
     walks_one s l.depth l.layout.now l.links.now c.args.step.now c.args.signer.now.id.now c.in-One.key (as_body c.in-One.body.now) c.in_ok-recorded-in-One.recorded
     (record { id = c.in_ok-text_of-in-One.field-0; key = c.in-One.key; recorded = c.in_ok-recorded-in-One.recorded }) one (rw c.as_str-name.ensures at c.in_ok-recorded-in-One.ensures.answer)
@@ -350,66 +350,59 @@ verify_sublayout-returns-clause-asked g t c =
     ap (λ r. r.now) c.unwrap_or.ensures ∙ folder_or c.dir.result _ (folder_at c.as_str.result.now links) c.dir.ensures c.new-none.ensures ∙ ap (λ n. unwrap_or (folder_at n links) empty) name in
     below_asks s c.args.sublayout.now (folder_of c.args.step.now c.args.id.now links) c.args.meter.now c.verify_level.new.meter v.depth (v.depth - 1) (omega (arith, c.if-level-eq0.false)) c.verify_level.result (rw folder at c.verify_level.ensures.asked)
 
-pub verify_id-returns-in_err-counted-clause-asked : goal.verify_id-returns-in_err-counted-clause-asked
-verify_id-returns-in_err-counted-clause-asked g t c =
-    let s = g.C.Checking.setting c.args.checking.now in
-    let l = c.args.level.now in
-    let p = err_from_is_err_and c.from_residual.result c.from_residual.ensures.1 in
-    rw p.1 (candidates_raise s l.depth l.layout.now l.links.now c.args.step.now c.args.found.now c.args.signer.now.id.now 0 c.args.meter.now c.counted.new.meter c.in_err-counted.ensures.asked)
-
 pub verify_id-returns-in_err-text_of-in-Several-clause-asked : goal.verify_id-returns-in_err-text_of-in-Several-clause-asked
 verify_id-returns-in_err-text_of-in-Several-clause-asked g t c =
     let s = g.C.Checking.setting c.args.checking.now in
     let l = c.args.level.now in
-    let p = err_from_is_err_and c.from_residual-in_err-text_of-in-Several.result c.from_residual-in_err-text_of-in-Several.ensures.1 in
-    rw p.1 (candidates_raise s l.depth l.layout.now l.links.now c.args.step.now c.args.found.now c.args.signer.now.id.now 0 c.args.meter.now c.counted.new.meter (rw c.in-Several.is at c.in_ok-counted.ensures.asked))
+    let p = err_from_is_err_and c.from_residual.result c.from_residual.ensures.1 in
+    rw p.1 (candidates_raise s l.depth l.layout.now l.links.now c.args.step.now c.args.found.now c.args.signer.now.id.now 0 c.args.meter.now c.counted.new.meter c.in-Several.ensures.asked)
 
 pub verify_id-returns-in_err-text_of-in-Several-2-clause-asked : goal.verify_id-returns-in_err-text_of-in-Several-2-clause-asked
 verify_id-returns-in_err-text_of-in-Several-2-clause-asked g t c =
     let s = g.C.Checking.setting c.args.checking.now in
     let l = c.args.level.now in
     let p = err_from_is_err_and c.from_residual-in_err-text_of-in-Several-2.result c.from_residual-in_err-text_of-in-Several-2.ensures.1 in
-    rw p.1 (candidates_raise s l.depth l.layout.now l.links.now c.args.step.now c.args.found.now c.args.signer.now.id.now 0 c.args.meter.now c.counted.new.meter (rw c.in-Several.is at c.in_ok-counted.ensures.asked))
+    rw p.1 (candidates_raise s l.depth l.layout.now l.links.now c.args.step.now c.args.found.now c.args.signer.now.id.now 0 c.args.meter.now c.counted.new.meter c.in-Several.ensures.asked)
 
 pub verify_id-returns-in_ok-text_of-in-Several-2-clause-asked : goal.verify_id-returns-in_ok-text_of-in-Several-2-clause-asked
 verify_id-returns-in_ok-text_of-in-Several-2-clause-asked g t c =
     let s = g.C.Checking.setting c.args.checking.now in
     let l = c.args.level.now in
-    candidates_raise s l.depth l.layout.now l.links.now c.args.step.now c.args.found.now c.args.signer.now.id.now 0 c.args.meter.now c.counted.new.meter (rw c.in-Several.is at c.in_ok-counted.ensures.asked)
+    candidates_raise s l.depth l.layout.now l.links.now c.args.step.now c.args.found.now c.args.signer.now.id.now 0 c.args.meter.now c.counted.new.meter c.in-Several.ensures.asked
 
 pub verify_id-returns-in-Nothing-clause-asked : goal.verify_id-returns-in-Nothing-clause-asked
 verify_id-returns-in-Nothing-clause-asked g t c =
     let s = g.C.Checking.setting c.args.checking.now in
     let l = c.args.level.now in
-    candidates_raise s l.depth l.layout.now l.links.now c.args.step.now c.args.found.now c.args.signer.now.id.now 0 c.args.meter.now c.counted.new.meter (rw c.in-Nothing.is at c.in_ok-counted.ensures.asked)
+    candidates_raise s l.depth l.layout.now l.links.now c.args.step.now c.args.found.now c.args.signer.now.id.now 0 c.args.meter.now c.counted.new.meter c.in-Nothing.ensures.asked
 
 pub verify_id-returns-in_err-recorded-in-One-clause-asked : goal.verify_id-returns-in_err-recorded-in-One-clause-asked
 verify_id-returns-in_err-recorded-in-One-clause-asked g t c =
     let s = g.C.Checking.setting c.args.checking.now in
     let l = c.args.level.now in
     let one = one_counts (holds_below s l.depth) (fails_below s l.depth) s l.layout.now l.links.now c.args.step.now c.args.signer.now.id.now c.args.signer.now.object.now c.args.found.now c.requires.candidates c.requires.listed c.requires.known
-    c.in-One.key c.in-One.body.now (rw c.in-One.is at c.in_ok-counted.ensures.answer) in
+    c.in-One.key c.in-One.body.now c.in-One.ensures.answer in
     let p = err_from_is_err_and c.from_residual-in_err-recorded-in-One.result c.from_residual-in_err-recorded-in-One.ensures.1 in
     rw p.1 (within_least 0 1 (OfId s l.depth l.layout.now l.links.now c.args.step.now c.args.found.now c.args.signer.now.id.now) c.args.meter.now c.verify_body.new.meter (omega arith)
     (body_raises s l.depth l.layout.now l.links.now c.args.step.now c.args.found.now c.args.signer.now.id.now (holds_below s l.depth) c.in-One.key (as_body c.in-One.body.now) one c.args.meter.now c.counted.new.meter c.verify_body.new.meter
-    (rw c.in-One.is at c.in_ok-counted.ensures.asked) (rw c.as_str-name.ensures at c.in_err-recorded-in-One.ensures.asked)))
+    c.in-One.ensures.asked (rw c.as_str-name.ensures at c.in_err-recorded-in-One.ensures.asked)))
 
 pub verify_id-returns-in_err-text_of-in-One-clause-asked : goal.verify_id-returns-in_err-text_of-in-One-clause-asked
 verify_id-returns-in_err-text_of-in-One-clause-asked g t c =
     let s = g.C.Checking.setting c.args.checking.now in
     let l = c.args.level.now in
     let one = one_counts (holds_below s l.depth) (fails_below s l.depth) s l.layout.now l.links.now c.args.step.now c.args.signer.now.id.now c.args.signer.now.object.now c.args.found.now c.requires.candidates c.requires.listed c.requires.known
-    c.in-One.key c.in-One.body.now (rw c.in-One.is at c.in_ok-counted.ensures.answer) in
+    c.in-One.key c.in-One.body.now c.in-One.ensures.answer in
     let p = err_from_is_err_and c.from_residual-in_err-text_of-in-One.result c.from_residual-in_err-text_of-in-One.ensures.1 in
     rw p.1 (within_least 0 1 (OfId s l.depth l.layout.now l.links.now c.args.step.now c.args.found.now c.args.signer.now.id.now) c.args.meter.now c.verify_body.new.meter (omega arith)
     (body_raises s l.depth l.layout.now l.links.now c.args.step.now c.args.found.now c.args.signer.now.id.now (holds_below s l.depth) c.in-One.key (as_body c.in-One.body.now) one c.args.meter.now c.counted.new.meter c.verify_body.new.meter
-    (rw c.in-One.is at c.in_ok-counted.ensures.asked) (rw c.as_str-name.ensures at c.in_ok-recorded-in-One.ensures.asked)))
+    c.in-One.ensures.asked (rw c.as_str-name.ensures at c.in_ok-recorded-in-One.ensures.asked)))
 
 pub verify_id-returns-in_ok-text_of-in-One-clause-asked : goal.verify_id-returns-in_ok-text_of-in-One-clause-asked
 verify_id-returns-in_ok-text_of-in-One-clause-asked g t c =
     let s = g.C.Checking.setting c.args.checking.now in
     let l = c.args.level.now in
     let one = one_counts (holds_below s l.depth) (fails_below s l.depth) s l.layout.now l.links.now c.args.step.now c.args.signer.now.id.now c.args.signer.now.object.now c.args.found.now c.requires.candidates c.requires.listed c.requires.known
-    c.in-One.key c.in-One.body.now (rw c.in-One.is at c.in_ok-counted.ensures.answer) in
+    c.in-One.key c.in-One.body.now c.in-One.ensures.answer in
     body_raises s l.depth l.layout.now l.links.now c.args.step.now c.args.found.now c.args.signer.now.id.now (holds_below s l.depth) c.in-One.key (as_body c.in-One.body.now) one c.args.meter.now c.counted.new.meter c.verify_body.new.meter
-    (rw c.in-One.is at c.in_ok-counted.ensures.asked) (rw c.as_str-name.ensures at c.in_ok-recorded-in-One.ensures.asked)
+    c.in-One.ensures.asked (rw c.as_str-name.ensures at c.in_ok-recorded-in-One.ensures.asked)

@@ -1,5 +1,5 @@
 //! Whether the owners of a policy signed the layout.
-ghost use Rattle.std.specs.Prelude.{◌*◌, ◌≤◌, IfOk, IsTrue, MatchBool, MatchResult, OnOk, length};
+ghost use Rattle.std.specs.Prelude.{◌*◌, ◌≤◌, IsTrue, MatchBool, MatchResult, OnOk, length};
 ghost use Rattle.std.specs.FinMap.{entries, len};
 ghost use Rattle.it_dsse.specs.Meter.{RaisedBy};
 ghost use Rattle.it_chain.specs.First.{IsFirst};
@@ -15,7 +15,7 @@ use it_dsse::envelope::Envelope;
 use it_dsse::key_object::KeyObject;
 use it_dsse::meter::Meter;
 use it_dsse::signed_by;
-use std::alloc::{AllocError, Global};
+use std::alloc::Global;
 
 /// Asks of each owner, in the order of the ids' bytes, whether the key signed the envelope, and stops
 /// at the first that did not.
@@ -34,7 +34,7 @@ pub(crate) fn check_owners(
     ensures at_least { OnOk result (RaisedBy (λ n. len owners.now ≤ n) meter.old meter.new) }
 {
     for (id, object) in owners.iter() {
-        if !signs(alloc, envelope, id.as_str(), object, check, meter)? {
+        if !signs(envelope, id.as_str(), object, check, meter) {
             let id = text_of(alloc, id.as_str())?;
             return Err(refused(alloc, Fault::OwnerMissing(id)));
         }
@@ -44,20 +44,18 @@ pub(crate) fn check_owners(
 
 /// Whether the key under an id signed the envelope.
 fn signs(
-    alloc: Global,
     envelope: &Envelope,
     id: &str,
     object: &KeyObject,
     check: &Box<dyn SignatureCheck>,
     meter: &mut Meter,
-) -> Result<bool, AllocError>
-    ensures signer { IfOk result (λ signs. MatchBool signs
+) -> bool
+    ensures signer { MatchBool result
         (IsSigner (meaning check.now) envelope.now object.now id.now)
-        (¬ IsSigner (meaning check.now) envelope.now object.now id.now)) }
+        (¬ IsSigner (meaning check.now) envelope.now object.now id.now) }
     ensures at_most { RaisedBy (λ n. n ≤ length envelope.now.signatures) meter.old meter.new }
-    ensures at_least { IfOk result (λ signs. IsTrue signs
-        → RaisedBy (λ n. 1 ≤ n) meter.old meter.new) }
+    ensures at_least { IsTrue result → RaisedBy (λ n. 1 ≤ n) meter.old meter.new }
 {
-    let key = signed_by(alloc, envelope, id, object, check, meter)?;
-    Ok(key.is_some())
+    let key = signed_by(envelope, id, object, check, meter);
+    key.is_some()
 }

@@ -1,8 +1,10 @@
 pub mod Alphabets
 pub mod Decided
 pub mod Documents
+pub mod Firsts
 pub mod Items
 pub mod Members
 pub mod Pieces
 pub mod Settled
+pub mod Sums
 pub mod Unique

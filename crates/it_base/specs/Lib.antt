@@ -3,6 +3,8 @@ pub mod Document
 pub mod Finds
 pub mod HexadecimalText
 pub mod Parts
+pub mod Places
 pub mod Sequence
+pub mod Sum
 pub mod Text
 pub mod Writing

@@ -4,6 +4,7 @@ use Rattle.std.proofs.Common.{◌≡◌, ℕ, zero, suc, List, [], ◌∷◌, �
 use Rattle.std.specs.List.{AllZip}
 use Rattle.std.specs.FinMap.{keys}
 use Rattle.std.proofs.lemmas.Option.{same_Some}
+use Rattle.it_base.specs.Places.{IsFirst}
 use Rattle.it_dsse.specs.Envelope.{EnvelopeOf}
 use Rattle.it_docs.specs.Layout.{LayoutOf}
 use Rattle.it_docs.specs.declared.layout.Layout.{Layout}
@@ -13,7 +14,7 @@ use Rattle.it_chain.specs.Alike.{Alike, Comparing, ComesToTheSame, FoldersCompar
 use Rattle.it_chain.specs.Chain.{Chain, none_holds}
 use Rattle.it_chain.specs.Contents.{Contents}
 use Rattle.it_chain.specs.Counted.{Setting, Body, of_link, of_layout, BodyOf, Counted, KeyCounts, Found}
-use Rattle.it_chain.specs.First.{Failing, Place, at_expiry, at_id, at_threshold, at_records, at_rules, step_places, rule_places, places, Stands, IsFirst, LevelFails, First, too_deep, uninspected}
+use Rattle.it_chain.specs.First.{Failing, Place, at_expiry, at_id, at_threshold, at_records, at_rules, step_places, rule_places, places, Stands, LevelFails, First, too_deep, uninspected}
 use Rattle.it_chain.specs.Level.{Holding, Records, HasRecord, StepHolds, LevelHolds}
 use Rattle.it_chain.specs.Names.{folder_of}
 use Rattle.it_chain.specs.declared.chain.StepResult.{StepResult}

@@ -3,6 +3,7 @@ use Rattle.std.proofs.Common.{◌≡◌, ℕ, zero, suc, ◌+◌, ◌<◌, ◌�
 use Rattle.std.specs.List.{sum_by}
 use Rattle.std.proofs.lemmas.List.{take_more}
 use Rattle.std.proofs.lemmas.List.Sums.{sum_by-cons}
+use Rattle.it_base.specs.Sum.{IsSum}
 use Rattle.it_dsse.specs.Check.{Check, KeyNumber}
 use Rattle.it_dsse.specs.Meter.{raised}
 use Rattle.it_dsse.specs.Signed.{Signed, tries}
@@ -10,8 +11,7 @@ use Rattle.it_dsse.specs.declared.key_object.KeyObject.{KeyObject}
 use Rattle.it_dsse.specs.declared.meter.Meter.{Meter}
 use Rattle.it_dsse.proofs.Tries.{signed_tries, tries_at_most}
 use Rattle.it_dsse.proofs.Trying.{raised-zero, raised_more}
-use Rattle.it_chain.specs.Asked.{RaisedWithin, SignaturesIn}
-use Rattle.it_chain.specs.Cost.{IsSum}
+use Rattle.it_chain.specs.Asked.{RaisedAtLeast, RaisedWithin, SignaturesIn}
 use Rattle.it_chain.specs.declared.candidate.Candidate.{Candidate}
 
 pub within_none : (Most : ℕ → Type 0) (old new : Meter) → new ≡ old → RaisedWithin 0 Most old new
@@ -40,8 +40,8 @@ within_then l k least P Q R old now new less parts h j = (
 
 -- ---- calls in a loop
 module _ {X : Type 0} (Costs : X → ℕ → Type 0) where
-  pub sum_last : (xs : List X) (x : X) (n : ℕ) → IsSum Costs (xs ++ x ∷ []) n → (a : ℕ) × (b : ℕ) × IsSum Costs xs a × Costs x b × (a + b ≤ n)
-  sum_last [] x n h = (0, h.0, refl, h.2, omega (arith, h.4))
+  pub sum_last : (xs : List X) (x : X) (n : ℕ) → IsSum Costs (xs ++ x ∷ []) n → (a : ℕ) × (b : ℕ) × IsSum Costs xs a × Costs x b × (n ≡ a + b)
+  sum_last [] x n h = (0, h.0, refl, h.2, omega (arith, h.3, h.4))
   sum_last (y ∷ ys) x n h =
       let rest = sum_last ys x h.1 h.3 in
       (h.0 + rest.0, rest.1, (h.0, rest.0, h.2, rest.2, refl), rest.3, omega (arith, h.4, rest.4))
@@ -55,7 +55,9 @@ module _ {X : Type 0} (Costs : X → ℕ → Type 0) where
 
   module _ (xs : List X) (i : ℕ) (x : X) (below : i < length xs) (here : x ≡ get_or xs i x) where
     next_of : (n : ℕ) → IsSum Costs (take (i + 1) xs) n → (a : ℕ) × (b : ℕ) × IsSum Costs (take i xs) a × Costs x b × (a + b ≤ n)
-    next_of n h = sum_last (take i xs) x n (subst (λ ys. IsSum Costs ys n) (take_more xs i x below ∙ ap (λ y. take i xs ++ y ∷ []) (sym here)) h)
+    next_of n h =
+        let parts = sum_last (take i xs) x n (subst (λ ys. IsSum Costs ys n) (take_more xs i x below ∙ ap (λ y. take i xs ++ y ∷ []) (sym here)) h) in
+        (parts.0, parts.1, parts.2, parts.3, omega (arith, parts.4))
 
     part_of : (n : ℕ) → IsSum Costs xs n → (a : ℕ) × (b : ℕ) × IsSum Costs (take i xs) a × Costs x b × (a + b ≤ n)
     part_of n h = let parts = sum_at xs i x n below h in (parts.0, parts.1, parts.2, subst (λ y. Costs y parts.1) (sym here) parts.3, parts.4)
@@ -67,6 +69,34 @@ module _ {X : Type 0} (Costs : X → ℕ → Type 0) where
       pub within_part : (least : ℕ) → least ≤ l + k → RaisedWithin least (IsSum Costs xs) old new
       within_part least less = within_then l k least (IsSum Costs (take i xs)) (Costs x) (IsSum Costs xs) old now new less part_of before next
 
+-- ---- the least that is asked
+pub least_none : (Least : ℕ → Type 0) (old new : Meter) → ((n : ℕ) → Least n → n ≡ 0) → new ≡ old → RaisedAtLeast Least old new
+least_none Least old new only same n h = let none = only n h in (0, omega (arith, none), same ∙ sym (raised-zero old))
+
+pub least_of : (least : ℕ) (Most : ℕ → Type 0) (old new : Meter) → RaisedWithin least Most old new → RaisedAtLeast (λ n. n ≡ least) old new
+least_of least Most old new h n is = (h.0, omega (arith, h.1.0, is), h.2)
+
+pub least_weaker : (P Q : ℕ → Type 0) (old new : Meter) → ((n : ℕ) → Q n → (m : ℕ) × P m × (n ≤ m)) → RaisedAtLeast P old new → RaisedAtLeast Q old new
+least_weaker P Q old new more h n q =
+    let m = more n q in
+    let k = h m.0 m.1 in
+    (k.0, omega (arith, m.2, k.1), k.2)
+
+pub least_then : (P Q R : ℕ → Type 0) (old now new : Meter) → ((n : ℕ) → R n → (a : ℕ) × (b : ℕ) × P a × Q b × (n ≤ a + b)) → RaisedAtLeast P old now → RaisedAtLeast Q now new → RaisedAtLeast R old new
+least_then P Q R old now new parts h j n r =
+    let p = parts n r in
+    let a = h p.0 p.2 in
+    let b = j p.1 p.3 in
+    (a.0 + b.0, omega (arith, p.4, a.1, b.1), b.2 ∙ ap (λ m. raised m b.0) a.2 ∙ raised_more old a.0 b.0)
+
+module _ {X : Type 0} (Least : X → ℕ → Type 0) (old now new : Meter) where
+  pub least_push : (xs : List X) (x : X) → RaisedAtLeast (IsSum Least xs) old now → RaisedAtLeast (Least x) now new → RaisedAtLeast (IsSum Least (xs ++ x ∷ [])) old new
+  least_push xs x = least_then (IsSum Least xs) (Least x) (IsSum Least (xs ++ x ∷ [])) old now new (λ n h. let s = sum_last Least xs x n h in (s.0, s.1, s.2, s.3, omega (arith, s.4)))
+
+  pub least_more : (xs : List X) (i : ℕ) (x : X) → i < length xs → x ≡ get_or xs i x → RaisedAtLeast (IsSum Least (take i xs)) old now → RaisedAtLeast (Least x) now new → RaisedAtLeast (IsSum Least (take (i + 1) xs)) old new
+  least_more xs i x below here before next =
+      subst (λ ys. RaisedAtLeast (IsSum Least ys) old new) (sym (take_more xs i x below ∙ ap (λ y. take i xs ++ y ∷ []) (sym here))) (least_push (take i xs) x before next)
+
 -- what a function counts is such a sum
 pub sum_of : {X : Type 0} (f : X → ℕ) (xs : List X) → IsSum (λ x n. n ≡ f x) xs (sum_by f xs)
 sum_of f [] = refl
@@ -77,10 +107,6 @@ module _ (check : Check) (id : List ℕ) (object : KeyObject) (all : List Candid
     (least : ℕ) (before : RaisedWithin least (SignaturesIn (take i all)) old now) where
   abbrev OfNew : ℕ → Type 0
   OfNew n = n ≡ length new.envelope.signatures
-
-  -- nothing was asked of the next
-  pub asked_before : next ≡ now → RaisedWithin 0 (SignaturesIn all) old next
-  asked_before same = within_part (λ (c : Candidate) n. n ≡ length c.envelope.signatures) all i new below here least 0 old now next before (within_none OfNew now next same) 0 (omega arith)
 
   module _ (counted : next ≡ raised now (tries check new.envelope id object)) where
     of_new : RaisedWithin 0 OfNew now next

@@ -3,6 +3,7 @@ use Rattle.std.proofs.Common.{◌≡◌, ◌≢◌, ℕ, List, [], ◌∷◌, �
 use Rattle.std.specs.List.{cons_option}
 use Rattle.std.proofs.lemmas.List.Sums.{sum_by_push}
 use Rattle.std.proofs.lemmas.List.Elements.{Contains-append_left, Contains-append_right, Contains-append_cases, filter_map-append}
+use Rattle.it_base.specs.Sum.{CostsIfFound, IsSum}
 use Rattle.it_dsse.specs.Envelope.{EnvelopeOf}
 use Rattle.it_dsse.specs.declared.envelope.Envelope.{Envelope}
 use Rattle.it_docs.specs.Layout.{LayoutOf}
@@ -13,7 +14,7 @@ use Rattle.it_docs.specs.declared.link.Link.{Link}
 use Rattle.it_docs.proofs.Same.{link_same}
 use Rattle.it_chain.specs.Asked.{signature_count}
 use Rattle.it_chain.specs.Claims.{files_at}
-use Rattle.it_chain.specs.Cost.{CostsIfFound, HasSignatures, IsSum}
+use Rattle.it_chain.specs.Cost.{HasSignatures}
 use Rattle.it_chain.specs.Walk.{AreRead, IsBody, IsRead, IsReadAt}
 use Rattle.it_chain.specs.declared.bundle.File.{File}
 use Rattle.it_chain.specs.declared.candidate.Body.{Body as Held}

@@ -8,6 +8,7 @@ use Rattle.std.proofs.lemmas.List.{length-map}
 use Rattle.std.proofs.lemmas.Map.Made.{is_member-Decides, length-le_from_is_member}
 use Rattle.std.proofs.lemmas.Nat.{mul-le}
 use Rattle.std.proofs.lemmas.Slice.Eq.{bytes_eq-Decides}
+use Rattle.it_base.specs.Sum.{CostsIfFound, IsSum}
 use Rattle.it_dsse.specs.Envelope.{EnvelopeOf}
 use Rattle.it_dsse.specs.Signed.{AreThose}
 use Rattle.it_docs.specs.Layout.{LayoutOf}
@@ -17,7 +18,7 @@ use Rattle.it_docs.proofs.Same.{layout_same}
 use Rattle.it_chain.specs.Answer.{signers}
 use Rattle.it_chain.specs.Asked.{IdCosts, signature_count}
 use Rattle.it_chain.specs.Contents.{Contents, files_of}
-use Rattle.it_chain.specs.Cost.{Costing, CostsIfFound, FileHas, HasSignatures, IsSum, StepCosts}
+use Rattle.it_chain.specs.Cost.{Costing, FileHas, HasSignatures, StepCosts}
 use Rattle.it_chain.specs.Counted.{Setting, Counted}
 use Rattle.it_chain.specs.First.{IsBefore}
 use Rattle.it_chain.specs.Names.{IsClaimed, folder_of}

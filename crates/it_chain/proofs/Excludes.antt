@@ -3,6 +3,8 @@
 use Rattle.std.proofs.Common.{ℕ, zero, suc, List, [], ◌∷◌, map, flat_map, ⊎_elim}
 use Rattle.std.specs.List.{AllZip}
 use Rattle.std.specs.FinMap.{keys}
+use Rattle.it_base.specs.Places.{NoneAt}
+use Rattle.it_base.proofs.Firsts.{none_append, none_first, none_map}
 use Rattle.it_docs.specs.declared.layout.Layout.{Layout}
 use Rattle.it_docs.specs.declared.step.Step.{Step}
 use Rattle.it_docs.specs.declared.rule.Side.TheVariants.{Materials, Products}
@@ -11,10 +13,8 @@ use Rattle.it_chain.specs.Contents.{Contents}
 use Rattle.it_chain.specs.Counted.{Setting}
 use Rattle.it_chain.specs.First.{Failing, at_id, at_threshold, at_records, step_places, rule_places, places, Stands, LevelFails, First, too_deep, uninspected}
 use Rattle.it_chain.specs.Level.{Holding, StepHolds, LevelHolds}
-use Rattle.it_chain.specs.Walk.{NoneAt}
 use Rattle.it_chain.specs.declared.chain.StepResult.{StepResult}
 use Rattle.it_chain.specs.declared.refusal.ChainRefusal.{ChainRefusal}
-use Rattle.it_chain.proofs.Firsts.{none_first, none_append, none_map}
 use Rattle.it_chain.proofs.Levels.{HoldsOneWay, HoldsOrFails, level_one, no_two, no_failing, no_few, no_other, no_rules}
 
 module _ (sub : Holding) (fails : Failing) (one : HoldsOneWay sub) (apart : HoldsOrFails sub fails) (setting : Setting) (layout : Layout) (bundle : Contents) where

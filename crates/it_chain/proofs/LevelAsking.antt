@@ -3,6 +3,7 @@ use Rattle.std.proofs.Common.{◌≡◌, ℕ, zero, suc, ◌+◌, ◌<◌, ◌�
 use Rattle.std.proofs.lemmas.List.Sums.{sum_by_push}
 use Rattle.std.proofs.lemmas.List.{length-map, length_push}
 use Rattle.std.proofs.lemmas.Map.Made.{distinct_count-le}
+use Rattle.it_base.specs.Sum.{IsSum}
 use Rattle.it_dsse.specs.Check.{KeyNumber}
 use Rattle.it_dsse.specs.Meter.{RaisedBy}
 use Rattle.it_dsse.specs.declared.meter.Meter.{Meter}
@@ -11,7 +12,7 @@ use Rattle.it_docs.specs.declared.step.Step.{Step}
 use Rattle.it_chain.specs.Answer.{signers, with_record}
 use Rattle.it_chain.specs.Asked.{Asks, BodyCosts, IdCosts, RaisedWithin, SignaturesIn, cost_below, key_total, least_given, signature_count}
 use Rattle.it_chain.specs.Contents.{Contents, files_of}
-use Rattle.it_chain.specs.Cost.{Costs, IsSum, LevelCosts, StepCosts}
+use Rattle.it_chain.specs.Cost.{Costs, LevelCosts, StepCosts}
 use Rattle.it_chain.specs.Counted.{Setting, Body, of_link, of_layout, same_key}
 use Rattle.it_chain.specs.Level.{Holding}
 use Rattle.it_chain.specs.Signers.{entry_of}

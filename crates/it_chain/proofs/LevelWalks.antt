@@ -1,15 +1,16 @@
 -- What a level comes to, from its steps and their rules.
 use Rattle.std.proofs.Common.{◌≡◌, ◌<ℤ◌, List, [], ◌∷◌, ◌++◌, flat_map, zip, Err, inl, inr, ⊎_elim, Contains, refl, sym, subst}
 use Rattle.std.specs.List.{AllByRecursion, AllZip}
+use Rattle.it_base.specs.Places.{IsFirst, NoneAt}
 use Rattle.it_docs.specs.declared.layout.Layout.{Layout}
 use Rattle.it_docs.specs.declared.step.Step.{Step}
 use Rattle.it_docs.specs.declared.rule.Side.TheVariants.{Materials, Products}
 use Rattle.it_rules.specs.Item.{Links}
 use Rattle.it_chain.specs.Contents.{Contents}
 use Rattle.it_chain.specs.Counted.{Setting}
-use Rattle.it_chain.specs.First.{Failing, IsFirst, Place, Stands, at_expiry, here, places, rule_places, step_places}
+use Rattle.it_chain.specs.First.{Failing, Place, Stands, at_expiry, here, places, rule_places, step_places}
 use Rattle.it_chain.specs.Level.{Holding, LevelHolds, StepHolds, StepRulesHold, links_in}
-use Rattle.it_chain.specs.Walk.{AreRuled, FailsAt, IsFirstRuled, NoneAt}
+use Rattle.it_chain.specs.Walk.{AreRuled, FailsAt, IsFirstRuled}
 use Rattle.it_chain.specs.declared.chain.StepResult.{StepResult}
 use Rattle.it_chain.specs.declared.refusal.ChainError.{ChainError}
 use Rattle.it_chain.specs.declared.refusal.ChainError.TheVariants.{Refused, OutOfMemory}

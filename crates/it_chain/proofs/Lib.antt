@@ -11,11 +11,11 @@ pub mod Deeper
 pub mod Documents
 pub mod Entries
 pub mod Excludes
-pub mod Firsts
 pub mod Ids
 pub mod Judging
 pub mod LevelAnswers
 pub mod LevelAsking
+pub mod LevelFewest
 pub mod LevelRules
 pub mod LevelWalks
 pub mod Levels

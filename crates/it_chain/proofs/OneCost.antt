@@ -1,44 +1,32 @@
--- That a layout over a bundle costs one number of checks.
+-- That a layout over a bundle costs one number of checks, and takes one number at the least.
 use Rattle.std.proofs.Common.{◌≡◌, ◌≢◌, ◌↔◌, ℕ, zero, suc, ◌+◌, ◌*◌, ◌≤◌, List, [], ◌∷◌, Bool, true, false, Decides, inl, inr, ⊎_elim, bytes_eq, Contains, refl, sym, subst, arith, ◌∙◌}
 use Rattle.std.specs.List.{AllByRecursion, AllPairs, IsDistinct}
 use Rattle.std.specs.Set.{distinct_count}
 use Rattle.std.proofs.lemmas.Map.Keys.{IsDistinct-head, IsDistinct-tail}
 use Rattle.std.proofs.lemmas.Map.Made.{IsDistinct-from_AllPairs}
+use Rattle.it_base.specs.Sum.{CostsIfFound, IsSum}
+use Rattle.it_base.proofs.Sums.{IsOne, one_if_found, one_sum}
 use Rattle.it_dsse.specs.Envelope.{EnvelopeOf}
 use Rattle.it_docs.specs.Layout.{LayoutOf}
 use Rattle.it_docs.specs.declared.layout.Layout.{Layout}
 use Rattle.it_docs.specs.declared.step.Step.{Step}
 use Rattle.it_docs.proofs.Same.{layout_same}
 use Rattle.it_chain.specs.Contents.{Contents, files_of}
-use Rattle.it_chain.specs.Cost.{Costing, Costs, CostsIfFound, FileHas, HasSignatures, IsSum, LevelCosts, StepCosts, SublayoutsCost, no_cost}
+use Rattle.it_chain.specs.Cost.{Costing, Costs, FileHas, HasSignatures, LevelCosts, StepCosts, SublayoutsCost, no_cost}
 use Rattle.it_chain.specs.Counted.{Setting}
+use Rattle.it_chain.specs.Fewest.{Fewest, LevelFewest, StepFewest}
 use Rattle.it_chain.specs.Names.{IsClaimed, folder_of}
 use Rattle.it_chain.proofs.Documents.{envelope_same}
 use Rattle.it_chain.proofs.Members.{in_cases, in_head, in_none, in_tail}
+use Rattle.it_chain.proofs.Numbers.{found_one}
 use Rattle.it_chain.proofs.Uniques.{pair_eq, pair_eq-Decides}
 
--- each thing costs one number
-abbrev pub IsOne : {X : Type 0} → (X → ℕ → Type 0) → Type 0
-IsOne {X} Cost = (x : X) (m n : ℕ) → Cost x m → Cost x n → m ≡ n
-
-all_are : {X : Type 0} (P : X → Type 0) (xs : List X) → AllByRecursion P xs → (x : X) → Contains xs x → P x
+pub all_are : {X : Type 0} (P : X → Type 0) (xs : List X) → AllByRecursion P xs → (x : X) → Contains xs x → P x
 all_are P [] all x c = absurd (in_none x c)
 all_are P (y ∷ ys) all x c = ⊎_elim (λ same. subst P same all.0) (all_are P ys all.1 x) (in_cases y ys x c)
 
-pub one_if_found : {X : Type 0} (Is : X → Type 0) (Cost : X → ℕ → Type 0) → ((x y : X) → Is x → Is y → x ≡ y) → IsOne Cost → (m n : ℕ) → CostsIfFound Is Cost m → CostsIfFound Is Cost n → m ≡ n
-one_if_found Is Cost same one m n h k = ⊎_elim
-    (λ x. ⊎_elim (λ y. one x.0 m n x.2 (subst (λ z. Cost z n) (same y.0 x.0 y.1 x.1) y.2)) (λ none. absurd (none.0 x.0 x.1)) k)
-    (λ none. ⊎_elim (λ y. absurd (none.0 y.0 y.1)) (λ also. none.1 ∙ sym also.1) k) h
-
 -- ---- sums
 module _ {X : Type 0} (Cost : X → ℕ → Type 0) (one : IsOne Cost) where
-  pub one_sum : IsOne (IsSum Cost)
-  one_sum [] m n h k = h ∙ sym k
-  one_sum (x ∷ xs) m n h k =
-      let first = one x h.0 k.0 h.2 k.2 in
-      let others = one_sum xs h.1 k.1 h.3 k.3 in
-      omega (arith, first, others, h.4, k.4)
-
   -- a sum, one element apart from the rest
   apart_from : (xs : List X) (n : ℕ) (x : X) → Contains xs x → IsSum Cost xs n
       → (a : ℕ) × (rest : List X) × (b : ℕ) × Cost x a × IsSum Cost rest b × (n ≡ a + b) × ((y : X) → Contains xs y → x ≢ y → Contains rest y)
@@ -65,7 +53,7 @@ module _ {X : Type 0} (Cost : X → ℕ → Type 0) (one : IsOne Cost) where
   ]
 
   module _ (eq : X → X → Bool) (same : (a b : X) → Decides (eq a b) (a ≡ b)) where
-    no_more : (xs ys : List X) (m n : ℕ) → IsDistinct eq xs → ((x : X) → Contains xs x → Contains ys x) → IsSum Cost xs m → IsSum Cost ys n → m ≤ n
+    pub no_more : (xs ys : List X) (m n : ℕ) → IsDistinct eq xs → ((x : X) → Contains xs x → Contains ys x) → IsSum Cost xs m → IsSum Cost ys n → m ≤ n
     no_more [] ys m n distinct there h k = omega (arith, h)
     no_more (x ∷ xs) ys m n distinct there h k =
         let rest = apart_from ys n x (there x (in_head x xs)) k in
@@ -96,7 +84,7 @@ module _ (sub : Costing) (one : (layout : Layout) → IsOne (sub layout)) (setti
     one_body body m n =
         one_if_found (LayoutOf body.1) (λ sublayout. sub sublayout (folder_of step.name body.0 bundle)) (layout_same body.1) (λ sublayout. one sublayout (folder_of step.name body.0 bundle)) m n
 
-    one_of_sublayouts : (m n : ℕ) → SublayoutsCost sub setting layout bundle step m → SublayoutsCost sub setting layout bundle step n → m ≡ n
+    pub one_of_sublayouts : (m n : ℕ) → SublayoutsCost sub setting layout bundle step m → SublayoutsCost sub setting layout bundle step n → m ≡ n
     one_of_sublayouts m n a b =
         one_of_same OfBody one_body pair_eq pair_eq-Decides a.bodies b.bodies m n a.once b.once
         (λ pair. (λ c. (b.are_those pair.0 pair.1).1 ((a.are_those pair.0 pair.1).0 c), λ c. (a.are_those pair.0 pair.1).1 ((b.are_those pair.0 pair.1).0 c))) a.sum b.sum
@@ -107,9 +95,22 @@ module _ (sub : Costing) (one : (layout : Layout) → IsOne (sub layout)) (setti
       let sublayouts = one_of_sublayouts step a.sublayouts b.sublayouts a.of_sublayouts b.of_sublayouts in
       a.sum ∙ (λ i. distinct_count bytes_eq step.pubkeys * signatures i + sublayouts i) ∙ sym b.sum
 
+  one_fewest_step : IsOne (StepFewest sub setting layout bundle)
+  one_fewest_step step m n a b =
+      let keys = found_one setting layout bundle step a.keys b.keys a.of_keys b.of_keys in
+      let sublayouts = one_of_sublayouts step a.sublayouts b.sublayouts a.of_sublayouts b.of_sublayouts in
+      omega (arith, keys, sublayouts, a.sum, b.sum)
+
+  one_fewest_level : (m n : ℕ) → LevelFewest sub setting layout bundle m → LevelFewest sub setting layout bundle n → m ≡ n
+  one_fewest_level m n = one_sum (StepFewest sub setting layout bundle) one_fewest_step layout.steps m n
+
   one_level : (m n : ℕ) → LevelCosts sub setting layout bundle m → LevelCosts sub setting layout bundle n → m ≡ n
   one_level m n = one_sum (StepCosts sub setting layout bundle) one_step layout.steps m n
 
 pub one_cost : (setting : Setting) (depth : ℕ) (layout : Layout) (bundle : Contents) (m n : ℕ) → Costs setting depth layout bundle m → Costs setting depth layout bundle n → m ≡ n
 one_cost setting zero layout bundle = one_level no_cost (λ l b m n h k. h ∙ sym k) setting layout bundle
 one_cost setting (suc depth) layout bundle = one_level (Costs setting depth) (one_cost setting depth) setting layout bundle
+
+pub one_fewest : (setting : Setting) (depth : ℕ) (layout : Layout) (bundle : Contents) (m n : ℕ) → Fewest setting depth layout bundle m → Fewest setting depth layout bundle n → m ≡ n
+one_fewest setting zero layout bundle = one_fewest_level no_cost (λ l b m n h k. h ∙ sym k) setting layout bundle
+one_fewest setting (suc depth) layout bundle = one_fewest_level (Fewest setting depth) (one_fewest setting depth) setting layout bundle

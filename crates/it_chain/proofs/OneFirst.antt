@@ -5,6 +5,8 @@ use Rattle.std.specs.List.{list_any}
 use Rattle.std.specs.Cmp.Lexicographic.{slice_cmp}
 use Rattle.std.specs.FinMap.{keys, get, contains_key-keys, slice_cmp-IsAntisymmetric, nat_cmp-IsAntisymmetric}
 use Rattle.std.specs.Ordering.{eq_by_cmp}
+use Rattle.it_base.specs.Places.{NoneAt}
+use Rattle.it_base.proofs.Firsts.{OneAt, OneFirst, one_append, one_flat_map, one_map, one_more, one_none}
 use Rattle.it_docs.specs.Layout.{LayoutOf}
 use Rattle.it_docs.specs.declared.layout.Layout.{Layout}
 use Rattle.it_docs.specs.declared.step.Step.{Step}
@@ -21,12 +23,10 @@ use Rattle.it_chain.specs.Counted.{Setting}
 use Rattle.it_chain.specs.First.{Failing, Place, at_expiry, at_id, at_threshold, at_records, at_rules, step_places, rule_places, HasTwo, SublayoutFails, IsLeastOther, Stands, LevelFails, First, too_deep, uninspected, here, under}
 use Rattle.it_chain.specs.Level.{Holding, HasRecord, StepHolds, recorded_in, links_in, rules_on}
 use Rattle.it_chain.specs.Names.{folder_of}
-use Rattle.it_chain.specs.Walk.{NoneAt}
 use Rattle.it_chain.specs.declared.refusal.ChainFault.TheVariants.{TwoPayloads, Threshold, Disagree, RuleFailed}
 use Rattle.it_chain.specs.declared.refusal.ChainRefusal.{ChainRefusal}
 use Rattle.it_chain.specs.declared.refusal.RuleItem.TheVariants.{Step as of_step}
 use Rattle.it_chain.proofs.Excludes.{chain_one, none_one}
-use Rattle.it_chain.proofs.Firsts.{OneFirst, OneAt, one_none, one_more, one_append, one_map, one_flat_map}
 use Rattle.it_chain.proofs.Levels.{HoldsOneWay, record_one, step_one, steps_one}
 use Rattle.it_chain.proofs.Numbers.{found_one}
 use Rattle.it_chain.proofs.Orders.{neither_before, not_different}

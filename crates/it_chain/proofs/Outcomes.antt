@@ -1,10 +1,9 @@
 -- Answers that speak of places: a value where nothing stands at them, or what stands first.
 use Rattle.std.proofs.Common.{List, ◌++◌, Result, Ok, Err}
+use Rattle.it_base.specs.Places.{IsFirst, NoneAt}
+use Rattle.it_base.proofs.Firsts.{first_before, first_behind, none_append}
 use Rattle.it_chain.specs.Answer.{◌>>=◌}
-use Rattle.it_chain.specs.First.{IsFirst}
-use Rattle.it_chain.specs.Walk.{NoneAt}
 use Rattle.it_chain.specs.declared.refusal.ChainRefusal.{ChainRefusal}
-use Rattle.it_chain.proofs.Firsts.{none_append, first_before, first_behind}
 
 module _ {P : Type 0} (At : P → ChainRefusal → Type 0) where
   -- the answer is a value of which G holds, and nothing stands at the places, or it is what stands first

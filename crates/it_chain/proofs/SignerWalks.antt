@@ -4,6 +4,7 @@ use Rattle.std.specs.FinMap.{entries, get, keys}
 use Rattle.std.proofs.lemmas.List.{map-append, take-append-drop}
 use Rattle.std.proofs.lemmas.Map.Made.{is_member-Decides}
 use Rattle.std.proofs.lemmas.Slice.Eq.{bytes_eq-Decides}
+use Rattle.it_base.specs.Places.{NoneAt}
 use Rattle.it_dsse.proofs.Keeping.{cut}
 use Rattle.it_dsse.specs.declared.key_object.KeyObject.{KeyObject}
 use Rattle.it_docs.specs.declared.layout.Layout.{Layout}
@@ -14,7 +15,7 @@ use Rattle.it_chain.specs.Contents.{Contents}
 use Rattle.it_chain.specs.Counted.{Setting}
 use Rattle.it_chain.specs.First.{Place, at_id}
 use Rattle.it_chain.specs.Signers.{entry_of}
-use Rattle.it_chain.specs.Walk.{AreRecords, FailsAt, Gives, NoneAt, StandsAt, fails_below, holds_below}
+use Rattle.it_chain.specs.Walk.{AreRecords, FailsAt, Gives, StandsAt, fails_below, holds_below}
 use Rattle.it_chain.specs.declared.record.IdRecord.{IdRecord}
 use Rattle.it_chain.specs.declared.refusal.ChainError.{ChainError}
 use Rattle.it_chain.specs.declared.refusal.ChainError.TheVariants.{Refused, OutOfMemory}

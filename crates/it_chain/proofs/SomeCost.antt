@@ -1,5 +1,5 @@
--- That a layout over a bundle costs some number of checks.
-use Rattle.std.proofs.Common.{◌≡◌, ℕ, zero, suc, ◌+◌, ◌*◌, List, [], ◌∷◌, ◌++◌, length, filter_map, Bool, true, false, Option, None, Some, inl, inr, ⊎_elim, bytes_eq, Contains, refl, sym, subst}
+-- That a layout over a bundle costs some number of checks, and takes some number at the least.
+use Rattle.std.proofs.Common.{◌≡◌, ℕ, zero, suc, ◌+◌, ◌*◌, List, [], ◌∷◌, ◌++◌, length, map, filter_map, Bool, true, false, Option, None, Some, inr, ⊎_elim, bytes_eq, Contains, refl, sym, subst, ◌∙◌}
 use Rattle.std.specs.FinMap.{entries, get}
 use Rattle.std.specs.Set.{distinct_count, unique_keys}
 use Rattle.std.proofs.lemmas.List.Elements.{Contains-append_cases, Contains-append_left, Contains-append_right}
@@ -7,16 +7,20 @@ use Rattle.std.proofs.lemmas.Map.Made.{is_member-Decides}
 use Rattle.std.proofs.lemmas.Option.{same_Some}
 use Rattle.std.proofs.lemmas.Slice.Eq.{bytes_eq-Decides}
 use Rattle.it_base.specs.Finds.{Finds}
+use Rattle.it_base.proofs.Sums.{some_if_found, some_sum}
+use Rattle.it_base.specs.Sum.{CostsIfFound}
 use Rattle.it_dsse.specs.Check.{KeyNumber}
 use Rattle.it_dsse.specs.Envelope.{EnvelopeOf}
 use Rattle.it_dsse.specs.declared.key_object.KeyObject.{KeyObject}
 use Rattle.it_docs.specs.Layout.{LayoutOf}
 use Rattle.it_docs.specs.declared.layout.Layout.{Layout}
 use Rattle.it_docs.specs.declared.step.Step.{Step}
+use Rattle.it_rules.proofs.Listed.{Contains-from_place, Contains-map, Contains-map_cases, place_of}
 use Rattle.it_chain.specs.Answer.{payloads_for, signers}
 use Rattle.it_chain.specs.Contents.{Contents, files_of}
-use Rattle.it_chain.specs.Cost.{Costing, Costs, CostsIfFound, FileHas, HasSignatures, IsSublayout, IsSum, LevelCosts, StepCosts, no_cost}
-use Rattle.it_chain.specs.Counted.{Setting, Body}
+use Rattle.it_chain.specs.Cost.{Costing, Costs, FileHas, HasSignatures, IsSublayout, LevelCosts, StepCosts, SublayoutsCost, no_cost}
+use Rattle.it_chain.specs.Counted.{Setting, Body, KeyCounts, same_key}
+use Rattle.it_chain.specs.Fewest.{Fewest, LevelFewest, StepFewest}
 use Rattle.it_chain.specs.Lower.{AnswersRight, Lower}
 use Rattle.it_chain.specs.Names.{IsClaimed, folder_of}
 use Rattle.it_chain.specs.declared.bundle.File.{File}
@@ -24,18 +28,11 @@ use Rattle.it_chain.proofs.Counting.{counts, listed}
 use Rattle.it_chain.proofs.Decided.{the_lower, the_lower-right}
 use Rattle.it_chain.proofs.Entries.{entry_known, known_entry}
 use Rattle.it_chain.proofs.Members.{in_cases, in_filter, in_filter_map, in_head, in_none, in_tail, of_filter, of_filter_map}
+use Rattle.it_chain.proofs.Numbers.{found_of}
 use Rattle.it_chain.proofs.Records.{is_listed}
 use Rattle.it_chain.proofs.Uniques.{in_unique, pair_eq, pair_eq-Decides, of_unique, unique_differ}
 
--- ---- sums, and what is found
-pub some_sum : {X : Type 0} (Cost : X → ℕ → Type 0) → ((x : X) → (n : ℕ) × Cost x n) → (xs : List X) → (n : ℕ) × IsSum Cost xs n
-some_sum Cost each [] = (0, refl)
-some_sum Cost each (x ∷ xs) = let first = each x in let others = some_sum Cost each xs in (first.0 + others.0, (first.0, others.0, first.1, others.1, refl))
-
-pub some_if_found : {X : Type 0} (Is : X → Type 0) (Cost : X → ℕ → Type 0) → ((x : X) → (n : ℕ) × Cost x n) → (found : Option X) → Finds Is found → (n : ℕ) × CostsIfFound Is Cost n
-some_if_found Is Cost each None none = (0, inr (none, refl))
-some_if_found Is Cost each (Some x) is = let cost = each x in (cost.0, inl (x, is, cost.1))
-
+-- ---- what is found
 finds_both : {X : Type 0} (A : Type 0) (P : X → Type 0) → A → (found : Option X) → Finds P found → Finds (λ x. A × P x) found
 finds_both A P a None none = λ x both. none x both.1
 finds_both A P a (Some x) is = (a, is)
@@ -124,23 +121,72 @@ module _ (lower : Lower) (right : AnswersRight lower) where
         of_numbered signer.0.0 signer.0.1 (id, payload) ((is_member-Decides bytes_eq-Decides step.pubkeys signer.0.0).0 entry.0) (entry_known layout.keys signer.0 entry.1)
         (setting.check.key_of signer.0.0 signer.0.1) refl signer.2
 
-    step_costs : (sub : Costing) → ((l : Layout) (b : Contents) → (n : ℕ) × sub l b n) → (n : ℕ) × StepCosts sub setting layout bundle step n
+    pub sublayouts_cost : (sub : Costing) → ((l : Layout) (b : Contents) → (n : ℕ) × sub l b n) → (n : ℕ) × SublayoutsCost sub setting layout bundle step n
     unfolding sublayouts
-    step_costs sub each =
-        let files = some_sum (FileHas step) (λ file. file_has step file (lower.is_claimed step.name file.name) refl) (files_of bundle) in
+    sublayouts_cost sub each =
         let below = some_sum (λ (body : List ℕ × List ℕ). CostsIfFound (LayoutOf body.1) (λ sublayout. sub sublayout (folder_of step.name body.0 bundle)))
         (λ body. some_if_found (LayoutOf body.1) (λ sublayout. sub sublayout (folder_of step.name body.0 bundle)) (λ sublayout. each sublayout (folder_of step.name body.0 bundle)) (lower.layout_of body.1) (right.layout body.1)) sublayouts in (
-          distinct_count bytes_eq step.pubkeys * files.0 + below.0,
+          below.0,
           record {
-            signatures = files.0;
+            bodies = sublayouts;
+            once = unique_differ pair_eq pair_eq-Decides (joined of_signer (signers layout step));
+            are_those = λ id payload. (counted_of id payload, counted_in id payload);
+            sum = below.1;
+          },
+        )
+
+    step_costs : (sub : Costing) → ((l : Layout) (b : Contents) → (n : ℕ) × sub l b n) → (n : ℕ) × StepCosts sub setting layout bundle step n
+    step_costs sub each =
+        let files = some_sum (FileHas step) (λ file. file_has step file (lower.is_claimed step.name file.name) refl) (files_of bundle) in
+        let below = sublayouts_cost sub each in (
+          distinct_count bytes_eq step.pubkeys * files.0 + below.0,
+          record { signatures = files.0; sublayouts = below.0; of_files = files.1; of_sublayouts = below.1; sum = refl },
+        )
+
+    -- ---- the keys that count
+    keys_for : List ℕ → Option KeyNumber → List KeyNumber
+    keys_for id None = []
+    keys_for id (Some key) = map (λ _. key) (payloads_for lower setting step bundle id key)
+
+    abbrev keys_by : List ℕ × KeyObject → List KeyNumber
+    keys_by signer = keys_for signer.0 (setting.check.key_of signer.0 signer.1)
+
+    key_in : (key : KeyNumber) → KeyCounts setting layout bundle step key → Contains (joined keys_by (signers layout step)) key
+    unfolding keys_for
+    key_in key k =
+        let c = k.counted in
+        let signer : Contains (signers layout step) (k.id, c.object) =
+        in_filter (is_listed step) (entries layout.keys) (k.id, c.object) ((is_member-Decides bytes_eq-Decides step.pubkeys k.id).1 c.listed) (known_entry layout.keys k.id c.object c.known) in
+        let place = place_of (payloads_for lower setting step bundle k.id c.key) (k.payload, c.body) (listed lower right setting step layout bundle k.id k.payload c) in
+        let among : Contains (keys_for k.id (Some c.key)) c.key = Contains-map (λ _. c.key) (payloads_for lower setting step bundle k.id c.key) place.0 (k.payload, c.body) place.1 in
+        in_joined keys_by (signers layout step) (k.id, c.object) key signer (subst (λ n. Contains (keys_for k.id n) key) (sym c.signed.key) (subst (Contains (keys_for k.id (Some c.key))) k.key_is among))
+
+    key_numbered : (id : List ℕ) (object : KeyObject) (key : KeyNumber) → Contains step.pubkeys id → get layout.keys id ≡ Some object → (number : Option KeyNumber) → setting.check.key_of id object ≡ number
+        → Contains (keys_for id number) key → KeyCounts setting layout bundle step key
+    unfolding keys_for
+    key_numbered id object key pubkey known None numbered c = absurd (in_none key c)
+    key_numbered id object key pubkey known (Some k) numbered c =
+        let made = Contains-map_cases (λ (_ : List ℕ × Body). k) (payloads_for lower setting step bundle id k) key c in
+        let counted = counts lower right setting step layout bundle id made.1.0 object k made.1.1 pubkey known numbered (Contains-from_place (payloads_for lower setting step bundle id k) made.0 made.1 made.2) in
+        record { id = id; payload = made.1.0; counted = counted.0; key_is = counted.1 ∙ made.3 }
+
+    key_of : (key : KeyNumber) → Contains (joined keys_by (signers layout step)) key → KeyCounts setting layout bundle step key
+    key_of key c =
+        let signer = of_joined keys_by (signers layout step) key c in
+        let entry = of_filter (is_listed step) (entries layout.keys) signer.0 signer.1 in
+        key_numbered signer.0.0 signer.0.1 key ((is_member-Decides bytes_eq-Decides step.pubkeys signer.0.0).0 entry.0) (entry_known layout.keys signer.0 entry.1)
+        (setting.check.key_of signer.0.0 signer.0.1) refl signer.2
+
+    step_fewest : (sub : Costing) → ((l : Layout) (b : Contents) → (n : ℕ) × sub l b n) → (n : ℕ) × StepFewest sub setting layout bundle step n
+    step_fewest sub each =
+        let keys = joined keys_by (signers layout step) in
+        let below = sublayouts_cost sub each in (
+          distinct_count same_key keys + below.0,
+          record {
+            keys = distinct_count same_key keys;
             sublayouts = below.0;
-            of_files = files.1;
-            of_sublayouts = record {
-              bodies = sublayouts;
-              once = unique_differ pair_eq pair_eq-Decides (joined of_signer (signers layout step));
-              are_those = λ id payload. (counted_of id payload, counted_in id payload);
-              sum = below.1;
-            };
+            of_keys = found_of setting layout bundle step keys (λ key. (key_of key, key_in key));
+            of_sublayouts = below.1;
             sum = refl;
           },
         )
@@ -151,3 +197,10 @@ level_costs sub each setting layout bundle = some_sum (StepCosts sub setting lay
 pub some_cost : (setting : Setting) (depth : ℕ) (layout : Layout) (bundle : Contents) → (n : ℕ) × Costs setting depth layout bundle n
 some_cost setting zero layout bundle = level_costs no_cost (λ l b. (0, refl)) setting layout bundle
 some_cost setting (suc depth) layout bundle = level_costs (Costs setting depth) (some_cost setting depth) setting layout bundle
+
+level_fewest : (sub : Costing) → ((l : Layout) (b : Contents) → (n : ℕ) × sub l b n) → (setting : Setting) (layout : Layout) (bundle : Contents) → (n : ℕ) × LevelFewest sub setting layout bundle n
+level_fewest sub each setting layout bundle = some_sum (StepFewest sub setting layout bundle) (λ step. step_fewest the_lower the_lower-right setting layout bundle step sub each) layout.steps
+
+pub some_fewest : (setting : Setting) (depth : ℕ) (layout : Layout) (bundle : Contents) → (n : ℕ) × Fewest setting depth layout bundle n
+some_fewest setting zero layout bundle = level_fewest no_cost (λ l b. (0, refl)) setting layout bundle
+some_fewest setting (suc depth) layout bundle = level_fewest (Fewest setting depth) (some_fewest setting depth) setting layout bundle

@@ -6,6 +6,8 @@ use Rattle.std.proofs.lemmas.Bool.Decides.{Decides-eqb}
 use Rattle.std.specs.List.{AllZip}
 use Rattle.std.proofs.lemmas.List.{take_more}
 use Rattle.std.proofs.lemmas.Option.{same_Some}
+use Rattle.it_base.specs.Places.{IsFirst, NoneAt}
+use Rattle.it_base.proofs.Firsts.{first_before, first_behind, none_append}
 use Rattle.it_dsse.specs.Check.{KeyNumber}
 use Rattle.it_dsse.specs.Signed.{Signed}
 use Rattle.it_dsse.specs.declared.envelope.Envelope.{Envelope}
@@ -17,10 +19,10 @@ use Rattle.it_chain.specs.Chain.{Chain}
 use Rattle.it_rules.specs.Item.{Recorded}
 use Rattle.it_chain.specs.Contents.{Contents, empty, files_of}
 use Rattle.it_chain.specs.Counted.{Setting, Body, of_link, of_layout, BodyOf, Counted}
-use Rattle.it_chain.specs.First.{Failing, First, HasTwo, IsFirst, SublayoutFails, at_id, here, places}
+use Rattle.it_chain.specs.First.{Failing, First, HasTwo, SublayoutFails, at_id, here, places}
 use Rattle.it_chain.specs.Level.{Holding, LevelHolds, Records}
 use Rattle.it_chain.specs.Names.{IsClaimed, folder_of}
-use Rattle.it_chain.specs.Walk.{AreCandidates, BodyComes, BodyFails, CountTwo, CountsOne, FailsAt, Gives, IsRead, IsSigned, IsUnder, NoneAt, StandsAt, SublayoutComes, Walks, as_body, fails_below, holds_below}
+use Rattle.it_chain.specs.Walk.{AreCandidates, BodyComes, BodyFails, CountTwo, CountsOne, FailsAt, Gives, IsRead, IsSigned, IsUnder, StandsAt, SublayoutComes, Walks, as_body, fails_below, holds_below}
 use Rattle.it_chain.specs.declared.bundle.File.{File}
 use Rattle.it_chain.specs.declared.candidate.Body.{Body as Held}
 use Rattle.it_chain.specs.declared.candidate.Body.TheVariants.{Link as held_link, Layout as held_layout}
@@ -34,7 +36,6 @@ use Rattle.it_chain.specs.declared.refusal.ChainFault.TheVariants.{InspectionInS
 use Rattle.it_chain.specs.declared.refusal.ChainRefusal.{ChainRefusal}
 use Rattle.it_chain.proofs.ClaimedFiles.{in_those, of_those}
 use Rattle.it_chain.proofs.Excludes.{chain_excludes, chain_one, none_one, uninspected_apart}
-use Rattle.it_chain.proofs.Firsts.{none_append, first_before, first_behind}
 use Rattle.it_chain.proofs.Ids.{OneBody, none_of_given}
 use Rattle.it_chain.proofs.Levels.{HoldsOneWay, HoldsOrFails}
 use Rattle.it_chain.proofs.Records.{AreOf}

@@ -5,6 +5,7 @@ use Rattle.std.specs.List.{AllZip}
 use Rattle.std.specs.Cmp.{nat_eq_equiv}
 use Rattle.std.specs.FinMap.{empty, keys}
 use Rattle.std.proofs.lemmas.Map.Made.{length-le_from_is_member}
+use Rattle.it_base.specs.Places.{IsFirst}
 use Rattle.it_digest.specs.Artifacts.{ArtifactMap}
 use Rattle.it_docs.specs.Layout.{LayoutOf}
 use Rattle.it_docs.specs.declared.layout.Layout.{Layout}
@@ -17,7 +18,7 @@ use Rattle.it_chain.specs.Alike.{Within, LevelWithin}
 use Rattle.it_chain.specs.Chain.{Chain, none_holds}
 use Rattle.it_chain.specs.Contents.{Contents}
 use Rattle.it_chain.specs.Counted.{Setting, Body, of_link, of_layout, BodyOf, Counted, Found}
-use Rattle.it_chain.specs.First.{Failing, Place, at_id, at_threshold, at_records, at_rules, step_places, rule_places, places, Stands, IsFirst, LevelFails, First, too_deep, uninspected}
+use Rattle.it_chain.specs.First.{Failing, Place, at_id, at_threshold, at_records, at_rules, step_places, rule_places, places, Stands, LevelFails, First, too_deep, uninspected}
 use Rattle.it_chain.specs.Laws.{IsNoMore, IsThresholdFault, OnlyWithholds}
 use Rattle.it_chain.specs.Level.{Holding, Records, HasRecord, StepHolds, LevelHolds, StepRulesHold, recorded_in, links_in, first_materials, last_products, summary}
 use Rattle.it_chain.specs.Names.{folder_of}

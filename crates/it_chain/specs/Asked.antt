@@ -2,14 +2,16 @@
 -- trusted stands here.
 use Rattle.std.specs.Prelude.{◌≡◌, ℕ, zero, suc, ◌+◌, ◌≤◌, List, length, Option, None, Some, Result, Ok, Err, ⊤}
 use Rattle.std.specs.List.{sum_by}
+use Rattle.it_base.specs.Sum.{CostsIfFound, IsSum}
 use Rattle.it_dsse.specs.Meter.{RaisedBy}
 use Rattle.it_dsse.specs.declared.meter.Meter.{Meter}
 use Rattle.it_docs.specs.Layout.{LayoutOf}
 use Rattle.it_docs.specs.declared.layout.Layout.{Layout}
 use Rattle.it_docs.specs.declared.step.Step.{Step}
 use Rattle.it_chain.specs.Contents.{Contents}
-use Rattle.it_chain.specs.Cost.{Costing, Costs, IsSum, no_cost}
+use Rattle.it_chain.specs.Cost.{Costing, Costs, no_cost}
 use Rattle.it_chain.specs.Counted.{Setting, Body, of_link, of_layout, Counted}
+use Rattle.it_chain.specs.Fewest.{Fewest}
 use Rattle.it_chain.specs.Names.{folder_of}
 use Rattle.it_chain.specs.declared.candidate.Candidate.{Candidate}
 use Rattle.it_chain.specs.declared.chain.StepResult.{StepResult}
@@ -63,3 +65,37 @@ pub record IdCosts (sub : Costing) (setting : Setting) (layout : Layout) (bundle
 abbrev pub BodyCosts : Costing → Contents → List ℕ → List ℕ → Body → ℕ → Type 0
 BodyCosts sub bundle step id (of_link link) n = ⊤
 BodyCosts sub bundle step id (of_layout layout) n = (m : ℕ) × sub layout (folder_of step id bundle) m × (m ≤ n)
+
+-- ---- the least that is asked for a value
+-- a meter was raised by no less than each of which Least holds
+abbrev pub RaisedAtLeast : (ℕ → Type 0) → Meter → Meter → Type 0
+RaisedAtLeast Least old new = (n : ℕ) → Least n → RaisedBy (λ m. n ≤ m) old new
+
+-- what the sublayouts of a level take at the least
+abbrev pub fewest_below : Setting → ℕ → Costing
+fewest_below setting zero = no_cost
+fewest_below setting (suc depth) = Fewest setting depth
+
+-- a body takes what it does as a sublayout
+abbrev pub BodyFewest : Costing → Contents → List ℕ → List ℕ → Body → ℕ → Type 0
+BodyFewest sub bundle step id (of_link link) n = n ≡ 0
+BodyFewest sub bundle step id (of_layout layout) n = sub layout (folder_of step id bundle) n
+
+module _ (sub : Costing) (setting : Setting) (layout : Layout) (bundle : Contents) (step : Step) where
+  -- a sublayout counts for a key id
+  abbrev pub CountsFor : List ℕ → Layout → Type 0
+  CountsFor id sublayout = (payload : List ℕ) × Counted setting layout bundle step id payload × LayoutOf payload sublayout
+
+  abbrev pub SublayoutFewest : List ℕ → ℕ → Type 0
+  SublayoutFewest id = CostsIfFound (CountsFor id) (λ sublayout. sub sublayout (folder_of step.name id bundle))
+
+  -- a key id that counts takes one check, and what its sublayout takes, if it has one
+  abbrev pub IdFewest : List ℕ → ℕ → Type 0
+  IdFewest id n = (m : ℕ) × SublayoutFewest id m × (n ≡ m + 1)
+
+  abbrev pub GivenFewest : Option IdRecord → ℕ → Type 0
+  GivenFewest None n = n ≡ 0
+  GivenFewest (Some r) n = IdFewest r.id n
+
+  abbrev pub RecordsFewest : List IdRecord → ℕ → Type 0
+  RecordsFewest = IsSum (λ r. IdFewest r.id)

@@ -1,8 +1,9 @@
 -- How many checks of validity a layout over a bundle may ask for (a word of this project; no standard
 -- speaks of it).
-use Rattle.std.specs.Prelude.{◌≡◌, ◌≢◌, ◌⊎◌, ◌↔◌, ℕ, zero, suc, ◌+◌, ◌*◌, List, [], ◌∷◌, length, AllPairs, Contains}
+use Rattle.std.specs.Prelude.{◌≡◌, ◌≢◌, ◌↔◌, ℕ, zero, suc, ◌+◌, ◌*◌, List, length, AllPairs, Contains}
 use Rattle.std.specs.Set.{distinct_count}
 use Rattle.std.specs.Str.{bytes_eq}
+use Rattle.it_base.specs.Sum.{CostsIfFound, IsSum}
 use Rattle.it_dsse.specs.Envelope.{EnvelopeOf}
 use Rattle.it_dsse.specs.declared.envelope.Envelope.{Envelope}
 use Rattle.it_docs.specs.Layout.{LayoutOf}
@@ -12,15 +13,6 @@ use Rattle.it_chain.specs.Contents.{Contents, files_of}
 use Rattle.it_chain.specs.Counted.{Setting, Counted}
 use Rattle.it_chain.specs.Names.{IsClaimed, folder_of}
 use Rattle.it_chain.specs.declared.bundle.File.{File}
-
--- the sum of what each item costs
-abbrev pub IsSum : {X : Type 0} → (X → ℕ → Type 0) → List X → ℕ → Type 0
-IsSum Costs [] n = n ≡ 0
-IsSum Costs (x ∷ xs) n = (first : ℕ) × (others : ℕ) × Costs x first × IsSum Costs xs others × (n ≡ first + others)
-
--- what the thing costs that is found, and 0 where none is
-abbrev pub CostsIfFound : {X : Type 0} → (X → Type 0) → (X → ℕ → Type 0) → ℕ → Type 0
-CostsIfFound {X} Is Costs n = ((x : X) × Is x × Costs x n) ⊎ (((x : X) → ¬ Is x) × (n ≡ 0))
 
 -- how many signatures an envelope has
 abbrev pub HasSignatures : Envelope → ℕ → Type 0

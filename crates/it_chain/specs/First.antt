@@ -6,6 +6,7 @@ use Rattle.std.specs.FinMap.{keys}
 use Rattle.std.specs.Ordering.{nat_cmp}
 use Rattle.std.specs.Cmp.Lexicographic.{slice_cmp}
 use Rattle.std.specs.declared.cmp.Ordering.TheVariants.{Less}
+use Rattle.it_base.specs.Places.{IsFirst}
 use Rattle.it_docs.specs.Layout.{LayoutOf}
 use Rattle.it_docs.specs.declared.layout.Layout.{Layout}
 use Rattle.it_docs.specs.declared.step.Step.{Step}
@@ -113,11 +114,6 @@ module _ (sub : Holding) (fails : Failing) (setting : Setting) (layout : Layout)
   Stands (at_records step) refusal = (id : List ℕ) × IsLeastOther step id × (refusal ≡ here (Disagree step.name id))
   Stands (at_rules step side) refusal =
       (index : ℕ) × (path : List ℕ) × RulesFail step side index path × (refusal ≡ here (RuleFailed (of_step step.name) side index path))
-
--- what stands at the first place at which something stands
-abbrev pub IsFirst : {P R : Type 0} → (P → R → Type 0) → List P → R → Type 0
-IsFirst At [] refusal = ⊥
-IsFirst {R = R} At (place ∷ rest) refusal = At place refusal ⊎ (((other : R) → ¬ At place other) × IsFirst At rest refusal)
 
 -- the first failure of a layout, what its sublayouts come to being given
 abbrev pub LevelFails : Holding → Failing → Setting → Failing

@@ -9,6 +9,7 @@ use Rattle.it_chain.specs.Chain.{Chain}
 use Rattle.it_chain.specs.Contents.{Contents}
 use Rattle.it_chain.specs.Cost.{Costs}
 use Rattle.it_chain.specs.Counted.{Setting, Found}
+use Rattle.it_chain.specs.Fewest.{Fewest}
 use Rattle.it_chain.specs.First.{First}
 use Rattle.it_chain.specs.Lower.{Lower, AnswersRight}
 use Rattle.it_chain.specs.declared.chain.StepResult.{StepResult}
@@ -107,3 +108,13 @@ abbrev pub CostIsOne : Type 0
 CostIsOne =
     (setting : Setting) (depth : ℕ) (layout : Layout) (bundle : Contents) (m n : ℕ)
     → Costs setting depth layout bundle m → Costs setting depth layout bundle n → m ≡ n
+
+-- a layout over a bundle takes some number of checks at the least
+abbrev pub HasFewest : Type 0
+HasFewest = (setting : Setting) (depth : ℕ) (layout : Layout) (bundle : Contents) → (n : ℕ) × Fewest setting depth layout bundle n
+
+-- and no other
+abbrev pub FewestIsOne : Type 0
+FewestIsOne =
+    (setting : Setting) (depth : ℕ) (layout : Layout) (bundle : Contents) (m n : ℕ)
+    → Fewest setting depth layout bundle m → Fewest setting depth layout bundle n → m ≡ n

@@ -8,6 +8,7 @@ pub mod Claims
 pub mod Contents
 pub mod Cost
 pub mod Counted
+pub mod Fewest
 pub mod First
 pub mod Laws
 pub mod Level

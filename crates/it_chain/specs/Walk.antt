@@ -3,6 +3,8 @@
 use Rattle.std.specs.Prelude.{◌≡◌, ◌≢◌, ◌⊎◌, ◌<◌, ◌≤◌, ℕ, zero, suc, List, [], ◌∷◌, Option, None, Some, Result, Ok, Err, map, slice_get, Contains, ⊤}
 use Rattle.std.specs.List.{AllByRecursion}
 use Rattle.std.specs.Set.{distinct_count}
+use Rattle.it_base.specs.Places.{IsFirst, NoneAt}
+use Rattle.it_base.specs.Sum.{CostsIfFound, IsSum}
 use Rattle.it_dsse.specs.Check.{Check, KeyNumber}
 use Rattle.it_dsse.specs.Envelope.{EnvelopeOf}
 use Rattle.it_dsse.specs.Signed.{Signed}
@@ -19,9 +21,9 @@ use Rattle.it_chain.specs.Asked.{signature_count}
 use Rattle.it_chain.specs.Chain.{Chain, none_holds}
 use Rattle.it_chain.specs.Claims.{AreClaimed}
 use Rattle.it_chain.specs.Contents.{Contents}
-use Rattle.it_chain.specs.Cost.{CostsIfFound, HasSignatures, IsSum}
+use Rattle.it_chain.specs.Cost.{HasSignatures}
 use Rattle.it_chain.specs.Counted.{Setting, Body, of_link, of_layout, BodyOf, Counted, same_key}
-use Rattle.it_chain.specs.First.{Failing, First, IsBefore, IsFirst, Place, Stands, here, too_deep, under, uninspected}
+use Rattle.it_chain.specs.First.{Failing, First, IsBefore, Place, Stands, here, too_deep, under, uninspected}
 use Rattle.it_chain.specs.Level.{Holding, HasRecord, Records, StepRulesHold, recorded_in}
 use Rattle.it_chain.specs.Names.{folder_of}
 use Rattle.it_chain.specs.declared.bundle.File.{File}
@@ -40,11 +42,6 @@ use Rattle.it_chain.specs.declared.refusal.ChainRefusal.{ChainRefusal}
 use Rattle.it_chain.specs.declared.refusal.RuleItem.TheVariants.{Step as of_step}
 
 -- ---- answers that speak of places
--- nothing stands at any of the places
-abbrev pub NoneAt : {P R : Type 0} → (P → R → Type 0) → List P → Type 0
-NoneAt At [] = Unit {0}
-NoneAt {R = R} At (p ∷ ps) = ((r : R) → ¬ At p r) × NoneAt At ps
-
 -- an error: the refusal that stands first at the places, or that memory was refused
 abbrev pub FailsAt : {P : Type 0} → (P → ChainRefusal → Type 0) → List P → ChainError → Type 0
 FailsAt At ps (Refused refusal) = IsFirst At ps refusal

@@ -76,8 +76,8 @@ fn agreed(
     }
     Ok(StepResult {
         name: text_of(alloc, step.name.as_str())?,
-        materials: first.recorded.materials.copy()?,
-        products: first.recorded.products.copy()?,
+        materials: first.recorded.materials.copy(alloc)?,
+        products: first.recorded.products.copy(alloc)?,
         keys: found,
     })
 }

@@ -1,5 +1,5 @@
 //! What a layout is checked with.
-ghost use Rattle.std.specs.Prelude.{◌≡◌, IfOk, OnErr};
+ghost use Rattle.std.specs.Prelude.{◌≡◌};
 ghost use Rattle.it_base.specs.Finds.{Finds};
 ghost use Rattle.it_dsse.specs.Meter.{raised};
 ghost use Rattle.it_dsse.specs.Signed.{Signed, tries};
@@ -10,7 +10,6 @@ use it_dsse::envelope::Envelope;
 use it_dsse::key_object::KeyObject;
 use it_dsse::meter::Meter;
 use it_dsse::signed_by;
-use std::alloc::{AllocError, Global};
 
 /// Tells who signed envelopes, and at which moment layouts are looked at.
 pub(crate) trait Checking: Drop {
@@ -24,17 +23,14 @@ pub(crate) trait Checking: Drop {
     /// The number of the key that signed the envelope, as `it_dsse::signed_by` answers.
     fn signed_by(
         &self,
-        alloc: Global,
         envelope: &Envelope,
         id: &str,
         object: &KeyObject,
         meter: &mut Meter,
-    ) -> Result<Option<u32>, AllocError>
-        ensures answer { IfOk result
-            (Finds (Signed (setting self.now).check envelope.now id.now object.now)) }
-        ensures counted { IfOk result (λ _. meter.new
-            ≡ raised meter.old (tries (setting self.now).check envelope.now id.now object.now)) }
-        ensures err { OnErr result (meter.new ≡ meter.old) };
+    ) -> Option<u32>
+        ensures answer { Finds (Signed (setting self.now).check envelope.now id.now object.now) result }
+        ensures counted { meter.new
+            ≡ raised meter.old (tries (setting self.now).check envelope.now id.now object.now) };
 }
 
 /// A check that was lent, and a moment.
@@ -66,12 +62,11 @@ impl Checking for Lent<'_> {
 
     fn signed_by(
         &self,
-        alloc: Global,
         envelope: &Envelope,
         id: &str,
         object: &KeyObject,
         meter: &mut Meter,
-    ) -> Result<Option<u32>, AllocError> {
-        signed_by(alloc, envelope, id, object, self.check, meter)
+    ) -> Option<u32> {
+        signed_by(envelope, id, object, self.check, meter)
     }
 }

@@ -1,6 +1,6 @@
 //! Laws about the definitions of chains: functions that do nothing, and whose contracts say what is
 //! true of every layout, bundle and check.
-ghost use Rattle.it_chain.specs.Laws.{AlikeChains, AnswerIsRight, ChainGoesDeeper, ChainIsOne, ChainOrFirst, CostIsOne, FirstIsOne, FoundIsOne, HasCost, HoldsOrFails, NoiseIsAlike, SomeAnswersRight, WithheldChains};
+ghost use Rattle.it_chain.specs.Laws.{AlikeChains, AnswerIsRight, ChainGoesDeeper, ChainIsOne, ChainOrFirst, CostIsOne, FewestIsOne, FirstIsOne, FoundIsOne, HasCost, HasFewest, HoldsOrFails, NoiseIsAlike, SomeAnswersRight, WithheldChains};
 
 /// The number of different keys that signed what counts for a step is one number.
 pub fn found_is_one()
@@ -71,4 +71,15 @@ pub fn has_cost()
 /// A layout over a bundle costs one number of checks at most.
 pub fn cost_is_one()
     ensures { CostIsOne }
+{}
+
+/// A layout over a bundle takes some number of checks at the least: with `fewest_is_one`, always just
+/// one.
+pub fn has_fewest()
+    ensures { HasFewest }
+{}
+
+/// A layout over a bundle takes one number of checks at the least.
+pub fn fewest_is_one()
+    ensures { FewestIsOne }
 {}

@@ -2,11 +2,14 @@
 ghost use Rattle.std.specs.Prelude.{◌≡◌, ◌≤◌, ◌∷◌, [], IfOk, Some, Contains, length, map, flat_map};
 ghost use Rattle.std.specs.FinMap.{get, keys};
 ghost use Rattle.std.specs.List.{AllZip};
+ghost use Rattle.it_base.specs.Sum.{IsSum};
 ghost use Rattle.it_chain.specs.Answer.{signers as signers_of};
 ghost use Rattle.it_chain.specs.Asked.{Asks, BodyCosts, IdCosts, cost_below, key_total, least_given, signature_count};
+ghost use Rattle.it_chain.specs.Asked.{BodyFewest, GivenFewest, RaisedAtLeast, RecordsFewest, fewest_below};
 ghost use Rattle.it_chain.specs.Claims.{ClaimsIn};
 ghost use Rattle.it_chain.specs.Contents.{files_of};
-ghost use Rattle.it_chain.specs.Cost.{IsSum, LevelCosts, StepCosts};
+ghost use Rattle.it_chain.specs.Cost.{LevelCosts, StepCosts};
+ghost use Rattle.it_chain.specs.Fewest.{LevelFewest, StepFewest};
 ghost use Rattle.it_chain.specs.First.{at_id, places, step_places};
 ghost use Rattle.it_chain.specs.Level.{LevelHolds, StepHolds, summary};
 ghost use Rattle.it_chain.specs.Names.{folder_of};
@@ -60,6 +63,9 @@ pub(crate) fn verify_level<C: Checking>(
     ensures asked { Asks (λ chain. key_total chain.steps)
         (LevelCosts (cost_below (C.setting checking.now) level.now.depth)
         (C.setting checking.now) level.now.layout.now level.now.links.now) meter.old meter.new result }
+    ensures fewest { IfOk result (λ _. RaisedAtLeast
+        (LevelFewest (fewest_below (C.setting checking.now) level.now.depth)
+        (C.setting checking.now) level.now.layout.now level.now.links.now) meter.old meter.new) }
 {
     if level.layout.expires < checking.moment() {
         return Err(refused(alloc, ChainFault::Expired));
@@ -90,6 +96,9 @@ fn verify_steps<C: Checking>(
     ensures asked { Asks (λ results. key_total results.items)
         (LevelCosts (cost_below (C.setting checking.now) level.now.depth)
         (C.setting checking.now) level.now.layout.now level.now.links.now) meter.old meter.new result }
+    ensures fewest { IfOk result (λ _. RaisedAtLeast
+        (LevelFewest (fewest_below (C.setting checking.now) level.now.depth)
+        (C.setting checking.now) level.now.layout.now level.now.links.now) meter.old meter.new) }
 {
     let mut results = Vec::new(alloc);
     for step in level.layout.steps.as_slice() {
@@ -117,6 +126,10 @@ fn verify_step<C: Checking>(
     ensures asked { Asks (λ found. found.keys)
         (StepCosts (cost_below (C.setting checking.now) level.now.depth)
         (C.setting checking.now) level.now.layout.now level.now.links.now step.now) meter.old meter.new result }
+    ensures fewest { IfOk result (λ _. RaisedAtLeast
+        (StepFewest (fewest_below (C.setting checking.now) level.now.depth)
+        (C.setting checking.now) level.now.layout.now level.now.links.now step.now)
+        meter.old meter.new) }
 {
     let name = step.name.as_str();
     let found = candidates(alloc, name, level.links.files(), claims.places(name))?;
@@ -156,6 +169,10 @@ fn verify_ids<C: Checking>(
         (IsSum (λ signer. IdCosts (cost_below (C.setting checking.now) level.now.depth)
         (C.setting checking.now) level.now.layout.now level.now.links.now step.now (signature_count found.now)
         signer.id.now) signers.now) meter.old meter.new result }
+    ensures fewest { IfOk result (λ records. RaisedAtLeast
+        (RecordsFewest (fewest_below (C.setting checking.now) level.now.depth)
+        (C.setting checking.now) level.now.layout.now level.now.links.now step.now records.items)
+        meter.old meter.new) }
 {
     let mut records = Vec::new(alloc);
     for signer in signers {
@@ -190,9 +207,13 @@ fn verify_id<C: Checking>(
         (IdCosts (cost_below (C.setting checking.now) level.now.depth)
         (C.setting checking.now) level.now.layout.now level.now.links.now step.now (signature_count found.now)
         signer.now.id.now) meter.old meter.new result }
+    ensures fewest { IfOk result (λ given. RaisedAtLeast
+        (GivenFewest (fewest_below (C.setting checking.now) level.now.depth)
+        (C.setting checking.now) level.now.layout.now level.now.links.now step.now given)
+        meter.old meter.new) }
 {
     let id = signer.id;
-    match counted(alloc, checking, id, signer.object, found, meter)? {
+    match counted(checking, id, signer.object, found, meter) {
         Counting::Nothing => Ok(None),
         Counting::Several => Err(refused(
             alloc,
@@ -231,11 +252,14 @@ fn verify_body<C: Checking>(
     ensures asked { Asks (λ _. 0)
         (BodyCosts (cost_below (C.setting checking.now) level.now.depth)
         level.now.links.now step.now id.now (as_body body.now)) meter.old meter.new result }
+    ensures fewest { IfOk result (λ _. RaisedAtLeast
+        (BodyFewest (fewest_below (C.setting checking.now) level.now.depth)
+        level.now.links.now step.now id.now (as_body body.now)) meter.old meter.new) }
 {
     match body {
         Body::Link(link) => Ok(Recorded {
-            materials: link.materials.copy()?,
-            products: link.products.copy()?,
+            materials: link.materials.copy(alloc)?,
+            products: link.products.copy(alloc)?,
         }),
         Body::Layout(sublayout) => {
             match verify_sublayout(alloc, checking, level, step, id, sublayout, meter) {
@@ -264,6 +288,9 @@ fn verify_sublayout<C: Checking>(
     ensures asked { Asks (λ _. 0)
         (cost_below (C.setting checking.now) level.now.depth
         sublayout.now (folder_of step.now id.now level.now.links.now)) meter.old meter.new result }
+    ensures fewest { IfOk result (λ _. RaisedAtLeast
+        (fewest_below (C.setting checking.now) level.now.depth
+        sublayout.now (folder_of step.now id.now level.now.links.now)) meter.old meter.new) }
 {
     if level.depth == 0 {
         return Err(refused(alloc, ChainFault::TooDeep));
@@ -290,16 +317,20 @@ fn summary_of(alloc: Global, results: &[StepResult]) -> Result<Recorded, AllocEr
             materials: Artifacts::new(alloc),
             products: Artifacts::new(alloc),
         }),
-        [first, .., last] => summary_between(first, last),
-        [only] => summary_between(only, only),
+        [first, .., last] => summary_between(alloc, first, last),
+        [only] => summary_between(alloc, only, only),
     }
 }
 
-fn summary_between(first: &StepResult, last: &StepResult) -> Result<Recorded, AllocError>
+fn summary_between(
+    alloc: Global,
+    first: &StepResult,
+    last: &StepResult,
+) -> Result<Recorded, AllocError>
     ensures { IfOk result (λ recorded. recorded ≡ record { materials = first.now.materials; products = last.now.products }) }
 {
     Ok(Recorded {
-        materials: first.materials.copy()?,
-        products: last.products.copy()?,
+        materials: first.materials.copy(alloc)?,
+        products: last.products.copy(alloc)?,
     })
 }

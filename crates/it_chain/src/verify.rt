@@ -4,6 +4,7 @@ ghost use Rattle.std.specs.List.{sum_by};
 ghost use Rattle.it_dsse.specs.Meter.{RaisedBy};
 ghost use Rattle.it_chain.specs.Chain.{Chain as Chain_of};
 ghost use Rattle.it_chain.specs.Cost.{Costs};
+ghost use Rattle.it_chain.specs.Fewest.{Fewest};
 ghost use Rattle.it_chain.specs.First.{First};
 ghost use Rattle.it_chain.specs.declared.refusal.ChainError.TheVariants.{Refused};
 ghost use Rattle.it_chain.specs.declared.refusal.ChainRefusal.{ChainRefusal as Refusal};
@@ -22,8 +23,9 @@ use std::alloc::Global;
 ///
 /// `moment` is in seconds from 1970-01-01T00:00:00Z. Sublayouts may lie up to `depth` deep. Each
 /// signature is checked by `check`, which counts in `meter`: at most once for each id of a step and
-/// each signature of a file that is claimed for it, and so in sublayouts. The answer has a record
-/// for each step.
+/// each signature of a file that is claimed for it, and so in sublayouts; and at least once, where
+/// there is an answer, for each different key that signed what counts for a step, and so in
+/// sublayouts. The answer has a record for each step.
 ///
 /// # Errors
 ///
@@ -44,8 +46,11 @@ pub fn verify_chain(
         → First (record { check = meaning check.now; moment = moment }) depth layout.now links.now r) }
     ensures at_most { (n : ℕ) → Costs (record { check = meaning check.now; moment = moment }) depth layout.now links.now n
         → RaisedBy (λ m. m ≤ n) meter.old meter.new }
-    ensures at_least { IfOk result (λ chain. RaisedBy (λ m. sum_by (λ found. found.keys) chain.steps ≤ m)
-        meter.old meter.new) }
+    ensures at_least { IfOk result (λ chain. (n : ℕ)
+        → Fewest (record { check = meaning check.now; moment = moment }) depth layout.now links.now n
+        → RaisedBy (λ m. n ≤ m) meter.old meter.new) }
+    ensures at_least_keys { IfOk result (λ chain.
+        RaisedBy (λ m. sum_by (λ found. found.keys) chain.steps ≤ m) meter.old meter.new) }
 {
     let checking = Lent { check, moment };
     let level = Level {

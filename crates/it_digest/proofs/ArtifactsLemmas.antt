@@ -1,18 +1,18 @@
 -- A map under paths, beside its entries by the bytes of the paths.
-use Rattle.std.proofs.Common.{◌≡◌, ℕ, List, [], ◌∷◌, ◌&&◌, ◌↔◌, length, map, Option, Some, None, String, Global, Ordering, Less, Equal, Greater, string_bytes, string_cmp, nat_cmp, is_eq, cond, Bool, true, false, bytes_eq, T, refl, sym, ap, subst, ◌∙◌}
+use Rattle.std.proofs.Common.{◌≡◌, ℕ, List, [], ◌∷◌, ◌++◌, ◌&&◌, ◌↔◌, length, map, Option, Some, None, String, Global, Ordering, Less, Equal, Greater, string_bytes, string_cmp, nat_cmp, is_eq, cond, Bool, true, false, bytes_eq, T, refl, sym, ap, subst, ◌∙◌}
 use Rattle.std.specs.Bool.{Decides}
 use Rattle.std.specs.Cmp.Lexicographic.{slice_cmp, pointwise}
-use Rattle.std.specs.FinMap.{find, is_sorted, insert, get, entries, from_entries, from_sorted, get-from_entries, get-from_sorted, entries-from_sorted, same_entries_map, entries-insert, same_map, empty, empty_of_len, len, len-entries, len-empty, nat_cmp-IsAntisymmetric, slice_cmp-IsAntisymmetric}
+use Rattle.std.specs.FinMap.{find, is_sorted, insert, get, entries, from_entries, from_entries_push, from_sorted, get-from_entries, get-from_sorted, entries-from_sorted, same_entries_map, entries-insert, same_map, empty, empty_of_len, len, len-entries, len-empty, nat_cmp-IsAntisymmetric, slice_cmp-IsAntisymmetric}
 use Rattle.std.specs.FinMap.Entries.{below_all, put, by_order}
-use Rattle.std.specs.List.{AllByRecursion, AllZip}
+use Rattle.std.specs.List.{AllByRecursion}
 use Rattle.std.specs.List.Sorted.{IsStrictlySortedBy}
 use Rattle.std.specs.Map.{lookup, keys_of}
 use Rattle.std.specs.Option.{option_eq}
-use Rattle.std.specs.Ordering.{match_ordering, is_lt}
+use Rattle.std.specs.Ordering.{match_ordering, ordering_reverse, is_lt}
 use Rattle.std.specs.BTreeMap.{insert_entry, is_at}
 use Rattle.std.proofs.lemmas.Bool.Decides.{Decides-and}
 use Rattle.std.proofs.lemmas.Cmp.{nat_list_cmp_total}
-use Rattle.std.proofs.lemmas.List.{length-map}
+use Rattle.std.proofs.lemmas.List.{length-map, map-append}
 use Rattle.std.proofs.lemmas.Slice.Eq.{bytes_eq-Decides, slice_eq-Decides}
 use Rattle.it_digest.specs.declared.compare.DigestSet.{DigestSet}
 use Rattle.it_digest.specs.Artifacts.{ArtifactMap, path_entries}
@@ -49,15 +49,6 @@ pub keys-path_entries : (es : List Entry) → map string_bytes (keys_of es) ≡ 
 keys-path_entries [] = refl
 keys-path_entries (e ∷ es) = ap (λ ks. string_bytes e.0 ∷ ks) (keys-path_entries es)
 
--- clones of entries are the same entries
-pub path_entries-clones : (es fs : List Entry) → AllZip (λ p q. (string_bytes q.0 ≡ string_bytes p.0) × (q.1 ≡ p.1)) es fs → path_entries fs ≡ path_entries es
-path_entries-clones [] [] h = refl
-path_entries-clones [] (f ∷ fs) h = absurd h
-path_entries-clones (e ∷ es) [] h = absurd h
-path_entries-clones (e ∷ es) (f ∷ fs) h =
-    let rest = path_entries-clones es fs h.1 in
-    λ i. (h.0.0 i, h.0.1 i) ∷ rest i
-
 -- ---- the finite map of some entries
 
 pub get-path_entries : (q : List ℕ) (es : List Entry) → get (from_entries {R = path_cmp} (path_entries es)) q ≡ lookup (is_at (λ k. path_cmp q (string_bytes k))) es
@@ -92,6 +83,25 @@ from_entries-insert old new k v was is e =
     (entries-path_entries new is ∙ ap path_entries e ∙ path_entries-insert_entry old k v
     ∙ ap (put path_cmp (string_bytes k) v) (sym (entries-path_entries old was)) ∙ sym (entries-insert nat_list_cmp_total m (string_bytes k) v))
 
+-- ---- one entry after others in order
+
+above_all : (k : String Global) (done : List Entry) (e : Entry) (left : List Entry) → AllByRecursion (λ y. string_cmp k y ≡ Less) (keys_of (done ++ e ∷ left)) → string_cmp k e.0 ≡ Less
+above_all k [] e left h = h.0
+above_all k (d ∷ done) e left h = above_all k done e left h.1
+
+find_before : (done : List Entry) (e : Entry) (left : List Entry) → IsStrictlySortedBy string_cmp (keys_of (done ++ e ∷ left)) → find path_cmp (string_bytes e.0) (path_entries done) ≡ None
+unfolding IsStrictlySortedBy
+find_before [] e left h = refl
+find_before (d ∷ done) e left h =
+    let above : path_cmp (string_bytes e.0) (string_bytes d.0) ≡ Greater = nat_list_cmp_total.antisymm (string_bytes e.0) (string_bytes d.0) ∙ ap ordering_reverse (above_all d.0 done e left h.0) in
+    ap (λ o. cond (is_eq o) (Some d.1) (find path_cmp (string_bytes e.0) (path_entries done))) above ∙ find_before done e left h.1
+
+pub from_entries-more : (done : List Entry) (e : Entry) (left : List Entry) → IsStrictlySortedBy string_cmp (keys_of (done ++ e ∷ left))
+    → from_entries {R = path_cmp} (path_entries (done ++ e ∷ [])) ≡ insert (from_entries (path_entries done)) (string_bytes e.0) e.1
+from_entries-more done e left h =
+    ap (λ es. from_entries {R = path_cmp} es) (map-append (λ (x : Entry). (string_bytes x.0, x.1)) done (e ∷ []))
+    ∙ from_entries_push nat_list_cmp_total (slice_cmp-IsAntisymmetric nat_cmp-IsAntisymmetric) (path_entries done) (string_bytes e.0) e.1 (find_before done e left h)
+
 -- ---- equal maps
 
 abbrev pub same_entry : (DigestSet → DigestSet → Bool) → List ℕ × DigestSet → List ℕ × DigestSet → Bool
@@ -115,11 +125,18 @@ option_eq-Decides same decides None (Some y) = (λ h. cc h, λ h. cc h)
 option_eq-Decides same decides (Some x) None = (λ h. cc h, λ h. cc h)
 option_eq-Decides same decides (Some x) (Some y) = (λ h. ap Some ((decides x y).0 h), λ h. (decides x y).1 (cc h))
 
+abbrev pub same_value : Option (List ℕ) → Option (List ℕ) → Bool
+same_value x y = option_eq bytes_eq x y
+
 -- `==` on digest sets decides whether they are equal
-pub digest_set_eq-Decides : (a b : DigestSet) → Decides (option_eq bytes_eq a.sha256 b.sha256 && option_eq bytes_eq a.sha512 b.sha512) (a ≡ b)
+pub digest_set_eq-Decides : (a b : DigestSet) → Decides (same_value a.sha256 b.sha256 && (same_value a.sha384 b.sha384 && same_value a.sha512 b.sha512)) (a ≡ b)
 digest_set_eq-Decides a b =
-    let values = Decides-and (option_eq bytes_eq a.sha256 b.sha256) (option_eq bytes_eq a.sha512 b.sha512) (option_eq-Decides bytes_eq bytes_eq-Decides a.sha256 b.sha256) (option_eq-Decides bytes_eq bytes_eq-Decides a.sha512 b.sha512) in
-    (λ h. let e = values.0 h in λ i. record { sha256 = e.0 i; sha512 = e.1 i }, λ e. values.1 (ap (λ (d : DigestSet). d.sha256) e, ap (λ (d : DigestSet). d.sha512) e))
+    let each = option_eq-Decides bytes_eq bytes_eq-Decides in
+    let longer = Decides-and (same_value a.sha384 b.sha384) (same_value a.sha512 b.sha512) (each a.sha384 b.sha384) (each a.sha512 b.sha512) in
+    let values = Decides-and (same_value a.sha256 b.sha256) (same_value a.sha384 b.sha384 && same_value a.sha512 b.sha512) (each a.sha256 b.sha256) longer in (
+      λ h. let e = values.0 h in λ i. record { sha256 = e.0 i; sha384 = e.1.0 i; sha512 = e.1.1 i },
+      λ e. values.1 (ap (λ (d : DigestSet). d.sha256) e, (ap (λ (d : DigestSet). d.sha384) e, ap (λ (d : DigestSet). d.sha512) e)),
+    )
 
 -- `==` on the entries in order says whether the maps are equal, where `==` on the digest sets decides `≡`
 pub same_maps : (same : DigestSet → DigestSet → Bool) → ((a b : DigestSet) → Decides (same a b) (a ≡ b)) → (es fs : List Entry) (r : Bool) → IsStrictlySortedBy string_cmp (keys_of es) → IsStrictlySortedBy string_cmp (keys_of fs)

@@ -2,15 +2,14 @@
 use Rattle.std.proofs.Common.{◌≡◌, ◌≢◌, ℕ, List, Bool, true, false, ◌&&◌, ◌||◌, not, ◌⊎◌, inl, inr, Option, Some, None, Decides, refl, sym, ap, true≢false, bytes_eq}
 use Rattle.std.specs.Cmp.Lexicographic.{pointwise}
 use Rattle.std.specs.FinMap.{entries, same_entries_map}
-use Rattle.std.specs.Option.{option_eq}
 use Rattle.std.proofs.lemmas.Bool.Decides.{Decides-and, Decides-like, Decides-not, Decides-or}
 use Rattle.std.proofs.lemmas.Option.{same_Some}
 use Rattle.std.proofs.lemmas.Slice.Eq.{bytes_eq-Decides, slice_eq-Decides}
 use Rattle.it_digest.specs.Artifacts.{ArtifactMap}
 use Rattle.it_digest.specs.Compare.{Agree, Differ, StandsInBoth}
-use Rattle.it_digest.specs.DigestSet.{Algorithm, in_sha256, in_sha512}
+use Rattle.it_digest.specs.DigestSet.{Algorithm, in_sha256, in_sha384, in_sha512}
 use Rattle.it_digest.specs.declared.compare.DigestSet.{DigestSet}
-use Rattle.it_digest.proofs.ArtifactsLemmas.{digest_set_eq-Decides, same_entry, same_entry-Decides}
+use Rattle.it_digest.proofs.ArtifactsLemmas.{digest_set_eq-Decides, same_entry, same_entry-Decides, same_value}
 
 -- whether two values are there and pass a test
 abbrev are_both : (List ℕ → List ℕ → Bool) → Option (List ℕ) → Option (List ℕ) → Bool
@@ -20,7 +19,7 @@ are_both test (Some x) (Some y) = test x y
 
 -- whether the values under some algorithm pass a test
 abbrev in_some : (List ℕ → List ℕ → Bool) → DigestSet → DigestSet → Bool
-in_some test a b = are_both test a.sha256 b.sha256 || are_both test a.sha512 b.sha512
+in_some test a b = are_both test a.sha256 b.sha256 || (are_both test a.sha384 b.sha384 || are_both test a.sha512 b.sha512)
 
 -- decides `Differ`
 unfoldable pub is_difference : DigestSet → DigestSet → Bool
@@ -31,7 +30,7 @@ unfoldable pub is_agreement : DigestSet → DigestSet → Bool
 is_agreement a b = in_some (λ x y. true) a b && not (is_difference a b)
 
 abbrev same_set : DigestSet → DigestSet → Bool
-same_set a b = option_eq bytes_eq a.sha256 b.sha256 && option_eq bytes_eq a.sha512 b.sha512
+same_set a b = same_value a.sha256 b.sha256 && (same_value a.sha384 b.sha384 && same_value a.sha512 b.sha512)
 
 -- decides whether two maps are equal
 unfoldable pub is_same_map : ArtifactMap → ArtifactMap → Bool
@@ -51,15 +50,19 @@ module _ (test : List ℕ → List ℕ → Bool) (P : List ℕ → List ℕ → 
       Decides-like (in_some test a b)
       (λ h. elim h [
         | inl k ↦ (in_sha256, k.0, k.1, record { first = k.2; second = k.3 }, k.4)
-        | inr k ↦ (in_sha512, k.0, k.1, record { first = k.2; second = k.3 }, k.4)
+        | inr (inl k) ↦ (in_sha384, k.0, k.1, record { first = k.2; second = k.3 }, k.4)
+        | inr (inr k) ↦ (in_sha512, k.0, k.1, record { first = k.2; second = k.3 }, k.4)
       ])
       (λ k. by_algorithm k.0 k.1 k.2 k.3 k.4)
-      (Decides-or (are_both test a.sha256 b.sha256) (are_both test a.sha512 b.sha512) (are_both-Decides a.sha256 b.sha256) (are_both-Decides a.sha512 b.sha512))
+      (Decides-or (are_both test a.sha256 b.sha256) (are_both test a.sha384 b.sha384 || are_both test a.sha512 b.sha512) (are_both-Decides a.sha256 b.sha256)
+      (Decides-or (are_both test a.sha384 b.sha384) (are_both test a.sha512 b.sha512) (are_both-Decides a.sha384 b.sha384) (are_both-Decides a.sha512 b.sha512)))
     where
       by_algorithm : (h : Algorithm) (x y : List ℕ) → StandsInBoth a b h x y → P x y
-          → ((x : List ℕ) × (y : List ℕ) × (a.sha256 ≡ Some x) × (b.sha256 ≡ Some y) × P x y) ⊎ ((x : List ℕ) × (y : List ℕ) × (a.sha512 ≡ Some x) × (b.sha512 ≡ Some y) × P x y)
+          → ((x : List ℕ) × (y : List ℕ) × (a.sha256 ≡ Some x) × (b.sha256 ≡ Some y) × P x y)
+          ⊎ (((x : List ℕ) × (y : List ℕ) × (a.sha384 ≡ Some x) × (b.sha384 ≡ Some y) × P x y) ⊎ ((x : List ℕ) × (y : List ℕ) × (a.sha512 ≡ Some x) × (b.sha512 ≡ Some y) × P x y))
       by_algorithm in_sha256 x y s p = inl (x, y, s.first, s.second, p)
-      by_algorithm in_sha512 x y s p = inr (x, y, s.first, s.second, p)
+      by_algorithm in_sha384 x y s p = inr (inl (x, y, s.first, s.second, p))
+      by_algorithm in_sha512 x y s p = inr (inr (x, y, s.first, s.second, p))
 
 pub is_difference-Decides : (a b : DigestSet) → Decides (is_difference a b) (Differ a b)
 unfolding is_difference

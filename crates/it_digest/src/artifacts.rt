@@ -87,16 +87,15 @@ impl Artifacts {
         self.by_path.iter()
     }
 
-    /// A copy of the map.
+    /// A copy of the map, in memory of `alloc`.
     ///
     /// # Errors
     ///
     /// `AllocError` where memory is refused.
-    pub fn copy(&self) -> Result<Artifacts, AllocError>
+    pub fn copy(&self, alloc: Global) -> Result<Artifacts, AllocError>
         ensures { IfOk result (λ copy. copy ≡ self.now) }
     {
-        let by_path = self.by_path.clone()?;
-        Ok(Artifacts { by_path })
+        map_of(alloc, &self.by_path)
     }
 
     /// Whether no path stands in the map.
@@ -113,4 +112,15 @@ impl Artifacts {
     {
         self.by_path == other.by_path
     }
+}
+
+/// The map of some entries, in memory of `alloc`.
+fn map_of(alloc: Global, by_path: &BTreeMap<String, DigestSet>) -> Result<Artifacts, AllocError>
+    ensures { IfOk result (λ map. map ≡ finite.from_entries (path_entries by_path.now.entries)) }
+{
+    let mut map = Artifacts::new(alloc);
+    for (path, digests) in by_path.iter() {
+        map.insert(String::from_str(alloc, path)?, *digests)?;
+    }
+    Ok(map)
 }

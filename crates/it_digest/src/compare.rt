@@ -9,6 +9,8 @@ ghost use Rattle.it_digest.specs.Compare.{Agree, Apart, Differ, compared, compar
 pub struct DigestSet {
     /// The 32 bytes of the SHA-256.
     pub sha256: Option<[u8; 32]>,
+    /// The 48 bytes of the SHA-384.
+    pub sha384: Option<[u8; 48]>,
     /// The 64 bytes of the SHA-512.
     pub sha512: Option<[u8; 64]>,
 }
@@ -44,6 +46,7 @@ impl DigestSet {
     {
         DigestSet {
             sha256: Some(digest),
+            sha384: None,
             sha512: None,
         }
     }
@@ -57,7 +60,9 @@ impl DigestSet {
         ensures differ { (result ≡ Compare.Differ) ↔ Differ self.now other.now }
         ensures apart { (result ≡ Compare.Apart) ↔ Apart self.now other.now }
     {
-        compare_values(&self.sha256, &other.sha256).and(compare_values(&self.sha512, &other.sha512))
+        compare_values(&self.sha256, &other.sha256)
+            .and(compare_values(&self.sha384, &other.sha384))
+            .and(compare_values(&self.sha512, &other.sha512))
     }
 }
 

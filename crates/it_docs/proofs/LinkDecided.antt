@@ -1,5 +1,5 @@
 -- Which link bytes are, as an answer.
-use Rattle.std.proofs.Common.{◌≡◌, ℕ, List, Bool, false, cond, codes, Option, Some, None, MatchOption, option_and_then, option_map, is_some, Decides, refl}
+use Rattle.std.proofs.Common.{◌≡◌, ℕ, List, Bool, false, cond, codes, Option, Some, None, MatchOption, option_and_then, option_map, is_some, IsTrue, Decides, refl}
 use Rattle.std.specs.FinMap.{empty}
 use Rattle.std.specs.Result.{result_ok}
 use Rattle.std.specs.Str.{bytes_eq}
@@ -13,6 +13,7 @@ use Rattle.it_base.specs.Parts.{IsPart, IsPartOr}
 use Rattle.it_base.specs.Text.{IsText}
 use Rattle.it_base.proofs.Decided.{Reads, both_of, document_of, document_reads, finds_both, finds_like, finds_where, part_of, part_or_of, part_or_reads, part_reads, text_reads}
 use Rattle.it_glob.proofs.Decided.{never}
+use Rattle.it_digest.specs.DigestSet.{Algorithm, in_sha256, in_sha384, in_sha512, name_of, size_of, value_in}
 use Rattle.it_digest.specs.declared.compare.DigestSet.{DigestSet}
 use Rattle.it_docs.specs.Digest.{HasDigest, IsDigest, IsDigestSet}
 use Rattle.it_docs.specs.Link.{IsLink, LinkOf}
@@ -45,14 +46,18 @@ IsSomeDigest n d digest = (bytes : List ℕ) × (digest ≡ Some bytes) × IsDig
 abbrev digest_of : ℕ → Data → Option (Option (List ℕ))
 digest_of n d = option_map Some (option_and_then (λ text. result_ok (decode_sized text n)) (as_str d))
 
-abbrev digest_set_with : Option (List ℕ) × Option (List ℕ) → DigestSet
-digest_set_with values = record { sha256 = values.0; sha512 = values.1 }
+abbrev digest_set_with : Option (List ℕ) × (Option (List ℕ) × Option (List ℕ)) → DigestSet
+digest_set_with values = record { sha256 = values.0; sha384 = values.1.0; sha512 = values.1.1 }
+
+-- what stands under the name of an algorithm of n bytes, if it is a digest
+abbrev digest_part : ℕ → List ℕ → Data → Option (Option (List ℕ))
+digest_part n = part_or_of (digest_of n) None
 
 -- decides `IsDigestSet`
 abbrev pub digest_set_of : Data → Option DigestSet
 digest_set_of d =
     option_map digest_set_with
-    (cond (is_some (as_object d)) (both_of (part_or_of (digest_of 32) None (codes "sha256") d) (part_or_of (digest_of 64) None (codes "sha512") d)) None)
+    (cond (is_some (as_object d)) (both_of (digest_part 32 (codes "sha256") d) (both_of (digest_part 48 (codes "sha384") d) (digest_part 64 (codes "sha512") d))) None)
 
 -- decides where artifacts are a part, or are missing
 abbrev artifacts_of : List ℕ → Data → Option (Named DigestSet)
@@ -65,14 +70,27 @@ digest_found (Some bytes) = (bytes, refl, refl)
 digest_reads : (n : ℕ) → Reads (IsSomeDigest n) (digest_of n)
 digest_reads n d = digest_found (option_and_then (λ text. result_ok (decode_sized text n)) (as_str d))
 
+digest_part_reads : (n : ℕ) (name : List ℕ) → Reads (HasDigest n name) (digest_part n name)
+digest_part_reads n name = part_or_reads (IsSomeDigest n) (digest_of n) (digest_reads n) None name
+
+-- a digest set, from what stands under each algorithm
+pub is_digest_set : (d : Data) (set : DigestSet) → IsTrue (is_some (as_object d)) → HasDigest 32 (codes "sha256") d set.sha256 → HasDigest 48 (codes "sha384") d set.sha384
+    → HasDigest 64 (codes "sha512") d set.sha512 → IsDigestSet d set
+is_digest_set d set is sha256 sha384 sha512 = record { is_object = is; digests = each }
+  where
+    each : (algorithm : Algorithm) → HasDigest (size_of algorithm) (name_of algorithm) d (value_in algorithm set)
+    each in_sha256 = sha256
+    each in_sha384 = sha384
+    each in_sha512 = sha512
+
 pub digest_set_reads : Reads IsDigestSet digest_set_of
 digest_set_reads d =
-    finds_like _ (IsDigestSet d) digest_set_with (λ s. (s.sha256, s.sha512))
-    (λ p h. record { is_object = h.0; sha256 = h.1.0; sha512 = h.1.1 }) (λ s h. (h.is_object, (h.sha256, h.sha512))) _
-    (finds_where (λ p. HasDigest 32 (codes "sha256") d p.0 × HasDigest 64 (codes "sha512") d p.1) (is_some (as_object d)) _ (λ h. h, λ h. h)
-    (finds_both (HasDigest 32 (codes "sha256") d) (HasDigest 64 (codes "sha512") d) _ _
-    (part_or_reads (IsSomeDigest 32) (digest_of 32) (digest_reads 32) None (codes "sha256") d)
-    (part_or_reads (IsSomeDigest 64) (digest_of 64) (digest_reads 64) None (codes "sha512") d)))
+    let longer = λ (p : Option (List ℕ) × Option (List ℕ)). HasDigest 48 (codes "sha384") d p.0 × HasDigest 64 (codes "sha512") d p.1 in
+    finds_like _ (IsDigestSet d) digest_set_with (λ s. (s.sha256, (s.sha384, s.sha512)))
+    (λ p h. is_digest_set d (digest_set_with p) h.0 h.1.0 h.1.1.0 h.1.1.1) (λ s h. (h.is_object, (h.digests in_sha256, (h.digests in_sha384, h.digests in_sha512)))) _
+    (finds_where (λ p. HasDigest 32 (codes "sha256") d p.0 × longer p.1) (is_some (as_object d)) _ (λ h. h, λ h. h)
+    (finds_both (HasDigest 32 (codes "sha256") d) longer _ _ (digest_part_reads 32 (codes "sha256") d)
+    (finds_both (HasDigest 48 (codes "sha384") d) (HasDigest 64 (codes "sha512") d) _ _ (digest_part_reads 48 (codes "sha384") d) (digest_part_reads 64 (codes "sha512") d))))
 
 artifacts_reads : (name : List ℕ) → Reads (IsPartOr (IsTable IsDigestSet) empty name) (artifacts_of name)
 artifacts_reads = part_or_reads (IsTable IsDigestSet) (table_of digest_set_of) (table_reads IsDigestSet digest_set_of digest_set_reads) empty

@@ -16,6 +16,7 @@ use Rattle.it_base.specs.Text.{IsText}
 use Rattle.it_base.proofs.Documents.{same_document}
 use Rattle.it_base.proofs.Items.{list_same}
 use Rattle.it_dsse.specs.KeyObject.{IsKeyObject}
+use Rattle.it_digest.specs.DigestSet.{in_sha256, in_sha384, in_sha512}
 use Rattle.it_docs.specs.Digest.{IsDigest, IsDigestSet}
 use Rattle.it_docs.specs.Json.{Fields}
 use Rattle.it_docs.specs.Layout.{IsLayout, LayoutOf}
@@ -78,9 +79,10 @@ digest_found n (Some v) x y h k = h.1 ∙ sym h.2 ∙ k.2 ∙ sym k.1
 
 digest_set_same : IsSingle IsDigestSet
 digest_set_same d x y h k =
-    let a = digest_found 32 (member_at (codes "sha256") d) x.sha256 y.sha256 h.sha256 k.sha256 in
-    let b = digest_found 64 (member_at (codes "sha512") d) x.sha512 y.sha512 h.sha512 k.sha512 in
-    λ i. record { sha256 = a i; sha512 = b i }
+    let a = digest_found 32 (member_at (codes "sha256") d) x.sha256 y.sha256 (h.digests in_sha256) (k.digests in_sha256) in
+    let b = digest_found 48 (member_at (codes "sha384") d) x.sha384 y.sha384 (h.digests in_sha384) (k.digests in_sha384) in
+    let c = digest_found 64 (member_at (codes "sha512") d) x.sha512 y.sha512 (h.digests in_sha512) (k.digests in_sha512) in
+    λ i. record { sha256 = a i; sha384 = b i; sha512 = c i }
 
 key_object_same : IsSingle IsKeyObject
 key_object_same d x y h k =

@@ -7,10 +7,11 @@ use Rattle.it_base.specs.Parts.{IsPart, IsPartOr}
 use Rattle.it_base.specs.Sequence.{IsList}
 use Rattle.it_base.specs.Text.{IsText}
 use Rattle.it_base.proofs.Decided.{Reads, both_of, document_of, document_reads, finds_both, finds_like, finds_where, list_of, list_reads, part_of, part_or_of, part_or_reads, part_reads, text_reads}
+use Rattle.it_digest.specs.DigestSet.{no_digests}
 use Rattle.it_digest.specs.declared.compare.DigestSet.{DigestSet}
 use Rattle.it_docs.specs.Digest.{IsDigestSet}
 use Rattle.it_docs.specs.Json.{Fields, no_fields}
-use Rattle.it_docs.specs.Statement.{IsBuilder, IsProvenance, IsProvenanceOf, IsStatement, IsSubject, IsSubjects, StatementOf, no_digests}
+use Rattle.it_docs.specs.Statement.{IsBuilder, IsProvenance, IsProvenanceOf, IsStatement, IsSubject, IsSubjects, StatementOf}
 use Rattle.it_docs.specs.TreeOf.{IsMembers, fields_of}
 use Rattle.it_docs.specs.declared.statement.Provenance.{Provenance}
 use Rattle.it_docs.specs.declared.statement.Statement.{Statement}

@@ -1,5 +1,5 @@
 -- Statements (in-toto Attestation Statement v1) and their provenance (SLSA Provenance v1).
-use Rattle.std.specs.Prelude.{ℕ, List, IsTrue, is_some, None, codes}
+use Rattle.std.specs.Prelude.{ℕ, List, IsTrue, is_some, codes}
 use Rattle.serde_json.specs.Data.{Data}
 use Rattle.serde_json.specs.Find.{as_object}
 use Rattle.it_base.specs.Document.{OfDocument}
@@ -7,15 +7,13 @@ use Rattle.it_base.specs.Finds.{Finds}
 use Rattle.it_base.specs.Parts.{IsPart, IsPartOr}
 use Rattle.it_base.specs.Sequence.{IsList}
 use Rattle.it_base.specs.Text.{IsText}
+use Rattle.it_digest.specs.DigestSet.{no_digests}
 use Rattle.it_digest.specs.declared.compare.DigestSet.{DigestSet}
 use Rattle.it_docs.specs.Digest.{IsDigestSet}
 use Rattle.it_docs.specs.Json.{no_fields}
 use Rattle.it_docs.specs.TreeOf.{IsMembers}
 use Rattle.it_docs.specs.declared.statement.Provenance.{Provenance}
 use Rattle.it_docs.specs.declared.statement.Statement.{Statement}
-
-abbrev pub no_digests : DigestSet
-no_digests = record { sha256 = None; sha512 = None }
 
 -- a subject: an object, whose digest set may be missing and is then empty (this profile's choice)
 pub record IsSubject (d : Data) (set : DigestSet) : Type 0 where

@@ -14,8 +14,9 @@ use it_digest::compare::DigestSet;
 use serde_json::{Map, Value};
 use std::alloc::{AllocError, Global};
 
-/// The digest set that a JSON object is, or `None` where the part is no object, or its `sha256` or
-/// `sha512` is no text of exactly the algorithm's digits. Other algorithms are not looked at.
+/// The digest set that a JSON object is, or `None` where the part is no object, or its `sha256`,
+/// `sha384` or `sha512` is no text of exactly the algorithm's digits. Other algorithms are not
+/// looked at.
 pub(crate) fn digest_set(value: &Value) -> Option<DigestSet>
     ensures { Finds (IsDigestSet (view value.now)) result }
 {
@@ -23,8 +24,13 @@ pub(crate) fn digest_set(value: &Value) -> Option<DigestSet>
         return None;
     }
     let sha256 = digest_at::<32>(value, "sha256")?;
+    let sha384 = digest_at::<48>(value, "sha384")?;
     let sha512 = digest_at::<64>(value, "sha512")?;
-    Some(DigestSet { sha256, sha512 })
+    Some(DigestSet {
+        sha256,
+        sha384,
+        sha512,
+    })
 }
 
 /// The digest at a member, or `Some(None)` where the member is missing.

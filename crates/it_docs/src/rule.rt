@@ -1,5 +1,5 @@
 //! Artifact rules and their texts (in-toto 1.0, section 4.3.3).
-ghost use Rattle.std.specs.Prelude.{◌≡◌, ◌∷◌, [], IfOk};
+ghost use Rattle.std.specs.Prelude.{◌≡◌, ◌∷◌, [], IfOk, map, string_bytes};
 ghost use Rattle.serde_json.specs.View.{view};
 ghost use Rattle.it_base.specs.Finds.{Finds};
 ghost use Rattle.it_docs.specs.Rule.{IsRule, RuleOf, is_keyword as is_this_keyword};
@@ -58,7 +58,7 @@ impl FromDocument for Rule {
     fn from_document(alloc: Global, value: &Value) -> Result<Option<Rule>, AllocError> {
         match Sequence::<Text>::from_document(alloc, value)? {
             None => Ok(None),
-            Some(texts) => read_rule(alloc, texts.as_slice()),
+            Some(texts) => found_rule(alloc, texts.as_slice()),
         }
     }
 }
@@ -73,7 +73,27 @@ impl FromDocument for Rule {
 /// # Errors
 ///
 /// `AllocError` where memory was refused.
-pub fn read_rule(alloc: Global, texts: &[Text]) -> Result<Option<Rule>, AllocError>
+pub fn read_rule(alloc: Global, texts: &[String]) -> Result<Option<Rule>, AllocError>
+    ensures { IfOk result (Finds (RuleOf (map string_bytes texts.now))) }
+{
+    let texts = texts_of(alloc, texts)?;
+    found_rule(alloc, texts.as_slice())
+}
+
+/// Copies of the texts.
+#[tactic(auto, using(std::proofs::lemmas::List::map_more))]
+fn texts_of(alloc: Global, strings: &[String]) -> Result<Vec<Text>, AllocError>
+    ensures { IfOk result (λ texts. texts.items ≡ map string_bytes strings.now) }
+{
+    let mut texts = Vec::new(alloc);
+    for string in strings {
+        texts.push(text_of(alloc, string.as_str())?)?;
+    }
+    Ok(texts)
+}
+
+/// The rule that the texts are, or `None`.
+fn found_rule(alloc: Global, texts: &[Text]) -> Result<Option<Rule>, AllocError>
     ensures { IfOk result (Finds (RuleOf texts.now)) }
 {
     rule_from(alloc, texts)

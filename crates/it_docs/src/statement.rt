@@ -161,6 +161,7 @@ fn subject(value: &Value) -> Option<DigestSet>
     match member(value, "digest") {
         None => Some(DigestSet {
             sha256: None,
+            sha384: None,
             sha512: None,
         }),
         Some(found) => digest_set(found),

@@ -35,6 +35,17 @@ impl<V> Model for Table<V> {
     ghost invariant = { λ t. IsStrictlySortedBy string_cmp (map (λ e. e.0) t.by_name.entries) };
 }
 
+impl<V> From<BTreeMap<String, V>> for Table<V> {
+    ghost from_gives = { λ m t. t ≡ finite.from_entries (named_entries m.entries) };
+
+    /// The map as it is. Takes no memory.
+    fn from(by_name: BTreeMap<String, V>) -> Table<V> {
+        // The contract of `len` says that the names are in order.
+        let _len = by_name.len();
+        Table { by_name }
+    }
+}
+
 impl<V> Table<V> {
     /// The empty map. It takes no memory; `alloc` serves the later calls of `insert`.
     pub fn new(alloc: Global) -> Table<V>
@@ -43,6 +54,13 @@ impl<V> Table<V> {
         Table {
             by_name: BTreeMap::new(alloc),
         }
+    }
+
+    /// Lends the map. Takes no memory.
+    pub fn as_map(&self) -> &BTreeMap<String, V>
+        ensures { finite.from_entries (named_entries result.now.entries) ≡ self.now }
+    {
+        &self.by_name
     }
 
     /// The value of a name, if it stands in the map. Takes no memory.

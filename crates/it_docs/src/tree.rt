@@ -125,6 +125,24 @@ impl Tree {
     }
 }
 
+impl From<Vec<Tree>> for Trees {
+    ghost from_gives = { λ v ts. ts ≡ items_view v.items };
+
+    /// The trees of a vector. Takes no memory.
+    fn from(list: Vec<Tree>) -> Trees {
+        Trees { list }
+    }
+}
+
+impl From<BTreeMap<String, Tree>> for Members {
+    ghost from_gives = { λ m ms. ms ≡ fields_view m.entries };
+
+    /// The map as it is. Takes no memory.
+    fn from(by_name: BTreeMap<String, Tree>) -> Members {
+        Members { by_name }
+    }
+}
+
 impl Trees {
     /// Lends the trees. Takes no memory.
     pub fn as_slice(&self) -> &[Tree]
@@ -157,6 +175,13 @@ impl Members {
         Members {
             by_name: BTreeMap::new(alloc),
         }
+    }
+
+    /// Lends the map. Takes no memory.
+    pub fn as_map(&self) -> &BTreeMap<String, Tree>
+        ensures { fields_view result.now.entries ≡ self.now }
+    {
+        &self.by_name
     }
 
     /// The tree of a name, if there is one. Takes no memory.
@@ -241,7 +266,7 @@ fn read_items(alloc: Global, items: &Vec<Value>) -> Result<Trees, AllocError>
     for item in items {
         list.push(read(alloc, item)?)?;
     }
-    Ok(Trees { list })
+    Ok(Trees::from(list))
 }
 
 #[cycle(read)]
@@ -253,5 +278,5 @@ fn read_members(alloc: Global, members: &Map<String, Value>) -> Result<Members, 
         let name = name.clone()?;
         drop(by_name.insert(name, read(alloc, member)?)?);
     }
-    Ok(Members { by_name })
+    Ok(Members::from(by_name))
 }

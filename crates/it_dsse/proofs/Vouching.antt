@@ -1,6 +1,6 @@
 -- What the answer of the loop over the signatures says of an envelope.
-use Rattle.std.proofs.Common.{◌≡◌, ℕ, List, [], ◌∷◌, Bool, true, false, ◌&&◌, ◌||◌, cond, Some, refl, sym, ap, subst, filter, ◌∙◌}
-use Rattle.std.specs.List.{list_any, Any}
+use Rattle.std.proofs.Common.{◌≡◌, ℕ, List, Bool, true, false, ◌&&◌, Some, refl, sym, subst, ◌∙◌}
+use Rattle.std.specs.List.{Any}
 use Rattle.std.proofs.lemmas.List.Folds.{Any-from_list_any, list_any-from_Any}
 use Rattle.std.proofs.lemmas.Option.{same_Some}
 use Rattle.it_dsse.specs.Check.{Check}
@@ -43,21 +43,3 @@ not_signed check envelope id object n key e k signed =
     let found' : is_vouched check id n (message_of envelope) envelope.signatures ≡ true =
     subst (λ m. is_vouched check id m (message_of envelope) envelope.signatures ≡ true) same found in
     cc
-
-neither : (a b : Bool) → (a || b) ≡ false → (a ≡ false) × (b ≡ false)
-neither false b e = (refl, e)
-neither true b e = cc
-
--- where no element passes the first of two tests, none passes both
-pub none_passes : {X : Type 0} (p q : X → Bool) (xs : List X) → list_any p xs ≡ false → list_any (λ x. p x && q x) xs ≡ false
-none_passes p q [] none = refl
-none_passes p q (x ∷ xs) none =
-    let parts = neither (p x) (list_any p xs) none in
-    ap (λ a. (a && q x) || list_any (λ y. p y && q y) xs) parts.0 ∙ none_passes p q xs parts.1
-
--- and the first test leaves nothing
-pub filter-none : {X : Type 0} (p : X → Bool) (xs : List X) → list_any p xs ≡ false → filter p xs ≡ []
-filter-none p [] none = refl
-filter-none p (x ∷ xs) none =
-    let parts = neither (p x) (list_any p xs) none in
-    ap (λ a. cond a (x ∷ filter p xs) (filter p xs)) parts.0 ∙ filter-none p xs parts.1

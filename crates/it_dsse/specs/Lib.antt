@@ -1,7 +1,9 @@
 pub mod Check
 pub mod Envelope
 pub mod Hmac
+pub mod Joined
 pub mod KeyObject
+pub mod Laws
 pub mod Meter
 pub mod Pae
 pub mod Ring

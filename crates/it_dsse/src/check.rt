@@ -1,6 +1,7 @@
 //! The check of signatures that a caller hands in.
 ghost use Rattle.std.specs.Prelude.{◌≡◌};
 ghost use Rattle.it_dsse.specs.Check.{Check};
+ghost use Rattle.it_dsse.specs.Joined.{joined};
 ghost use Rattle.it_dsse.specs.Meter.{raised};
 
 use crate::key_object::KeyObject;
@@ -16,9 +17,9 @@ pub trait SignatureCheck: Drop {
     fn key(&self, id: &str, object: &KeyObject) -> Option<u32>
         ensures { result ≡ (meaning self.now).key_of id.now object.now };
 
-    /// Whether `sig` is a valid signature of the message by the key of this number. Counts itself
-    /// in the meter.
-    fn valid(&self, key: u32, message: &[u8], sig: &[u8], meter: &mut Meter) -> bool
-        ensures answer { result ≡ (meaning self.now).is_valid key message.now sig.now }
+    /// Whether `sig` is a valid signature, by the key of this number, of the message that the parts
+    /// make when they are joined. Counts itself in the meter.
+    fn valid(&self, key: u32, message: &[&[u8]], sig: &[u8], meter: &mut Meter) -> bool
+        ensures answer { result ≡ (meaning self.now).is_valid key (joined message.now) sig.now }
         ensures counted { meter.new ≡ raised meter.old 1 };
 }

@@ -2,9 +2,11 @@
 #![tactic(auto)]
 
 pub mod check;
+mod decimal;
 mod encoding;
 pub mod envelope;
 pub mod key_object;
+pub mod laws;
 mod mac;
 pub mod meter;
 pub mod ring;
@@ -17,6 +19,6 @@ pub mod signing;
 pub mod written;
 
 pub use encoding::pae;
-pub use mac::hmac_sha256;
+pub use mac::{hmac_sha256, hmac_sha256_parts};
 pub use signed::signed_by;
-pub use signers::signed_ids;
+pub use signers::{is_signer, signed_ids};

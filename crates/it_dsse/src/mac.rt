@@ -2,6 +2,7 @@
 ghost use Rattle.std.specs.Prelude.{◌≡◌, ◌++◌, ◌≤◌, length};
 ghost use Rattle.sha2.specs.Sha256.{sha256};
 ghost use Rattle.it_dsse.specs.Hmac.{hmac, filled, block_of, masked};
+ghost use Rattle.it_dsse.specs.Joined.{joined};
 
 use sha2::{Digest, Sha256};
 
@@ -11,13 +12,20 @@ const INNER: u8 = 0x36;
 
 /// The code of a message under a key (RFC 2104, with SHA-256 and its block of 64 bytes). Takes no
 /// memory.
-#[tactic(auto, unfolding(crate::specs::Hmac::hmac))]
 pub fn hmac_sha256(key: &[u8], message: &[u8]) -> [u8; 32]
     ensures { result ≡ hmac key.now message.now }
 {
+    hmac_sha256_parts(key, &[message])
+}
+
+/// The code under a key of the message that the parts make when they are joined. Takes no memory.
+#[tactic(auto, unfolding(crate::specs::Hmac::hmac))]
+pub fn hmac_sha256_parts(key: &[u8], message: &[&[u8]]) -> [u8; 32]
+    ensures { result ≡ hmac key.now (joined message.now) }
+{
     let block = block(key);
     let inner = keyed_digest(&block, INNER, message);
-    keyed_digest(&block, OUTER, &inner)
+    keyed_digest(&block, OUTER, &[&inner])
 }
 
 /// The key as one block.
@@ -51,12 +59,14 @@ fn masked_block(block: &[u8; 64], mask: u8) -> [u8; 64]
     out
 }
 
-fn keyed_digest(block: &[u8; 64], mask: u8, message: &[u8]) -> [u8; 32]
-    ensures { result ≡ sha256 (masked mask block.now ++ message.now) }
+fn keyed_digest(block: &[u8; 64], mask: u8, message: &[&[u8]]) -> [u8; 32]
+    ensures { result ≡ sha256 (masked mask block.now ++ joined message.now) }
 {
     let front = masked_block(block, mask);
     let mut hasher = Sha256::new();
     hasher.update(front.as_slice());
-    hasher.update(message);
+    for part in message {
+        hasher.update(part);
+    }
     hasher.finalize()
 }

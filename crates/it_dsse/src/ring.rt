@@ -5,12 +5,13 @@ ghost use Rattle.std.specs.Cmp.Lexicographic.{slice_cmp};
 ghost use Rattle.std.specs.List.Sorted.{IsPermutation, IsSorted};
 ghost use Rattle.std.specs.Ordering.{nat_cmp};
 ghost use Rattle.it_base.specs.Finds.{Finds};
+ghost use Rattle.it_dsse.specs.Joined.{joined};
 ghost use Rattle.it_dsse.specs.Ring.{RingOf, has_id, has_key, ids_of, is_code_at, number_of};
 ghost use Rattle.it_dsse.specs.declared.ring.RingFault.TheVariants.{OutOfMemory};
 
 use crate::check::SignatureCheck;
 use crate::key_object::KeyObject;
-use crate::mac::{block, hmac_sha256};
+use crate::mac::{block, hmac_sha256_parts};
 use crate::meter::Meter;
 use crate::ring_entry::RingEntry;
 use crate::ring_ids::sorted_ids;
@@ -148,11 +149,11 @@ fn entry_at(entries: &[RingEntry], place: u32) -> Option<&RingEntry>
     entries.get(place as usize)
 }
 
-fn is_code(entries: &[RingEntry], place: u32, message: &[u8], sig: &[u8]) -> bool
-    ensures { result ≡ is_code_at entries.now place message.now sig.now }
+fn is_code(entries: &[RingEntry], place: u32, message: &[&[u8]], sig: &[u8]) -> bool
+    ensures { result ≡ is_code_at entries.now place (joined message.now) sig.now }
 {
     match entry_at(entries, place) {
-        Some(entry) => hmac_sha256(entry.secret.as_slice(), message).as_slice() == sig,
+        Some(entry) => hmac_sha256_parts(entry.secret.as_slice(), message).as_slice() == sig,
         None => false,
     }
 }
@@ -172,8 +173,8 @@ impl SignatureCheck for HmacRing {
         }
     }
 
-    /// Whether `sig` is the HMAC-SHA-256 of the message under the secret at the place `key`.
-    fn valid(&self, key: u32, message: &[u8], sig: &[u8], meter: &mut Meter) -> bool {
+    /// Whether `sig` is the HMAC-SHA-256 of the joined message under the secret at the place `key`.
+    fn valid(&self, key: u32, message: &[&[u8]], sig: &[u8], meter: &mut Meter) -> bool {
         meter.raise();
         is_code(self.entries.as_slice(), key, message, sig)
     }

@@ -1,70 +1,62 @@
 //! Who signed an envelope.
-ghost use Rattle.std.specs.Prelude.{◌≡◌, ℕ, ◌&&◌, if◌then◌else◌, IfOk, OnErr, filter};
-ghost use Rattle.std.specs.List.{list_any};
+ghost use Rattle.std.specs.Prelude.{◌≡◌, ℕ, ◌&&◌, if◌then◌else◌, filter};
 ghost use Rattle.it_base.specs.Finds.{Finds};
+ghost use Rattle.it_dsse.specs.Joined.{joined};
 ghost use Rattle.it_dsse.specs.Meter.{raised};
 ghost use Rattle.it_dsse.specs.Signed.{Signed, first_place, is_admitted, is_vouched, message_of, tries, tries_for};
 
 use crate::check::SignatureCheck;
-use crate::encoding::pae;
+use crate::decimal::{MOST_DIGITS, decimal_in};
 use crate::envelope::{Envelope, Signature};
 use crate::key_object::KeyObject;
 use crate::meter::Meter;
-use std::alloc::{AllocError, Global};
 
 /// The number of the key that signed the envelope, where the check knows the key that `id` and
 /// `object` name and some signature is valid for it; `None` elsewhere (DSSE v1.0, "Protocol").
 ///
 /// The signatures whose hint is empty or equals `id` are tried in order until one is valid, and the
-/// meter rises by the number tried.
-///
-/// # Errors
-///
-/// `AllocError` where memory was refused; nothing was tried then.
+/// meter rises by the number tried. Takes no memory.
 pub fn signed_by(
-    alloc: Global,
     envelope: &Envelope,
     id: &str,
     object: &KeyObject,
     check: &Box<dyn SignatureCheck>,
     meter: &mut Meter,
-) -> Result<Option<u32>, AllocError>
-    ensures answer { IfOk result
-        (Finds (Signed (meaning check.now) envelope.now id.now object.now)) }
-    ensures counted { IfOk result (λ _. meter.new
-        ≡ raised meter.old (tries (meaning check.now) envelope.now id.now object.now)) }
-    ensures err { OnErr result (meter.new ≡ meter.old) }
+) -> Option<u32>
+    ensures answer { Finds (Signed (meaning check.now) envelope.now id.now object.now) result }
+    ensures counted { meter.new
+        ≡ raised meter.old (tries (meaning check.now) envelope.now id.now object.now) }
 {
     let Some(key) = number_of(check, id, object) else {
-        return Ok(None);
+        return None;
     };
-    let vouched = is_vouched_for(alloc, envelope, id, key, check, meter)?;
-    if vouched { Ok(Some(key)) } else { Ok(None) }
+    let vouched = is_vouched_for(envelope, id, key, check, meter);
+    if vouched { Some(key) } else { None }
 }
 
-/// Whether some signature that is admitted for an id is valid for a key.
+/// Whether some signature that is admitted for an id is valid for a key. What is signed is handed
+/// over in parts, as the pre-authentication encoding has them.
+#[tactic(auto, unfolding(crate::specs::Pae::pae_of))]
 fn is_vouched_for(
-    alloc: Global,
     envelope: &Envelope,
     id: &str,
     key: u32,
     check: &Box<dyn SignatureCheck>,
     meter: &mut Meter,
-) -> Result<bool, AllocError>
-    ensures answer { IfOk result (λ vouched. vouched
-        ≡ is_vouched (meaning check.now) id.now key (message_of envelope.now) envelope.now.signatures) }
-    ensures counted { IfOk result (λ _. meter.new
-        ≡ raised meter.old (tries_for (meaning check.now) envelope.now id.now key)) }
-    ensures err { OnErr result (meter.new ≡ meter.old) }
+) -> bool
+    ensures answer { result
+        ≡ is_vouched (meaning check.now) id.now key (message_of envelope.now) envelope.now.signatures }
+    ensures counted { meter.new
+        ≡ raised meter.old (tries_for (meaning check.now) envelope.now id.now key) }
 {
+    let kind = envelope.payload_type.as_str().as_bytes();
+    let body = envelope.payload.as_slice();
+    let (mut kind_digits, mut body_digits) = ([0; MOST_DIGITS], [0; MOST_DIGITS]);
+    let kind_len = decimal_in(kind.len(), &mut kind_digits);
+    let body_len = decimal_in(body.len(), &mut body_digits);
+    let message: [&[u8]; 8] = [b"DSSEv1 ", kind_len, b" ", kind, b" ", body_len, b" ", body];
     let signatures = envelope.signatures.as_slice();
-    if !any_admitted(signatures, id) {
-        return Ok(false);
-    }
-    let kind = envelope.payload_type.as_str();
-    let message = pae(alloc, kind, envelope.payload.as_slice())?;
-    let message = message.as_slice();
-    Ok(any_valid(signatures, id, key, message, check, meter))
+    any_valid(signatures, id, key, &message, check, meter)
 }
 
 /// The number of a key, if the check knows it.
@@ -82,23 +74,17 @@ fn admits(signature: &Signature, id: &str) -> bool
     hint.is_empty() || hint == id
 }
 
-fn any_admitted(signatures: &[Signature], id: &str) -> bool
-    ensures { result ≡ list_any (is_admitted id.now) signatures.now }
-{
-    signatures.iter().any(|signature| admits(signature, id))
-}
-
 /// Tries a signature, if it is admitted for an id.
 fn accepts(
     signature: &Signature,
     id: &str,
     key: u32,
-    message: &[u8],
+    message: &[&[u8]],
     check: &Box<dyn SignatureCheck>,
     meter: &mut Meter,
 ) -> bool
     ensures answer { result ≡ (is_admitted id.now signature.now
-        && (meaning check.now).is_valid key message.now signature.now.sig) }
+        && (meaning check.now).is_valid key (joined message.now) signature.now.sig) }
     ensures counted { meter.new
         ≡ raised meter.old (if is_admitted id.now signature.now then 1 else 0) }
 {
@@ -110,14 +96,14 @@ fn any_valid(
     signatures: &[Signature],
     id: &str,
     key: u32,
-    message: &[u8],
+    message: &[&[u8]],
     check: &Box<dyn SignatureCheck>,
     meter: &mut Meter,
 ) -> bool
     ensures answer { result
-        ≡ is_vouched (meaning check.now) id.now key message.now signatures.now }
+        ≡ is_vouched (meaning check.now) id.now key (joined message.now) signatures.now }
     ensures counted { meter.new ≡ raised meter.old (first_place
-        (λ s. (meaning check.now).is_valid key message.now s.sig)
+        (λ s. (meaning check.now).is_valid key (joined message.now) s.sig)
         (filter (is_admitted id.now) signatures.now)) }
 {
     for signature in signatures {

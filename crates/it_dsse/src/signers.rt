@@ -1,7 +1,7 @@
 //! Which ids signed an envelope.
-ghost use Rattle.std.specs.Prelude.{◌≡◌, IfOk, IsTrue, map, string_bytes};
-ghost use Rattle.std.specs.Bool.{MatchBool};
-ghost use Rattle.it_dsse.specs.Signed.{AreThose, IsSigner};
+ghost use Rattle.std.specs.Prelude.{◌≡◌, ◌↔◌, IfOk, IsTrue, map, string_bytes};
+ghost use Rattle.it_dsse.specs.Meter.{raised};
+ghost use Rattle.it_dsse.specs.Signed.{AreThose, IsSigner, tries};
 
 use crate::check::SignatureCheck;
 use crate::envelope::Envelope;
@@ -21,28 +21,32 @@ pub fn signed_ids(
     ensures { IfOk result (λ signers. AreThose (IsSigner (meaning check.now) envelope.now object.now)
         (map string_bytes ids.now) (map string_bytes signers.items)) }
 {
+    let mut meter = Meter { asked: 0 };
     let mut signers = Vec::new(alloc);
     for id in ids {
         let text = id.as_str();
-        if is_signer(alloc, envelope, text, object, check)? {
+        if is_signer(envelope, text, object, check, &mut meter) {
             signers.push(String::from_str(alloc, text)?)?;
         }
     }
     Ok(signers)
 }
 
-fn is_signer(
-    alloc: Global,
+/// Whether the key that `id` and `object` name signed the envelope: the check knows the key, and some
+/// signature is valid for it (DSSE v1.0, "Protocol").
+///
+/// The meter rises by the number of signatures that [`signed_by`] tries. Takes no memory.
+pub fn is_signer(
     envelope: &Envelope,
     id: &str,
     object: &KeyObject,
     check: &Box<dyn SignatureCheck>,
-) -> Result<bool, AllocError>
-    ensures { IfOk result (λ signs. MatchBool signs
-        (IsSigner (meaning check.now) envelope.now object.now id.now)
-        (¬ IsSigner (meaning check.now) envelope.now object.now id.now)) }
+    meter: &mut Meter,
+) -> bool
+    ensures answer { IsTrue result
+        ↔ IsSigner (meaning check.now) envelope.now object.now id.now }
+    ensures counted { meter.new
+        ≡ raised meter.old (tries (meaning check.now) envelope.now id.now object.now) }
 {
-    let mut meter = Meter { asked: 0 };
-    let number = signed_by(alloc, envelope, id, object, check, &mut meter)?;
-    Ok(number.is_some())
+    signed_by(envelope, id, object, check, meter).is_some()
 }

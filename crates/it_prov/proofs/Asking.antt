@@ -10,9 +10,10 @@ use Rattle.it_dsse.specs.Signed.{Signed, tries}
 use Rattle.it_dsse.specs.declared.envelope.Envelope.{Envelope}
 use Rattle.it_dsse.specs.declared.key_object.KeyObject.{KeyObject}
 use Rattle.it_dsse.specs.declared.meter.Meter.{Meter}
-use Rattle.it_dsse.proofs.Tries.{signed_tries}
+use Rattle.it_dsse.proofs.Tries.{signed_tries, tries_at_most}
 use Rattle.it_dsse.proofs.Trying.{raised-zero, raised_more}
 use Rattle.it_docs.specs.declared.policy.Builder.{Builder}
+use Rattle.it_prov.specs.Asked.{AtLeast}
 use Rattle.it_prov.specs.Cost.{key_count, signature_count}
 
 -- ---- one call after another
@@ -22,9 +23,15 @@ raised_none most meter now same = (0, omega arith, same ∙ sym (raised-zero met
 pub raised_then : (P Q R : ℕ → Type 0) → ((m n : ℕ) → P m → Q n → R (m + n)) → (start now new : Meter) → RaisedBy P start now → RaisedBy Q now new → RaisedBy R start new
 raised_then P Q R both start now new h k = (h.0 + k.0, both h.0 k.0 h.1 k.1, k.2 ∙ ap (λ m. raised m k.0) h.2 ∙ raised_more start h.0 k.0)
 
--- a meter that has been raised, and once more
-pub raised_once_more : (P : ℕ → Type 0) (start now new : Meter) → RaisedBy P start now → RaisedBy (λ n. 1 ≤ n) now new → RaisedBy (λ n. 1 ≤ n) start new
-raised_once_more P = raised_then P (λ n. 1 ≤ n) (λ n. 1 ≤ n) (λ m n p q. omega arith)
+-- a meter that has been raised, and then by at least a number
+pub raised_still : (P Q : ℕ → Type 0) (start now new : Meter) → RaisedBy P start now → RaisedBy (AtLeast Q) now new → RaisedBy (AtLeast Q) start new
+raised_still P Q = raised_then P (AtLeast Q) (AtLeast Q) (λ m n p q. (q.0, q.1, omega (arith, q.2)))
+
+pub raised_as : (P Q : ℕ → Type 0) → ((n : ℕ) → P n → Q n) → (start new : Meter) → RaisedBy (AtLeast P) start new → RaisedBy (AtLeast Q) start new
+raised_as P Q each start new h = (h.0, (h.1.0, each h.1.0 h.1.1, h.1.2), h.2)
+
+pub raised_once : (P : ℕ → Type 0) → ((n : ℕ) → P n → 1 ≤ n) → (start new : Meter) → RaisedBy (AtLeast P) start new → RaisedBy (λ n. 1 ≤ n) start new
+raised_once P one start new h = let least = one h.1.0 h.1.1 in (h.0, omega (arith, h.1.2), h.2)
 
 -- what a meter may still be raised by, of a total
 abbrev pub Leaves : ℕ → ℕ → Meter → Meter → Type 0
@@ -66,6 +73,14 @@ module _ (start now new : Meter) (i : ℕ) where
       leaves_less (keys * length envelope.signatures) (keys * rest) (keys * signature_count (drop i envelopes)) (keys * signature_count envelopes) start now new (ap (λ n. keys * n) split ∙ omega arith)
 
 -- ---- one key
+-- the signatures that are tried with a key
+module _ (check : Check) (envelope : Envelope) (id : List ℕ) (object : KeyObject) (now new : Meter) (counted : new ≡ raised now (tries check envelope id object)) where
+  pub raised_at_most : RaisedBy (λ n. n ≤ length envelope.signatures) now new
+  raised_at_most = (tries check envelope id object, tries_at_most check envelope id object, counted)
+
+  pub raised_at_least : (P : ℕ → Type 0) → P (tries check envelope id object) → RaisedBy (AtLeast P) now new
+  raised_at_least P p = (tries check envelope id object, (tries check envelope id object, p, omega arith), counted)
+
 -- where the key signed, a signature is tried
 pub tries_at_least : (check : Check) (envelope : Envelope) (id : List ℕ) (object : KeyObject) (found : Option KeyNumber) → Finds (Signed check envelope id object) found → is_some found ≡ true
     → 1 ≤ tries check envelope id object

@@ -1,3 +1,4 @@
+pub mod AskedOnce
 pub mod Asking
 pub mod Attesting
 pub mod Entries

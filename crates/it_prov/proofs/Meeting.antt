@@ -9,7 +9,8 @@ use Rattle.it_dsse.specs.declared.envelope.Envelope.{Envelope}
 use Rattle.it_docs.specs.declared.policy.Builder.{Builder}
 use Rattle.it_docs.specs.declared.policy.Expectation.{Expectation}
 use Rattle.it_docs.specs.declared.statement.Provenance.{Provenance}
-use Rattle.it_prov.specs.Judged.{IsBuiltBy, IsExpected}
+use Rattle.it_prov.specs.Asked.{IsAskedFor}
+use Rattle.it_prov.specs.Judged.{IsAskedOfBuilders, IsBuiltBy, IsExpected}
 use Rattle.it_prov.specs.Meets.{Attests, Meets, SignedByBuilder}
 use Rattle.it_prov.proofs.Attesting.{attests_one, attests_or_not}
 use Rattle.it_prov.proofs.ParametersSettled.{parameters_meet_or_not}
@@ -33,6 +34,11 @@ module _ (check : Check) (expectation : Expectation) (digests : DigestSet) (enve
     build_type = expected.build_type;
     parameters = expected.parameters;
   }
+
+  pub asked_by : (p : Provenance) → Attests envelope digests p → IsExpected expectation p → (n : ℕ) → IsAskedOfBuilders check envelope expectation.builders p.builder n
+      → IsAskedFor check expectation digests envelope n
+  unfolding meets_by
+  asked_by p attests expected n asked = record { meets = meets_by p attests expected asked.built; tried = asked.tried }
 
   pub expected_of : (p : Provenance) → Attests envelope digests p → Meets check expectation digests envelope → IsExpected expectation p
   expected_of p attests m = subst (IsExpected expectation) (attests_one digests envelope m.provenance p m.attests attests) (record { build_type = m.build_type; parameters = m.parameters })

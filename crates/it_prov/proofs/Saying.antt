@@ -1,5 +1,5 @@
 -- What an envelope attests is what the Statement says that it holds.
-use Rattle.std.proofs.Common.{◌≡◌, ◌↔◌, Option, Some, None, MatchOption, ap, subst}
+use Rattle.std.proofs.Common.{◌≡◌, ◌↔◌, ℕ, Option, Some, None, MatchOption, ap, subst}
 use Rattle.std.specs.Borrow.{Bor}
 use Rattle.std.proofs.lemmas.Option.{same_Some}
 use Rattle.it_base.specs.Finds.{Finds}
@@ -11,10 +11,11 @@ use Rattle.it_docs.specs.declared.policy.Expectation.{Expectation}
 use Rattle.it_docs.specs.declared.statement.Provenance.{Provenance}
 use Rattle.it_docs.specs.declared.statement.Statement.{Statement}
 use Rattle.it_docs.proofs.Same.{statement_same}
+use Rattle.it_prov.specs.Asked.{IsAskedFor}
 use Rattle.it_prov.specs.Held.{IsHeld}
-use Rattle.it_prov.specs.Judged.{IsBuilt, SaysExpected}
+use Rattle.it_prov.specs.Judged.{IsAskedOfBuild, IsBuilt, SaysExpected}
 use Rattle.it_prov.specs.Meets.{Attests, Meets}
-use Rattle.it_prov.proofs.Meeting.{built_of, meets_by}
+use Rattle.it_prov.proofs.Meeting.{asked_by, built_of, meets_by}
 
 module _ (check : Check) (expectation : Expectation) (digests : DigestSet) (envelope : Envelope) where
   says_attests : (found : Option Statement) → Finds (IsHeld envelope) found → (p : Provenance) → SaysExpected expectation digests found p → Attests envelope digests p
@@ -54,3 +55,10 @@ module _ (check : Check) (expectation : Expectation) (digests : DigestSet) (enve
   built_meets found held (Some p) says =
       let attests = says_attests found held p.now says in
       (meets_by check expectation digests envelope p.now attests says.expected, built_of check expectation digests envelope p.now attests)
+
+  -- and as many signatures are tried
+  pub built_asked : (found : Option Statement) → Finds (IsHeld envelope) found → (said : Option (Bor Provenance))
+      → MatchOption said ((p : Provenance) → ¬ SaysExpected expectation digests found p) (λ p. SaysExpected expectation digests found p.now)
+      → (n : ℕ) → IsAskedOfBuild check envelope expectation.builders said n → IsAskedFor check expectation digests envelope n
+  built_asked found held None none n asked = absurd asked
+  built_asked found held (Some p) says n asked = asked_by check expectation digests envelope p.now (says_attests found held p.now says) says.expected n asked

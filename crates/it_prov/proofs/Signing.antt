@@ -1,15 +1,16 @@
 -- A builder signed an envelope, or it did not.
-use Rattle.std.proofs.Common.{◌≡◌, ◌++◌, ℕ, List, [], ◌∷◌, append_assoc, append-nil, inl, inr, Contains, sym, subst, ◌∙◌}
+use Rattle.std.proofs.Common.{◌≡◌, ◌++◌, ℕ, List, [], ◌∷◌, append_assoc, append-nil, inl, inr, Contains, refl, sym, subst, ◌∙◌}
 use Rattle.std.specs.FinMap.{entries}
 use Rattle.std.proofs.lemmas.List.Elements.{Contains-append_right, Contains-push_cases}
 use Rattle.it_base.proofs.Members.{in_head, in_none}
 use Rattle.it_base.proofs.Settled.{Settled, some_or_none}
 use Rattle.it_dsse.specs.Check.{Check}
-use Rattle.it_dsse.specs.Signed.{IsSigner}
+use Rattle.it_dsse.specs.Signed.{IsSigner, tries}
 use Rattle.it_dsse.specs.declared.envelope.Envelope.{Envelope}
 use Rattle.it_dsse.specs.declared.key_object.KeyObject.{KeyObject}
 use Rattle.it_dsse.proofs.SignerSettled.{signer_or_not}
 use Rattle.it_docs.specs.declared.policy.Builder.{Builder}
+use Rattle.it_prov.specs.Judged.{IsAskedOfBuilder}
 use Rattle.it_prov.specs.Meets.{SignedByBuilder}
 use Rattle.it_prov.proofs.Entries.{entry_known, known_entry}
 
@@ -48,8 +49,15 @@ module _ (check : Check) (envelope : Envelope) where
       none = λ f c. elim (Contains-push_cases h.done e f c) [ inl earlier ↦ h.none f earlier | inr same ↦ subst (λ d. ¬ EntrySigned d) same fails ];
     }
 
+    is_entry : Contains (entries builder.keys) e
+    is_entry = subst (λ es. Contains es e) (sym h.are) (Contains-append_right h.done (e ∷ rest) e (in_head e rest))
+
     pub searched_found : EntrySigned e → SignedByBuilder check envelope builder
-    searched_found s = signed_by_entry builder e (subst (λ es. Contains es e) (sym h.are) (Contains-append_right h.done (e ∷ rest) e (in_head e rest))) s
+    searched_found = signed_by_entry builder e is_entry
+
+    pub searched_asked : EntrySigned e → IsAskedOfBuilder check envelope builder (tries check envelope e.0 e.1)
+    unfolding signed_by_entry
+    searched_asked s = record { signed = signed_by_entry builder e is_entry s; tried = refl }
 
   pub searched_all : (builder : Builder) → Searched builder [] → ¬ SignedByBuilder check envelope builder
   searched_all builder h = not_signed_by builder (λ e c. h.none e (subst (λ es. Contains es e) (h.are ∙ append-nil h.done) c))

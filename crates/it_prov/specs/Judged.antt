@@ -10,6 +10,7 @@ use Rattle.std.specs.Ordering.{nat_cmp}
 use Rattle.it_digest.specs.Compare.{Agree}
 use Rattle.it_digest.specs.declared.compare.DigestSet.{DigestSet}
 use Rattle.it_dsse.specs.Check.{Check}
+use Rattle.it_dsse.specs.Signed.{tries}
 use Rattle.it_dsse.specs.declared.envelope.Envelope.{Envelope}
 use Rattle.it_docs.specs.Json.{Json, Fields}
 use Rattle.it_docs.specs.TreeOf.{field_at}
@@ -51,6 +52,16 @@ pub record IsBuiltBy (check : Check) (envelope : Envelope) (builders : List Buil
   pub id_is : id ≡ builder.id
   pub signed : SignedByBuilder check envelope builder
 
+-- a builder signed the envelope, and n signatures are tried with the key that signed
+pub record IsAskedOfBuilder (check : Check) (envelope : Envelope) (builder : Builder) (n : ℕ) : Type 0 where
+  pub signed : SignedByBuilder check envelope builder
+  pub tried : n ≡ tries check envelope signed.id signed.object
+
+-- one of the builders has this id and signed the envelope, and n signatures are tried with its key
+pub record IsAskedOfBuilders (check : Check) (envelope : Envelope) (builders : List Builder) (id : List ℕ) (n : ℕ) : Type 0 where
+  pub built : IsBuiltBy check envelope builders id
+  pub tried : n ≡ tries check envelope built.signed.id built.signed.object
+
 -- there is a Statement, a subject of which has the digests, with this provenance, which is expected
 pub record SaysExpected (expectation : Expectation) (digests : DigestSet) (found : Option Statement) (provenance : Provenance) : Type 0 where
   pub statement : Statement
@@ -65,3 +76,8 @@ pub record SaysExpected (expectation : Expectation) (digests : DigestSet) (found
 abbrev pub IsBuilt : Check → Envelope → List Builder → Option (Bor Provenance) → Type 0
 IsBuilt check envelope builders None = ⊥
 IsBuilt check envelope builders (Some provenance) = IsBuiltBy check envelope builders provenance.now.builder
+
+-- there is a provenance whose builder signed the envelope, and n signatures are tried with its key
+abbrev pub IsAskedOfBuild : Check → Envelope → List Builder → Option (Bor Provenance) → ℕ → Type 0
+IsAskedOfBuild check envelope builders None n = ⊥
+IsAskedOfBuild check envelope builders (Some provenance) n = IsAskedOfBuilders check envelope builders provenance.now.builder n

@@ -1,3 +1,4 @@
+pub mod Asked
 pub mod Cost
 pub mod Finding
 pub mod Fits

@@ -1,10 +1,11 @@
 //! Who built what an envelope attests.
-ghost use Rattle.std.specs.Prelude.{◌≡◌, ◌↔◌, ◌*◌, ◌≤◌, IfOk, IsTrue, length};
+ghost use Rattle.std.specs.Prelude.{◌≡◌, ◌↔◌, ◌*◌, ◌≤◌, IsTrue, length};
 ghost use Rattle.std.specs.FinMap.{len};
-ghost use Rattle.it_dsse.specs.Meter.{RaisedBy};
-ghost use Rattle.it_dsse.specs.Signed.{IsSigner};
+ghost use Rattle.it_dsse.specs.Meter.{RaisedBy, raised};
+ghost use Rattle.it_dsse.specs.Signed.{IsSigner, tries};
+ghost use Rattle.it_prov.specs.Asked.{AtLeast};
 ghost use Rattle.it_prov.specs.Cost.{key_count};
-ghost use Rattle.it_prov.specs.Judged.{IsBuiltBy};
+ghost use Rattle.it_prov.specs.Judged.{IsAskedOfBuilder, IsAskedOfBuilders, IsBuiltBy};
 ghost use Rattle.it_prov.specs.Meets.{SignedByBuilder};
 
 use it_docs::policy::Builder;
@@ -13,69 +14,64 @@ use it_dsse::envelope::Envelope;
 use it_dsse::key_object::KeyObject;
 use it_dsse::meter::Meter;
 use it_dsse::signed_by;
-use std::alloc::{AllocError, Global};
 
 /// Whether one of the builders has this id and signed the envelope.
 pub(crate) fn is_built_by(
-    alloc: Global,
     builders: &[Builder],
     id: &str,
     envelope: &Envelope,
     check: &Box<dyn SignatureCheck>,
     meter: &mut Meter,
-) -> Result<bool, AllocError>
-    ensures answer { IfOk result (λ built. IsTrue built
-        ↔ IsBuiltBy (meaning check.now) envelope.now builders.now id.now) }
+) -> bool
+    ensures answer { IsTrue result
+        ↔ IsBuiltBy (meaning check.now) envelope.now builders.now id.now }
     ensures at_most { RaisedBy (λ n. n ≤ key_count builders.now * length envelope.now.signatures)
         meter.old meter.new }
-    ensures at_least { IfOk result (λ built. IsTrue built
-        → RaisedBy (λ n. 1 ≤ n) meter.old meter.new) }
+    ensures at_least { IsTrue result → RaisedBy (AtLeast
+        (IsAskedOfBuilders (meaning check.now) envelope.now builders.now id.now)) meter.old meter.new }
 {
     for builder in builders {
-        if builder.id.as_str() == id && has_signed(alloc, builder, envelope, check, meter)? {
-            return Ok(true);
+        if builder.id.as_str() == id && has_signed(builder, envelope, check, meter) {
+            return true;
         }
     }
-    Ok(false)
+    false
 }
 
 /// Whether some key of a builder signed the envelope.
 fn has_signed(
-    alloc: Global,
     builder: &Builder,
     envelope: &Envelope,
     check: &Box<dyn SignatureCheck>,
     meter: &mut Meter,
-) -> Result<bool, AllocError>
-    ensures answer { IfOk result (λ signed. IsTrue signed
-        ↔ SignedByBuilder (meaning check.now) envelope.now builder.now) }
+) -> bool
+    ensures answer { IsTrue result
+        ↔ SignedByBuilder (meaning check.now) envelope.now builder.now }
     ensures at_most { RaisedBy (λ n. n ≤ len builder.now.keys * length envelope.now.signatures)
         meter.old meter.new }
-    ensures at_least { IfOk result (λ signed. IsTrue signed
-        → RaisedBy (λ n. 1 ≤ n) meter.old meter.new) }
+    ensures at_least { IsTrue result → RaisedBy (AtLeast
+        (IsAskedOfBuilder (meaning check.now) envelope.now builder.now)) meter.old meter.new }
 {
     for (id, object) in builder.keys.iter() {
-        if is_signer(alloc, envelope, id.as_str(), object, check, meter)? {
-            return Ok(true);
+        if is_signer(envelope, id.as_str(), object, check, meter) {
+            return true;
         }
     }
-    Ok(false)
+    false
 }
 
 fn is_signer(
-    alloc: Global,
     envelope: &Envelope,
     id: &str,
     object: &KeyObject,
     check: &Box<dyn SignatureCheck>,
     meter: &mut Meter,
-) -> Result<bool, AllocError>
-    ensures answer { IfOk result (λ signs. IsTrue signs
-        ↔ IsSigner (meaning check.now) envelope.now object.now id.now) }
-    ensures at_most { RaisedBy (λ n. n ≤ length envelope.now.signatures) meter.old meter.new }
-    ensures at_least { IfOk result (λ signs. IsTrue signs
-        → RaisedBy (λ n. 1 ≤ n) meter.old meter.new) }
+) -> bool
+    ensures answer { IsTrue result
+        ↔ IsSigner (meaning check.now) envelope.now object.now id.now }
+    ensures counted { meter.new
+        ≡ raised meter.old (tries (meaning check.now) envelope.now id.now object.now) }
 {
-    let number = signed_by(alloc, envelope, id, object, check, meter)?;
-    Ok(number.is_some())
+    let number = signed_by(envelope, id, object, check, meter);
+    number.is_some()
 }

@@ -1,6 +1,7 @@
 //! The search for the provenance of a delivered file.
-ghost use Rattle.std.specs.Prelude.{◌≡◌, ◌*◌, ◌≤◌, IfErr, IfOk, OnOk};
+ghost use Rattle.std.specs.Prelude.{◌≡◌, ◌*◌, ◌≤◌, IfErr, IfOk};
 ghost use Rattle.it_dsse.specs.Meter.{RaisedBy};
+ghost use Rattle.it_prov.specs.Asked.{AtLeast, IsAsked};
 ghost use Rattle.it_prov.specs.Cost.{key_count, signature_count};
 ghost use Rattle.it_prov.specs.Finding.{IsFound, IsMissing, NoneFits};
 ghost use Rattle.it_prov.specs.Fits.{Fits};
@@ -26,7 +27,8 @@ use std::alloc::{AllocError, Global};
 /// signed the envelope, and the payload is a Statement with provenance that names this builder, with
 /// the build type and the parameters that are expected, and a subject of which agrees with the
 /// digests. Each signature is checked by `check`, which counts in `meter`: at most once for each key
-/// of the expected builders and each signature.
+/// of the expected builders and each signature, and at least once for each signature that is tried
+/// with the key of the builder that signed the envelope found, up to the first valid one.
 ///
 /// # Errors
 ///
@@ -53,7 +55,8 @@ pub fn find_provenance(
         → RaisedBy (λ n. n ≤ key_count expectation.builders * signature_count envelopes.now)
         meter.old meter.new }
     ensures unasked { NoneFits expectations.now path.now → meter.new ≡ meter.old }
-    ensures at_least { OnOk result (RaisedBy (λ n. 1 ≤ n) meter.old meter.new) }
+    ensures at_least { IfOk result (λ index. RaisedBy (AtLeast (IsAsked (meaning check.now)
+        expectations.now path.now digests envelopes.now index)) meter.old meter.new) }
 {
     let attestations = Attestations::of(alloc, envelopes)?;
     find_among(
@@ -94,7 +97,8 @@ pub fn find_among(
         → RaisedBy (λ n. n ≤ key_count expectation.builders * signature_count attestations.now.envelopes.now)
         meter.old meter.new }
     ensures unasked { NoneFits expectations.now path.now → meter.new ≡ meter.old }
-    ensures at_least { OnOk result (RaisedBy (λ n. 1 ≤ n) meter.old meter.new) }
+    ensures at_least { IfOk result (λ index. RaisedBy (AtLeast (IsAsked (meaning check.now)
+        expectations.now path.now digests attestations.now.envelopes.now index)) meter.old meter.new) }
 {
     let Some(expectation) = fitting(expectations, path) else {
         return Err(ProvError::NoExpectation(text_of(alloc, path)?));

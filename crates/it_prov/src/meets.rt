@@ -1,11 +1,12 @@
 //! Which envelopes meet an expectation.
-ghost use Rattle.std.specs.Prelude.{◌≡◌, ◌↔◌, ◌*◌, ◌≤◌, Any, IfOk, IsSome, IsTrue, MatchOption, length};
+ghost use Rattle.std.specs.Prelude.{◌≡◌, ◌↔◌, ◌*◌, ◌≤◌, Any, IfOk, IfSome, IsTrue, MatchOption, length};
 ghost use Rattle.it_digest.specs.Compare.{Agree};
 ghost use Rattle.it_dsse.specs.Meter.{RaisedBy};
+ghost use Rattle.it_prov.specs.Asked.{AtLeast, IsAskedAt};
 ghost use Rattle.it_prov.specs.Cost.{key_count, signature_count};
 ghost use Rattle.it_prov.specs.Finding.{IsFirstToMeet, NoneMeets};
 ghost use Rattle.it_prov.specs.Held.{AreHeld};
-ghost use Rattle.it_prov.specs.Judged.{HasNames, IsBuilt, IsExpected, SaysExpected};
+ghost use Rattle.it_prov.specs.Judged.{HasNames, IsAskedOfBuild, IsBuilt, IsExpected, SaysExpected};
 
 use crate::attestations::Attestations;
 use crate::builders::is_built_by;
@@ -36,14 +37,15 @@ pub(crate) fn first_to_meet(
     ensures at_most { RaisedBy (λ n. n
         ≤ key_count expectation.now.builders * signature_count attestations.now.envelopes.now)
         meter.old meter.new }
-    ensures at_least { IfOk result (λ found. IsSome found
-        → RaisedBy (λ n. 1 ≤ n) meter.old meter.new) }
+    ensures at_least { IfOk result (λ found. IfSome found (λ index. RaisedBy (AtLeast (IsAskedAt
+        (meaning check.now) expectation.now digests.now attestations.now.envelopes.now index))
+        meter.old meter.new)) }
 {
     let ignored = set_of(alloc, expectation.ignore.as_slice())?;
     for (index, envelope) in attestations.envelopes.iter().enumerate() {
         let statement = &attestations.statements[index];
         let provenance = expected_in(expectation, &ignored, digests, statement);
-        if is_built(alloc, expectation, provenance, envelope, check, meter)? {
+        if is_built(expectation, provenance, envelope, check, meter) {
             return Ok(Some(index));
         }
     }
@@ -97,27 +99,27 @@ fn is_expected(expectation: &Expectation, ignored: &BTreeSet<&str>, provenance: 
 
 /// Whether there is a provenance, and the builder that it names signed the envelope.
 fn is_built(
-    alloc: Global,
     expectation: &Expectation,
     provenance: Option<&Provenance>,
     envelope: &Envelope,
     check: &Box<dyn SignatureCheck>,
     meter: &mut Meter,
-) -> Result<bool, AllocError>
-    ensures answer { IfOk result (λ built. IsTrue built
-        ↔ IsBuilt (meaning check.now) envelope.now expectation.now.builders provenance.entry) }
+) -> bool
+    ensures answer { IsTrue result
+        ↔ IsBuilt (meaning check.now) envelope.now expectation.now.builders provenance.entry }
     ensures at_most { RaisedBy (λ n. n
         ≤ key_count expectation.now.builders * length envelope.now.signatures)
         meter.old meter.new }
-    ensures at_least { IfOk result (λ built. IsTrue built
-        → RaisedBy (λ n. 1 ≤ n) meter.old meter.new) }
+    ensures at_least { IsTrue result → RaisedBy (AtLeast (IsAskedOfBuild
+        (meaning check.now) envelope.now expectation.now.builders provenance.entry))
+        meter.old meter.new }
 {
     match provenance {
         Some(provenance) => {
             let builders = expectation.builders.as_slice();
             let id = provenance.builder.as_str();
-            is_built_by(alloc, builders, id, envelope, check, meter)
+            is_built_by(builders, id, envelope, check, meter)
         }
-        None => Ok(false),
+        None => false,
     }
 }

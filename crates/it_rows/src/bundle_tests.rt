@@ -24,7 +24,7 @@ fn finds_folders_in_folders(rt: HostRuntime) -> Result<(), Fail> {
 }
 
 #[test]
-fn hands_a_second_folder_back(rt: HostRuntime) -> Result<(), Fail> {
+fn hands_a_second_folder_of_one_name_back(rt: HostRuntime) -> Result<(), Fail> {
     let alloc = rt.alloc();
     let mut bundle = Bundle::new(alloc);
     assert!(rt;

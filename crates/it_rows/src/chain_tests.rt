@@ -1,14 +1,10 @@
-ghost use Rattle.std.specs.Prelude.{◌≤◌};
-
-use it_base::sequence::Sequence;
-use it_base::text::Text;
+use crate::devices::{ABC, NOTHING, with_changed_code};
 use it_chain::bundle::Bundle;
 use it_chain::chain::Chain;
 use it_chain::refusal::{ChainError, ChainFault, ChainRefusal};
 use it_chain::verify_chain;
 use it_docs::layout_reading::read_layout;
 use it_dsse::check::SignatureCheck;
-use it_dsse::envelope::{Envelope, Signature};
 use it_dsse::meter::Meter;
 use it_dsse::ring::HmacRing;
 use it_dsse::signing::sign;
@@ -17,10 +13,12 @@ use std::test::Fail;
 
 const KIND: &str = "application/vnd.in-toto+json";
 
-// The moment at which the layouts here expire, as a text and as its number.
+// The moment at which the layouts here expire, as a text and as its number, and the second before.
 const LATER: &str = "2030-01-01T00:00:00Z";
 
 const EXPIRES: i64 = 1893456000;
+
+const EARLIER: &str = "2029-12-31T23:59:59Z";
 
 // Two ids have one key, and two others the same first eight characters.
 const RING: &str =
@@ -33,13 +31,62 @@ const KEYS: &str =
 const BUILD: &str =
     "{\"name\":\"build\",\"threshold\":1,\"pubkeys\":[\"alice\"],\"expected_materials\":[[\"ALLOW\",\"src/*\"],[\"DISALLOW\",\"*\"]],\"expected_products\":[[\"CREATE\",\"app\"],[\"DISALLOW\",\"*\"]]}";
 
-// A step that bob records.
-const PACK: &str = "{\"name\":\"pack\",\"threshold\":1,\"pubkeys\":[\"bob\"]}";
+// The same step, and one that bob records.
+const BUILD_AND_PACK: &str =
+    "{\"name\":\"build\",\"threshold\":1,\"pubkeys\":[\"alice\"],\"expected_materials\":[[\"ALLOW\",\"src/*\"],[\"DISALLOW\",\"*\"]],\"expected_products\":[[\"CREATE\",\"app\"],[\"DISALLOW\",\"*\"]]},{\"name\":\"pack\",\"threshold\":1,\"pubkeys\":[\"bob\"]}";
 
-// The SHA-256 of `abc`, and that of no bytes.
-const A: &str = "ba7816bf8f01cfea414140de5dae2223b00361a396177a9cb410ff61f20015ad";
+// A link of the step with a product that its rules do not allow.
+const TWO_PRODUCTS: &str =
+    "{\"_type\":\"link\",\"name\":\"build\",\"products\":{\"app\":{},\"lib\":{}}}";
 
-const B: &str = "e3b0c44298fc1c149afbf4c8996fb92427ae41e4649b934ca495991b7852b855";
+// A layout with these steps, and what stands beside them.
+fn layout_with(
+    alloc: Global,
+    steps: &str,
+    expires: &str,
+    more: &str,
+) -> Result<String, AllocError> {
+    format!(in alloc;
+        "{{\"_type\":\"layout\",\"expires\":\"{expires}\",\"keys\":{{{KEYS}}},\"steps\":[{steps}]{more}}}"
+    )
+}
+
+// A layout with one step without rules.
+fn layout_of(
+    alloc: Global,
+    step: &str,
+    threshold: u64,
+    ids: &str,
+    expires: &str,
+) -> Result<String, AllocError> {
+    let step = format!(in alloc;
+        "{{\"name\":\"{step}\",\"threshold\":{threshold},\"pubkeys\":[{ids}]}}"
+    )?;
+    layout_with(alloc, step.as_str(), expires, "")
+}
+
+// A link with the material `src/a` and the product `app`.
+fn link_of(alloc: Global, name: &str, digest: &str) -> Result<String, AllocError> {
+    format!(in alloc;
+        "{{\"_type\":\"link\",\"name\":\"{name}\",\"materials\":{{\"src/a\":{{\"sha256\":\"{NOTHING}\"}}}},\"products\":{{\"app\":{{\"sha256\":\"{digest}\"}}}}}}"
+    )
+}
+
+/// How a file is signed.
+#[derive(Clone, Copy)]
+enum Signed<'a> {
+    /// By the key of an id, with the id as the hint.
+    By(&'a str),
+    /// By the key of the first id, with the second as the hint.
+    Hinted(&'a str, &'a str),
+    /// By the key of an id, and then a byte of the signature is changed.
+    Changed(&'a str),
+    /// Not at all: it is no envelope.
+    Not,
+}
+
+// A file's name, how it is signed, and the body.
+type File<'a> = (&'a str, Signed<'a>, &'a str);
 
 fn ring(alloc: Global) -> Result<HmacRing, Fail> {
     Ok(
@@ -49,86 +96,52 @@ fn ring(alloc: Global) -> Result<HmacRing, Fail> {
     )
 }
 
-// A layout with these steps, which expires at the end of 2029.
-fn layout_with(alloc: Global, steps: &str) -> Result<String, AllocError> {
-    format!(in alloc;
-        "{{\"_type\":\"layout\",\"expires\":\"{LATER}\",\"keys\":{{{KEYS}}},\"steps\":[{steps}]}}"
-    )
-}
-
-// A layout with one step without rules, and what stands beside it.
-fn layout_of(
-    alloc: Global,
-    step: &str,
-    threshold: u64,
-    ids: &str,
-    expires: &str,
-    more: &str,
-) -> Result<String, AllocError> {
-    format!(in alloc;
-        "{{\"_type\":\"layout\",\"expires\":\"{expires}\",\"keys\":{{{KEYS}}},\"steps\":[{{\"name\":\"{step}\",\"threshold\":{threshold},\"pubkeys\":[{ids}]}}]{more}}}"
-    )
-}
-
-// A link with the material `src/a` and the product `app`.
-fn link_of(alloc: Global, name: &str, digest: &str) -> Result<String, AllocError> {
-    format!(in alloc;
-        "{{\"_type\":\"link\",\"name\":\"{name}\",\"materials\":{{\"src/a\":{{\"sha256\":\"{B}\"}}}},\"products\":{{\"app\":{{\"sha256\":\"{digest}\"}}}}}}"
-    )
-}
-
-fn signed(alloc: Global, id: &str, body: &str) -> Result<Envelope, Fail> {
-    Ok(
-        sign(alloc, &ring(alloc)?, id, KIND, body.as_bytes())
-            .ok()
-            .ok_or("not signed")?,
-    )
-}
-
-// The envelope with its one signature under a hint.
-fn hinted(alloc: Global, envelope: Envelope, hint: &str) -> Result<Envelope, Fail> {
-    let Envelope {
-        payload,
-        payload_type,
-        signatures,
-    } = envelope;
-    let Signature { keyid: _, sig } = signatures.into_vec().pop().ok_or("no signature")?;
-    let keyid = Text::from(String::from_str(alloc, hint)?);
-    Ok(Envelope {
-        payload,
-        payload_type,
-        signatures: Sequence::from(Vec::from_array(alloc, [Signature { keyid, sig }])?),
-    })
-}
-
-// The envelope with one byte of its one signature changed.
-fn spoilt(alloc: Global, envelope: Envelope) -> Result<Envelope, Fail> {
-    let Envelope {
-        payload,
-        payload_type,
-        signatures,
-    } = envelope;
-    let Signature { keyid, sig } = signatures.into_vec().pop().ok_or("no signature")?;
-    let mut sig = sig.into_vec();
-    let last = sig.pop().ok_or("no byte")?;
-    sig.push(last ^ 1)?;
-    let sig = Sequence::from(sig);
-    Ok(Envelope {
-        payload,
-        payload_type,
-        signatures: Sequence::from(Vec::from_array(alloc, [Signature { keyid, sig }])?),
-    })
-}
-
-fn put(alloc: Global, bundle: &mut Bundle, name: &str, envelope: &Envelope) -> Result<(), Fail> {
+fn envelope_of(alloc: Global, id: &str, body: &str) -> Result<String, Fail> {
+    let envelope = sign(alloc, &ring(alloc)?, id, KIND, body.as_bytes())
+        .ok()
+        .ok_or("not signed")?;
     let mut bytes = Vec::new(alloc);
     envelope.write(alloc, &mut bytes).ok().ok_or("not written")?;
+    Ok(String::from_utf8(bytes).ok().ok_or("no text")?)
+}
+
+fn text_of(alloc: Global, signed: Signed, body: &str) -> Result<String, Fail> {
+    match signed {
+        Signed::By(id) => envelope_of(alloc, id, body),
+        Signed::Hinted(id, hint) => {
+            let old = format!(in alloc; "\"keyid\":\"{id}\"")?;
+            let new = format!(in alloc; "\"keyid\":\"{hint}\"")?;
+            Ok(envelope_of(alloc, id, body)?.replace(alloc, old.as_str(), new.as_str())?)
+        }
+        Signed::Changed(id) => {
+            let envelope = envelope_of(alloc, id, body)?;
+            Ok(with_changed_code(alloc, envelope.as_str())?)
+        }
+        Signed::Not => Ok(String::from_str(alloc, body)?),
+    }
+}
+
+fn add(alloc: Global, bundle: &mut Bundle, file: File) -> Result<(), Fail> {
+    let (name, signed, body) = file;
+    let bytes = text_of(alloc, signed, body)?.into_bytes();
     bundle.add_file(String::from_str(alloc, name)?, bytes)?;
     Ok(())
 }
 
-fn add(alloc: Global, bundle: &mut Bundle, name: &str, id: &str, body: &str) -> Result<(), Fail> {
-    put(alloc, bundle, name, &signed(alloc, id, body)?)
+fn bundle_of(alloc: Global, files: &[File]) -> Result<Bundle, Fail> {
+    let mut bundle = Bundle::new(alloc);
+    for file in files {
+        add(alloc, &mut bundle, *file)?;
+    }
+    Ok(bundle)
+}
+
+fn add_folder(alloc: Global, bundle: &mut Bundle, name: &str, folder: Bundle) -> Result<(), Fail> {
+    bundle
+        .add_dir(String::from_str(alloc, name)?, folder)
+        .ok()
+        .ok_or("name taken")?;
+    Ok(())
 }
 
 fn told_place(alloc: Global, refusal: &ChainRefusal) -> Result<String, AllocError> {
@@ -180,120 +193,106 @@ fn told_chain(alloc: Global, chain: &Chain) -> Result<String, AllocError> {
     Ok(told)
 }
 
+// What a layout comes to over a bundle, and how many signatures were tried.
 fn verified(
     alloc: Global,
     layout: &str,
     bundle: &Bundle,
     moment: i64,
     depth: u8,
-) -> Result<Result<Chain, ChainError>, Fail>
-    requires { depth ≤ 8 }
-{
+) -> Result<(Result<Chain, ChainError>, u64), Fail> {
+    if depth > 8 {
+        return Err(Fail::from("too deep"));
+    }
     let layout = read_layout(alloc, layout.as_bytes())
         .ok()
         .ok_or("no layout")?;
     let check: Box<dyn SignatureCheck> = Box::new(alloc, ring(alloc)?)?;
     let mut meter = Meter { asked: 0 };
-    Ok(verify_chain(alloc, &layout, bundle, moment, depth, &check, &mut meter))
+    let found = verify_chain(alloc, &layout, bundle, moment, depth, &check, &mut meter);
+    Ok((found, meter.asked))
 }
 
-// What a layout comes to over a bundle, in words.
+// The same in words.
 fn told(
     alloc: Global,
     layout: &str,
     bundle: &Bundle,
     moment: i64,
     depth: u8,
-) -> Result<String, Fail>
-    requires { depth ≤ 8 }
-{
-    match verified(alloc, layout, bundle, moment, depth)? {
-        Ok(chain) => Ok(told_chain(alloc, &chain)?),
+) -> Result<(String, u64), Fail> {
+    let (found, asked) = verified(alloc, layout, bundle, moment, depth)?;
+    let words = match found {
+        Ok(chain) => told_chain(alloc, &chain)?,
         Err(ChainError::Refused(refusal)) => {
             let place = told_place(alloc, &refusal)?;
             let fault = told_fault(alloc, &refusal.fault)?;
-            Ok(format!(in alloc; "{place}{fault}")?)
+            format!(in alloc; "{place}{fault}")?
         }
-        Err(ChainError::OutOfMemory) => Ok(String::from_str(alloc, "out of memory")?),
+        Err(ChainError::OutOfMemory) => String::from_str(alloc, "out of memory")?,
+    };
+    Ok((words, asked))
+}
+
+// The number in each row is how many signatures are tried. Of a file those under no hint or the id's own
+// are, for each id in turn; here each file has one.
+#[test]
+fn counts_each_key_once_and_names_what_disagrees(rt: HostRuntime) -> Result<(), Fail> {
+    let alloc = rt.alloc();
+    let link = link_of(alloc, "build", ABC)?;
+    let other = link_of(alloc, "build", NOTHING)?;
+    let (link, other) = (link.as_str(), other.as_str());
+    let of_alice = ("build.alice.link", Signed::By("alice"), link);
+    let of_bob = ("build.bob.link", Signed::By("bob"), link);
+    let of_bobz = ("build.bobz.link", Signed::By("bobz"), link);
+    let hinted = ("build.alice.link", Signed::Hinted("bob", "alice"), link);
+    let copy = ("build.copy.link", Signed::By("alice"), link);
+    let changed = ("build.b.link", Signed::Changed("bob"), link);
+    let unlike = ("build.carol.link", Signed::By("carol"), other);
+    let second = ("build.x.link", Signed::By("alice"), other);
+    let (two, three) = ("\"alice\",\"bob\"", "\"alice\",\"bob\",\"carol\"");
+    let rows: [(u64, &str, &[File], &str, u64); 9] = [
+        (1, "\"alice\"", &[of_alice], "build 1", 1),
+        (
+            2,
+            "\"bob\",\"bobz\"",
+            &[of_bob, of_bobz],
+            "threshold build 1 2",
+            2,
+        ),
+        (
+            2,
+            "\"bob\",\"carol\"",
+            &[of_bob, unlike],
+            "disagree build carol",
+            2,
+        ),
+        (2, two, &[of_alice, copy, changed], "threshold build 1 2", 3),
+        (2, two, &[of_alice, copy, changed, of_bob], "build 2", 4),
+        (
+            2,
+            three,
+            &[of_alice, of_bob, unlike],
+            "disagree build carol",
+            3,
+        ),
+        (1, "\"alice\"", &[of_alice, second], "two build alice", 2),
+        (
+            2,
+            three,
+            &[of_alice, of_bob, unlike, second],
+            "two build alice",
+            2,
+        ),
+        (1, "\"alice\"", &[hinted], "threshold build 0 1", 1),
+    ];
+    for (threshold, ids, files, want, tried) in rows {
+        let layout = layout_of(alloc, "build", threshold, ids, LATER)?;
+        let bundle = bundle_of(alloc, files)?;
+        let (words, asked) = told(alloc, layout.as_str(), &bundle, EXPIRES, 0)?;
+        assert_eq!(rt; words.as_str(), want, "{threshold} of {ids}");
+        assert_eq!(rt; asked, tried, "{threshold} of {ids}: {want}");
     }
-}
-
-#[test]
-fn holds_until_it_expires(rt: HostRuntime) -> Result<(), Fail> {
-    let alloc = rt.alloc();
-    let layout = layout_of(alloc, "build", 1, "\"alice\"", LATER, "")?;
-    let link = link_of(alloc, "build", A)?;
-    let mut bundle = Bundle::new(alloc);
-    add(
-        alloc,
-        &mut bundle,
-        "build.alice.link",
-        "alice",
-        link.as_str(),
-    )?;
-    let holds = told(alloc, layout.as_str(), &bundle, EXPIRES, 0)?;
-    assert_eq!(rt; holds.as_str(), "build 1");
-    let late = told(alloc, layout.as_str(), &bundle, EXPIRES + 1, 0)?;
-    assert_eq!(rt; late.as_str(), "expired");
-    Ok(())
-}
-
-#[test]
-fn counts_keys(rt: HostRuntime) -> Result<(), Fail> {
-    let alloc = rt.alloc();
-    let link = link_of(alloc, "build", A)?;
-    let mut bundle = Bundle::new(alloc);
-    add(alloc, &mut bundle, "build.bob.link", "bob", link.as_str())?;
-    add(alloc, &mut bundle, "build.bobz.link", "bobz", link.as_str())?;
-    add(
-        alloc,
-        &mut bundle,
-        "build.carol.link",
-        "carol",
-        link.as_str(),
-    )?;
-    let one_key = layout_of(alloc, "build", 2, "\"bob\",\"bobz\"", LATER, "")?;
-    let few = told(alloc, one_key.as_str(), &bundle, EXPIRES, 0)?;
-    assert_eq!(rt; few.as_str(), "threshold build 1 2");
-    let two_keys = layout_of(alloc, "build", 2, "\"bob\",\"carol\"", LATER, "")?;
-    let enough = told(alloc, two_keys.as_str(), &bundle, EXPIRES, 0)?;
-    assert_eq!(rt; enough.as_str(), "build 2");
-    Ok(())
-}
-
-#[test]
-fn names_what_disagrees(rt: HostRuntime) -> Result<(), Fail> {
-    let alloc = rt.alloc();
-    let layout = layout_of(alloc, "build", 2, "\"alice\",\"bob\",\"carol\"", LATER, "")?;
-    let link = link_of(alloc, "build", A)?;
-    let other_link = link_of(alloc, "build", B)?;
-    let mut bundle = Bundle::new(alloc);
-    add(
-        alloc,
-        &mut bundle,
-        "build.alice.link",
-        "alice",
-        link.as_str(),
-    )?;
-    add(alloc, &mut bundle, "build.bob.link", "bob", link.as_str())?;
-    add(
-        alloc,
-        &mut bundle,
-        "build.carol.link",
-        "carol",
-        other_link.as_str(),
-    )?;
-    let other = told(alloc, layout.as_str(), &bundle, EXPIRES, 0)?;
-    assert_eq!(rt; other.as_str(), "disagree build carol");
-    add(
-        alloc,
-        &mut bundle,
-        "build.x.link",
-        "alice",
-        other_link.as_str(),
-    )?;
-    let two = told(alloc, layout.as_str(), &bundle, EXPIRES, 0)?;
-    assert_eq!(rt; two.as_str(), "two build alice");
     Ok(())
 }
 
@@ -302,299 +301,209 @@ fn names_what_disagrees(rt: HostRuntime) -> Result<(), Fail> {
 #[test]
 fn passes_over_noise(rt: HostRuntime) -> Result<(), Fail> {
     let alloc = rt.alloc();
-    let layout = layout_of(alloc, "build", 1, "\"alice\"", LATER, "")?;
-    let link = link_of(alloc, "build", A)?;
-    let other_step = link_of(alloc, "other", A)?;
-    let mut bundle = Bundle::new(alloc);
-    bundle.add_file(String::from_str(alloc, "build.0.link")?, Vec::new(alloc))?;
-    add(
+    let layout = layout_of(alloc, "build", 1, "\"alice\"", LATER)?;
+    let link = link_of(alloc, "build", ABC)?;
+    let other_step = link_of(alloc, "other", ABC)?;
+    let link = link.as_str();
+    let mut bundle = bundle_of(
         alloc,
-        &mut bundle,
-        "build.carol.link",
-        "carol",
-        link.as_str(),
+        &[
+            ("build.0.link", Signed::Not, ""),
+            ("build.carol.link", Signed::By("carol"), link),
+            ("build.alice.link", Signed::By("alice"), other_step.as_str()),
+            ("build.a.b.link", Signed::By("alice"), link),
+            ("build.link", Signed::By("alice"), link),
+        ],
     )?;
-    add(
-        alloc,
-        &mut bundle,
-        "build.alice.link",
-        "alice",
-        other_step.as_str(),
-    )?;
-    add(alloc, &mut bundle, "build.a.b.link", "alice", link.as_str())?;
-    let none = told(alloc, layout.as_str(), &bundle, EXPIRES, 0)?;
+    let (none, _) = told(alloc, layout.as_str(), &bundle, EXPIRES, 0)?;
     assert_eq!(rt; none.as_str(), "threshold build 0 1");
-    add(alloc, &mut bundle, "build.x.link", "alice", link.as_str())?;
-    add(alloc, &mut bundle, "build.y.link", "alice", link.as_str())?;
-    let one = told(alloc, layout.as_str(), &bundle, EXPIRES, 0)?;
+    add(
+        alloc,
+        &mut bundle,
+        ("build.x.link", Signed::By("alice"), link),
+    )?;
+    add(
+        alloc,
+        &mut bundle,
+        ("build.y.link", Signed::By("alice"), link),
+    )?;
+    let (one, _) = told(alloc, layout.as_str(), &bundle, EXPIRES, 0)?;
     assert_eq!(rt; one.as_str(), "build 1");
     Ok(())
 }
 
-// Alice records by a layout, whose one step bob records by a layout of his own, whose one step carol
-// records by a link.
-fn nested(alloc: Global, expires: &str, innermost: bool) -> Result<Bundle, Fail> {
-    let mut core = Bundle::new(alloc);
-    let link = link_of(alloc, "core", A)?;
-    add(alloc, &mut core, "core.carol.link", "carol", link.as_str())?;
-    let mut inner = Bundle::new(alloc);
-    let of_bob = layout_of(alloc, "core", 1, "\"carol\"", LATER, "")?;
-    add(alloc, &mut inner, "inner.bob.link", "bob", of_bob.as_str())?;
-    if innermost {
-        inner
-            .add_dir(String::from_str(alloc, "inner.bob")?, core)
-            .ok()
-            .ok_or("name taken")?;
+// Nothing of a layout that has expired is looked at, and all records are asked for before any rule is
+// judged.
+#[test]
+fn expires_before_it_counts_and_counts_before_it_judges_rules(rt: HostRuntime) -> Result<(), Fail> {
+    let alloc = rt.alloc();
+    let link = link_of(alloc, "build", ABC)?;
+    let good = ("build.alice.link", Signed::By("alice"), link.as_str());
+    let junk = ("build.alice.link", Signed::Not, "");
+    let more = ("build.alice.link", Signed::By("alice"), TWO_PRODUCTS);
+    let rows = [
+        (BUILD, good, EXPIRES, "build 1", 1),
+        (BUILD, good, EXPIRES + 1, "expired", 0),
+        (BUILD, junk, EXPIRES + 1, "expired", 0),
+        (BUILD, more, EXPIRES, "rule 1 lib", 1),
+        (BUILD_AND_PACK, more, EXPIRES, "threshold pack 0 1", 1),
+    ];
+    for (steps, file, moment, want, tried) in rows {
+        let layout = layout_with(alloc, steps, LATER, "")?;
+        let bundle = bundle_of(alloc, &[file])?;
+        let (words, asked) = told(alloc, layout.as_str(), &bundle, moment, 0)?;
+        assert_eq!(rt; words.as_str(), want, "at {moment}");
+        assert_eq!(rt; asked, tried, "{want} at {moment}");
     }
-    let mut outer = Bundle::new(alloc);
-    let of_alice = layout_of(alloc, "inner", 1, "\"bob\"", expires, "")?;
-    add(
+    Ok(())
+}
+
+// Alice records by a layout, whose one step bob records by a layout of his own, whose one step carol
+// records by a link. Beside alice's layout stands bob's link.
+fn nested(alloc: Global, expires: &str, innermost: bool) -> Result<Bundle, Fail> {
+    let link = link_of(alloc, "core", ABC)?;
+    let core = bundle_of(
         alloc,
-        &mut outer,
-        "build.alice.link",
-        "alice",
-        of_alice.as_str(),
+        &[("core.carol.link", Signed::By("carol"), link.as_str())],
     )?;
-    outer
-        .add_dir(String::from_str(alloc, "build.alice")?, inner)
-        .ok()
-        .ok_or("name taken")?;
+    let of_bob = layout_of(alloc, "core", 1, "\"carol\"", LATER)?;
+    let mut inner = bundle_of(
+        alloc,
+        &[("inner.bob.link", Signed::By("bob"), of_bob.as_str())],
+    )?;
+    if innermost {
+        add_folder(alloc, &mut inner, "inner.bob", core)?;
+    }
+    let of_alice = layout_of(alloc, "inner", 1, "\"bob\"", expires)?;
+    let beside = link_of(alloc, "build", ABC)?;
+    let mut outer = bundle_of(
+        alloc,
+        &[
+            ("build.alice.link", Signed::By("alice"), of_alice.as_str()),
+            ("build.bob.link", Signed::By("bob"), beside.as_str()),
+        ],
+    )?;
+    add_folder(alloc, &mut outer, "build.alice", inner)?;
     Ok(outer)
 }
 
+// A sublayout that fails is not made good by enough other records.
 #[test]
-fn goes_down_into_sublayouts(rt: HostRuntime) -> Result<(), Fail> {
+fn verifies_a_sublayout_in_a_sublayout_down_to_the_depth(rt: HostRuntime) -> Result<(), Fail> {
     let alloc = rt.alloc();
-    let layout = layout_of(alloc, "build", 1, "\"alice\"", LATER, "")?;
-    let whole = nested(alloc, LATER, true)?;
-    let holds = told(alloc, layout.as_str(), &whole, EXPIRES, 2)?;
-    assert_eq!(rt; holds.as_str(), "build 1");
-    let deep = told(alloc, layout.as_str(), &whole, EXPIRES, 1)?;
-    assert_eq!(rt; deep.as_str(), "build/alice inner/bob too deep");
-    let bare = nested(alloc, LATER, false)?;
-    let few = told(alloc, layout.as_str(), &bare, EXPIRES, 2)?;
-    assert_eq!(rt; few.as_str(), "build/alice inner/bob threshold core 0 1");
-    let old = nested(alloc, "2029-12-31T23:59:59Z", true)?;
-    let late = told(alloc, layout.as_str(), &old, EXPIRES, 2)?;
-    assert_eq!(rt; late.as_str(), "build/alice expired");
+    let (one, both) = ("\"alice\"", "\"alice\",\"bob\"");
+    let rows = [
+        (one, LATER, true, 2, "build 1", 3),
+        (one, LATER, true, 1, "build/alice inner/bob too deep", 2),
+        (one, LATER, true, 0, "build/alice too deep", 1),
+        (
+            one,
+            LATER,
+            false,
+            2,
+            "build/alice inner/bob threshold core 0 1",
+            2,
+        ),
+        (one, EARLIER, true, 2, "build/alice expired", 1),
+        (both, EARLIER, true, 2, "build/alice expired", 1),
+        (both, LATER, true, 2, "build 2", 4),
+    ];
+    for (ids, expires, innermost, depth, want, tried) in rows {
+        let layout = layout_of(alloc, "build", 1, ids, LATER)?;
+        let bundle = nested(alloc, expires, innermost)?;
+        let (words, asked) = told(alloc, layout.as_str(), &bundle, EXPIRES, depth)?;
+        assert_eq!(rt; words.as_str(), want, "{ids} at depth {depth}");
+        assert_eq!(rt; asked, tried, "{want} at depth {depth}");
+    }
     Ok(())
 }
 
 #[test]
-fn refuses_inspections_of_sublayouts(rt: HostRuntime) -> Result<(), Fail> {
+fn refuses_inspections_in_a_sublayout_but_first_its_depth(rt: HostRuntime) -> Result<(), Fail> {
     let alloc = rt.alloc();
-    let layout = layout_of(alloc, "build", 1, "\"alice\"", LATER, "")?;
-    let inspected = layout_of(
-        alloc,
-        "inner",
-        1,
-        "\"bob\"",
-        LATER,
-        ",\"inspect\":[{\"name\":\"check\"}]",
-    )?;
-    let mut bundle = Bundle::new(alloc);
-    add(
-        alloc,
-        &mut bundle,
-        "build.alice.link",
-        "alice",
-        inspected.as_str(),
-    )?;
-    let refused = told(alloc, layout.as_str(), &bundle, EXPIRES, 1)?;
-    assert_eq!(rt; refused.as_str(), "build/alice inspection");
-    let deep = told(alloc, layout.as_str(), &bundle, EXPIRES, 0)?;
-    assert_eq!(rt; deep.as_str(), "build/alice too deep");
-    Ok(())
-}
-
-// A bundle with alice's link of `build`.
-fn built(alloc: Global) -> Result<Bundle, Fail> {
-    let link = link_of(alloc, "build", A)?;
-    let mut bundle = Bundle::new(alloc);
-    add(
-        alloc,
-        &mut bundle,
-        "build.alice.link",
-        "alice",
-        link.as_str(),
-    )?;
-    Ok(bundle)
-}
-
-#[test]
-fn judges_rules(rt: HostRuntime) -> Result<(), Fail> {
-    let alloc = rt.alloc();
-    let layout = layout_with(alloc, BUILD)?;
-    let mut bundle = built(alloc)?;
-    let holds = told(alloc, layout.as_str(), &bundle, EXPIRES, 0)?;
-    assert_eq!(rt; holds.as_str(), "build 1");
-    let late = told(alloc, layout.as_str(), &bundle, EXPIRES + 1, 0)?;
-    assert_eq!(rt; late.as_str(), "expired");
-    bundle = Bundle::new(alloc);
-    let more = "{\"_type\":\"link\",\"name\":\"build\",\"products\":{\"app\":{},\"lib\":{}}}";
-    add(alloc, &mut bundle, "build.alice.link", "alice", more)?;
-    let fails = told(alloc, layout.as_str(), &bundle, EXPIRES, 0)?;
-    assert_eq!(rt; fails.as_str(), "rule 1 lib");
-    Ok(())
-}
-
-// All records are asked for before any rule is judged, and nothing of a layout that has expired.
-#[test]
-fn fails_in_order(rt: HostRuntime) -> Result<(), Fail> {
-    let alloc = rt.alloc();
-    let steps = format!(in alloc; "{BUILD},{PACK}")?;
-    let layout = layout_with(alloc, steps.as_str())?;
-    let mut bundle = Bundle::new(alloc);
-    let more = "{\"_type\":\"link\",\"name\":\"build\",\"products\":{\"lib\":{}}}";
-    add(alloc, &mut bundle, "build.alice.link", "alice", more)?;
-    let few = told(alloc, layout.as_str(), &bundle, EXPIRES, 0)?;
-    assert_eq!(rt; few.as_str(), "threshold pack 0 1");
-    let mut junk = Bundle::new(alloc);
-    junk.add_file(
-        String::from_str(alloc, "build.alice.link")?,
-        Vec::new(alloc),
-    )?;
-    let late = told(alloc, layout.as_str(), &junk, EXPIRES + 1, 0)?;
-    assert_eq!(rt; late.as_str(), "expired");
-    Ok(())
-}
-
-#[test]
-fn takes_no_hint_as_proof(rt: HostRuntime) -> Result<(), Fail> {
-    let alloc = rt.alloc();
-    let layout = layout_with(alloc, BUILD)?;
-    let link = link_of(alloc, "build", A)?;
-    let of_bob = signed(alloc, "bob", link.as_str())?;
-    let claimed = hinted(alloc, of_bob, "alice")?;
-    let mut bundle = Bundle::new(alloc);
-    put(alloc, &mut bundle, "build.alice.link", &claimed)?;
-    let few = told(alloc, layout.as_str(), &bundle, EXPIRES, 0)?;
-    assert_eq!(rt; few.as_str(), "threshold build 0 1");
-    Ok(())
-}
-
-#[test]
-fn passes_over_a_spoilt_signature(rt: HostRuntime) -> Result<(), Fail> {
-    let alloc = rt.alloc();
-    let layout = layout_of(alloc, "build", 2, "\"alice\",\"bob\"", LATER, "")?;
-    let link = link_of(alloc, "build", A)?;
-    let of_alice = signed(alloc, "alice", link.as_str())?;
-    let of_bob = signed(alloc, "bob", link.as_str())?;
-    let mut bundle = Bundle::new(alloc);
-    put(alloc, &mut bundle, "build.alice.link", &of_alice)?;
-    put(alloc, &mut bundle, "build.copy.link", &of_alice)?;
-    let bad = spoilt(alloc, signed(alloc, "bob", link.as_str())?)?;
-    put(alloc, &mut bundle, "build.bob.link", &bad)?;
-    let few = told(alloc, layout.as_str(), &bundle, EXPIRES, 0)?;
-    assert_eq!(rt; few.as_str(), "threshold build 1 2");
-    put(alloc, &mut bundle, "build.true.link", &of_bob)?;
-    let enough = told(alloc, layout.as_str(), &bundle, EXPIRES, 0)?;
-    assert_eq!(rt; enough.as_str(), "build 2");
+    let layout = layout_with(alloc, BUILD, LATER, "")?;
+    let inspected = layout_with(alloc, "", LATER, ",\"inspect\":[{\"name\":\"check\"}]")?;
+    let record = ("build.alice.link", Signed::By("alice"), inspected.as_str());
+    let bundle = bundle_of(alloc, &[record])?;
+    for (depth, want) in [(1, "build/alice inspection"), (0, "build/alice too deep")] {
+        let (words, asked) = told(alloc, layout.as_str(), &bundle, EXPIRES, depth)?;
+        assert_eq!(rt; words.as_str(), want);
+        assert_eq!(rt; asked, 1, "{want}");
+    }
     Ok(())
 }
 
 // A link under so many layouts, each of which alice records by the next.
 fn nested_by_alice(alloc: Global, layouts: u8) -> Result<Bundle, Fail> {
-    let layout = layout_of(alloc, "build", 1, "\"alice\"", LATER, "")?;
-    let mut bundle = built(alloc)?;
+    let layout = layout_of(alloc, "build", 1, "\"alice\"", LATER)?;
+    let link = link_of(alloc, "build", ABC)?;
+    let name = "build.alice.link";
+    let mut bundle = bundle_of(alloc, &[(name, Signed::By("alice"), link.as_str())])?;
     for _ in 0..layouts {
-        let mut outer = Bundle::new(alloc);
-        add(
-            alloc,
-            &mut outer,
-            "build.alice.link",
-            "alice",
-            layout.as_str(),
-        )?;
-        outer
-            .add_dir(String::from_str(alloc, "build.alice")?, bundle)
-            .ok()
-            .ok_or("name taken")?;
+        let mut outer = bundle_of(alloc, &[(name, Signed::By("alice"), layout.as_str())])?;
+        add_folder(alloc, &mut outer, "build.alice", bundle)?;
         bundle = outer;
     }
     Ok(bundle)
 }
 
 #[test]
-fn goes_down_eight_sublayouts(rt: HostRuntime) -> Result<(), Fail> {
+fn goes_down_eight_sublayouts_and_not_nine(rt: HostRuntime) -> Result<(), Fail> {
     let alloc = rt.alloc();
-    let layout = layout_of(alloc, "build", 1, "\"alice\"", LATER, "")?;
-    let eight = nested_by_alice(alloc, 8)?;
-    let holds = told(alloc, layout.as_str(), &eight, EXPIRES, 8)?;
-    assert_eq!(rt; holds.as_str(), "build 1");
-    let nine = nested_by_alice(alloc, 9)?;
-    let deep = told(alloc, layout.as_str(), &nine, EXPIRES, 8)?;
-    assert_eq!(rt;
-        deep.as_str(),
-        "build/alice build/alice build/alice build/alice build/alice build/alice build/alice build/alice build/alice too deep"
-    );
+    let layout = layout_of(alloc, "build", 1, "\"alice\"", LATER)?;
+    let rows = [
+        (8, "build 1"),
+        (
+            9,
+            "build/alice build/alice build/alice build/alice build/alice build/alice build/alice build/alice build/alice too deep",
+        ),
+    ];
+    for (layouts, want) in rows {
+        let bundle = nested_by_alice(alloc, layouts)?;
+        let (words, asked) = told(alloc, layout.as_str(), &bundle, EXPIRES, 8)?;
+        assert_eq!(rt; words.as_str(), want);
+        assert_eq!(rt; asked, 9, "{want}");
+    }
     Ok(())
 }
 
-// Ids with the same first eight characters have one folder.
+// Both ids sign the same layout, which is verified for each.
 #[test]
-fn shares_a_folder(rt: HostRuntime) -> Result<(), Fail> {
+fn ids_that_begin_alike_share_the_folder_of_a_sublayout(rt: HostRuntime) -> Result<(), Fail> {
     let alloc = rt.alloc();
-    let layout = layout_of(alloc, "build", 2, "\"12345678a\",\"12345678b\"", LATER, "")?;
-    let inner = layout_of(alloc, "core", 1, "\"carol\"", LATER, "")?;
-    let link = link_of(alloc, "core", A)?;
-    let mut core = Bundle::new(alloc);
-    add(alloc, &mut core, "core.carol.link", "carol", link.as_str())?;
-    let mut bundle = Bundle::new(alloc);
-    add(
+    let layout = layout_of(alloc, "build", 2, "\"12345678a\",\"12345678b\"", LATER)?;
+    let inner = layout_of(alloc, "core", 1, "\"carol\"", LATER)?;
+    let link = link_of(alloc, "core", ABC)?;
+    let mut bundle = bundle_of(
         alloc,
-        &mut bundle,
-        "build.a.link",
-        "12345678a",
-        inner.as_str(),
+        &[
+            ("build.a.link", Signed::By("12345678a"), inner.as_str()),
+            ("build.b.link", Signed::By("12345678b"), inner.as_str()),
+        ],
     )?;
-    add(
+    let core = bundle_of(
         alloc,
-        &mut bundle,
-        "build.b.link",
-        "12345678b",
-        inner.as_str(),
+        &[("core.carol.link", Signed::By("carol"), link.as_str())],
     )?;
-    bundle
-        .add_dir(String::from_str(alloc, "build.12345678")?, core)
-        .ok()
-        .ok_or("name taken")?;
-    let holds = told(alloc, layout.as_str(), &bundle, EXPIRES, 1)?;
-    assert_eq!(rt; holds.as_str(), "build 2");
+    add_folder(alloc, &mut bundle, "build.12345678", core)?;
+    let (words, asked) = told(alloc, layout.as_str(), &bundle, EXPIRES, 1)?;
+    assert_eq!(rt; words.as_str(), "build 2");
+    assert_eq!(rt; asked, 4);
     Ok(())
 }
 
 #[test]
-fn comes_to_nothing_without_steps(rt: HostRuntime) -> Result<(), Fail> {
+fn a_sublayout_without_steps_comes_to_two_empty_maps(rt: HostRuntime) -> Result<(), Fail> {
     let alloc = rt.alloc();
-    let layout = layout_with(alloc, BUILD)?;
-    let bare = layout_with(alloc, "")?;
-    let mut bundle = Bundle::new(alloc);
-    add(
-        alloc,
-        &mut bundle,
-        "build.alice.link",
-        "alice",
-        bare.as_str(),
-    )?;
-    let Ok(chain) = verified(alloc, layout.as_str(), &bundle, EXPIRES, 1)? else {
+    let layout = layout_with(alloc, BUILD, LATER, "")?;
+    let bare = layout_with(alloc, "", LATER, "")?;
+    let record = ("build.alice.link", Signed::By("alice"), bare.as_str());
+    let bundle = bundle_of(alloc, &[record])?;
+    let (Ok(chain), _) = verified(alloc, layout.as_str(), &bundle, EXPIRES, 1)? else {
         return Err(Fail::from("no chain"));
     };
     let record = chain.steps.as_slice().first().ok_or("no step")?;
     assert!(rt; record.materials.is_empty());
     assert!(rt; record.products.is_empty());
-    Ok(())
-}
-
-// A sublayout that fails is not made good by enough other records.
-#[test]
-fn fails_beside_a_good_link(rt: HostRuntime) -> Result<(), Fail> {
-    let alloc = rt.alloc();
-    let layout = layout_of(alloc, "build", 1, "\"alice\",\"bob\"", LATER, "")?;
-    let link = link_of(alloc, "build", A)?;
-    let mut bundle = nested(alloc, "2029-12-31T23:59:59Z", true)?;
-    add(alloc, &mut bundle, "build.bob.link", "bob", link.as_str())?;
-    let late = told(alloc, layout.as_str(), &bundle, EXPIRES, 2)?;
-    assert_eq!(rt; late.as_str(), "build/alice expired");
     Ok(())
 }

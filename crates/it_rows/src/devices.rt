@@ -38,6 +38,17 @@ pub fn nested(alloc: Global, levels: usize) -> Result<String, AllocError> {
     Ok(text)
 }
 
+/// The text of an envelope with the first byte of its first signature changed; without a signature, as
+/// it is.
+pub fn with_changed_code(alloc: Global, envelope: &str) -> Result<String, AllocError> {
+    let Some((front, code)) = envelope.split_once("\"sig\":\"") else {
+        return String::from_str(alloc, envelope);
+    };
+    let (first, rest) = code.split_at_checked(1).unwrap_or(("", code));
+    let other = if first == "A" { "B" } else { "A" };
+    format!(in alloc; "{front}\"sig\":\"{other}{rest}")
+}
+
 /// The map with these entries.
 pub fn map_of(alloc: Global, entries: &[(&str, DigestSet)]) -> Result<Artifacts, AllocError> {
     let mut map = Artifacts::new(alloc);

@@ -22,6 +22,7 @@ fn digest(text: &str) -> Result<[u8; 32], FromHexError> {
 fn sha256(text: &str) -> Result<DigestSet, FromHexError> {
     Ok(DigestSet {
         sha256: Some(digest(text)?),
+        sha384: None,
         sha512: None,
     })
 }
@@ -29,6 +30,7 @@ fn sha256(text: &str) -> Result<DigestSet, FromHexError> {
 fn with_sha512(set: DigestSet) -> Result<DigestSet, FromHexError> {
     Ok(DigestSet {
         sha256: set.sha256,
+        sha384: set.sha384,
         sha512: Some(<[u8; 64] as FromHex>::from_hex(LONG_ABC)?),
     })
 }
@@ -42,9 +44,10 @@ fn all_with(alloc: Global, paths: &[&str], digests: DigestSet) -> Result<Artifac
 }
 
 #[test]
-fn compares_digest_sets(rt: HostRuntime) -> Result<(), Fail> {
+fn differs_if_one_algorithm_does_and_agrees_if_one_does(rt: HostRuntime) -> Result<(), Fail> {
     let none = DigestSet {
         sha256: None,
+        sha384: None,
         sha512: None,
     };
     let abc = sha256(ABC)?;
@@ -52,6 +55,7 @@ fn compares_digest_sets(rt: HostRuntime) -> Result<(), Fail> {
     let abc_twice = with_sha512(abc)?;
     let long_alone = DigestSet {
         sha256: None,
+        sha384: None,
         sha512: abc_twice.sha512,
     };
     let mixed = with_sha512(nothing)?;
@@ -117,7 +121,7 @@ fn same_maps_are_equal(rt: HostRuntime) -> Result<(), Fail> {
 }
 
 #[test]
-fn digests_what_a_reader_gives(rt: HostRuntime) -> Result<(), Fail> {
+fn digests_what_a_reader_gives_up_to_a_limit(rt: HostRuntime) -> Result<(), Fail> {
     let mut abc: &[u8] = b"abc";
     assert_eq!(rt; sha256_of_reader(&mut abc, 3), Ok(digest(ABC)?));
     let mut abc: &[u8] = b"abc";
@@ -173,7 +177,7 @@ fn list(alloc: Global, parts: &[&[u8]]) -> Result<Vec<u8>, AllocError> {
 }
 
 #[test]
-fn reads_digest_lists(rt: HostRuntime) -> Result<(), Fail> {
+fn reads_lists_of_text_and_binary_lines(rt: HostRuntime) -> Result<(), Fail> {
     let alloc = rt.alloc();
     let abc = ABC.as_bytes();
     let upper = UPPER_CASE_ABC.as_bytes();
@@ -202,7 +206,7 @@ fn reads_digest_lists(rt: HostRuntime) -> Result<(), Fail> {
 }
 
 #[test]
-fn names_the_first_bad_line(rt: HostRuntime) -> Result<(), Fail> {
+fn names_the_first_bad_line_of_a_list(rt: HostRuntime) -> Result<(), Fail> {
     let alloc = rt.alloc();
     let abc = ABC.as_bytes();
     let short = &abc[..63];

@@ -1,7 +1,6 @@
-use crate::devices::{ABC, NOTHING, nested, text};
+use crate::devices::{ABC, NOTHING, strings};
 use it_base::document::read_document;
 use it_base::parts::FromDocument;
-use it_base::text::Text;
 use it_docs::layout_fault::{LayoutFault, LayoutPart};
 use it_docs::layout_reading::read_layout;
 use it_docs::link::read_link;
@@ -15,14 +14,6 @@ use std::alloc::{AllocError, Global};
 use std::test::Fail;
 
 const K: &str = "{\"keytype\":\"hmac\",\"scheme\":\"hmac-sha256\",\"keyval\":{\"public\":\"p\"}}";
-
-fn texts(alloc: Global, words: &[&str]) -> Result<Vec<Text>, AllocError> {
-    let mut texts = Vec::new(alloc);
-    for word in words {
-        texts.push(text(alloc, word)?)?;
-    }
-    Ok(texts)
-}
 
 fn rule_text(alloc: Global, rule: &Rule) -> Result<String, AllocError> {
     match rule {
@@ -55,14 +46,14 @@ fn rule_text(alloc: Global, rule: &Rule) -> Result<String, AllocError> {
 }
 
 fn read_words(alloc: Global, words: &[&str]) -> Result<String, AllocError> {
-    match read_rule(alloc, texts(alloc, words)?.as_slice())? {
+    match read_rule(alloc, &strings(alloc, words)?)? {
         None => String::from_str(alloc, "none"),
         Some(rule) => rule_text(alloc, &rule),
     }
 }
 
 #[test]
-fn reads_moments(rt: HostRuntime) {
+fn reads_moments_that_exist_and_no_leap_second(rt: HostRuntime) {
     let rows = [
         ("1970-01-02T00:00:01Z", Some(86_401)),
         ("2030-01-01T00:00:00Z", Some(1_893_456_000)),
@@ -196,7 +187,7 @@ fn layout_part(alloc: Global, text: &str) -> Result<String, AllocError> {
 }
 
 #[test]
-fn reads_a_layout(rt: HostRuntime) -> Result<(), Fail> {
+fn reads_a_layout_with_a_missing_threshold_as_one(rt: HostRuntime) -> Result<(), Fail> {
     let alloc = rt.alloc();
     let step = step_text(alloc, "build", "null")?;
     let steps = format!(in alloc; "[{}]", step.as_str())?;
@@ -289,21 +280,6 @@ fn names_the_first_bad_part_of_a_layout(rt: HostRuntime) -> Result<(), Fail> {
     Ok(())
 }
 
-fn nested_layout(alloc: Global, levels: usize) -> Result<String, AllocError> {
-    let rest = format!(in alloc; ",\"readme\":{}", nested(alloc, levels)?.as_str())?;
-    layout_text(alloc, FRONT, "[]", rest.as_str())
-}
-
-#[test]
-fn reads_nested_documents(rt: HostRuntime) -> Result<(), Fail> {
-    let alloc = rt.alloc();
-    let deep = nested_layout(alloc, 126)?;
-    assert_eq!(rt; layout_part(alloc, deep.as_str())?.as_str(), "none");
-    let deeper = nested_layout(alloc, 127)?;
-    assert_eq!(rt; layout_part(alloc, deeper.as_str())?.as_str(), "json");
-    Ok(())
-}
-
 fn link_text(alloc: Global, materials: &str, products: &str) -> Result<String, AllocError> {
     format!(in alloc;
         "{{\"_type\":\"link\",\"name\":\"build\",\"materials\":{materials},
@@ -312,7 +288,7 @@ fn link_text(alloc: Global, materials: &str, products: &str) -> Result<String, A
 }
 
 #[test]
-fn reads_links(rt: HostRuntime) -> Result<(), Fail> {
+fn reads_links_over_further_algorithms_but_no_bad_digest(rt: HostRuntime) -> Result<(), Fail> {
     let alloc = rt.alloc();
     let materials = format!(in alloc;
         "{{\"src/a\":{{\"sha256\":\"{NOTHING}\",\"md5\":7}},\"x\":null}}"

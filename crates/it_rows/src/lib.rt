@@ -21,3 +21,7 @@ mod pattern_tests;
 mod provenance_tests;
 #[cfg(test)]
 mod rules_tests;
+#[cfg(test)]
+mod sha384_tests;
+#[cfg(test)]
+mod trees_tests;

@@ -101,7 +101,9 @@ fn reads_sets(rt: HostRuntime) -> Result<(), Fail> {
 }
 
 #[test]
-fn counts_steps(rt: HostRuntime) -> Result<(), Fail> {
+fn counts_few_steps_for_many_stars_and_one_for_each_character_compared(
+    rt: HostRuntime,
+) -> Result<(), Fail> {
     let alloc = rt.alloc();
     let stars = repeated(alloc, "*a", 20)?;
     let stars = format!(in alloc; "{}*b", stars.as_str())?;

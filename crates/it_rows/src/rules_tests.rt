@@ -1,14 +1,17 @@
 ghost use Rattle.std.specs.Prelude.{◌<◌};
 
 mod by_definition;
+mod by_queue;
 
 use crate::devices::{map_of, text};
 use by_definition::first_fault;
+use by_queue::first_fault as first_fault_by_queue;
 use it_digest::artifacts::Artifacts;
 use it_digest::compare::DigestSet;
 use it_docs::rule::{Rule, Side};
 use it_glob::Pattern;
 use it_rules::item::{Item, Named};
+use it_rules::ranges::front_range;
 use it_rules::rules::{RuleFault, run_rules};
 use std::alloc::{AllocError, Global};
 use std::test::Fail;
@@ -23,6 +26,7 @@ const LONG: [u8; 64] = [3; 64];
 fn one() -> DigestSet {
     DigestSet {
         sha256: Some(ONE),
+        sha384: None,
         sha512: None,
     }
 }
@@ -30,6 +34,7 @@ fn one() -> DigestSet {
 fn other() -> DigestSet {
     DigestSet {
         sha256: Some(OTHER),
+        sha384: None,
         sha512: None,
     }
 }
@@ -37,6 +42,7 @@ fn other() -> DigestSet {
 fn long() -> DigestSet {
     DigestSet {
         sha256: None,
+        sha384: None,
         sha512: Some(LONG),
     }
 }
@@ -44,6 +50,7 @@ fn long() -> DigestSet {
 fn both() -> DigestSet {
     DigestSet {
         sha256: Some(ONE),
+        sha384: None,
         sha512: Some(LONG),
     }
 }
@@ -51,6 +58,7 @@ fn both() -> DigestSet {
 fn empty() -> DigestSet {
     DigestSet {
         sha256: None,
+        sha384: None,
         sha512: None,
     }
 }
@@ -153,7 +161,7 @@ fn links(
 }
 
 #[test]
-fn sees_what_is_unconsumed(rt: HostRuntime) -> Result<(), Fail> {
+fn requires_and_disallows_what_is_still_unconsumed(rt: HostRuntime) -> Result<(), Fail> {
     let alloc = rt.alloc();
     let rules = [allow(alloc, "a")?, require(alloc, "a")?];
     assert!(rt; delivers(alloc, &["a"], &rules, Some((1, "a")))?);
@@ -210,7 +218,7 @@ fn delivers_without_materials(rt: HostRuntime) -> Result<(), Fail> {
 }
 
 #[test]
-fn modifies_what_differs(rt: HostRuntime) -> Result<(), Fail> {
+fn modifies_only_where_digests_differ(rt: HostRuntime) -> Result<(), Fail> {
     let alloc = rt.alloc();
     let rules = [modify(alloc, "*")?, disallow(alloc, "*")?];
     let rows = [
@@ -321,7 +329,7 @@ fn matches_in_folders(rt: HostRuntime) -> Result<(), Fail> {
 }
 
 #[test]
-fn matches_one_of_two_folders(rt: HostRuntime) -> Result<(), Fail> {
+fn matches_in_a_folder_and_not_in_one_that_begins_alike(rt: HostRuntime) -> Result<(), Fail> {
     let alloc = rt.alloc();
     let rules = [
         match_rule(alloc, "*", "src", Side::Products, "out", "build")?,
@@ -333,6 +341,37 @@ fn matches_one_of_two_folders(rt: HostRuntime) -> Result<(), Fail> {
     let unlike = [("out/a", other())];
     assert!(rt; links(alloc, &products, &unlike, &rules, Some((1, "src/a")))?);
     Ok(())
+}
+
+#[test]
+fn looks_only_at_paths_that_begin_with_the_front(rt: HostRuntime) -> Result<(), Fail> {
+    let alloc = rt.alloc();
+    let rules = [allow(alloc, "a/*")?, disallow(alloc, "a*")?];
+    let products = ["b", "a0", "a/b", "a"];
+    assert!(rt; delivers(alloc, &products, &rules, Some((1, "a")))?);
+    let rules = [allow(alloc, "é*")?, disallow(alloc, "*")?];
+    assert!(rt; delivers(alloc, &["é", "éa", "ê"], &rules, Some((1, "ê")))?);
+    let rules = [disallow(alloc, "[b]")?];
+    assert!(rt; delivers(alloc, &["a", "b"], &rules, Some((0, "b")))?);
+    let rules = [
+        match_rule(alloc, "*", "src", Side::Products, "", "build")?,
+        disallow(alloc, "*")?,
+    ];
+    let same = [("src", one())];
+    assert!(rt; links(alloc, &same, &same, &rules, Some((1, "src")))?);
+    Ok(())
+}
+
+#[test]
+fn finds_the_range_of_a_front(rt: HostRuntime) {
+    let paths = ["a", "a/b", "a0", "b"];
+    assert!(rt; front_range(&paths, "a/") == (1, 2));
+    assert!(rt; front_range(&paths, "a") == (0, 3));
+    assert!(rt; front_range(&paths, "") == (0, 4));
+    assert!(rt; front_range(&paths, "b") == (3, 4));
+    assert!(rt; front_range(&paths, "a/b/") == (2, 2));
+    assert!(rt; front_range(&paths, "c") == (4, 4));
+    assert!(rt; front_range(&[], "a") == (0, 0));
 }
 
 /// Numbers that look thrown, the same in each run.
@@ -419,8 +458,8 @@ const NAMES: [&str; 8] = [
     "build", "build", "build", "test", "test", "test", "gone", "",
 ];
 
-/// Whether the run and the definitions answer alike on one generated case. The first number
-/// counts faults, the second cases without one.
+/// Whether the run, the definitions and the run by a queue answer alike on one generated case. The
+/// first number counts faults, the second cases without one.
 fn answers_alike(alloc: Global, seed: u64, counts: &mut (u64, u64)) -> Result<bool, AllocError> {
     let mut dice = Dice { state: seed };
     let materials = dice.artifacts(alloc)?;
@@ -457,15 +496,20 @@ fn answers_alike(alloc: Global, seed: u64, counts: &mut (u64, u64)) -> Result<bo
         Some(_) => counts.0 = counts.0.saturating_add(1),
         None => counts.1 = counts.1.saturating_add(1),
     }
-    let want = match &want {
+    let queued = first_fault_by_queue(alloc, side, rules.as_slice(), &item, &links)?;
+    Ok(is_as_wanted(&found, lent(&want)) && is_as_wanted(&found, lent(&queued)))
+}
+
+/// A fault with its path lent.
+fn lent(fault: &Option<(usize, String)>) -> Option<(usize, &str)> {
+    match fault {
         Some((index, path)) => Some((*index, path.as_str())),
         None => None,
-    };
-    Ok(is_as_wanted(&found, want))
+    }
 }
 
 #[test]
-fn answers_by_the_definitions(rt: HostRuntime) -> Result<(), Fail> {
+fn answers_as_the_definitions_and_the_run_by_a_queue(rt: HostRuntime) -> Result<(), Fail> {
     let mut counts = (0, 0);
     for seed in 0..600 {
         assert!(rt;

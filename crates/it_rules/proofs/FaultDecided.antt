@@ -1,6 +1,5 @@
 -- Which rule is the first to fail, as an answer. The paths that are free are those of a map.
-use Rattle.std.proofs.Common.{◌≡◌, ◌≢◌, ◌↔◌, inl, inr, ℕ, ◌+◌, ◌<◌, List, [], ◌∷◌, length, map, drop, get_or, Bool, true, false, ◌&&◌, T, not, cond, Option, Some, None, MatchOption, find, is_some, Decides, IsTrue, Ordering, Less, Greater, nat_cmp, true≢false, arith, refl, sym, ap, subst, ◌∙◌}
-use Rattle.std.specs.Cmp.Lexicographic.{slice_cmp}
+use Rattle.std.proofs.Common.{◌≡◌, ◌≢◌, ◌↔◌, inl, inr, ℕ, ◌+◌, ◌<◌, List, [], ◌∷◌, length, map, drop, get_or, Bool, true, false, ◌&&◌, T, not, cond, Option, Some, None, MatchOption, find, is_some, Decides, IsTrue, Less, Greater, true≢false, arith, refl, sym, ap, subst, ◌∙◌}
 use Rattle.std.specs.FinMap.{contains_key, contains_key-keys, entries, entries_sorted, get, get-retain_keys, is_sorted, keys, retain_keys, nat_cmp-IsAntisymmetric, slice_cmp-IsAntisymmetric}
 use Rattle.std.specs.FinMap.Entries.{below_all}
 use Rattle.std.specs.List.{list_any, slice_get}
@@ -19,11 +18,8 @@ use Rattle.it_docs.specs.declared.rule.Side.{Side}
 use Rattle.it_rules.specs.Item.{Recorded, Links, artifacts_on}
 use Rattle.it_rules.specs.Rules.{Claims, FailsWith, HoldsOver, IsFirstFault, IsMatch, RulesHold, Stands}
 use Rattle.it_rules.proofs.ClaimsDecided.{is_claim, is_claim-Decides}
-use Rattle.it_rules.proofs.Queued.{same_path, same_self}
+use Rattle.it_rules.proofs.PathOrder.{path_cmp, same_path, same_self}
 use Rattle.it_rules.proofs.Running.{Running, all_run, fault_of as first_fault, one_more}
-
-abbrev path_cmp : List ℕ → List ℕ → Ordering
-path_cmp = slice_cmp nat_cmp
 
 -- the path with which a rule fails over the free paths, if it fails
 abbrev failing_path : Rule → ArtifactMap → Option (List ℕ)

@@ -1,8 +1,11 @@
 pub mod Claimed
 pub mod ClaimsDecided
-pub mod Consuming
 pub mod FaultDecided
+pub mod Fronts
+pub mod LentPaths
 pub mod Listed
-pub mod Queued
+pub mod Marking
+pub mod PathOrder
+pub mod Reached
 pub mod Running
 pub mod Searching

@@ -8,6 +8,10 @@ use Rattle.std.proofs.lemmas.Option.{slice_get-get_or, slice_get_past, slice_get
 pub slice_get_within : {X : Type 0} (xs : List X) (i : ℕ) (x : X) → slice_get xs i ≡ Some x → i < length xs
 slice_get_within xs i x e = elim (cases_lt i (length xs)) [ inl l ↦ l | inr g ↦ absurd (let past = slice_get_past xs i g in cc (past, e)) ]
 
+-- one place has one element
+pub same_place : {X : Type 0} (xs : List X) {i j : ℕ} {x y : X} → slice_get xs i ≡ Some x → slice_get xs j ≡ Some y → i ≡ j → x ≡ y
+same_place xs here there same = let e = ap (slice_get xs) same in cc
+
 -- an element stands at some place
 pub place_of : {X : Type 0} (xs : List X) (x : X) → Contains xs x → (i : ℕ) × (slice_get xs i ≡ Some x)
 place_of xs x (i, l, e) = (i, slice_get-get_or xs i x l ∙ ap Some e)

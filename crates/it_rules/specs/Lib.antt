@@ -1,4 +1,5 @@
 pub mod FolderPrefix
 pub mod Item
-pub mod Queue
+pub mod Marks
+pub mod Ranges
 pub mod Rules

@@ -5,5 +5,7 @@
 mod claims;
 mod folder_prefix;
 pub mod item;
-mod queue;
+mod marks;
+pub mod ranges;
+mod reach;
 pub mod rules;

@@ -1,15 +1,14 @@
 //! The run of a list of rules.
-ghost use Rattle.std.specs.Prelude.{◌≡◌, ◌↔◌, IfOk, IfSome, IsNone, IsTrue, MatchOption};
+ghost use Rattle.std.specs.Prelude.{◌≡◌, ◌↔◌, length, IfOk, IfSome, IsNone, MatchOption};
 ghost use Rattle.it_rules.specs.Item.{links_of, recorded_of};
-ghost use Rattle.it_rules.specs.Queue.{is_queued};
+ghost use Rattle.it_rules.specs.Marks.{ArePaths, IsLeft};
 ghost use Rattle.it_rules.specs.Rules.{FailsWith, HoldsOver, IsFirstFault, NamesDiffer, RulesHold};
 
 use crate::item::{Item, Named};
-use crate::queue::{consume, contains, least_match, queue_of};
+use crate::marks::{consume, is_left, least_match, paths_of};
 use it_base::text::Text;
 use it_docs::rule::{Rule, Side};
 use std::alloc::{AllocError, Global};
-use std::collections::BTreeSet;
 
 /// The first rule of a list that fails.
 #[derive(Drop)]
@@ -46,37 +45,42 @@ pub fn run_rules(
         IsFirstFault rules.now side (recorded_of item.now) (links_of links.now)
         fault.index fault.path)) }
 {
-    let mut queue = queue_of(alloc, item.artifacts_on(side))?;
+    let paths = paths_of(alloc, item.artifacts_on(side))?;
+    let mut marks = vec![in alloc; false; paths.len()]?;
     for (index, rule) in rules.iter().enumerate() {
-        if let Some(path) = failing_path(rule, &queue) {
+        if let Some(path) = failing_path(rule, &paths, &marks) {
             let path = Text::from(String::from_str(alloc, path)?);
             return Ok(Some(RuleFault { index, path }));
         }
-        queue = consume(alloc, &queue, rule, side, item, links)?;
+        consume(alloc, &paths, &mut marks, rule, side, item, links)?;
     }
     Ok(None)
 }
 
-/// The path with which a rule fails over the queue, if it does.
-fn failing_path<'a>(rule: &'a Rule, queue: &BTreeSet<&'a str>) -> Option<&'a str>
-    ensures { MatchOption result (HoldsOver rule.now (λ p. IsTrue (is_queued queue.now p)))
-        (λ path. (¬ HoldsOver rule.now (λ p. IsTrue (is_queued queue.now p)))
-        × FailsWith rule.now (λ p. IsTrue (is_queued queue.now p)) path.now) }
+/// The path with which a rule fails over the paths without a mark, if it does.
+fn failing_path<'a>(rule: &'a Rule, paths: &[&'a str], marks: &[bool]) -> Option<&'a str>
+    requires paths { ArePaths paths.now }
+    requires marks { length marks.now ≡ length paths.now }
+    ensures { MatchOption result (HoldsOver rule.now (IsLeft paths.now marks.now))
+        (λ path. (¬ HoldsOver rule.now (IsLeft paths.now marks.now))
+        × FailsWith rule.now (IsLeft paths.now marks.now) path.now) }
 {
     match rule {
-        Rule::Disallow(pattern) => least_match(queue, pattern),
-        Rule::Require(path) => missing(queue, path.as_str()),
+        Rule::Disallow(pattern) => least_match(paths, marks, pattern),
+        Rule::Require(path) => missing(paths, marks, path.as_str()),
         Rule::Match { .. } | Rule::Create(_) | Rule::Delete(_) | Rule::Modify(_) | Rule::Allow(_) =>
             None,
     }
 }
 
-/// The path, where it does not stand in the queue.
-fn missing<'a>(queue: &BTreeSet<&'a str>, path: &'a str) -> Option<&'a str>
-    ensures { MatchOption result (IsTrue (is_queued queue.now path.now))
-        (λ absent. (absent.now ≡ path.now) × ¬ IsTrue (is_queued queue.now path.now)) }
+/// The path, where it does not stand among the paths without a mark.
+fn missing<'a>(paths: &[&'a str], marks: &[bool], path: &'a str) -> Option<&'a str>
+    requires paths { ArePaths paths.now }
+    requires marks { length marks.now ≡ length paths.now }
+    ensures { MatchOption result (IsLeft paths.now marks.now path.now)
+        (λ absent. (absent.now ≡ path.now) × ¬ IsLeft paths.now marks.now path.now) }
 {
-    if contains(queue, path) {
+    if is_left(paths, marks, path) {
         None
     } else {
         Some(path)

@@ -3,6 +3,7 @@ use Rattle.std.proofs.Common.{◌↔◌, ℕ, List, ◌∷◌, Contains, inl, in
 use Rattle.std.specs.FinMap.{entries}
 use Rattle.std.proofs.lemmas.List.Elements.{Contains-append_right}
 use Rattle.it_base.proofs.Members.{in_head}
+use Rattle.it_base.proofs.Firsts.{first_alike}
 use Rattle.it_digest.specs.declared.compare.DigestSet.{DigestSet}
 use Rattle.it_dsse.specs.Check.{Check}
 use Rattle.it_dsse.specs.declared.envelope.Envelope.{Envelope}
@@ -28,7 +29,6 @@ use Rattle.it_verify.specs.declared.refusal.Refusal.{Refusal}
 use Rattle.it_verify.specs.declared.verdict.Verdict.{Verdict}
 use Rattle.it_verify.specs.declared.verdict.Verdict.TheVariants.{Accepted, Refused}
 use Rattle.it_verify.proofs.Counterparts.{Carried, Share, at_each, recorded_there, reread, share_back, share_of, with_envelope}
-use Rattle.it_verify.proofs.FirstOrAll.{first_alike}
 
 alike_share : (check : Check) (a b : Inputs) → Alike check a b → Share check a b
 alike_share = share_of ChainAlike (λ here there. here ↔ there)

@@ -3,6 +3,7 @@
 use Rattle.std.proofs.Common.{◌≡◌, ◌↔◌, ℕ, List, Contains, Some, inl, inr, refl, sym, ap, subst, ◌∙◌, ⊎_elim}
 use Rattle.std.specs.Prelude.{⊤}
 use Rattle.std.specs.FinMap.{empty, entries, get}
+use Rattle.it_base.proofs.Firsts.{first_alike}
 use Rattle.it_digest.specs.Sums.{IsFirstBadLine, SumsOf}
 use Rattle.it_dsse.specs.Check.{Check}
 use Rattle.it_dsse.specs.Envelope.{EnvelopeOf}
@@ -27,7 +28,6 @@ use Rattle.it_verify.specs.First.{Place, at_policy, at_sums, at_moment, at_files
 use Rattle.it_verify.specs.Made.{HasRecorded}
 use Rattle.it_verify.specs.declared.inputs.Inputs.{Inputs}
 use Rattle.it_verify.specs.declared.refusal.Refusal.{Refusal}
-use Rattle.it_verify.proofs.FirstOrAll.{first_alike}
 
 -- inputs that compare, whatever their links and their provenance
 abbrev pub Share : Check → Inputs → Inputs → Type 0

@@ -5,6 +5,7 @@ use Rattle.std.specs.Str.{bytes_eq}
 use Rattle.std.proofs.lemmas.Slice.Eq.{bytes_eq-Decides}
 use Rattle.it_base.specs.Finds.{Finds}
 use Rattle.it_base.proofs.Settled.{settled_by}
+use Rattle.it_base.proofs.Firsts.{first_or_all}
 use Rattle.it_digest.specs.Artifacts.{ArtifactMap}
 use Rattle.it_digest.specs.Sums.{IsFirstBadLine, SumsOf}
 use Rattle.it_digest.proofs.Decided.{is_same_map, is_same_map-Decides}
@@ -34,7 +35,6 @@ use Rattle.it_verify.specs.declared.inputs.Inputs.{Inputs}
 use Rattle.it_verify.specs.declared.refusal.Fault.TheVariants.{BadPolicy, BadSums, BadMoment, NoFiles, BadEnvelope, WrongPayloadType, OwnerMissing, BadLayout}
 use Rattle.it_verify.specs.declared.refusal.Refusal.{Refusal}
 use Rattle.it_verify.proofs.DocumentsRead.{clear_policy, clear_sums, clear_moment, clear_files, clear_envelope, clear_type, clear_owners, clear_layout}
-use Rattle.it_verify.proofs.FirstOrAll.{first_or_all}
 use Rattle.it_verify.proofs.Owning.{Signs, owners_sign, signs_apart}
 
 module _ (check : Check) (inputs : Inputs) where

@@ -1,6 +1,8 @@
 -- What stands first where one of the documents fails and those before it do not.
 use Rattle.std.proofs.Common.{◌≡◌, ◌≢◌, ◌++◌, ℕ, ℤ, List, [], ◌∷◌, drop, subst, take}
 use Rattle.std.specs.FinMap.{empty, entries}
+use Rattle.it_base.specs.Places.{IsFirst, NoneAt}
+use Rattle.it_base.proofs.Firsts.{none_append}
 use Rattle.it_digest.specs.Artifacts.{ArtifactMap}
 use Rattle.it_digest.specs.Sums.{IsFirstBadLine, SumsOf}
 use Rattle.it_dsse.specs.Check.{Check}
@@ -12,9 +14,6 @@ use Rattle.it_docs.specs.PayloadType.{in_toto_type}
 use Rattle.it_docs.specs.Policy.{PolicyOf}
 use Rattle.it_docs.specs.declared.layout_fault.LayoutPart.{LayoutPart}
 use Rattle.it_docs.specs.declared.policy.Policy.{Policy}
-use Rattle.it_chain.specs.First.{IsFirst}
-use Rattle.it_chain.specs.Walk.{NoneAt}
-use Rattle.it_chain.proofs.Firsts.{none_append}
 use Rattle.it_verify.specs.First.{Place, at_sums, at_moment, at_files, at_envelope, at_payload_type, at_owners, at_layout, First, OwnerLacks, Stands, places, whole}
 use Rattle.it_verify.specs.Walk.{OwnersSign, RefusedAs}
 use Rattle.it_verify.specs.declared.failure.Failure.{Failure}

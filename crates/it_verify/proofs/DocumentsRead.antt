@@ -3,6 +3,8 @@
 use Rattle.std.proofs.Common.{◌≡◌, ◌≢◌, ℕ, ℤ, List, [], ◌∷◌, Contains, sym, subst}
 use Rattle.std.specs.FinMap.{empty, entries}
 use Rattle.it_base.proofs.Members.{in_head, in_tail}
+use Rattle.it_base.specs.Places.{IsFirst, NoneAt}
+use Rattle.it_base.proofs.Firsts.{none_first}
 use Rattle.it_digest.specs.Artifacts.{ArtifactMap}
 use Rattle.it_digest.specs.Sums.{SumsOf}
 use Rattle.it_digest.proofs.SumsLemmas.{IsFirstBadLine-none, SumsOf_same}
@@ -19,11 +21,8 @@ use Rattle.it_docs.specs.declared.layout.Layout.{Layout}
 use Rattle.it_docs.specs.declared.policy.Policy.{Policy}
 use Rattle.it_docs.proofs.Refusals.{no_layout, no_policy}
 use Rattle.it_docs.proofs.Same.{policy_same}
-use Rattle.it_chain.specs.First.{IsFirst}
-use Rattle.it_chain.specs.Walk.{NoneAt}
 use Rattle.it_chain.proofs.Documents.{envelope_same}
 use Rattle.it_chain.proofs.Entries.{entry_known}
-use Rattle.it_chain.proofs.Firsts.{none_first}
 use Rattle.it_verify.specs.Documents.{Documents}
 use Rattle.it_verify.specs.First.{Place, at_policy, at_sums, at_moment, at_files, at_envelope, at_payload_type, at_owners, at_layout, OwnerLacks, Stands}
 use Rattle.it_verify.specs.Walk.{DocumentsHold, OwnersSign, document_places}

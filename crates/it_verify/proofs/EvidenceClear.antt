@@ -12,13 +12,13 @@ use Rattle.it_docs.specs.declared.step.Inspection.{Inspection}
 use Rattle.it_rules.specs.Item.{Links}
 use Rattle.it_rules.specs.Rules.{IsFirstFault, RulesHold}
 use Rattle.it_chain.specs.Chain.{Chain}
-use Rattle.it_chain.specs.First.{First as ChainFirst, IsFirst}
-use Rattle.it_chain.specs.Walk.{NoneAt}
+use Rattle.it_chain.specs.First.{First as ChainFirst}
 use Rattle.it_chain.specs.declared.chain.StepResult.{StepResult}
 use Rattle.it_chain.proofs.Entries.{entry_known}
 use Rattle.it_chain.proofs.Excludes.{chain_excludes}
-use Rattle.it_chain.proofs.Firsts.{none_first}
 use Rattle.it_base.proofs.Members.{in_head, in_tail}
+use Rattle.it_base.specs.Places.{IsFirst, NoneAt}
+use Rattle.it_base.proofs.Firsts.{none_first}
 use Rattle.it_prov.specs.Meets.{Meets}
 use Rattle.it_prov.proofs.OneFit.{fits_one}
 use Rattle.it_verify.specs.Documents.{Documents, ReadAs, setting_of}

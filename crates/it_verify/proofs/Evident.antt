@@ -7,6 +7,7 @@ use Rattle.std.proofs.lemmas.Option.{same_Some}
 use Rattle.std.proofs.lemmas.Slice.Eq.{bytes_eq-Decides}
 use Rattle.it_base.specs.Finds.{Finds}
 use Rattle.it_base.proofs.Settled.{settled_by}
+use Rattle.it_base.proofs.Firsts.{first_or_all}
 use Rattle.it_dsse.specs.Check.{Check}
 use Rattle.it_docs.specs.Link.{LinkOf}
 use Rattle.it_docs.specs.declared.link.Link.{Link}
@@ -24,7 +25,6 @@ use Rattle.it_verify.specs.declared.refusal.Fault.TheVariants.{RecordMissing, Ba
 use Rattle.it_verify.specs.declared.refusal.Refusal.{Refusal}
 use Rattle.it_verify.proofs.Documented.{StandsOr}
 use Rattle.it_verify.proofs.EvidenceClear.{clear_links, clear_records}
-use Rattle.it_verify.proofs.FirstOrAll.{first_or_all}
 
 -- ---- one record
 module _ (inputs : Inputs) (inspection : Inspection) where

@@ -1,8 +1,7 @@
 -- Failures that speak of places which follow each other.
 use Rattle.std.proofs.Common.{List, ◌∷◌, ◌++◌, inl}
-use Rattle.it_chain.specs.First.{IsFirst}
-use Rattle.it_chain.specs.Walk.{NoneAt}
-use Rattle.it_chain.proofs.Firsts.{first_behind}
+use Rattle.it_base.specs.Places.{IsFirst, NoneAt}
+use Rattle.it_base.proofs.Firsts.{first_behind}
 use Rattle.it_verify.specs.Walk.{RefusedAs}
 use Rattle.it_verify.specs.declared.failure.Failure.{Failure}
 use Rattle.it_verify.specs.declared.failure.Failure.TheVariants.{Refused, OutOfMemory}

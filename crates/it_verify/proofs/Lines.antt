@@ -1,9 +1,10 @@
 -- The lines of the provenance, one after another.
 use Rattle.std.proofs.Common.{◌≡◌, ℕ, ◌+◌, List, [], ◌∷◌, ◌++◌, length, inl, inr, ⊎_elim, refl, sym, ap, ◌∙◌, arith}
 use Rattle.std.proofs.lemmas.List.Sums.{sum_by-cons}
+use Rattle.it_base.specs.Sum.{CostsIfFound, IsSum}
 use Rattle.it_dsse.specs.Envelope.{EnvelopeOf}
 use Rattle.it_dsse.specs.declared.envelope.Envelope.{Envelope}
-use Rattle.it_chain.specs.Cost.{CostsIfFound, HasSignatures, IsSum}
+use Rattle.it_chain.specs.Cost.{HasSignatures}
 use Rattle.it_chain.proofs.Documents.{envelope_same}
 use Rattle.it_prov.specs.Cost.{signature_count}
 use Rattle.it_verify.specs.Gathering.{AreRead}

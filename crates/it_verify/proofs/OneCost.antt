@@ -1,6 +1,8 @@
 -- That a verification of inputs costs one number of checks.
 use Rattle.std.proofs.Common.{◌≡◌, ℕ, ◌+◌, ◌*◌, List, length, sym, subst, ◌∙◌}
 use Rattle.std.specs.FinMap.{keys, len}
+use Rattle.it_base.specs.Sum.{CostsIfFound}
+use Rattle.it_base.proofs.Sums.{IsOne, one_if_found, one_sum}
 use Rattle.it_digest.specs.Sums.{lines_of}
 use Rattle.it_dsse.specs.Check.{Check}
 use Rattle.it_dsse.specs.Envelope.{EnvelopeOf}
@@ -8,9 +10,9 @@ use Rattle.it_dsse.specs.declared.envelope.Envelope.{Envelope}
 use Rattle.it_docs.specs.declared.policy.Expectation.{Expectation}
 use Rattle.it_docs.specs.declared.policy.Policy.{Policy}
 use Rattle.it_docs.proofs.Same.{policy_same}
-use Rattle.it_chain.specs.Cost.{CostsIfFound, HasSignatures}
+use Rattle.it_chain.specs.Cost.{HasSignatures}
 use Rattle.it_chain.proofs.Documents.{envelope_same}
-use Rattle.it_chain.proofs.OneCost.{IsOne, one_cost, one_if_found, one_sum}
+use Rattle.it_chain.proofs.OneCost.{one_cost}
 use Rattle.it_prov.specs.Cost.{key_count}
 use Rattle.it_prov.specs.Fits.{Fits}
 use Rattle.it_prov.proofs.OneFit.{fits_one}

@@ -1,6 +1,8 @@
 -- Delivered files are refused in one way at most, and accepted in one.
 use Rattle.std.proofs.Common.{◌≡◌, ℕ, List, [], ◌∷◌, flat_map, zip, refl, sym, ap, subst, ◌∙◌, ⊎_elim}
 use Rattle.std.specs.FinMap.{entries}
+use Rattle.it_base.specs.Places.{IsFirst}
+use Rattle.it_base.proofs.Firsts.{OneAt, OneFirst, one_more, one_none}
 use Rattle.it_digest.specs.declared.compare.DigestSet.{DigestSet}
 use Rattle.it_digest.proofs.SumsLemmas.{bad_line_one}
 use Rattle.it_dsse.specs.Check.{Check}
@@ -13,10 +15,9 @@ use Rattle.it_docs.proofs.OnePart.{layout_part_one, policy_part_one}
 use Rattle.it_docs.proofs.Same.{policy_same}
 use Rattle.it_rules.specs.Item.{Links}
 use Rattle.it_rules.specs.Rules.{IsFirstFault}
-use Rattle.it_chain.specs.First.{First as ChainFirst, IsFirst}
+use Rattle.it_chain.specs.First.{First as ChainFirst}
 use Rattle.it_chain.specs.declared.refusal.RuleItem.TheVariants.{Inspection as of_inspection, Deliver}
 use Rattle.it_chain.proofs.Documents.{envelope_same}
-use Rattle.it_chain.proofs.Firsts.{OneAt, OneFirst, one_more, one_none}
 use Rattle.it_chain.proofs.OneFirst.{fault_one, first_one}
 use Rattle.it_docs.specs.declared.policy.Expectation.{Expectation}
 use Rattle.it_verify.specs.Documents.{Documents, setting_of}

@@ -4,6 +4,7 @@ use Rattle.std.specs.FinMap.{entries, get}
 use Rattle.std.proofs.lemmas.List.Elements.{All-contains}
 use Rattle.it_base.specs.Finds.{Finds}
 use Rattle.it_base.proofs.Settled.{Settled, some_or_none}
+use Rattle.it_base.proofs.Firsts.{first_or_all}
 use Rattle.it_digest.specs.Sums.{lines_of}
 use Rattle.it_digest.specs.declared.compare.DigestSet.{DigestSet}
 use Rattle.it_dsse.specs.Check.{Check}
@@ -24,7 +25,6 @@ use Rattle.it_verify.specs.declared.refusal.Fault.TheVariants.{NoExpectation, No
 use Rattle.it_verify.specs.declared.refusal.Refusal.{Refusal}
 use Rattle.it_verify.proofs.Documented.{StandsOr}
 use Rattle.it_verify.proofs.EvidenceClear.{file_apart, clear_provenance}
-use Rattle.it_verify.proofs.FirstOrAll.{first_or_all}
 
 -- ---- one line, for an expectation and a digest set
 module _ (check : Check) (expectation : Expectation) (digests : DigestSet) where

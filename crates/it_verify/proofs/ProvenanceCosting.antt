@@ -1,8 +1,10 @@
--- How many checks the search for the provenance of delivered files may ask for.
-use Rattle.std.proofs.Common.{◌≡◌, ℕ, ◌+◌, ◌*◌, ◌≤◌, List, [], ◌∷◌, ◌++◌, map, length, ⊎_elim, refl, sym, ap, subst, ◌∙◌, arith}
-use Rattle.std.specs.FinMap.{entries, keys, len, len-entries}
+-- How many checks the search for the provenance of delivered files asks for.
+use Rattle.std.proofs.Common.{◌≡◌, ℕ, ◌+◌, ◌*◌, ◌≤◌, List, [], ◌∷◌, ◌++◌, map, ⊎_elim, refl, sym, ap, subst, ◌∙◌, arith}
+use Rattle.std.specs.FinMap.{entries, keys}
 use Rattle.std.specs.List.{AllByRecursion}
-use Rattle.std.proofs.lemmas.List.{append-nil, append_assoc, length-append, map-append}
+use Rattle.std.proofs.lemmas.List.{append-nil, append_assoc, map-append}
+use Rattle.it_base.specs.Sum.{IsSum}
+use Rattle.it_base.specs.Places.{IsFirst}
 use Rattle.it_digest.specs.Artifacts.{ArtifactMap}
 use Rattle.it_digest.specs.declared.compare.DigestSet.{DigestSet}
 use Rattle.it_dsse.specs.Check.{Check}
@@ -10,14 +12,13 @@ use Rattle.it_dsse.specs.Meter.{RaisedBy}
 use Rattle.it_dsse.specs.declared.envelope.Envelope.{Envelope}
 use Rattle.it_dsse.specs.declared.meter.Meter.{Meter}
 use Rattle.it_docs.specs.declared.policy.Expectation.{Expectation}
-use Rattle.it_chain.specs.Cost.{IsSum}
-use Rattle.it_chain.specs.First.{IsFirst}
+use Rattle.it_prov.specs.Asked.{AtLeast}
 use Rattle.it_prov.specs.Cost.{key_count, signature_count}
 use Rattle.it_prov.specs.Finding.{NoneFits}
 use Rattle.it_prov.specs.Fits.{Fits}
 use Rattle.it_prov.proofs.Asking.{raised_none, raised_then}
 use Rattle.it_verify.specs.Cost.{FileCosts}
-use Rattle.it_verify.specs.Gathering.{FileLacks, FileProven}
+use Rattle.it_verify.specs.Gathering.{FileAsks, FileLacks, FileProven}
 use Rattle.it_verify.specs.Walk.{RefusedAs}
 use Rattle.it_verify.specs.declared.failure.Failure.{Failure}
 use Rattle.it_verify.proofs.ProvenanceFound.{first_lacks, proven_more}
@@ -31,6 +32,11 @@ sum_append Costs (x ∷ xs) ys n h =
     let parts = rest.4 in
     (h.0 + rest.0, rest.1, (h.0, rest.0, h.2, rest.2, refl), rest.3, omega arith)
 
+-- the sum over a list and a thing more
+sum_push : {X : Type 0} (Costs : X → ℕ → Type 0) (xs : List X) (x : X) (m n : ℕ) → IsSum Costs xs m → Costs x n → IsSum Costs (xs ++ x ∷ []) (m + n)
+sum_push Costs [] x m n h k = (n, 0, k, refl, omega (arith, h))
+sum_push Costs (y ∷ ys) x m n h k = let total = h.4 in (h.0, h.1 + n, h.2, sum_push Costs ys x h.1 n h.3 k, omega arith)
+
 -- one file, from what is promised of the expectation that fits it
 pub file_at_most : (expectations : List Expectation) (path : List ℕ) (signatures : ℕ) (start new : Meter)
     → ((expectation : Expectation) → Fits expectations path expectation → RaisedBy (λ n. n ≤ key_count expectation.builders * signatures) start new) → (NoneFits expectations path → new ≡ start)
@@ -42,6 +48,9 @@ module _ (check : Check) (expectations : List Expectation) (envelopes : List Env
   abbrev Cost : List ℕ → ℕ → Type 0
   Cost = FileCosts expectations (signature_count envelopes)
 
+  abbrev Asks : List ℕ × DigestSet → ℕ → Type 0
+  Asks = FileAsks check expectations envelopes
+
   abbrev paths_of : List (List ℕ × DigestSet) → List (List ℕ)
   paths_of files = map (λ file. file.0) files
 
@@ -51,7 +60,7 @@ module _ (check : Check) (expectations : List Expectation) (envelopes : List Env
     pub all : entries delivered ≡ done ++ rest
     pub proven : AllByRecursion (FileProven check expectations envelopes) done
     pub at_most : (most : ℕ) → IsSum Cost (paths_of done) most → RaisedBy (λ n. n ≤ most) start now
-    pub at_least : RaisedBy (λ n. length done ≤ n) start now
+    pub at_least : RaisedBy (AtLeast (IsSum Asks done)) start now
 
   pub none_searched : Searched start (entries delivered)
   none_searched = record {
@@ -59,7 +68,7 @@ module _ (check : Check) (expectations : List Expectation) (envelopes : List Env
     all = refl;
     proven = tt;
     at_most = λ most cost. raised_none most start start refl;
-    at_least = let none = raised_none 0 start start refl in (none.0, omega arith, none.2);
+    at_least = let none = raised_none 0 start start refl in (none.0, (0, refl, omega arith), none.2);
   }
 
   module _ (now new : Meter) (file : List ℕ × DigestSet) (rest : List (List ℕ × DigestSet)) (searched : Searched now (file ∷ rest)) where
@@ -80,14 +89,14 @@ module _ (check : Check) (expectations : List Expectation) (envelopes : List Env
           raised_then (λ n. n ≤ parts.0) (λ n. n ≤ last.0) (λ n. n ≤ most) (λ m n p q. omega arith) start now new (searched.at_most parts.0 parts.2) (one_at_most last.0 last.2)
 
       -- a file more
-      pub one_searched : FileProven check expectations envelopes file → RaisedBy (λ n. 1 ≤ n) now new → Searched new rest
+      pub one_searched : FileProven check expectations envelopes file → RaisedBy (AtLeast (Asks file)) now new → Searched new rest
       one_searched is_proven at_least = record {
         done = next;
         all = all_next;
         proven = proven_more check expectations envelopes searched.done file searched.proven is_proven;
         at_most = next_at_most;
-        at_least = raised_then (λ n. length searched.done ≤ n) (λ n. 1 ≤ n) (λ n. length next ≤ n)
-            (λ m n p q. let long : length next ≡ length searched.done + 1 = length-append searched.done (file ∷ []) in omega arith) start now new searched.at_least at_least;
+        at_least = raised_then (AtLeast (IsSum Asks searched.done)) (AtLeast (Asks file)) (AtLeast (IsSum Asks next))
+            (λ m n p q. (p.0 + q.0, sum_push Asks searched.done file p.0 q.0 p.1 q.1, omega (arith, p.2, q.2))) start now new searched.at_least at_least;
       }
 
       -- the checks up to a file, whatever comes after it
@@ -114,7 +123,5 @@ module _ (check : Check) (expectations : List Expectation) (envelopes : List Env
     pub all_at_most : (most : ℕ) → IsSum Cost (keys delivered) most → RaisedBy (λ n. n ≤ most) start now
     all_at_most most cost = searched.at_most most (subst (λ files. IsSum Cost (paths_of files) most) all_done cost)
 
-    pub all_at_least : RaisedBy (λ n. len delivered ≤ n) start now
-    all_at_least =
-        let many : len delivered ≡ length searched.done = len-entries delivered ∙ ap length all_done in
-        subst (λ k. RaisedBy (λ n. k ≤ n) start now) (sym many) searched.at_least
+    pub all_at_least : RaisedBy (AtLeast (IsSum Asks (entries delivered))) start now
+    all_at_least = subst (λ files. RaisedBy (AtLeast (IsSum Asks files)) start now) (sym all_done) searched.at_least

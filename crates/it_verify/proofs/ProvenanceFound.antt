@@ -1,9 +1,11 @@
 -- Provenance of delivered files among the envelopes that lines read as.
-use Rattle.std.proofs.Common.{◌≡◌, ◌⊎◌, ℕ, List, [], ◌∷◌, ◌++◌, Contains, Some, inl, inr, ⊎_elim, refl, sym, subst}
+use Rattle.std.proofs.Common.{◌≡◌, ◌⊎◌, ℕ, List, [], ◌∷◌, ◌++◌, Contains, Some, inl, inr, ⊎_elim, sym, subst}
 use Rattle.std.specs.FinMap.{entries, get}
 use Rattle.std.specs.List.{AllByRecursion}
 use Rattle.std.proofs.lemmas.List.Elements.{All-contains, All-from_recursion}
 use Rattle.it_base.proofs.Members.{in_cases, in_head, in_none, in_tail}
+use Rattle.it_base.specs.Places.{IsFirst, NoneAt}
+use Rattle.it_base.proofs.Firsts.{first_alike}
 use Rattle.it_digest.specs.Artifacts.{ArtifactMap}
 use Rattle.it_digest.specs.Sums.{lines_of}
 use Rattle.it_digest.specs.declared.compare.DigestSet.{DigestSet}
@@ -12,23 +14,20 @@ use Rattle.it_dsse.specs.Envelope.{EnvelopeOf}
 use Rattle.it_dsse.specs.declared.envelope.Envelope.{Envelope}
 use Rattle.it_docs.specs.declared.policy.Expectation.{Expectation}
 use Rattle.it_rules.proofs.Listed.{Contains-from_place}
-use Rattle.it_chain.specs.First.{IsFirst}
-use Rattle.it_chain.specs.Walk.{NoneAt}
 use Rattle.it_chain.proofs.Documents.{envelope_same}
 use Rattle.it_chain.proofs.Entries.{known_entry}
-use Rattle.it_prov.specs.Finding.{IsFound, NoneMeets}
 use Rattle.it_prov.specs.Meets.{Meets}
 use Rattle.it_prov.proofs.OneFit.{fits_one}
 use Rattle.it_verify.specs.Documents.{IsProvenanceLine}
 use Rattle.it_verify.specs.First.{FileFails}
-use Rattle.it_verify.specs.Gathering.{AreRead, FileLacks, FileProven}
+use Rattle.it_verify.specs.Fewest.{FileTakes}
+use Rattle.it_verify.specs.Gathering.{AreRead, FileAsks, FileLacks, FileProven}
 use Rattle.it_verify.specs.Made.{HasProvenance}
 use Rattle.it_verify.specs.Walk.{RefusedAs}
 use Rattle.it_verify.specs.declared.failure.Failure.{Failure}
 use Rattle.it_verify.specs.declared.inputs.Inputs.{Inputs}
 use Rattle.it_verify.specs.declared.refusal.Refusal.{Refusal}
 use Rattle.it_verify.proofs.Failures.{fails_at}
-use Rattle.it_verify.proofs.FirstOrAll.{first_alike}
 
 -- ---- among envelopes
 module _ (check : Check) (expectations : List Expectation) (envelopes : List Envelope) where
@@ -86,6 +85,12 @@ module _ (check : Check) (inputs : Inputs) (expectations : List Expectation) (en
   has_provenance file h =
       let first = h.1.first in
       record { expectation = h.1.expectation; envelope = first.envelope; fits = h.1.fits; is_line = is_line first.envelope (Contains-from_place envelopes h.0 first.envelope first.stands); meets = first.meets }
+
+  -- a file takes what is asked among the envelopes
+  pub file_takes : (file : List ℕ × DigestSet) (n : ℕ) → FileAsks check expectations envelopes file n → FileTakes check inputs expectations file n
+  file_takes file n h =
+      let at = h.1.asked in
+      record { expectation = h.1.expectation; envelope = at.envelope; fits = h.1.fits; is_line = is_line at.envelope (Contains-from_place envelopes h.0 at.envelope at.stands); asked = at.asked }
 
   lacks_fails : (file : List ℕ × DigestSet) (refusal : Refusal) → FileLacks check expectations envelopes file refusal → FileFails check inputs expectations file refusal
   lacks_fails file refusal =

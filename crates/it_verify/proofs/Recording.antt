@@ -2,9 +2,9 @@
 use Rattle.std.proofs.Common.{◌≡◌, ◌<◌, ◌++◌, ℕ, suc, List, ◌∷◌, Option, Some, None, Ok, Err, length, take, drop, get_or, inl, inr, sym, ap, subst, ◌∙◌}
 use Rattle.std.specs.List.{AllZip}
 use Rattle.std.proofs.Math.Seq.{split_at}
+use Rattle.it_base.specs.Places.{IsFirst}
 use Rattle.it_docs.specs.declared.link.Link.{Link}
 use Rattle.it_docs.specs.declared.step.Inspection.{Inspection}
-use Rattle.it_chain.specs.First.{IsFirst}
 use Rattle.it_verify.specs.Documents.{record_at}
 use Rattle.it_verify.specs.First.{RecordFails}
 use Rattle.it_verify.specs.Gathering.{IsRecord}

@@ -1,8 +1,8 @@
 -- What is made as laid down is never refused.
 use Rattle.std.proofs.Common.{List, [], ◌∷◌}
+use Rattle.it_base.proofs.Firsts.{none_first}
+use Rattle.it_base.specs.Places.{NoneAt}
 use Rattle.it_dsse.specs.Check.{Check}
-use Rattle.it_chain.proofs.Firsts.{none_first}
-use Rattle.it_chain.specs.Walk.{NoneAt}
 use Rattle.it_verify.specs.Documents.{Documents}
 use Rattle.it_verify.specs.First.{Place, at_policy, at_sums, at_moment, at_files, at_envelope, at_payload_type, at_owners, at_layout, at_links, at_records, at_inspections, at_deliver, at_provenance, First, Stands, places}
 use Rattle.it_verify.specs.Made.{Evidence, IsMadeBy, Made}

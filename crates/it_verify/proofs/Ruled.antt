@@ -2,6 +2,7 @@
 use Rattle.std.proofs.Common.{◌⊎◌, ℕ, List, [], ◌∷◌, flat_map, zip, All, Option, Some, None, MatchOption, inl, inr, refl}
 use Rattle.std.specs.List.{AllZip}
 use Rattle.std.proofs.lemmas.List.Elements.{All-head, All-tail}
+use Rattle.it_base.proofs.Firsts.{first_or_all}
 use Rattle.it_dsse.specs.Check.{Check}
 use Rattle.it_docs.specs.declared.link.Link.{Link}
 use Rattle.it_docs.specs.declared.rule.Side.{Side}
@@ -19,7 +20,6 @@ use Rattle.it_verify.specs.declared.refusal.Fault.TheVariants.{RuleFailed}
 use Rattle.it_verify.specs.declared.refusal.Refusal.{Refusal}
 use Rattle.it_verify.proofs.Documented.{StandsOr}
 use Rattle.it_verify.proofs.EvidenceClear.{clear_deliver, clear_inspections}
-use Rattle.it_verify.proofs.FirstOrAll.{first_or_all}
 
 -- ---- the rules of one inspection on one side
 module _ (links : Links) where

@@ -1,12 +1,12 @@
 -- How the rules of inspections are judged, one inspection after the other.
 use Rattle.std.proofs.Common.{◌≡◌, ◌⊎◌, List, [], ◌∷◌, ◌++◌, flat_map, zip, length, inl, inr, ⊎_elim, refl, sym, subst, arith}
 use Rattle.std.specs.List.{AllByRecursion, AllZip}
+use Rattle.it_base.specs.Places.{IsFirst}
 use Rattle.it_docs.specs.declared.link.Link.{Link}
 use Rattle.it_docs.specs.declared.rule.Side.TheVariants.{Materials, Products}
 use Rattle.it_docs.specs.declared.step.Inspection.{Inspection}
 use Rattle.it_rules.specs.Item.{Links}
 use Rattle.it_rules.specs.Rules.{RulesHold}
-use Rattle.it_chain.specs.First.{IsFirst}
 use Rattle.it_verify.specs.First.{InspectionFails, sides_of}
 use Rattle.it_verify.specs.Gathering.{SideFails}
 use Rattle.it_verify.specs.Made.{InspectionRulesHold, recorded_in}

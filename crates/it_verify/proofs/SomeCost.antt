@@ -1,13 +1,15 @@
 -- That a verification of inputs costs some number of checks.
 use Rattle.std.proofs.Common.{◌≡◌, ◌⊎◌, ℕ, ◌+◌, ◌*◌, List, length, inl, inr, refl}
 use Rattle.std.specs.FinMap.{keys, len}
+use Rattle.it_base.specs.Sum.{CostsIfFound}
+use Rattle.it_base.proofs.Sums.{some_if_found, some_sum}
 use Rattle.it_digest.specs.Sums.{lines_of}
 use Rattle.it_dsse.specs.Check.{Check}
 use Rattle.it_dsse.specs.Envelope.{EnvelopeOf}
 use Rattle.it_dsse.proofs.Decided.{envelope_of, envelope_of-finds}
 use Rattle.it_docs.specs.declared.policy.Expectation.{Expectation}
-use Rattle.it_chain.specs.Cost.{CostsIfFound, HasSignatures}
-use Rattle.it_chain.proofs.SomeCost.{some_cost, some_if_found, some_sum}
+use Rattle.it_chain.specs.Cost.{HasSignatures}
+use Rattle.it_chain.proofs.SomeCost.{some_cost}
 use Rattle.it_prov.specs.Cost.{key_count}
 use Rattle.it_prov.specs.Fits.{Fits}
 use Rattle.it_prov.proofs.Fitting.{fits_or_none}

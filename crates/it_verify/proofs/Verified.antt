@@ -2,19 +2,19 @@
 use Rattle.std.proofs.Common.{◌≡◌, List, [], ◌∷◌, ◌++◌, flat_map, zip, Result, Ok, Err, MatchResult, refl, sym, subst}
 use Rattle.std.specs.FinMap.{entries}
 use Rattle.std.specs.List.{AllByRecursion, AllZip}
+use Rattle.it_base.specs.Places.{IsFirst, NoneAt}
+use Rattle.it_base.proofs.Firsts.{none_append}
 use Rattle.it_digest.specs.Sums.{lines_of}
 use Rattle.it_dsse.specs.Check.{Check}
 use Rattle.it_dsse.specs.declared.envelope.Envelope.{Envelope}
 use Rattle.it_docs.specs.declared.rule.Side.TheVariants.{Products}
 use Rattle.it_rules.specs.Rules.{RulesHold}
 use Rattle.it_chain.specs.Chain.{Chain}
-use Rattle.it_chain.specs.First.{First as ChainFirst, IsFirst}
-use Rattle.it_chain.specs.Walk.{NoneAt}
+use Rattle.it_chain.specs.First.{First as ChainFirst}
 use Rattle.it_chain.specs.declared.chain.StepResult.{StepResult}
 use Rattle.it_chain.specs.declared.refusal.ChainError.{ChainError}
 use Rattle.it_chain.specs.declared.refusal.ChainError.TheVariants as chain
 use Rattle.it_chain.specs.declared.refusal.ChainRefusal.{ChainRefusal}
-use Rattle.it_chain.proofs.Firsts.{none_append}
 use Rattle.it_verify.specs.Documents.{Documents, setting_of}
 use Rattle.it_verify.specs.First.{First, InspectionFails, Place, RecordFails, Stands, at_deliver, at_inspections, at_links, at_provenance, at_records, refusal_of, sides_of}
 use Rattle.it_verify.specs.Gathering.{AreRead, DeliverFails, FileLacks, FileProven, failure_of}

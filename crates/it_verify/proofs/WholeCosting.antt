@@ -1,30 +1,40 @@
 -- How many checks a verification asks for, from what each of its parts asks for.
-use Rattle.std.proofs.Common.{◌≡◌, ℕ, ◌+◌, ◌-◌, ◌≤◌, ◌^◌, List, [], ◌∷◌, map, min, length, ⊎_elim, refl, sym, ap, subst, ◌∙◌, arith}
+use Rattle.std.proofs.Common.{◌≡◌, ℕ, ◌+◌, ◌≤◌, List, [], ◌∷◌, map, length, Result, Ok, Err, OnOk, ⊎_elim, refl, sym, ap, subst, ◌∙◌, arith}
 use Rattle.std.specs.FinMap.{entries, keys, len, len-entries}
 use Rattle.std.specs.List.{sum_by}
 use Rattle.std.proofs.lemmas.List.{length-map}
 use Rattle.std.proofs.lemmas.List.Sums.{sum_by-cons}
+use Rattle.it_base.specs.Sum.{IsSum}
 use Rattle.it_digest.specs.Sums.{lines_of}
 use Rattle.it_digest.specs.declared.compare.DigestSet.{DigestSet}
 use Rattle.it_dsse.specs.Check.{Check}
-use Rattle.it_dsse.specs.Meter.{RaisedBy}
+use Rattle.it_dsse.specs.Meter.{RaisedBy, raised}
 use Rattle.it_dsse.specs.declared.envelope.Envelope.{Envelope}
 use Rattle.it_dsse.specs.declared.meter.Meter.{Meter}
+use Rattle.it_dsse.proofs.Tries.{signed_tries}
 use Rattle.it_docs.specs.Policy.{PolicyOf}
+use Rattle.it_docs.specs.declared.policy.Expectation.{Expectation}
 use Rattle.it_docs.specs.declared.policy.Policy.{Policy}
 use Rattle.it_docs.proofs.Same.{policy_same}
 use Rattle.it_chain.specs.declared.chain.StepResult.{StepResult}
+use Rattle.it_chain.proofs.SomeCost.{some_fewest}
+use Rattle.it_prov.specs.Asked.{AtLeast}
 use Rattle.it_prov.specs.Cost.{signature_count}
 use Rattle.it_prov.proofs.Asking.{raised_then}
-use Rattle.it_verify.specs.Cost.{AsksEnough, Costs, FilesCost, LinesHave, LinksCost, OwnersCost, fewest}
-use Rattle.it_verify.specs.Documents.{Documents, ReadAs}
-use Rattle.it_verify.specs.Gathering.{AreRead, TakesEnough}
+use Rattle.it_verify.specs.Cost.{Costs, FilesCost, LinesHave, LinksCost, OwnersCost}
+use Rattle.it_verify.specs.Documents.{Documents, ReadAs, setting_of}
+use Rattle.it_verify.specs.Fewest.{AsksEnough, FileTakes, FilesTake, IsAskedFully, LinksTake, Takes, fewest, owner_tries}
+use Rattle.it_verify.specs.Gathering.{AreRead, FileAsks, TakesEnough}
 use Rattle.it_verify.specs.Made.{Evidence, verdict_of}
+use Rattle.it_verify.specs.Walk.{DocumentsHold}
+use Rattle.it_verify.specs.declared.failure.Failure.{Failure}
 use Rattle.it_verify.specs.declared.inputs.Inputs.{Inputs}
 use Rattle.it_verify.specs.declared.verdict.Verdict.{Verdict}
 use Rattle.it_verify.specs.declared.verdict.Verdict.TheVariants.{Accepted, Refused}
 use Rattle.it_verify.proofs.Lines.{lines_have}
 use Rattle.it_verify.proofs.OneReading.{read_alike}
+use Rattle.it_verify.proofs.Owning.{owners_tried}
+use Rattle.it_verify.proofs.ProvenanceFound.{file_takes}
 
 raised_weaker : (P Q : ℕ → Type 0) → ((n : ℕ) → P n → Q n) → (old new : Meter) → RaisedBy P old new → RaisedBy Q old new
 raised_weaker P Q f old new h = (h.0, f h.0 h.1, h.2)
@@ -69,23 +79,67 @@ module _ (check : Check) (inputs : Inputs) (start now : Meter) (owners : (most :
         raised_then (λ n. n ≤ cost.owners + cost.links) (λ n. n ≤ cost.files) (λ n. n ≤ most) (λ m n p q. omega arith) start then_now new (both most cost) (files cost.signatures cost.files cost.of_lines of_files)
 
 -- ---- at least
-module _ (inputs : Inputs) (documents : Documents) (read : ReadAs inputs documents) (evidence : Evidence) where
+sum_weaker : {X : Type 0} (P Q : X → ℕ → Type 0) → ((x : X) (n : ℕ) → P x n → Q x n) → (xs : List X) (n : ℕ) → IsSum P xs n → IsSum Q xs n
+sum_weaker P Q f [] n h = h
+sum_weaker P Q f (x ∷ xs) n h = (h.0, h.1, f x h.0 h.2, sum_weaker P Q f xs h.1 h.3, h.4)
+
+-- each delivered file takes a check
+files_each : (check : Check) (inputs : Inputs) (expectations : List Expectation) (files : List (List ℕ × DigestSet)) (n : ℕ) → IsSum (FileTakes check inputs expectations) files n → length files ≤ n
+files_each check inputs expectations [] n h = omega arith
+files_each check inputs expectations (file ∷ files) n h =
+    let signer = h.2.asked.meets.signed in
+    let some = signed_tries check h.2.envelope signer.id signer.object signer.key signer.signed in
+    let first = h.2.asked.tried in
+    let others = files_each check inputs expectations files h.1 h.3 in
+    let total = h.4 in
+    omega arith
+
+-- the delivered files, over the envelopes that the lines read as
+pub files_take : (check : Check) (inputs : Inputs) (documents : Documents) (envelopes : List Envelope) → AreRead (lines_of inputs.provenance) envelopes → (old new : Meter) (a : Result (Unit {0}) Failure)
+    → OnOk a (RaisedBy (AtLeast (IsSum (FileAsks check documents.policy.expectations envelopes) (entries documents.delivered))) old new) → OnOk a (RaisedBy (AtLeast (FilesTake check inputs documents)) old new)
+files_take check inputs documents envelopes are old new (Ok x) h =
+    let asked = h.1 in
+    let take = sum_weaker (FileAsks check documents.policy.expectations envelopes) (FileTakes check inputs documents.policy.expectations)
+    (file_takes check inputs documents.policy.expectations envelopes are) (entries documents.delivered) asked.0 asked.1 in
+    (h.0, (asked.0, take, asked.2), h.2)
+files_take check inputs documents envelopes are old new (Err e) h = tt
+
+module _ (check : Check) (inputs : Inputs) (documents : Documents) (hold : DocumentsHold check inputs documents) (evidence : Evidence) where
   fewest_is : (policy : Policy) → PolicyOf inputs.policy policy
       → fewest policy (map (λ (r : StepResult). (r.name, r.keys)) evidence.steps) (keys documents.delivered) ≡ len documents.policy.owners + sum_by (λ (r : StepResult). r.keys) evidence.steps + len documents.delivered
   fewest_is policy is_policy =
-      let owners = ap (λ (p : Policy). len p.owners) (policy_same inputs.policy policy documents.policy is_policy read.policy) in
+      let owners = ap (λ (p : Policy). len p.owners) (policy_same inputs.policy policy documents.policy is_policy hold.read.policy) in
       let signed = sum_by-map (λ (s : List ℕ × ℕ). s.1) (λ (r : StepResult). (r.name, r.keys)) evidence.steps in
       let files : length (keys documents.delivered) ≡ len documents.delivered = length-map (entries documents.delivered) (λ (e : List ℕ × DigestSet). e.0) ∙ sym (len-entries documents.delivered) in
       λ i. owners i + signed i + files i
 
-  pub takes_enough : (answer : Verdict) (start now then_now new : Meter) → answer ≡ verdict_of documents evidence → RaisedBy (λ n. len documents.policy.owners ≤ n) start now
-      → RaisedBy (λ n. sum_by (λ (r : StepResult). r.keys) evidence.steps ≤ n) now then_now → RaisedBy (λ n. len documents.delivered ≤ n) then_now new → TakesEnough inputs start new answer
-  takes_enough answer start now then_now new is owners steps files =
-      let signed = sum_by (λ (r : StepResult). r.keys) evidence.steps in
-      let owned = len documents.policy.owners in
-      let both = raised_then (λ n. owned ≤ n) (λ n. signed ≤ n) (λ n. owned + signed ≤ n) (λ m n p q. omega arith) start now then_now owners steps in
-      let all = raised_then (λ n. owned + signed ≤ n) (λ n. len documents.delivered ≤ n) (λ n. owned + signed + len documents.delivered ≤ n) (λ m n p q. omega arith) start then_now new both files in
-      subst (TakesEnough inputs start new) (sym is) (λ policy is_policy. subst (λ k. RaisedBy (λ n. k ≤ n) start new) (sym (fewest_is policy is_policy)) all)
+  abbrev tried : ℕ
+  tried = owner_tries check documents.envelope documents.policy.owners
+
+  module _ (start now then_now new : Meter) (counted : now ≡ raised start tried) (files : RaisedBy (AtLeast (FilesTake check inputs documents)) then_now new) where
+    takes_all : ((least : ℕ) → LinksTake check inputs documents least → RaisedBy (λ n. least ≤ n) now then_now) → RaisedBy (AtLeast (Takes check inputs)) start new
+    takes_all links =
+        let some = some_fewest (setting_of check documents) inputs.depth documents.layout inputs.links in
+        let owners : RaisedBy (λ n. tried ≤ n) start now = (tried, omega arith, counted) in
+        let both = raised_then (λ n. tried ≤ n) (λ n. some.0 ≤ n) (λ n. tried + some.0 ≤ n) (λ m n p q. omega arith) start now then_now owners (links some.0 some.1) in
+        raised_then (λ n. tried + some.0 ≤ n) (AtLeast (FilesTake check inputs documents)) (AtLeast (Takes check inputs))
+        (λ m n p q. (tried + some.0 + q.0, record { documents = documents; links = some.0; files = q.0; read = hold.read; of_links = some.1; of_files = q.1; sum = refl }, omega (arith, p, q.2)))
+        start then_now new both files
+
+    takes_each : RaisedBy (λ n. sum_by (λ (r : StepResult). r.keys) evidence.steps ≤ n) now then_now → RaisedBy (λ n. len documents.policy.owners + sum_by (λ (r : StepResult). r.keys) evidence.steps + len documents.delivered ≤ n) start new
+    takes_each steps =
+        let signed = sum_by (λ (r : StepResult). r.keys) evidence.steps in
+        let owned = len documents.policy.owners in
+        let owners : RaisedBy (λ n. owned ≤ n) start now = (tried, owners_tried check documents.envelope documents.policy.owners hold.owners, counted) in
+        let both = raised_then (λ n. owned ≤ n) (λ n. signed ≤ n) (λ n. owned + signed ≤ n) (λ m n p q. omega arith) start now then_now owners steps in
+        raised_then (λ n. owned + signed ≤ n) (AtLeast (FilesTake check inputs documents)) (λ n. owned + signed + len documents.delivered ≤ n)
+        (λ m n p q. let each = files_each check inputs documents.policy.expectations (entries documents.delivered) q.0 q.1 in omega (arith, p, q.2, each, len-entries documents.delivered))
+        start then_now new both files
+
+    pub takes_enough : (answer : Verdict) → answer ≡ verdict_of documents evidence → ((least : ℕ) → LinksTake check inputs documents least → RaisedBy (λ n. least ≤ n) now then_now)
+        → RaisedBy (λ n. sum_by (λ (r : StepResult). r.keys) evidence.steps ≤ n) now then_now → TakesEnough check inputs start new answer
+    takes_enough answer is links steps =
+        subst (TakesEnough check inputs start new) (sym is) (takes_all links, λ policy is_policy. subst (λ k. RaisedBy (λ n. k ≤ n) start new) (sym (fewest_is policy is_policy)) (takes_each steps))
 
 -- ---- the count of an answer, which begins at 0
 module _ (start new : Meter) (from_zero : start.asked ≡ 0) where
@@ -95,12 +149,15 @@ module _ (start new : Meter) (from_zero : start.asked ≡ 0) where
       let is = ap (λ (m : Meter). m.asked) h.2 in
       omega arith
 
-  asked_enough : (least : ℕ) → RaisedBy (λ n. least ≤ n) start new → min least (2 ^ 64 - 1) ≤ new.asked
+  asked_enough : (least : ℕ) → RaisedBy (λ n. least ≤ n) start new → IsAskedFully new.asked least
   asked_enough least h =
       let many = h.1 in
       let is = ap (λ (m : Meter). m.asked) h.2 in
       omega arith
 
-  pub asks_enough : (inputs : Inputs) (answer : Verdict) → TakesEnough inputs start new answer → AsksEnough inputs new.asked answer
-  asks_enough inputs (Accepted steps files) h = λ policy is_policy. asked_enough (fewest policy steps files) (h policy is_policy)
-  asks_enough inputs (Refused refusal) h = tt
+  pub asks_enough : (check : Check) (inputs : Inputs) (answer : Verdict) → TakesEnough check inputs start new answer → AsksEnough check inputs new.asked answer
+  asks_enough check inputs (Accepted steps files) h =
+      let all = h.0 in
+      let takes = all.1 in
+      ((takes.0, takes.1, asked_enough takes.0 (all.0, takes.2, all.2)), λ policy is_policy. asked_enough (fewest policy steps files) (h.1 policy is_policy))
+  asks_enough check inputs (Refused refusal) h = tt

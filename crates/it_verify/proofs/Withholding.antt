@@ -3,6 +3,8 @@
 use Rattle.std.proofs.Common.{◌≡◌, ℕ, List, [], ◌∷◌, ◌++◌, flat_map, map, zip, Some, inl, inr, refl, sym, ap, subst, ⊎_elim}
 use Rattle.std.specs.List.{AllZip}
 use Rattle.std.specs.FinMap.{entries, get, keys}
+use Rattle.it_base.specs.Places.{IsFirst}
+use Rattle.it_base.proofs.Firsts.{first_stands}
 use Rattle.it_digest.specs.declared.compare.DigestSet.{DigestSet}
 use Rattle.it_dsse.specs.Check.{Check}
 use Rattle.it_docs.specs.declared.link.Link.{Link}
@@ -10,7 +12,6 @@ use Rattle.it_docs.specs.declared.rule.Side.TheVariants.{Products}
 use Rattle.it_rules.specs.Rules.{IsFirstFault}
 use Rattle.it_chain.specs.Alike.{Within as ChainWithin}
 use Rattle.it_chain.specs.Chain.{Chain}
-use Rattle.it_chain.specs.First.{IsFirst}
 use Rattle.it_chain.specs.Laws.{IsNoMore, IsThresholdFault, OnlyWithholds as ChainOnlyWithholds}
 use Rattle.it_chain.specs.declared.chain.StepResult.{StepResult}
 use Rattle.it_chain.specs.declared.refusal.ChainFault.{ChainFault}
@@ -29,7 +30,6 @@ use Rattle.it_verify.specs.declared.refusal.Refusal.{Refusal}
 use Rattle.it_verify.specs.declared.verdict.Verdict.{Verdict}
 use Rattle.it_verify.specs.declared.verdict.Verdict.TheVariants.{Accepted, Refused}
 use Rattle.it_verify.proofs.Counterparts.{Carried, Reread, Share, at_each, recorded_there, reread, share_of, with_envelope}
-use Rattle.it_verify.proofs.FirstOrAll.{first_stands}
 use Rattle.it_verify.proofs.OneReading.{read_alike}
 use Rattle.it_verify.proofs.Refused.{none_stands}
 

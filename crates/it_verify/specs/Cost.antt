@@ -1,8 +1,8 @@
 -- How many checks of validity a verification may ask for (a word of this project; no standard speaks
 -- of it).
-use Rattle.std.specs.Prelude.{◌≡◌, ◌≤◌, ℕ, ◌+◌, ◌-◌, ◌*◌, ◌^◌, List, length, min, ⊤}
-use Rattle.std.specs.List.{sum_by}
+use Rattle.std.specs.Prelude.{◌≡◌, ℕ, ◌+◌, ◌*◌, List, length}
 use Rattle.std.specs.FinMap.{keys, len}
+use Rattle.it_base.specs.Sum.{CostsIfFound, IsSum}
 use Rattle.it_digest.specs.Sums.{lines_of}
 use Rattle.it_dsse.specs.Check.{Check}
 use Rattle.it_dsse.specs.Envelope.{EnvelopeOf}
@@ -10,13 +10,11 @@ use Rattle.it_dsse.specs.declared.envelope.Envelope.{Envelope}
 use Rattle.it_docs.specs.Policy.{PolicyOf}
 use Rattle.it_docs.specs.declared.policy.Expectation.{Expectation}
 use Rattle.it_docs.specs.declared.policy.Policy.{Policy}
-use Rattle.it_chain.specs.Cost.{Costs as ChainCosts, CostsIfFound, HasSignatures, IsSum}
+use Rattle.it_chain.specs.Cost.{Costs as ChainCosts, HasSignatures}
 use Rattle.it_prov.specs.Cost.{key_count}
 use Rattle.it_prov.specs.Fits.{Fits}
 use Rattle.it_verify.specs.Documents.{Documents, ReadAs, setting_of}
 use Rattle.it_verify.specs.declared.inputs.Inputs.{Inputs}
-use Rattle.it_verify.specs.declared.verdict.Verdict.{Verdict}
-use Rattle.it_verify.specs.declared.verdict.Verdict.TheVariants.{Accepted, Refused}
 
 -- a policy and an envelope that the inputs read as
 abbrev pub AreOwners : Inputs → Policy × Envelope → Type 0
@@ -54,13 +52,3 @@ pub record Costs (check : Check) (inputs : Inputs) (n : ℕ) : Type 0 where
   pub of_lines : LinesHave inputs signatures
   pub of_files : CostsIfFound (ReadAs inputs) (λ documents. FilesCost documents signatures) files
   pub sum : n ≡ owners + links + files
-
--- the fewest checks that an accepted verdict takes: one for each owner, each key that signed for a step,
--- and each delivered file
-abbrev pub fewest : Policy → List (List ℕ × ℕ) → List (List ℕ) → ℕ
-fewest policy steps files = len policy.owners + sum_by (λ step. step.1) steps + length files
-
--- a verdict that accepts took at least that many, as far as the count had room
-abbrev pub AsksEnough : Inputs → ℕ → Verdict → Type 0
-AsksEnough inputs asked (Accepted steps files) = (policy : Policy) → PolicyOf inputs.policy policy → min (fewest policy steps files) (2 ^ 64 - 1) ≤ asked
-AsksEnough inputs asked (Refused refusal) = ⊤

@@ -2,6 +2,7 @@
 -- is this profile's choice).
 use Rattle.std.specs.Prelude.{◌≡◌, ◌≢◌, ◌⊎◌, ℕ, ℤ, List, [], ◌∷◌, flat_map, zip, None}
 use Rattle.std.specs.FinMap.{empty, entries}
+use Rattle.it_base.specs.Places.{IsFirst}
 use Rattle.it_digest.specs.Sums.{IsFirstBadLine, SumsOf}
 use Rattle.it_digest.specs.declared.compare.DigestSet.{DigestSet}
 use Rattle.it_dsse.specs.Check.{Check}
@@ -24,7 +25,7 @@ use Rattle.it_docs.specs.declared.rule.Side.{Side}
 use Rattle.it_docs.specs.declared.rule.Side.TheVariants.{Materials, Products}
 use Rattle.it_rules.specs.Item.{Links}
 use Rattle.it_rules.specs.Rules.{IsFirstFault}
-use Rattle.it_chain.specs.First.{First as ChainFirst, IsFirst}
+use Rattle.it_chain.specs.First.{First as ChainFirst}
 use Rattle.it_chain.specs.declared.refusal.ChainFault.{ChainFault}
 use Rattle.it_chain.specs.declared.refusal.ChainFault.TheVariants as chain
 use Rattle.it_chain.specs.declared.refusal.ChainRefusal.{ChainRefusal}

@@ -27,8 +27,9 @@ use Rattle.it_rules.specs.Rules.{IsFirstFault}
 use Rattle.it_chain.specs.declared.refusal.ChainError.{ChainError}
 use Rattle.it_chain.specs.declared.refusal.ChainError.TheVariants as chain
 use Rattle.it_chain.specs.declared.refusal.RuleItem.TheVariants.{Deliver, Inspection as of_inspection}
+use Rattle.it_prov.specs.Asked.{AtLeast, IsAsked}
 use Rattle.it_prov.specs.Finding.{IsFound, IsMissing, NoneFits}
-use Rattle.it_verify.specs.Cost.{fewest}
+use Rattle.it_verify.specs.Fewest.{Takes, fewest}
 use Rattle.it_verify.specs.First.{refusal_of, whole}
 use Rattle.it_verify.specs.Made.{delivery, recorded_in}
 use Rattle.it_verify.specs.declared.failure.Failure.{Failure}
@@ -89,6 +90,11 @@ module _ (check : Check) (expectations : List Expectation) (envelopes : List Env
   abbrev pub FileProven : List ℕ × DigestSet → Type 0
   FileProven file = (index : ℕ) × IsFound check expectations file.0 file.1 envelopes index
 
+  -- so many signatures are tried with the key by which one of the envelopes meets the expectation that
+  -- speaks of a file
+  abbrev pub FileAsks : List ℕ × DigestSet → ℕ → Type 0
+  FileAsks file n = (index : ℕ) × IsAsked check expectations file.0 file.1 envelopes index n
+
   -- no expectation speaks of a file, or none of the envelopes meets the one that does
   abbrev pub FileLacks : List ℕ × DigestSet → Refusal → Type 0
   FileLacks file refusal =
@@ -96,7 +102,9 @@ module _ (check : Check) (expectations : List Expectation) (envelopes : List Env
       ⊎ (IsMissing check expectations file.0 file.1 envelopes × (refusal ≡ whole (NoProvenance file.0)))
 
 -- ---- the whole
--- a verdict that accepts raised a meter by the fewest checks that it takes, or more
-abbrev pub TakesEnough : Inputs → Meter → Meter → Verdict → Type 0
-TakesEnough inputs old new (verdict.Accepted steps files) = (policy : Policy) → PolicyOf inputs.policy policy → RaisedBy (λ n. fewest policy steps files ≤ n) old new
-TakesEnough inputs old new (verdict.Refused refusal) = ⊤
+-- a verdict that accepts raised a meter by the checks that it takes, or more
+abbrev pub TakesEnough : Check → Inputs → Meter → Meter → Verdict → Type 0
+TakesEnough check inputs old new (verdict.Accepted steps files) =
+    RaisedBy (AtLeast (Takes check inputs)) old new
+    × ((policy : Policy) → PolicyOf inputs.policy policy → RaisedBy (λ n. fewest policy steps files ≤ n) old new)
+TakesEnough check inputs old new (verdict.Refused refusal) = ⊤

@@ -4,6 +4,7 @@ pub mod CostLaws
 pub mod Digesting
 pub mod Documents
 pub mod Fault
+pub mod Fewest
 pub mod First
 pub mod Gathering
 pub mod Made

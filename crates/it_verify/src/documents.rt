@@ -1,8 +1,8 @@
 //! The documents of a verification: their reading, and who must have signed the layout.
 ghost use Rattle.std.specs.Prelude.{◌≡◌, ◌≢◌, ◌≤◌, IfOk, MatchResult, ℕ, ℤ};
-ghost use Rattle.std.specs.FinMap.{empty, len};
+ghost use Rattle.std.specs.FinMap.{empty};
 ghost use Rattle.it_digest.specs.Sums.{IsFirstBadLine, SumsOf};
-ghost use Rattle.it_dsse.specs.Meter.{RaisedBy};
+ghost use Rattle.it_dsse.specs.Meter.{RaisedBy, raised};
 ghost use Rattle.it_docs.specs.Layout.{LayoutOf};
 ghost use Rattle.it_docs.specs.LayoutPart.{LayoutPartOf};
 ghost use Rattle.it_docs.specs.Moment.{MomentOf};
@@ -13,6 +13,7 @@ ghost use Rattle.it_docs.specs.declared.layout_fault.LayoutPart.{LayoutPart};
 ghost use Rattle.it_docs.specs.declared.policy_fault.PolicyPart.{PolicyPart};
 ghost use Rattle.it_dsse.specs.Envelope.{EnvelopeOf};
 ghost use Rattle.it_verify.specs.Cost.{OwnersCost};
+ghost use Rattle.it_verify.specs.Fewest.{owner_tries};
 ghost use Rattle.it_verify.specs.First.{First, whole};
 ghost use Rattle.it_verify.specs.Walk.{DocumentsHold, RefusedAs};
 
@@ -70,8 +71,8 @@ pub(crate) fn read_documents(
         (RefusedAs (First (meaning check.now) inputs.now)) }
     ensures at_most { (most : ℕ) → OwnersCost inputs.now most
         → RaisedBy (λ n. n ≤ most) meter.old meter.new }
-    ensures at_least { IfOk result (λ documents.
-        RaisedBy (λ n. len documents.policy.owners ≤ n) meter.old meter.new) }
+    ensures counted { IfOk result (λ documents. meter.new ≡ raised meter.old
+        (owner_tries (meaning check.now) documents.envelope documents.policy.owners)) }
 {
     let policy = policy_in(alloc, inputs.policy.as_slice())?;
     let delivered = delivered_in(alloc, inputs.sums.as_slice())?;

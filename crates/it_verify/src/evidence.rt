@@ -1,8 +1,9 @@
 //! What the steps of a layout and its inspections recorded.
-ghost use Rattle.std.specs.Prelude.{◌≤◌, IfOk, MatchResult, ℕ};
+ghost use Rattle.std.specs.Prelude.{◌≤◌, IfOk, MatchResult, OnOk, ℕ};
 ghost use Rattle.std.specs.List.{sum_by};
 ghost use Rattle.it_dsse.specs.Meter.{RaisedBy};
 ghost use Rattle.it_verify.specs.Cost.{LinksCost};
+ghost use Rattle.it_verify.specs.Fewest.{LinksTake};
 ghost use Rattle.it_verify.specs.First.{First};
 ghost use Rattle.it_verify.specs.Made.{IsEvidence};
 ghost use Rattle.it_verify.specs.Walk.{DocumentsHold, RefusedAs};
@@ -49,7 +50,10 @@ pub(crate) fn gather(
         (RefusedAs (First (meaning check.now) inputs.now)) }
     ensures at_most { (most : ℕ) → LinksCost (meaning check.now) inputs.now documents.now most
         → RaisedBy (λ n. n ≤ most) meter.old meter.new }
-    ensures at_least { IfOk result (λ evidence.
+    ensures at_least { OnOk result ((least : ℕ)
+        → LinksTake (meaning check.now) inputs.now documents.now least
+        → RaisedBy (λ n. least ≤ n) meter.old meter.new) }
+    ensures at_least_keys { IfOk result (λ evidence.
         RaisedBy (λ n. sum_by (λ step. step.keys) evidence.steps ≤ n) meter.old meter.new) }
 {
     let chain = verify_chain(

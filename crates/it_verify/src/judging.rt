@@ -1,8 +1,9 @@
 //! Whether the rules hold over what was recorded, and whether the delivered files have provenance.
 ghost use Rattle.std.specs.Prelude.{◌≤◌, MatchResult, OnOk, ℕ};
-ghost use Rattle.std.specs.FinMap.{len};
 ghost use Rattle.it_dsse.specs.Meter.{RaisedBy};
+ghost use Rattle.it_prov.specs.Asked.{AtLeast};
 ghost use Rattle.it_verify.specs.Cost.{FilesCost, LinesHave};
+ghost use Rattle.it_verify.specs.Fewest.{FilesTake};
 ghost use Rattle.it_verify.specs.First.{First};
 ghost use Rattle.it_verify.specs.Made.{IsEvidence, IsMadeBy};
 ghost use Rattle.it_verify.specs.Walk.{DocumentsHold, RefusedAs};
@@ -41,8 +42,8 @@ pub(crate) fn judge(
         (RefusedAs (First (meaning check.now) inputs.now)) }
     ensures at_most { (signatures most : ℕ) → LinesHave inputs.now signatures
         → FilesCost documents.now signatures most → RaisedBy (λ n. n ≤ most) meter.old meter.new }
-    ensures at_least { OnOk result
-        (RaisedBy (λ n. len documents.now.delivered ≤ n) meter.old meter.new) }
+    ensures at_least { OnOk result (RaisedBy
+        (AtLeast (FilesTake (meaning check.now) inputs.now documents.now)) meter.old meter.new) }
 {
     let recorded = evidence.inspections.as_slice();
     let links = named_links(alloc, evidence.steps.as_slice(), recorded)?;

@@ -1,9 +1,10 @@
 //! Whether the owners of a policy signed the layout.
-ghost use Rattle.std.specs.Prelude.{◌*◌, ◌≤◌, IfOk, IsTrue, MatchBool, MatchResult, OnOk, length};
+ghost use Rattle.std.specs.Prelude.{◌≡◌, ◌*◌, ◌≤◌, MatchResult, OnOk, length};
 ghost use Rattle.std.specs.FinMap.{entries, len};
-ghost use Rattle.it_dsse.specs.Meter.{RaisedBy};
-ghost use Rattle.it_chain.specs.First.{IsFirst};
-ghost use Rattle.it_dsse.specs.Signed.{IsSigner};
+ghost use Rattle.it_base.specs.Places.{IsFirst};
+ghost use Rattle.it_dsse.specs.Meter.{RaisedBy, raised};
+ghost use Rattle.it_dsse.specs.Signed.{IsSigner, tries};
+ghost use Rattle.it_verify.specs.Fewest.{owner_tries};
 ghost use Rattle.it_verify.specs.First.{OwnerLacks};
 ghost use Rattle.it_verify.specs.Walk.{OwnersSign, RefusedAs};
 
@@ -15,7 +16,7 @@ use it_dsse::envelope::Envelope;
 use it_dsse::key_object::KeyObject;
 use it_dsse::meter::Meter;
 use it_dsse::signed_by;
-use std::alloc::{AllocError, Global};
+use std::alloc::Global;
 
 /// Asks of each owner, in the order of the ids' bytes, whether the key signed the envelope, and stops
 /// at the first that did not.
@@ -31,33 +32,33 @@ pub(crate) fn check_owners(
         (RefusedAs (IsFirst (OwnerLacks (meaning check.now) envelope.now) (entries owners.now))) }
     ensures at_most { RaisedBy (λ n. n ≤ len owners.now * length envelope.now.signatures)
         meter.old meter.new }
-    ensures at_least { OnOk result (RaisedBy (λ n. len owners.now ≤ n) meter.old meter.new) }
+    ensures counted { OnOk result (meter.new
+        ≡ raised meter.old (owner_tries (meaning check.now) envelope.now owners.now)) }
 {
     for (id, object) in owners.iter() {
-        if !signs(alloc, envelope, id.as_str(), object, check, meter)? {
-            let id = text_of(alloc, id.as_str())?;
-            return Err(refused(alloc, Fault::OwnerMissing(id)));
-        }
+        check_owner(alloc, id.as_str(), object, envelope, check, meter)?;
     }
     Ok(())
 }
 
-/// Whether the key under an id signed the envelope.
-fn signs(
+/// Asks whether the key of an owner signed the envelope.
+fn check_owner(
     alloc: Global,
-    envelope: &Envelope,
     id: &str,
     object: &KeyObject,
+    envelope: &Envelope,
     check: &Box<dyn SignatureCheck>,
     meter: &mut Meter,
-) -> Result<bool, AllocError>
-    ensures signer { IfOk result (λ signs. MatchBool signs
-        (IsSigner (meaning check.now) envelope.now object.now id.now)
-        (¬ IsSigner (meaning check.now) envelope.now object.now id.now)) }
-    ensures at_most { RaisedBy (λ n. n ≤ length envelope.now.signatures) meter.old meter.new }
-    ensures at_least { IfOk result (λ signs. IsTrue signs
-        → RaisedBy (λ n. 1 ≤ n) meter.old meter.new) }
+) -> Result<(), Failure>
+    ensures signed { MatchResult result
+        (λ _. IsSigner (meaning check.now) envelope.now object.now id.now)
+        (RefusedAs (OwnerLacks (meaning check.now) envelope.now (id.now, object.now))) }
+    ensures counted { meter.new
+        ≡ raised meter.old (tries (meaning check.now) envelope.now id.now object.now) }
 {
-    let key = signed_by(alloc, envelope, id, object, check, meter)?;
-    Ok(key.is_some())
+    let key = signed_by(envelope, id, object, check, meter);
+    if key.is_none() {
+        return Err(refused(alloc, Fault::OwnerMissing(text_of(alloc, id)?)));
+    }
+    Ok(())
 }

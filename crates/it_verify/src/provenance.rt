@@ -1,15 +1,16 @@
 //! Whether each delivered file has provenance.
 ghost use Rattle.std.specs.Prelude.{◌≤◌, IfOk, MatchResult, OnOk, ℕ};
-ghost use Rattle.std.specs.FinMap.{entries, keys, len};
+ghost use Rattle.std.specs.FinMap.{entries, keys};
 ghost use Rattle.std.specs.List.{AllByRecursion};
+ghost use Rattle.it_base.specs.Sum.{IsSum};
+ghost use Rattle.it_base.specs.Places.{IsFirst};
 ghost use Rattle.it_digest.specs.Sums.{lines_of};
 ghost use Rattle.it_dsse.specs.Meter.{RaisedBy};
-ghost use Rattle.it_chain.specs.Cost.{IsSum};
-ghost use Rattle.it_chain.specs.First.{IsFirst};
+ghost use Rattle.it_prov.specs.Asked.{AtLeast};
 ghost use Rattle.it_prov.specs.Cost.{signature_count};
 ghost use Rattle.it_prov.specs.Held.{AreHeld};
 ghost use Rattle.it_verify.specs.Cost.{FileCosts};
-ghost use Rattle.it_verify.specs.Gathering.{AreRead, FileLacks, FileProven};
+ghost use Rattle.it_verify.specs.Gathering.{AreRead, FileAsks, FileLacks, FileProven};
 ghost use Rattle.it_verify.specs.Walk.{RefusedAs};
 
 use crate::failure::{Failure, refused};
@@ -69,7 +70,9 @@ pub(crate) fn find_each(
     ensures at_most { (most : ℕ)
         → IsSum (FileCosts expectations.now (signature_count envelopes.now)) (keys delivered.now) most
         → RaisedBy (λ n. n ≤ most) meter.old meter.new }
-    ensures at_least { OnOk result (RaisedBy (λ n. len delivered.now ≤ n) meter.old meter.new) }
+    ensures at_least { OnOk result (RaisedBy (AtLeast (IsSum
+        (FileAsks (meaning check.now) expectations.now envelopes.now) (entries delivered.now)))
+        meter.old meter.new) }
 {
     let attestations = Attestations::of(alloc, envelopes)?;
     find_each_among(alloc, expectations, delivered, &attestations, check, meter)
@@ -91,7 +94,9 @@ fn find_each_among(
     ensures at_most { (most : ℕ)
         → IsSum (FileCosts expectations.now (signature_count attestations.now.envelopes.now)) (keys delivered.now) most
         → RaisedBy (λ n. n ≤ most) meter.old meter.new }
-    ensures at_least { OnOk result (RaisedBy (λ n. len delivered.now ≤ n) meter.old meter.new) }
+    ensures at_least { OnOk result (RaisedBy (AtLeast (IsSum
+        (FileAsks (meaning check.now) expectations.now attestations.now.envelopes.now)
+        (entries delivered.now))) meter.old meter.new) }
 {
     for (path, digests) in delivered.iter() {
         find_one(
@@ -124,7 +129,9 @@ fn find_one(
     ensures at_most { (most : ℕ)
         → FileCosts expectations.now (signature_count attestations.now.envelopes.now) path.now most
         → RaisedBy (λ n. n ≤ most) meter.old meter.new }
-    ensures at_least { OnOk result (RaisedBy (λ n. 1 ≤ n) meter.old meter.new) }
+    ensures at_least { OnOk result (RaisedBy (AtLeast (FileAsks (meaning check.now)
+        expectations.now attestations.now.envelopes.now (path.now, digests)))
+        meter.old meter.new) }
 {
     match find_among(
         alloc,

@@ -2,7 +2,7 @@
 ghost use Rattle.std.specs.Prelude.{◌≡◌, IfOk, MatchResult, option_map};
 ghost use Rattle.std.specs.List.{AllZip};
 ghost use Rattle.it_base.specs.Finds.{Finds};
-ghost use Rattle.it_chain.specs.First.{IsFirst};
+ghost use Rattle.it_base.specs.Places.{IsFirst};
 ghost use Rattle.it_verify.specs.First.{RecordFails};
 ghost use Rattle.it_verify.specs.Gathering.{AreFirsts, IsLinkNamed, IsRecord};
 ghost use Rattle.it_verify.specs.Made.{HasRecorded};

@@ -1,9 +1,9 @@
 //! The artifact rules of inspections, and those on what is delivered.
 ghost use Rattle.std.specs.Prelude.{MatchResult, flat_map, zip};
 ghost use Rattle.std.specs.List.{AllByRecursion};
+ghost use Rattle.it_base.specs.Places.{IsFirst};
 ghost use Rattle.it_rules.specs.Item.{links_of};
 ghost use Rattle.it_rules.specs.Rules.{NamesDiffer, RulesHold};
-ghost use Rattle.it_chain.specs.First.{IsFirst};
 ghost use Rattle.it_verify.specs.First.{InspectionFails, sides_of};
 ghost use Rattle.it_verify.specs.Gathering.{DeliverFails, SideFails};
 ghost use Rattle.it_verify.specs.Made.{InspectionRulesHold, delivery, recorded_in};

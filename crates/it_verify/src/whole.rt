@@ -2,7 +2,8 @@
 ghost use Rattle.std.specs.Prelude.{◌≡◌, ◌≤◌, IfOk, MatchResult, map, ℕ};
 ghost use Rattle.std.specs.FinMap.{keys};
 ghost use Rattle.it_dsse.specs.Meter.{RaisedBy};
-ghost use Rattle.it_verify.specs.Cost.{AsksEnough, Costs};
+ghost use Rattle.it_verify.specs.Cost.{Costs};
+ghost use Rattle.it_verify.specs.Fewest.{AsksEnough};
 ghost use Rattle.it_verify.specs.First.{First};
 ghost use Rattle.it_verify.specs.Gathering.{TakesEnough};
 ghost use Rattle.it_verify.specs.Made.{Made, verdict_of};
@@ -35,8 +36,9 @@ use std::alloc::{AllocError, Global};
 /// A check is asked for at most once for each owner and each signature of the layout, for each id of a
 /// step and each signature of a file that is claimed for it, and so in sublayouts, and for each key of
 /// the builders that are expected of a delivered file and each signature of the provenance. Where the
-/// verdict is `Accepted`, one was asked for at least for each owner, each key of a step and each
-/// delivered file.
+/// verdict is `Accepted`, one was asked for at least for each signature that is tried with an owner's
+/// key, for each different key that signed what counts for a step, and so in sublayouts, and for each
+/// signature that is tried with the key by which a delivered file's provenance meets its expectation.
 ///
 /// # Errors
 ///
@@ -52,7 +54,8 @@ pub fn verify(
     ensures refused { IfOk result (λ answer. OnRefused answer.verdict (¬ Made (meaning check.now) inputs.now)) }
     ensures asked_at_most { IfOk result (λ answer. (most : ℕ)
         → Costs (meaning check.now) inputs.now most → answer.asked ≤ most) }
-    ensures asked_at_least { IfOk result (λ answer. AsksEnough inputs.now answer.asked answer.verdict) }
+    ensures asked_at_least { IfOk result (λ answer.
+        AsksEnough (meaning check.now) inputs.now answer.asked answer.verdict) }
 {
     let mut meter = Meter { asked: 0 };
     let verdict = verdict_on(alloc, inputs, check, &mut meter)?;
@@ -73,7 +76,8 @@ fn verdict_on(
     ensures verdict { IfOk result (IsVerdict (meaning check.now) inputs.now) }
     ensures at_most { (most : ℕ) → Costs (meaning check.now) inputs.now most
         → RaisedBy (λ n. n ≤ most) meter.old meter.new }
-    ensures at_least { IfOk result (TakesEnough inputs.now meter.old meter.new) }
+    ensures at_least { IfOk result
+        (TakesEnough (meaning check.now) inputs.now meter.old meter.new) }
 {
     match accepted(alloc, inputs, check, meter) {
         Ok(verdict) => Ok(verdict),
@@ -94,7 +98,8 @@ fn accepted(
         (RefusedAs (First (meaning check.now) inputs.now)) }
     ensures at_most { (most : ℕ) → Costs (meaning check.now) inputs.now most
         → RaisedBy (λ n. n ≤ most) meter.old meter.new }
-    ensures at_least { IfOk result (TakesEnough inputs.now meter.old meter.new) }
+    ensures at_least { IfOk result
+        (TakesEnough (meaning check.now) inputs.now meter.old meter.new) }
 {
     let documents = read_documents(alloc, inputs, check, meter)?;
     let evidence = gather(alloc, inputs, &documents, check, meter)?;

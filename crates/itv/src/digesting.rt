@@ -1,38 +1,51 @@
 //! `itv digest FILE..`.
+ghost use Rattle.std.specs.Prelude.{◌≡◌, IfOk};
+ghost use Rattle.std.specs.Io.KnownBytes.{Appends};
+ghost use Rattle.itv.specs.Commands.{IsLineOf, ListsDigests};
+
+use crate::disk::Disk;
 use crate::fault::Fault;
 use it_base::text::Text;
 use it_digest::reader::DigestFault;
 use it_verify::outcome::{RunFault, Status};
 use it_verify::words::digesting::DigestWords;
 use it_verify::{check_name, run_digest};
-use std::rt::Files;
-use std::{fs, io};
+use std::io::Write;
 
 /// How many bytes a file may have.
 const MOST_BYTES: u64 = 1_099_511_627_776;
 
-/// Writes the line of each file to standard output, file by file. The lines before a file that
-/// fails stand.
-pub(crate) fn run<R: Files + Print + AllocGlobal>(
+/// Writes the line of each file, file by file. The lines before a file that fails stand.
+pub(crate) fn run<R: Disk + AllocGlobal, W: Write>(
     rt: &R,
     words: &DigestWords,
-) -> Result<Status, Fault> {
-    for file in words.files.as_slice() {
-        digest_file(rt, file)?;
+    out: &mut W,
+) -> Result<Status, Fault>
+    ensures { IfOk result (λ status. (status ≡ Status.Good) × (text : _)
+        × ListsDigests R.holdings words.now.files text
+        × Appends (W.contents out.old) (W.contents out.new) text) }
+{
+    let files = words.files.as_slice();
+    for file in files {
+        digest_file(rt, file, out)?;
     }
     Ok(Status::Good)
 }
 
-fn digest_file<R: Files + Print + AllocGlobal>(rt: &R, file: &Text) -> Result<Status, Fault> {
+fn digest_file<R: Disk + AllocGlobal, W: Write>(
+    rt: &R,
+    file: &Text,
+    out: &mut W,
+) -> Result<(), Fault>
+    ensures { IfOk result (λ _. (line : _) × IsLineOf R.holdings file.now line
+        × Appends (W.contents out.old) (W.contents out.new) line) }
+{
     let alloc = rt.alloc();
     let path = file.as_str();
     check_name(path)?;
-    let mut input = match fs::open(rt, path) {
-        Ok(input) => input,
-        Err(error) => return Err(Fault::of_file(alloc, path, &error)),
-    };
-    let mut out = io::writer(rt);
-    match run_digest(alloc, path, &mut input, MOST_BYTES, &mut out) {
+    let mut input = rt.open(path)?;
+    match run_digest(alloc, path, &mut input, MOST_BYTES, out) {
+        Ok(_) => Ok(()),
         Err(RunFault::Digest(DigestFault::Read)) => Err(Fault::Unread {
             path: String::from_str(alloc, path)?,
         }),
@@ -40,6 +53,6 @@ fn digest_file<R: Files + Print + AllocGlobal>(rt: &R, file: &Text) -> Result<St
             path: String::from_str(alloc, path)?,
             limit: MOST_BYTES,
         }),
-        outcome => Ok(outcome?),
+        Err(fault) => Err(Fault::Run(fault)),
     }
 }

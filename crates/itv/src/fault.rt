@@ -1,6 +1,8 @@
 //! Why the program stops, as its notes say it.
 ghost use Rattle.std.specs.Prelude.{◌≡◌};
+ghost use Rattle.it_verify.specs.declared.outcome.RunFault.TheVariants.{OutOfMemory};
 ghost use Rattle.itv.specs.Fault.{program_status};
+ghost use Rattle.itv.specs.declared.fault.Fault.TheVariants.{Run};
 
 use it_verify::outcome::{RunFault, Status, exit_of};
 use it_verify::words::WordsFault;
@@ -41,6 +43,8 @@ pub(crate) enum Fault {
 }
 
 impl From<AllocError> for Fault {
+    ghost from_gives = { λ _ fault. fault ≡ Run OutOfMemory };
+
     fn from(_error: AllocError) -> Fault {
         Fault::Run(RunFault::OutOfMemory)
     }
@@ -53,6 +57,8 @@ impl<T: Drop> From<AllocFailed<T>> for Fault {
 }
 
 impl From<RunFault> for Fault {
+    ghost from_gives = { λ reason fault. fault ≡ Run reason };
+
     fn from(fault: RunFault) -> Fault {
         Fault::Run(fault)
     }

@@ -1,6 +1,8 @@
 //! Files, read up to a limit and no further.
-ghost use Rattle.std.specs.Prelude.{◌≡◌, ◌<◌, ◌-◌, ◌^◌, length, IfOk, IfSome, IsNone};
+ghost use Rattle.std.specs.Prelude.{◌≡◌, ◌<◌, ◌≤◌, ◌-◌, ◌^◌, length, IfOk, IfSome, IsNone};
+ghost use Rattle.itv.specs.Reading.{HoldsRing};
 
+use crate::disk::Disk;
 use crate::fault::Fault;
 use it_dsse::ring::{HmacRing, RingFault};
 use std::alloc::{AllocError, Global};
@@ -12,7 +14,9 @@ use std::{fs, io};
 pub(crate) const MOST_BYTES: u64 = 8_388_608;
 
 /// The bytes of a file, up to the limit.
-pub(crate) fn read_file<R: Files + AllocGlobal>(rt: &R, path: &str) -> Result<Vec<u8>, Fault> {
+pub(crate) fn read_file<R: Files + AllocGlobal>(rt: &R, path: &str) -> Result<Vec<u8>, Fault>
+    ensures { IfOk result (λ bytes. length bytes.items ≤ 8388608) }
+{
     let alloc = rt.alloc();
     let bytes = match fs::open(rt, path) {
         Ok(file) => read_limited(alloc, file, MOST_BYTES),
@@ -29,9 +33,11 @@ pub(crate) fn read_file<R: Files + AllocGlobal>(rt: &R, path: &str) -> Result<Ve
 }
 
 /// The ring that a file is.
-pub(crate) fn read_ring<R: Files + AllocGlobal>(rt: &R, path: &str) -> Result<HmacRing, Fault> {
+pub(crate) fn read_ring<R: Disk + AllocGlobal>(rt: &R, path: &str) -> Result<HmacRing, Fault>
+    ensures { IfOk result (HoldsRing R.holdings path.now) }
+{
     let alloc = rt.alloc();
-    let bytes = read_file(rt, path)?;
+    let bytes = rt.file(path)?;
     match HmacRing::read(alloc, bytes.as_slice()) {
         Ok(ring) => Ok(ring),
         Err(RingFault::BadRing) => Err(Fault::BadRing {
@@ -51,6 +57,7 @@ pub(crate) fn read_limited<R: Read + Drop>(
     requires { limit < 2 ^ 64 - 1 }
     ensures whole { IfOk result (λ found. IfSome found (λ bytes. IfSome (R.remaining reader)
         (λ all. bytes.items ≡ all))) }
+    ensures within { IfOk result (λ found. IfSome found (λ bytes. length bytes.items ≤ limit)) }
     ensures large { IfOk result (λ found. IsNone found
         → IfSome (R.remaining reader) (λ all. limit < length all)) }
 {

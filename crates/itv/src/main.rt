@@ -4,23 +4,28 @@
 #![tactic(auto)]
 
 mod digesting;
+mod disk;
 mod encoding;
+#[cfg(test)]
+mod fake_files;
 mod fault;
 mod files;
 mod folders;
 mod matching;
+mod running;
 mod signed;
 mod signing;
 #[cfg(test)]
 mod tests;
 mod verifying;
 
+use disk::Disk;
 use fault::{Fault, exit_status};
 use it_verify::outcome::Status;
-use it_verify::words::{Words, read_words};
-use std::env;
+use running::run_words;
 use std::process::ExitCode;
-use std::rt::{Env, Files};
+use std::rt::Env;
+use std::{env, io};
 
 fn main(rt: HostRuntime) -> ExitCode {
     let outcome = run(&rt);
@@ -31,16 +36,10 @@ fn main(rt: HostRuntime) -> ExitCode {
 }
 
 /// Reads the words, and runs the command that they name.
-fn run<R: Env + Files + Print + AllocGlobal>(rt: &R) -> Result<Status, Fault> {
+fn run<R: Env + Disk + Print + AllocGlobal>(rt: &R) -> Result<Status, Fault> {
     let words = words(rt)?;
-    match read_words(rt.alloc(), words.as_slice())? {
-        Words::Signed(words) => signed::run(rt, &words),
-        Words::Match(words) => matching::run(rt, &words),
-        Words::Pae(words) => encoding::run(rt, &words),
-        Words::Sign(words) => signing::run(rt, &words),
-        Words::Digest(words) => digesting::run(rt, &words),
-        Words::Verify(words) => verifying::run(rt, &words),
-    }
+    let mut out = io::writer(rt);
+    run_words(rt, words.as_slice(), &mut out)
 }
 
 fn words<R: Env + AllocGlobal>(rt: &R) -> Result<Vec<String>, Fault> {

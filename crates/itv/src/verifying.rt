@@ -1,42 +1,68 @@
 //! `itv verify`: whether delivered files were made as the owners laid down.
-ghost use Rattle.std.specs.Prelude.{◌≡◌, ◌≤◌, IfOk};
+ghost use Rattle.std.specs.Prelude.{◌≡◌, ◌≢◌, ◌≤◌, IfErr, IfOk};
+ghost use Rattle.std.specs.Io.KnownBytes.{Appends};
+ghost use Rattle.it_dsse.specs.Ring.{ring_check};
+ghost use Rattle.it_verify.specs.Verifying.{IsVerifyOutput};
+ghost use Rattle.itv.specs.Commands.{Verifies};
+ghost use Rattle.itv.specs.Reading.{AreInputs, HoldsIfGiven};
 
+use crate::disk::Disk;
 use crate::fault::Fault;
-use crate::files::{read_file, read_ring};
-use crate::folders::{read_links, read_records};
+use crate::files::read_ring;
 use it_base::sequence::Sequence;
 use it_base::text::Text;
 use it_dsse::check::SignatureCheck;
+use it_dsse::ring::HmacRing;
 use it_verify::inputs::Inputs;
-use it_verify::outcome::Status;
+use it_verify::outcome::{RunFault, Status};
 use it_verify::run_verify;
 use it_verify::words::verifying::VerifyWords;
-use std::io;
-use std::rt::Files;
+use std::alloc::Global;
+use std::io::Write;
 
-/// Reads all files and folders and the ring, and writes the report of the verdict to standard output.
-pub(crate) fn run<R: Files + Print + AllocGlobal>(
+/// Reads all files and folders and the ring, and writes the report of the verdict.
+pub(crate) fn run<R: Disk + AllocGlobal, W: Write>(
     rt: &R,
     words: &VerifyWords,
+    out: &mut W,
 ) -> Result<Status, Fault>
     requires { words.now.depth ≤ 8 }
+    ensures ok { IfOk result (λ status. (text : _) × Verifies R.holdings words.now text status
+        × Appends (W.contents out.old) (W.contents out.new) text) }
+    ensures nothing { IfErr result (λ fault. fault ≢ Fault.Run RunFault.Write → out.new ≡ out.old) }
 {
     let alloc = rt.alloc();
     let inputs = inputs(rt, words)?;
     let ring = read_ring(rt, words.ring.as_str())?;
-    let check: Box<dyn SignatureCheck> = Box::new(alloc, ring)?;
-    let mut out = io::writer(rt);
-    Ok(run_verify(alloc, &inputs, &check, &mut out)?)
+    Ok(verify_by(alloc, &inputs, ring, out)?)
 }
 
-fn inputs<R: Files + AllocGlobal>(rt: &R, words: &VerifyWords) -> Result<Inputs, Fault>
-    ensures { IfOk result (λ inputs. inputs.depth ≡ words.now.depth) }
+/// Writes the report of the verdict on the inputs, with signatures checked by the ring.
+fn verify_by<W: Write>(
+    alloc: Global,
+    inputs: &Inputs,
+    ring: HmacRing,
+    out: &mut W,
+) -> Result<Status, Fault>
+    requires { inputs.now.depth ≤ 8 }
+    ensures ok { IfOk result (λ status. (text : _)
+        × IsVerifyOutput (ring_check ring) inputs.now text status
+        × Appends (W.contents out.old) (W.contents out.new) text) }
+    ensures nothing { IfErr result (λ fault. fault ≢ Fault.Run RunFault.Write → out.new ≡ out.old) }
+{
+    let check: Box<dyn SignatureCheck> = Box::new(alloc, ring)?;
+    Ok(run_verify(alloc, inputs, &check, out)?)
+}
+
+/// What stands at the paths of the options. What no path is given for is empty.
+fn inputs<R: Disk + AllocGlobal>(rt: &R, words: &VerifyWords) -> Result<Inputs, Fault>
+    ensures { IfOk result (AreInputs R.holdings words.now) }
 {
     let moment = String::from_str(rt.alloc(), words.at.as_str())?;
     Ok(Inputs {
         policy: bytes(rt, &words.policy)?,
         layout: bytes(rt, &words.layout)?,
-        links: read_links(rt, words.links.as_str(), words.depth)?,
+        links: rt.links(words.links.as_str(), words.depth)?,
         records: records(rt, &words.records)?,
         provenance: bytes_if_given(rt, &words.provenance)?,
         sums: bytes(rt, &words.sums)?,
@@ -45,15 +71,16 @@ fn inputs<R: Files + AllocGlobal>(rt: &R, words: &VerifyWords) -> Result<Inputs,
     })
 }
 
-fn bytes<R: Files + AllocGlobal>(rt: &R, path: &Text) -> Result<Sequence<u8>, Fault> {
-    Ok(Sequence::from(read_file(rt, path.as_str())?))
+fn bytes<R: Disk>(rt: &R, path: &Text) -> Result<Sequence<u8>, Fault>
+    ensures { IfOk result (λ bytes. R.holdings.file path.now bytes) }
+{
+    Ok(Sequence::from(rt.file(path.as_str())?))
 }
 
 /// The bytes of a file, or none where no file is given.
-fn bytes_if_given<R: Files + AllocGlobal>(
-    rt: &R,
-    path: &Option<Text>,
-) -> Result<Sequence<u8>, Fault> {
+fn bytes_if_given<R: Disk + AllocGlobal>(rt: &R, path: &Option<Text>) -> Result<Sequence<u8>, Fault>
+    ensures { IfOk result (λ bytes. HoldsIfGiven R.holdings.file path.now bytes) }
+{
     match path {
         Some(path) => bytes(rt, path),
         None => Ok(Sequence::from(Vec::new(rt.alloc()))),
@@ -61,12 +88,14 @@ fn bytes_if_given<R: Files + AllocGlobal>(
 }
 
 /// The records in a folder, or none where no folder is given.
-fn records<R: Files + AllocGlobal>(
+fn records<R: Disk + AllocGlobal>(
     rt: &R,
     folder: &Option<Text>,
-) -> Result<Sequence<(Text, Sequence<u8>)>, Fault> {
+) -> Result<Sequence<(Text, Sequence<u8>)>, Fault>
+    ensures { IfOk result (λ records. HoldsIfGiven R.holdings.records folder.now records) }
+{
     match folder {
-        Some(folder) => Ok(Sequence::from(read_records(rt, folder.as_str())?)),
+        Some(folder) => rt.records(folder.as_str()),
         None => Ok(Sequence::from(Vec::new(rt.alloc()))),
     }
 }

@@ -1,13 +1,12 @@
 //! A small delivery that is accepted, from which the rows of the whole verification start: one step,
 //! one functionary, one file.
-ghost use Rattle.std.specs.Prelude.{◌≤◌};
-
 use it_base::sequence::Sequence;
 use it_base::text::Text;
 use it_chain::bundle::Bundle;
 use it_dsse::check::SignatureCheck;
 use it_dsse::ring::HmacRing;
 use it_dsse::signing::sign;
+use it_rows::devices::{ABC as A, NOTHING as B};
 use it_verify::inputs::Inputs;
 use it_verify::outcome::{RunFault, Status, exit_of};
 use it_verify::{run_verify, verify};
@@ -22,13 +21,8 @@ pub(crate) const RING: &str =
     {"id":"bob","secret":"626f62"},{"id":"bobz","secret":"626f6200"},
     {"id":"carol","secret":"6361726f6c"},{"id":"builder","secret":"6275696c646572"}]"#;
 
-// In the documents K stands for a key object, "A" for the SHA-256 of `abc` and "B" for that of no bytes
-// (FIPS 180-4, NIST's examples).
+// In the documents K stands for a key object, "A" for the SHA-256 of `abc` and "B" for that of no bytes.
 const KEY: &str = r#"{"keytype":"hmac","scheme":"hmac-sha256","keyval":{"public":""}}"#;
-
-const A: &str = "ba7816bf8f01cfea414140de5dae2223b00361a396177a9cb410ff61f20015ad";
-
-const B: &str = "e3b0c44298fc1c149afbf4c8996fb92427ae41e4649b934ca495991b7852b855";
 
 pub(crate) const LAYOUT: &str = r#"{"_type":"layout","expires":"2030-01-01T00:00:00Z","readme":"",
     "keys":{"alice":K,"bob":K,"bobz":K,"carol":K},
@@ -112,14 +106,6 @@ pub(crate) fn signed_text(alloc: Global, id: &str, body: &str) -> Result<String,
     )
 }
 
-/// An envelope with the first byte of its first signature changed.
-pub(crate) fn with_changed_code(alloc: Global, envelope: &str) -> Result<Vec<u8>, Fail> {
-    let (front, code) = envelope.split_once("\"sig\":\"").ok_or("no signature")?;
-    let (first, rest) = code.split_at_checked(1).ok_or("no code")?;
-    let other = if first == "A" { "B" } else { "A" };
-    Ok(format!(in alloc; "{front}\"sig\":\"{other}{rest}")?.into_bytes())
-}
-
 /// Adds the envelope of a body, signed by an id, to a bundle.
 pub(crate) fn add(
     alloc: Global,
@@ -131,6 +117,18 @@ pub(crate) fn add(
     let bytes = signed(alloc, id, IN_TOTO, body)?;
     bundle.add_file(String::from_str(alloc, name)?, bytes)?;
     Ok(())
+}
+
+/// Adds the link of the base case with these changes, signed by an id.
+pub(crate) fn add_link(
+    alloc: Global,
+    bundle: &mut Bundle,
+    name: &str,
+    id: &str,
+    changes: &[(&str, &str)],
+) -> Result<(), Fail> {
+    let link = filled(alloc, LINK, changes)?;
+    add(alloc, bundle, name, id, link.as_str())
 }
 
 pub(crate) fn add_folder(
@@ -213,14 +211,7 @@ pub(crate) fn without_links(alloc: Global) -> Result<Inputs, Fail> {
 /// The base case.
 pub(crate) fn base(alloc: Global) -> Result<Inputs, Fail> {
     let mut inputs = without_links(alloc)?;
-    let link = filled(alloc, LINK, &[])?;
-    add(
-        alloc,
-        &mut inputs.links,
-        "build.alice.link",
-        "alice",
-        link.as_str(),
-    )?;
+    add_link(alloc, &mut inputs.links, "build.alice.link", "alice", &[])?;
     Ok(inputs)
 }
 

@@ -34,7 +34,7 @@ fn says_whether_a_pattern_matches(rt: HostRuntime) -> Result<(), Fail> {
 }
 
 #[test]
-fn writes_what_is_signed(rt: HostRuntime) -> Result<(), Fail> {
+fn writes_what_is_signed_for_a_type_and_a_body(rt: HostRuntime) -> Result<(), Fail> {
     let alloc = rt.alloc();
     let mut out = Vec::new(alloc);
     assert_eq!(rt; run_pae(alloc, KIND, b"", &mut out), Ok(Status::Good));
@@ -44,7 +44,7 @@ fn writes_what_is_signed(rt: HostRuntime) -> Result<(), Fail> {
 }
 
 #[test]
-fn signs_a_body(rt: HostRuntime) -> Result<(), Fail> {
+fn signs_a_body_under_a_key_of_the_ring_alone(rt: HostRuntime) -> Result<(), Fail> {
     let alloc = rt.alloc();
     let ring = HmacRing::read(alloc, br#"[{"id":"alice","secret":"616c696365"}]"#)?;
     let mut out = Vec::new(alloc);
@@ -71,7 +71,7 @@ fn writes_the_line_of_a_file(rt: HostRuntime) -> Result<(), Fail> {
 }
 
 #[test]
-fn refuses_files_without_a_line(rt: HostRuntime) -> Result<(), Fail> {
+fn refuses_names_with_a_line_feed_and_files_that_do_not_read(rt: HostRuntime) -> Result<(), Fail> {
     let alloc = rt.alloc();
     let mut out = Vec::new(alloc);
     let mut input = b"abc".as_slice();

@@ -2,11 +2,11 @@
 //! does another order, a copy or another name; a file or line that is missing only takes away.
 use crate::base_case::{
     ACCEPTED, IN_TOTO, LAYOUT, LINK, STATEMENT, add, add_folder, base, filled, layout, reported,
-    signed, signed_text, sublayout, with_changed_code, without_links,
+    signed, signed_text, sublayout, without_links,
 };
 use it_base::sequence::Sequence;
 use it_chain::bundle::Bundle;
-use it_rows::devices::text;
+use it_rows::devices::{text, with_changed_code};
 use it_verify::inputs::Inputs;
 use std::alloc::Global;
 use std::test::Fail;
@@ -35,7 +35,7 @@ fn stray(alloc: Global, id: &str, body: &str, kind: u64) -> Result<Vec<u8>, Fail
         0 => Ok(Vec::new(alloc)),
         1 => Ok(String::from_str(alloc, "{no JSON")?.into_bytes()),
         2 => Ok(format!(in alloc; "{front}\"signatures\":[]}}")?.into_bytes()),
-        3 => with_changed_code(alloc, whole.as_str()),
+        3 => Ok(with_changed_code(alloc, whole.as_str())?.into_bytes()),
         4 => signed(alloc, id, "text/plain", body),
         _ => signed(alloc, "bobz", IN_TOTO, body),
     }

@@ -1,3 +1,4 @@
+use crate::base_case::RING;
 use it_digest::reader::DigestFault;
 use it_dsse::check::SignatureCheck;
 use it_dsse::ring::HmacRing;
@@ -9,11 +10,7 @@ use std::alloc::Global;
 use std::io::Write;
 use std::test::Fail;
 
-const RING: &str = r#"[{"id":"owner","secret":"6f776e6572"},{"id":"alice","secret":"616c696365"},
-    {"id":"bob","secret":"626f62"},{"id":"bobz","secret":"626f6200"},
-    {"id":"carol","secret":"6361726f6c"},{"id":"builder","secret":"6275696c646572"}]"#;
-
-// Signed with bob's secret, which is bobz's key too. The code was computed by another program.
+// Signed with bob's secret, which is bobz's key too. The codes were computed by another program.
 const BY_BOB: &str = r#"{"payload":"","payloadType":"t",
     "signatures":[{"sig":"5Muo03wp7lLlZM99VU6tv5lM8pdjKFy9F2qSi0aI4Sk="}]}"#;
 
@@ -22,6 +19,10 @@ const BY_BOB_AS_BOB: &str = r#"{"payload":"","payloadType":"t",
 
 const BY_BOB_AS_ALICE: &str = r#"{"payload":"","payloadType":"t",
     "signatures":[{"keyid":"alice","sig":"5Muo03wp7lLlZM99VU6tv5lM8pdjKFy9F2qSi0aI4Sk="}]}"#;
+
+// Signed with alice's secret.
+const BY_ALICE: &str = r#"{"payload":"","payloadType":"t",
+    "signatures":[{"sig":"UMIZOVASM7x7A+X44udPfhPLMA4YQwmzLCrNt3tjF0I="}]}"#;
 
 fn signed<W: Write>(
     alloc: Global,
@@ -35,7 +36,7 @@ fn signed<W: Write>(
 }
 
 #[test]
-fn names_signers(rt: HostRuntime) -> Result<(), Fail> {
+fn names_the_ids_that_signed_under_no_hint_or_their_own(rt: HostRuntime) -> Result<(), Fail> {
     let alloc = rt.alloc();
     let rows = [
         (
@@ -48,6 +49,7 @@ fn names_signers(rt: HostRuntime) -> Result<(), Fail> {
             "refused 20 BadEnvelope\nat -\n",
             Status::Refused,
         ),
+        (BY_ALICE, "alice\n", Status::Good),
         (BY_BOB, "bob\nbobz\n", Status::Good),
         (BY_BOB_AS_BOB, "bob\n", Status::Good),
         (BY_BOB_AS_ALICE, "", Status::Refused),

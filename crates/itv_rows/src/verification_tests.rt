@@ -1,11 +1,11 @@
 use crate::base_case::{
-    ACCEPTED, IN_TOTO, LAYOUT, LINK, add, add_folder, asked, base, filled, layout, policy,
-    provenance, records, reported, run, signed, signed_text, sublayout, sums, with_changed_code,
+    ACCEPTED, IN_TOTO, LAYOUT, LINK, add, add_folder, add_link, asked, base, filled, layout,
+    policy, provenance, records, reported, run, signed, signed_text, sublayout, sums,
     without_links,
 };
 use it_base::sequence::Sequence;
 use it_chain::bundle::Bundle;
-use it_rows::devices::{Full, Pipe, text};
+use it_rows::devices::{Full, Pipe, text, with_changed_code};
 use it_verify::inputs::Inputs;
 use it_verify::outcome::{RunFault, Status};
 use std::alloc::Global;
@@ -13,10 +13,16 @@ use std::test::Fail;
 
 const THRESHOLD_TWO: (&str, &str) = ("\"threshold\":1", "\"threshold\":2");
 
+const ALICE_AND_BOB: (&str, &str) = ("[\"alice\"]", "[\"alice\",\"bob\"]");
+
+const OTHER_PRODUCT: (&str, &str) = ("\"A\"", "\"B\"");
+
 const INSPECTION: (&str, &str) = (
     "\"inspect\":[]",
     "\"inspect\":[{\"_type\":\"inspection\",\"name\":\"check\",\"expected_materials\":[],\"expected_products\":[],\"run\":[]}]",
 );
+
+const ONE_OF_TWO: &str = "refused 33 Threshold\nat -\nstep build\nfound 1\nneeded 2\n";
 
 #[test]
 fn accepts_the_base_case(rt: HostRuntime) -> Result<(), Fail> {
@@ -31,114 +37,53 @@ fn accepts_the_base_case(rt: HostRuntime) -> Result<(), Fail> {
 }
 
 #[test]
-fn counts_different_keys(rt: HostRuntime) -> Result<(), Fail> {
+fn counts_two_ids_with_one_key_once(rt: HostRuntime) -> Result<(), Fail> {
     let alloc = rt.alloc();
     let mut inputs = without_links(alloc)?;
     inputs.layout = layout(
         alloc,
         &[THRESHOLD_TWO, ("[\"alice\"]", "[\"bob\",\"bobz\"]")],
     )?;
-    let link = filled(alloc, LINK, &[])?;
-    add(
-        alloc,
-        &mut inputs.links,
-        "build.bob.link",
-        "bob",
-        link.as_str(),
-    )?;
-    add(
-        alloc,
-        &mut inputs.links,
-        "build.bobz.link",
-        "bobz",
-        link.as_str(),
-    )?;
+    add_link(alloc, &mut inputs.links, "build.bob.link", "bob", &[])?;
+    add_link(alloc, &mut inputs.links, "build.bobz.link", "bobz", &[])?;
     let (exit, report) = reported(alloc, &inputs)?;
-    assert_eq!(rt;
-        report.as_str(),
-        "refused 33 Threshold\nat -\nstep build\nfound 1\nneeded 2\n"
-    );
+    assert_eq!(rt; report.as_str(), ONE_OF_TWO);
     assert_eq!(rt; exit, 1);
     Ok(())
 }
 
-// A copy adds no key, and a signature with one byte changed adds none.
 #[test]
-fn counts_signatures_that_are_valid(rt: HostRuntime) -> Result<(), Fail> {
+fn counts_no_key_for_a_copy_or_a_changed_signature(rt: HostRuntime) -> Result<(), Fail> {
     let alloc = rt.alloc();
     let mut inputs = base(alloc)?;
-    inputs.layout = layout(
-        alloc,
-        &[THRESHOLD_TWO, ("[\"alice\"]", "[\"alice\",\"bob\"]")],
-    )?;
-    let link = filled(alloc, LINK, &[])?;
-    add(
-        alloc,
-        &mut inputs.links,
-        "build.copy.link",
-        "alice",
-        link.as_str(),
-    )?;
-    let by_bob = signed_text(alloc, "bob", link.as_str())?;
+    inputs.layout = layout(alloc, &[THRESHOLD_TWO, ALICE_AND_BOB])?;
+    add_link(alloc, &mut inputs.links, "build.copy.link", "alice", &[])?;
+    let by_bob = signed_text(alloc, "bob", filled(alloc, LINK, &[])?.as_str())?;
+    let changed = with_changed_code(alloc, by_bob.as_str())?;
     inputs.links.add_file(
         String::from_str(alloc, "build.bob.link")?,
-        with_changed_code(alloc, by_bob.as_str())?,
+        changed.into_bytes(),
     )?;
     let (_, report) = reported(alloc, &inputs)?;
-    assert_eq!(rt;
-        report.as_str(),
-        "refused 33 Threshold\nat -\nstep build\nfound 1\nneeded 2\n"
-    );
-    inputs.links.add_file(
-        String::from_str(alloc, "build.b.link")?,
-        by_bob.into_bytes(),
-    )?;
+    assert_eq!(rt; report.as_str(), ONE_OF_TWO);
+    add_link(alloc, &mut inputs.links, "build.b.link", "bob", &[])?;
     let (_, report) = reported(alloc, &inputs)?;
     assert_eq!(rt; report.as_str(), "accepted\nstep build 2\nfile app\n");
-    assert!(rt; asked(alloc, &inputs)? <= 10);
+    // For the owner, twice for alice, twice for bob, and for the builder.
+    assert_eq!(rt; asked(alloc, &inputs)?, 6);
     Ok(())
 }
 
 #[test]
-fn names_who_disagrees(rt: HostRuntime) -> Result<(), Fail> {
+fn refuses_two_bodies_under_one_id(rt: HostRuntime) -> Result<(), Fail> {
     let alloc = rt.alloc();
     let mut inputs = base(alloc)?;
-    inputs.layout = layout(
-        alloc,
-        &[
-            THRESHOLD_TWO,
-            ("[\"alice\"]", "[\"alice\",\"bob\",\"carol\"]"),
-        ],
-    )?;
-    let (link, other) = (
-        filled(alloc, LINK, &[])?,
-        filled(alloc, LINK, &[("\"A\"", "\"B\"")])?,
-    );
-    add(
-        alloc,
-        &mut inputs.links,
-        "build.bob.link",
-        "bob",
-        link.as_str(),
-    )?;
-    add(
-        alloc,
-        &mut inputs.links,
-        "build.carol.link",
-        "carol",
-        other.as_str(),
-    )?;
-    let (_, report) = reported(alloc, &inputs)?;
-    assert_eq!(rt;
-        report.as_str(),
-        "refused 34 Disagree\nat -\nstep build\nkey carol\n"
-    );
-    add(
+    add_link(
         alloc,
         &mut inputs.links,
         "build.x.link",
         "alice",
-        other.as_str(),
+        &[OTHER_PRODUCT],
     )?;
     let (_, report) = reported(alloc, &inputs)?;
     assert_eq!(rt;
@@ -153,8 +98,7 @@ fn names_who_disagrees(rt: HostRuntime) -> Result<(), Fail> {
 fn takes_no_hint_as_proof(rt: HostRuntime) -> Result<(), Fail> {
     let alloc = rt.alloc();
     let mut inputs = without_links(alloc)?;
-    let link = filled(alloc, LINK, &[])?;
-    let by_bob = signed_text(alloc, "bob", link.as_str())?;
+    let by_bob = signed_text(alloc, "bob", filled(alloc, LINK, &[])?.as_str())?;
     let hinted = by_bob.replace(alloc, "\"keyid\":\"bob\"", "\"keyid\":\"alice\"")?;
     inputs.links.add_file(
         String::from_str(alloc, "build.alice.link")?,
@@ -169,7 +113,7 @@ fn takes_no_hint_as_proof(rt: HostRuntime) -> Result<(), Fail> {
 }
 
 #[test]
-fn expires_after_the_moment(rt: HostRuntime) -> Result<(), Fail> {
+fn expires_a_second_after_it_ends_and_reads_no_other_moments(rt: HostRuntime) -> Result<(), Fail> {
     let alloc = rt.alloc();
     let rows = [
         ("2030-01-01T00:00:00Z", ACCEPTED),
@@ -188,7 +132,7 @@ fn expires_after_the_moment(rt: HostRuntime) -> Result<(), Fail> {
 
 // What fails first is told, also where more does.
 #[test]
-fn fails_in_order(rt: HostRuntime) -> Result<(), Fail> {
+fn tells_expiry_before_thresholds_and_these_before_rules(rt: HostRuntime) -> Result<(), Fail> {
     let alloc = rt.alloc();
     let mut inputs = without_links(alloc)?;
     inputs.links.add_file(
@@ -219,79 +163,80 @@ fn fails_in_order(rt: HostRuntime) -> Result<(), Fail> {
     Ok(())
 }
 
-// The record of the step is a layout, whose record is a layout again.
+// The record of the step is a layout, whose record is a layout again. Beside it stands bob's link.
 fn in_sublayouts(alloc: Global, expires: &str, with_innermost: bool) -> Result<Inputs, Fail> {
     let mut innermost = Bundle::new(alloc);
-    let link = filled(alloc, LINK, &[("\"build\"", "\"core\"")])?;
-    add(
-        alloc,
-        &mut innermost,
-        "core.carol.link",
-        "carol",
-        link.as_str(),
-    )?;
+    let core = ("\"build\"", "\"core\"");
+    add_link(alloc, &mut innermost, "core.carol.link", "carol", &[core])?;
     let mut inner = Bundle::new(alloc);
-    add(
-        alloc,
-        &mut inner,
-        "inner.bob.link",
-        "bob",
-        sublayout(alloc, "core", "carol", "2030-01-01T00:00:00Z")?.as_str(),
-    )?;
+    let by_bob = sublayout(alloc, "core", "carol", LATER)?;
+    add(alloc, &mut inner, "inner.bob.link", "bob", by_bob.as_str())?;
     if with_innermost {
         add_folder(alloc, &mut inner, "inner.bob", innermost)?;
     }
     let mut inputs = without_links(alloc)?;
-    add(
-        alloc,
-        &mut inputs.links,
-        "build.alice.link",
-        "alice",
-        sublayout(alloc, "inner", "bob", expires)?.as_str(),
-    )?;
-    add_folder(alloc, &mut inputs.links, "build.alice", inner)?;
-    inputs.depth = 2;
+    let by_alice = sublayout(alloc, "inner", "bob", expires)?;
+    let links = &mut inputs.links;
+    add(alloc, links, "build.alice.link", "alice", by_alice.as_str())?;
+    add_link(alloc, links, "build.bob.link", "bob", &[])?;
+    add_folder(alloc, links, "build.alice", inner)?;
     Ok(inputs)
 }
 
+const LATER: &str = "2030-01-01T00:00:00Z";
+
+// In each row how many signatures are tried: for the owner, for alice, bob and carol as far as they are
+// asked, and for the builder.
 #[test]
-fn verifies_sublayouts(rt: HostRuntime) -> Result<(), Fail> {
+fn verifies_sublayouts_down_to_the_depth_and_passes_over_none_that_fails(
+    rt: HostRuntime,
+) -> Result<(), Fail> {
     let alloc = rt.alloc();
-    let mut inputs = in_sublayouts(alloc, "2030-01-01T00:00:00Z", true)?;
-    let (_, report) = reported(alloc, &inputs)?;
-    assert_eq!(rt; report.as_str(), ACCEPTED);
-    inputs.depth = 1;
-    let (_, report) = reported(alloc, &inputs)?;
-    assert_eq!(rt;
-        report.as_str(),
-        "refused 32 TooDeep\nat build/alice/inner/bob\n"
-    );
-    let inputs = in_sublayouts(alloc, "2030-01-01T00:00:00Z", false)?;
-    let (_, report) = reported(alloc, &inputs)?;
-    assert_eq!(rt;
-        report.as_str(),
-        "refused 33 Threshold\nat build/alice/inner/bob\nstep core\nfound 0\nneeded 1\n"
-    );
+    let alice = ("[\"alice\"]", "[\"alice\"]");
+    let earlier = "2029-01-01T00:00:00Z";
+    let too_deep = "refused 32 TooDeep\nat build/alice/inner/bob\n";
+    let missing = "refused 33 Threshold\nat build/alice/inner/bob\nstep core\nfound 0\nneeded 1\n";
+    let expired = "refused 30 Expired\nat build/alice\n";
+    let rows = [
+        (alice, LATER, true, 2, ACCEPTED, 5),
+        (alice, LATER, true, 1, too_deep, 3),
+        (
+            alice,
+            LATER,
+            true,
+            0,
+            "refused 32 TooDeep\nat build/alice\n",
+            2,
+        ),
+        (alice, LATER, false, 2, missing, 3),
+        (alice, earlier, true, 2, expired, 2),
+        (ALICE_AND_BOB, earlier, true, 2, expired, 2),
+    ];
+    for (ids, expires, with_innermost, depth, want, tried) in rows {
+        let mut inputs = in_sublayouts(alloc, expires, with_innermost)?;
+        inputs.layout = layout(alloc, &[ids])?;
+        inputs.depth = depth;
+        let (_, report) = reported(alloc, &inputs)?;
+        assert_eq!(rt; report.as_str(), want, "{depth}");
+        assert_eq!(rt; asked(alloc, &inputs)?, tried, "{want}");
+    }
     Ok(())
 }
 
+// Of the layout no signature is tried for carol, whose id comes before the owner's and under whose hint
+// there is none; where the rules fail, the owner's and alice's were.
 #[test]
-fn passes_over_no_failing_sublayout(rt: HostRuntime) -> Result<(), Fail> {
+fn counts_the_signatures_tried_until_it_refuses(rt: HostRuntime) -> Result<(), Fail> {
     let alloc = rt.alloc();
-    let mut inputs = in_sublayouts(alloc, "2029-01-01T00:00:00Z", true)?;
-    let (_, report) = reported(alloc, &inputs)?;
-    assert_eq!(rt; report.as_str(), "refused 30 Expired\nat build/alice\n");
-    inputs.layout = layout(alloc, &[("[\"alice\"]", "[\"alice\",\"bob\"]")])?;
-    let link = filled(alloc, LINK, &[])?;
-    add(
-        alloc,
-        &mut inputs.links,
-        "build.bob.link",
-        "bob",
-        link.as_str(),
-    )?;
-    let (_, report) = reported(alloc, &inputs)?;
-    assert_eq!(rt; report.as_str(), "refused 30 Expired\nat build/alice\n");
+    let mut inputs = base(alloc)?;
+    inputs.policy = policy(alloc, &[("\"files\":\"*\"", "\"files\":\"lib\"")])?;
+    assert_eq!(rt; asked(alloc, &inputs)?, 2);
+    inputs.sums = sums(alloc, &[("B", "app")])?;
+    assert_eq!(rt; asked(alloc, &inputs)?, 2);
+    inputs.moment = text(alloc, "2030-01-01T00:00:01Z")?;
+    assert_eq!(rt; asked(alloc, &inputs)?, 1);
+    inputs.policy = policy(alloc, &[("\"owner\":K", "\"owner\":K,\"carol\":K")])?;
+    assert_eq!(rt; asked(alloc, &inputs)?, 0);
     Ok(())
 }
 
@@ -312,24 +257,20 @@ fn takes_a_layout_without_steps_as_an_empty_record(rt: HostRuntime) -> Result<()
 
 // A subject of the file's name with another digest does not attest it.
 #[test]
-fn compares_subjects_by_digest(rt: HostRuntime) -> Result<(), Fail> {
+fn attests_no_file_by_a_subject_of_its_name_alone(rt: HostRuntime) -> Result<(), Fail> {
     let alloc = rt.alloc();
     let mut inputs = without_links(alloc)?;
     inputs.layout = layout(alloc, &[("[\"CREATE\",\"app\"]", "[\"CREATE\",\"*\"]")])?;
-    let link = filled(
-        alloc,
-        LINK,
-        &[(
-            "\"app\":{\"sha256\":\"A\"}",
-            "\"app\":{\"sha256\":\"A\"},\"lib\":{\"sha256\":\"B\"}",
-        )],
-    )?;
-    add(
+    let two = (
+        "\"app\":{\"sha256\":\"A\"}",
+        "\"app\":{\"sha256\":\"A\"},\"lib\":{\"sha256\":\"B\"}",
+    );
+    add_link(
         alloc,
         &mut inputs.links,
         "build.alice.link",
         "alice",
-        link.as_str(),
+        &[two],
     )?;
     inputs.sums = sums(alloc, &[("A", "app"), ("B", "lib")])?;
     inputs.provenance = provenance(
@@ -374,7 +315,7 @@ fn refuses_parameters_that_are_not_expected(rt: HostRuntime) -> Result<(), Fail>
 }
 
 #[test]
-fn asks_for_records_of_inspections(rt: HostRuntime) -> Result<(), Fail> {
+fn asks_for_a_record_of_each_inspection_under_its_name(rt: HostRuntime) -> Result<(), Fail> {
     let alloc = rt.alloc();
     let mut inputs = base(alloc)?;
     inputs.layout = layout(alloc, &[INSPECTION])?;
@@ -417,20 +358,16 @@ fn judges_what_inspections_recorded(rt: HostRuntime) -> Result<(), Fail> {
 fn writes_no_line_that_a_path_forges(rt: HostRuntime) -> Result<(), Fail> {
     let alloc = rt.alloc();
     let mut inputs = without_links(alloc)?;
-    let link = filled(
-        alloc,
-        LINK,
-        &[(
-            "\"app\":{\"sha256\":\"A\"}",
-            "\"app\":{\"sha256\":\"A\"},\"x\\ny\":{\"sha256\":\"A\"}",
-        )],
-    )?;
-    add(
+    let forged = (
+        "\"app\":{\"sha256\":\"A\"}",
+        "\"app\":{\"sha256\":\"A\"},\"x\\ny\":{\"sha256\":\"A\"}",
+    );
+    add_link(
         alloc,
         &mut inputs.links,
         "build.alice.link",
         "alice",
-        link.as_str(),
+        &[forged],
     )?;
     let (_, report) = reported(alloc, &inputs)?;
     assert_eq!(rt;
@@ -441,7 +378,7 @@ fn writes_no_line_that_a_path_forges(rt: HostRuntime) -> Result<(), Fail> {
 }
 
 #[test]
-fn asks_every_owner(rt: HostRuntime) -> Result<(), Fail> {
+fn asks_each_owner_for_a_signature(rt: HostRuntime) -> Result<(), Fail> {
     let alloc = rt.alloc();
     let mut inputs = base(alloc)?;
     inputs.policy = policy(alloc, &[("\"owner\":K", "\"owner\":K,\"carol\":K")])?;
@@ -473,7 +410,7 @@ fn names_a_step_without_a_name(rt: HostRuntime) -> Result<(), Fail> {
 }
 
 #[test]
-fn refuses_documents_that_do_not_read(rt: HostRuntime) -> Result<(), Fail> {
+fn refuses_bad_or_empty_lists_and_a_policy_without_owners(rt: HostRuntime) -> Result<(), Fail> {
     let alloc = rt.alloc();
     let mut inputs = base(alloc)?;
     inputs.sums = sums(alloc, &[])?;
@@ -492,7 +429,7 @@ fn refuses_documents_that_do_not_read(rt: HostRuntime) -> Result<(), Fail> {
 }
 
 #[test]
-fn refuses_layouts_that_do_not_read(rt: HostRuntime) -> Result<(), Fail> {
+fn refuses_a_cut_layout_another_payload_type_and_no_threshold(rt: HostRuntime) -> Result<(), Fail> {
     let alloc = rt.alloc();
     let mut inputs = base(alloc)?;
     let body = filled(alloc, LAYOUT, &[])?;
@@ -513,43 +450,31 @@ fn refuses_layouts_that_do_not_read(rt: HostRuntime) -> Result<(), Fail> {
     Ok(())
 }
 
-// Forty further files, none of which counts, or which are copies of the one that does.
+// Three copies of the file that counts, links of somebody who is not asked, empty files, and others that
+// are no JSON.
 #[test]
-fn is_the_same_with_noise(rt: HostRuntime) -> Result<(), Fail> {
+fn reports_the_same_with_forty_further_files(rt: HostRuntime) -> Result<(), Fail> {
     let alloc = rt.alloc();
     let mut inputs = base(alloc)?;
-    let link = filled(alloc, LINK, &[])?;
     for n in 0..40_u64 {
         let name = format!(in alloc; "build.{n}.link")?;
-        match n % 13 {
-            0 => add(
-                alloc,
-                &mut inputs.links,
-                name.as_str(),
-                "alice",
-                link.as_str(),
-            )?,
-            1 | 2 => add(
-                alloc,
-                &mut inputs.links,
-                name.as_str(),
-                "carol",
-                link.as_str(),
-            )?,
-            3..=7 => inputs.links.add_file(name, Vec::new(alloc))?,
-            _ => inputs
-                .links
-                .add_file(name, String::from_str(alloc, "{no JSON")?.into_bytes())?,
+        let links = &mut inputs.links;
+        match n {
+            5 | 15 | 39 => add_link(alloc, links, name.as_str(), "alice", &[])?,
+            0..=9 => add_link(alloc, links, name.as_str(), "carol", &[])?,
+            10..=24 => links.add_file(name, Vec::new(alloc))?,
+            _ => links.add_file(name, String::from_str(alloc, "{no JSON")?.into_bytes())?,
         }
     }
-    let (_, report) = reported(alloc, &inputs)?;
+    let (exit, report) = reported(alloc, &inputs)?;
     assert_eq!(rt; report.as_str(), ACCEPTED);
+    assert_eq!(rt; exit, 0);
     Ok(())
 }
 
 // A writer that takes a byte a call, and fails at each call of a report of 31 bytes in turn.
 #[test]
-fn tells_a_failing_output(rt: HostRuntime) -> Result<(), Fail> {
+fn writes_a_beginning_where_the_output_fails(rt: HostRuntime) -> Result<(), Fail> {
     let alloc = rt.alloc();
     let inputs = base(alloc)?;
     for room in 0..31_usize {

@@ -89,7 +89,7 @@ fn reads_values_as_they_stand(rt: HostRuntime) -> Result<(), Fail> {
 }
 
 #[test]
-fn refuses_further_words_of_a_verification(rt: HostRuntime) -> Result<(), Fail> {
+fn refuses_a_depth_beyond_eight_and_other_further_words(rt: HostRuntime) -> Result<(), Fail> {
     let alloc = rt.alloc();
     let rows: [&[&str]; 18] = [
         &["--depth", "9"],

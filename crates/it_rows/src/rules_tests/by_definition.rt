@@ -78,6 +78,7 @@ fn is_free(
     Ok(true)
 }
 
+/// Whether a rule claims a path of the side, which has these digests there.
 fn claims(
     alloc: Global,
     rule: &Rule,
@@ -136,6 +137,7 @@ fn folder(alloc: Global, prefix: &str) -> Result<String, AllocError> {
     }
 }
 
+/// The artifacts on one side.
 fn on<'a>(side: Side, item: &Item<'a>) -> &'a Artifacts {
     match side {
         Side::Materials => item.materials,

@@ -1,203 +1,8 @@
-ghost use Rattle.std.specs.Prelude.{◌≤◌, IfOk, length};
-
 use super::{Kind, entries, read_links, read_records};
+use crate::fake_files::{FakeFiles, Node};
 use crate::fault::Fault;
-use std::alloc::{Allocator, Global};
-use std::fs::{Metadata, OpenFile, OpenOptions};
-use std::io;
-use std::io::{Read, Seek, SeekFrom, Write};
-use std::rt::Files;
+use std::alloc::Global;
 use std::test::Fail;
-
-// What stands at a path.
-#[derive(Clone, Copy)]
-enum Node<'a> {
-    // So many bytes, whichever they are.
-    File(usize),
-    // Names, each with a zero byte at its end, and so many files more, of which each is empty.
-    Folder(&'a [u8], usize),
-    // Neither a file nor a folder: it cannot be opened.
-    Device,
-}
-
-// Files in memory. What stands nowhere is an empty file, but for what is gone.
-#[derive(Clone, Copy)]
-struct Disk<'a> {
-    nodes: &'a [(&'a str, Node<'a>)],
-}
-
-impl<'a> Disk<'a> {
-    fn node(&self, path: &str) -> io::Result<Node<'a>> {
-        let path = path.strip_suffix("/").unwrap_or(path);
-        for (place, node) in self.nodes {
-            if *place == path {
-                return Ok(*node);
-            }
-        }
-        if path.contains("gone") {
-            return Err(missing());
-        }
-        Ok(Node::File(0))
-    }
-}
-
-fn missing() -> io::Error {
-    io::Error::from(io::ErrorKind::NotFound)
-}
-
-fn unsupported() -> io::Error {
-    io::Error::from(io::ErrorKind::Unsupported)
-}
-
-impl<'a> Files for Disk<'a> {
-    type File = Blank;
-
-    type Dir = Names<'a>;
-
-    fn open_file(&self, _how: &OpenOptions, path: &str) -> io::Result<Blank> {
-        match self.node(path)? {
-            Node::File(left) => Ok(Blank { left }),
-            _ => Err(unsupported()),
-        }
-    }
-
-    fn open_dir(&self, path: &str) -> io::Result<Names<'a>> {
-        match self.node(path)? {
-            Node::Folder(names, further) => Ok(Names { names, further }),
-            _ => Err(unsupported()),
-        }
-    }
-
-    fn metadata(&self, path: &str) -> io::Result<Metadata> {
-        Ok(match self.node(path)? {
-            Node::File(_) => Metadata::of_file(0),
-            Node::Folder(_, _) => Metadata::of_dir(),
-            Node::Device => Metadata::of_symlink(0),
-        })
-    }
-
-    fn symlink_metadata(&self, _path: &str) -> io::Result<Metadata> {
-        Err(unsupported())
-    }
-
-    fn copy(&self, _from: &str, _to: &str) -> io::Result<u64> {
-        Err(unsupported())
-    }
-
-    fn rename(&self, _from: &str, _to: &str) -> io::Result<()> {
-        Err(unsupported())
-    }
-
-    fn remove_file(&self, _path: &str) -> io::Result<()> {
-        Err(unsupported())
-    }
-
-    fn create_dir(&self, _path: &str) -> io::Result<()> {
-        Err(unsupported())
-    }
-
-    fn remove_dir(&self, _path: &str) -> io::Result<()> {
-        Err(unsupported())
-    }
-
-    fn remove_dir_all<B: Allocator>(&self, _alloc: B, _path: &str) -> io::Result<()> {
-        Err(unsupported())
-    }
-}
-
-#[derive(Drop)]
-struct Blank {
-    left: usize,
-}
-
-impl Read for Blank {
-    fn read(&mut self, bytes: &mut [u8]) -> io::Result<usize> {
-        let count = self.left.min(bytes.len());
-        self.left -= count;
-        Ok(count)
-    }
-}
-
-impl Write for Blank {
-    fn write(&mut self, _bytes: &[u8]) -> io::Result<usize> {
-        Err(unsupported())
-    }
-
-    fn flush(&mut self) -> io::Result<()> {
-        Err(unsupported())
-    }
-}
-
-impl Seek for Blank {
-    fn seek(&mut self, _to: SeekFrom) -> io::Result<u64> {
-        Err(unsupported())
-    }
-}
-
-impl OpenFile for Blank {
-    fn metadata(&self) -> io::Result<Metadata> {
-        Err(unsupported())
-    }
-
-    fn set_len(&self, _size: u64) -> io::Result<()> {
-        Err(unsupported())
-    }
-
-    fn sync_all(&self) -> io::Result<()> {
-        Err(unsupported())
-    }
-
-    fn sync_data(&self) -> io::Result<()> {
-        Err(unsupported())
-    }
-}
-
-// Gives one name a read.
-#[derive(Drop)]
-struct Names<'a> {
-    names: &'a [u8],
-    further: usize,
-}
-
-impl<'a> Read for Names<'a> {
-    fn read(&mut self, bytes: &mut [u8]) -> io::Result<usize> {
-        if let Some(end) = self.names.iter().position(|byte| *byte == 0) {
-            let (name, rest) = self.names.split_at(end + 1);
-            self.names = rest;
-            return put(bytes, name);
-        }
-        if self.further == 0 {
-            return Ok(0);
-        }
-        self.further -= 1;
-        let digit = |place: usize| b'0' + (self.further / place % 10) as u8;
-        let name = [
-            digit(1000),
-            digit(100),
-            digit(10),
-            digit(1),
-            b'.',
-            b'l',
-            b'i',
-            b'n',
-            b'k',
-            0,
-        ];
-        put(bytes, name.as_slice())
-    }
-}
-
-fn put(bytes: &mut [u8], name: &[u8]) -> io::Result<usize>
-    ensures { IfOk result (λ count. count ≤ length bytes.old) }
-{
-    match bytes.get_mut(..name.len()) {
-        Some(front) => {
-            front.copy_from_slice(name);
-            Ok(name.len())
-        }
-        None => Err(unsupported()),
-    }
-}
 
 static MIXED: [(&str, Node<'static>); 7] = [
     (
@@ -217,7 +22,7 @@ static MIXED: [(&str, Node<'static>); 7] = [
 
 fn shown(alloc: Global, nodes: &[(&str, Node<'_>)], depth: u8) -> Result<String, Fault> {
     let mut text = String::new(alloc);
-    for entry in entries(&(Disk { nodes }, alloc), "d", depth)? {
+    for entry in entries(&(FakeFiles { nodes }, alloc), "d", depth)? {
         text.push_str(entry.name.as_str())?;
         text.push_str(match entry.kind {
             Kind::File => " ",
@@ -303,7 +108,7 @@ static NESTED: [(&str, Node<'static>); 5] = [
 fn reads_folders_down_to_the_depth(rt: HostRuntime) -> Result<(), Fail> {
     let alloc = rt.alloc();
     let disk = (
-        Disk {
+        FakeFiles {
             nodes: NESTED.as_slice(),
         },
         alloc,
@@ -335,7 +140,7 @@ fn reads_records_under_their_names(rt: HostRuntime) -> Result<(), Fail> {
         ("r/a.link", Node::File(3)),
         ("r/b.c.link", Node::File(8_388_608)),
     ];
-    let records = read_records(&(Disk { nodes }, alloc), "r")?;
+    let records = read_records(&(FakeFiles { nodes }, alloc), "r")?;
     let mut shown = String::new(alloc);
     for (name, bytes) in records.as_slice() {
         let length = bytes.as_slice().len();

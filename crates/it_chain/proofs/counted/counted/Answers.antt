@@ -1,10 +1,9 @@
 use Rattle.std.proofs.Common.{◌≡◌, ◌∙◌, ◌+◌, ◌++◌, ◌∷◌, [], List, take, drop, take_all, Contains, true, refl, sym, ap, subst, arith}
 use Rattle.std.proofs.lemmas.List.{take_more, take-append-drop}
 use Rattle.std.proofs.lemmas.List.Elements.{Contains-append_left, Contains-get_or}
-use Rattle.std.proofs.lemmas.Result.{err_from_is_err_and}
 use Rattle.it_chain.specs.Asked.{SignaturesIn}
 use Rattle.it_chain.specs.declared.candidate.Candidate.{Candidate}
-use Rattle.it_chain.proofs.Asking.{asked_before, asked_first, asked_last, asked_more, within_none}
+use Rattle.it_chain.proofs.Asking.{asked_first, asked_last, asked_more, within_none}
 use Rattle.it_chain.proofs.SoFar.{begun, least_first, none_so_far, one_of, passed_by, repeated, two_of}
 use Rattle.it_chain.proofs.counted.counted.Goals as goal
 use Rattle.it_chain.proofs.counted.counted.Goals.{in-Some+in-None, in-Some+in-Some-first+else-not-is_same_payload, in_default}
@@ -16,7 +15,7 @@ returns-then-not-is_same_payload-clause-answer g c =
     let all = c.args.candidates.now in
     let new = c.candidate-item.result in
     let first = rw c.in-Some-first.is at c.loop-candidate.invariant.so_far in
-    let signs = rw c.in-Some.is at c.in_ok-key.ensures.answer in
+    let signs = c.in-Some.ensures.answer in
     let before : Contains all c.in-Some-first.found.now =
     subst (λ (xs : List Candidate). Contains xs c.in-Some-first.found.now) (take-append-drop i all) (Contains-append_left (take i all) (drop i all) c.in-Some-first.found.now first.is.stands) in
     let there : Contains all new = subst (Contains all) (sym c.candidate-item.is) (Contains-get_or all i new c.loop-candidate-test.true) in
@@ -35,26 +34,26 @@ loop-candidate-preserved g c =
     let now = c.loop-candidate.meter in
     let next = c.signed_by.new.meter in
     let more : take (i + 1) all ≡ take i all ++ new ∷ [] = take_more all i new c.loop-candidate-test.true ∙ ap (λ x. take i all ++ x ∷ []) (sym c.candidate-item.is) in
-    elim c.match-branch-2.branch [
+    elim c.match-signed_by.branch [
       | in-Some+in-None w ↦
-          let signs = rw w.in-Some.is at c.in_ok-key.ensures.answer in
+          let signs = w.in-Some.ensures.answer in
           rw w.first-is
           (record {
             so_far = rw more (begun check id object (take i all) new w.in-Some.key signs (rw w.in-None.is at c.loop-candidate.invariant.so_far));
-            asked = asked_first check id object all i new c.loop-candidate-test.true c.candidate-item.is old now next (least_first c.loop-candidate.first) c.loop-candidate.invariant.asked c.in_ok-key.ensures.counted w.in-Some.key signs;
+            asked = asked_first check id object all i new c.loop-candidate-test.true c.candidate-item.is old now next (least_first c.loop-candidate.first) c.loop-candidate.invariant.asked c.signed_by.ensures.counted w.in-Some.key signs;
           })
       | in-Some+in-Some-first+else-not-is_same_payload w ↦
           let same = w.is_same_payload.ensures.0 w.if-not-is_same_payload.false in
           rw (w.first-is, w.in-Some-first.is)
           (record {
             so_far = rw more (repeated check id object (take i all) new w.in-Some-first.field-0-0 w.in-Some-first.found same (rw w.in-Some-first.is at c.loop-candidate.invariant.so_far));
-            asked = asked_more check id object all i new c.loop-candidate-test.true c.candidate-item.is old now next 1 (rw w.in-Some-first.is at c.loop-candidate.invariant.asked) c.in_ok-key.ensures.counted;
+            asked = asked_more check id object all i new c.loop-candidate-test.true c.candidate-item.is old now next 1 (rw w.in-Some-first.is at c.loop-candidate.invariant.asked) c.signed_by.ensures.counted;
           })
       | in_default w ↦
           rw w.first-is
           (record {
-            so_far = rw more (passed_by check id object (take i all) new c.loop-candidate.first (rw w.in_default.is at c.in_ok-key.ensures.answer) c.loop-candidate.invariant.so_far);
-            asked = asked_more check id object all i new c.loop-candidate-test.true c.candidate-item.is old now next (least_first c.loop-candidate.first) c.loop-candidate.invariant.asked c.in_ok-key.ensures.counted;
+            so_far = rw more (passed_by check id object (take i all) new c.loop-candidate.first (rw w.in_default.is at c.signed_by.ensures.answer) c.loop-candidate.invariant.so_far);
+            asked = asked_more check id object all i new c.loop-candidate-test.true c.candidate-item.is old now next (least_first c.loop-candidate.first) c.loop-candidate.invariant.asked c.signed_by.ensures.counted;
           })
     ]
 
@@ -75,18 +74,11 @@ loop-candidate-init g c = record {
   asked = within_none (SignaturesIn []) c.args.meter.now c.args.meter.now refl;
 }
 
-pub returns-in_err-key-clause-asked : goal.returns-in_err-key-clause-asked
-returns-in_err-key-clause-asked g c =
-    let check = (g.C.Checking.setting c.args.checking.now).check in
-    let p = err_from_is_err_and c.from_residual.result c.from_residual.ensures.1 in
-    rw p.1 (asked_before check c.args.id.now c.args.object.now c.args.candidates.now c.loop-candidate.candidate-index c.candidate-item.result c.loop-candidate-test.true c.candidate-item.is c.args.meter.now c.loop-candidate.meter c.signed_by.new.meter
-    (least_first c.loop-candidate.first) c.loop-candidate.invariant.asked c.in_err-key.ensures.err)
-
 pub returns-then-not-is_same_payload-clause-asked : goal.returns-then-not-is_same_payload-clause-asked
 returns-then-not-is_same_payload-clause-asked g c =
     let check = (g.C.Checking.setting c.args.checking.now).check in
     asked_last check c.args.id.now c.args.object.now c.args.candidates.now c.loop-candidate.candidate-index c.candidate-item.result c.loop-candidate-test.true c.candidate-item.is c.args.meter.now c.loop-candidate.meter c.signed_by.new.meter
-    (least_first c.loop-candidate.first) c.loop-candidate.invariant.asked c.in_ok-key.ensures.counted
+    (least_first c.loop-candidate.first) c.loop-candidate.invariant.asked c.signed_by.ensures.counted
 
 pub returns-in-None-first-clause-asked : goal.returns-in-None-first-clause-asked
 returns-in-None-first-clause-asked g c =

@@ -1,21 +1,24 @@
-use Rattle.std.proofs.Common.{◌≡◌, ◌∙◌, ◌<ℤ◌, ◌-◌, [], ◌∷◌, None, Some, Contains, map, zip, Err, flat_map, append-nil, rules, refl, sym, ap, subst, unwrap_or, length, take, take_all, arith}
+use Rattle.std.proofs.Common.{◌≡◌, ◌∙◌, ◌<ℤ◌, ◌-◌, [], ◌∷◌, ◌++◌, Option, None, Some, Contains, map, zip, Err, flat_map, append-nil, rules, refl, sym, ap, subst, unwrap_or, length, take, take_all, arith}
 use Rattle.std.specs.FinMap.{keys}
 use Rattle.std.proofs.lemmas.Int.{ints}
 use Rattle.std.proofs.lemmas.List.Elements.{Contains-get_or}
 use Rattle.std.proofs.lemmas.Result.{err_from_is_err_and}
-use Rattle.it_chain.specs.Asked.{RaisedWithin, cost_below, key_total}
-use Rattle.it_chain.specs.Answer.{signers as signers_of}
+use Rattle.it_chain.specs.Asked.{GivenFewest, IdFewest, RaisedAtLeast, RaisedWithin, RecordsFewest, SignaturesIn, cost_below, fewest_below, key_total}
+use Rattle.it_chain.specs.Answer.{signers as signers_of, with_record}
 use Rattle.it_chain.specs.Contents.{empty, files_of, folder_at}
 use Rattle.it_chain.specs.Cost.{StepCosts}
+use Rattle.it_chain.specs.Fewest.{StepFewest}
 use Rattle.it_chain.specs.Names.{folder_name, folder_of}
 use Rattle.it_chain.specs.First.{step_places, at_id, at_records, at_threshold, here}
 use Rattle.it_chain.specs.Level.{StepHolds, links_in}
 use Rattle.it_chain.specs.Signers.{entry_of}
 use Rattle.it_chain.specs.Walk.{AreCandidates, AreRuled, BodyComes, FailsAt, Gives, StandsAt, as_body, fails_below, holds_below}
+use Rattle.it_chain.specs.declared.record.IdRecord.{IdRecord}
 use Rattle.it_chain.specs.declared.refusal.ChainError.TheVariants.{Refused}
 use Rattle.it_chain.specs.declared.refusal.ChainFault.TheVariants.{TwoPayloads}
-use Rattle.it_chain.proofs.Asking.{within_least, within_none}
+use Rattle.it_chain.proofs.Asking.{least_more, least_none, least_of, within_least, within_none}
 use Rattle.it_chain.proofs.LevelAsking.{LevelSum, OfId, SignersSum, below_asks, body_raises, candidates_raise, signer_fails, signer_more, step_asks, step_fails, step_more, step_raises}
+use Rattle.it_chain.proofs.LevelFewest.{FewestSum, below_takes, given_more, id_takes, one_fewest_below, some_fewest_below, step_takes}
 use Rattle.it_chain.proofs.LevelWalks.{level_holds, rules_fail, steps_fail}
 use Rattle.it_chain.proofs.LevelRules.{links_differ}
 use Rattle.it_chain.proofs.StepWalks.{judged_walks}
@@ -29,7 +32,7 @@ verify_id-returns-in_err-recorded-in-One-clause-answer g t c =
     let s = g.C.Checking.setting c.args.checking.now in
     let l = c.args.level.now in
     let one = one_counts (holds_below s l.depth) (fails_below s l.depth) s l.layout.now l.links.now c.args.step.now c.args.signer.now.id.now c.args.signer.now.object.now c.args.found.now c.requires.candidates c.requires.listed c.requires.known
-    c.in-One.key c.in-One.body.now (rw c.in-One.is at c.in_ok-counted.ensures.answer) in
+    c.in-One.key c.in-One.body.now c.in-One.ensures.answer in
     let p = err_from_is_err_and c.from_residual-in_err-recorded-in-One.result c.from_residual-in_err-recorded-in-One.ensures.1 in
     rw (p.1, p.2) (walks_body s l.depth l.layout.now l.links.now c.args.step.now c.args.signer.now.id.now c.in-One.key (as_body c.in-One.body.now) c.in_err-recorded-in-One.field-0.0 one
     (subst (λ n. BodyComes (holds_below s l.depth) (fails_below s l.depth) l.links.now n c.args.signer.now.id.now (as_body c.in-One.body.now) (Err c.in_err-recorded-in-One.field-0.0)) c.as_str-name.ensures c.in_err-recorded-in-One.ensures.answer))
@@ -40,7 +43,7 @@ verify_id-returns-in-Nothing-clause-answer g t c =
     let l = c.args.level.now in
     walks_given s l.depth l.layout.now l.links.now c.args.step.now c.args.signer.now.id.now None
     (none_counts (holds_below s l.depth) (fails_below s l.depth) s l.layout.now l.links.now c.args.step.now c.args.signer.now.id.now c.args.signer.now.object.now c.args.found.now c.requires.candidates c.requires.listed c.requires.known
-    (rw c.in-Nothing.is at c.in_ok-counted.ensures.answer))
+    c.in-Nothing.ensures.answer)
 
 pub verify_id-returns-in_ok-text_of-in-Several-2-clause-answer : goal.verify_id-returns-in_ok-text_of-in-Several-2-clause-answer
 verify_id-returns-in_ok-text_of-in-Several-2-clause-answer g t c =
@@ -50,7 +53,7 @@ verify_id-returns-in_ok-text_of-in-Several-2-clause-answer g t c =
     let id : c.in_ok-text_of-in-Several-2.field-0 ≡ c.args.signer.now.id.now = c.in_ok-text_of-in-Several-2.ensures in
     walks_two s l.depth l.layout.now l.links.now c.args.step.now c.args.signer.now.id.now c.refused.result
     (two_count (holds_below s l.depth) (fails_below s l.depth) s l.layout.now l.links.now c.args.step.now c.args.signer.now.id.now c.args.signer.now.object.now c.args.found.now c.requires.candidates c.requires.listed c.requires.known
-    (rw c.in-Several.is at c.in_ok-counted.ensures.answer))
+    c.in-Several.ensures.answer)
     (c.refused.ensures ∙ (λ k. Refused (here (TwoPayloads (name k) (id k)))))
 
 pub verify_id-returns-in_ok-text_of-in-One-clause-answer : goal.verify_id-returns-in_ok-text_of-in-One-clause-answer
@@ -58,7 +61,7 @@ verify_id-returns-in_ok-text_of-in-One-clause-answer g t c =
     let s = g.C.Checking.setting c.args.checking.now in
     let l = c.args.level.now in
     let one = one_counts (holds_below s l.depth) (fails_below s l.depth) s l.layout.now l.links.now c.args.step.now c.args.signer.now.id.now c.args.signer.now.object.now c.args.found.now c.requires.candidates c.requires.listed c.requires.known
-    c.in-One.key c.in-One.body.now (rw c.in-One.is at c.in_ok-counted.ensures.answer) in
+    c.in-One.key c.in-One.body.now c.in-One.ensures.answer in
     let id : c.in_ok-text_of-in-One.field-0 ≡ c.args.signer.now.id.now = c.in_ok-text_of-in-One.ensures in
     walks_one s l.depth l.layout.now l.links.now c.args.step.now c.args.signer.now.id.now c.in-One.key (as_body c.in-One.body.now) c.in_ok-recorded-in-One.recorded
     (record { id = c.in_ok-text_of-in-One.field-0; key = c.in-One.key; recorded = c.in_ok-recorded-in-One.recorded }) one (rw c.as_str-name.ensures at c.in_ok-recorded-in-One.ensures.answer)
@@ -80,6 +83,7 @@ verify_ids-loop-signer-init g t c =
     (record {
       walked = walked_none s v.depth v.layout.now v.links.now c.args.step.now;
       asked = within_none (SignersSum s v.depth v.layout.now v.links.now c.args.step.now c.args.found.now []) c.args.meter.now c.args.meter.now refl;
+      fewest = least_none (RecordsFewest (fewest_below s v.depth) s v.layout.now v.links.now c.args.step.now []) c.args.meter.now c.args.meter.now (λ n h. h) refl;
     })
 
 pub verify_ids-verify_id-requires : goal.verify_ids-verify_id-requires
@@ -99,6 +103,9 @@ verify_ids-loop-signer-preserved g t c =
     let signer = c.signer-item.result in
     let records = c.loop-signer.records.items in
     let asked = signer_more s v.depth v.layout.now v.links.now c.args.meter.now c.loop-signer.meter c.verify_id.new.meter i step c.args.found.now found signer records c.loop-signer-test.true c.signer-item.is c.loop-signer.invariant.asked in
+    let more : (given : Option IdRecord) → RaisedAtLeast (GivenFewest (fewest_below s v.depth) s v.layout.now v.links.now step given) c.loop-signer.meter c.verify_id.new.meter
+    → RaisedAtLeast (RecordsFewest (fewest_below s v.depth) s v.layout.now v.links.now step (records ++ with_record given [])) c.args.meter.now c.verify_id.new.meter =
+    λ given next. given_more (fewest_below s v.depth) (one_fewest_below s v.depth) (some_fewest_below s v.depth) (holds_below s v.depth) s v.layout.now v.links.now step given records c.args.meter.now c.loop-signer.meter c.verify_id.new.meter c.loop-signer.invariant.fewest next in
     elim c.match-record.branch [
       | verify_ids-in-Some+in_ok-push w ↦
           rw (w.records-is, w.in_ok-push.ensures.items)
@@ -106,6 +113,7 @@ verify_ids-loop-signer-preserved g t c =
             walked = walked_more s v.depth v.layout.now v.links.now step found i signer records c.loop-signer-test.true c.signer-item.is c.loop-signer.invariant.walked (Some w.in-Some.record) c.in_ok-record.ensures.answer.0
                 (subst (Gives (holds_below s v.depth) s v.layout.now v.links.now step signer.id.now) w.in-Some.is c.in_ok-record.ensures.answer.1);
             asked = asked (Some w.in-Some.record) (rw w.in-Some.is at c.in_ok-record.ensures.asked);
+            fewest = more (Some w.in-Some.record) (rw w.in-Some.is at c.in_ok-record.ensures.fewest);
           })
       | verify_ids-in_default w ↦
           rw (w.records-is, ← (append-nil records))
@@ -113,6 +121,7 @@ verify_ids-loop-signer-preserved g t c =
             walked = walked_more s v.depth v.layout.now v.links.now step found i signer records c.loop-signer-test.true c.signer-item.is c.loop-signer.invariant.walked None c.in_ok-record.ensures.answer.0
                 (subst (Gives (holds_below s v.depth) s v.layout.now v.links.now step signer.id.now) w.in_default.is c.in_ok-record.ensures.answer.1);
             asked = asked None (rw w.in_default.is at c.in_ok-record.ensures.asked);
+            fewest = more None (rw w.in_default.is at c.in_ok-record.ensures.fewest);
           })
     ]
 
@@ -215,6 +224,7 @@ verify_steps-loop-step-preserved g t c =
     record {
       none = none_more (StandsAt s v.depth v.layout.now v.links.now) (step_places v.layout.now) steps i step c.loop-step-test.true c.step-item.is c.loop-step.invariant.none c.in_ok-verify_step.ensures.answer.0;
       hold = rw c.in_ok-push.ensures.items (zip_more (StepHolds (holds_below s v.depth) s v.layout.now v.links.now) steps i step c.loop-step.results.items result c.loop-step-test.true c.step-item.is c.loop-step.invariant.hold c.in_ok-verify_step.ensures.answer.1);
+      fewest = least_more (StepFewest (fewest_below s v.depth) s v.layout.now v.links.now) c.args.meter.now c.loop-step.meter c.verify_step.new.meter steps i step c.loop-step-test.true c.step-item.is c.loop-step.invariant.fewest c.in_ok-verify_step.ensures.fewest;
       asked = rw c.in_ok-push.ensures.items (step_more s v.depth v.layout.now v.links.now c.args.meter.now c.loop-step.meter c.verify_step.new.meter i steps step c.loop-step.results.items result c.loop-step-test.true c.step-item.is c.loop-step.invariant.asked c.in_ok-verify_step.ensures.asked);
     }
 
@@ -233,7 +243,7 @@ pub verify_steps-loop-step-init : goal.verify_steps-loop-step-init
 verify_steps-loop-step-init g t c =
     let s = g.C.Checking.setting c.args.checking.now in
     let v = c.args.level.now in
-    rw c.new-results.ensures.items (record { none = tt; hold = tt; asked = within_none (LevelSum s v.depth v.layout.now v.links.now []) c.args.meter.now c.args.meter.now refl })
+    rw c.new-results.ensures.items (record { none = tt; hold = tt; asked = within_none (LevelSum s v.depth v.layout.now v.links.now []) c.args.meter.now c.args.meter.now refl; fewest = least_none (FewestSum s v.depth v.layout.now v.links.now []) c.args.meter.now c.args.meter.now (λ n h. h) refl })
 
 pub verify_steps-returns-in_err-verify_step-clause-asked : goal.verify_steps-returns-in_err-verify_step-clause-asked
 verify_steps-returns-in_err-verify_step-clause-asked g t c =
@@ -350,66 +360,102 @@ verify_sublayout-returns-clause-asked g t c =
     ap (λ r. r.now) c.unwrap_or.ensures ∙ folder_or c.dir.result _ (folder_at c.as_str.result.now links) c.dir.ensures c.new-none.ensures ∙ ap (λ n. unwrap_or (folder_at n links) empty) name in
     below_asks s c.args.sublayout.now (folder_of c.args.step.now c.args.id.now links) c.args.meter.now c.verify_level.new.meter v.depth (v.depth - 1) (omega (arith, c.if-level-eq0.false)) c.verify_level.result (rw folder at c.verify_level.ensures.asked)
 
-pub verify_id-returns-in_err-counted-clause-asked : goal.verify_id-returns-in_err-counted-clause-asked
-verify_id-returns-in_err-counted-clause-asked g t c =
-    let s = g.C.Checking.setting c.args.checking.now in
-    let l = c.args.level.now in
-    let p = err_from_is_err_and c.from_residual.result c.from_residual.ensures.1 in
-    rw p.1 (candidates_raise s l.depth l.layout.now l.links.now c.args.step.now c.args.found.now c.args.signer.now.id.now 0 c.args.meter.now c.counted.new.meter c.in_err-counted.ensures.asked)
-
 pub verify_id-returns-in_err-text_of-in-Several-clause-asked : goal.verify_id-returns-in_err-text_of-in-Several-clause-asked
 verify_id-returns-in_err-text_of-in-Several-clause-asked g t c =
     let s = g.C.Checking.setting c.args.checking.now in
     let l = c.args.level.now in
-    let p = err_from_is_err_and c.from_residual-in_err-text_of-in-Several.result c.from_residual-in_err-text_of-in-Several.ensures.1 in
-    rw p.1 (candidates_raise s l.depth l.layout.now l.links.now c.args.step.now c.args.found.now c.args.signer.now.id.now 0 c.args.meter.now c.counted.new.meter (rw c.in-Several.is at c.in_ok-counted.ensures.asked))
+    let p = err_from_is_err_and c.from_residual.result c.from_residual.ensures.1 in
+    rw p.1 (candidates_raise s l.depth l.layout.now l.links.now c.args.step.now c.args.found.now c.args.signer.now.id.now 0 c.args.meter.now c.counted.new.meter c.in-Several.ensures.asked)
 
 pub verify_id-returns-in_err-text_of-in-Several-2-clause-asked : goal.verify_id-returns-in_err-text_of-in-Several-2-clause-asked
 verify_id-returns-in_err-text_of-in-Several-2-clause-asked g t c =
     let s = g.C.Checking.setting c.args.checking.now in
     let l = c.args.level.now in
     let p = err_from_is_err_and c.from_residual-in_err-text_of-in-Several-2.result c.from_residual-in_err-text_of-in-Several-2.ensures.1 in
-    rw p.1 (candidates_raise s l.depth l.layout.now l.links.now c.args.step.now c.args.found.now c.args.signer.now.id.now 0 c.args.meter.now c.counted.new.meter (rw c.in-Several.is at c.in_ok-counted.ensures.asked))
+    rw p.1 (candidates_raise s l.depth l.layout.now l.links.now c.args.step.now c.args.found.now c.args.signer.now.id.now 0 c.args.meter.now c.counted.new.meter c.in-Several.ensures.asked)
 
 pub verify_id-returns-in_ok-text_of-in-Several-2-clause-asked : goal.verify_id-returns-in_ok-text_of-in-Several-2-clause-asked
 verify_id-returns-in_ok-text_of-in-Several-2-clause-asked g t c =
     let s = g.C.Checking.setting c.args.checking.now in
     let l = c.args.level.now in
-    candidates_raise s l.depth l.layout.now l.links.now c.args.step.now c.args.found.now c.args.signer.now.id.now 0 c.args.meter.now c.counted.new.meter (rw c.in-Several.is at c.in_ok-counted.ensures.asked)
+    candidates_raise s l.depth l.layout.now l.links.now c.args.step.now c.args.found.now c.args.signer.now.id.now 0 c.args.meter.now c.counted.new.meter c.in-Several.ensures.asked
 
 pub verify_id-returns-in-Nothing-clause-asked : goal.verify_id-returns-in-Nothing-clause-asked
 verify_id-returns-in-Nothing-clause-asked g t c =
     let s = g.C.Checking.setting c.args.checking.now in
     let l = c.args.level.now in
-    candidates_raise s l.depth l.layout.now l.links.now c.args.step.now c.args.found.now c.args.signer.now.id.now 0 c.args.meter.now c.counted.new.meter (rw c.in-Nothing.is at c.in_ok-counted.ensures.asked)
+    candidates_raise s l.depth l.layout.now l.links.now c.args.step.now c.args.found.now c.args.signer.now.id.now 0 c.args.meter.now c.counted.new.meter c.in-Nothing.ensures.asked
 
 pub verify_id-returns-in_err-recorded-in-One-clause-asked : goal.verify_id-returns-in_err-recorded-in-One-clause-asked
 verify_id-returns-in_err-recorded-in-One-clause-asked g t c =
     let s = g.C.Checking.setting c.args.checking.now in
     let l = c.args.level.now in
     let one = one_counts (holds_below s l.depth) (fails_below s l.depth) s l.layout.now l.links.now c.args.step.now c.args.signer.now.id.now c.args.signer.now.object.now c.args.found.now c.requires.candidates c.requires.listed c.requires.known
-    c.in-One.key c.in-One.body.now (rw c.in-One.is at c.in_ok-counted.ensures.answer) in
+    c.in-One.key c.in-One.body.now c.in-One.ensures.answer in
     let p = err_from_is_err_and c.from_residual-in_err-recorded-in-One.result c.from_residual-in_err-recorded-in-One.ensures.1 in
     rw p.1 (within_least 0 1 (OfId s l.depth l.layout.now l.links.now c.args.step.now c.args.found.now c.args.signer.now.id.now) c.args.meter.now c.verify_body.new.meter (omega arith)
     (body_raises s l.depth l.layout.now l.links.now c.args.step.now c.args.found.now c.args.signer.now.id.now (holds_below s l.depth) c.in-One.key (as_body c.in-One.body.now) one c.args.meter.now c.counted.new.meter c.verify_body.new.meter
-    (rw c.in-One.is at c.in_ok-counted.ensures.asked) (rw c.as_str-name.ensures at c.in_err-recorded-in-One.ensures.asked)))
+    c.in-One.ensures.asked (rw c.as_str-name.ensures at c.in_err-recorded-in-One.ensures.asked)))
 
 pub verify_id-returns-in_err-text_of-in-One-clause-asked : goal.verify_id-returns-in_err-text_of-in-One-clause-asked
 verify_id-returns-in_err-text_of-in-One-clause-asked g t c =
     let s = g.C.Checking.setting c.args.checking.now in
     let l = c.args.level.now in
     let one = one_counts (holds_below s l.depth) (fails_below s l.depth) s l.layout.now l.links.now c.args.step.now c.args.signer.now.id.now c.args.signer.now.object.now c.args.found.now c.requires.candidates c.requires.listed c.requires.known
-    c.in-One.key c.in-One.body.now (rw c.in-One.is at c.in_ok-counted.ensures.answer) in
+    c.in-One.key c.in-One.body.now c.in-One.ensures.answer in
     let p = err_from_is_err_and c.from_residual-in_err-text_of-in-One.result c.from_residual-in_err-text_of-in-One.ensures.1 in
     rw p.1 (within_least 0 1 (OfId s l.depth l.layout.now l.links.now c.args.step.now c.args.found.now c.args.signer.now.id.now) c.args.meter.now c.verify_body.new.meter (omega arith)
     (body_raises s l.depth l.layout.now l.links.now c.args.step.now c.args.found.now c.args.signer.now.id.now (holds_below s l.depth) c.in-One.key (as_body c.in-One.body.now) one c.args.meter.now c.counted.new.meter c.verify_body.new.meter
-    (rw c.in-One.is at c.in_ok-counted.ensures.asked) (rw c.as_str-name.ensures at c.in_ok-recorded-in-One.ensures.asked)))
+    c.in-One.ensures.asked (rw c.as_str-name.ensures at c.in_ok-recorded-in-One.ensures.asked)))
 
 pub verify_id-returns-in_ok-text_of-in-One-clause-asked : goal.verify_id-returns-in_ok-text_of-in-One-clause-asked
 verify_id-returns-in_ok-text_of-in-One-clause-asked g t c =
     let s = g.C.Checking.setting c.args.checking.now in
     let l = c.args.level.now in
     let one = one_counts (holds_below s l.depth) (fails_below s l.depth) s l.layout.now l.links.now c.args.step.now c.args.signer.now.id.now c.args.signer.now.object.now c.args.found.now c.requires.candidates c.requires.listed c.requires.known
-    c.in-One.key c.in-One.body.now (rw c.in-One.is at c.in_ok-counted.ensures.answer) in
+    c.in-One.key c.in-One.body.now c.in-One.ensures.answer in
     body_raises s l.depth l.layout.now l.links.now c.args.step.now c.args.found.now c.args.signer.now.id.now (holds_below s l.depth) c.in-One.key (as_body c.in-One.body.now) one c.args.meter.now c.counted.new.meter c.verify_body.new.meter
-    (rw c.in-One.is at c.in_ok-counted.ensures.asked) (rw c.as_str-name.ensures at c.in_ok-recorded-in-One.ensures.asked)
+    c.in-One.ensures.asked (rw c.as_str-name.ensures at c.in_ok-recorded-in-One.ensures.asked)
+
+-- ---- the least that is asked
+pub verify_steps-returns-clause-fewest : goal.verify_steps-returns-clause-fewest
+verify_steps-returns-clause-fewest g t c =
+    let s = g.C.Checking.setting c.args.checking.now in
+    let v = c.args.level.now in
+    let steps = c.as_slice-step-items.result.now in
+    let all : take c.loop-step.step-index steps ≡ v.layout.now.steps = take_all c.loop-step.step-index steps (omega arith) ∙ c.as_slice-step-items.ensures in
+    subst (λ ss. RaisedAtLeast (FewestSum s v.depth v.layout.now v.links.now ss) c.args.meter.now c.loop-step.meter) all c.loop-step.invariant.fewest
+
+pub verify_level-returns-clause-fewest : goal.verify_level-returns-clause-fewest
+verify_level-returns-clause-fewest g t c = c.in_ok-steps.ensures.fewest
+
+pub verify_step-returns-clause-fewest : goal.verify_step-returns-clause-fewest
+verify_step-returns-clause-fewest g t c =
+    let s = g.C.Checking.setting c.args.checking.now in
+    let v = c.args.level.now in
+    step_takes (fewest_below s v.depth) (one_fewest_below s v.depth) (some_fewest_below s v.depth) (holds_below s v.depth) s v.layout.now v.links.now c.args.step.now c.in_ok-records.records.items c.in_ok-records.ensures.answer.1
+    (fails_below s v.depth) (one_below s v.depth) c.args.meter.now c.verify_ids.new.meter c.judged.result c.in_ok-records.ensures.fewest
+
+pub verify_sublayout-returns-clause-fewest : goal.verify_sublayout-returns-clause-fewest
+verify_sublayout-returns-clause-fewest g t c =
+    let s = g.C.Checking.setting c.args.checking.now in
+    let v = c.args.level.now in
+    let links = v.links.now in
+    let name : c.as_str.result.now ≡ folder_name c.args.step.now c.args.id.now = c.as_str.ensures.value ∙ c.in_ok-name.ensures in
+    let folder : c.unwrap_or.result.now ≡ folder_of c.args.step.now c.args.id.now links =
+    ap (λ r. r.now) c.unwrap_or.ensures ∙ folder_or c.dir.result _ (folder_at c.as_str.result.now links) c.dir.ensures c.new-none.ensures ∙ ap (λ n. unwrap_or (folder_at n links) empty) name in
+    below_takes s c.args.sublayout.now (folder_of c.args.step.now c.args.id.now links) c.args.meter.now c.verify_level.new.meter v.depth (v.depth - 1) (omega (arith, c.if-level-eq0.false)) c.verify_level.result (rw folder at c.verify_level.ensures.fewest)
+
+pub verify_id-returns-in-Nothing-clause-fewest : goal.verify_id-returns-in-Nothing-clause-fewest
+verify_id-returns-in-Nothing-clause-fewest g t c = least_of 0 (SignaturesIn c.args.found.now) c.args.meter.now c.counted.new.meter c.in-Nothing.ensures.asked
+
+pub verify_id-returns-in_ok-text_of-in-One-clause-fewest : goal.verify_id-returns-in_ok-text_of-in-One-clause-fewest
+verify_id-returns-in_ok-text_of-in-One-clause-fewest g t c =
+    let s = g.C.Checking.setting c.args.checking.now in
+    let l = c.args.level.now in
+    let one = one_counts (holds_below s l.depth) (fails_below s l.depth) s l.layout.now l.links.now c.args.step.now c.args.signer.now.id.now c.args.signer.now.object.now c.args.found.now c.requires.candidates c.requires.listed c.requires.known
+    c.in-One.key c.in-One.body.now c.in-One.ensures.answer in
+    let id : c.in_ok-text_of-in-One.field-0 ≡ c.args.signer.now.id.now = c.in_ok-text_of-in-One.ensures in
+    subst (λ i. RaisedAtLeast (IdFewest (fewest_below s l.depth) s l.layout.now l.links.now c.args.step.now i) c.args.meter.now c.verify_body.new.meter) (sym id)
+    (id_takes (fewest_below s l.depth) (one_fewest_below s l.depth) (some_fewest_below s l.depth) (holds_below s l.depth) s l.layout.now l.links.now c.args.step.now c.args.signer.now.id.now c.in-One.key (as_body c.in-One.body.now) one c.args.found.now
+    c.args.meter.now c.counted.new.meter c.verify_body.new.meter c.in-One.ensures.asked (rw c.as_str-name.ensures at c.in_ok-recorded-in-One.ensures.fewest))

@@ -1,6 +1,7 @@
 use Rattle.std.proofs.Common.{rules, w64}
 use Rattle.std.proofs.lemmas.Int.{to_z-of_z}
 use Rattle.it_chain.proofs.LevelAsking.{chain_at_least, chain_at_most}
+use Rattle.it_chain.proofs.LevelFewest.{chain_takes}
 use Rattle.it_chain.proofs.Walks.{ok_of, bad_of}
 use Rattle.it_chain.proofs.verify.verify_chain.Goals as goal
 
@@ -15,4 +16,8 @@ returns-clause-at_most g c =
     rw (to_z-of_z w64 c.args.moment (search rules)) at (chain_at_most _ c.args.depth c.args.layout.now c.args.links.now c.args.meter.now c.verify_level.new.meter c.verify_level.result c.verify_level.ensures.asked)
 
 pub returns-clause-at_least : goal.returns-clause-at_least
-returns-clause-at_least g c = chain_at_least _ c.args.depth c.args.layout.now c.args.links.now c.args.meter.now c.verify_level.new.meter c.verify_level.result c.verify_level.ensures.asked
+returns-clause-at_least g c =
+    rw (to_z-of_z w64 c.args.moment (search rules)) at (chain_takes _ c.args.layout.now c.args.links.now c.args.meter.now c.verify_level.new.meter c.args.depth c.verify_level.result c.verify_level.ensures.fewest)
+
+pub returns-clause-at_least_keys : goal.returns-clause-at_least_keys
+returns-clause-at_least_keys g c = chain_at_least _ c.args.depth c.args.layout.now c.args.links.now c.args.meter.now c.verify_level.new.meter c.verify_level.result c.verify_level.ensures.asked

@@ -27,3 +27,6 @@ returns-in_err-links-clause-at_most g c = rw (to_z-of_z w64 c.args.documents.now
 
 pub returns-clause-at_most : goal.returns-clause-at_most
 returns-clause-at_most g c = rw (to_z-of_z w64 c.args.documents.now.moment (search rules)) at c.verify_chain.ensures.at_most
+
+pub returns-clause-at_least : goal.returns-clause-at_least
+returns-clause-at_least g c = rw (to_z-of_z w64 c.args.documents.now.moment (search rules)) at c.in_ok-chain.ensures.at_least

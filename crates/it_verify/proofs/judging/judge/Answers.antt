@@ -1,9 +1,9 @@
 use Rattle.std.proofs.Common.{flat_map, zip, refl, sym, subst}
 use Rattle.std.proofs.lemmas.Result.{err_from_is_err_and}
+use Rattle.it_base.specs.Places.{IsFirst}
 use Rattle.it_docs.specs.declared.rule.Side.TheVariants.{Products}
 use Rattle.it_rules.specs.Item.{links_of as lent_of}
 use Rattle.it_rules.specs.Rules.{NamesDiffer, RulesHold}
-use Rattle.it_chain.specs.First.{IsFirst}
 use Rattle.it_prov.proofs.Asking.{raised_none}
 use Rattle.it_verify.specs.First.{InspectionFails, sides_of}
 use Rattle.it_verify.specs.Gathering.{DeliverFails}
@@ -11,7 +11,7 @@ use Rattle.it_verify.specs.Made.{delivery}
 use Rattle.it_verify.specs.Walk.{RefusedAs}
 use Rattle.it_verify.proofs.NamesApart.{lent_links, links_differ}
 use Rattle.it_verify.proofs.RulesJudged.{Hold}
-use Rattle.it_verify.proofs.WholeCosting.{files_cost}
+use Rattle.it_verify.proofs.WholeCosting.{files_cost, files_take}
 use Rattle.it_verify.proofs.Verified.{deliver_fails, inspections_fail, judged_whole}
 use Rattle.it_verify.proofs.judging.judge.Goals as goal
 
@@ -86,3 +86,9 @@ pub returns-clause-at_most : goal.returns-clause-at_most
 returns-clause-at_most g c =
     files_cost c.args.inputs.now c.args.documents.now c.in_ok-envelopes.envelopes.items (rw c.as_slice-5.ensures at c.in_ok-envelopes.ensures.envelopes) c.args.meter.now c.find_each.new.meter
     (rw (c.as_slice-expectations.ensures, c.as_slice-6.ensures.value) at c.find_each.ensures.at_most)
+
+pub returns-clause-at_least : goal.returns-clause-at_least
+returns-clause-at_least g c =
+    let check = (goal.SignatureCheck-dyn g (c.args.check.now.vtable, c.args.check.now.value)).meaning c.args.check.now.value in
+    files_take check c.args.inputs.now c.args.documents.now c.in_ok-envelopes.envelopes.items (rw c.as_slice-5.ensures at c.in_ok-envelopes.ensures.envelopes) c.args.meter.now c.find_each.new.meter c.find_each.result
+    (rw (c.as_slice-expectations.ensures, c.as_slice-6.ensures.value) at c.find_each.ensures.at_least)

@@ -1,54 +1,36 @@
-use Rattle.std.proofs.Common.{◌≡◌, ◌∙◌, ℕ, List, ap, string_bytes}
+use Rattle.std.proofs.Common.{ℕ, List, string_bytes}
+use Rattle.std.proofs.lemmas.Result.{err_from_is_err_and}
 use Rattle.it_dsse.specs.declared.key_object.KeyObject.{KeyObject}
 use Rattle.it_docs.specs.Table.{named_entries}
-use Rattle.it_verify.specs.First.{whole}
-use Rattle.it_verify.specs.declared.failure.Failure.TheVariants.{Refused}
-use Rattle.it_verify.specs.declared.refusal.Fault.TheVariants.{OwnerMissing}
-use Rattle.it_verify.proofs.Owning.{all_at_least, all_at_most, all_sign, asked_more, none_asked, one_at_most, owner_missing}
+use Rattle.it_verify.proofs.Owning.{all_at_most, all_counted, all_sign, asked_more, none_asked, one_at_most, owner_missing}
 use Rattle.it_verify.proofs.owners.check_owners.Goals as goal
 
 pub loop-id-init : goal.loop-id-init
 loop-id-init g c =
     let check = (goal.SignatureCheck-dyn g (c.args.check.now.vtable, c.args.check.now.value)).meaning c.args.check.now.value in
-    none_asked check c.args.envelope.now c.args.owners.now c.args.meter.now (named_entries c.into_iter-id-iterator.result) (ap named_entries c.into_iter-id-iterator.ensures.into_iter_gives ∙ c.iter-id-items.ensures)
-
-pub returns-then-not-branch-clause-signed : goal.returns-then-not-branch-clause-signed
-returns-then-not-branch-clause-signed g c =
-    let check = (goal.SignatureCheck-dyn g (c.args.check.now.vtable, c.args.check.now.value)).meaning c.args.check.now.value in
-    let owner : List ℕ × KeyObject = (string_bytes c.in-Some.id.now, c.in-Some.object.now) in
-    let lacks = rw (c.if-not-branch.true, c.as_str.ensures.value) at c.in_ok-signs.ensures.signer in
-    let id : c.in_ok-id.id ≡ owner.0 = c.in_ok-id.ensures ∙ c.as_str-then-not-branch.ensures.value in
-    owner_missing check c.args.envelope.now c.args.owners.now owner (named_entries c.next.new.self) c.args.meter.now c.loop-id.meter (rw c.in-Some.ensures.steps at c.loop-id.invariant)
-    c.refused.result lacks (c.refused.ensures ∙ ap (λ n. Refused (whole (OwnerMissing n))) id)
-
-pub returns-then-not-branch-clause-at_most : goal.returns-then-not-branch-clause-at_most
-returns-then-not-branch-clause-at_most g c =
-    let check = (goal.SignatureCheck-dyn g (c.args.check.now.vtable, c.args.check.now.value)).meaning c.args.check.now.value in
-    let owner : List ℕ × KeyObject = (string_bytes c.in-Some.id.now, c.in-Some.object.now) in
-    one_at_most check c.args.envelope.now c.args.owners.now owner (named_entries c.next.new.self) c.args.meter.now c.loop-id.meter (rw c.in-Some.ensures.steps at c.loop-id.invariant)
-    c.signs.new.meter c.signs.ensures.at_most
-
-pub returns-in_err-signs-clause-at_most : goal.returns-in_err-signs-clause-at_most
-returns-in_err-signs-clause-at_most g c =
-    let check = (goal.SignatureCheck-dyn g (c.args.check.now.vtable, c.args.check.now.value)).meaning c.args.check.now.value in
-    let owner : List ℕ × KeyObject = (string_bytes c.in-Some.id.now, c.in-Some.object.now) in
-    one_at_most check c.args.envelope.now c.args.owners.now owner (named_entries c.next.new.self) c.args.meter.now c.loop-id.meter (rw c.in-Some.ensures.steps at c.loop-id.invariant)
-    c.signs.new.meter c.signs.ensures.at_most
-
-pub returns-in_err-id-clause-at_most : goal.returns-in_err-id-clause-at_most
-returns-in_err-id-clause-at_most g c =
-    let check = (goal.SignatureCheck-dyn g (c.args.check.now.vtable, c.args.check.now.value)).meaning c.args.check.now.value in
-    let owner : List ℕ × KeyObject = (string_bytes c.in-Some.id.now, c.in-Some.object.now) in
-    one_at_most check c.args.envelope.now c.args.owners.now owner (named_entries c.next.new.self) c.args.meter.now c.loop-id.meter (rw c.in-Some.ensures.steps at c.loop-id.invariant)
-    c.signs.new.meter c.signs.ensures.at_most
+    none_asked check c.args.envelope.now c.args.owners.now c.args.meter.now (named_entries c.into_iter-id-iterator.result) cc
 
 pub loop-id-preserved : goal.loop-id-preserved
 loop-id-preserved g c =
     let check = (goal.SignatureCheck-dyn g (c.args.check.now.vtable, c.args.check.now.value)).meaning c.args.check.now.value in
     let owner : List ℕ × KeyObject = (string_bytes c.in-Some.id.now, c.in-Some.object.now) in
-    let signs = rw (c.if-not-branch.false, c.as_str.ensures.value) at c.in_ok-signs.ensures.signer in
-    asked_more check c.args.envelope.now c.args.owners.now owner (named_entries c.next.new.self) c.args.meter.now c.loop-id.meter (rw c.in-Some.ensures.steps at c.loop-id.invariant)
-    c.signs.new.meter c.signs.ensures.at_most signs (c.in_ok-signs.ensures.at_least c.if-not-branch.false)
+    asked_more check c.args.envelope.now c.args.owners.now owner (named_entries c.next.new.self) c.args.meter.now c.loop-id.meter c.check_owner.new.meter (rw c.in-Some.ensures.steps at c.loop-id.invariant)
+    (rw c.as_str.ensures.value at c.check_owner.ensures.counted) (rw c.as_str.ensures.value at c.in_ok-check_owner.ensures.signed)
+
+pub returns-in_err-check_owner-clause-signed : goal.returns-in_err-check_owner-clause-signed
+returns-in_err-check_owner-clause-signed g c =
+    let check = (goal.SignatureCheck-dyn g (c.args.check.now.vtable, c.args.check.now.value)).meaning c.args.check.now.value in
+    let owner : List ℕ × KeyObject = (string_bytes c.in-Some.id.now, c.in-Some.object.now) in
+    let p = err_from_is_err_and c.from_residual.result c.from_residual.ensures.1 in
+    rw (p.1, p.2) (owner_missing check c.args.envelope.now c.args.owners.now owner (named_entries c.next.new.self) c.args.meter.now c.loop-id.meter c.check_owner.new.meter
+    (rw c.in-Some.ensures.steps at c.loop-id.invariant) c.in_err-check_owner.field-0.0 (rw c.as_str.ensures.value at c.in_err-check_owner.ensures.signed))
+
+pub returns-in_err-check_owner-clause-at_most : goal.returns-in_err-check_owner-clause-at_most
+returns-in_err-check_owner-clause-at_most g c =
+    let check = (goal.SignatureCheck-dyn g (c.args.check.now.vtable, c.args.check.now.value)).meaning c.args.check.now.value in
+    let owner : List ℕ × KeyObject = (string_bytes c.in-Some.id.now, c.in-Some.object.now) in
+    one_at_most check c.args.envelope.now c.args.owners.now owner (named_entries c.next.new.self) c.args.meter.now c.loop-id.meter c.check_owner.new.meter (rw c.in-Some.ensures.steps at c.loop-id.invariant)
+    (rw c.as_str.ensures.value at c.check_owner.ensures.counted)
 
 pub returns-clause-signed : goal.returns-clause-signed
 returns-clause-signed g c =
@@ -60,7 +42,7 @@ returns-clause-at_most g c =
     let check = (goal.SignatureCheck-dyn g (c.args.check.now.vtable, c.args.check.now.value)).meaning c.args.check.now.value in
     all_at_most check c.args.envelope.now c.args.owners.now c.args.meter.now c.loop-id.meter (rw c.in-None.ensures.steps.0 at c.loop-id.invariant)
 
-pub returns-clause-at_least : goal.returns-clause-at_least
-returns-clause-at_least g c =
+pub returns-clause-counted : goal.returns-clause-counted
+returns-clause-counted g c =
     let check = (goal.SignatureCheck-dyn g (c.args.check.now.vtable, c.args.check.now.value)).meaning c.args.check.now.value in
-    all_at_least check c.args.envelope.now c.args.owners.now c.args.meter.now c.loop-id.meter (rw c.in-None.ensures.steps.0 at c.loop-id.invariant)
+    all_counted check c.args.envelope.now c.args.owners.now c.args.meter.now c.loop-id.meter (rw c.in-None.ensures.steps.0 at c.loop-id.invariant)

@@ -10,3 +10,6 @@ returns-clause-provenance g c = rw (← c.in_ok-attestations.ensures.same) c.fin
 
 pub returns-clause-at_most : goal.returns-clause-at_most
 returns-clause-at_most g c = rw (← c.in_ok-attestations.ensures.same) c.find_each_among.ensures.at_most
+
+pub returns-clause-at_least : goal.returns-clause-at_least
+returns-clause-at_least g c = rw (← c.in_ok-attestations.ensures.same) c.find_each_among.ensures.at_least

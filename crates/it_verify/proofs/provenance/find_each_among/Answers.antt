@@ -10,7 +10,7 @@ loop-path-preserved g c =
     let check = (goal.SignatureCheck-dyn g (c.args.check.now.vtable, c.args.check.now.value)).meaning c.args.check.now.value in
     let file : List ℕ × DigestSet = (string_bytes c.in-Some.path.now, c.in-Some.digests.now) in
     one_searched check c.args.expectations.now c.args.attestations.now.envelopes.now c.args.delivered.now c.args.meter.now c.loop-path.meter c.find_one.new.meter file (path_entries c.next.new.self)
-    (rw c.in-Some.ensures.steps at c.loop-path.invariant) (rw c.as_str.ensures.value at c.find_one.ensures.at_most) (rw c.as_str.ensures.value at c.in_ok-find_one.ensures.provenance) c.in_ok-find_one.ensures.at_least
+    (rw c.in-Some.ensures.steps at c.loop-path.invariant) (rw c.as_str.ensures.value at c.find_one.ensures.at_most) (rw c.as_str.ensures.value at c.in_ok-find_one.ensures.provenance) (rw c.as_str.ensures.value at c.in_ok-find_one.ensures.at_least)
 
 pub returns-in_err-find_one-clause-provenance : goal.returns-in_err-find_one-clause-provenance
 returns-in_err-find_one-clause-provenance g c =

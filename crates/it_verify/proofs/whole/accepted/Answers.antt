@@ -38,5 +38,6 @@ returns-clause-at_most g c =
 
 pub returns-clause-at_least : goal.returns-clause-at_least
 returns-clause-at_least g c =
-    takes_enough c.args.inputs.now c.in_ok-documents.documents c.in_ok-documents.ensures.documents.read c.in_ok-evidence.evidence c.in_ok-verdict_of.field-0 c.args.meter.now c.read_documents.new.meter c.gather.new.meter c.judge.new.meter
-    c.in_ok-verdict_of.ensures.verdict c.in_ok-documents.ensures.at_least c.in_ok-evidence.ensures.at_least c.in_ok-judge.ensures.at_least
+    let check = (goal.SignatureCheck-dyn g (c.args.check.now.vtable, c.args.check.now.value)).meaning c.args.check.now.value in
+    takes_enough check c.args.inputs.now c.in_ok-documents.documents c.in_ok-documents.ensures.documents c.in_ok-evidence.evidence c.args.meter.now c.read_documents.new.meter c.gather.new.meter c.judge.new.meter
+    c.in_ok-documents.ensures.counted c.in_ok-judge.ensures.at_least c.in_ok-verdict_of.field-0 c.in_ok-verdict_of.ensures.verdict c.in_ok-evidence.ensures.at_least c.in_ok-evidence.ensures.at_least_keys

@@ -17,4 +17,6 @@ pub returns-clause-asked_at_most : goal.returns-clause-asked_at_most
 returns-clause-asked_at_most g c = λ most cost. asked_most (record { asked = 0 }) c.verdict_on.new.meter refl most (c.verdict_on.ensures.at_most most cost)
 
 pub returns-clause-asked_at_least : goal.returns-clause-asked_at_least
-returns-clause-asked_at_least g c = asks_enough (record { asked = 0 }) c.verdict_on.new.meter refl c.args.inputs.now c.in_ok-verdict.verdict c.in_ok-verdict.ensures.at_least
+returns-clause-asked_at_least g c =
+    let check = (goal.SignatureCheck-dyn g (c.args.check.now.vtable, c.args.check.now.value)).meaning c.args.check.now.value in
+    asks_enough (record { asked = 0 }) c.verdict_on.new.meter refl check c.args.inputs.now c.in_ok-verdict.verdict c.in_ok-verdict.ensures.at_least

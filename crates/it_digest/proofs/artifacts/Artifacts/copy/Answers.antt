@@ -1,7 +1,6 @@
-use Rattle.std.proofs.Common.{◌∙◌, ap}
-use Rattle.std.specs.FinMap.{from_entries}
-use Rattle.it_digest.proofs.ArtifactsLemmas.{path_entries-clones}
+use Rattle.std.proofs.Common.{◌∙◌}
+use Rattle.std.proofs.lemmas.Result.{IfOk-weaker}
 use Rattle.it_digest.proofs.artifacts.Artifacts.copy.Goals as goal
 
 pub returns : goal.returns
-returns c = ap (λ es. from_entries es) (path_entries-clones _ _ c.in_ok-by_path.ensures.cases) ∙ c.self.view_is
+returns c = IfOk-weaker c.map_of.result _ _ (λ copy h. h ∙ c.self.view_is) c.map_of.ensures

@@ -1,0 +1,83 @@
+//! The paths of one side of an item, with a mark on each that a rule has consumed.
+ghost use Rattle.std.specs.Prelude.{◌≡◌, ◌↔◌, List, ℕ, length, IfOk, OnOk, IsTrue, MatchOption};
+ghost use Rattle.it_rules.specs.Item.{links_of, recorded_of};
+ghost use Rattle.it_rules.specs.Marks.{ArePaths, ArePathsOf, IsLeft};
+ghost use Rattle.it_rules.specs.Rules.{Claims, IsLeastMatch, IsMatch, NamesDiffer};
+
+use crate::claims::claims;
+use crate::item::{Item, Named};
+use crate::reach::{claimed_range, pattern_range};
+use it_digest::artifacts::Artifacts;
+use it_docs::rule::{Rule, Side};
+use it_glob::Pattern;
+use std::alloc::{AllocError, Global};
+
+/// The paths of a map, in the order of their bytes.
+pub(crate) fn paths_of(alloc: Global, artifacts: &Artifacts) -> Result<Vec<&str>, AllocError>
+    ensures { IfOk result (λ paths. ArePathsOf artifacts.now paths.items) }
+{
+    let mut paths = Vec::new(alloc);
+    for path in artifacts.paths() {
+        paths.push(path.as_str())?;
+    }
+    Ok(paths)
+}
+
+/// Marks the paths that a rule claims among those without a mark.
+pub(crate) fn consume(
+    alloc: Global,
+    paths: &[&str],
+    marks: &mut [bool],
+    rule: &Rule,
+    side: Side,
+    item: &Item,
+    links: &[Named],
+) -> Result<(), AllocError>
+    requires paths { ArePaths paths.now }
+    requires marks { length marks.old ≡ length paths.now }
+    requires names { NamesDiffer (links_of links.now) }
+    ensures { OnOk result ((path : List ℕ) → IsLeft paths.now marks.new path
+        ↔ (IsLeft paths.now marks.old path
+        × ¬ Claims rule.now side (recorded_of item.now) (links_of links.now) path)) }
+{
+    let (start, end) = claimed_range(alloc, rule, paths)?;
+    for place in start..end {
+        if !marks[place] && claims(alloc, rule, side, item, links, paths[place])? {
+            marks[place] = true;
+        }
+    }
+    Ok(())
+}
+
+/// The least path without a mark that a pattern matches.
+pub(crate) fn least_match<'a>(
+    paths: &[&'a str],
+    marks: &[bool],
+    pattern: &Pattern,
+) -> Option<&'a str>
+    requires paths { ArePaths paths.now }
+    requires marks { length marks.now ≡ length paths.now }
+    ensures { MatchOption result
+        ((path : List ℕ) → IsLeft paths.now marks.now path → ¬ IsMatch pattern.now path)
+        (λ path. IsLeastMatch pattern.now (IsLeft paths.now marks.now) path.now) }
+{
+    let (start, end) = pattern_range(pattern, paths);
+    for place in start..end {
+        if !marks[place] && pattern.matches(paths[place]) {
+            return Some(paths[place]);
+        }
+    }
+    None
+}
+
+/// Whether a path stands among the paths, without a mark.
+pub(crate) fn is_left(paths: &[&str], marks: &[bool], path: &str) -> bool
+    requires paths { ArePaths paths.now }
+    requires marks { length marks.now ≡ length paths.now }
+    ensures { IsTrue result ↔ IsLeft paths.now marks.now path.now }
+{
+    match paths.binary_search(&path) {
+        Ok(place) => !marks[place],
+        Err(_) => false,
+    }
+}

@@ -1,0 +1,80 @@
+-- What the commands write and find, by their words and by what stands at the paths in them.
+use Rattle.std.specs.Prelude.{◌≡◌, ℕ, List, [], ◌∷◌, ◌++◌, Option}
+use Rattle.std.specs.Cmp.Lexicographic.{slice_cmp}
+use Rattle.std.specs.List.Sorted.{IsPermutation, IsSorted}
+use Rattle.std.specs.Ordering.{nat_cmp}
+use Rattle.it_dsse.specs.Pae.{pae_of}
+use Rattle.it_dsse.specs.Ring.{ids_of, ring_check}
+use Rattle.it_dsse.specs.declared.ring_entry.RingEntry.{RingEntry}
+use Rattle.it_verify.specs.Digesting.{IsDigestLine}
+use Rattle.it_verify.specs.Matching.{IsMatchOutput}
+use Rattle.it_verify.specs.Signed.{IsSignedOutput}
+use Rattle.it_verify.specs.Signing.{IsSignOutput}
+use Rattle.it_verify.specs.Verifying.{IsVerifyOutput}
+use Rattle.it_verify.specs.declared.inputs.Inputs.{Inputs}
+use Rattle.it_verify.specs.declared.outcome.Status.{Status}
+use Rattle.it_verify.specs.declared.outcome.Status.TheVariants.{Good}
+use Rattle.it_verify.specs.declared.words.Words.{Words}
+use Rattle.it_verify.specs.declared.words.Words.TheVariants.{Signed, Match, Pae, Sign, Digest, Verify}
+use Rattle.it_verify.specs.declared.words.encoding.PaeWords.{PaeWords}
+use Rattle.it_verify.specs.declared.words.signed.SignedWords.{SignedWords}
+use Rattle.it_verify.specs.declared.words.signing.SignWords.{SignWords}
+use Rattle.it_verify.specs.declared.words.verifying.VerifyWords.{VerifyWords}
+use Rattle.itv.specs.Reading.{Holdings, AreInputs, HoldsRing}
+
+-- verify: the output of a verification of the inputs, checked by the ring
+pub record Verifies (disk : Holdings) (words : VerifyWords) (text : List ℕ) (status : Status) : Type 0 where
+  pub inputs : Inputs
+  pub are_inputs : AreInputs disk words inputs
+  pub ring : List RingEntry
+  pub holds_ring : HoldsRing disk words.ring ring
+  pub is_output : IsVerifyOutput (ring_check ring) inputs text status
+
+-- signed: which ids of the ring, in the order of their bytes, signed the envelope
+pub record ShowsSigners (disk : Holdings) (words : SignedWords) (text : List ℕ) (status : Status) : Type 0 where
+  pub envelope : List ℕ
+  pub holds_envelope : disk.file words.envelope envelope
+  pub ring : List RingEntry
+  pub holds_ring : HoldsRing disk words.ring ring
+  pub ids : List (List ℕ)
+  pub same_ids : IsPermutation (ids_of ring) ids
+  pub in_order : IsSorted (slice_cmp nat_cmp) ids
+  pub is_output : IsSignedOutput (ring_check ring) ids envelope text status
+
+-- sign: the body's envelope under the key of the ring
+pub record Signs (disk : Holdings) (words : SignWords) (text : List ℕ) (status : Status) : Type 0 where
+  pub body : List ℕ
+  pub holds_body : disk.file words.body body
+  pub ring : List RingEntry
+  pub holds_ring : HoldsRing disk words.ring ring
+  pub is_output : IsSignOutput ring words.key words.kind body text
+  pub status_is : status ≡ Good
+
+-- pae: what is signed for the body
+pub record Encodes (disk : Holdings) (words : PaeWords) (text : List ℕ) (status : Status) : Type 0 where
+  pub body : List ℕ
+  pub holds_body : disk.file words.body body
+  pub text_is : text ≡ pae_of words.kind body
+  pub status_is : status ≡ Good
+
+-- digest: the line of the file at a path, of at most 1,099,511,627,776 bytes
+pub record IsLineOf (disk : Holdings) (path line : List ℕ) : Type 0 where
+  pub before : Option (List ℕ)
+  pub opened : disk.left path before
+  pub after : Option (List ℕ)
+  pub is_line : IsDigestLine before after 1099511627776 path line
+
+-- digest: the lines of the files, in their order
+pub data ListsDigests (disk : Holdings) : List (List ℕ) → List ℕ → Type 0 where
+  no_line : ListsDigests disk [] []
+  one_more : {paths : List (List ℕ)} {text path line : List ℕ} → ListsDigests disk paths text → IsLineOf disk path line
+      → ListsDigests disk (paths ++ path ∷ []) (text ++ line)
+
+-- what a command writes and finds
+abbrev pub IsOutputOf : Holdings → Words → List ℕ → Status → Type 0
+IsOutputOf disk (Signed words) text status = ShowsSigners disk words text status
+IsOutputOf disk (Match words) text status = IsMatchOutput words.pattern words.path text status
+IsOutputOf disk (Pae words) text status = Encodes disk words text status
+IsOutputOf disk (Sign words) text status = Signs disk words text status
+IsOutputOf disk (Digest words) text status = ListsDigests disk words.files text × (status ≡ Good)
+IsOutputOf disk (Verify words) text status = Verifies disk words text status

@@ -1,0 +1,46 @@
+//! A command, run by its words.
+ghost use Rattle.std.specs.Prelude.{IfOk, map, string_bytes};
+ghost use Rattle.std.specs.Io.KnownBytes.{Appends};
+ghost use Rattle.it_verify.specs.Words.{AreWordsOf, GoesNoDeeper};
+ghost use Rattle.itv.specs.Commands.{IsOutputOf};
+
+use crate::disk::Disk;
+use crate::fault::Fault;
+use crate::{digesting, encoding, matching, signed, signing, verifying};
+use it_verify::outcome::Status;
+use it_verify::words::{Words, read_words};
+use std::io::Write;
+
+/// Runs the command that the words name. The first word is the program's name.
+pub(crate) fn run_words<R: Disk + AllocGlobal, W: Write>(
+    rt: &R,
+    words: &[String],
+    out: &mut W,
+) -> Result<Status, Fault>
+    ensures { IfOk result (λ status. (command : _) × (text : _)
+        × AreWordsOf (map string_bytes words.now) command
+        × IsOutputOf R.holdings command text status
+        × Appends (W.contents out.old) (W.contents out.new) text) }
+{
+    let command = read_words(rt.alloc(), words)?;
+    run_command(rt, &command, out)
+}
+
+fn run_command<R: Disk + AllocGlobal, W: Write>(
+    rt: &R,
+    command: &Words,
+    out: &mut W,
+) -> Result<Status, Fault>
+    requires { GoesNoDeeper command.now }
+    ensures { IfOk result (λ status. (text : _) × IsOutputOf R.holdings command.now text status
+        × Appends (W.contents out.old) (W.contents out.new) text) }
+{
+    match command {
+        Words::Signed(words) => signed::run(rt, words, out),
+        Words::Match(words) => matching::run(rt.alloc(), words, out),
+        Words::Pae(words) => encoding::run(rt, words, out),
+        Words::Sign(words) => signing::run(rt, words, out),
+        Words::Digest(words) => digesting::run(rt, words, out),
+        Words::Verify(words) => verifying::run(rt, words, out),
+    }
+}

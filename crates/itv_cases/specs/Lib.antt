@@ -1,0 +1,6 @@
+pub mod Agreement
+pub mod Answer
+pub mod Line
+pub mod Part
+pub mod Reading
+pub mod Status

@@ -1,0 +1,53 @@
+//! What a verification comes to.
+ghost use Rattle.std.specs.Prelude.{◌≡◌, ◌≤◌, ◌↔◌, IsTrue, IfOk};
+
+use it_base::sequence::Sequence;
+use it_dsse::check::SignatureCheck;
+use it_verify::inputs::Inputs;
+use it_verify::outcome::exit_of;
+use it_verify::run_verify;
+use std::alloc::{AllocError, Global};
+
+/// A report, and the status that goes with it.
+#[derive(Drop)]
+pub(crate) struct Answer {
+    /// The bytes of the report.
+    pub(crate) report: Sequence<u8>,
+    /// The exit status.
+    pub(crate) status: u8,
+}
+
+impl Answer {
+    ghost use Rattle.itv_cases.specs.Answer.{IsAnswer};
+
+    /// Whether both are the same: each byte of the report, and the status.
+    pub(crate) fn is_same_as(&self, other: &Answer) -> bool
+        ensures { IsTrue result ↔ (self.now ≡ other.now) }
+    {
+        self.status == other.status && self.report.as_slice() == other.report.as_slice()
+    }
+
+    /// What `run_verify` comes to.
+    ///
+    /// # Errors
+    ///
+    /// `AllocError` where memory was refused.
+    pub(crate) fn of(
+        alloc: Global,
+        inputs: &Inputs,
+        check: &Box<dyn SignatureCheck>,
+    ) -> Result<Answer, AllocError>
+        requires { inputs.now.depth ≤ 8 }
+        ensures { IfOk result (IsAnswer (meaning check.now) inputs.now) }
+    {
+        let mut report = Vec::new(alloc);
+        match run_verify(alloc, inputs, check, &mut report) {
+            Ok(status) => Ok(Answer {
+                report: Sequence::from(report),
+                status: exit_of(&Ok(status)),
+            }),
+            // A vector takes all that is written to it, where memory suffices.
+            Err(_) => Err(AllocError),
+        }
+    }
+}

@@ -1,0 +1,180 @@
+//! A case: the inputs of a verification, and what another implementation came to.
+ghost use Rattle.std.specs.Prelude.{◌≤◌, [], codes, IfOk};
+ghost use Rattle.serde_json.specs.View.{view};
+ghost use Rattle.it_base.specs.Parts.{IsPart, IsPartOr};
+ghost use Rattle.it_base.specs.Sequence.{IsList};
+ghost use Rattle.it_dsse.specs.Ring.{ring_check};
+ghost use Rattle.itv_cases.specs.Answer.{IsAnswer};
+ghost use Rattle.itv_cases.specs.Part.{IsBytes, IsNamed};
+ghost use Rattle.itv_cases.specs.Reading.{InputsOf, WantedOf};
+
+use crate::answer::Answer;
+use crate::links::read_links;
+use crate::parts::{bytes_of, bytes_part, named_part, needed, number_part, text_part};
+use crate::run::Run;
+use it_base::document::{member, read_document};
+use it_base::sequence::Sequence;
+use it_base::text::Text;
+use it_dsse::check::SignatureCheck;
+use it_dsse::ring::{HmacRing, RingFault};
+use it_verify::inputs::Inputs;
+use serde_json::Value;
+use std::alloc::{AllocError, AllocFailed, Global};
+use thiserror::Error;
+
+/// The depth that a verification may go down to.
+const MOST_DEPTH: u8 = 8;
+
+/// A verification with the answer that is wanted.
+#[derive(Drop)]
+pub(crate) struct Case {
+    /// The name, which tells cases apart for the reader.
+    pub(crate) name: Text,
+    /// What the verification looks at.
+    pub(crate) inputs: Inputs,
+    /// The secrets that signatures are checked with.
+    pub(crate) ring: HmacRing,
+    /// What the other implementation came to.
+    pub(crate) wanted: Answer,
+    ghost within_depth: { inputs.depth ≤ 8 },
+}
+
+/// Why a line is no case.
+#[derive(Clone, Copy, Debug, PartialEq, Eq, Error)]
+pub(crate) enum CaseFault {
+    /// The line is no JSON document.
+    #[error("no JSON document")]
+    NoDocument,
+    /// The member of this name is missing, or is not what it must be.
+    #[error("no member {0} of a case")]
+    BadMember(&'static str),
+    /// Memory was refused.
+    #[error("out of memory")]
+    OutOfMemory,
+}
+
+impl From<AllocError> for CaseFault {
+    fn from(_error: AllocError) -> CaseFault {
+        CaseFault::OutOfMemory
+    }
+}
+
+impl<T: Drop> From<AllocFailed<T>> for CaseFault {
+    fn from(_error: AllocFailed<T>) -> CaseFault {
+        CaseFault::OutOfMemory
+    }
+}
+
+impl Case {
+    ghost use Rattle.itv_cases.specs.Agreement.{IsRunOf};
+    ghost use Rattle.itv_cases.specs.Line.{CaseOf};
+
+    /// Reads a case from its line.
+    ///
+    /// # Errors
+    ///
+    /// `NoDocument` where the line is no JSON document, `BadMember` with the name of the first member
+    /// that is missing or malformed, `OutOfMemory` where memory was refused.
+    pub(crate) fn read(alloc: Global, line: &[u8]) -> Result<Case, CaseFault>
+        ensures { IfOk result (CaseOf line.now) }
+    {
+        let Some(document) = read_document(alloc, line)? else {
+            return Err(CaseFault::NoDocument);
+        };
+        let inputs = inputs(alloc, &document)?;
+        if inputs.depth > MOST_DEPTH {
+            return Err(CaseFault::BadMember("depth"));
+        }
+        Ok(Case {
+            name: text_part(alloc, &document, "name")?,
+            inputs,
+            ring: ring(alloc, &document)?,
+            wanted: wanted(alloc, &document)?,
+        })
+    }
+
+    /// Runs the verification.
+    ///
+    /// # Errors
+    ///
+    /// `AllocError` where memory was refused.
+    pub(crate) fn run(self, alloc: Global) -> Result<Run, AllocError>
+        ensures { IfOk result (IsRunOf self) }
+    {
+        let Case {
+            name,
+            inputs,
+            ring,
+            wanted,
+        } = self;
+        Ok(Run {
+            name,
+            wanted,
+            given: answer_by(alloc, &inputs, ring)?,
+        })
+    }
+}
+
+/// What the verification comes to, with signatures checked by the ring.
+fn answer_by(alloc: Global, inputs: &Inputs, ring: HmacRing) -> Result<Answer, AllocError>
+    requires { inputs.now.depth ≤ 8 }
+    ensures { IfOk result (IsAnswer (ring_check ring) inputs.now) }
+{
+    let check: Box<dyn SignatureCheck> = Box::new(alloc, ring)?;
+    Answer::of(alloc, inputs, &check)
+}
+
+fn inputs(alloc: Global, case: &Value) -> Result<Inputs, CaseFault>
+    ensures { IfOk result (InputsOf (view case.now)) }
+{
+    Ok(Inputs {
+        policy: bytes_part(alloc, case, "policy")?,
+        layout: bytes_part(alloc, case, "layout")?,
+        links: read_links(alloc, needed(case, "links")?)?,
+        records: records(alloc, case)?,
+        provenance: provenance(alloc, case)?,
+        sums: bytes_part(alloc, case, "sums")?,
+        moment: text_part(alloc, case, "at")?,
+        depth: number_part(case, "depth")?,
+    })
+}
+
+/// The bytes of the provenance, or no bytes where none was given.
+fn provenance(alloc: Global, case: &Value) -> Result<Sequence<u8>, CaseFault>
+    ensures { IfOk result (IsPartOr IsBytes [] (codes "provenance") (view case.now)) }
+{
+    match member(case, "provenance") {
+        Some(_) => bytes_part(alloc, case, "provenance"),
+        None => Ok(Sequence::from(Vec::new(alloc))),
+    }
+}
+
+fn records(alloc: Global, case: &Value) -> Result<Sequence<(Text, Sequence<u8>)>, CaseFault>
+    ensures { IfOk result (IsPart (IsList IsNamed) (codes "records") (view case.now)) }
+{
+    Ok(Sequence::from(named_part(alloc, case, "records")?))
+}
+
+/// The one ring of a case.
+fn ring(alloc: Global, case: &Value) -> Result<HmacRing, CaseFault> {
+    let bad = CaseFault::BadMember("rings");
+    let rings = needed(case, "rings")?.as_array().ok_or(bad)?;
+    let [ring] = rings.as_slice() else {
+        return Err(bad);
+    };
+    let bytes = bytes_of(alloc, ring)?.ok_or(bad)?;
+    match HmacRing::read(alloc, bytes.as_slice()) {
+        Ok(ring) => Ok(ring),
+        Err(RingFault::BadRing) => Err(bad),
+        Err(RingFault::OutOfMemory) => Err(CaseFault::OutOfMemory),
+    }
+}
+
+fn wanted(alloc: Global, case: &Value) -> Result<Answer, CaseFault>
+    ensures { IfOk result (WantedOf (view case.now)) }
+{
+    Ok(Answer {
+        report: bytes_part(alloc, case, "report")?,
+        status: number_part(case, "status")?,
+    })
+}

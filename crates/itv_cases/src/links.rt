@@ -1,0 +1,47 @@
+//! The files and folders of a case.
+use crate::case::CaseFault;
+use crate::parts::{bytes_of, pair};
+use it_base::document::member;
+use it_chain::bundle::{Bundle, BundleFault};
+use serde_json::Value;
+use std::alloc::Global;
+
+/// How deep folders may lie.
+const MOST_DEPTH: u8 = 32;
+
+const BAD: CaseFault = CaseFault::BadMember("links");
+
+/// The files and folders that the member `links` of a case tells.
+pub(crate) fn read_links(alloc: Global, links: &Value) -> Result<Bundle, CaseFault> {
+    read_folder(alloc, links, MOST_DEPTH)
+}
+
+/// What one folder holds, down to `depth` levels below it.
+fn read_folder(alloc: Global, folder: &Value, depth: u8) -> Result<Bundle, CaseFault> {
+    let mut bundle = Bundle::new(alloc);
+    add_files(alloc, &mut bundle, folder)?;
+    for item in list(folder, "folders")? {
+        let (name, inner) = pair(item).ok_or(BAD)?;
+        let below = depth.checked_sub(1).ok_or(BAD)?;
+        let inner = read_folder(alloc, inner, below)?;
+        match bundle.add_dir(String::from_str(alloc, name)?, inner) {
+            Ok(()) => {}
+            Err(BundleFault::NameTaken(_)) => return Err(BAD),
+            Err(BundleFault::OutOfMemory) => return Err(CaseFault::OutOfMemory),
+        }
+    }
+    Ok(bundle)
+}
+
+fn add_files(alloc: Global, bundle: &mut Bundle, folder: &Value) -> Result<(), CaseFault> {
+    for item in list(folder, "files")? {
+        let (name, content) = pair(item).ok_or(BAD)?;
+        let bytes = bytes_of(alloc, content)?.ok_or(BAD)?;
+        bundle.add_file(String::from_str(alloc, name)?, bytes.into_vec())?;
+    }
+    Ok(())
+}
+
+fn list<'v>(folder: &'v Value, name: &str) -> Result<&'v Vec<Value>, CaseFault> {
+    member(folder, name).and_then(Value::as_array).ok_or(BAD)
+}

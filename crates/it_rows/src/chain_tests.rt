@@ -35,6 +35,16 @@ const BUILD: &str =
 const BUILD_AND_PACK: &str =
     "{\"name\":\"build\",\"threshold\":1,\"pubkeys\":[\"alice\"],\"expected_materials\":[[\"ALLOW\",\"src/*\"],[\"DISALLOW\",\"*\"]],\"expected_products\":[[\"CREATE\",\"app\"],[\"DISALLOW\",\"*\"]]},{\"name\":\"pack\",\"threshold\":1,\"pubkeys\":[\"bob\"]}";
 
+// A link of the step, one with another digest of the product, and one of another step.
+const LINK: &str =
+    "{\"_type\":\"link\",\"name\":\"build\",\"materials\":{\"src/a\":{\"sha256\":\"e3b0c44298fc1c149afbf4c8996fb92427ae41e4649b934ca495991b7852b855\"}},\"products\":{\"app\":{\"sha256\":\"ba7816bf8f01cfea414140de5dae2223b00361a396177a9cb410ff61f20015ad\"}}}";
+
+const OTHER_LINK: &str =
+    "{\"_type\":\"link\",\"name\":\"build\",\"materials\":{\"src/a\":{\"sha256\":\"e3b0c44298fc1c149afbf4c8996fb92427ae41e4649b934ca495991b7852b855\"}},\"products\":{\"app\":{\"sha256\":\"e3b0c44298fc1c149afbf4c8996fb92427ae41e4649b934ca495991b7852b855\"}}}";
+
+const LINK_OF_PACK: &str =
+    "{\"_type\":\"link\",\"name\":\"pack\",\"materials\":{\"src/a\":{\"sha256\":\"e3b0c44298fc1c149afbf4c8996fb92427ae41e4649b934ca495991b7852b855\"}},\"products\":{\"app\":{\"sha256\":\"ba7816bf8f01cfea414140de5dae2223b00361a396177a9cb410ff61f20015ad\"}}}";
+
 // A link of the step with a product that its rules do not allow.
 const TWO_PRODUCTS: &str =
     "{\"_type\":\"link\",\"name\":\"build\",\"products\":{\"app\":{},\"lib\":{}}}";
@@ -234,66 +244,120 @@ fn told(
     Ok((words, asked))
 }
 
-// The number in each row is how many signatures are tried. Of a file those under no hint or the id's own
-// are, for each id in turn; here each file has one.
+// Links of the step: one by each functionary, a copy, one under another's hint, one whose signature was
+// changed, and two that record another product.
+fn link_by(word: &str) -> File<'static> {
+    match word {
+        "bob" => ("build.bob.link", Signed::By("bob"), LINK),
+        "bobz" => ("build.bobz.link", Signed::By("bobz"), LINK),
+        "hinted" => ("build.alice.link", Signed::Hinted("bob", "alice"), LINK),
+        "changed" => ("build.b.link", Signed::Changed("bob"), LINK),
+        "copy" => ("build.copy.link", Signed::By("alice"), LINK),
+        "carol" => ("build.carol.link", Signed::By("carol"), OTHER_LINK),
+        "other" => ("build.x.link", Signed::By("alice"), OTHER_LINK),
+        _ => ("build.alice.link", Signed::By("alice"), LINK),
+    }
+}
+
+fn bundle_by(alloc: Global, words: &[&str]) -> Result<Bundle, Fail> {
+    let mut bundle = Bundle::new(alloc);
+    for word in words {
+        add(alloc, &mut bundle, link_by(word))?;
+    }
+    Ok(bundle)
+}
+
+// A threshold, the ids of the step, the links, what is told, and how many signatures are tried. Of a file
+// those under no hint or the id's own are, for each id in turn; here each file has one.
+type Row<'a> = (u64, &'a str, &'a [&'a str], &'a str, u64);
+
+const ALICE: &str = "\"alice\"";
+
+const ALICE_BOB: &str = "\"alice\",\"bob\"";
+
+const ALL_THREE: &str = "\"alice\",\"bob\",\"carol\"";
+
 #[test]
-fn counts_each_key_once_and_names_what_disagrees(rt: HostRuntime) -> Result<(), Fail> {
+fn counts_each_key_once(rt: HostRuntime) -> Result<(), Fail> {
     let alloc = rt.alloc();
-    let link = link_of(alloc, "build", ABC)?;
-    let other = link_of(alloc, "build", NOTHING)?;
-    let (link, other) = (link.as_str(), other.as_str());
-    let of_alice = ("build.alice.link", Signed::By("alice"), link);
-    let of_bob = ("build.bob.link", Signed::By("bob"), link);
-    let of_bobz = ("build.bobz.link", Signed::By("bobz"), link);
-    let hinted = ("build.alice.link", Signed::Hinted("bob", "alice"), link);
-    let copy = ("build.copy.link", Signed::By("alice"), link);
-    let changed = ("build.b.link", Signed::Changed("bob"), link);
-    let unlike = ("build.carol.link", Signed::By("carol"), other);
-    let second = ("build.x.link", Signed::By("alice"), other);
-    let (two, three) = ("\"alice\",\"bob\"", "\"alice\",\"bob\",\"carol\"");
-    let rows: [(u64, &str, &[File], &str, u64); 9] = [
-        (1, "\"alice\"", &[of_alice], "build 1", 1),
+    let rows: [Row; 5] = [
+        (1, ALICE, &["alice"], "build 1", 1),
+        (1, ALICE, &["hinted"], "threshold build 0 1", 1),
         (
             2,
             "\"bob\",\"bobz\"",
-            &[of_bob, of_bobz],
+            &["bob", "bobz"],
             "threshold build 1 2",
             2,
         ),
         (
             2,
+            ALICE_BOB,
+            &["alice", "copy", "changed"],
+            "threshold build 1 2",
+            3,
+        ),
+        (
+            2,
+            ALICE_BOB,
+            &["alice", "copy", "changed", "bob"],
+            "build 2",
+            4,
+        ),
+    ];
+    for (threshold, ids, links, want, tried) in rows {
+        let (told, asked) = told_of(alloc, threshold, ids, links)?;
+        assert_eq!(rt; told.as_str(), want);
+        assert_eq!(rt; asked, tried, "{want}");
+    }
+    Ok(())
+}
+
+#[test]
+fn names_what_disagrees(rt: HostRuntime) -> Result<(), Fail> {
+    let alloc = rt.alloc();
+    let rows: [Row; 4] = [
+        (
+            2,
             "\"bob\",\"carol\"",
-            &[of_bob, unlike],
+            &["bob", "carol"],
             "disagree build carol",
             2,
         ),
-        (2, two, &[of_alice, copy, changed], "threshold build 1 2", 3),
-        (2, two, &[of_alice, copy, changed, of_bob], "build 2", 4),
         (
             2,
-            three,
-            &[of_alice, of_bob, unlike],
+            ALL_THREE,
+            &["alice", "bob", "carol"],
             "disagree build carol",
             3,
         ),
-        (1, "\"alice\"", &[of_alice, second], "two build alice", 2),
+        (1, ALICE, &["alice", "other"], "two build alice", 2),
         (
             2,
-            three,
-            &[of_alice, of_bob, unlike, second],
+            ALL_THREE,
+            &["alice", "bob", "carol", "other"],
             "two build alice",
             2,
         ),
-        (1, "\"alice\"", &[hinted], "threshold build 0 1", 1),
     ];
-    for (threshold, ids, files, want, tried) in rows {
-        let layout = layout_of(alloc, "build", threshold, ids, LATER)?;
-        let bundle = bundle_of(alloc, files)?;
-        let (words, asked) = told(alloc, layout.as_str(), &bundle, EXPIRES, 0)?;
-        assert_eq!(rt; words.as_str(), want, "{threshold} of {ids}");
-        assert_eq!(rt; asked, tried, "{threshold} of {ids}: {want}");
+    for (threshold, ids, links, want, tried) in rows {
+        let (told, asked) = told_of(alloc, threshold, ids, links)?;
+        assert_eq!(rt; told.as_str(), want);
+        assert_eq!(rt; asked, tried, "{want}");
     }
     Ok(())
+}
+
+// What the step with this threshold and these ids comes to over the links.
+fn told_of(
+    alloc: Global,
+    threshold: u64,
+    ids: &str,
+    links: &[&str],
+) -> Result<(String, u64), Fail> {
+    let layout = layout_of(alloc, "build", threshold, ids, LATER)?;
+    let bundle = bundle_by(alloc, links)?;
+    told(alloc, layout.as_str(), &bundle, EXPIRES, 0)
 }
 
 // Files that do not count: no envelope, of nobody listed, for another step, under a name that is
@@ -302,17 +366,14 @@ fn counts_each_key_once_and_names_what_disagrees(rt: HostRuntime) -> Result<(), 
 fn passes_over_noise(rt: HostRuntime) -> Result<(), Fail> {
     let alloc = rt.alloc();
     let layout = layout_of(alloc, "build", 1, "\"alice\"", LATER)?;
-    let link = link_of(alloc, "build", ABC)?;
-    let other_step = link_of(alloc, "other", ABC)?;
-    let link = link.as_str();
     let mut bundle = bundle_of(
         alloc,
         &[
             ("build.0.link", Signed::Not, ""),
-            ("build.carol.link", Signed::By("carol"), link),
-            ("build.alice.link", Signed::By("alice"), other_step.as_str()),
-            ("build.a.b.link", Signed::By("alice"), link),
-            ("build.link", Signed::By("alice"), link),
+            ("build.carol.link", Signed::By("carol"), LINK),
+            ("build.alice.link", Signed::By("alice"), LINK_OF_PACK),
+            ("build.a.b.link", Signed::By("alice"), LINK),
+            ("build.link", Signed::By("alice"), LINK),
         ],
     )?;
     let (none, _) = told(alloc, layout.as_str(), &bundle, EXPIRES, 0)?;
@@ -320,12 +381,12 @@ fn passes_over_noise(rt: HostRuntime) -> Result<(), Fail> {
     add(
         alloc,
         &mut bundle,
-        ("build.x.link", Signed::By("alice"), link),
+        ("build.x.link", Signed::By("alice"), LINK),
     )?;
     add(
         alloc,
         &mut bundle,
-        ("build.y.link", Signed::By("alice"), link),
+        ("build.y.link", Signed::By("alice"), LINK),
     )?;
     let (one, _) = told(alloc, layout.as_str(), &bundle, EXPIRES, 0)?;
     assert_eq!(rt; one.as_str(), "build 1");

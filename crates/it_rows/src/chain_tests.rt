@@ -393,29 +393,46 @@ fn passes_over_noise(rt: HostRuntime) -> Result<(), Fail> {
     Ok(())
 }
 
-// Nothing of a layout that has expired is looked at, and all records are asked for before any rule is
-// judged.
+// What these steps come to at a moment over one file under the name of alice's link.
+fn told_at(
+    alloc: Global,
+    steps: &str,
+    moment: i64,
+    signed: Signed,
+    body: &str,
+) -> Result<(String, u64), Fail> {
+    let layout = layout_with(alloc, steps, LATER, "")?;
+    let mut bundle = Bundle::new(alloc);
+    add(alloc, &mut bundle, ("build.alice.link", signed, body))?;
+    told(alloc, layout.as_str(), &bundle, moment, 0)
+}
+
 #[test]
-fn expires_before_it_counts_and_counts_before_it_judges_rules(rt: HostRuntime) -> Result<(), Fail> {
+fn looks_at_nothing_of_a_layout_that_has_expired(rt: HostRuntime) -> Result<(), Fail> {
     let alloc = rt.alloc();
-    let link = link_of(alloc, "build", ABC)?;
-    let good = ("build.alice.link", Signed::By("alice"), link.as_str());
-    let junk = ("build.alice.link", Signed::Not, "");
-    let more = ("build.alice.link", Signed::By("alice"), TWO_PRODUCTS);
-    let rows = [
-        (BUILD, good, EXPIRES, "build 1", 1),
-        (BUILD, good, EXPIRES + 1, "expired", 0),
-        (BUILD, junk, EXPIRES + 1, "expired", 0),
-        (BUILD, more, EXPIRES, "rule 1 lib", 1),
-        (BUILD_AND_PACK, more, EXPIRES, "threshold pack 0 1", 1),
-    ];
-    for (steps, file, moment, want, tried) in rows {
-        let layout = layout_with(alloc, steps, LATER, "")?;
-        let bundle = bundle_of(alloc, &[file])?;
-        let (words, asked) = told(alloc, layout.as_str(), &bundle, moment, 0)?;
-        assert_eq!(rt; words.as_str(), want, "at {moment}");
-        assert_eq!(rt; asked, tried, "{want} at {moment}");
-    }
+    let by_alice = Signed::By("alice");
+    let (told, asked) = told_at(alloc, BUILD, EXPIRES, by_alice, LINK)?;
+    assert_eq!(rt; told.as_str(), "build 1");
+    assert_eq!(rt; asked, 1);
+    let (told, asked) = told_at(alloc, BUILD, EXPIRES + 1, by_alice, LINK)?;
+    assert_eq!(rt; told.as_str(), "expired");
+    assert_eq!(rt; asked, 0);
+    let (told, asked) = told_at(alloc, BUILD, EXPIRES + 1, Signed::Not, "")?;
+    assert_eq!(rt; told.as_str(), "expired");
+    assert_eq!(rt; asked, 0);
+    Ok(())
+}
+
+#[test]
+fn asks_for_all_records_before_it_judges_rules(rt: HostRuntime) -> Result<(), Fail> {
+    let alloc = rt.alloc();
+    let by_alice = Signed::By("alice");
+    let (told, asked) = told_at(alloc, BUILD, EXPIRES, by_alice, TWO_PRODUCTS)?;
+    assert_eq!(rt; told.as_str(), "rule 1 lib");
+    assert_eq!(rt; asked, 1);
+    let (told, asked) = told_at(alloc, BUILD_AND_PACK, EXPIRES, by_alice, TWO_PRODUCTS)?;
+    assert_eq!(rt; told.as_str(), "threshold pack 0 1");
+    assert_eq!(rt; asked, 1);
     Ok(())
 }
 
@@ -448,33 +465,43 @@ fn nested(alloc: Global, expires: &str, innermost: bool) -> Result<Bundle, Fail>
     Ok(outer)
 }
 
-// A sublayout that fails is not made good by enough other records.
+// What the step with these ids comes to over the bundle.
+fn told_below(alloc: Global, ids: &str, bundle: &Bundle, depth: u8) -> Result<(String, u64), Fail> {
+    let layout = layout_of(alloc, "build", 1, ids, LATER)?;
+    told(alloc, layout.as_str(), bundle, EXPIRES, depth)
+}
+
 #[test]
 fn verifies_a_sublayout_in_a_sublayout_down_to_the_depth(rt: HostRuntime) -> Result<(), Fail> {
     let alloc = rt.alloc();
-    let (one, both) = ("\"alice\"", "\"alice\",\"bob\"");
+    let bundle = nested(alloc, LATER, true)?;
     let rows = [
-        (one, LATER, true, 2, "build 1", 3),
-        (one, LATER, true, 1, "build/alice inner/bob too deep", 2),
-        (one, LATER, true, 0, "build/alice too deep", 1),
-        (
-            one,
-            LATER,
-            false,
-            2,
-            "build/alice inner/bob threshold core 0 1",
-            2,
-        ),
-        (one, EARLIER, true, 2, "build/alice expired", 1),
-        (both, EARLIER, true, 2, "build/alice expired", 1),
-        (both, LATER, true, 2, "build 2", 4),
+        (ALICE, 2, "build 1", 3),
+        (ALICE_BOB, 2, "build 2", 4),
+        (ALICE, 1, "build/alice inner/bob too deep", 2),
+        (ALICE, 0, "build/alice too deep", 1),
     ];
-    for (ids, expires, innermost, depth, want, tried) in rows {
-        let layout = layout_of(alloc, "build", 1, ids, LATER)?;
-        let bundle = nested(alloc, expires, innermost)?;
-        let (words, asked) = told(alloc, layout.as_str(), &bundle, EXPIRES, depth)?;
-        assert_eq!(rt; words.as_str(), want, "{ids} at depth {depth}");
-        assert_eq!(rt; asked, tried, "{want} at depth {depth}");
+    for (ids, depth, want, tried) in rows {
+        let (told, asked) = told_below(alloc, ids, &bundle, depth)?;
+        assert_eq!(rt; told.as_str(), want);
+        assert_eq!(rt; asked, tried, "{want}");
+    }
+    Ok(())
+}
+
+// Enough other records do not make it good.
+#[test]
+fn passes_over_no_sublayout_that_fails(rt: HostRuntime) -> Result<(), Fail> {
+    let alloc = rt.alloc();
+    let bare = nested(alloc, LATER, false)?;
+    let (told, asked) = told_below(alloc, ALICE, &bare, 2)?;
+    assert_eq!(rt; told.as_str(), "build/alice inner/bob threshold core 0 1");
+    assert_eq!(rt; asked, 2);
+    let expired = nested(alloc, EARLIER, true)?;
+    for ids in [ALICE, ALICE_BOB] {
+        let (told, asked) = told_below(alloc, ids, &expired, 2)?;
+        assert_eq!(rt; told.as_str(), "build/alice expired", "{ids}");
+        assert_eq!(rt; asked, 1, "{ids}");
     }
     Ok(())
 }

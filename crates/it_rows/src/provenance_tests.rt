@@ -147,46 +147,58 @@ fn told_one(alloc: Global, expected: &str, kind: &str, said: &Said) -> Result<St
     Ok(words)
 }
 
-// Of an envelope the signatures under no hint or the id's own are tried.
-#[test]
-fn finds_the_first_envelope_for_the_first_expectation_that_fits(
-    rt: HostRuntime,
-) -> Result<(), Fail> {
-    let alloc = rt.alloc();
+// Envelopes of one Statement, one signed by carol, two by the builder, and one by carol under the
+// builder's hint.
+fn four_envelopes(alloc: Global) -> Result<[Envelope; 4], Fail> {
     let app = subject_of(alloc, "app", A)?;
     let said = as_base(app.as_str(), REF);
     let of_carol = signed_as(alloc, "carol", KIND, &said)?;
     let of_builder = signed_as(alloc, "builder", KIND, &said)?;
     let again = signed_as(alloc, "builder", KIND, &said)?;
     let forged = hinted(alloc, signed_as(alloc, "carol", KIND, &said)?, "builder")?;
-    let envelopes = [of_carol, of_builder, again, forged];
+    Ok([of_carol, of_builder, again, forged])
+}
+
+// Of an envelope the signatures under no hint or the id's own are tried.
+#[test]
+fn finds_the_first_envelope_that_the_builder_signed(rt: HostRuntime) -> Result<(), Fail> {
+    let alloc = rt.alloc();
+    let envelopes = four_envelopes(alloc)?;
     let envelopes = envelopes.as_slice();
+    let base = expectation_of(alloc, "*", REF)?;
+    let rows = [
+        (&envelopes[1..2], "0", 1),
+        (&envelopes[..3], "1", 1),
+        (&envelopes[..1], "no provenance app", 0),
+        (&envelopes[3..], "no provenance app", 1),
+    ];
+    for (envelopes, want, tried) in rows {
+        let (words, asked) = told(alloc, base.as_str(), envelopes, "app", A)?;
+        assert_eq!(rt; words.as_str(), want);
+        assert_eq!(rt; asked, tried, "{want}");
+    }
+    Ok(())
+}
+
+#[test]
+fn asks_the_first_expectation_that_fits_alone(rt: HostRuntime) -> Result<(), Fail> {
+    let alloc = rt.alloc();
+    let envelopes = four_envelopes(alloc)?;
     let base = expectation_of(alloc, "*", REF)?;
     let base = base.as_str();
     let both = format!(in alloc;
         "{{\"files\":\"lib*\",\"buildType\":\"https://ci.example/make\"}},{base}"
     )?;
-    let of_app = expectation_of(alloc, "app", REF)?;
-    let rows = [
-        (base, &envelopes[1..2], "app", "0", 1),
-        (base, &envelopes[..3], "app", "1", 1),
-        (base, &envelopes[..1], "app", "no provenance app", 0),
-        (base, &envelopes[3..], "app", "no provenance app", 1),
-        (
-            both.as_str(),
-            &envelopes[1..],
-            "lib",
-            "no provenance lib",
-            0,
-        ),
-        (both.as_str(), &envelopes[1..], "app", "0", 1),
-        (of_app.as_str(), envelopes, "lib", "no expectation lib", 0),
-    ];
-    for (expectations, envelopes, path, want, tried) in rows {
-        let (words, asked) = told(alloc, expectations, envelopes, path, A)?;
+    let rows = [("lib", "no provenance lib", 0), ("app", "1", 1)];
+    for (path, want, tried) in rows {
+        let (words, asked) = told(alloc, both.as_str(), &envelopes, path, A)?;
         assert_eq!(rt; words.as_str(), want);
         assert_eq!(rt; asked, tried, "{want}");
     }
+    let of_app = expectation_of(alloc, "app", REF)?;
+    let (words, asked) = told(alloc, of_app.as_str(), &envelopes, "lib", A)?;
+    assert_eq!(rt; words.as_str(), "no expectation lib");
+    assert_eq!(rt; asked, 0);
     Ok(())
 }
 

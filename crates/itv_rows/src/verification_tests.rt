@@ -185,40 +185,54 @@ fn in_sublayouts(alloc: Global, expires: &str, with_innermost: bool) -> Result<I
 
 const LATER: &str = "2030-01-01T00:00:00Z";
 
-// In each row how many signatures are tried: for the owner, for alice, bob and carol as far as they are
-// asked, and for the builder.
+// The report on a delivery with sublayouts, and how many signatures were tried: for the owner, for alice,
+// bob and carol as far as they are asked, and for the builder.
+fn told_of_sublayouts(
+    alloc: Global,
+    inputs: &mut Inputs,
+    ids: (&str, &str),
+    depth: u8,
+) -> Result<(String, u64), Fail> {
+    inputs.layout = layout(alloc, &[ids])?;
+    inputs.depth = depth;
+    let (_, report) = reported(alloc, inputs)?;
+    Ok((report, asked(alloc, inputs)?))
+}
+
+const ALICE_ALONE: (&str, &str) = ("[\"alice\"]", "[\"alice\"]");
+
 #[test]
-fn verifies_sublayouts_down_to_the_depth_and_passes_over_none_that_fails(
-    rt: HostRuntime,
-) -> Result<(), Fail> {
+fn verifies_sublayouts_down_to_the_depth(rt: HostRuntime) -> Result<(), Fail> {
     let alloc = rt.alloc();
-    let alice = ("[\"alice\"]", "[\"alice\"]");
-    let earlier = "2029-01-01T00:00:00Z";
-    let too_deep = "refused 32 TooDeep\nat build/alice/inner/bob\n";
-    let missing = "refused 33 Threshold\nat build/alice/inner/bob\nstep core\nfound 0\nneeded 1\n";
-    let expired = "refused 30 Expired\nat build/alice\n";
+    let mut inputs = in_sublayouts(alloc, LATER, true)?;
     let rows = [
-        (alice, LATER, true, 2, ACCEPTED, 5),
-        (alice, LATER, true, 1, too_deep, 3),
-        (
-            alice,
-            LATER,
-            true,
-            0,
-            "refused 32 TooDeep\nat build/alice\n",
-            2,
-        ),
-        (alice, LATER, false, 2, missing, 3),
-        (alice, earlier, true, 2, expired, 2),
-        (ALICE_AND_BOB, earlier, true, 2, expired, 2),
+        (2, ACCEPTED, 5),
+        (1, "refused 32 TooDeep\nat build/alice/inner/bob\n", 3),
+        (0, "refused 32 TooDeep\nat build/alice\n", 2),
     ];
-    for (ids, expires, with_innermost, depth, want, tried) in rows {
-        let mut inputs = in_sublayouts(alloc, expires, with_innermost)?;
-        inputs.layout = layout(alloc, &[ids])?;
-        inputs.depth = depth;
-        let (_, report) = reported(alloc, &inputs)?;
+    for (depth, want, tried) in rows {
+        let (report, asked) = told_of_sublayouts(alloc, &mut inputs, ALICE_ALONE, depth)?;
         assert_eq!(rt; report.as_str(), want, "{depth}");
-        assert_eq!(rt; asked(alloc, &inputs)?, tried, "{want}");
+        assert_eq!(rt; asked, tried, "{depth}");
+    }
+    Ok(())
+}
+
+#[test]
+fn passes_over_no_sublayout_that_fails(rt: HostRuntime) -> Result<(), Fail> {
+    let alloc = rt.alloc();
+    let mut bare = in_sublayouts(alloc, LATER, false)?;
+    let (report, asked) = told_of_sublayouts(alloc, &mut bare, ALICE_ALONE, 2)?;
+    assert_eq!(rt;
+        report.as_str(),
+        "refused 33 Threshold\nat build/alice/inner/bob\nstep core\nfound 0\nneeded 1\n"
+    );
+    assert_eq!(rt; asked, 3);
+    let mut expired = in_sublayouts(alloc, "2029-01-01T00:00:00Z", true)?;
+    for ids in [ALICE_ALONE, ALICE_AND_BOB] {
+        let (report, asked) = told_of_sublayouts(alloc, &mut expired, ids, 2)?;
+        assert_eq!(rt; report.as_str(), "refused 30 Expired\nat build/alice\n");
+        assert_eq!(rt; asked, 2);
     }
     Ok(())
 }

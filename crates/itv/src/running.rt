@@ -11,6 +11,9 @@ use it_verify::outcome::Status;
 use it_verify::words::{Words, read_words};
 use std::io::Write;
 
+#[cfg(test)]
+mod tests;
+
 /// Runs the command that the words name. The first word is the program's name.
 pub(crate) fn run_words<R: Disk + AllocGlobal, W: Write>(
     rt: &R,

@@ -1,0 +1,292 @@
+use super::run_words;
+use crate::fake_files::FakeFiles;
+use crate::fault::exit_status;
+use std::alloc::{AllocError, Global};
+use std::test::Fail;
+
+mod delivery;
+
+use delivery::FILES;
+
+// What went out, with the note where the command stopped, and the status of the program.
+fn ran(alloc: Global, words: &str) -> Result<(String, u8), Fail> {
+    let mut out = Vec::new(alloc);
+    let disk = FakeFiles {
+        nodes: FILES.as_slice(),
+    };
+    let words = each_word(alloc, words)?;
+    let outcome = run_words(&(disk, alloc), words.as_slice(), &mut out);
+    let mut text = String::from_utf8(out).ok().ok_or("no text")?;
+    if let Err(fault) = &outcome {
+        text.push_str(format!(in alloc; "{fault}")?.as_str())?;
+    }
+    Ok((text, exit_status(&outcome)))
+}
+
+fn each_word(alloc: Global, text: &str) -> Result<Vec<String>, AllocError> {
+    let mut words = Vec::new(alloc);
+    for word in text.split(' ') {
+        words.push(String::from_str(alloc, word)?)?;
+    }
+    Ok(words)
+}
+
+// A command, what goes out with the note where it stops, and the status of the program.
+struct Row {
+    words: &'static str,
+    text: &'static str,
+    status: u8,
+}
+
+// The envelopes of `{}` with type `t`. The codes were computed by another program.
+const BY_ALICE: &str =
+    "{\"payload\":\"e30=\",\"payloadType\":\"t\",\"signatures\":[{\"keyid\":\"alice\",\
+    \"sig\":\"9wR5Dwp4Fbs1g9j/OLACfrLHW4JUrxfSddoLAMnvROg=\"}]}\n";
+
+const BY_BOB: &str =
+    "{\"payload\":\"e30=\",\"payloadType\":\"t\",\"signatures\":[{\"keyid\":\"bob\",\
+    \"sig\":\"TJYKrxTWOTr/MmSTZbEtdVpXz1ocHIygh1jt6js+/nM=\"}]}\n";
+
+// Under the other ring.
+const BY_ANOTHER_ALICE: &str =
+    "{\"payload\":\"e30=\",\"payloadType\":\"t\",\"signatures\":[{\"keyid\":\"alice\",\
+    \"sig\":\"PQH/55sFbp4LSiakdCGjqB9Tl+FXVR+bC48Vwl4nRug=\"}]}\n";
+
+const BOTH: &str = "ba7816bf8f01cfea414140de5dae2223b00361a396177a9cb410ff61f20015ad  abc\n\
+    e3b0c44298fc1c149afbf4c8996fb92427ae41e4649b934ca495991b7852b855  empty\n";
+
+const ABC_AND_NOTE: &str = "ba7816bf8f01cfea414140de5dae2223b00361a396177a9cb410ff61f20015ad  abc\n\
+    cannot read gone: entity not found";
+
+static ROWS: [Row; 18] = [
+    Row {
+        words: "itv match a* ab",
+        text: "yes\n",
+        status: 0,
+    },
+    Row {
+        words: "itv match ab a*",
+        text: "no\n",
+        status: 1,
+    },
+    Row {
+        words: "itv pae body --type t",
+        text: "DSSEv1 1 t 2 {}",
+        status: 0,
+    },
+    Row {
+        words: "itv pae abc --type body",
+        text: "DSSEv1 4 body 3 abc",
+        status: 0,
+    },
+    Row {
+        words: "itv pae gone --type t",
+        text: "cannot read gone: entity not found",
+        status: 2,
+    },
+    Row {
+        words: "itv digest abc empty",
+        text: BOTH,
+        status: 0,
+    },
+    Row {
+        words: "itv digest abc gone empty",
+        text: ABC_AND_NOTE,
+        status: 2,
+    },
+    Row {
+        words: "itv sign body --ring ring --key alice --type t",
+        text: BY_ALICE,
+        status: 0,
+    },
+    Row {
+        words: "itv sign body --ring ring --key bob --type t",
+        text: BY_BOB,
+        status: 0,
+    },
+    Row {
+        words: "itv sign body --ring other --key alice --type t",
+        text: BY_ANOTHER_ALICE,
+        status: 0,
+    },
+    Row {
+        words: "itv sign body --ring ring --key t --type alice",
+        text: "ring has no key t",
+        status: 2,
+    },
+    Row {
+        words: "itv sign ring --ring body --key alice --type t",
+        text: "body is no ring of secrets",
+        status: 2,
+    },
+    Row {
+        words: "itv signed envelope --ring ring",
+        text: "alice\nbob\n",
+        status: 0,
+    },
+    Row {
+        words: "itv signed envelope --ring other",
+        text: "bob\n",
+        status: 0,
+    },
+    Row {
+        words: "itv signed layout --ring ring",
+        text: "owner\n",
+        status: 0,
+    },
+    Row {
+        words: "itv signed unsigned --ring ring",
+        text: "",
+        status: 1,
+    },
+    Row {
+        words: "itv signed ring --ring ring",
+        text: "refused 20 BadEnvelope\nat -\n",
+        status: 1,
+    },
+    Row {
+        words: "itv signed ring --ring envelope",
+        text: "envelope is no ring of secrets",
+        status: 2,
+    },
+];
+
+#[test]
+fn runs_each_command_over_files(rt: HostRuntime) -> Result<(), Fail> {
+    for row in ROWS.as_slice() {
+        let (text, status) = ran(rt.alloc(), row.words)?;
+        assert_eq!(rt; text.as_str(), row.text, "{}", row.words);
+        assert_eq!(rt; status, row.status, "{}", row.words);
+    }
+    Ok(())
+}
+
+const VERIFY: &str = "itv verify --policy policy --layout layout --links links --sums sums \
+    --provenance provenance --records records --ring ring --at 2030-01-01T00:00:00Z --depth 1";
+
+const ACCEPTED: &str = "accepted\nstep build 2\nfile app\n";
+
+// A part of the words above, what stands in its place, and then what a verification comes to, as in
+// a row.
+struct Change {
+    from: &'static str,
+    to: &'static str,
+    text: &'static str,
+    status: u8,
+}
+
+static CHANGES: [Change; 17] = [
+    Change {
+        from: "--depth 1",
+        to: "--depth 1",
+        text: ACCEPTED,
+        status: 0,
+    },
+    Change {
+        from: " --depth 1",
+        to: "",
+        text: ACCEPTED,
+        status: 0,
+    },
+    Change {
+        from: "--depth 1",
+        to: "--depth 0",
+        text: "refused 32 TooDeep\nat build/bob\n",
+        status: 1,
+    },
+    Change {
+        from: "00:00:00Z",
+        to: "00:00:01Z",
+        text: "refused 30 Expired\nat -\n",
+        status: 1,
+    },
+    Change {
+        from: "--policy policy",
+        to: "--policy layout",
+        text: "refused 10 BadPolicy\nat -\npart owners\n",
+        status: 1,
+    },
+    Change {
+        from: "--layout layout",
+        to: "--layout policy",
+        text: "refused 20 BadEnvelope\nat -\n",
+        status: 1,
+    },
+    Change {
+        from: "--links links",
+        to: "--links records",
+        text: "refused 33 Threshold\nat -\nstep build\nfound 0\nneeded 2\n",
+        status: 1,
+    },
+    Change {
+        from: "--links links",
+        to: "--links gone",
+        text: "cannot read gone: entity not found",
+        status: 2,
+    },
+    Change {
+        from: "--sums sums",
+        to: "--sums policy",
+        text: "refused 12 BadSums\nat -\nline 1\n",
+        status: 1,
+    },
+    Change {
+        from: "--provenance provenance",
+        to: "--provenance sums",
+        text: "refused 61 NoProvenance\nat -\npath app\n",
+        status: 1,
+    },
+    Change {
+        from: "--provenance provenance",
+        to: "--provenance gone",
+        text: "cannot read gone: entity not found",
+        status: 2,
+    },
+    Change {
+        from: " --provenance provenance",
+        to: "",
+        text: "refused 61 NoProvenance\nat -\npath app\n",
+        status: 1,
+    },
+    Change {
+        from: "--records records",
+        to: "--records links",
+        text: "refused 50 RecordMissing\nat -\nname look\n",
+        status: 1,
+    },
+    Change {
+        from: "--records records",
+        to: "--records gone",
+        text: "cannot read gone: entity not found",
+        status: 2,
+    },
+    Change {
+        from: " --records records",
+        to: "",
+        text: "refused 50 RecordMissing\nat -\nname look\n",
+        status: 1,
+    },
+    Change {
+        from: "--ring ring",
+        to: "--ring other",
+        text: "refused 33 Threshold\nat -\nstep build\nfound 1\nneeded 2\n",
+        status: 1,
+    },
+    Change {
+        from: "--ring ring",
+        to: "--ring policy",
+        text: "policy is no ring of secrets",
+        status: 2,
+    },
+];
+
+#[test]
+fn verifies_what_stands_at_each_path(rt: HostRuntime) -> Result<(), Fail> {
+    for change in CHANGES.as_slice() {
+        let words = VERIFY.replace(rt.alloc(), change.from, change.to)?;
+        let (text, status) = ran(rt.alloc(), words.as_str())?;
+        assert_eq!(rt; text.as_str(), change.text, "{words}");
+        assert_eq!(rt; status, change.status, "{words}");
+    }
+    Ok(())
+}

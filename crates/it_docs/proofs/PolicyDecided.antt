@@ -1,8 +1,9 @@
 -- Which policy bytes are, or which part fails first, as an answer.
-use Rattle.std.proofs.Common.{◌≡◌, ◌≢◌, ℕ, List, [], Bool, true, false, cond, eqb, eqb-true, eq-eqb, codes, Option, Some, None, MatchOption, option_map, option_and_then, is_some, Result, Ok, Err, MatchResult, Decides, refl, true≢false, sym, ap, ◌∙◌}
+use Rattle.std.proofs.Common.{◌≡◌, ◌≢◌, ℕ, zero, suc, ◌≤◌, List, [], Bool, true, false, cond, eqb, eqb-true, eq-eqb, codes, Option, Some, None, MatchOption, option_map, option_and_then, is_some, Result, Ok, Err, MatchResult, Decides, arith, refl, true≢false, sym, ap, ◌∙◌}
 use Rattle.std.specs.FinMap.{empty, empty_of_len, len, len-empty}
+use Rattle.std.proofs.lemmas.Option.{same_Some}
 use Rattle.serde_json.specs.Data.{Data}
-use Rattle.serde_json.specs.Find.{as_object, as_str}
+use Rattle.serde_json.specs.Find.{as_number, as_object, as_str, as_u64}
 use Rattle.it_base.specs.Document.{IsDocument}
 use Rattle.it_base.specs.Finds.{Finds}
 use Rattle.it_base.specs.Parts.{IsPart, IsPartOr}
@@ -13,6 +14,7 @@ use Rattle.it_dsse.specs.KeyObject.{IsKeyObject}
 use Rattle.it_dsse.specs.declared.key_object.KeyObject.{KeyObject}
 use Rattle.it_dsse.proofs.Decided.{key_object_of, key_object_reads}
 use Rattle.it_docs.specs.Json.{Fields, no_fields}
+use Rattle.it_docs.specs.Level.{IsLevel, IsLevelPart}
 use Rattle.it_docs.specs.List.{IsFirstBad, IsListOrMissing, items_at}
 use Rattle.it_docs.specs.Policy.{IsBuilderOf, IsExpectation, IsPolicy, PolicyOf}
 use Rattle.it_docs.specs.PolicyPart.{IsPolicyFault, PartReads, PolicyPartOf, place}
@@ -36,6 +38,41 @@ use Rattle.it_docs.proofs.StepDecided.{rules_of, rules_reads}
 use Rattle.it_docs.proofs.TableDecided.{table_of, table_reads}
 use Rattle.it_docs.proofs.TableLemmas.{text_cmp}
 
+-- ---- levels
+
+abbrev at_most_three : ℕ → Option ℕ
+at_most_three zero = Some 0
+at_most_three (suc zero) = Some 1
+at_most_three (suc (suc zero)) = Some 2
+at_most_three (suc (suc (suc zero))) = Some 3
+at_most_three (suc (suc (suc (suc n)))) = None
+
+-- decides `IsLevel`
+abbrev level_of : Data → Option ℕ
+level_of d = option_and_then at_most_three (option_and_then as_u64 (as_number d))
+
+level_found : (found : Option ℕ) → Finds (λ n. (found ≡ Some n) × (n ≤ 3)) (option_and_then at_most_three found)
+level_found None = λ n h. let none = h.0 in cc
+level_found (Some zero) = (refl, omega arith)
+level_found (Some (suc zero)) = (refl, omega arith)
+level_found (Some (suc (suc zero))) = (refl, omega arith)
+level_found (Some (suc (suc (suc zero)))) = (refl, omega arith)
+level_found (Some (suc (suc (suc (suc n))))) = λ m h. let same = same_Some (suc (suc (suc (suc n)))) m h.0 in absurd (omega (arith, same, h.1))
+
+level_reads : Reads IsLevel level_of
+level_reads d = go (level_of d) (level_found (option_and_then as_u64 (as_number d)))
+  where
+    go : (found : Option ℕ) → Finds (λ n. (option_and_then as_u64 (as_number d) ≡ Some n) × (n ≤ 3)) found → Finds (IsLevel d) found
+    go None h = λ n is. h n (is.number_is, is.at_most_three)
+    go (Some n) h = record { number_is = h.0; at_most_three = h.1 }
+
+-- decides `IsLevelPart`
+abbrev level_part_of : Data → Option ℕ
+level_part_of = part_or_of level_of 0 (codes "level")
+
+level_part_reads : Reads IsLevelPart level_part_of
+level_part_reads = part_or_reads IsLevel level_of level_reads 0 (codes "level")
+
 -- ---- expectations
 
 abbrev keys_of : Data → Option (Named KeyObject)
@@ -44,28 +81,30 @@ keys_of = table_of key_object_of
 keys_reads : Reads (IsTable IsKeyObject) keys_of
 keys_reads = table_reads IsKeyObject key_object_of key_object_reads
 
-abbrev builder_with : List ℕ × Named KeyObject → Builder
-builder_with parts = record { id = parts.0; keys = parts.1 }
+abbrev builder_with : List ℕ × (Named KeyObject × ℕ) → Builder
+builder_with parts = record { id = parts.0; keys = parts.1.0; level = parts.1.1 }
 
 -- decides `IsBuilderOf`
 abbrev builder_of : Data → Option Builder
-builder_of d = option_map builder_with (both_of (part_of as_str (codes "id") d) (part_of keys_of (codes "keys") d))
+builder_of d = option_map builder_with (both_of (part_of as_str (codes "id") d) (both_of (part_of keys_of (codes "keys") d) (level_part_of d)))
 
 builder_reads : Reads IsBuilderOf builder_of
 builder_reads d =
-    finds_like _ (IsBuilderOf d) builder_with (λ b. (b.id, b.keys)) (λ p h. record { id = h.0; keys = h.1 }) (λ b h. (h.id, h.keys)) _
-    (finds_both (IsPart IsText (codes "id") d) (IsPart (IsTable IsKeyObject) (codes "keys") d) _ _
-    (part_reads IsText as_str text_reads (codes "id") d) (part_reads (IsTable IsKeyObject) keys_of keys_reads (codes "keys") d))
+    let id = IsPart IsText (codes "id") d in
+    let keys = IsPart (IsTable IsKeyObject) (codes "keys") d in
+    finds_like _ (IsBuilderOf d) builder_with (λ b. (b.id, (b.keys, b.level))) (λ p h. record { id = h.0; keys = h.1.0; level = h.1.1 }) (λ b h. (h.id, (h.keys, h.level))) _
+    (finds_both id (λ p. keys p.0 × IsLevelPart d p.1) _ _ (part_reads IsText as_str text_reads (codes "id") d)
+    (finds_both keys (IsLevelPart d) _ _ (part_reads (IsTable IsKeyObject) keys_of keys_reads (codes "keys") d) (level_part_reads d)))
 
-abbrev expectation_with : (List ℕ × List Builder) × (List ℕ × (Fields × List (List ℕ))) → Expectation
-expectation_with parts = record { files = parts.0.0; builders = parts.0.1; build_type = parts.1.0; parameters = parts.1.1.0; ignore = parts.1.1.1 }
+abbrev expectation_with : (List ℕ × List Builder) × ((List ℕ × ℕ) × (Fields × List (List ℕ))) → Expectation
+expectation_with parts = record { files = parts.0.0; builders = parts.0.1; build_type = parts.1.0.0; parameters = parts.1.1.0; ignore = parts.1.1.1; level = parts.1.0.1 }
 
 -- decides `IsExpectation`
 abbrev expectation_of : Data → Option Expectation
 expectation_of d =
     option_map expectation_with
     (both_of (both_of (part_of as_str (codes "files") d) (part_or_of (list_of builder_of) [] (codes "builders") d))
-    (both_of (part_of as_str (codes "buildType") d) (both_of (part_or_of members_of no_fields (codes "parameters") d) (part_or_of (list_of as_str) [] (codes "ignore") d))))
+    (both_of (both_of (part_of as_str (codes "buildType") d) (level_part_of d)) (both_of (part_or_of members_of no_fields (codes "parameters") d) (part_or_of (list_of as_str) [] (codes "ignore") d))))
 
 expectation_reads : Reads IsExpectation expectation_of
 expectation_reads d =
@@ -74,11 +113,13 @@ expectation_reads d =
     let build_type = IsPart IsText (codes "buildType") d in
     let parameters = IsPartOr IsMembers no_fields (codes "parameters") d in
     let ignore = IsPartOr (IsList IsText) [] (codes "ignore") d in
-    finds_like _ (IsExpectation d) expectation_with (λ e. ((e.files, e.builders), (e.build_type, (e.parameters, e.ignore))))
-    (λ p h. record { files = h.0.0; builders = h.0.1; build_type = h.1.0; parameters = h.1.1.0; ignore = h.1.1.1 }) (λ e h. ((h.files, h.builders), (h.build_type, (h.parameters, h.ignore)))) _
-    (finds_both (λ p. files p.0 × builders p.1) (λ p. build_type p.0 × (parameters p.1.0 × ignore p.1.1)) _ _
+    finds_like _ (IsExpectation d) expectation_with (λ e. ((e.files, e.builders), ((e.build_type, e.level), (e.parameters, e.ignore))))
+    (λ p h. record { files = h.0.0; builders = h.0.1; build_type = h.1.0.0; parameters = h.1.1.0; ignore = h.1.1.1; level = h.1.0.1 })
+    (λ e h. ((h.files, h.builders), ((h.build_type, h.level), (h.parameters, h.ignore)))) _
+    (finds_both (λ p. files p.0 × builders p.1) (λ p. (build_type p.0.0 × IsLevelPart d p.0.1) × (parameters p.1.0 × ignore p.1.1)) _ _
     (finds_both files builders _ _ (part_reads IsText as_str text_reads (codes "files") d) (part_or_reads (IsList IsBuilderOf) (list_of builder_of) (list_reads IsBuilderOf builder_of builder_reads) [] (codes "builders") d))
-    (finds_both build_type (λ p. parameters p.0 × ignore p.1) _ _ (part_reads IsText as_str text_reads (codes "buildType") d)
+    (finds_both (λ p. build_type p.0 × IsLevelPart d p.1) (λ p. parameters p.0 × ignore p.1) _ _
+    (finds_both build_type (IsLevelPart d) _ _ (part_reads IsText as_str text_reads (codes "buildType") d) (level_part_reads d))
     (finds_both parameters ignore _ _ (part_or_reads IsMembers members_of members_reads no_fields (codes "parameters") d)
     (part_or_reads (IsList IsText) (list_of as_str) (list_reads IsText as_str text_reads) [] (codes "ignore") d))))
 

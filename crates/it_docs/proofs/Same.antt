@@ -20,6 +20,7 @@ use Rattle.it_digest.specs.DigestSet.{in_sha256, in_sha384, in_sha512}
 use Rattle.it_docs.specs.Digest.{IsDigest, IsDigestSet}
 use Rattle.it_docs.specs.Json.{Fields}
 use Rattle.it_docs.specs.Layout.{IsLayout, LayoutOf}
+use Rattle.it_docs.specs.Level.{IsLevel, IsLevelPart}
 use Rattle.it_docs.specs.Link.{IsLink, LinkOf}
 use Rattle.it_docs.specs.Moment.{IsMoment, MomentOf}
 use Rattle.it_docs.specs.Policy.{IsBuilderOf, IsExpectation, IsPolicy, PolicyOf}
@@ -184,11 +185,18 @@ layout_part_same d x y h k =
 pub layout_same : (bytes : List ℕ) (x y : Layout) → LayoutOf bytes x → LayoutOf bytes y → x ≡ y
 layout_same = document_same IsLayout layout_part_same
 
+level_same : IsSingle IsLevel
+level_same d x y h k = same_Some x y (sym h.number_is ∙ k.number_is)
+
+level_part_same : IsSingle IsLevelPart
+level_part_same = part_or_same IsLevel 0 (codes "level") level_same
+
 builder_same : IsSingle IsBuilderOf
 builder_same d x y h k =
     let id = part_same IsText (codes "id") text_same d x.id y.id h.id k.id in
     let keys = part_same (IsTable IsKeyObject) (codes "keys") keys_same d x.keys y.keys h.keys k.keys in
-    λ i. record { id = id i; keys = keys i }
+    let level = level_part_same d x.level y.level h.level k.level in
+    λ i. record { id = id i; keys = keys i; level = level i }
 
 expectation_same : IsSingle IsExpectation
 expectation_same d x y h k =
@@ -197,7 +205,8 @@ expectation_same d x y h k =
     let build_type = part_same IsText (codes "buildType") text_same d x.build_type y.build_type h.build_type k.build_type in
     let parameters = part_or_same IsMembers _ (codes "parameters") members_found d x.parameters y.parameters h.parameters k.parameters in
     let ignore = part_or_same (IsList IsText) [] (codes "ignore") texts_same d x.ignore y.ignore h.ignore k.ignore in
-    λ i. record { files = files i; builders = builders i; build_type = build_type i; parameters = parameters i; ignore = ignore i }
+    let level = level_part_same d x.level y.level h.level k.level in
+    λ i. record { files = files i; builders = builders i; build_type = build_type i; parameters = parameters i; ignore = ignore i; level = level i }
 
 policy_part_same : IsSingle IsPolicy
 policy_part_same d x y h k =

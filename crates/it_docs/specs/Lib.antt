@@ -8,6 +8,7 @@ pub mod JsonView
 pub mod Laws
 pub mod Layout
 pub mod LayoutPart
+pub mod Level
 pub mod Link
 pub mod List
 pub mod Moment

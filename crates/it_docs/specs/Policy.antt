@@ -9,6 +9,7 @@ use Rattle.it_base.specs.Text.{IsText}
 use Rattle.it_dsse.specs.KeyObject.{IsKeyObject}
 use Rattle.it_dsse.specs.declared.key_object.KeyObject.{KeyObject}
 use Rattle.it_docs.specs.Json.{no_fields}
+use Rattle.it_docs.specs.Level.{IsLevelPart}
 use Rattle.it_docs.specs.Rule.{IsRule}
 use Rattle.it_docs.specs.Table.{IsTable, Named}
 use Rattle.it_docs.specs.TreeOf.{IsMembers}
@@ -20,6 +21,7 @@ use Rattle.it_docs.specs.declared.policy.Policy.{Policy}
 pub record IsBuilderOf (d : Data) (builder : Builder) : Type 0 where
   pub id : IsPart IsText (codes "id") d builder.id
   pub keys : IsPart (IsTable IsKeyObject) (codes "keys") d builder.keys
+  pub level : IsLevelPart d builder.level
 
 -- an expectation of a policy; a pattern is its text
 pub record IsExpectation (d : Data) (expectation : Expectation) : Type 0 where
@@ -28,6 +30,7 @@ pub record IsExpectation (d : Data) (expectation : Expectation) : Type 0 where
   pub build_type : IsPart IsText (codes "buildType") d expectation.build_type
   pub parameters : IsPartOr IsMembers no_fields (codes "parameters") d expectation.parameters
   pub ignore : IsPartOr (IsList IsText) [] (codes "ignore") d expectation.ignore
+  pub level : IsLevelPart d expectation.level
 
 -- the owners of a policy, of whom there is at least one
 pub record HasOwners (d : Data) (owners : Named KeyObject) : Type 0 where

@@ -5,6 +5,7 @@ ghost use Rattle.serde_json.specs.View.{view};
 ghost use Rattle.it_base.specs.Finds.{Finds};
 ghost use Rattle.it_base.specs.Parts.{IsPart};
 ghost use Rattle.it_base.specs.Text.{IsText};
+ghost use Rattle.it_docs.specs.Level.{IsLevel, IsLevelPart};
 
 use crate::list::list_or_empty;
 use crate::rule::Rule;
@@ -26,6 +27,8 @@ pub struct Builder {
     pub id: Text,
     /// The builder's keys by their ids.
     pub keys: Table<KeyObject>,
+    /// The SLSA build level, 0 to 3, that the policy trusts the builder to reach.
+    pub level: u8,
 }
 
 /// What is expected of the provenance of some delivered files.
@@ -41,6 +44,8 @@ pub struct Expectation {
     pub parameters: Members,
     /// The names of further parameters that it may have had.
     pub ignore: Sequence<Text>,
+    /// The least SLSA build level, 0 to 3, that a builder must have.
+    pub level: u8,
 }
 
 /// A policy.
@@ -68,7 +73,10 @@ impl FromDocument for Builder {
         let Some(keys) = part::<Table<KeyObject>>(alloc, value, "keys")? else {
             return Ok(None);
         };
-        Ok(Some(Builder { id, keys }))
+        let Some(level) = level(value) else {
+            return Ok(None);
+        };
+        Ok(Some(Builder { id, keys, level }))
     }
 }
 
@@ -94,12 +102,16 @@ impl FromDocument for Expectation {
         let Some(ignore) = list_or_empty::<Text>(alloc, value, "ignore")? else {
             return Ok(None);
         };
+        let Some(level) = level(value) else {
+            return Ok(None);
+        };
         Ok(Some(Expectation {
             files,
             builders,
             build_type,
             parameters,
             ignore,
+            level,
         }))
     }
 }
@@ -121,4 +133,22 @@ fn pattern_of(alloc: Global, value: &Value) -> Result<Option<Pattern>, AllocErro
         None => Ok(None),
         Some(text) => Ok(Some(Pattern::read(alloc, text)?)),
     }
+}
+
+/// The level of a builder or an expectation: 0 where it is missing, and `None` where it is no whole
+/// number from 0 to 3.
+fn level(value: &Value) -> Option<u8>
+    ensures { Finds (IsLevelPart (view value.now)) result }
+{
+    match member(value, "level") {
+        None => Some(0),
+        Some(found) => whole_level(found),
+    }
+}
+
+fn whole_level(value: &Value) -> Option<u8>
+    ensures { Finds (IsLevel (view value.now)) result }
+{
+    let level = value.as_u64()?;
+    if level > 3 { None } else { Some(level as u8) }
 }

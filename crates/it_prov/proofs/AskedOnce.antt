@@ -12,7 +12,7 @@ use Rattle.it_prov.proofs.Asking.{raised_once}
 
 pub asked_one : (check : Check) (expectation : Expectation) (digests : DigestSet) (envelope : Envelope) (n : ℕ) → IsAskedFor check expectation digests envelope n → 1 ≤ n
 asked_one check expectation digests envelope n asked =
-    let by = asked.meets.signed in
+    let by = asked.meets.besides_level.signed in
     rw asked.tried (signed_tries check envelope by.id by.object by.key by.signed)
 
 pub found_once : (check : Check) (expectations : List Expectation) (path : List ℕ) (digests : DigestSet) (envelopes : List Envelope) (index : ℕ) (start new : Meter)

@@ -1,8 +1,10 @@
 pub mod AskedOnce
 pub mod Asking
 pub mod Attesting
+pub mod BestLevel
 pub mod Entries
 pub mod Fitting
+pub mod Greatest
 pub mod Holding
 pub mod Meeting
 pub mod NameSets

@@ -12,10 +12,11 @@ use Rattle.it_docs.specs.declared.statement.Provenance.{Provenance}
 use Rattle.it_docs.specs.declared.statement.Statement.{Statement}
 use Rattle.it_docs.proofs.Same.{statement_same}
 use Rattle.it_prov.specs.Asked.{IsAskedFor}
+use Rattle.it_prov.specs.Best.{MeetsAtLevel}
 use Rattle.it_prov.specs.Held.{IsHeld}
 use Rattle.it_prov.specs.Judged.{IsAskedOfBuild, IsBuilt, SaysExpected}
-use Rattle.it_prov.specs.Meets.{Attests, Meets}
-use Rattle.it_prov.proofs.Meeting.{asked_by, built_of, meets_by}
+use Rattle.it_prov.specs.Meets.{Attests}
+use Rattle.it_prov.proofs.Meeting.{asked_by, built_of, level_by}
 
 module _ (check : Check) (expectation : Expectation) (digests : DigestSet) (envelope : Envelope) where
   says_attests : (found : Option Statement) → Finds (IsHeld envelope) found → (p : Provenance) → SaysExpected expectation digests found p → Attests envelope digests p
@@ -32,10 +33,11 @@ module _ (check : Check) (expectation : Expectation) (digests : DigestSet) (enve
         digests_agree = h.digests_agree;
       }
 
-  meets_says : (found : Option Statement) → Finds (IsHeld envelope) found → (m : Meets check expectation digests envelope) → SaysExpected expectation digests found m.provenance
-  meets_says None none m = absurd (none m.attests.statement (record { type_is = m.attests.type_is; reads = m.attests.reads }))
-  meets_says (Some s) held m =
-      let a = m.attests in
+  meets_says : (found : Option Statement) → Finds (IsHeld envelope) found → (level : ℕ) (m : MeetsAtLevel check expectation digests envelope level)
+      → SaysExpected expectation digests found m.besides_level.provenance
+  meets_says None none level m = let a = m.besides_level.attests in absurd (none a.statement (record { type_is = a.type_is; reads = a.reads }))
+  meets_says (Some s) held level m =
+      let a = m.besides_level.attests in
       record {
         statement = a.statement;
         subject = a.subject;
@@ -43,22 +45,22 @@ module _ (check : Check) (expectation : Expectation) (digests : DigestSet) (enve
         provenance_is = a.provenance_is;
         is_subject = a.is_subject;
         digests_agree = a.digests_agree;
-        expected = record { build_type = m.build_type; parameters = m.parameters };
+        expected = record { build_type = m.besides_level.build_type; parameters = m.besides_level.parameters };
       }
 
-  -- an envelope meets an expectation where its Statement says what is expected, and the builder that it
-  -- names signed it
+  -- an envelope meets an expectation with a level in all else where its Statement says what is expected,
+  -- and a builder of this level that it names signed it
   pub built_meets : (found : Option Statement) → Finds (IsHeld envelope) found → (said : Option (Bor Provenance))
       → MatchOption said ((p : Provenance) → ¬ SaysExpected expectation digests found p) (λ p. SaysExpected expectation digests found p.now)
-      → IsBuilt check envelope expectation.builders said ↔ Meets check expectation digests envelope
-  built_meets found held None none = (λ h. absurd h, λ m. absurd (none m.provenance (meets_says found held m)))
-  built_meets found held (Some p) says =
+      → (level : ℕ) → IsBuilt check envelope expectation.builders said level ↔ MeetsAtLevel check expectation digests envelope level
+  built_meets found held None none level = (λ h. absurd h, λ m. absurd (none m.besides_level.provenance (meets_says found held level m)))
+  built_meets found held (Some p) says level =
       let attests = says_attests found held p.now says in
-      (meets_by check expectation digests envelope p.now attests says.expected, built_of check expectation digests envelope p.now attests)
+      (level_by check expectation digests envelope p.now attests says.expected level, built_of check expectation digests envelope p.now attests level)
 
   -- and as many signatures are tried
   pub built_asked : (found : Option Statement) → Finds (IsHeld envelope) found → (said : Option (Bor Provenance))
       → MatchOption said ((p : Provenance) → ¬ SaysExpected expectation digests found p) (λ p. SaysExpected expectation digests found p.now)
-      → (n : ℕ) → IsAskedOfBuild check envelope expectation.builders said n → IsAskedFor check expectation digests envelope n
+      → (n : ℕ) → IsAskedOfBuild check envelope expectation.builders said expectation.level n → IsAskedFor check expectation digests envelope n
   built_asked found held None none n asked = absurd asked
   built_asked found held (Some p) says n asked = asked_by check expectation digests envelope p.now (says_attests found held p.now says) says.expected n asked

@@ -18,7 +18,7 @@ AtLeast P n = (least : ℕ) × P least × (least ≤ n)
 -- those that are admitted for its id, up to the first valid one
 pub record IsAskedFor (check : Check) (expectation : Expectation) (digests : DigestSet) (envelope : Envelope) (n : ℕ) : Type 0 where
   pub meets : Meets check expectation digests envelope
-  pub tried : n ≡ tries check envelope meets.signed.id meets.signed.object
+  pub tried : n ≡ tries check envelope meets.besides_level.signed.id meets.besides_level.signed.object
 
 -- the same of the envelope at an index
 pub record IsAskedAt (check : Check) (expectation : Expectation) (digests : DigestSet) (envelopes : List Envelope) (index : ℕ) (n : ℕ) : Type 0 where

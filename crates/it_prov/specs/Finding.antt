@@ -1,10 +1,11 @@
 -- What the search for the provenance of a delivered file comes to (SLSA v1.0, verifying artifacts).
-use Rattle.std.specs.Prelude.{◌≡◌, ℕ, List, Some, take, Contains}
+use Rattle.std.specs.Prelude.{◌≡◌, ℕ, List, Option, Some, take, Contains}
 use Rattle.std.specs.List.{slice_get}
 use Rattle.it_digest.specs.declared.compare.DigestSet.{DigestSet}
 use Rattle.it_dsse.specs.Check.{Check}
 use Rattle.it_dsse.specs.declared.envelope.Envelope.{Envelope}
 use Rattle.it_docs.specs.declared.policy.Expectation.{Expectation}
+use Rattle.it_prov.specs.Best.{IsBest}
 use Rattle.it_prov.specs.Fits.{Fits}
 use Rattle.it_prov.specs.Meets.{Meets}
 
@@ -29,8 +30,10 @@ pub record IsFound (check : Check) (expectations : List Expectation) (path : Lis
 abbrev pub NoneFits : List Expectation → List ℕ → Type 0
 NoneFits expectations path = (expectation : Expectation) → ¬ Fits expectations path expectation
 
--- an expectation fits a path, and no envelope meets it
-pub record IsMissing (check : Check) (expectations : List Expectation) (path : List ℕ) (digests : DigestSet) (envelopes : List Envelope) : Type 0 where
+-- an expectation fits a path, no envelope meets it, and this is the best level with which one meets it in
+-- all but the level
+pub record IsMissing (check : Check) (expectations : List Expectation) (path : List ℕ) (digests : DigestSet) (envelopes : List Envelope) (best : Option ℕ) : Type 0 where
   pub expectation : Expectation
   pub fits : Fits expectations path expectation
   pub none_meets : NoneMeets check expectation digests envelopes
+  pub best_is : IsBest check expectation digests (Contains envelopes) best

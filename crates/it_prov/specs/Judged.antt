@@ -1,6 +1,6 @@
 -- What the functions that judge an envelope come to, in the words of the definitions. Nothing that is
 -- trusted stands here.
-use Rattle.std.specs.Prelude.{◌≡◌, ◌↔◌, ℕ, List, Bool, Option, Some, None, Contains, IsTrue}
+use Rattle.std.specs.Prelude.{◌≡◌, ◌↔◌, ◌<◌, ◌≤◌, ℕ, List, Bool, Option, Some, None, Contains, IfSome, IsTrue}
 use Rattle.std.specs.Borrow.{Bor}
 use Rattle.std.specs.BTreeMap.{is_at}
 use Rattle.std.specs.BTreeSet.{BTreeSet}
@@ -45,11 +45,23 @@ pub record IsExpected (expectation : Expectation) (provenance : Provenance) : Ty
   pub build_type : provenance.build_type ≡ expectation.build_type
   pub parameters : ParametersMeet expectation provenance.parameters
 
--- one of the builders has this id, and signed the envelope
-pub record IsBuiltBy (check : Check) (envelope : Envelope) (builders : List Builder) (id : List ℕ) : Type 0 where
-  pub builder : Builder
-  pub stands : Contains builders builder
+-- R holds of a number with one of the elements
+abbrev pub OfSome : {X : Type 0} → (X → ℕ → Type 0) → List X → ℕ → Type 0
+OfSome {X} R xs n = (x : X) × Contains xs x × R x n
+
+-- a number of which P holds that is at least the wanted one or the greatest, or none where P holds of none
+abbrev pub IsEnoughOrGreatest : ℕ → (ℕ → Type 0) → Option ℕ → Type 0
+IsEnoughOrGreatest wanted P None = (n : ℕ) → ¬ P n
+IsEnoughOrGreatest wanted P (Some level) = P level × (level < wanted → (n : ℕ) → P n → n ≤ level)
+
+-- a number, where there is one, is less than the wanted one
+abbrev pub IsShort : ℕ → Option ℕ → Type 0
+IsShort wanted best = IfSome best (λ n. n < wanted)
+
+-- a builder has this id and this level, and signed the envelope
+pub record IsBuiltBy (check : Check) (envelope : Envelope) (id : List ℕ) (builder : Builder) (level : ℕ) : Type 0 where
   pub id_is : id ≡ builder.id
+  pub level_is : level ≡ builder.level
   pub signed : SignedByBuilder check envelope builder
 
 -- a builder signed the envelope, and n signatures are tried with the key that signed
@@ -57,9 +69,13 @@ pub record IsAskedOfBuilder (check : Check) (envelope : Envelope) (builder : Bui
   pub signed : SignedByBuilder check envelope builder
   pub tried : n ≡ tries check envelope signed.id signed.object
 
--- one of the builders has this id and signed the envelope, and n signatures are tried with its key
-pub record IsAskedOfBuilders (check : Check) (envelope : Envelope) (builders : List Builder) (id : List ℕ) (n : ℕ) : Type 0 where
-  pub built : IsBuiltBy check envelope builders id
+-- one of the builders has this id and at least the wanted level and signed the envelope, and n signatures
+-- are tried with its key
+pub record IsAskedOfBuilders (check : Check) (envelope : Envelope) (builders : List Builder) (id : List ℕ) (wanted : ℕ) (n : ℕ) : Type 0 where
+  pub builder : Builder
+  pub stands : Contains builders builder
+  pub built : IsBuiltBy check envelope id builder builder.level
+  pub is_enough : wanted ≤ builder.level
   pub tried : n ≡ tries check envelope built.signed.id built.signed.object
 
 -- there is a Statement, a subject of which has the digests, with this provenance, which is expected
@@ -72,12 +88,13 @@ pub record SaysExpected (expectation : Expectation) (digests : DigestSet) (found
   pub digests_agree : Agree subject digests
   pub expected : IsExpected expectation provenance
 
--- there is a provenance, and the builder that it names signed the envelope
-abbrev pub IsBuilt : Check → Envelope → List Builder → Option (Bor Provenance) → Type 0
-IsBuilt check envelope builders None = ⊥
-IsBuilt check envelope builders (Some provenance) = IsBuiltBy check envelope builders provenance.now.builder
+-- there is a provenance, and a builder of this level that it names signed the envelope
+abbrev pub IsBuilt : Check → Envelope → List Builder → Option (Bor Provenance) → ℕ → Type 0
+IsBuilt check envelope builders None level = ⊥
+IsBuilt check envelope builders (Some provenance) level = OfSome (IsBuiltBy check envelope provenance.now.builder) builders level
 
--- there is a provenance whose builder signed the envelope, and n signatures are tried with its key
-abbrev pub IsAskedOfBuild : Check → Envelope → List Builder → Option (Bor Provenance) → ℕ → Type 0
-IsAskedOfBuild check envelope builders None n = ⊥
-IsAskedOfBuild check envelope builders (Some provenance) n = IsAskedOfBuilders check envelope builders provenance.now.builder n
+-- there is a provenance, a builder of at least the wanted level that it names signed the envelope, and n
+-- signatures are tried with its key
+abbrev pub IsAskedOfBuild : Check → Envelope → List Builder → Option (Bor Provenance) → ℕ → ℕ → Type 0
+IsAskedOfBuild check envelope builders None wanted n = ⊥
+IsAskedOfBuild check envelope builders (Some provenance) wanted n = IsAskedOfBuilders check envelope builders provenance.now.builder wanted n

@@ -1,4 +1,5 @@
 pub mod Asked
+pub mod Best
 pub mod Cost
 pub mod Finding
 pub mod Fits

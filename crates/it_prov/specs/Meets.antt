@@ -1,6 +1,7 @@
 -- When an envelope meets an expectation (SLSA v1.0, verifying artifacts; in-toto Attestation Statement
--- v1). That digest sets must agree, and which parameters may stand there, is this profile's choice.
-use Rattle.std.specs.Prelude.{◌≡◌, ℕ, List, Some, None, Contains, IsTrue}
+-- v1). That digest sets must agree, which parameters may stand there, and that a builder has the build
+-- level that the policy trusts it to reach, is this profile's choice.
+use Rattle.std.specs.Prelude.{◌≡◌, ◌≤◌, ℕ, List, Some, None, Contains, IsTrue}
 use Rattle.std.specs.FinMap.{get}
 use Rattle.it_digest.specs.Compare.{Agree}
 use Rattle.it_digest.specs.declared.compare.DigestSet.{DigestSet}
@@ -47,9 +48,8 @@ pub record ParametersMeet (expectation : Expectation) (parameters : Fields) : Ty
   pub expected_stand : (name : List ℕ) (expected : Json) → field_at name expectation.parameters ≡ Some expected → StandsEqual parameters name expected
   pub others_ignored : (name : List ℕ) (given : Json) → field_at name parameters ≡ Some given → field_at name expectation.parameters ≡ None → Contains expectation.ignore name
 
--- an envelope meets an expectation for a file with these digests
-pub record Meets (check : Check) (expectation : Expectation) (digests : DigestSet) (envelope : Envelope) : Type 0 where
-  pub builder : Builder
+-- an envelope meets an expectation for a file with these digests, but for the level of this builder
+pub record MeetsBesidesLevel (check : Check) (expectation : Expectation) (digests : DigestSet) (envelope : Envelope) (builder : Builder) : Type 0 where
   pub provenance : Provenance
   pub is_expected : Contains expectation.builders builder
   pub signed : SignedByBuilder check envelope builder
@@ -57,3 +57,9 @@ pub record Meets (check : Check) (expectation : Expectation) (digests : DigestSe
   pub built_by : provenance.builder ≡ builder.id
   pub build_type : provenance.build_type ≡ expectation.build_type
   pub parameters : ParametersMeet expectation provenance.parameters
+
+-- an envelope meets an expectation for a file with these digests
+pub record Meets (check : Check) (expectation : Expectation) (digests : DigestSet) (envelope : Envelope) : Type 0 where
+  pub builder : Builder
+  pub besides_level : MeetsBesidesLevel check expectation digests envelope builder
+  pub level_is_enough : expectation.level ≤ builder.level

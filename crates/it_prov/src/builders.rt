@@ -1,13 +1,14 @@
 //! Who built what an envelope attests.
-ghost use Rattle.std.specs.Prelude.{◌≡◌, ◌↔◌, ◌*◌, ◌≤◌, IsTrue, length};
+ghost use Rattle.std.specs.Prelude.{◌≡◌, ◌↔◌, ◌*◌, ◌≤◌, IfSome, IsTrue, length};
 ghost use Rattle.std.specs.FinMap.{len};
 ghost use Rattle.it_dsse.specs.Meter.{RaisedBy, raised};
 ghost use Rattle.it_dsse.specs.Signed.{IsSigner, tries};
 ghost use Rattle.it_prov.specs.Asked.{AtLeast};
 ghost use Rattle.it_prov.specs.Cost.{key_count};
-ghost use Rattle.it_prov.specs.Judged.{IsAskedOfBuilder, IsAskedOfBuilders, IsBuiltBy};
+ghost use Rattle.it_prov.specs.Judged.{IsAskedOfBuilder, IsAskedOfBuilders, IsBuiltBy, IsEnoughOrGreatest, OfSome};
 ghost use Rattle.it_prov.specs.Meets.{SignedByBuilder};
 
+use crate::levels::greater;
 use it_docs::policy::Builder;
 use it_dsse::check::SignatureCheck;
 use it_dsse::envelope::Envelope;
@@ -15,27 +16,34 @@ use it_dsse::key_object::KeyObject;
 use it_dsse::meter::Meter;
 use it_dsse::signed_by;
 
-/// Whether one of the builders has this id and signed the envelope.
-pub(crate) fn is_built_by(
+/// The level of a builder that has this id and signed the envelope: of the first whose level is at
+/// least the wanted one, or else the greatest. `None` where no builder with this id signed.
+pub(crate) fn level_of_builders(
     builders: &[Builder],
     id: &str,
+    wanted: u8,
     envelope: &Envelope,
     check: &Box<dyn SignatureCheck>,
     meter: &mut Meter,
-) -> bool
-    ensures answer { IsTrue result
-        ↔ IsBuiltBy (meaning check.now) envelope.now builders.now id.now }
+) -> Option<u8>
+    ensures answer { IsEnoughOrGreatest wanted
+        (OfSome (IsBuiltBy (meaning check.now) envelope.now id.now) builders.now) result }
     ensures at_most { RaisedBy (λ n. n ≤ key_count builders.now * length envelope.now.signatures)
         meter.old meter.new }
-    ensures at_least { IsTrue result → RaisedBy (AtLeast
-        (IsAskedOfBuilders (meaning check.now) envelope.now builders.now id.now)) meter.old meter.new }
+    ensures at_least { IfSome result (λ level. wanted ≤ level → RaisedBy (AtLeast
+        (IsAskedOfBuilders (meaning check.now) envelope.now builders.now id.now wanted))
+        meter.old meter.new) }
 {
+    let mut best = None;
     for builder in builders {
         if builder.id.as_str() == id && has_signed(builder, envelope, check, meter) {
-            return true;
+            if builder.level >= wanted {
+                return Some(builder.level);
+            }
+            best = greater(best, Some(builder.level));
         }
     }
-    false
+    best
 }
 
 /// Whether some key of a builder signed the envelope.

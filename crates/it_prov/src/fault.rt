@@ -7,8 +7,10 @@ use std::alloc::AllocError;
 pub enum ProvError {
     /// No expectation's pattern matches the file's path, which is given.
     NoExpectation(Text),
-    /// No envelope meets the expectation that speaks of the file, whose path is given.
-    NoProvenance(Text),
+    /// No envelope meets the expectation that speaks of the file, whose path is given. The level is the
+    /// greatest of a builder with which some envelope meets the expectation in all but the level, or
+    /// `None` where there is no such builder.
+    NoProvenance(Text, Option<u8>),
     /// Memory was refused.
     OutOfMemory,
 }
@@ -21,5 +23,25 @@ impl From<AllocError> for ProvError {
 
     fn from(_e: AllocError) -> ProvError {
         ProvError::OutOfMemory
+    }
+}
+
+/// Why no envelope was found for an expectation.
+#[derive(Drop)]
+pub(crate) enum MeetingFault {
+    /// No envelope meets it. The level is that of `NoProvenance`.
+    NoneMeets(Option<u8>),
+    /// Memory was refused.
+    OutOfMemory,
+}
+
+impl From<AllocError> for MeetingFault {
+    ghost use Rattle.std.specs.Prelude.{◌≡◌};
+    ghost use Rattle.it_prov.specs.declared.fault.MeetingFault.TheVariants.{OutOfMemory};
+
+    ghost from_gives = { λ _ e. e ≡ OutOfMemory };
+
+    fn from(_e: AllocError) -> MeetingFault {
+        MeetingFault::OutOfMemory
     }
 }

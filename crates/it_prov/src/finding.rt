@@ -8,7 +8,7 @@ ghost use Rattle.it_prov.specs.Fits.{Fits};
 ghost use Rattle.it_prov.specs.Held.{AreHeld};
 
 use crate::attestations::Attestations;
-use crate::fault::ProvError;
+use crate::fault::{MeetingFault, ProvError};
 use crate::fits::fitting;
 use crate::meets::first_to_meet;
 use it_base::text::Text;
@@ -23,18 +23,19 @@ use std::alloc::{AllocError, Global};
 /// artifacts).
 ///
 /// The file has this `path` and these `digests`. The first of the `expectations` whose pattern
-/// matches the path speaks of the file, and no other. An envelope meets it where one of its builders
-/// signed the envelope, and the payload is a Statement with provenance that names this builder, with
-/// the build type and the parameters that are expected, and a subject of which agrees with the
-/// digests. Each signature is checked by `check`, which counts in `meter`: at most once for each key
-/// of the expected builders and each signature, and at least once for each signature that is tried
-/// with the key of the builder that signed the envelope found, up to the first valid one.
+/// matches the path speaks of the file, and no other. An envelope meets it where one of its builders,
+/// of at least the expected level, signed the envelope, and the payload is a Statement with provenance
+/// that names this builder, with the build type and the parameters that are expected, and a subject of
+/// which agrees with the digests. Each signature is checked by `check`, which counts in `meter`: at
+/// most once for each key of the expected builders and each signature, and at least once for each
+/// signature that is tried with the key of the builder that signed the envelope found, up to the first
+/// valid one.
 ///
 /// # Errors
 ///
 /// `NoExpectation` with the path where no expectation's pattern matches it, `NoProvenance` with the
-/// path where none of the `envelopes` meets the expectation, and `OutOfMemory` where memory was
-/// refused.
+/// path where none of the `envelopes` meets the expectation, and with the greatest level of a builder
+/// with which one of them meets it in all but the level, and `OutOfMemory` where memory was refused.
 pub fn find_provenance(
     alloc: Global,
     path: &str,
@@ -48,9 +49,9 @@ pub fn find_provenance(
         envelopes.now) }
     ensures no_expectation { IfErr result (λ e. (named : _) → e ≡ ProvError.NoExpectation named
         → (named ≡ path.now) × NoneFits expectations.now path.now) }
-    ensures no_provenance { IfErr result (λ e. (named : _) → e ≡ ProvError.NoProvenance named
-        → (named ≡ path.now)
-        × IsMissing (meaning check.now) expectations.now path.now digests envelopes.now) }
+    ensures no_provenance { IfErr result (λ e. (named : _) (best : _)
+        → e ≡ ProvError.NoProvenance named best → (named ≡ path.now)
+        × IsMissing (meaning check.now) expectations.now path.now digests envelopes.now best) }
     ensures at_most { (expectation : _) → Fits expectations.now path.now expectation
         → RaisedBy (λ n. n ≤ key_count expectation.builders * signature_count envelopes.now)
         meter.old meter.new }
@@ -90,9 +91,9 @@ pub fn find_among(
         attestations.now.envelopes.now) }
     ensures no_expectation { IfErr result (λ e. (named : _) → e ≡ ProvError.NoExpectation named
         → (named ≡ path.now) × NoneFits expectations.now path.now) }
-    ensures no_provenance { IfErr result (λ e. (named : _) → e ≡ ProvError.NoProvenance named
-        → (named ≡ path.now)
-        × IsMissing (meaning check.now) expectations.now path.now digests attestations.now.envelopes.now) }
+    ensures no_provenance { IfErr result (λ e. (named : _) (best : _)
+        → e ≡ ProvError.NoProvenance named best → (named ≡ path.now)
+        × IsMissing (meaning check.now) expectations.now path.now digests attestations.now.envelopes.now best) }
     ensures at_most { (expectation : _) → Fits expectations.now path.now expectation
         → RaisedBy (λ n. n ≤ key_count expectation.builders * signature_count attestations.now.envelopes.now)
         meter.old meter.new }
@@ -103,9 +104,12 @@ pub fn find_among(
     let Some(expectation) = fitting(expectations, path) else {
         return Err(ProvError::NoExpectation(text_of(alloc, path)?));
     };
-    match first_to_meet(alloc, expectation, &digests, attestations, check, meter)? {
-        Some(index) => Ok(index),
-        None => Err(ProvError::NoProvenance(text_of(alloc, path)?)),
+    match first_to_meet(alloc, expectation, &digests, attestations, check, meter) {
+        Ok(index) => Ok(index),
+        Err(MeetingFault::NoneMeets(best)) => {
+            Err(ProvError::NoProvenance(text_of(alloc, path)?, best))
+        }
+        Err(MeetingFault::OutOfMemory) => Err(ProvError::OutOfMemory),
     }
 }
 

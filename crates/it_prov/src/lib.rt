@@ -7,6 +7,7 @@ mod builders;
 pub mod fault;
 mod finding;
 mod fits;
+mod levels;
 mod meets;
 mod parameters;
 

@@ -1,15 +1,18 @@
 //! Which envelopes meet an expectation.
-ghost use Rattle.std.specs.Prelude.{◌≡◌, ◌↔◌, ◌*◌, ◌≤◌, Any, IfOk, IfSome, IsTrue, MatchOption, length};
+ghost use Rattle.std.specs.Prelude.{◌≡◌, ◌↔◌, ◌*◌, ◌≤◌, Any, Contains, IfErr, IfOk, IfSome, IsTrue, MatchOption, length};
 ghost use Rattle.it_digest.specs.Compare.{Agree};
 ghost use Rattle.it_dsse.specs.Meter.{RaisedBy};
 ghost use Rattle.it_prov.specs.Asked.{AtLeast, IsAskedAt};
+ghost use Rattle.it_prov.specs.Best.{IsBest};
 ghost use Rattle.it_prov.specs.Cost.{key_count, signature_count};
 ghost use Rattle.it_prov.specs.Finding.{IsFirstToMeet, NoneMeets};
 ghost use Rattle.it_prov.specs.Held.{AreHeld};
-ghost use Rattle.it_prov.specs.Judged.{HasNames, IsAskedOfBuild, IsBuilt, IsExpected, SaysExpected};
+ghost use Rattle.it_prov.specs.Judged.{HasNames, IsAskedOfBuild, IsBuilt, IsEnoughOrGreatest, IsExpected, SaysExpected};
 
 use crate::attestations::Attestations;
-use crate::builders::is_built_by;
+use crate::builders::level_of_builders;
+use crate::fault::MeetingFault;
+use crate::levels::greater;
 use crate::parameters::{parameters_meet, set_of};
 use it_digest::compare::{Compare, DigestSet};
 use it_docs::policy::Expectation;
@@ -17,11 +20,15 @@ use it_docs::statement::{Provenance, Statement};
 use it_dsse::check::SignatureCheck;
 use it_dsse::envelope::Envelope;
 use it_dsse::meter::Meter;
-use std::alloc::{AllocError, Global};
+use std::alloc::Global;
 use std::collections::BTreeSet;
 
 /// The index of the first envelope that meets an expectation for a file with these digests. Keys are
 /// asked last.
+///
+/// # Errors
+///
+/// `NoneMeets` where no envelope meets it, and `OutOfMemory` where memory was refused.
 pub(crate) fn first_to_meet(
     alloc: Global,
     expectation: &Expectation,
@@ -29,27 +36,33 @@ pub(crate) fn first_to_meet(
     attestations: &Attestations,
     check: &Box<dyn SignatureCheck>,
     meter: &mut Meter,
-) -> Result<Option<usize>, AllocError>
+) -> Result<usize, MeetingFault>
     requires { AreHeld attestations.now.envelopes.now attestations.now.statements.items }
-    ensures answer { IfOk result (λ found. MatchOption found
-        (NoneMeets (meaning check.now) expectation.now digests.now attestations.now.envelopes.now)
-        (IsFirstToMeet (meaning check.now) expectation.now digests.now attestations.now.envelopes.now)) }
+    ensures found { IfOk result (IsFirstToMeet
+        (meaning check.now) expectation.now digests.now attestations.now.envelopes.now) }
+    ensures missing { IfErr result (λ e. (best : _) → e ≡ MeetingFault.NoneMeets best
+        → NoneMeets (meaning check.now) expectation.now digests.now attestations.now.envelopes.now
+        × IsBest (meaning check.now) expectation.now digests.now
+        (Contains attestations.now.envelopes.now) best) }
     ensures at_most { RaisedBy (λ n. n
         ≤ key_count expectation.now.builders * signature_count attestations.now.envelopes.now)
         meter.old meter.new }
-    ensures at_least { IfOk result (λ found. IfSome found (λ index. RaisedBy (AtLeast (IsAskedAt
+    ensures at_least { IfOk result (λ index. RaisedBy (AtLeast (IsAskedAt
         (meaning check.now) expectation.now digests.now attestations.now.envelopes.now index))
-        meter.old meter.new)) }
+        meter.old meter.new) }
 {
     let ignored = set_of(alloc, expectation.ignore.as_slice())?;
+    let mut best = None;
     for (index, envelope) in attestations.envelopes.iter().enumerate() {
         let statement = &attestations.statements[index];
         let provenance = expected_in(expectation, &ignored, digests, statement);
-        if is_built(expectation, provenance, envelope, check, meter) {
-            return Ok(Some(index));
+        let level = level_of_build(expectation, provenance, envelope, check, meter);
+        match level {
+            Some(reached) if reached >= expectation.level => return Ok(index),
+            _ => best = greater(best, level),
         }
     }
-    Ok(None)
+    Err(MeetingFault::NoneMeets(best))
 }
 
 /// The provenance in a Statement, where a subject has the digests and the provenance is expected.
@@ -97,29 +110,30 @@ fn is_expected(expectation: &Expectation, ignored: &BTreeSet<&str>, provenance: 
         && parameters_meet(expectation, ignored, &provenance.parameters)
 }
 
-/// Whether there is a provenance, and the builder that it names signed the envelope.
-fn is_built(
+/// The level of a builder that a provenance names and that signed the envelope, as `level_of_builders`
+/// answers it.
+fn level_of_build(
     expectation: &Expectation,
     provenance: Option<&Provenance>,
     envelope: &Envelope,
     check: &Box<dyn SignatureCheck>,
     meter: &mut Meter,
-) -> bool
-    ensures answer { IsTrue result
-        ↔ IsBuilt (meaning check.now) envelope.now expectation.now.builders provenance.entry }
+) -> Option<u8>
+    ensures answer { IsEnoughOrGreatest expectation.now.level
+        (IsBuilt (meaning check.now) envelope.now expectation.now.builders provenance.entry) result }
     ensures at_most { RaisedBy (λ n. n
         ≤ key_count expectation.now.builders * length envelope.now.signatures)
         meter.old meter.new }
-    ensures at_least { IsTrue result → RaisedBy (AtLeast (IsAskedOfBuild
-        (meaning check.now) envelope.now expectation.now.builders provenance.entry))
-        meter.old meter.new }
+    ensures at_least { IfSome result (λ level. expectation.now.level ≤ level → RaisedBy (AtLeast
+        (IsAskedOfBuild (meaning check.now) envelope.now expectation.now.builders provenance.entry
+        expectation.now.level)) meter.old meter.new) }
 {
     match provenance {
         Some(provenance) => {
             let builders = expectation.builders.as_slice();
             let id = provenance.builder.as_str();
-            is_built_by(builders, id, envelope, check, meter)
+            level_of_builders(builders, id, expectation.level, envelope, check, meter)
         }
-        None => false,
+        None => None,
     }
 }

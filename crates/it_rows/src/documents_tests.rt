@@ -475,3 +475,66 @@ fn names_the_first_bad_part_of_a_policy(rt: HostRuntime) -> Result<(), Fail> {
     assert_eq!(rt; policy_part(alloc, "[]")?.as_str(), "json");
     Ok(())
 }
+
+// A policy of two expectations, with more members in the second and in its builder.
+fn policy_of_levels(alloc: Global, more: &str, of_builder: &str) -> Result<String, AllocError> {
+    format!(in alloc;
+        "{{\"owners\":{{\"a\":{{}}}},\"expectations\":[{{\"files\":\"*\",\"buildType\":\"\"}},
+        {{\"files\":\"*\",\"buildType\":\"\",\"builders\":[{{\"id\":\"b\",\"keys\":{{}}{of_builder}}}]{more}}}]}}"
+    )
+}
+
+// A level is a whole number from 0 to 3, and 0 where it is missing or null.
+#[test]
+fn reads_the_levels_of_a_policy(rt: HostRuntime) -> Result<(), Fail> {
+    let alloc = rt.alloc();
+    let rows = [
+        ("", 0),
+        (",\"level\":null", 0),
+        (",\"level\":0", 0),
+        (",\"level\":1", 1),
+        (",\"level\":2", 2),
+        (",\"level\":3", 3),
+        (",\"level\":4,\"level\":1", 1),
+    ];
+    for (of_expectation, wanted) in rows {
+        for (of_builder, reached) in rows {
+            let text = policy_of_levels(alloc, of_expectation, of_builder)?;
+            let Ok(policy) = read_policy(alloc, text.as_bytes()) else {
+                return Err("no policy")?;
+            };
+            let expectation = policy.expectations.as_slice().last().ok_or("none")?;
+            assert_eq!(rt; expectation.level, wanted);
+            let builder = expectation.builders.as_slice().first().ok_or("no builder")?;
+            assert_eq!(rt; builder.level, reached);
+        }
+    }
+    Ok(())
+}
+
+#[test]
+fn refuses_an_expectation_for_a_bad_level(rt: HostRuntime) -> Result<(), Fail> {
+    let alloc = rt.alloc();
+    let bad = [
+        "4",
+        "-1",
+        "2.0",
+        "\"2\"",
+        "true",
+        "[]",
+        "{}",
+        "256",
+        "18446744073709551616",
+    ];
+    for value in bad {
+        let level = format!(in alloc; ",\"level\":{value}")?;
+        let level = level.as_str();
+        let of_expectation = policy_of_levels(alloc, level, "")?;
+        let part = policy_part(alloc, of_expectation.as_str())?;
+        assert_eq!(rt; part.as_str(), "expectation 1", "{value}");
+        let of_builder = policy_of_levels(alloc, "", level)?;
+        let part = policy_part(alloc, of_builder.as_str())?;
+        assert_eq!(rt; part.as_str(), "expectation 1", "{value}");
+    }
+    Ok(())
+}

@@ -129,7 +129,12 @@ fn told_answer(alloc: Global, found: &Result<usize, ProvError>) -> Result<String
     match found {
         Ok(index) => format!(in alloc; "{index}"),
         Err(ProvError::NoExpectation(path)) => told_path(alloc, "no expectation", path),
-        Err(ProvError::NoProvenance(path)) => told_path(alloc, "no provenance", path),
+        Err(ProvError::NoProvenance(path, None)) => told_path(alloc, "no provenance", path),
+        Err(ProvError::NoProvenance(path, Some(best))) => {
+            let words = told_path(alloc, "no provenance", path)?;
+            let words = words.as_str();
+            format!(in alloc; "{words}, best {best}")
+        }
         Err(ProvError::OutOfMemory) => String::from_str(alloc, "out of memory"),
     }
 }
@@ -261,5 +266,107 @@ fn wants_the_builder_and_the_types(rt: HostRuntime) -> Result<(), Fail> {
     assert_eq!(rt; build_type.as_str(), "no provenance app");
     let kind = told_one(alloc, REF, "text/plain", &as_base(app, REF))?;
     assert_eq!(rt; kind.as_str(), "no provenance app");
+    Ok(())
+}
+
+// An expectation of the base case that wants a level, of builders under the one id. Each has the key of
+// an id, and a level where one is given.
+fn of_levels(
+    alloc: Global,
+    wanted: &str,
+    builders: &[(&str, Option<u8>)],
+) -> Result<String, AllocError> {
+    let mut list = String::new(alloc);
+    for (index, (key, level)) in builders.iter().enumerate() {
+        let comma = if index == 0 { "" } else { "," };
+        let level = match level {
+            Some(level) => format!(in alloc; ",\"level\":{level}")?,
+            None => String::new(alloc),
+        };
+        let level = level.as_str();
+        let builder = format!(in alloc;
+            "{comma}{{\"id\":\"https://ci.example/1\",\"keys\":{{\"{key}\":{{\"scheme\":\"hmac-sha256\"}}}}{level}}}"
+        )?;
+        list.push_str(builder.as_str())?;
+    }
+    let list = list.as_str();
+    format!(in alloc;
+        "{{\"files\":\"*\",\"builders\":[{list}],\"buildType\":\"https://ci.example/make\",\"parameters\":{{{REF}}}{wanted}}}"
+    )
+}
+
+// Builders under one id and one key all count, in whichever order they stand: the greatest level is
+// enough, or is the best. Where one is enough, the builders behind it are not asked.
+#[test]
+fn counts_every_builder_under_one_id(rt: HostRuntime) -> Result<(), Fail> {
+    let alloc = rt.alloc();
+    let app = subject_of(alloc, "app", A)?;
+    let envelopes = [signed_as(alloc, "builder", KIND, &as_base(app.as_str(), REF))?];
+    let low = ("builder", Some(1));
+    let high = ("builder", Some(3));
+    let bare = ("builder", None);
+    let other = ("carol", Some(3));
+    let rows = [
+        (",\"level\":2", [low, high], "0", 2),
+        (",\"level\":2", [high, low], "0", 1),
+        (",\"level\":1", [low, high], "0", 1),
+        (",\"level\":3", [low, low], "no provenance app, best 1", 2),
+        (",\"level\":2", [bare, low], "no provenance app, best 1", 2),
+        (",\"level\":2", [low, bare], "no provenance app, best 1", 2),
+        (",\"level\":2", [other, low], "no provenance app, best 1", 1),
+        (",\"level\":2", [low, other], "no provenance app, best 1", 1),
+        (
+            ",\"level\":1",
+            [bare, other],
+            "no provenance app, best 0",
+            1,
+        ),
+        (",\"level\":0", [bare, other], "0", 1),
+        ("", [other, bare], "0", 1),
+        ("", [other, other], "no provenance app", 0),
+    ];
+    for (wanted, builders, answer, tried) in rows {
+        let expectation = of_levels(alloc, wanted, &builders)?;
+        let (words, asked) = told(alloc, expectation.as_str(), &envelopes, "app", A)?;
+        assert_eq!(rt; words.as_str(), answer);
+        assert_eq!(rt; asked, tried, "{answer}");
+    }
+    Ok(())
+}
+
+// The best level is that of envelopes which meet all else, wherever they stand.
+#[test]
+fn tells_the_best_level_of_several_envelopes(rt: HostRuntime) -> Result<(), Fail> {
+    let alloc = rt.alloc();
+    let app = subject_of(alloc, "app", A)?;
+    let said = as_base(app.as_str(), REF);
+    let other = as_base(app.as_str(), "\"ref\":\"v2\"");
+    let envelopes = [
+        signed_as(alloc, "carol", KIND, &other)?,
+        signed_as(alloc, "builder", KIND, &said)?,
+        signed_as(alloc, "carol", KIND, &said)?,
+        signed_as(alloc, "builder", KIND, &said)?,
+    ];
+    let builders = [("builder", Some(1)), ("carol", Some(2))];
+    let rows = [
+        (",\"level\":3", 0..1, "no provenance app"),
+        (",\"level\":3", 0..2, "no provenance app, best 1"),
+        (",\"level\":3", 1..3, "no provenance app, best 2"),
+        (",\"level\":3", 2..4, "no provenance app, best 2"),
+        (",\"level\":3", 0..4, "no provenance app, best 2"),
+        (",\"level\":3", 0..0, "no provenance app"),
+        (",\"level\":2", 0..4, "2"),
+        (",\"level\":1", 0..4, "1"),
+        ("", 2..4, "0"),
+    ];
+    for (wanted, range, answer) in rows {
+        let expectation = of_levels(alloc, wanted, &builders)?;
+        let given = &envelopes[range];
+        let (words, _) = told(alloc, expectation.as_str(), given, "app", A)?;
+        assert_eq!(rt; words.as_str(), answer);
+    }
+    let expectation = of_levels(alloc, ",\"level\":3", &builders)?;
+    let (words, _) = told(alloc, expectation.as_str(), &envelopes, "app", B)?;
+    assert_eq!(rt; words.as_str(), "no provenance app");
     Ok(())
 }

@@ -1,13 +1,14 @@
 use Rattle.std.proofs.Common.{◌*◌, drop, take}
+use Rattle.it_prov.specs.Best.{MeetsAtLevel}
 use Rattle.it_prov.specs.Cost.{key_count, signature_count}
-use Rattle.it_prov.specs.Finding.{NoneMeets}
 use Rattle.it_prov.proofs.Asking.{Leaves}
+use Rattle.it_prov.proofs.Greatest.{SoFar}
 use Rattle.it_prov.proofs.meets.first_to_meet.Given as goal
 
--- no envelope so far meets the expectation, and the rest leave each of their signatures to be tried
--- once for each key
+-- the greatest level with which an envelope so far meets the expectation in all else is too low, and the
+-- rest leave each of their signatures to be tried once for each key
 abbrev pub invariant-loop-index : goal.invariant-loop-index
 invariant-loop-index g l = record {
-  none : NoneMeets ((goal.SignatureCheck-dyn g (l.check.vtable, l.check.value)).meaning l.check.value) l.expectation l.digests (take l.index l.attestations.envelopes.now);
+  so_far : SoFar l.expectation.level (MeetsAtLevel ((goal.SignatureCheck-dyn g (l.check.vtable, l.check.value)).meaning l.check.value) l.expectation l.digests) (take l.index l.attestations.envelopes.now) l.best;
   asked : Leaves (key_count l.expectation.builders * signature_count (drop l.index l.attestations.envelopes.now)) (key_count l.expectation.builders * signature_count l.attestations.envelopes.now) l.fn.meter l.meter;
 }

@@ -192,12 +192,14 @@ fn of_files(alloc: Global) -> Result<Vec<(Fault, &'static str, &'static str)>, A
     let missing = Fault::RecordMissing(text(alloc, "test")?);
     let bad = Fault::BadRecord(text(alloc, "a/b")?);
     let unexpected = Fault::NoExpectation(text(alloc, "bin/app")?);
-    let unproved = Fault::NoProvenance(text(alloc, " ")?);
+    let unproved = Fault::NoProvenance(text(alloc, " ")?, None);
+    let too_low = Fault::NoProvenance(text(alloc, "app")?, Some(3));
     let rows = [
         (missing, "50 RecordMissing", "name test\n"),
         (bad, "51 BadRecord", "name a/b\n"),
         (unexpected, "60 NoExpectation", "path bin/app\n"),
         (unproved, "61 NoProvenance", "path \\x20\n"),
+        (too_low, "61 NoProvenance", "path app\nbest 3\n"),
     ];
     Ok(Vec::from_array(alloc, rows)?)
 }

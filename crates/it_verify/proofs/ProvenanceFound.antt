@@ -1,5 +1,5 @@
 -- Provenance of delivered files among the envelopes that lines read as.
-use Rattle.std.proofs.Common.{◌≡◌, ◌⊎◌, ℕ, List, [], ◌∷◌, ◌++◌, Contains, Option, Some, inl, inr, ⊎_elim, sym, ap, subst}
+use Rattle.std.proofs.Common.{◌≡◌, ℕ, List, [], ◌∷◌, ◌++◌, Contains, Option, Some, inl, inr, ⊎_elim, sym, ap, subst}
 use Rattle.std.specs.FinMap.{entries, get}
 use Rattle.std.specs.List.{AllByRecursion}
 use Rattle.std.proofs.lemmas.List.Elements.{All-contains, All-from_recursion}

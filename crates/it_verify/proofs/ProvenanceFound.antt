@@ -1,5 +1,5 @@
 -- Provenance of delivered files among the envelopes that lines read as.
-use Rattle.std.proofs.Common.{◌≡◌, ◌⊎◌, ℕ, List, [], ◌∷◌, ◌++◌, Contains, Option, Some, inl, inr, ⊎_elim, sym, subst}
+use Rattle.std.proofs.Common.{◌≡◌, ℕ, List, [], ◌∷◌, ◌++◌, Contains, Option, Some, inl, inr, ⊎_elim, sym, ap, subst}
 use Rattle.std.specs.FinMap.{entries, get}
 use Rattle.std.specs.List.{AllByRecursion}
 use Rattle.std.proofs.lemmas.List.Elements.{All-contains, All-from_recursion}
@@ -17,17 +17,20 @@ use Rattle.it_rules.proofs.Listed.{Contains-from_place}
 use Rattle.it_chain.proofs.Documents.{envelope_same}
 use Rattle.it_chain.proofs.Entries.{known_entry}
 use Rattle.it_prov.specs.Best.{IsBest, MeetsAtLevel}
+use Rattle.it_prov.specs.Finding.{IsMissing}
 use Rattle.it_prov.specs.Meets.{Meets}
 use Rattle.it_prov.proofs.Greatest.{greatest_alike}
 use Rattle.it_prov.proofs.OneFit.{fits_one}
 use Rattle.it_verify.specs.Documents.{IsProvenanceLine}
-use Rattle.it_verify.specs.First.{FileFails}
+use Rattle.it_verify.specs.First.{FileFails, whole}
 use Rattle.it_verify.specs.Fewest.{FileTakes}
 use Rattle.it_verify.specs.Gathering.{AreRead, FileAsks, FileLacks, FileProven}
 use Rattle.it_verify.specs.Made.{HasProvenance}
 use Rattle.it_verify.specs.Walk.{RefusedAs}
 use Rattle.it_verify.specs.declared.failure.Failure.{Failure}
+use Rattle.it_verify.specs.declared.failure.Failure.TheVariants.{Refused}
 use Rattle.it_verify.specs.declared.inputs.Inputs.{Inputs}
+use Rattle.it_verify.specs.declared.refusal.Fault.TheVariants.{NoProvenance}
 use Rattle.it_verify.specs.declared.refusal.Refusal.{Refusal}
 use Rattle.it_verify.proofs.Failures.{fails_at}
 
@@ -46,6 +49,11 @@ module _ (check : Check) (expectations : List Expectation) (envelopes : List Env
       ⊎_elim (λ x. x.0 found.expectation found.fits)
       (λ x. x.1.none_meets first.envelope (Contains-from_place envelopes h.0 first.envelope first.stands)
       (subst (λ e. Meets check e file.1 first.envelope) (fits_one expectations file.0 found.expectation x.1.expectation found.fits x.1.fits) first.meets))
+
+  -- a refusal that names a file, and the best level of what does not meet its expectation
+  pub none_proven : (file : List ℕ × DigestSet) (path : List ℕ) (best : Option ℕ) (e : Failure) → e ≡ Refused (whole (NoProvenance path best))
+      → (path ≡ file.0) × IsMissing check expectations file.0 file.1 envelopes best → RefusedAs (Lacks file) e
+  none_proven file path best e is missing = subst (RefusedAs (Lacks file)) (sym is) (inr (best, missing.1, ap (λ named. whole (NoProvenance named best)) missing.0))
 
   none_lacks : (files : List (List ℕ × DigestSet)) → AllByRecursion Proven files → NoneAt Lacks files
   none_lacks [] h = tt

@@ -74,9 +74,9 @@ pub enum Fault {
     BadRecord(Text),
     /// No expectation of the policy speaks of the delivered file at this path.
     NoExpectation(Text),
-    /// No provenance meets the expectation for the delivered file at this path. The level is the greatest
-    /// of a builder with which some provenance meets the expectation in all but the level, or `None`
-    /// where there is no such builder.
+    /// No provenance meets the expectation for the delivered file at this path. The level is the
+    /// greatest of a builder with which some provenance meets the expectation in all but the level,
+    /// or `None` where there is no such builder.
     NoProvenance(Text, Option<u8>),
 }
 

@@ -19,7 +19,8 @@ pub fn signed_ids(
     object: &KeyObject,
     panel: &[Box<dyn SignatureCheck>],
 ) -> Result<Vec<String>, AllocError>
-    ensures { IfOk result (λ signers. AreThose (IsSigner (panel_of (map meaning panel.now)) envelope.now object.now)
+    ensures { IfOk result (λ signers. AreThose (IsSigner (panel_of (map meaning panel.now))
+        envelope.now object.now)
         (map string_bytes ids.now) (map string_bytes signers.items)) }
 {
     let mut meter = Meter { asked: 0 };
@@ -33,8 +34,8 @@ pub fn signed_ids(
     Ok(signers)
 }
 
-/// Whether the key that `id` and `object` name signed the envelope: some check of the panel knows the
-/// key, and some signature is valid for it (DSSE v1.0, "Protocol").
+/// Whether the key that `id` and `object` name signed the envelope: some check of the panel knows
+/// the key, and some signature is valid for it (DSSE v1.0, "Protocol").
 ///
 /// The meter rises by the number of signatures that [`signed_by`] tries. Takes no memory.
 pub fn is_signer(
@@ -47,7 +48,8 @@ pub fn is_signer(
     ensures answer { IsTrue result
         ↔ IsSigner (panel_of (map meaning panel.now)) envelope.now object.now id.now }
     ensures counted { meter.new
-        ≡ raised meter.old (tries (panel_of (map meaning panel.now)) envelope.now id.now object.now) }
+        ≡ raised meter.old (tries (panel_of (map meaning panel.now)) envelope.now id.now
+        object.now) }
 {
     signed_by(envelope, id, object, panel, meter).is_some()
 }

@@ -4,7 +4,7 @@ use Rattle.std.proofs.lemmas.List.Sums.{sum_by_push}
 use Rattle.std.proofs.lemmas.List.{length-map, length_push}
 use Rattle.std.proofs.lemmas.Map.Made.{distinct_count-le}
 use Rattle.it_base.specs.Sum.{IsSum}
-use Rattle.it_dsse.specs.Check.{KeyNumber}
+use Rattle.it_dsse.specs.Panel.{KeyNumber}
 use Rattle.it_dsse.specs.Meter.{RaisedBy}
 use Rattle.it_dsse.specs.declared.meter.Meter.{Meter}
 use Rattle.it_docs.specs.declared.layout.Layout.{Layout}

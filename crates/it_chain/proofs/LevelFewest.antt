@@ -6,7 +6,7 @@ use Rattle.std.proofs.lemmas.Map.Made.{IsDistinct-from_AllPairs, distinct_count-
 use Rattle.std.proofs.lemmas.Slice.Eq.{bytes_eq-Decides}
 use Rattle.it_base.specs.Sum.{CostsIfFound, IsSum}
 use Rattle.it_base.proofs.Sums.{IsOne, one_if_found}
-use Rattle.it_dsse.specs.Check.{KeyNumber}
+use Rattle.it_dsse.specs.Panel.{KeyNumber}
 use Rattle.it_dsse.specs.declared.meter.Meter.{Meter}
 use Rattle.it_docs.specs.Layout.{LayoutOf}
 use Rattle.it_docs.specs.declared.layout.Layout.{Layout}
@@ -88,7 +88,7 @@ module _ (costs : Costing) (one : (layout : Layout) → IsOne (costs layout)) (s
       subst (λ l. costs l (folder_of step.name id bundle) m) (layout_same h.payload found.0 sublayout reads h.reads) found.2)
       (λ none. absurd (none.0 sublayout (h.payload, h.counted, h.reads))) takes
 
-  -- a check for its key, and what its body takes
+  -- a panel for its key, and what its body takes
   pub id_takes : (id : List ℕ) (key : KeyNumber) (body : Body) → OneBody sub setting layout bundle step id key body → (found : List Candidate) (old now new : Meter) → RaisedWithin 1 (SignaturesIn found) old now
       → RaisedAtLeast (BodyFewest costs bundle step.name id body) now new → RaisedAtLeast (IdFewest costs setting layout bundle step id) old new
   id_takes id key body h found old now new first next =

@@ -8,7 +8,7 @@ use Rattle.std.proofs.lemmas.List.{take_more}
 use Rattle.std.proofs.lemmas.Option.{same_Some}
 use Rattle.it_base.specs.Places.{IsFirst, NoneAt}
 use Rattle.it_base.proofs.Firsts.{first_before, first_behind, none_append}
-use Rattle.it_dsse.specs.Check.{KeyNumber}
+use Rattle.it_dsse.specs.Panel.{KeyNumber}
 use Rattle.it_dsse.specs.Signed.{Signed}
 use Rattle.it_dsse.specs.declared.envelope.Envelope.{Envelope}
 use Rattle.it_dsse.specs.declared.key_object.KeyObject.{KeyObject}
@@ -172,7 +172,7 @@ held_back (of_layout layout) = refl
 
 module _ (sub : Holding) (fails : Failing) (setting : Setting) (layout : Layout) (bundle : Contents) (step : Step) (id : List ℕ) (object : KeyObject) (candidates : List Candidate)
     (are : AreCandidates step.name (files_of bundle) candidates) (listed : Contains step.pubkeys id) (known : get layout.keys id ≡ Some object) where
-  counted_of : (candidate : Candidate) (key : KeyNumber) → IsSigned setting.check id object candidates candidate key → Counted setting layout bundle step id candidate.envelope.payload
+  counted_of : (candidate : Candidate) (key : KeyNumber) → IsSigned setting.panel id object candidates candidate key → Counted setting layout bundle step id candidate.envelope.payload
   counted_of candidate key h =
       let file = are.2.each candidate h.stands in
       let from = of_those (λ (f : File). IsClaimed step.name f.name) (files_of bundle) are.0 are.1 file.0 file.1 in
@@ -193,19 +193,19 @@ module _ (sub : Holding) (fails : Failing) (setting : Setting) (layout : Layout)
         reads = file.2.reads;
       }
 
-  candidate_of : (payload : List ℕ) (c : Counted setting layout bundle step id payload) → (candidate : Candidate) × IsSigned setting.check id object candidates candidate c.key × (candidate.envelope.payload ≡ payload)
+  candidate_of : (payload : List ℕ) (c : Counted setting layout bundle step id payload) → (candidate : Candidate) × IsSigned setting.panel id object candidates candidate c.key × (candidate.envelope.payload ≡ payload)
   candidate_of payload c =
       let same : c.object ≡ object = same_Some c.object object (sym c.known ∙ known) in
       let reads : BodyOf step.name c.envelope.payload (as_body (as_held c.body)) = subst (BodyOf step.name c.envelope.payload) (held_back c.body) (subst (λ p. BodyOf step.name p c.body) (sym c.payload_is) c.reads) in
       let is : IsRead step.name c.file.bytes (record { envelope = c.envelope; body = as_held c.body }) = record { is_envelope = c.is_envelope; type_is = c.type_is; reads = reads } in
       let found = are.2.all c.file (record { envelope = c.envelope; body = as_held c.body }) (in_those (λ (f : File). IsClaimed step.name f.name) (files_of bundle) are.0 are.1 c.file c.stands c.claimed) is in
-      let signed : Signed setting.check found.0.envelope id object c.key = subst (λ e. Signed setting.check e id object c.key) (sym found.2) (subst (λ o. Signed setting.check c.envelope id o c.key) same c.signed) in
+      let signed : Signed setting.panel found.0.envelope id object c.key = subst (λ e. Signed setting.panel e id object c.key) (sym found.2) (subst (λ o. Signed setting.panel c.envelope id o c.key) same c.signed) in
       (found.0, record { stands = found.1; signed = signed }, ap (λ (e : Envelope). e.payload) found.2 ∙ c.payload_is)
 
-  pub none_counts : ((candidate : Candidate) (key : KeyNumber) → ¬ IsSigned setting.check id object candidates candidate key) → (payload : List ℕ) → ¬ Counted setting layout bundle step id payload
+  pub none_counts : ((candidate : Candidate) (key : KeyNumber) → ¬ IsSigned setting.panel id object candidates candidate key) → (payload : List ℕ) → ¬ Counted setting layout bundle step id payload
   none_counts none payload c = let found = candidate_of payload c in none found.0 c.key found.1
 
-  pub two_count : CountTwo setting.check id object candidates → HasTwo sub fails setting layout bundle step id
+  pub two_count : CountTwo setting.panel id object candidates → HasTwo sub fails setting layout bundle step id
   two_count two = record {
     payload = two.one.envelope.payload;
     other = two.other.envelope.payload;
@@ -214,7 +214,7 @@ module _ (sub : Holding) (fails : Failing) (setting : Setting) (layout : Layout)
     differ = two.differ;
   }
 
-  pub one_counts : (key : KeyNumber) (body : Held) → CountsOne setting.check id object candidates key body → OneBody sub setting layout bundle step id key (as_body body)
+  pub one_counts : (key : KeyNumber) (body : Held) → CountsOne setting.panel id object candidates key body → OneBody sub setting layout bundle step id key (as_body body)
   unfolding counted_of
   one_counts key body one = record {
     payload = one.candidate.envelope.payload;

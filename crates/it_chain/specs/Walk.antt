@@ -5,7 +5,7 @@ use Rattle.std.specs.List.{AllByRecursion}
 use Rattle.std.specs.Set.{distinct_count}
 use Rattle.it_base.specs.Places.{IsFirst, NoneAt}
 use Rattle.it_base.specs.Sum.{CostsIfFound, IsSum}
-use Rattle.it_dsse.specs.Check.{Check, KeyNumber}
+use Rattle.it_dsse.specs.Panel.{KeyNumber, Panel}
 use Rattle.it_dsse.specs.Envelope.{EnvelopeOf}
 use Rattle.it_dsse.specs.Signed.{Signed}
 use Rattle.it_dsse.specs.declared.key_object.KeyObject.{KeyObject}
@@ -95,11 +95,11 @@ abbrev pub AreCandidates : List ℕ → List File → List Candidate → Type 0
 AreCandidates step files candidates = (claimed : List File) × AreClaimed step files claimed × AreRead step claimed candidates
 
 -- ---- what counts for a key id
-module _ (check : Check) (id : List ℕ) (object : KeyObject) (candidates : List Candidate) where
+module _ (panel : Panel) (id : List ℕ) (object : KeyObject) (candidates : List Candidate) where
   -- a candidate that the key signed
   pub record IsSigned (candidate : Candidate) (key : KeyNumber) : Type 0 where
     pub stands : Contains candidates candidate
-    pub signed : Signed check candidate.envelope id object key
+    pub signed : Signed panel candidate.envelope id object key
 
   -- one body alone
   pub record CountsOne (key : KeyNumber) (body : Held) : Type 0 where

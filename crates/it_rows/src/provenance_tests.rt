@@ -269,104 +269,125 @@ fn wants_the_builder_and_the_types(rt: HostRuntime) -> Result<(), Fail> {
     Ok(())
 }
 
-// An expectation of the base case that wants a level, of builders under the one id. Each has the key of
-// an id, and a level where one is given.
-fn of_levels(
+// Builders under one id: the base case's builder at level 1, at level 3 and with no level, and one of
+// carol's key at level 3.
+const LOW: &str =
+    "{\"id\":\"https://ci.example/1\",\"keys\":{\"builder\":{\"scheme\":\"hmac-sha256\"}},\"level\":1}";
+
+const HIGH: &str =
+    "{\"id\":\"https://ci.example/1\",\"keys\":{\"builder\":{\"scheme\":\"hmac-sha256\"}},\"level\":3}";
+
+const BARE: &str =
+    "{\"id\":\"https://ci.example/1\",\"keys\":{\"builder\":{\"scheme\":\"hmac-sha256\"}}}";
+
+const OTHER: &str =
+    "{\"id\":\"https://ci.example/1\",\"keys\":{\"carol\":{\"scheme\":\"hmac-sha256\"}},\"level\":3}";
+
+// What the search comes to where this level is wanted of one of two builders.
+fn told_at(
     alloc: Global,
-    wanted: &str,
-    builders: &[(&str, Option<u8>)],
-) -> Result<String, AllocError> {
-    let mut list = String::new(alloc);
-    for (index, (key, level)) in builders.iter().enumerate() {
-        let comma = if index == 0 { "" } else { "," };
-        let level = match level {
-            Some(level) => format!(in alloc; ",\"level\":{level}")?,
-            None => String::new(alloc),
-        };
-        let level = level.as_str();
-        let builder = format!(in alloc;
-            "{comma}{{\"id\":\"https://ci.example/1\",\"keys\":{{\"{key}\":{{\"scheme\":\"hmac-sha256\"}}}}{level}}}"
-        )?;
-        list.push_str(builder.as_str())?;
-    }
-    let list = list.as_str();
-    format!(in alloc;
-        "{{\"files\":\"*\",\"builders\":[{list}],\"buildType\":\"https://ci.example/make\",\"parameters\":{{{REF}}}{wanted}}}"
-    )
+    level: u8,
+    one: &str,
+    other: &str,
+    envelopes: &[Envelope],
+) -> Result<(String, u64), Fail> {
+    let expectation = format!(in alloc;
+        "{{\"files\":\"*\",\"builders\":[{one},{other}],\"buildType\":\"https://ci.example/make\",\"parameters\":{{{REF}}},\"level\":{level}}}"
+    )?;
+    told(alloc, expectation.as_str(), envelopes, "app", A)
 }
 
-// Builders under one id and one key all count, in whichever order they stand: the greatest level is
-// enough, or is the best. Where one is enough, the builders behind it are not asked.
-#[test]
-fn counts_every_builder_under_one_id(rt: HostRuntime) -> Result<(), Fail> {
-    let alloc = rt.alloc();
+fn by_builder(alloc: Global) -> Result<[Envelope; 1], Fail> {
     let app = subject_of(alloc, "app", A)?;
-    let envelopes = [signed_as(alloc, "builder", KIND, &as_base(app.as_str(), REF))?];
-    let low = ("builder", Some(1));
-    let high = ("builder", Some(3));
-    let bare = ("builder", None);
-    let other = ("carol", Some(3));
+    Ok([signed_as(alloc, "builder", KIND, &as_base(app.as_str(), REF))?])
+}
+
+// Where one is enough, the builders behind it are not asked.
+#[test]
+fn a_builder_of_enough_level_counts_in_either_order(rt: HostRuntime) -> Result<(), Fail> {
+    let alloc = rt.alloc();
+    let envelopes = by_builder(alloc)?;
     let rows = [
-        (",\"level\":2", [low, high], "0", 2),
-        (",\"level\":2", [high, low], "0", 1),
-        (",\"level\":1", [low, high], "0", 1),
-        (",\"level\":3", [low, low], "no provenance app, best 1", 2),
-        (",\"level\":2", [bare, low], "no provenance app, best 1", 2),
-        (",\"level\":2", [low, bare], "no provenance app, best 1", 2),
-        (",\"level\":2", [other, low], "no provenance app, best 1", 1),
-        (",\"level\":2", [low, other], "no provenance app, best 1", 1),
-        (
-            ",\"level\":1",
-            [bare, other],
-            "no provenance app, best 0",
-            1,
-        ),
-        (",\"level\":0", [bare, other], "0", 1),
-        ("", [other, bare], "0", 1),
-        ("", [other, other], "no provenance app", 0),
+        (2, LOW, HIGH, 2),
+        (2, HIGH, LOW, 1),
+        (1, LOW, HIGH, 1),
+        (0, OTHER, BARE, 1),
     ];
-    for (wanted, builders, answer, tried) in rows {
-        let expectation = of_levels(alloc, wanted, &builders)?;
-        let (words, asked) = told(alloc, expectation.as_str(), &envelopes, "app", A)?;
-        assert_eq!(rt; words.as_str(), answer);
-        assert_eq!(rt; asked, tried, "{answer}");
+    for (level, one, other, tried) in rows {
+        let (words, asked) = told_at(alloc, level, one, other, &envelopes)?;
+        assert_eq!(rt; words.as_str(), "0");
+        assert_eq!(rt; asked, tried, "{level}");
     }
     Ok(())
+}
+
+#[test]
+fn tells_the_best_level_of_builders_under_one_id(rt: HostRuntime) -> Result<(), Fail> {
+    let alloc = rt.alloc();
+    let envelopes = by_builder(alloc)?;
+    let rows = [
+        (3, LOW, LOW, "no provenance app, best 1"),
+        (2, BARE, LOW, "no provenance app, best 1"),
+        (2, LOW, BARE, "no provenance app, best 1"),
+        (1, BARE, BARE, "no provenance app, best 0"),
+    ];
+    for (level, one, other, want) in rows {
+        let (words, asked) = told_at(alloc, level, one, other, &envelopes)?;
+        assert_eq!(rt; words.as_str(), want);
+        assert_eq!(rt; asked, 2, "{want}");
+    }
+    Ok(())
+}
+
+#[test]
+fn the_level_of_a_builder_that_did_not_sign_is_not_the_best(rt: HostRuntime) -> Result<(), Fail> {
+    let alloc = rt.alloc();
+    let envelopes = by_builder(alloc)?;
+    let rows = [
+        (OTHER, LOW, "no provenance app, best 1", 1),
+        (LOW, OTHER, "no provenance app, best 1", 1),
+        (OTHER, OTHER, "no provenance app", 0),
+    ];
+    for (one, other, want, tried) in rows {
+        let (words, asked) = told_at(alloc, 2, one, other, &envelopes)?;
+        assert_eq!(rt; words.as_str(), want);
+        assert_eq!(rt; asked, tried, "{want}");
+    }
+    Ok(())
+}
+
+// Carol's Statement with another parameter, the builder's, carol's, and the builder's again.
+fn by_two(alloc: Global) -> Result<[Envelope; 4], Fail> {
+    let app = subject_of(alloc, "app", A)?;
+    let said = as_base(app.as_str(), REF);
+    let other = as_base(app.as_str(), "\"ref\":\"v2\"");
+    let unlike = signed_as(alloc, "carol", KIND, &other)?;
+    let of_builder = signed_as(alloc, "builder", KIND, &said)?;
+    let of_carol = signed_as(alloc, "carol", KIND, &said)?;
+    let again = signed_as(alloc, "builder", KIND, &said)?;
+    Ok([unlike, of_builder, of_carol, again])
 }
 
 // The best level is that of envelopes which meet all else, wherever they stand.
 #[test]
 fn tells_the_best_level_of_several_envelopes(rt: HostRuntime) -> Result<(), Fail> {
     let alloc = rt.alloc();
-    let app = subject_of(alloc, "app", A)?;
-    let said = as_base(app.as_str(), REF);
-    let other = as_base(app.as_str(), "\"ref\":\"v2\"");
-    let envelopes = [
-        signed_as(alloc, "carol", KIND, &other)?,
-        signed_as(alloc, "builder", KIND, &said)?,
-        signed_as(alloc, "carol", KIND, &said)?,
-        signed_as(alloc, "builder", KIND, &said)?,
-    ];
-    let builders = [("builder", Some(1)), ("carol", Some(2))];
+    let envelopes = by_two(alloc)?;
+    let envelopes = envelopes.as_slice();
+    let carol = OTHER.replace(alloc, "\"level\":3", "\"level\":2")?;
     let rows = [
-        (",\"level\":3", 0..1, "no provenance app"),
-        (",\"level\":3", 0..2, "no provenance app, best 1"),
-        (",\"level\":3", 1..3, "no provenance app, best 2"),
-        (",\"level\":3", 2..4, "no provenance app, best 2"),
-        (",\"level\":3", 0..4, "no provenance app, best 2"),
-        (",\"level\":3", 0..0, "no provenance app"),
-        (",\"level\":2", 0..4, "2"),
-        (",\"level\":1", 0..4, "1"),
-        ("", 2..4, "0"),
+        (&envelopes[..1], "no provenance app"),
+        (&envelopes[..2], "no provenance app, best 1"),
+        (&envelopes[1..3], "no provenance app, best 2"),
+        (&envelopes[2..], "no provenance app, best 2"),
     ];
-    for (wanted, range, answer) in rows {
-        let expectation = of_levels(alloc, wanted, &builders)?;
-        let given = &envelopes[range];
-        let (words, _) = told(alloc, expectation.as_str(), given, "app", A)?;
-        assert_eq!(rt; words.as_str(), answer);
+    for (envelopes, want) in rows {
+        let (words, _) = told_at(alloc, 3, LOW, carol.as_str(), envelopes)?;
+        assert_eq!(rt; words.as_str(), want);
     }
-    let expectation = of_levels(alloc, ",\"level\":3", &builders)?;
-    let (words, _) = told(alloc, expectation.as_str(), &envelopes, "app", B)?;
-    assert_eq!(rt; words.as_str(), "no provenance app");
+    let (second, _) = told_at(alloc, 2, LOW, carol.as_str(), envelopes)?;
+    assert_eq!(rt; second.as_str(), "2");
+    let (first, _) = told_at(alloc, 1, LOW, carol.as_str(), envelopes)?;
+    assert_eq!(rt; first.as_str(), "1");
     Ok(())
 }

@@ -1,5 +1,5 @@
 -- Inputs in which the same counts have the same verdict, and the same report.
-use Rattle.std.proofs.Common.{◌↔◌, ℕ, List, ◌∷◌, Contains, inl, inr, refl, sym, subst, ⊎_elim}
+use Rattle.std.proofs.Common.{◌↔◌, ℕ, List, ◌∷◌, Option, Contains, inl, inr, refl, sym, subst, ⊎_elim}
 use Rattle.std.specs.FinMap.{entries}
 use Rattle.std.proofs.lemmas.List.Elements.{Contains-append_right}
 use Rattle.it_base.proofs.Members.{in_head}
@@ -8,14 +8,17 @@ use Rattle.it_digest.specs.declared.compare.DigestSet.{DigestSet}
 use Rattle.it_dsse.specs.Check.{Check}
 use Rattle.it_dsse.specs.declared.envelope.Envelope.{Envelope}
 use Rattle.it_docs.specs.Statement.{StatementOf}
+use Rattle.it_docs.specs.declared.policy.Builder.{Builder}
 use Rattle.it_docs.specs.declared.policy.Expectation.{Expectation}
 use Rattle.it_chain.specs.Alike.{Alike as ChainAlike, ComesToTheSame as ChainsCome}
 use Rattle.it_chain.specs.Chain.{Chain}
 use Rattle.it_chain.specs.First.{First as ChainFirst}
 use Rattle.it_chain.proofs.Alikes.{alike_chains}
 use Rattle.it_chain.proofs.Zips.{zip_weaker}
+use Rattle.it_prov.specs.Best.{IsBest, MeetsAtLevel}
 use Rattle.it_prov.specs.Fits.{Fits}
-use Rattle.it_prov.specs.Meets.{Meets}
+use Rattle.it_prov.specs.Meets.{Meets, MeetsBesidesLevel}
+use Rattle.it_prov.proofs.Greatest.{greatest_alike}
 use Rattle.it_verify.specs.Alike.{Alike, IsAttested}
 use Rattle.it_verify.specs.Documents.{Documents, ReadAs, IsProvenanceLine, setting_of}
 use Rattle.it_verify.specs.First.{Place, at_links, at_inspections, at_deliver, at_provenance, FileFails, Stands, places}
@@ -28,7 +31,7 @@ use Rattle.it_verify.specs.declared.outcome.Status.{Status}
 use Rattle.it_verify.specs.declared.refusal.Refusal.{Refusal}
 use Rattle.it_verify.specs.declared.verdict.Verdict.{Verdict}
 use Rattle.it_verify.specs.declared.verdict.Verdict.TheVariants.{Accepted, Refused}
-use Rattle.it_verify.proofs.Counterparts.{Carried, Share, at_each, recorded_there, reread, share_back, share_of, with_envelope}
+use Rattle.it_verify.proofs.Counterparts.{Carried, Reread, Share, at_each, recorded_there, reread, share_back, share_of, with_envelope}
 
 alike_share : (check : Check) (a b : Inputs) → Alike check a b → Share check a b
 alike_share = share_of ChainAlike (λ here there. here ↔ there)
@@ -55,11 +58,10 @@ fits_stands : (expectations : List Expectation) (path : List ℕ) (expectation :
 fits_stands expectations path expectation fits =
     subst (λ es. Contains es expectation) (sym fits.they_are) (Contains-append_right fits.front (expectation ∷ fits.rest) expectation (in_head expectation fits.rest))
 
--- what attests the same payload, signed by the same key, meets the same expectation
-meets_attested : (check : Check) (inputs : Inputs) (expectation : Expectation) (digests : DigestSet) (envelope : Envelope) (m : Meets check expectation digests envelope)
-    → (given : IsAttested check inputs m.signed.id m.signed.object envelope.payload) → Meets check expectation digests given.envelope
-meets_attested check inputs expectation digests envelope m given = record {
-  builder = m.builder;
+-- what attests the same payload, signed by the same key, meets the same expectation in all but the level
+meets_attested : (check : Check) (inputs : Inputs) (expectation : Expectation) (digests : DigestSet) (envelope : Envelope) (builder : Builder) (m : MeetsBesidesLevel check expectation digests envelope builder)
+    → (given : IsAttested check inputs m.signed.id m.signed.object envelope.payload) → MeetsBesidesLevel check expectation digests given.envelope builder
+meets_attested check inputs expectation digests envelope builder m given = record {
   provenance = m.provenance;
   is_expected = m.is_expected;
   signed = record { id = m.signed.id; object = m.signed.object; key = given.signed.0; is_key = m.signed.is_key; signed = given.signed.1 };
@@ -77,6 +79,10 @@ meets_attested check inputs expectation digests envelope m given = record {
   parameters = m.parameters;
 }
 
+-- some line of the provenance meets an expectation in all but the level with a builder of this level
+abbrev HasLevel : Check → Inputs → Expectation → DigestSet → ℕ → Type 0
+HasLevel check inputs expectation digests level = (envelope : Envelope) × IsProvenanceLine inputs envelope × MeetsAtLevel check expectation digests envelope level
+
 -- ---- from inputs to alike ones
 module _ (check : Check) (a b : Inputs) (h : Alike check a b) (documents : Documents) (read : ReadAs a documents) where
   chains : ChainsCome (setting_of check documents) a.depth documents.layout a.links b.links
@@ -88,24 +94,51 @@ module _ (check : Check) (a b : Inputs) (h : Alike check a b) (documents : Docum
     inspections = zip_weaker (HasRecorded a) (HasRecorded b) (recorded_there check a b (alike_share check a b h)) documents.layout.inspections evidence.inspections is.inspections;
   }
 
-  -- what meets an expectation in the others has its like in the inputs
-  meets_here : (expectation : Expectation) (digests : DigestSet) (envelope : Envelope) → Contains documents.policy.expectations expectation → IsProvenanceLine b envelope → Meets check expectation digests envelope
-      → (other : Envelope) × IsProvenanceLine a other × Meets check expectation digests other
-  meets_here expectation digests envelope expected is m =
+  -- what meets an expectation in the others, in all but the level, has its like in the inputs
+  like_here : (expectation : Expectation) (digests : DigestSet) (envelope : Envelope) (builder : Builder) → Contains documents.policy.expectations expectation → IsProvenanceLine b envelope
+      → MeetsBesidesLevel check expectation digests envelope builder → (other : Envelope) × IsProvenanceLine a other × MeetsBesidesLevel check expectation digests other builder
+  like_here expectation digests envelope builder expected is m =
       let there : IsAttested check b m.signed.id m.signed.object envelope.payload =
       record { envelope = envelope; is_line = is; payload_type = m.attests.type_is; payload_is = refl; signed = (m.signed.key, m.signed.signed) } in
       let here : IsAttested check a m.signed.id m.signed.object envelope.payload = (h.provenance documents m.signed.id envelope.payload m.signed.object read
-      (record { expectation = expectation; builder = m.builder; is_expected = expected; is_builder = m.is_expected; is_key = m.signed.is_key })).1 there in
-      (here.envelope, here.is_line, meets_attested check a expectation digests envelope m here)
+      (record { expectation = expectation; builder = builder; is_expected = expected; is_builder = m.is_expected; is_key = m.signed.is_key })).1 there in
+      (here.envelope, here.is_line, meets_attested check a expectation digests envelope builder m here)
+
+  module _ (expectation : Expectation) (digests : DigestSet) (expected : Contains documents.policy.expectations expectation) where
+    meets_here : (envelope : Envelope) → IsProvenanceLine b envelope → Meets check expectation digests envelope → (other : Envelope) × IsProvenanceLine a other × Meets check expectation digests other
+    meets_here envelope is m =
+        let found = like_here expectation digests envelope m.builder expected is m.besides_level in
+        (found.0, found.1, record { builder = m.builder; besides_level = found.2; level_is_enough = m.level_is_enough })
+
+    level_here : (level : ℕ) → HasLevel check b expectation digests level → HasLevel check a expectation digests level
+    level_here level h =
+        let m = h.2 in
+        let found = like_here expectation digests h.0 m.builder expected h.1 m.besides_level in
+        (found.0, found.1, record { builder = m.builder; besides_level = found.2; level_is = m.level_is })
+
+module _ (check : Check) (a b : Inputs) (h : Alike check a b) (documents : Documents) (read : ReadAs a documents) where
+  again : Reread check b documents
+  again = reread check a b (alike_share check a b h) documents read
+
+  -- alike inputs have one best level
+  best_there : (expectation : Expectation) (digests : DigestSet) → Contains documents.policy.expectations expectation → (best : Option ℕ) → IsBest check expectation digests (IsProvenanceLine a) best
+      → IsBest check expectation digests (IsProvenanceLine b) best
+  best_there expectation digests expected =
+      greatest_alike (HasLevel check a expectation digests) (HasLevel check b expectation digests)
+      (level_here check b a (alike_back check a b h) (with_envelope documents again.other) again.read expectation digests expected) (level_here check a b h documents read expectation digests expected)
 
   file_fails_there : (file : List ℕ × DigestSet) (refusal : Refusal) → FileFails check a documents.policy.expectations file refusal → FileFails check b documents.policy.expectations file refusal
   file_fails_there file refusal =
       ⊎_elim inl
-      (λ x. inr (
+      (λ x.
+      let expected = fits_stands documents.policy.expectations file.0 x.0 x.2 in
+      inr (
         x.0,
         x.1,
-        λ envelope is m. let found = meets_here x.0 file.1 envelope (fits_stands documents.policy.expectations file.0 x.0 x.1) is m in x.2 found.0 found.1 found.2,
-        x.3,
+        x.2,
+        λ envelope is m. let found = meets_here check a b h documents read x.0 file.1 expected envelope is m in x.3 found.0 found.1 found.2,
+        best_there x.0 file.1 expected x.1 x.4,
+        x.5,
       ))
 
 module _ (check : Check) (a b : Inputs) (h : Alike check a b) where
@@ -157,8 +190,8 @@ module _ (check : Check) (a b : Inputs) (h : Alike check a b) where
           deliver_rules = made.deliver_rules;
           provenance = λ path digests known.
               let has = made.provenance path digests known in
-              let found = meets_here check b a back (with_envelope documents again.other) again.read has.expectation digests has.envelope
-              (fits_stands documents.policy.expectations path has.expectation has.fits) has.is_line has.meets in
+              let found = meets_here check b a back (with_envelope documents again.other) again.read has.expectation digests
+              (fits_stands documents.policy.expectations path has.expectation has.fits) has.envelope has.is_line has.meets in
               record { expectation = has.expectation; envelope = found.0; fits = has.fits; is_line = found.1; meets = found.2 };
         },
       )

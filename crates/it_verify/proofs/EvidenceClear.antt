@@ -47,7 +47,7 @@ pub file_apart : (check : Check) (inputs : Inputs) (expectations : List Expectat
     → (refusal : Refusal) → ¬ FileFails check inputs expectations file refusal
 file_apart check inputs expectations file has refusal =
     ⊎_elim (λ x. x.0 has.expectation has.fits)
-    (λ x. x.2 has.envelope has.is_line (subst (λ e. Meets check e file.1 has.envelope) (fits_one expectations file.0 has.expectation x.0 has.fits x.1) has.meets))
+    (λ x. x.3 has.envelope has.is_line (subst (λ e. Meets check e file.1 has.envelope) (fits_one expectations file.0 has.expectation x.0 has.fits x.2) has.meets))
 
 no_file : (check : Check) (inputs : Inputs) (expectations : List Expectation) (files : List (List ℕ × DigestSet))
     → ((file : List ℕ × DigestSet) → Contains files file → HasProvenance check inputs expectations file.0 file.1) → NoneAt (FileFails check inputs expectations) files

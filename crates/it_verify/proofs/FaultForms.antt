@@ -1,5 +1,5 @@
 -- What the lines of a refusal tell of its fault.
-use Rattle.std.proofs.Common.{◌≡◌, ◌==◌, ◌<◌, ◌+◌, ◌^◌, ℕ, if◌then◌else◌, List, ◌++◌, codes, get_or, refl, sym, ap, ◌∙◌, append_assoc, arith, lit≤}
+use Rattle.std.proofs.Common.{◌≡◌, ◌==◌, ◌<◌, ◌+◌, ◌^◌, ℕ, if◌then◌else◌, List, ◌++◌, Option, Some, None, IfSome, codes, get_or, refl, sym, ap, ◌∙◌, append_assoc, arith, lit≤}
 use Rattle.std.specs.Prelude.{decimal}
 use Rattle.std.proofs.lemmas.Fmt.{decimal_injective}
 use Rattle.std.proofs.lemmas.List.{append_cancel_left}
@@ -13,7 +13,7 @@ use Rattle.it_docs.specs.declared.rule.Side.{Side}
 use Rattle.it_docs.specs.declared.rule.Side.TheVariants.{Materials, Products}
 use Rattle.it_verify.specs.Fault.{number_of}
 use Rattle.it_verify.specs.Name.{name_form}
-use Rattle.it_verify.specs.Report.{fault_lines, item_form, layout_part_form, line, policy_part_form, side_form}
+use Rattle.it_verify.specs.Report.{best_lines, fault_lines, item_form, layout_part_form, line, policy_part_form, side_form}
 use Rattle.it_verify.specs.ReportLaws.{FaultFits, LayoutPartFits, PolicyPartFits}
 use Rattle.it_verify.specs.declared.refusal.Fault.{Fault}
 use Rattle.it_verify.specs.declared.refusal.Fault.TheVariants.{BadPolicy, BadSums, BadMoment, NoFiles, BadEnvelope, WrongPayloadType, OwnerMissing, BadLayout, Expired, TwoPayloads, TooDeep, Threshold, Disagree, InspectionInSublayout, RuleFailed, RecordMissing, BadRecord, NoExpectation, NoProvenance}
@@ -97,6 +97,17 @@ rules_tell a x b y m n p q h k same =
     let path_same = last_name (codes "path") p q numbers.1 in
     λ i. RuleFailed (item_same i) (side_same i) (numbers.0 i) (path_same i)
 
+bests_tell : (a b : Option ℕ) → IfSome a (λ level. level < 2 ^ 64) → IfSome b (λ level. level < 2 ^ 64) → best_lines a ≡ best_lines b → a ≡ b
+bests_tell None None h k same = refl
+bests_tell (Some m) (Some n) h k same = ap Some (last_number (codes "best") m n h k same)
+bests_tell a b h k same = absurd (omega (arith, ap (λ text. get_or text 0 0) same))
+
+provenances_tell : (x y : List ℕ) (a b : Option ℕ) → IfSome a (λ level. level < 2 ^ 64) → IfSome b (λ level. level < 2 ^ 64) → fault_lines (NoProvenance x a) ≡ fault_lines (NoProvenance y b) → NoProvenance x a ≡ NoProvenance y b
+provenances_tell x y a b h k same =
+    let parts = name_then (codes "path") x y (best_lines a) (best_lines b) same in
+    let best = bests_tell a b h k parts.1 in
+    λ i. NoProvenance (parts.0 i) (best i)
+
 -- ---- faults
 pub faults_tell : (a b : Fault) → FaultFits a → FaultFits b → number_of a ≡ number_of b → fault_lines a ≡ fault_lines b → a ≡ b
 faults_tell (BadPolicy p) (BadPolicy q) h k number same = ap BadPolicy (policy_parts_tell p q h k (last_tells (codes "part") (policy_part_form p) (policy_part_form q) same))
@@ -117,5 +128,5 @@ faults_tell (RuleFailed a b m p) (RuleFailed x y n q) h k number same = rules_te
 faults_tell (RecordMissing x) (RecordMissing y) h k number same = ap RecordMissing (last_name (codes "name") x y same)
 faults_tell (BadRecord x) (BadRecord y) h k number same = ap BadRecord (last_name (codes "name") x y same)
 faults_tell (NoExpectation x) (NoExpectation y) h k number same = ap NoExpectation (last_name (codes "path") x y same)
-faults_tell (NoProvenance x) (NoProvenance y) h k number same = ap NoProvenance (last_name (codes "path") x y same)
+faults_tell (NoProvenance x a) (NoProvenance y b) h k number same = provenances_tell x y a b h k same
 faults_tell a b h k number same = absurd (omega (arith, number))

@@ -20,11 +20,14 @@ use Rattle.it_chain.specs.declared.refusal.RuleItem.TheVariants.{Inspection as o
 use Rattle.it_chain.proofs.Documents.{envelope_same}
 use Rattle.it_chain.proofs.OneFirst.{fault_one, first_one}
 use Rattle.it_docs.specs.declared.policy.Expectation.{Expectation}
-use Rattle.it_verify.specs.Documents.{Documents, setting_of}
+use Rattle.it_prov.specs.Best.{IsBest}
+use Rattle.it_prov.proofs.BestLevel.{best_is_one}
+use Rattle.it_prov.proofs.OneFit.{fits_one}
+use Rattle.it_verify.specs.Documents.{Documents, IsProvenanceLine, setting_of}
 use Rattle.it_verify.specs.First.{Place, at_policy, at_sums, at_moment, at_files, at_envelope, at_payload_type, at_owners, at_layout, at_links, at_records, at_inspections, at_deliver, at_provenance, OwnerLacks, RecordFails, InspectionFails, FileFails, First, Stands, places, refusal_of, sides_of, whole}
 use Rattle.it_verify.specs.Made.{Evidence, IsMadeBy, delivery, links_of, recorded_in, rules_on, verdict_of}
 use Rattle.it_verify.specs.declared.inputs.Inputs.{Inputs}
-use Rattle.it_verify.specs.declared.refusal.Fault.TheVariants.{BadPolicy, BadSums, BadLayout, RuleFailed}
+use Rattle.it_verify.specs.declared.refusal.Fault.TheVariants.{BadPolicy, BadSums, BadLayout, RuleFailed, NoProvenance}
 use Rattle.it_verify.specs.declared.refusal.Refusal.{Refusal}
 use Rattle.it_verify.proofs.OneReading.{read_alike, evident_alike}
 
@@ -44,8 +47,13 @@ one_side links (side, (inspection, link)) a b h k =
 
 one_file : (check : Check) (inputs : Inputs) (expectations : List Expectation) (file : List ℕ × DigestSet) → OneAt (FileFails check inputs expectations) file
 one_file check inputs expectations file a b h k =
-    ⊎_elim (λ x. ⊎_elim (λ y. x.1 ∙ sym y.1) (λ y. absurd (x.0 y.0 y.1)) k)
-    (λ x. ⊎_elim (λ y. absurd (y.0 x.0 x.1)) (λ y. x.3 ∙ sym y.3) k) h
+    ⊎_elim (λ x. ⊎_elim (λ y. x.1 ∙ sym y.1) (λ y. absurd (x.0 y.0 y.2)) k)
+    (λ x. ⊎_elim (λ y. absurd (y.0 x.0 x.2))
+    (λ y.
+    let expectation = fits_one expectations file.0 x.0 y.0 x.2 y.2 in
+    let best_there = subst (λ e. IsBest check e file.1 (IsProvenanceLine inputs) x.1) expectation x.4 in
+    let best = best_is_one check y.0 file.1 (IsProvenanceLine inputs) x.1 y.1 best_there y.4 in
+    x.5 ∙ ap (λ level. whole (NoProvenance file.0 level)) best ∙ sym y.5) k) h
 
 module _ (check : Check) (inputs : Inputs) where
   -- ---- place by place

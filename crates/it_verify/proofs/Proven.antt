@@ -14,10 +14,13 @@ use Rattle.it_dsse.proofs.Decided.{envelope_of, envelope_of-finds}
 use Rattle.it_docs.specs.declared.policy.Expectation.{Expectation}
 use Rattle.it_chain.proofs.Documents.{envelope_same}
 use Rattle.it_chain.proofs.Entries.{known_entry}
+use Rattle.it_prov.specs.Best.{IsBest, IsGreatest, MeetsAtLevel}
+use Rattle.it_prov.specs.Judged.{OfSome}
 use Rattle.it_prov.specs.Meets.{Meets}
 use Rattle.it_prov.proofs.Fitting.{fits_or_none}
-use Rattle.it_prov.proofs.Meeting.{meets_or_not}
-use Rattle.it_verify.specs.Documents.{Documents, ReadAs}
+use Rattle.it_prov.proofs.Greatest.{greatest_alike, some_greatest}
+use Rattle.it_prov.proofs.Meeting.{greatest_level, meets_or_not}
+use Rattle.it_verify.specs.Documents.{Documents, IsProvenanceLine, ReadAs}
 use Rattle.it_verify.specs.First.{at_provenance, FileFails, whole}
 use Rattle.it_verify.specs.Made.{HasProvenance}
 use Rattle.it_verify.specs.declared.inputs.Inputs.{Inputs}
@@ -41,6 +44,31 @@ module _ (check : Check) (expectation : Expectation) (digests : DigestSet) where
         | inr n ↦ inr (λ m. n (subst (Meets check expectation digests) (envelope_same line m.0 envelope m.1 h) m.2))
       ]
 
+  -- ---- the best level
+  -- with this level a line meets the expectation in all but the level
+  abbrev LineLevel : List ℕ → ℕ → Type 0
+  LineLevel line level = (envelope : Envelope) × EnvelopeOf line envelope × MeetsAtLevel check expectation digests envelope level
+
+  line_best : (line : List ℕ) → (best : Option ℕ) × IsGreatest (LineLevel line) best
+  line_best line = go (envelope_of line) (envelope_of-finds line)
+    where
+      go : (found : Option Envelope) → Finds (EnvelopeOf line) found → (best : Option ℕ) × IsGreatest (LineLevel line) best
+      go None h = (None, λ level m. h m.0 m.1)
+      go (Some envelope) h =
+          let best = greatest_level check expectation digests envelope in (
+            best.0,
+            greatest_alike (MeetsAtLevel check expectation digests envelope) (LineLevel line) (λ level m. (envelope, h, m))
+                (λ level m. subst (λ e. MeetsAtLevel check expectation digests e level) (envelope_same line m.0 envelope m.1 h) m.2) best.0 best.1,
+          )
+
+  best_of : (inputs : Inputs) → (best : Option ℕ) × IsBest check expectation digests (IsProvenanceLine inputs) best
+  best_of inputs =
+      let best = some_greatest LineLevel line_best (lines_of inputs.provenance) in (
+        best.0,
+        greatest_alike (OfSome LineLevel (lines_of inputs.provenance)) (λ level. (envelope : Envelope) × IsProvenanceLine inputs envelope × MeetsAtLevel check expectation digests envelope level)
+            (λ level h. (h.2.0, record { line = h.0; stands = h.1; reads = h.2.1 }, h.2.2)) (λ level h. (h.1.line, h.1.stands, (h.0, h.1.reads, h.2))) best.0 best.1,
+      )
+
 -- ---- one file
 module _ (check : Check) (inputs : Inputs) (expectations : List Expectation) where
   abbrev IsProven : List ℕ × DigestSet → Type 0
@@ -51,7 +79,9 @@ module _ (check : Check) (inputs : Inputs) (expectations : List Expectation) whe
     | inr none ↦ inl (whole (NoExpectation file.0), inl (none, refl))
     | inl found ↦ elim (some_or_none (LineMeets check found.0 file.1) (line_meets_or_not check found.0 file.1) (lines_of inputs.provenance)) [
       | inl l ↦ inr (record { expectation = found.0; envelope = l.2.0; fits = found.1; is_line = record { line = l.0; stands = l.1; reads = l.2.1 }; meets = l.2.2 })
-      | inr none ↦ inl (whole (NoProvenance file.0), inr (found.0, found.1, λ envelope is meets. none is.line is.stands (envelope, is.reads, meets), refl))
+      | inr none ↦
+          let best = best_of check found.0 file.1 inputs in
+          inl (whole (NoProvenance file.0 best.0), inr (found.0, best.0, found.1, λ envelope is meets. none is.line is.stands (envelope, is.reads, meets), best.1, refl))
     ]
   ]
 

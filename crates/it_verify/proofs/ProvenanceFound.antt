@@ -1,5 +1,5 @@
 -- Provenance of delivered files among the envelopes that lines read as.
-use Rattle.std.proofs.Common.{◌≡◌, ◌⊎◌, ℕ, List, [], ◌∷◌, ◌++◌, Contains, Some, inl, inr, ⊎_elim, sym, subst}
+use Rattle.std.proofs.Common.{◌≡◌, ℕ, List, [], ◌∷◌, ◌++◌, Contains, Option, Some, inl, inr, ⊎_elim, sym, ap, subst}
 use Rattle.std.specs.FinMap.{entries, get}
 use Rattle.std.specs.List.{AllByRecursion}
 use Rattle.std.proofs.lemmas.List.Elements.{All-contains, All-from_recursion}
@@ -16,16 +16,21 @@ use Rattle.it_docs.specs.declared.policy.Expectation.{Expectation}
 use Rattle.it_rules.proofs.Listed.{Contains-from_place}
 use Rattle.it_chain.proofs.Documents.{envelope_same}
 use Rattle.it_chain.proofs.Entries.{known_entry}
+use Rattle.it_prov.specs.Best.{IsBest, MeetsAtLevel}
+use Rattle.it_prov.specs.Finding.{IsMissing}
 use Rattle.it_prov.specs.Meets.{Meets}
+use Rattle.it_prov.proofs.Greatest.{greatest_alike}
 use Rattle.it_prov.proofs.OneFit.{fits_one}
 use Rattle.it_verify.specs.Documents.{IsProvenanceLine}
-use Rattle.it_verify.specs.First.{FileFails}
+use Rattle.it_verify.specs.First.{FileFails, whole}
 use Rattle.it_verify.specs.Fewest.{FileTakes}
 use Rattle.it_verify.specs.Gathering.{AreRead, FileAsks, FileLacks, FileProven}
 use Rattle.it_verify.specs.Made.{HasProvenance}
 use Rattle.it_verify.specs.Walk.{RefusedAs}
 use Rattle.it_verify.specs.declared.failure.Failure.{Failure}
+use Rattle.it_verify.specs.declared.failure.Failure.TheVariants.{Refused}
 use Rattle.it_verify.specs.declared.inputs.Inputs.{Inputs}
+use Rattle.it_verify.specs.declared.refusal.Fault.TheVariants.{NoProvenance}
 use Rattle.it_verify.specs.declared.refusal.Refusal.{Refusal}
 use Rattle.it_verify.proofs.Failures.{fails_at}
 
@@ -42,8 +47,13 @@ module _ (check : Check) (expectations : List Expectation) (envelopes : List Env
       let found = h.1 in
       let first = found.first in
       ⊎_elim (λ x. x.0 found.expectation found.fits)
-      (λ x. x.0.none_meets first.envelope (Contains-from_place envelopes h.0 first.envelope first.stands)
-      (subst (λ e. Meets check e file.1 first.envelope) (fits_one expectations file.0 found.expectation x.0.expectation found.fits x.0.fits) first.meets))
+      (λ x. x.1.none_meets first.envelope (Contains-from_place envelopes h.0 first.envelope first.stands)
+      (subst (λ e. Meets check e file.1 first.envelope) (fits_one expectations file.0 found.expectation x.1.expectation found.fits x.1.fits) first.meets))
+
+  -- a refusal that names a file, and the best level of what does not meet its expectation
+  pub none_proven : (file : List ℕ × DigestSet) (path : List ℕ) (best : Option ℕ) (e : Failure) → e ≡ Refused (whole (NoProvenance path best))
+      → (path ≡ file.0) × IsMissing check expectations file.0 file.1 envelopes best → RefusedAs (Lacks file) e
+  none_proven file path best e is missing = subst (RefusedAs (Lacks file)) (sym is) (inr (best, missing.1, ap (λ named. whole (NoProvenance named best)) missing.0))
 
   none_lacks : (files : List (List ℕ × DigestSet)) → AllByRecursion Proven files → NoneAt Lacks files
   none_lacks [] h = tt
@@ -92,15 +102,43 @@ module _ (check : Check) (inputs : Inputs) (expectations : List Expectation) (en
       let at = h.1.asked in
       record { expectation = h.1.expectation; envelope = at.envelope; fits = h.1.fits; is_line = is_line at.envelope (Contains-from_place envelopes h.0 at.envelope at.stands); asked = at.asked }
 
+  -- an envelope is among those that are read just where it is a line
+  is_read : (envelope : Envelope) → IsProvenanceLine inputs envelope → Contains envelopes envelope
+  is_read envelope is = read_of (lines_of inputs.provenance) envelopes are envelope is.line is.stands is.reads
+
+  abbrev HasLevel : (Envelope → Type 0) → Expectation → DigestSet → ℕ → Type 0
+  HasLevel P expectation digests level = (envelope : Envelope) × P envelope × MeetsAtLevel check expectation digests envelope level
+
+  best_alike : (P Q : Envelope → Type 0) → ((envelope : Envelope) → P envelope → Q envelope) → ((envelope : Envelope) → Q envelope → P envelope)
+      → (expectation : Expectation) (digests : DigestSet) (best : Option ℕ) → IsBest check expectation digests P best → IsBest check expectation digests Q best
+  best_alike P Q to from expectation digests =
+      greatest_alike (HasLevel P expectation digests) (HasLevel Q expectation digests) (λ level h. (h.0, to h.0 h.1, h.2)) (λ level h. (h.0, from h.0 h.1, h.2))
+
   lacks_fails : (file : List ℕ × DigestSet) (refusal : Refusal) → FileLacks check expectations envelopes file refusal → FileFails check inputs expectations file refusal
   lacks_fails file refusal =
       ⊎_elim inl
-      (λ x. inr (x.0.expectation, x.0.fits, λ envelope is. x.0.none_meets envelope (read_of (lines_of inputs.provenance) envelopes are envelope is.line is.stands is.reads), x.1))
+      (λ x. inr (
+        x.1.expectation,
+        x.0,
+        x.1.fits,
+        λ envelope is. x.1.none_meets envelope (is_read envelope is),
+        best_alike (Contains envelopes) (IsProvenanceLine inputs) is_line is_read x.1.expectation file.1 x.0 x.1.best_is,
+        x.2,
+      ))
 
   fails_lacks : (file : List ℕ × DigestSet) (refusal : Refusal) → FileFails check inputs expectations file refusal → FileLacks check expectations envelopes file refusal
   fails_lacks file refusal =
       ⊎_elim inl
-      (λ x. inr (record { expectation = x.0; fits = x.1; none_meets = λ envelope c. x.2 envelope (is_line envelope c) }, x.3))
+      (λ x. inr (
+        x.1,
+        record {
+          expectation = x.0;
+          fits = x.2;
+          none_meets = λ envelope c. x.3 envelope (is_line envelope c);
+          best_is = best_alike (IsProvenanceLine inputs) (Contains envelopes) is_read is_line x.0 file.1 x.1 x.4;
+        },
+        x.5,
+      ))
 
   -- each delivered file has provenance
   pub all_proven : (delivered : ArtifactMap) → AllByRecursion (FileProven check expectations envelopes) (entries delivered)

@@ -31,7 +31,7 @@ number_is_small (RuleFailed item side index path) = lit< tt
 number_is_small (RecordMissing name) = lit< tt
 number_is_small (BadRecord name) = lit< tt
 number_is_small (NoExpectation path) = lit< tt
-number_is_small (NoProvenance path) = lit< tt
+number_is_small (NoProvenance path best) = lit< tt
 
 name_is_line : (fault : Fault) → Lacks 10 (name_of fault)
 name_is_line (BadPolicy part) = Lacks-test 10 (codes "BadPolicy") refl
@@ -52,7 +52,7 @@ name_is_line (RuleFailed item side index path) = Lacks-test 10 (codes "RuleFaile
 name_is_line (RecordMissing name) = Lacks-test 10 (codes "RecordMissing") refl
 name_is_line (BadRecord name) = Lacks-test 10 (codes "BadRecord") refl
 name_is_line (NoExpectation path) = Lacks-test 10 (codes "NoExpectation") refl
-name_is_line (NoProvenance path) = Lacks-test 10 (codes "NoProvenance") refl
+name_is_line (NoProvenance path best) = Lacks-test 10 (codes "NoProvenance") refl
 
 -- the first line without its line feed
 abbrev words : Verdict → List ℕ

@@ -87,7 +87,7 @@ sum_weaker P Q f (x ∷ xs) n h = (h.0, h.1, f x h.0 h.2, sum_weaker P Q f xs h.
 files_each : (check : Check) (inputs : Inputs) (expectations : List Expectation) (files : List (List ℕ × DigestSet)) (n : ℕ) → IsSum (FileTakes check inputs expectations) files n → length files ≤ n
 files_each check inputs expectations [] n h = omega arith
 files_each check inputs expectations (file ∷ files) n h =
-    let signer = h.2.asked.meets.signed in
+    let signer = h.2.asked.meets.besides_level.signed in
     let some = signed_tries check h.2.envelope signer.id signer.object signer.key signer.signed in
     let first = h.2.asked.tried in
     let others = files_each check inputs expectations files h.1 h.3 in

@@ -129,7 +129,7 @@ module _ (check : Check) (less more : Inputs) (h : Within check less more) (docu
   provenance_few refusal x =
       let found = first_stands (FileFails check less x.0.policy.expectations) (entries x.0.delivered) refusal x.2 in
       let has = so_there x.0 x.1 AllProven made.provenance found.0.0 found.0.1 (entry_known x.0.delivered found.0 found.1) in
-      ⊎_elim (λ none. absurd (none.0 has.expectation has.fits)) (λ lacks. inr (found.0.0, ap (λ (r : Refusal). r.fault) lacks.3)) found.2
+      ⊎_elim (λ none. absurd (none.0 has.expectation has.fits)) (λ lacks. inr (found.0.0, lacks.1, ap (λ (r : Refusal). r.fault) lacks.5)) found.2
 
   few : (place : Place) → Few place
   few = at_each check less more share Few not_there links_few (not_there at_inspections inspections_there) (not_there at_deliver deliver_there) provenance_few

@@ -22,7 +22,7 @@ number_of (RuleFailed item side index path) = 40
 number_of (RecordMissing name) = 50
 number_of (BadRecord name) = 51
 number_of (NoExpectation path) = 60
-number_of (NoProvenance path) = 61
+number_of (NoProvenance path best) = 61
 
 abbrev pub name_of : Fault → List ℕ
 name_of (BadPolicy part) = codes "BadPolicy"
@@ -43,4 +43,4 @@ name_of (RuleFailed item side index path) = codes "RuleFailed"
 name_of (RecordMissing name) = codes "RecordMissing"
 name_of (BadRecord name) = codes "BadRecord"
 name_of (NoExpectation path) = codes "NoExpectation"
-name_of (NoProvenance path) = codes "NoProvenance"
+name_of (NoProvenance path best) = codes "NoProvenance"

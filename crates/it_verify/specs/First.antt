@@ -1,6 +1,6 @@
 -- Why delivered files are refused: what stands at the first place at which something stands (the order
 -- is this profile's choice).
-use Rattle.std.specs.Prelude.{◌≡◌, ◌≢◌, ◌⊎◌, ℕ, ℤ, List, [], ◌∷◌, flat_map, zip, None}
+use Rattle.std.specs.Prelude.{◌≡◌, ◌≢◌, ◌⊎◌, ℕ, ℤ, List, [], ◌∷◌, Option, flat_map, zip, None}
 use Rattle.std.specs.FinMap.{empty, entries}
 use Rattle.it_base.specs.Places.{IsFirst}
 use Rattle.it_digest.specs.Sums.{IsFirstBadLine, SumsOf}
@@ -30,6 +30,7 @@ use Rattle.it_chain.specs.declared.refusal.ChainFault.{ChainFault}
 use Rattle.it_chain.specs.declared.refusal.ChainFault.TheVariants as chain
 use Rattle.it_chain.specs.declared.refusal.ChainRefusal.{ChainRefusal}
 use Rattle.it_chain.specs.declared.refusal.RuleItem.TheVariants.{Inspection as of_inspection, Deliver}
+use Rattle.it_prov.specs.Best.{IsBest}
 use Rattle.it_prov.specs.Fits.{Fits}
 use Rattle.it_prov.specs.Meets.{Meets}
 use Rattle.it_verify.specs.Documents.{Documents, ReadAs, IsProvenanceLine, record_at, setting_of}
@@ -96,12 +97,13 @@ InspectionFails links (side, (inspection, link)) refusal =
     (index : ℕ) × (path : List ℕ) × IsFirstFault (rules_on side inspection) side (recorded_in link) links index path
     × (refusal ≡ whole (RuleFailed (of_inspection inspection.name) side index path))
 
--- no expectation speaks of a delivered file, or no line of the provenance meets the one that does
+-- no expectation speaks of a delivered file, or no line of the provenance meets the one that does, and
+-- this is the best level with which one meets it in all but the level
 abbrev pub FileFails : Check → Inputs → List Expectation → List ℕ × DigestSet → Refusal → Type 0
 FileFails check inputs expectations (path, digests) refusal =
     (((expectation : Expectation) → ¬ Fits expectations path expectation) × (refusal ≡ whole (NoExpectation path)))
-    ⊎ ((expectation : Expectation) × Fits expectations path expectation × ((envelope : Envelope) → IsProvenanceLine inputs envelope → ¬ Meets check expectation digests envelope)
-    × (refusal ≡ whole (NoProvenance path)))
+    ⊎ ((expectation : Expectation) × (best : Option ℕ) × Fits expectations path expectation × ((envelope : Envelope) → IsProvenanceLine inputs envelope → ¬ Meets check expectation digests envelope)
+    × IsBest check expectation digests (IsProvenanceLine inputs) best × (refusal ≡ whole (NoProvenance path best)))
 
 module _ (check : Check) (inputs : Inputs) where
   -- what stands at a place. A place that speaks of what does not read, or of evidence that is not

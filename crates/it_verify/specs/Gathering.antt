@@ -95,11 +95,12 @@ module _ (check : Check) (expectations : List Expectation) (envelopes : List Env
   abbrev pub FileAsks : List ℕ × DigestSet → ℕ → Type 0
   FileAsks file n = (index : ℕ) × IsAsked check expectations file.0 file.1 envelopes index n
 
-  -- no expectation speaks of a file, or none of the envelopes meets the one that does
+  -- no expectation speaks of a file, or none of the envelopes meets the one that does, and this is the
+  -- best level with which one meets it in all but the level
   abbrev pub FileLacks : List ℕ × DigestSet → Refusal → Type 0
   FileLacks file refusal =
       (NoneFits expectations file.0 × (refusal ≡ whole (NoExpectation file.0)))
-      ⊎ (IsMissing check expectations file.0 file.1 envelopes × (refusal ≡ whole (NoProvenance file.0)))
+      ⊎ ((best : Option ℕ) × IsMissing check expectations file.0 file.1 envelopes best × (refusal ≡ whole (NoProvenance file.0 best)))
 
 -- ---- the whole
 -- a verdict that accepts raised a meter by the checks that it takes, or more

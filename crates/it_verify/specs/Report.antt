@@ -1,5 +1,5 @@
 -- The report of a verdict (this profile's choice).
-use Rattle.std.specs.Prelude.{ℕ, List, [], ◌∷◌, ◌++◌, codes, decimal}
+use Rattle.std.specs.Prelude.{ℕ, List, [], ◌∷◌, ◌++◌, Option, Some, None, codes, decimal}
 use Rattle.std.specs.List.{flat_map}
 use Rattle.it_chain.specs.declared.refusal.RuleItem.{RuleItem}
 use Rattle.it_chain.specs.declared.refusal.RuleItem.TheVariants.{Step as of_step, Inspection, Deliver as of_delivery}
@@ -64,6 +64,11 @@ abbrev pub side_form : Side → List ℕ
 side_form Materials = codes "materials"
 side_form Products = codes "products"
 
+-- the best level, where there is one
+abbrev pub best_lines : Option ℕ → List ℕ
+best_lines None = []
+best_lines (Some level) = line (codes "best") (decimal level)
+
 -- what is told of a fault, line by line
 abbrev pub fault_lines : Fault → List ℕ
 fault_lines (BadPolicy part) = line (codes "part") (policy_part_form part)
@@ -85,7 +90,7 @@ fault_lines (RuleFailed item side index path) =
 fault_lines (RecordMissing name) = line (codes "name") (name_form name)
 fault_lines (BadRecord name) = line (codes "name") (name_form name)
 fault_lines (NoExpectation path) = line (codes "path") (name_form path)
-fault_lines (NoProvenance path) = line (codes "path") (name_form path)
+fault_lines (NoProvenance path best) = line (codes "path") (name_form path) ++ best_lines best
 
 -- the first line: accepted, or refused with the number and the name of the fault
 abbrev pub first_line : Verdict → List ℕ

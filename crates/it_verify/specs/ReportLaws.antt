@@ -1,5 +1,5 @@
 -- What is shown of the report and of the names in it.
-use Rattle.std.specs.Prelude.{◌≡◌, ◌≢◌, ℕ, ◌<◌, ◌≤◌, ◌^◌, List, All, Contains}
+use Rattle.std.specs.Prelude.{◌≡◌, ◌≢◌, ℕ, ◌<◌, ◌≤◌, ◌^◌, List, All, Contains, IfSome}
 use Rattle.it_docs.specs.declared.layout_fault.LayoutPart.{LayoutPart}
 use Rattle.it_docs.specs.declared.layout_fault.LayoutPart.TheVariants.{Step, Inspect}
 use Rattle.it_docs.specs.declared.policy_fault.PolicyPart.{PolicyPart}
@@ -7,7 +7,7 @@ use Rattle.it_docs.specs.declared.policy_fault.PolicyPart.TheVariants.{Expectati
 use Rattle.it_verify.specs.Name.{name_form}
 use Rattle.it_verify.specs.Report.{first_line, report_of}
 use Rattle.it_verify.specs.declared.refusal.Fault.{Fault}
-use Rattle.it_verify.specs.declared.refusal.Fault.TheVariants.{BadPolicy, BadSums, BadLayout, Threshold, RuleFailed}
+use Rattle.it_verify.specs.declared.refusal.Fault.TheVariants.{BadPolicy, BadSums, BadLayout, Threshold, RuleFailed, NoProvenance}
 use Rattle.it_verify.specs.declared.verdict.Verdict.{Verdict}
 use Rattle.it_verify.specs.declared.verdict.Verdict.TheVariants.{Accepted, Refused}
 
@@ -34,6 +34,7 @@ FaultFits (BadSums n) = n < 2 ^ 64
 FaultFits (BadLayout part) = LayoutPartFits part
 FaultFits (Threshold step found needed) = (found < 2 ^ 64) × (needed < 2 ^ 64)
 FaultFits (RuleFailed item side index path) = index < 2 ^ 64
+FaultFits (NoProvenance path best) = IfSome best (λ level. level < 2 ^ 64)
 FaultFits fault = Unit {0}
 
 abbrev pub NumbersFit : Verdict → Type 0

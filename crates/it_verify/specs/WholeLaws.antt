@@ -1,5 +1,5 @@
 -- What is shown of the definitions of a verification as a whole.
-use Rattle.std.specs.Prelude.{◌≡◌, ◌≤◌, ◌↔◌, ◌⊎◌, ℕ, List}
+use Rattle.std.specs.Prelude.{◌≡◌, ◌≤◌, ◌↔◌, ◌⊎◌, ℕ, List, Option}
 use Rattle.std.specs.List.{AllZip}
 use Rattle.it_dsse.specs.Check.{Check}
 use Rattle.it_verify.specs.Alike.{Alike, Within}
@@ -52,9 +52,9 @@ AlikeInputs = (check : Check) (inputs other : Inputs) → Alike check inputs oth
 abbrev pub HasNoMoreKeys : List ℕ × ℕ → List ℕ × ℕ → Type 0
 HasNoMoreKeys step before = (step.0 ≡ before.0) × (step.1 ≤ before.1)
 
--- too few different keys signed, or a delivered file has no provenance
+-- too few different keys signed, or a delivered file has no provenance, whatever the best level is
 abbrev pub IsWithheld : Fault → Type 0
-IsWithheld fault = ((step : List ℕ) × (found : ℕ) × (needed : ℕ) × (fault ≡ Threshold step found needed)) ⊎ ((path : List ℕ) × (fault ≡ NoProvenance path))
+IsWithheld fault = ((step : List ℕ) × (found : ℕ) × (needed : ℕ) × (fault ≡ Threshold step found needed)) ⊎ ((path : List ℕ) × (best : Option ℕ) × (fault ≡ NoProvenance path best))
 
 -- a verdict only withholds what one before it accepted: it accepts the same steps and files, no step
 -- having more keys, or refuses what is withheld

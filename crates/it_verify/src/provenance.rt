@@ -54,7 +54,8 @@ pub(crate) fn envelopes_in(alloc: Global, provenance: &[u8]) -> Result<Vec<Envel
 ///
 /// # Errors
 ///
-/// `Refused` with the first file of which no expectation speaks, or that has no provenance.
+/// `Refused` with the first file of which no expectation speaks, or that has no provenance, and then
+/// with the best level of the provenance that there is.
 /// `OutOfMemory` where memory was refused.
 pub(crate) fn find_each(
     alloc: Global,
@@ -144,7 +145,9 @@ fn find_one(
     ) {
         Ok(_) => Ok(()),
         Err(ProvError::NoExpectation(path)) => Err(refused(alloc, Fault::NoExpectation(path))),
-        Err(ProvError::NoProvenance(path)) => Err(refused(alloc, Fault::NoProvenance(path))),
+        Err(ProvError::NoProvenance(path, best)) => {
+            Err(refused(alloc, Fault::NoProvenance(path, best)))
+        }
         Err(ProvError::OutOfMemory) => Err(Failure::OutOfMemory),
     }
 }

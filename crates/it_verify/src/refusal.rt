@@ -74,8 +74,10 @@ pub enum Fault {
     BadRecord(Text),
     /// No expectation of the policy speaks of the delivered file at this path.
     NoExpectation(Text),
-    /// No provenance meets the expectation for the delivered file at this path.
-    NoProvenance(Text),
+    /// No provenance meets the expectation for the delivered file at this path. The level is the
+    /// greatest of a builder with which some provenance meets the expectation in all but the level,
+    /// or `None` where there is no such builder.
+    NoProvenance(Text, Option<u8>),
 }
 
 /// Why a delivery is refused, and where.
@@ -113,7 +115,7 @@ impl Fault {
             Fault::RecordMissing(_) => 50,
             Fault::BadRecord(_) => 51,
             Fault::NoExpectation(_) => 60,
-            Fault::NoProvenance(_) => 61,
+            Fault::NoProvenance(..) => 61,
         }
     }
 
@@ -140,7 +142,7 @@ impl Fault {
             Fault::RecordMissing(_) => "RecordMissing",
             Fault::BadRecord(_) => "BadRecord",
             Fault::NoExpectation(_) => "NoExpectation",
-            Fault::NoProvenance(_) => "NoProvenance",
+            Fault::NoProvenance(..) => "NoProvenance",
         }
     }
 }

@@ -161,7 +161,7 @@ fn push_fault(alloc: Global, text: &mut Vec<u8>, fault: &Fault) -> Result<(), Al
         Fault::RecordMissing(name) => push_name_line(text, "name", name),
         Fault::BadRecord(name) => push_name_line(text, "name", name),
         Fault::NoExpectation(path) => push_name_line(text, "path", path),
-        Fault::NoProvenance(path) => push_name_line(text, "path", path),
+        Fault::NoProvenance(path, best) => push_provenance(alloc, text, path, *best),
         Fault::BadMoment
         | Fault::NoFiles
         | Fault::BadEnvelope
@@ -240,6 +240,22 @@ fn push_rule(
     push_side(text, side)?;
     push_number_line(alloc, text, "rule", index as u64)?;
     push_name_line(text, "path", path)
+}
+
+fn push_provenance(
+    alloc: Global,
+    text: &mut Vec<u8>,
+    path: &Text,
+    best: Option<u8>,
+) -> Result<(), AllocError>
+    ensures { OnOk result (text.new.items
+        ≡ text.old.items ++ fault_lines (Fault.NoProvenance path.now best)) }
+{
+    push_name_line(text, "path", path)?;
+    match best {
+        Some(level) => push_number_line(alloc, text, "best", level as u64),
+        None => Ok(()),
+    }
 }
 
 fn push_item(text: &mut Vec<u8>, item: &RuleItem) -> Result<(), AllocError>

@@ -1,5 +1,6 @@
 use Rattle.it_prov.specs.Cost.{signature_count}
 use Rattle.it_verify.proofs.ProvenanceCosting.{file_at_most}
+use Rattle.it_verify.proofs.ProvenanceFound.{none_proven}
 use Rattle.it_verify.proofs.provenance.find_one.Goals as goal
 
 pub returns-in-Ok-clause-at_most : goal.returns-in-Ok-clause-at_most
@@ -13,3 +14,10 @@ returns-in-Err-NoProvenance-clause-at_most g c =
 pub returns-in-Err-OutOfMemory-clause-at_most : goal.returns-in-Err-OutOfMemory-clause-at_most
 returns-in-Err-OutOfMemory-clause-at_most g c =
     file_at_most c.args.expectations.now c.args.path.now (signature_count c.args.attestations.now.envelopes.now) c.args.meter.now c.find_among.new.meter c.find_among.ensures.at_most c.find_among.ensures.unasked
+
+pub returns-in-Err-NoProvenance-clause-provenance : goal.returns-in-Err-NoProvenance-clause-provenance
+returns-in-Err-NoProvenance-clause-provenance g c =
+    let check = (goal.SignatureCheck-dyn g (c.args.check.now.vtable, c.args.check.now.value)).meaning c.args.check.now.value in
+    let none = c.in-Err-NoProvenance in
+    none_proven check c.args.expectations.now c.args.attestations.now.envelopes.now (c.args.path.now, c.args.digests) none.path none.best c.refused-in-Err-NoProvenance.result c.refused-in-Err-NoProvenance.ensures
+    (none.ensures.no_provenance none.path none.best none.field-0-is)

@@ -417,6 +417,47 @@ fn finds_signers(rt: HostRuntime) -> Result<(), Fail> {
     Ok(())
 }
 
+const CAROL_AND_ANOTHER_ALICE: &str =
+    "[{\"id\":\"carol\",\"secret\":\"6361726f6c\"},{\"id\":\"alice\",\"secret\":\"626f62\"}]";
+
+#[test]
+fn finds_signers_by_a_panel(rt: HostRuntime) -> Result<(), Fail> {
+    let alloc = rt.alloc();
+    let object = object(alloc)?;
+    let first = ring_of(alloc, CAROL_AND_ANOTHER_ALICE)?;
+    let panel: [Box<dyn SignatureCheck>; 2] = [
+        Box::new(alloc, first)?,
+        Box::new(alloc, ring(alloc)?)?,
+    ];
+    let rows = [
+        ("bob", "alice", Some((0, 1)), 1),
+        ("alice", "alice", None, 1),
+        ("carol", "carol", Some((0, 0)), 1),
+        ("owner", "owner", Some((1, 0)), 1),
+        ("bob", "bob", Some((1, 2)), 1),
+        ("bob", "dave", None, 0),
+    ];
+    for (secret, id, want, asked) in rows {
+        let mut meter = Meter { asked: 0 };
+        let envelope = envelope(alloc, &[(secret, "")])?;
+        let found = signed_by(&envelope, id, &object, &panel, &mut meter);
+        assert_eq!(rt; found, want, "{id} signed with {secret}");
+        assert_eq!(rt; meter.asked, asked, "{id} signed with {secret}");
+    }
+    Ok(())
+}
+
+#[test]
+fn finds_nobody_by_an_empty_panel(rt: HostRuntime) -> Result<(), Fail> {
+    let alloc = rt.alloc();
+    let mut meter = Meter { asked: 0 };
+    let envelope = envelope(alloc, &[("alice", "")])?;
+    let found = signed_by(&envelope, "alice", &object(alloc)?, &[], &mut meter);
+    assert_eq!(rt; found, None);
+    assert_eq!(rt; meter.asked, 0);
+    Ok(())
+}
+
 #[test]
 fn lists_signers(rt: HostRuntime) -> Result<(), Fail> {
     let alloc = rt.alloc();

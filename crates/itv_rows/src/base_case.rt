@@ -224,8 +224,8 @@ pub(crate) fn run<W: Write>(
     if inputs.depth > 8 {
         return Err(Fail::from("too deep"));
     }
-    let check: Box<dyn SignatureCheck> = Box::new(alloc, ring(alloc)?)?;
-    Ok(run_verify(alloc, inputs, &check, out))
+    let panel: [Box<dyn SignatureCheck>; 1] = [Box::new(alloc, ring(alloc)?)?];
+    Ok(run_verify(alloc, inputs, &panel, out))
 }
 
 /// The exit status and the report.
@@ -243,6 +243,6 @@ pub(crate) fn asked(alloc: Global, inputs: &Inputs) -> Result<u64, Fail> {
     if inputs.depth > 8 {
         return Err(Fail::from("too deep"));
     }
-    let check: Box<dyn SignatureCheck> = Box::new(alloc, ring(alloc)?)?;
-    Ok(verify(alloc, inputs, &check)?.asked)
+    let panel: [Box<dyn SignatureCheck>; 1] = [Box::new(alloc, ring(alloc)?)?];
+    Ok(verify(alloc, inputs, &panel)?.asked)
 }

@@ -1,11 +1,12 @@
 //! `itv verify`: whether delivered files were made as the owners laid down.
 ghost use Rattle.std.specs.Prelude.{◌≡◌, ◌≢◌, ◌≤◌, IfErr, IfOk, map};
 ghost use Rattle.std.specs.Io.KnownBytes.{Appends};
+ghost use Rattle.std.specs.List.{AllZip};
 ghost use Rattle.it_dsse.specs.Panel.{panel_of};
 ghost use Rattle.it_dsse.specs.Ring.{ring_check};
 ghost use Rattle.it_verify.specs.Verifying.{IsVerifyOutput};
 ghost use Rattle.itv.specs.Commands.{Verifies};
-ghost use Rattle.itv.specs.Reading.{AreInputs, HoldsIfGiven};
+ghost use Rattle.itv.specs.Reading.{AreInputs, HoldsIfGiven, HoldsRing};
 
 use crate::disk::Disk;
 use crate::fault::Fault;
@@ -21,7 +22,7 @@ use it_verify::words::verifying::VerifyWords;
 use std::alloc::Global;
 use std::io::Write;
 
-/// Reads all files and folders and the ring, and writes the report of the verdict.
+/// Reads all files and folders and the rings, and writes the report of the verdict.
 pub(crate) fn run<R: Disk + AllocGlobal, W: Write>(
     rt: &R,
     words: &VerifyWords,
@@ -34,8 +35,7 @@ pub(crate) fn run<R: Disk + AllocGlobal, W: Write>(
 {
     let alloc = rt.alloc();
     let inputs = inputs(rt, words)?;
-    let mut rings = Vec::new(alloc);
-    rings.push(read_ring(rt, words.ring.as_str())?)?;
+    let rings = read_rings(rt, words.rings.as_slice())?;
     Ok(verify_by(alloc, &inputs, rings, out)?)
 }
 
@@ -57,6 +57,17 @@ fn verify_by<W: Write>(
         panel.push(Box::new(alloc, ring)?)?;
     }
     Ok(run_verify(alloc, inputs, panel.as_slice(), out)?)
+}
+
+/// The rings at the paths, in their order.
+fn read_rings<R: Disk + AllocGlobal>(rt: &R, paths: &[Text]) -> Result<Vec<HmacRing>, Fault>
+    ensures { IfOk result (λ rings. AllZip (HoldsRing R.holdings) paths.now rings.items) }
+{
+    let mut rings = Vec::new(rt.alloc());
+    for path in paths {
+        rings.push(read_ring(rt, path.as_str())?)?;
+    }
+    Ok(rings)
 }
 
 /// What stands at the paths of the options. What no path is given for is empty.

@@ -192,14 +192,10 @@ fn of_files(alloc: Global) -> Result<Vec<(Fault, &'static str, &'static str)>, A
     let missing = Fault::RecordMissing(text(alloc, "test")?);
     let bad = Fault::BadRecord(text(alloc, "a/b")?);
     let unexpected = Fault::NoExpectation(text(alloc, "bin/app")?);
-    let unproved = Fault::NoProvenance(text(alloc, " ")?, None);
-    let too_low = Fault::NoProvenance(text(alloc, "app")?, Some(3));
     let rows = [
         (missing, "50 RecordMissing", "name test\n"),
         (bad, "51 BadRecord", "name a/b\n"),
         (unexpected, "60 NoExpectation", "path bin/app\n"),
-        (unproved, "61 NoProvenance", "path \\x20\n"),
-        (too_low, "61 NoProvenance", "path app\nbest 3\n"),
     ];
     Ok(Vec::from_array(alloc, rows)?)
 }
@@ -223,6 +219,27 @@ fn tells_faults_of_files(rt: HostRuntime) -> Result<(), Fail> {
         assert_eq!(rt; head.as_str(), want);
         assert_eq!(rt; found.as_slice(), written(alloc, want, lines)?.as_bytes());
     }
+    Ok(())
+}
+
+#[test]
+fn tells_the_best_level_where_there_is_one(rt: HostRuntime) -> Result<(), Fail> {
+    let alloc = rt.alloc();
+    let want = "61 NoProvenance";
+    let none = Fault::NoProvenance(text(alloc, " ")?, None);
+    let (head, found) = told(alloc, &[], none)?;
+    assert_eq!(rt; head.as_str(), want);
+    assert_eq!(rt;
+        found.as_slice(),
+        written(alloc, want, "path \\x20\n")?.as_bytes()
+    );
+    let too_low = Fault::NoProvenance(text(alloc, "app")?, Some(3));
+    let (head, found) = told(alloc, &[], too_low)?;
+    assert_eq!(rt; head.as_str(), want);
+    assert_eq!(rt;
+        found.as_slice(),
+        written(alloc, want, "path app\nbest 3\n")?.as_bytes()
+    );
     Ok(())
 }
 

@@ -1,5 +1,5 @@
 -- What the functions that verify a level come to, put together.
-use Rattle.std.proofs.Common.{◌≡◌, ◌≢◌, ◌<◌, ◌+◌, ℕ, zero, suc, List, [], ◌∷◌, ◌++◌, flat_map, take, get_or, length, Option, Some, None, Result, Ok, Err, IfOk, IfErr, Bor, option_map, unwrap_or, true, inl, inr, Contains, refl, sym, ap, subst, ◌∙◌, arith}
+use Rattle.std.proofs.Common.{◌≡◌, ◌≢◌, ◌<◌, ◌+◌, ◌-◌, ◌↔◌, ℕ, zero, suc, List, [], ◌∷◌, ◌++◌, flat_map, take, get_or, length, Option, Some, None, Result, Ok, Err, IfOk, IfErr, Bor, option_map, unwrap_or, Bool, IsTrue, true, false, inl, inr, Contains, refl, sym, ap, subst, ◌∙◌, arith}
 use Rattle.std.specs.FinMap.{get}
 use Rattle.std.specs.Bool.{◌==◌}
 use Rattle.std.proofs.lemmas.Bool.Decides.{Decides-eqb}
@@ -22,7 +22,7 @@ use Rattle.it_chain.specs.Counted.{Setting, Body, of_link, of_layout, BodyOf, Co
 use Rattle.it_chain.specs.First.{Failing, First, HasTwo, SublayoutFails, at_id, here, places}
 use Rattle.it_chain.specs.Level.{Holding, LevelHolds, Records}
 use Rattle.it_chain.specs.Names.{IsClaimed, folder_of}
-use Rattle.it_chain.specs.Walk.{AreCandidates, BodyComes, BodyFails, CountTwo, CountsOne, FailsAt, Gives, IsRead, IsSigned, IsUnder, StandsAt, SublayoutComes, Walks, as_body, fails_below, holds_below}
+use Rattle.it_chain.specs.Walk.{AreCandidates, BodyComes, BodyFails, CountTwo, CountsOne, FailsAt, Gives, IsRead, IsRecordOf, IsSigned, IsUnder, StandsAt, SublayoutComes, Walks, as_body, fails_below, holds_below}
 use Rattle.it_chain.specs.declared.bundle.File.{File}
 use Rattle.it_chain.specs.declared.candidate.Body.{Body as Held}
 use Rattle.it_chain.specs.declared.candidate.Body.TheVariants.{Link as held_link, Layout as held_layout}
@@ -244,14 +244,14 @@ module _ (setting : Setting) (depth : ℕ) (layout : Layout) (bundle : Contents)
   pub walks_two : (e : ChainError) → HasTwo Sub Fails setting layout bundle step id → e ≡ Refused (here (TwoPayloads step.name id)) → WalksId (Err e)
   walks_two e two is = subst (λ x. WalksId (Err x)) (sym is) (inl (inl (two, refl)))
 
-  pub walks_one : (key : KeyNumber) (body : Body) (recorded : Recorded) (r : IdRecord) → OneBody Sub setting layout bundle step id key body → Records Sub bundle step.name id body recorded
-      → r ≡ record { id = id; key = key; recorded = recorded } → WalksId (Ok (Some r))
-  walks_one key body recorded r one records is = subst (λ x. WalksId (Ok (Some x))) (sym is) (walks_given (Some (record { id = id; key = key; recorded = recorded })) (record {
+  walks_one : (key : KeyNumber) (body : Body) (recorded : Recorded) → OneBody Sub setting layout bundle step id key body → Records Sub bundle step.name id body recorded
+      → WalksId (Ok (Some (record { id = id; key = key; recorded = recorded })))
+  walks_one key body recorded one records = walks_given (Some (record { id = id; key = key; recorded = recorded })) (record {
     id_is = refl;
     recorded = record { payload = one.payload; body = body; counted = one.counted; reads = one.reads; records = records };
     key_is = one.key_is;
     alone = one.alone;
-  }))
+  })
 
   sublayout_fails : (key : KeyNumber) (body : Body) (r : ChainRefusal) → OneBody Sub setting layout bundle step id key body → BodyFails Fails bundle step.name id body r → SublayoutFails Sub Fails setting layout bundle step id r
   sublayout_fails key (of_link link) r one h = absurd h
@@ -266,9 +266,17 @@ module _ (setting : Setting) (depth : ℕ) (layout : Layout) (bundle : Contents)
     refusal_is = h.2;
   }
 
-  pub walks_body : (key : KeyNumber) (body : Body) (e : ChainError) → OneBody Sub setting layout bundle step id key body → BodyComes Sub Fails bundle step.name id body (Err e) → WalksId (Err e)
+  walks_body : (key : KeyNumber) (body : Body) (e : ChainError) → OneBody Sub setting layout bundle step id key body → BodyComes Sub Fails bundle step.name id body (Err e) → WalksId (Err e)
   walks_body key body (Refused r) one h = inl (inr (sublayout_fails key body r one h))
   walks_body key body OutOfMemory one h = tt
+
+  -- the record of the id's one body, or the body's error
+  pub walks_record : (key : KeyNumber) (body : Body) → OneBody Sub setting layout bundle step id key body → (recorded : Result Recorded ChainError) (given : Result (Option IdRecord) ChainError)
+      → BodyComes Sub Fails bundle step.name id body recorded → IsRecordOf id key recorded given → WalksId given
+  walks_record key body one (Ok recorded) (Ok given) h is = subst (λ x. WalksId (Ok x)) (sym is) (walks_one key body recorded one h)
+  walks_record key body one (Ok recorded) (Err e) h is = subst (λ x. WalksId (Err x)) (sym is) tt
+  walks_record key body one (Err e) (Ok given) h is = absurd is
+  walks_record key body one (Err e) (Err f) h is = subst (λ x. WalksId (Err x)) (sym is) (walks_body key body e one h)
 
 -- what a sublayout's error is for the layout around it
 module _ (sub : Holding) (fails : Failing) (bundle : Contents) (step id : List ℕ) (sublayout : Layout) where
@@ -283,6 +291,11 @@ pub folder_or : (found : Option (Bor Contents)) (none : Bor Contents) (folder : 
     → (unwrap_or found none).now ≡ unwrap_or folder empty
 folder_or None none folder e is = is ∙ ap (λ o. unwrap_or o empty) e
 folder_or (Some x) none folder e is = ap (λ o. unwrap_or o empty) e
+
+-- a depth below which there is another
+pub not_deepest : (deepest : Bool) (depth : ℕ) → (IsTrue deepest ↔ (depth ≡ 0)) → deepest ≡ false → depth ≡ suc (depth - 1)
+not_deepest deepest zero h false_is = let yes : deepest ≡ true = h.1 refl in cc
+not_deepest deepest (suc depth) h false_is = omega arith
 
 pub nil_of : {X : Type 0} (xs : List X) → (length xs == 0) ≡ true → xs ≡ []
 nil_of [] h = refl

@@ -217,6 +217,13 @@ BodyComes sub fails bundle step id body (Ok recorded) = Records sub bundle step 
 BodyComes sub fails bundle step id body (Err (Refused refusal)) = BodyFails fails bundle step id body refusal
 BodyComes sub fails bundle step id body (Err OutOfMemory) = ⊤
 
+-- the record of an id whose body came to this
+abbrev pub IsRecordOf : List ℕ → KeyNumber → Result Recorded ChainError → Result (Option IdRecord) ChainError → Type 0
+IsRecordOf id key (Ok recorded) (Ok given) = given ≡ Some (record { id = id; key = key; recorded = recorded })
+IsRecordOf id key (Ok recorded) (Err e) = e ≡ OutOfMemory
+IsRecordOf id key (Err e) (Ok given) = ⊥
+IsRecordOf id key (Err e) (Err f) = f ≡ e
+
 -- an error with a pair put before
 abbrev pub IsUnder : List ℕ → List ℕ → ChainError → ChainError → Type 0
 IsUnder step id (Refused inner) (Refused outer) = outer ≡ under step id inner

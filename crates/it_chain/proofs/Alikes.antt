@@ -6,6 +6,7 @@ use Rattle.std.specs.FinMap.{keys}
 use Rattle.std.proofs.lemmas.Option.{same_Some}
 use Rattle.it_base.specs.Places.{IsFirst}
 use Rattle.it_dsse.specs.Envelope.{EnvelopeOf}
+use Rattle.it_dsse.specs.Panel.{KeyNumber}
 use Rattle.it_docs.specs.Layout.{LayoutOf}
 use Rattle.it_docs.specs.declared.layout.Layout.{Layout}
 use Rattle.it_docs.specs.declared.step.Step.{Step}
@@ -32,10 +33,10 @@ record Moves (sub : Holding) (fails : Failing) (setting : Setting) (layout : Lay
 pub one_key : (setting : Setting) (layout : Layout) (a b : Contents) (step : Step) (id payload other : List ℕ) (x : Counted setting layout a step id payload) (y : Counted setting layout b step id other) → x.key ≡ y.key
 one_key setting layout a b step id payload other x y =
     let object : x.object ≡ y.object = same_Some x.object y.object (sym x.known ∙ y.known) in
-    same_Some x.key y.key (sym x.signed.key ∙ ap (setting.check.key_of id) object ∙ y.signed.key)
+    same_Some x.key y.key (sym x.signed.key ∙ ap (setting.panel.key_of id) object ∙ y.signed.key)
 
 pub key_moved : (setting : Setting) (layout : Layout) (a b : Contents) (step : Step) → ((id payload : List ℕ) → Counted setting layout a step id payload → Counted setting layout b step id payload)
-    → (key : ℕ) → KeyCounts setting layout a step key → KeyCounts setting layout b step key
+    → (key : KeyNumber) → KeyCounts setting layout a step key → KeyCounts setting layout b step key
 key_moved setting layout a b step move key k = record {
   id = k.id;
   payload = k.payload;

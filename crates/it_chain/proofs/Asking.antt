@@ -4,7 +4,7 @@ use Rattle.std.specs.List.{sum_by}
 use Rattle.std.proofs.lemmas.List.{take_more}
 use Rattle.std.proofs.lemmas.List.Sums.{sum_by-cons}
 use Rattle.it_base.specs.Sum.{IsSum}
-use Rattle.it_dsse.specs.Check.{Check, KeyNumber}
+use Rattle.it_dsse.specs.Panel.{KeyNumber, Panel}
 use Rattle.it_dsse.specs.Meter.{raised}
 use Rattle.it_dsse.specs.Signed.{Signed, tries}
 use Rattle.it_dsse.specs.declared.key_object.KeyObject.{KeyObject}
@@ -103,19 +103,19 @@ sum_of f [] = refl
 sum_of f (x ∷ xs) = (f x, sum_by f xs, refl, sum_of f xs, sum_by-cons f x xs)
 
 -- ---- one key and one envelope after another
-module _ (check : Check) (id : List ℕ) (object : KeyObject) (all : List Candidate) (i : ℕ) (new : Candidate) (below : i < length all) (here : new ≡ get_or all i new) (old now next : Meter)
+module _ (panel : Panel) (id : List ℕ) (object : KeyObject) (all : List Candidate) (i : ℕ) (new : Candidate) (below : i < length all) (here : new ≡ get_or all i new) (old now next : Meter)
     (least : ℕ) (before : RaisedWithin least (SignaturesIn (take i all)) old now) where
   abbrev OfNew : ℕ → Type 0
   OfNew n = n ≡ length new.envelope.signatures
 
-  module _ (counted : next ≡ raised now (tries check new.envelope id object)) where
+  module _ (counted : next ≡ raised now (tries panel new.envelope id object)) where
     of_new : RaisedWithin 0 OfNew now next
-    of_new = (tries check new.envelope id object, (omega arith, λ n is. let most = tries_at_most check new.envelope id object in omega (arith, most, is)), counted)
+    of_new = (tries panel new.envelope id object, (omega arith, λ n is. let most = tries_at_most panel new.envelope id object in omega (arith, most, is)), counted)
 
-    of_signed : (key : KeyNumber) → Signed check new.envelope id object key → RaisedWithin 1 OfNew now next
+    of_signed : (key : KeyNumber) → Signed panel new.envelope id object key → RaisedWithin 1 OfNew now next
     of_signed key signed = (
-      tries check new.envelope id object,
-      (signed_tries check new.envelope id object key signed, λ n is. let most = tries_at_most check new.envelope id object in omega (arith, most, is)),
+      tries panel new.envelope id object,
+      (signed_tries panel new.envelope id object key signed, λ n is. let most = tries_at_most panel new.envelope id object in omega (arith, most, is)),
       counted,
     )
 
@@ -124,7 +124,7 @@ module _ (check : Check) (id : List ℕ) (object : KeyObject) (all : List Candid
     asked_more = within_more (λ (c : Candidate) n. n ≡ length c.envelope.signatures) all i new below here least 0 old now next before of_new least (omega arith)
 
     -- the next is the first that is signed
-    pub asked_first : (key : KeyNumber) → Signed check new.envelope id object key → RaisedWithin 1 (SignaturesIn (take (i + 1) all)) old next
+    pub asked_first : (key : KeyNumber) → Signed panel new.envelope id object key → RaisedWithin 1 (SignaturesIn (take (i + 1) all)) old next
     asked_first key signed = within_more (λ (c : Candidate) n. n ≡ length c.envelope.signatures) all i new below here least 1 old now next before (of_signed key signed) 1 (omega arith)
 
     -- no further one is asked about

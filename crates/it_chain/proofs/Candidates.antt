@@ -3,6 +3,7 @@ use Rattle.std.proofs.Common.{◌≡◌, ◌≢◌, ℕ, List, [], ◌∷◌, �
 use Rattle.std.specs.List.{cons_option}
 use Rattle.std.proofs.lemmas.List.Sums.{sum_by_push}
 use Rattle.std.proofs.lemmas.List.Elements.{Contains-append_left, Contains-append_right, Contains-append_cases, filter_map-append}
+use Rattle.it_base.specs.Finds.{Finds}
 use Rattle.it_base.specs.Sum.{CostsIfFound, IsSum}
 use Rattle.it_dsse.specs.Envelope.{EnvelopeOf}
 use Rattle.it_dsse.specs.declared.envelope.Envelope.{Envelope}
@@ -99,12 +100,17 @@ module _ (step : List ℕ) (files : List File) (places : List ℕ) (place : ℕ)
   one_file : (file : File) → slice_get files place ≡ Some file → files_at files (places ++ place ∷ []) ≡ files_at files places ++ file ∷ []
   one_file file is = filter_map-append (slice_get files) places (place ∷ []) ∙ ap (λ o. files_at files places ++ cons_option o []) is
 
-  pub added_at : (new : Candidate) → IsReadAt step files place new → AreRead step (files_at files (places ++ place ∷ [])) (found ++ new ∷ [])
+  added_at : (new : Candidate) → IsReadAt step files place new → AreRead step (files_at files (places ++ place ∷ [])) (found ++ new ∷ [])
   added_at new h = subst (λ fs. AreRead step fs (found ++ new ∷ [])) (sym (one_file h.0 h.1)) (added step (files_at files places) h.0 found are new h.2)
 
   passed_if : (file : Option File) → slice_get files place ≡ file → ((candidate : Candidate) → ¬ IsReadAt step files place candidate) → AreRead step (files_at files (places ++ place ∷ [])) found
   passed_if None is none = no_file is
   passed_if (Some file) is none = subst (λ fs. AreRead step fs found) (sym (one_file file is)) (passed step (files_at files places) file found are (λ candidate h. none candidate (file, is, h)))
 
-  pub passed_at : ((candidate : Candidate) → ¬ IsReadAt step files place candidate) → AreRead step (files_at files (places ++ place ∷ [])) found
+  passed_at : ((candidate : Candidate) → ¬ IsReadAt step files place candidate) → AreRead step (files_at files (places ++ place ∷ [])) found
   passed_at = passed_if (slice_get files place) refl
+
+  -- what is found at a place is kept
+  pub kept_at : (next : Option Candidate) → Finds (IsReadAt step files place) next → AreRead step (files_at files (places ++ place ∷ [])) (found ++ cons_option next [])
+  kept_at None none = subst (AreRead step (files_at files (places ++ place ∷ []))) (sym (append-nil found)) (passed_at none)
+  kept_at (Some new) is = added_at new is

@@ -5,7 +5,7 @@ use Rattle.std.proofs.lemmas.Bool.{true_from_ne_false}
 use Rattle.std.proofs.lemmas.Option.{same_Some}
 use Rattle.std.proofs.lemmas.Slice.Eq.{bytes_eq-Decides}
 use Rattle.it_base.specs.Finds.{Finds}
-use Rattle.it_dsse.specs.Check.{KeyNumber}
+use Rattle.it_dsse.specs.Panel.{KeyNumber}
 use Rattle.it_dsse.specs.Envelope.{EnvelopeOf}
 use Rattle.it_dsse.specs.Signed.{is_vouched, message_of}
 use Rattle.it_dsse.specs.declared.envelope.Envelope.{Envelope}
@@ -76,7 +76,7 @@ module _ (lower : Lower) (right : AnswersRight lower) (setting : Setting) (step 
   has_type envelope = bytes_eq envelope.payload_type (codes "application/vnd.in-toto+json")
 
   abbrev is_signed : List ℕ → KeyNumber → Envelope → Bool
-  is_signed id key envelope = is_vouched setting.check id key (message_of envelope) envelope.signatures
+  is_signed id key envelope = is_vouched setting.panel id key (message_of envelope) envelope.signatures
 
   abbrev with_body : Envelope → Option (List ℕ × Body)
   with_body envelope = option_map (λ body. (envelope.payload, body)) (body_of lower setting step envelope.payload)
@@ -95,7 +95,7 @@ module _ (lower : Lower) (right : AnswersRight lower) (setting : Setting) (step 
         in_filter has_type (filter_map read (filter is_claimed (files_of bundle))) c.envelope ((bytes_eq-Decides _ _).1 c.type_is)
         (in_filter_map read (filter is_claimed (files_of bundle)) c.file c.envelope is claimed) in
         let vouched : is_signed id c.key c.envelope ≡ true =
-        true_from_ne_false (is_signed id c.key c.envelope) (λ e. not_signed setting.check c.envelope id c.object c.key (sym c.signed.key) e c.key c.signed) in
+        true_from_ne_false (is_signed id c.key c.envelope) (λ e. not_signed setting.panel c.envelope id c.object c.key (sym c.signed.key) e c.key c.signed) in
         let body : with_body c.envelope ≡ Some (payload, c.body) =
         ap (option_map (λ body. (c.envelope.payload, body))) (body_listed c.envelope.payload c.body (subst (λ p. BodyOf step.name p c.body) (sym c.payload_is) c.reads))
         ∙ ap (λ p. Some (p, c.body)) c.payload_is in
@@ -103,7 +103,7 @@ module _ (lower : Lower) (right : AnswersRight lower) (setting : Setting) (step 
         (in_filter (is_signed id c.key) (envelopes_for lower setting step bundle) c.envelope vouched among)
 
     -- what is listed counts
-    pub counts : (id payload : List ℕ) (object : KeyObject) (key : KeyNumber) (body : Body) → Contains step.pubkeys id → get layout.keys id ≡ Some object → setting.check.key_of id object ≡ Some key
+    pub counts : (id payload : List ℕ) (object : KeyObject) (key : KeyNumber) (body : Body) → Contains step.pubkeys id → get layout.keys id ≡ Some object → setting.panel.key_of id object ≡ Some key
         → Contains (payloads_for lower setting step bundle id key) (payload, body) → (c : Counted setting layout bundle step id payload) × (c.key ≡ key) × BodyOf step.name payload body
     counts id payload object key body pubkey known numbered c =
         let made = of_filter_map with_body (filter (is_signed id key) (envelopes_for lower setting step bundle)) (payload, body) c in
@@ -126,7 +126,7 @@ module _ (lower : Lower) (right : AnswersRight lower) (setting : Setting) (step 
             payload_is = pair.0;
             listed = pubkey;
             known = known;
-            signed = signed_found setting.check made.0 id object key (sym numbered) signed.0;
+            signed = signed_found setting.panel made.0 id object key (sym numbered) signed.0;
             reads = reads;
           },
           refl,

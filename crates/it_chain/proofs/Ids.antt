@@ -5,7 +5,7 @@ use Rattle.std.specs.List.{list_all}
 use Rattle.std.proofs.lemmas.Bool.{cond_both, true≢false}
 use Rattle.std.proofs.lemmas.Option.{same_Some}
 use Rattle.std.proofs.lemmas.Slice.Eq.{bytes_eq-Decides}
-use Rattle.it_dsse.specs.Check.{KeyNumber}
+use Rattle.it_dsse.specs.Panel.{KeyNumber}
 use Rattle.it_dsse.specs.declared.key_object.KeyObject.{KeyObject}
 use Rattle.it_docs.specs.declared.layout.Layout.{Layout}
 use Rattle.it_docs.specs.declared.step.Step.{Step}
@@ -130,21 +130,21 @@ module _ (answers : Answering) (sub : Holding) (fails : Failing) (inside : Subla
       tells_sublayout id key sublayout h (answers sublayout (folder_of step.name id bundle)) (inside.come sublayout (folder_of step.name id bundle))
 
 module _ (lower : Lower) (right : AnswersRight lower) (setting : Setting) (layout : Layout) (bundle : Contents) (step : Step) (answers : Answering) (sub : Holding) (fails : Failing) (inside : Sublayouts answers sub fails) where
-  tells_key : (id : List ℕ) (object : KeyObject) (number : Option KeyNumber) → setting.check.key_of id object ≡ number → Contains step.pubkeys id → get layout.keys id ≡ Some object
+  tells_key : (id : List ℕ) (object : KeyObject) (number : Option KeyNumber) → setting.panel.key_of id object ≡ number → Contains step.pubkeys id → get layout.keys id ≡ Some object
       → TellsId answers sub fails inside setting layout bundle step id (key_answer lower setting answers layout bundle step id number)
   tells_key id object None e pubkey known = tells_given answers sub fails inside setting layout bundle step id None (λ payload c.
       let same : c.object ≡ object = same_Some c.object object (sym c.known ∙ known) in
-      let no : Some c.key ≡ None = sym c.signed.key ∙ ap (setting.check.key_of id) same ∙ e in
+      let no : Some c.key ≡ None = sym c.signed.key ∙ ap (setting.panel.key_of id) same ∙ e in
       cc)
   tells_key id object (Some key) e pubkey known =
       tells_bodies answers sub fails inside setting layout bundle step id key (bodies_in (payloads_for lower setting step bundle id key))
       (bodies_of answers sub fails inside setting layout bundle step id key (payloads_for lower setting step bundle id key)
       (λ payload c.
       let same : c.object ≡ object = same_Some c.object object (sym c.known ∙ known) in
-      let key_is : c.key ≡ key = same_Some c.key key (sym c.signed.key ∙ ap (setting.check.key_of id) same ∙ e) in
+      let key_is : c.key ≡ key = same_Some c.key key (sym c.signed.key ∙ ap (setting.panel.key_of id) same ∙ e) in
       (c.body, subst (λ n. Contains (payloads_for lower setting step bundle id n) (payload, c.body)) key_is (listed lower right setting step layout bundle id payload c)))
       (λ payload body. counts lower right setting step layout bundle id payload object key body pubkey known e))
 
   pub tells_id : (id : List ℕ) (object : KeyObject) → Contains step.pubkeys id → get layout.keys id ≡ Some object → TellsId answers sub fails inside setting layout bundle step id (id_answer lower setting answers layout bundle step (id, object))
   unfolding id_answer
-  tells_id id object pubkey known = tells_key id object (setting.check.key_of id object) refl pubkey known
+  tells_id id object pubkey known = tells_key id object (setting.panel.key_of id object) refl pubkey known

@@ -2,6 +2,7 @@
 use Rattle.std.proofs.Common.{◌≡◌, ◌⊎◌, ◌↔◌, ℕ, ◌≤◌, List, [], ◌∷◌, map, true, Err, inl, inr, ⊎_elim, nat_lt, ltb-true, ltb-false, Contains, refl, sym, ap, subst, ◌∙◌, arith}
 use Rattle.std.specs.Set.{distinct_count}
 use Rattle.std.proofs.lemmas.Bool.{cond_both}
+use Rattle.it_dsse.specs.Panel.{KeyNumber}
 use Rattle.it_docs.specs.declared.layout.Layout.{Layout}
 use Rattle.it_docs.specs.declared.step.Step.{Step}
 use Rattle.it_rules.specs.Item.{Recorded}
@@ -31,7 +32,7 @@ module _ (sub : Holding) (fails : Failing) (one : HoldsOneWay sub) (setting : Se
   Has = HasRecord sub setting layout bundle step
 
   -- ---- the number of different keys
-  keys_are : (key : ℕ) → Contains (map (λ (r : IdRecord). r.key) records) key ↔ KeyCounts setting layout bundle step key
+  keys_are : (key : KeyNumber) → Contains (map (λ (r : IdRecord). r.key) records) key ↔ KeyCounts setting layout bundle step key
   keys_are key = (
     λ c. let found = Contains-map_cases (λ (r : IdRecord). r.key) records key c in
         let given = are.each found.1 (Contains-from_place records found.0 found.1 found.2) in

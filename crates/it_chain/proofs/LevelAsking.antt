@@ -4,11 +4,12 @@ use Rattle.std.proofs.lemmas.List.Sums.{sum_by_push}
 use Rattle.std.proofs.lemmas.List.{length-map, length_push}
 use Rattle.std.proofs.lemmas.Map.Made.{distinct_count-le}
 use Rattle.it_base.specs.Sum.{IsSum}
-use Rattle.it_dsse.specs.Check.{KeyNumber}
+use Rattle.it_dsse.specs.Panel.{KeyNumber}
 use Rattle.it_dsse.specs.Meter.{RaisedBy}
 use Rattle.it_dsse.specs.declared.meter.Meter.{Meter}
 use Rattle.it_docs.specs.declared.layout.Layout.{Layout}
 use Rattle.it_docs.specs.declared.step.Step.{Step}
+use Rattle.it_rules.specs.Item.{Recorded}
 use Rattle.it_chain.specs.Answer.{signers, with_record}
 use Rattle.it_chain.specs.Asked.{Asks, BodyCosts, IdCosts, RaisedWithin, SignaturesIn, cost_below, key_total, least_given, signature_count}
 use Rattle.it_chain.specs.Contents.{Contents, files_of}
@@ -16,14 +17,14 @@ use Rattle.it_chain.specs.Cost.{Costs, LevelCosts, StepCosts}
 use Rattle.it_chain.specs.Counted.{Setting, Body, of_link, of_layout, same_key}
 use Rattle.it_chain.specs.Level.{Holding}
 use Rattle.it_chain.specs.Signers.{entry_of}
-use Rattle.it_chain.specs.Walk.{AreCandidates, IsJudged, keys_of}
+use Rattle.it_chain.specs.Walk.{AreCandidates, IsJudged, IsRecordOf, keys_of}
 use Rattle.it_chain.specs.declared.candidate.Candidate.{Candidate}
 use Rattle.it_chain.specs.declared.chain.StepResult.{StepResult}
 use Rattle.it_chain.specs.declared.chain.Chain.{Chain as ChainOf}
 use Rattle.it_chain.specs.declared.record.IdRecord.{IdRecord}
 use Rattle.it_chain.specs.declared.refusal.ChainError.{ChainError}
 use Rattle.it_chain.specs.declared.signers.Signer.{Signer}
-use Rattle.it_chain.proofs.Asking.{sum_of, within_more, within_part, within_then, within_weaker}
+use Rattle.it_chain.proofs.Asking.{sum_of, within_least, within_more, within_part, within_then, within_weaker}
 use Rattle.it_chain.proofs.Costing.{ids_cost}
 use Rattle.it_chain.proofs.Ids.{OneBody}
 
@@ -123,11 +124,20 @@ module _ (setting : Setting) (depth : ℕ) (layout : Layout) (bundle : Contents)
   body_cost sub key (of_layout sublayout) one n cost = cost.within one.payload sublayout one.counted one.reads
 
   -- and its one body
-  pub body_raises : (sub : Holding) (key : KeyNumber) (body : Body) → OneBody sub setting layout bundle step id key body → (old now new : Meter) → RaisedWithin 1 (SignaturesIn found) old now
+  body_raises : (sub : Holding) (key : KeyNumber) (body : Body) → OneBody sub setting layout bundle step id key body → (old now new : Meter) → RaisedWithin 1 (SignaturesIn found) old now
       → RaisedWithin 0 (BodyCosts (cost_below setting depth) bundle step.name id body) now new → RaisedWithin 1 OfId old new
   body_raises sub key body one old now new =
       within_then 1 0 1 (SignaturesIn found) (BodyCosts (cost_below setting depth) bundle step.name id body) OfId old now new (omega arith)
       (λ n cost. (signature_count found, cost.sublayouts, sum_of (λ (c : Candidate). length c.envelope.signatures) found, body_cost sub key body one n cost, omega (arith, cost.sum)))
+
+  -- the record of that body asks no more, nor does its error
+  pub record_asks : (sub : Holding) (key : KeyNumber) (body : Body) → OneBody sub setting layout bundle step id key body → (old now new : Meter) → RaisedWithin 1 (SignaturesIn found) old now
+      → (recorded : Result Recorded ChainError) (given : Result (Option IdRecord) ChainError) → IsRecordOf id key recorded given
+      → Asks (λ _. 0) (BodyCosts (cost_below setting depth) bundle step.name id body) now new recorded → Asks least_given OfId old new given
+  record_asks sub key body one old now new first (Ok recorded) (Ok given) is next = subst (λ g. RaisedWithin (least_given g) OfId old new) (sym is) (body_raises sub key body one old now new first next)
+  record_asks sub key body one old now new first (Ok recorded) (Err e) is next = within_least 0 1 OfId old new (omega arith) (body_raises sub key body one old now new first next)
+  record_asks sub key body one old now new first (Err e) (Ok given) is next = absurd is
+  record_asks sub key body one old now new first (Err e) (Err f) is next = within_least 0 1 OfId old new (omega arith) (body_raises sub key body one old now new first next)
 
 -- ---- a layout over a bundle
 module _ (setting : Setting) (depth : ℕ) (layout : Layout) (bundle : Contents) (old new : Meter) where

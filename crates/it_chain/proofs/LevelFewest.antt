@@ -6,13 +6,14 @@ use Rattle.std.proofs.lemmas.Map.Made.{IsDistinct-from_AllPairs, distinct_count-
 use Rattle.std.proofs.lemmas.Slice.Eq.{bytes_eq-Decides}
 use Rattle.it_base.specs.Sum.{CostsIfFound, IsSum}
 use Rattle.it_base.proofs.Sums.{IsOne, one_if_found}
-use Rattle.it_dsse.specs.Check.{KeyNumber}
+use Rattle.it_dsse.specs.Panel.{KeyNumber}
 use Rattle.it_dsse.specs.declared.meter.Meter.{Meter}
 use Rattle.it_docs.specs.Layout.{LayoutOf}
 use Rattle.it_docs.specs.declared.layout.Layout.{Layout}
 use Rattle.it_docs.specs.declared.step.Step.{Step}
 use Rattle.it_docs.proofs.Same.{layout_same}
 use Rattle.it_rules.proofs.Listed.{Contains-map, place_of}
+use Rattle.it_rules.specs.Item.{Recorded}
 use Rattle.it_chain.specs.Answer.{with_record}
 use Rattle.it_chain.specs.Asked.{BodyFewest, CountsFor, GivenFewest, IdFewest, RaisedAtLeast, RaisedWithin, RecordsFewest, SignaturesIn, SublayoutFewest, fewest_below}
 use Rattle.it_chain.specs.Contents.{Contents}
@@ -22,7 +23,7 @@ use Rattle.it_chain.specs.Fewest.{Fewest, LevelFewest, StepFewest}
 use Rattle.it_chain.specs.First.{Failing}
 use Rattle.it_chain.specs.Level.{Holding}
 use Rattle.it_chain.specs.Names.{folder_of}
-use Rattle.it_chain.specs.Walk.{AreRecords, IsGiven, keys_of}
+use Rattle.it_chain.specs.Walk.{AreRecords, IsGiven, IsRecordOf, keys_of}
 use Rattle.it_chain.specs.declared.candidate.Candidate.{Candidate}
 use Rattle.it_chain.specs.declared.chain.Chain.{Chain as ChainOf}
 use Rattle.it_chain.specs.declared.chain.StepResult.{StepResult}
@@ -88,12 +89,21 @@ module _ (costs : Costing) (one : (layout : Layout) → IsOne (costs layout)) (s
       subst (λ l. costs l (folder_of step.name id bundle) m) (layout_same h.payload found.0 sublayout reads h.reads) found.2)
       (λ none. absurd (none.0 sublayout (h.payload, h.counted, h.reads))) takes
 
-  -- a check for its key, and what its body takes
-  pub id_takes : (id : List ℕ) (key : KeyNumber) (body : Body) → OneBody sub setting layout bundle step id key body → (found : List Candidate) (old now new : Meter) → RaisedWithin 1 (SignaturesIn found) old now
+  -- a panel for its key, and what its body takes
+  id_takes : (id : List ℕ) (key : KeyNumber) (body : Body) → OneBody sub setting layout bundle step id key body → (found : List Candidate) (old now new : Meter) → RaisedWithin 1 (SignaturesIn found) old now
       → RaisedAtLeast (BodyFewest costs bundle step.name id body) now new → RaisedAtLeast (IdFewest costs setting layout bundle step id) old new
   id_takes id key body h found old now new first next =
       least_then (λ n. n ≡ 1) (BodyFewest costs bundle step.name id body) (IdFewest costs setting layout bundle step id) old now new
       (λ n takes. (1, takes.0, refl, body_takes id key body h takes.0 takes.1, omega (arith, takes.2))) (least_of 1 (SignaturesIn found) old now first) next
+
+  -- the record of that body takes as much
+  pub record_takes : (id : List ℕ) (key : KeyNumber) (body : Body) → OneBody sub setting layout bundle step id key body → (found : List Candidate) (old now new : Meter) → RaisedWithin 1 (SignaturesIn found) old now
+      → (recorded : Result Recorded ChainError) (given : Result (Option IdRecord) ChainError) → IsRecordOf id key recorded given
+      → IfOk recorded (λ _. RaisedAtLeast (BodyFewest costs bundle step.name id body) now new) → IfOk given (λ g. RaisedAtLeast (GivenFewest costs setting layout bundle step g) old new)
+  record_takes id key body h found old now new first (Ok recorded) (Ok given) is next =
+      subst (λ g. RaisedAtLeast (GivenFewest costs setting layout bundle step g) old new) (sym is) (id_takes id key body h found old now new first next)
+  record_takes id key body h found old now new first (Err e) (Ok given) is next = absurd is
+  record_takes id key body h found old now new first recorded (Err e) is next = tt
 
   -- ---- one record more, or none
   pub given_more : (given : Option IdRecord) (records : List IdRecord) (old now new : Meter) → RaisedAtLeast (RecordsFewest costs setting layout bundle step records) old now

@@ -1,7 +1,7 @@
 -- What counts for a key id among the candidates so far.
 use Rattle.std.proofs.Common.{◌≡◌, ◌≢◌, ℕ, List, [], ◌∷◌, ◌++◌, Option, Some, None, Bor, ⊎_elim, Contains, refl, sym, ap, subst, ◌∙◌}
 use Rattle.std.proofs.lemmas.List.Elements.{Contains-append_left, Contains-append_right, Contains-append_cases}
-use Rattle.it_dsse.specs.Check.{Check, KeyNumber}
+use Rattle.it_dsse.specs.Panel.{KeyNumber, Panel}
 use Rattle.it_dsse.specs.Signed.{Signed}
 use Rattle.it_dsse.specs.declared.key_object.KeyObject.{KeyObject}
 use Rattle.it_chain.specs.Walk.{IsSigned, CountsOne, CountTwo}
@@ -13,34 +13,34 @@ abbrev pub least_first : Option (KeyNumber × Bor Candidate) → ℕ
 least_first None = 0
 least_first (Some first) = 1
 
-module _ (check : Check) (id : List ℕ) (object : KeyObject) where
+module _ (panel : Panel) (id : List ℕ) (object : KeyObject) where
   -- a candidate that is signed, and none with another payload
   pub record IsFirstSigned (candidates : List Candidate) (key : KeyNumber) (first : Candidate) : Type 0 where
-    pub is : IsSigned check id object candidates first key
-    pub alone : (other : Candidate) (k : KeyNumber) → IsSigned check id object candidates other k → first.envelope.payload ≡ other.envelope.payload
+    pub is : IsSigned panel id object candidates first key
+    pub alone : (other : Candidate) (k : KeyNumber) → IsSigned panel id object candidates other k → first.envelope.payload ≡ other.envelope.payload
 
   abbrev pub SoFar : List Candidate → Option (KeyNumber × Bor Candidate) → Type 0
-  SoFar candidates None = (candidate : Candidate) (key : KeyNumber) → ¬ IsSigned check id object candidates candidate key
+  SoFar candidates None = (candidate : Candidate) (key : KeyNumber) → ¬ IsSigned panel id object candidates candidate key
   SoFar candidates (Some first) = IsFirstSigned candidates first.0 first.1.now
 
   abbrev Signs : Candidate → KeyNumber → Type 0
-  Signs candidate key = Signed check candidate.envelope id object key
+  Signs candidate key = Signed panel candidate.envelope id object key
 
   pub none_so_far : SoFar [] None
   none_so_far candidate key h = in_none candidate h.stands
 
   module _ (candidates : List Candidate) (new : Candidate) where
-    signed_cases : (other : Candidate) (k : KeyNumber) → IsSigned check id object (candidates ++ new ∷ []) other k → (P : Type 0) → (IsSigned check id object candidates other k → P) → (new ≡ other → P) → P
+    signed_cases : (other : Candidate) (k : KeyNumber) → IsSigned panel id object (candidates ++ new ∷ []) other k → (P : Type 0) → (IsSigned panel id object candidates other k → P) → (new ≡ other → P) → P
     signed_cases other k h P before last = ⊎_elim (λ among. before (record { stands = among; signed = h.signed }))
         (λ at_last. ⊎_elim last (λ later. absurd (in_none other later)) (in_cases new [] other at_last)) (Contains-append_cases candidates (new ∷ []) other h.stands)
 
-    pub earlier : (other : Candidate) (k : KeyNumber) → IsSigned check id object candidates other k → IsSigned check id object (candidates ++ new ∷ []) other k
+    pub earlier : (other : Candidate) (k : KeyNumber) → IsSigned panel id object candidates other k → IsSigned panel id object (candidates ++ new ∷ []) other k
     earlier other k h = record { stands = Contains-append_left candidates (new ∷ []) other h.stands; signed = h.signed }
 
-    pub the_last : (k : KeyNumber) → Signs new k → IsSigned check id object (candidates ++ new ∷ []) new k
+    pub the_last : (k : KeyNumber) → Signs new k → IsSigned panel id object (candidates ++ new ∷ []) new k
     the_last k h = record { stands = Contains-append_right candidates (new ∷ []) new (in_head new []); signed = h }
 
-    not_last : ((k : KeyNumber) → ¬ Signs new k) → (other : Candidate) (k : KeyNumber) → new ≡ other → IsSigned check id object (candidates ++ new ∷ []) other k → ⊥
+    not_last : ((k : KeyNumber) → ¬ Signs new k) → (other : Candidate) (k : KeyNumber) → new ≡ other → IsSigned panel id object (candidates ++ new ∷ []) other k → ⊥
     not_last unsigned other k same h = unsigned k (subst (λ (c : Candidate). Signs c k) (sym same) h.signed)
 
     -- a candidate that is not signed
@@ -67,7 +67,7 @@ module _ (check : Check) (id : List ℕ) (object : KeyObject) where
 
   -- two that differ
   pub two_of : (candidates : List Candidate) (key other_key : KeyNumber) (first other : Candidate) → Contains candidates first → Contains candidates other → Signs first key → Signs other other_key
-      → first.envelope.payload ≢ other.envelope.payload → CountTwo check id object candidates
+      → first.envelope.payload ≢ other.envelope.payload → CountTwo panel id object candidates
   two_of candidates key other_key first other a b signs other_signs differ = record {
     one = first;
     other = other;
@@ -78,5 +78,5 @@ module _ (check : Check) (id : List ℕ) (object : KeyObject) where
     differ = differ;
   }
 
-  pub one_of : (candidates : List Candidate) (key : KeyNumber) (lent : Bor Candidate) → SoFar candidates (Some (key, lent)) → CountsOne check id object candidates key lent.now.body
+  pub one_of : (candidates : List Candidate) (key : KeyNumber) (lent : Bor Candidate) → SoFar candidates (Some (key, lent)) → CountsOne panel id object candidates key lent.now.body
   one_of candidates key lent h = record { candidate = lent.now; is = h.is; body_is = refl; alone = h.alone }

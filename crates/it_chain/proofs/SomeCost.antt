@@ -9,7 +9,7 @@ use Rattle.std.proofs.lemmas.Slice.Eq.{bytes_eq-Decides}
 use Rattle.it_base.specs.Finds.{Finds}
 use Rattle.it_base.proofs.Sums.{some_if_found, some_sum}
 use Rattle.it_base.specs.Sum.{CostsIfFound}
-use Rattle.it_dsse.specs.Check.{KeyNumber}
+use Rattle.it_dsse.specs.Panel.{KeyNumber}
 use Rattle.it_dsse.specs.Envelope.{EnvelopeOf}
 use Rattle.it_dsse.specs.declared.key_object.KeyObject.{KeyObject}
 use Rattle.it_docs.specs.Layout.{LayoutOf}
@@ -86,7 +86,7 @@ module _ (lower : Lower) (right : AnswersRight lower) where
     of_key id (Some key) = filter_map (sublayout_at id) (payloads_for lower setting step bundle id key)
 
     abbrev of_signer : List ℕ × KeyObject → List (List ℕ × List ℕ)
-    of_signer signer = of_key signer.0 (setting.check.key_of signer.0 signer.1)
+    of_signer signer = of_key signer.0 (setting.panel.key_of signer.0 signer.1)
 
     sublayouts : List (List ℕ × List ℕ)
     sublayouts = unique_keys pair_eq (joined of_signer (signers layout step))
@@ -103,7 +103,7 @@ module _ (lower : Lower) (right : AnswersRight lower) where
         in_unique pair_eq pair_eq-Decides (joined of_signer (signers layout step)) (id, payload)
         (in_joined of_signer (signers layout step) (id, c.object) (id, payload) signer (subst (λ k. Contains (of_key id k) (id, payload)) (sym c.signed.key) among))
 
-    of_numbered : (id : List ℕ) (object : KeyObject) (pair : List ℕ × List ℕ) → Contains step.pubkeys id → get layout.keys id ≡ Some object → (number : Option KeyNumber) → setting.check.key_of id object ≡ number
+    of_numbered : (id : List ℕ) (object : KeyObject) (pair : List ℕ × List ℕ) → Contains step.pubkeys id → get layout.keys id ≡ Some object → (number : Option KeyNumber) → setting.panel.key_of id object ≡ number
         → Contains (of_key id number) pair → IsSublayout setting layout bundle step pair.0 pair.1
     unfolding of_key
     of_numbered id object pair pubkey known None numbered c = absurd (in_none pair c)
@@ -119,7 +119,7 @@ module _ (lower : Lower) (right : AnswersRight lower) where
         let signer = of_joined of_signer (signers layout step) (id, payload) (of_unique pair_eq pair_eq-Decides (joined of_signer (signers layout step)) (id, payload) c) in
         let entry = of_filter (is_listed step) (entries layout.keys) signer.0 signer.1 in
         of_numbered signer.0.0 signer.0.1 (id, payload) ((is_member-Decides bytes_eq-Decides step.pubkeys signer.0.0).0 entry.0) (entry_known layout.keys signer.0 entry.1)
-        (setting.check.key_of signer.0.0 signer.0.1) refl signer.2
+        (setting.panel.key_of signer.0.0 signer.0.1) refl signer.2
 
     pub sublayouts_cost : (sub : Costing) → ((l : Layout) (b : Contents) → (n : ℕ) × sub l b n) → (n : ℕ) × SublayoutsCost sub setting layout bundle step n
     unfolding sublayouts
@@ -149,7 +149,7 @@ module _ (lower : Lower) (right : AnswersRight lower) where
     keys_for id (Some key) = map (λ _. key) (payloads_for lower setting step bundle id key)
 
     abbrev keys_by : List ℕ × KeyObject → List KeyNumber
-    keys_by signer = keys_for signer.0 (setting.check.key_of signer.0 signer.1)
+    keys_by signer = keys_for signer.0 (setting.panel.key_of signer.0 signer.1)
 
     key_in : (key : KeyNumber) → KeyCounts setting layout bundle step key → Contains (joined keys_by (signers layout step)) key
     unfolding keys_for
@@ -161,7 +161,7 @@ module _ (lower : Lower) (right : AnswersRight lower) where
         let among : Contains (keys_for k.id (Some c.key)) c.key = Contains-map (λ _. c.key) (payloads_for lower setting step bundle k.id c.key) place.0 (k.payload, c.body) place.1 in
         in_joined keys_by (signers layout step) (k.id, c.object) key signer (subst (λ n. Contains (keys_for k.id n) key) (sym c.signed.key) (subst (Contains (keys_for k.id (Some c.key))) k.key_is among))
 
-    key_numbered : (id : List ℕ) (object : KeyObject) (key : KeyNumber) → Contains step.pubkeys id → get layout.keys id ≡ Some object → (number : Option KeyNumber) → setting.check.key_of id object ≡ number
+    key_numbered : (id : List ℕ) (object : KeyObject) (key : KeyNumber) → Contains step.pubkeys id → get layout.keys id ≡ Some object → (number : Option KeyNumber) → setting.panel.key_of id object ≡ number
         → Contains (keys_for id number) key → KeyCounts setting layout bundle step key
     unfolding keys_for
     key_numbered id object key pubkey known None numbered c = absurd (in_none key c)
@@ -175,7 +175,7 @@ module _ (lower : Lower) (right : AnswersRight lower) where
         let signer = of_joined keys_by (signers layout step) key c in
         let entry = of_filter (is_listed step) (entries layout.keys) signer.0 signer.1 in
         key_numbered signer.0.0 signer.0.1 key ((is_member-Decides bytes_eq-Decides step.pubkeys signer.0.0).0 entry.0) (entry_known layout.keys signer.0 entry.1)
-        (setting.check.key_of signer.0.0 signer.0.1) refl signer.2
+        (setting.panel.key_of signer.0.0 signer.0.1) refl signer.2
 
     step_fewest : (sub : Costing) → ((l : Layout) (b : Contents) → (n : ℕ) × sub l b n) → (n : ℕ) × StepFewest sub setting layout bundle step n
     step_fewest sub each =

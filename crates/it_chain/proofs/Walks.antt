@@ -1,5 +1,5 @@
 -- What the functions that verify a level come to, put together.
-use Rattle.std.proofs.Common.{◌≡◌, ◌≢◌, ◌<◌, ◌+◌, ℕ, zero, suc, List, [], ◌∷◌, ◌++◌, flat_map, take, get_or, length, Option, Some, None, Result, Ok, Err, IfOk, IfErr, Bor, option_map, unwrap_or, true, inl, inr, Contains, refl, sym, ap, subst, ◌∙◌, arith}
+use Rattle.std.proofs.Common.{◌≡◌, ◌≢◌, ◌<◌, ◌+◌, ◌-◌, ◌↔◌, ℕ, zero, suc, List, [], ◌∷◌, ◌++◌, flat_map, take, get_or, length, Option, Some, None, Result, Ok, Err, IfOk, IfErr, Bor, option_map, unwrap_or, Bool, IsTrue, true, false, inl, inr, Contains, refl, sym, ap, subst, ◌∙◌, arith}
 use Rattle.std.specs.FinMap.{get}
 use Rattle.std.specs.Bool.{◌==◌}
 use Rattle.std.proofs.lemmas.Bool.Decides.{Decides-eqb}
@@ -8,7 +8,7 @@ use Rattle.std.proofs.lemmas.List.{take_more}
 use Rattle.std.proofs.lemmas.Option.{same_Some}
 use Rattle.it_base.specs.Places.{IsFirst, NoneAt}
 use Rattle.it_base.proofs.Firsts.{first_before, first_behind, none_append}
-use Rattle.it_dsse.specs.Check.{KeyNumber}
+use Rattle.it_dsse.specs.Panel.{KeyNumber}
 use Rattle.it_dsse.specs.Signed.{Signed}
 use Rattle.it_dsse.specs.declared.envelope.Envelope.{Envelope}
 use Rattle.it_dsse.specs.declared.key_object.KeyObject.{KeyObject}
@@ -22,7 +22,7 @@ use Rattle.it_chain.specs.Counted.{Setting, Body, of_link, of_layout, BodyOf, Co
 use Rattle.it_chain.specs.First.{Failing, First, HasTwo, SublayoutFails, at_id, here, places}
 use Rattle.it_chain.specs.Level.{Holding, LevelHolds, Records}
 use Rattle.it_chain.specs.Names.{IsClaimed, folder_of}
-use Rattle.it_chain.specs.Walk.{AreCandidates, BodyComes, BodyFails, CountTwo, CountsOne, FailsAt, Gives, IsRead, IsSigned, IsUnder, StandsAt, SublayoutComes, Walks, as_body, fails_below, holds_below}
+use Rattle.it_chain.specs.Walk.{AreCandidates, BodyComes, BodyFails, CountTwo, CountsOne, FailsAt, Gives, IsRead, IsRecordOf, IsSigned, IsUnder, StandsAt, SublayoutComes, Walks, as_body, fails_below, holds_below}
 use Rattle.it_chain.specs.declared.bundle.File.{File}
 use Rattle.it_chain.specs.declared.candidate.Body.{Body as Held}
 use Rattle.it_chain.specs.declared.candidate.Body.TheVariants.{Link as held_link, Layout as held_layout}
@@ -172,7 +172,7 @@ held_back (of_layout layout) = refl
 
 module _ (sub : Holding) (fails : Failing) (setting : Setting) (layout : Layout) (bundle : Contents) (step : Step) (id : List ℕ) (object : KeyObject) (candidates : List Candidate)
     (are : AreCandidates step.name (files_of bundle) candidates) (listed : Contains step.pubkeys id) (known : get layout.keys id ≡ Some object) where
-  counted_of : (candidate : Candidate) (key : KeyNumber) → IsSigned setting.check id object candidates candidate key → Counted setting layout bundle step id candidate.envelope.payload
+  counted_of : (candidate : Candidate) (key : KeyNumber) → IsSigned setting.panel id object candidates candidate key → Counted setting layout bundle step id candidate.envelope.payload
   counted_of candidate key h =
       let file = are.2.each candidate h.stands in
       let from = of_those (λ (f : File). IsClaimed step.name f.name) (files_of bundle) are.0 are.1 file.0 file.1 in
@@ -193,19 +193,19 @@ module _ (sub : Holding) (fails : Failing) (setting : Setting) (layout : Layout)
         reads = file.2.reads;
       }
 
-  candidate_of : (payload : List ℕ) (c : Counted setting layout bundle step id payload) → (candidate : Candidate) × IsSigned setting.check id object candidates candidate c.key × (candidate.envelope.payload ≡ payload)
+  candidate_of : (payload : List ℕ) (c : Counted setting layout bundle step id payload) → (candidate : Candidate) × IsSigned setting.panel id object candidates candidate c.key × (candidate.envelope.payload ≡ payload)
   candidate_of payload c =
       let same : c.object ≡ object = same_Some c.object object (sym c.known ∙ known) in
       let reads : BodyOf step.name c.envelope.payload (as_body (as_held c.body)) = subst (BodyOf step.name c.envelope.payload) (held_back c.body) (subst (λ p. BodyOf step.name p c.body) (sym c.payload_is) c.reads) in
       let is : IsRead step.name c.file.bytes (record { envelope = c.envelope; body = as_held c.body }) = record { is_envelope = c.is_envelope; type_is = c.type_is; reads = reads } in
       let found = are.2.all c.file (record { envelope = c.envelope; body = as_held c.body }) (in_those (λ (f : File). IsClaimed step.name f.name) (files_of bundle) are.0 are.1 c.file c.stands c.claimed) is in
-      let signed : Signed setting.check found.0.envelope id object c.key = subst (λ e. Signed setting.check e id object c.key) (sym found.2) (subst (λ o. Signed setting.check c.envelope id o c.key) same c.signed) in
+      let signed : Signed setting.panel found.0.envelope id object c.key = subst (λ e. Signed setting.panel e id object c.key) (sym found.2) (subst (λ o. Signed setting.panel c.envelope id o c.key) same c.signed) in
       (found.0, record { stands = found.1; signed = signed }, ap (λ (e : Envelope). e.payload) found.2 ∙ c.payload_is)
 
-  pub none_counts : ((candidate : Candidate) (key : KeyNumber) → ¬ IsSigned setting.check id object candidates candidate key) → (payload : List ℕ) → ¬ Counted setting layout bundle step id payload
+  pub none_counts : ((candidate : Candidate) (key : KeyNumber) → ¬ IsSigned setting.panel id object candidates candidate key) → (payload : List ℕ) → ¬ Counted setting layout bundle step id payload
   none_counts none payload c = let found = candidate_of payload c in none found.0 c.key found.1
 
-  pub two_count : CountTwo setting.check id object candidates → HasTwo sub fails setting layout bundle step id
+  pub two_count : CountTwo setting.panel id object candidates → HasTwo sub fails setting layout bundle step id
   two_count two = record {
     payload = two.one.envelope.payload;
     other = two.other.envelope.payload;
@@ -214,7 +214,7 @@ module _ (sub : Holding) (fails : Failing) (setting : Setting) (layout : Layout)
     differ = two.differ;
   }
 
-  pub one_counts : (key : KeyNumber) (body : Held) → CountsOne setting.check id object candidates key body → OneBody sub setting layout bundle step id key (as_body body)
+  pub one_counts : (key : KeyNumber) (body : Held) → CountsOne setting.panel id object candidates key body → OneBody sub setting layout bundle step id key (as_body body)
   unfolding counted_of
   one_counts key body one = record {
     payload = one.candidate.envelope.payload;
@@ -244,14 +244,14 @@ module _ (setting : Setting) (depth : ℕ) (layout : Layout) (bundle : Contents)
   pub walks_two : (e : ChainError) → HasTwo Sub Fails setting layout bundle step id → e ≡ Refused (here (TwoPayloads step.name id)) → WalksId (Err e)
   walks_two e two is = subst (λ x. WalksId (Err x)) (sym is) (inl (inl (two, refl)))
 
-  pub walks_one : (key : KeyNumber) (body : Body) (recorded : Recorded) (r : IdRecord) → OneBody Sub setting layout bundle step id key body → Records Sub bundle step.name id body recorded
-      → r ≡ record { id = id; key = key; recorded = recorded } → WalksId (Ok (Some r))
-  walks_one key body recorded r one records is = subst (λ x. WalksId (Ok (Some x))) (sym is) (walks_given (Some (record { id = id; key = key; recorded = recorded })) (record {
+  walks_one : (key : KeyNumber) (body : Body) (recorded : Recorded) → OneBody Sub setting layout bundle step id key body → Records Sub bundle step.name id body recorded
+      → WalksId (Ok (Some (record { id = id; key = key; recorded = recorded })))
+  walks_one key body recorded one records = walks_given (Some (record { id = id; key = key; recorded = recorded })) (record {
     id_is = refl;
     recorded = record { payload = one.payload; body = body; counted = one.counted; reads = one.reads; records = records };
     key_is = one.key_is;
     alone = one.alone;
-  }))
+  })
 
   sublayout_fails : (key : KeyNumber) (body : Body) (r : ChainRefusal) → OneBody Sub setting layout bundle step id key body → BodyFails Fails bundle step.name id body r → SublayoutFails Sub Fails setting layout bundle step id r
   sublayout_fails key (of_link link) r one h = absurd h
@@ -266,9 +266,17 @@ module _ (setting : Setting) (depth : ℕ) (layout : Layout) (bundle : Contents)
     refusal_is = h.2;
   }
 
-  pub walks_body : (key : KeyNumber) (body : Body) (e : ChainError) → OneBody Sub setting layout bundle step id key body → BodyComes Sub Fails bundle step.name id body (Err e) → WalksId (Err e)
+  walks_body : (key : KeyNumber) (body : Body) (e : ChainError) → OneBody Sub setting layout bundle step id key body → BodyComes Sub Fails bundle step.name id body (Err e) → WalksId (Err e)
   walks_body key body (Refused r) one h = inl (inr (sublayout_fails key body r one h))
   walks_body key body OutOfMemory one h = tt
+
+  -- the record of the id's one body, or the body's error
+  pub walks_record : (key : KeyNumber) (body : Body) → OneBody Sub setting layout bundle step id key body → (recorded : Result Recorded ChainError) (given : Result (Option IdRecord) ChainError)
+      → BodyComes Sub Fails bundle step.name id body recorded → IsRecordOf id key recorded given → WalksId given
+  walks_record key body one (Ok recorded) (Ok given) h is = subst (λ x. WalksId (Ok x)) (sym is) (walks_one key body recorded one h)
+  walks_record key body one (Ok recorded) (Err e) h is = subst (λ x. WalksId (Err x)) (sym is) tt
+  walks_record key body one (Err e) (Ok given) h is = absurd is
+  walks_record key body one (Err e) (Err f) h is = subst (λ x. WalksId (Err x)) (sym is) (walks_body key body e one h)
 
 -- what a sublayout's error is for the layout around it
 module _ (sub : Holding) (fails : Failing) (bundle : Contents) (step id : List ℕ) (sublayout : Layout) where
@@ -283,6 +291,11 @@ pub folder_or : (found : Option (Bor Contents)) (none : Bor Contents) (folder : 
     → (unwrap_or found none).now ≡ unwrap_or folder empty
 folder_or None none folder e is = is ∙ ap (λ o. unwrap_or o empty) e
 folder_or (Some x) none folder e is = ap (λ o. unwrap_or o empty) e
+
+-- a depth below which there is another
+pub not_deepest : (deepest : Bool) (depth : ℕ) → (IsTrue deepest ↔ (depth ≡ 0)) → deepest ≡ false → depth ≡ suc (depth - 1)
+not_deepest deepest zero h false_is = let yes : deepest ≡ true = h.1 refl in cc
+not_deepest deepest (suc depth) h false_is = omega arith
 
 pub nil_of : {X : Type 0} (xs : List X) → (length xs == 0) ≡ true → xs ≡ []
 nil_of [] h = refl

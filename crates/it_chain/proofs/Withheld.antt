@@ -2,7 +2,6 @@
 -- not met: of one level with its sublayouts' given, and then of every depth.
 use Rattle.std.proofs.Common.{◌≡◌, ◌≤◌, ℕ, zero, suc, List, [], ◌∷◌, ◌++◌, map, flat_map, ⊎_elim, length, Contains, refl, sym, ap, subst, ◌∙◌, arith}
 use Rattle.std.specs.List.{AllZip}
-use Rattle.std.specs.Cmp.{nat_eq_equiv}
 use Rattle.std.specs.FinMap.{empty, keys}
 use Rattle.std.proofs.lemmas.Map.Made.{length-le_from_is_member}
 use Rattle.it_base.specs.Places.{IsFirst}
@@ -26,7 +25,7 @@ use Rattle.it_chain.specs.declared.chain.StepResult.{StepResult}
 use Rattle.it_chain.specs.declared.refusal.ChainRefusal.{ChainRefusal}
 use Rattle.it_chain.proofs.Alikes.{key_moved}
 use Rattle.it_chain.proofs.Levels.{body_one, rules_of}
-use Rattle.it_chain.proofs.Numbers.{member_of, some_key}
+use Rattle.it_chain.proofs.Numbers.{member_of, some_key, same_key_equiv}
 use Rattle.it_chain.proofs.Zips.{of_zip}
 
 -- ---- records with no more keys
@@ -120,7 +119,7 @@ module _ (sub : Holding) (fails : Failing) (setting : Setting) (layout : Layout)
 
   no_more_keys : (step : Step) → Contains layout.steps step → (m n : ℕ) → Found setting layout less step m → Found setting layout more step n → m ≤ n
   no_more_keys step c m n a b =
-      let le : length a.keys ≤ length b.keys = length-le_from_is_member nat_eq_equiv a.keys b.keys a.once
+      let le : length a.keys ≤ length b.keys = length-le_from_is_member same_key_equiv a.keys b.keys a.once
       (member_of a.keys b.keys (λ k h. (b.are_those k).1 (key_moved setting layout less more step (λ id payload. w.bodies step id payload c) k ((a.are_those k).0 h)))) in
       omega (arith, le, a.number_is, b.number_is)
 

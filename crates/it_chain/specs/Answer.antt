@@ -6,7 +6,7 @@ use Rattle.std.specs.List.{filter_map, list_all, list_any}
 use Rattle.std.specs.Set.{distinct_count}
 use Rattle.std.specs.Str.{bytes_eq}
 use Rattle.std.specs.FinMap.{entries}
-use Rattle.it_dsse.specs.Check.{KeyNumber}
+use Rattle.it_dsse.specs.Panel.{KeyNumber}
 use Rattle.it_dsse.specs.Signed.{is_vouched, message_of}
 use Rattle.it_dsse.specs.declared.envelope.Envelope.{Envelope}
 use Rattle.it_dsse.specs.declared.key_object.KeyObject.{KeyObject}
@@ -105,7 +105,7 @@ module _ (lower : Lower) (setting : Setting) where
   -- the payloads that count for an id whose key has this number, with what they are
   abbrev pub payloads_for : Step → Contents → List ℕ → KeyNumber → List (List ℕ × Body)
   payloads_for step bundle id key = filter_map (λ envelope. option_map (λ body. (envelope.payload, body)) (body_of step envelope.payload))
-      (filter (λ envelope. is_vouched setting.check id key (message_of envelope) envelope.signatures) (envelopes_for step bundle))
+      (filter (λ envelope. is_vouched setting.panel id key (message_of envelope) envelope.signatures) (envelopes_for step bundle))
 
   module _ (sub : Answering) (layout : Layout) (bundle : Contents) where
     abbrev pub key_answer : Step → List ℕ → Option KeyNumber → Result (Option IdRecord) ChainRefusal
@@ -114,7 +114,7 @@ module _ (lower : Lower) (setting : Setting) where
 
     -- the record of an id, if it counts
     unfoldable pub id_answer : Step → List ℕ × KeyObject → Result (Option IdRecord) ChainRefusal
-    id_answer step signer = key_answer step signer.0 (setting.check.key_of signer.0 signer.1)
+    id_answer step signer = key_answer step signer.0 (setting.panel.key_of signer.0 signer.1)
 
     -- the records of the ids that count
     abbrev pub ids_answer : Step → List (List ℕ × KeyObject) → Result (List IdRecord) ChainRefusal

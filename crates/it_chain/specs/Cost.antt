@@ -40,7 +40,7 @@ module _ (sub : Costing) (setting : Setting) (layout : Layout) (bundle : Content
     pub are_those : (id payload : List ℕ) → Contains bodies (id, payload) ↔ IsSublayout setting layout bundle step id payload
     pub sum : IsSum (λ body. CostsIfFound (LayoutOf body.1) (λ sublayout. sub sublayout (folder_of step.name body.0 bundle))) bodies n
 
-  -- a step costs a check for each of its ids and each signature, and what its sublayouts cost
+  -- a step costs a panel for each of its ids and each signature, and what its sublayouts cost
   pub record StepCosts (step : Step) (n : ℕ) : Type 0 where
     pub signatures : ℕ
     pub sublayouts : ℕ

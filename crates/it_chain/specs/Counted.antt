@@ -1,9 +1,9 @@
 -- What counts for a step of a layout (in-toto 1.0 section 5.2, verifying the final product), as sets
 -- of bodies: order, repeats and names of files have no part in it.
-use Rattle.std.specs.Prelude.{◌≡◌, ◌↔◌, ℕ, ℤ, List, length, Bool, nat_eq, Some, Contains}
+use Rattle.std.specs.Prelude.{◌≡◌, ◌↔◌, ℕ, ℤ, List, length, Bool, ◌&&◌, nat_eq, Some, Contains}
 use Rattle.std.specs.List.{IsDistinct}
 use Rattle.std.specs.FinMap.{get}
-use Rattle.it_dsse.specs.Check.{Check, KeyNumber}
+use Rattle.it_dsse.specs.Panel.{KeyNumber, Panel}
 use Rattle.it_dsse.specs.Envelope.{EnvelopeOf}
 use Rattle.it_dsse.specs.Signed.{Signed}
 use Rattle.it_dsse.specs.declared.envelope.Envelope.{Envelope}
@@ -18,10 +18,10 @@ use Rattle.it_chain.specs.Contents.{Contents, files_of}
 use Rattle.it_chain.specs.Names.{IsClaimed}
 use Rattle.it_chain.specs.declared.bundle.File.{File}
 
--- what a layout is checked with: what the check answers, and the moment. Both are the same for
+-- what a layout is checked with: what the panel answers, and the moment. Both are the same for
 -- every sublayout (this profile's choice)
 pub record Setting : Type 0 where
-  pub check : Check
+  pub panel : Panel
   pub moment : ℤ
 
 -- what the body of an envelope can be for a step
@@ -49,12 +49,12 @@ pub record Counted (setting : Setting) (layout : Layout) (bundle : Contents) (st
   pub payload_is : envelope.payload ≡ payload
   pub listed : Contains step.pubkeys id
   pub known : get layout.keys id ≡ Some object
-  pub signed : Signed setting.check envelope id object key
+  pub signed : Signed setting.panel envelope id object key
   pub reads : BodyOf step.name payload body
 
--- whether two numbers name one key
+-- whether two numbers of a panel name one key
 abbrev pub same_key : KeyNumber → KeyNumber → Bool
-same_key = nat_eq
+same_key a b = nat_eq a.0 b.0 && nat_eq a.1 b.1
 
 -- a key signed some body that counts for a step
 pub record KeyCounts (setting : Setting) (layout : Layout) (bundle : Contents) (step : Step) (key : KeyNumber) : Type 0 where

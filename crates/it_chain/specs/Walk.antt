@@ -5,7 +5,7 @@ use Rattle.std.specs.List.{AllByRecursion}
 use Rattle.std.specs.Set.{distinct_count}
 use Rattle.it_base.specs.Places.{IsFirst, NoneAt}
 use Rattle.it_base.specs.Sum.{CostsIfFound, IsSum}
-use Rattle.it_dsse.specs.Check.{Check, KeyNumber}
+use Rattle.it_dsse.specs.Panel.{KeyNumber, Panel}
 use Rattle.it_dsse.specs.Envelope.{EnvelopeOf}
 use Rattle.it_dsse.specs.Signed.{Signed}
 use Rattle.it_dsse.specs.declared.key_object.KeyObject.{KeyObject}
@@ -95,11 +95,11 @@ abbrev pub AreCandidates : List ℕ → List File → List Candidate → Type 0
 AreCandidates step files candidates = (claimed : List File) × AreClaimed step files claimed × AreRead step claimed candidates
 
 -- ---- what counts for a key id
-module _ (check : Check) (id : List ℕ) (object : KeyObject) (candidates : List Candidate) where
+module _ (panel : Panel) (id : List ℕ) (object : KeyObject) (candidates : List Candidate) where
   -- a candidate that the key signed
   pub record IsSigned (candidate : Candidate) (key : KeyNumber) : Type 0 where
     pub stands : Contains candidates candidate
-    pub signed : Signed check candidate.envelope id object key
+    pub signed : Signed panel candidate.envelope id object key
 
   -- one body alone
   pub record CountsOne (key : KeyNumber) (body : Held) : Type 0 where
@@ -216,6 +216,13 @@ abbrev pub BodyComes : Holding → Failing → Contents → List ℕ → List �
 BodyComes sub fails bundle step id body (Ok recorded) = Records sub bundle step id body recorded
 BodyComes sub fails bundle step id body (Err (Refused refusal)) = BodyFails fails bundle step id body refusal
 BodyComes sub fails bundle step id body (Err OutOfMemory) = ⊤
+
+-- the record of an id whose body came to this
+abbrev pub IsRecordOf : List ℕ → KeyNumber → Result Recorded ChainError → Result (Option IdRecord) ChainError → Type 0
+IsRecordOf id key (Ok recorded) (Ok given) = given ≡ Some (record { id = id; key = key; recorded = recorded })
+IsRecordOf id key (Ok recorded) (Err e) = e ≡ OutOfMemory
+IsRecordOf id key (Err e) (Ok given) = ⊥
+IsRecordOf id key (Err e) (Err f) = f ≡ e
 
 -- an error with a pair put before
 abbrev pub IsUnder : List ℕ → List ℕ → ChainError → ChainError → Type 0

@@ -1,7 +1,7 @@
 //! How the records of a step are judged.
 ghost use Rattle.std.specs.Prelude.{◌≡◌, ◌↔◌, IfOk, IsTrue, map};
 ghost use Rattle.std.specs.BTreeSet.{IsFromIterResult};
-ghost use Rattle.std.specs.Ordering.{nat_cmp};
+ghost use Rattle.std.specs.Ordering.{nat_cmp, ordering_then};
 ghost use Rattle.std.specs.Set.{distinct_count};
 ghost use Rattle.it_chain.specs.Counted.{same_key};
 ghost use Rattle.it_chain.specs.Walk.{IsAgreed, IsJudged};
@@ -47,8 +47,10 @@ fn key_count(alloc: Global, records: &[IdRecord]) -> Result<u64, AllocError>
     Ok(keys.len() as u64)
 }
 
-fn keys_in(alloc: Global, records: &[IdRecord]) -> Result<BTreeSet<u32>, AllocError>
-    ensures { IfOk result (IsFromIterResult nat_cmp (map (λ r. r.key) records.now)) }
+fn keys_in(alloc: Global, records: &[IdRecord]) -> Result<BTreeSet<(usize, u32)>, AllocError>
+    ensures { IfOk result (IsFromIterResult
+        (λ a b. ordering_then (nat_cmp a.0 b.0) (nat_cmp a.1 b.1))
+        (map (λ r. r.key) records.now)) }
 {
     records.iter().map(|record| record.key).collect(alloc)
 }

@@ -1,5 +1,6 @@
 //! The files that can count for a step.
-ghost use Rattle.std.specs.Prelude.{◌≡◌, IfOk};
+ghost use Rattle.std.specs.Prelude.{◌≡◌, ◌++◌, [], IfOk};
+ghost use Rattle.std.specs.List.{cons_option};
 ghost use Rattle.it_base.specs.Finds.{Finds};
 ghost use Rattle.it_dsse.specs.Envelope.{EnvelopeOf};
 ghost use Rattle.it_docs.specs.Layout.{LayoutOf};
@@ -49,11 +50,19 @@ pub(crate) fn candidates(
 {
     let mut found = Vec::new(alloc);
     for place in places {
-        if let Some(candidate) = candidate_at(alloc, step, files, *place)? {
-            found.push(candidate)?;
-        }
+        keep(&mut found, candidate_at(alloc, step, files, *place)?)?;
     }
     Ok(found)
+}
+
+/// Keeps a candidate behind the others, where there is one.
+fn keep(found: &mut Vec<Candidate>, candidate: Option<Candidate>) -> Result<(), AllocError>
+    ensures { IfOk result (λ _. found.new.items ≡ found.old.items ++ cons_option candidate []) }
+{
+    if let Some(candidate) = candidate {
+        found.push(candidate)?;
+    }
+    Ok(())
 }
 
 fn candidate_at(

@@ -1,7 +1,8 @@
 //! What a layout is checked with.
-ghost use Rattle.std.specs.Prelude.{◌≡◌};
+ghost use Rattle.std.specs.Prelude.{◌≡◌, map};
 ghost use Rattle.it_base.specs.Finds.{Finds};
 ghost use Rattle.it_dsse.specs.Meter.{raised};
+ghost use Rattle.it_dsse.specs.Panel.{panel_of};
 ghost use Rattle.it_dsse.specs.Signed.{Signed, tries};
 ghost use Rattle.it_chain.specs.Counted.{Setting};
 
@@ -13,30 +14,31 @@ use it_dsse::signed_by;
 
 /// Tells who signed envelopes, and at which moment layouts are looked at.
 pub(crate) trait Checking: Drop {
-    // what the check answers, and the moment
+    // what the panel answers, and the moment
     ghost setting: { Self → Setting };
 
     /// The moment, in seconds from 1970-01-01T00:00:00Z.
     fn moment(&self) -> i64
         ensures { result ≡ (setting self.now).moment };
 
-    /// The number of the key that signed the envelope, as `it_dsse::signed_by` answers.
+    /// The key that signed the envelope, as `it_dsse::signed_by` answers.
     fn signed_by(
         &self,
         envelope: &Envelope,
         id: &str,
         object: &KeyObject,
         meter: &mut Meter,
-    ) -> Option<u32>
-        ensures answer { Finds (Signed (setting self.now).check envelope.now id.now object.now) result }
+    ) -> Option<(usize, u32)>
+        ensures answer { Finds
+            (Signed (setting self.now).panel envelope.now id.now object.now) result }
         ensures counted { meter.new
-            ≡ raised meter.old (tries (setting self.now).check envelope.now id.now object.now) };
+            ≡ raised meter.old (tries (setting self.now).panel envelope.now id.now object.now) };
 }
 
-/// A check that was lent, and a moment.
+/// A panel that was lent, and a moment.
 pub(crate) struct Lent<'a> {
-    /// The check.
-    pub check: &'a Box<dyn SignatureCheck>,
+    /// The checks.
+    pub panel: &'a [Box<dyn SignatureCheck>],
     /// The moment.
     pub moment: i64,
 }
@@ -44,7 +46,7 @@ pub(crate) struct Lent<'a> {
 impl Drop for Lent<'_> {
     fn drop(self) {
         let Lent {
-            check: _,
+            panel: _,
             moment: _,
         } = self;
     }
@@ -52,7 +54,7 @@ impl Drop for Lent<'_> {
 
 impl Checking for Lent<'_> {
     ghost setting = { λ s. record {
-      check = (SignatureCheck-box s.check.now).meaning s.check.now.value;
+      panel = panel_of (map (λ check. (SignatureCheck-box check).meaning check.value) s.panel.now);
       moment = s.moment;
     } };
 
@@ -66,7 +68,7 @@ impl Checking for Lent<'_> {
         id: &str,
         object: &KeyObject,
         meter: &mut Meter,
-    ) -> Option<u32> {
-        signed_by(envelope, id, object, self.check, meter)
+    ) -> Option<(usize, u32)> {
+        signed_by(envelope, id, object, self.panel, meter)
     }
 }

@@ -13,7 +13,7 @@ pub(crate) enum Counting<'a> {
     /// None.
     Nothing,
     /// One, signed by the key of this number.
-    One(u32, &'a Body),
+    One((usize, u32), &'a Body),
     /// Several that differ.
     Several,
 }
@@ -26,10 +26,10 @@ pub(crate) fn counted<'a, C: Checking>(
     candidates: &'a [Candidate],
     meter: &mut Meter,
 ) -> Counting<'a>
-    ensures answer { Counts (C.setting checking.now).check id.now object.now candidates.now result }
+    ensures answer { Counts (C.setting checking.now).panel id.now object.now candidates.now result }
     ensures asked { RaisedWithin (least_counted result) (SignaturesIn candidates.now) meter.old meter.new }
 {
-    let mut first: Option<(u32, &'a Candidate)> = None;
+    let mut first: Option<((usize, u32), &'a Candidate)> = None;
     for candidate in candidates {
         if let Some(key) = checking.signed_by(&candidate.envelope, id, object, meter) {
             match first {

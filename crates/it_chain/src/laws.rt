@@ -1,5 +1,5 @@
 //! Laws about the definitions of chains: functions that do nothing, and whose contracts say what is
-//! true of every layout, bundle and check.
+//! true of every layout, bundle and panel of checks.
 ghost use Rattle.it_chain.specs.Laws.{AlikeChains, AnswerIsRight, ChainGoesDeeper, ChainIsOne, ChainOrFirst, CostIsOne, FewestIsOne, FirstIsOne, FoundIsOne, HasCost, HasFewest, HoldsOrFails, NoiseIsAlike, SomeAnswersRight, WithheldChains};
 
 /// The number of different keys that signed what counts for a step is one number.

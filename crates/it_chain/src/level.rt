@@ -1,5 +1,5 @@
 //! A layout over a bundle, with its sublayouts.
-ghost use Rattle.std.specs.Prelude.{◌≡◌, ◌≤◌, ◌∷◌, [], IfOk, Some, Contains, length, map, flat_map};
+ghost use Rattle.std.specs.Prelude.{◌≡◌, ◌≤◌, ◌∷◌, ◌↔◌, [], IfOk, IsTrue, Some, Contains, length, map, flat_map};
 ghost use Rattle.std.specs.FinMap.{get, keys};
 ghost use Rattle.std.specs.List.{AllZip};
 ghost use Rattle.it_base.specs.Sum.{IsSum};
@@ -14,7 +14,7 @@ ghost use Rattle.it_chain.specs.First.{at_id, places, step_places};
 ghost use Rattle.it_chain.specs.Level.{LevelHolds, StepHolds, summary};
 ghost use Rattle.it_chain.specs.Names.{folder_of};
 ghost use Rattle.it_chain.specs.Signers.{entry_of};
-ghost use Rattle.it_chain.specs.Walk.{AreCandidates, AreRecords, BodyComes, SublayoutComes, Gives, StandsAt, Walks, as_body, holds_below, fails_below};
+ghost use Rattle.it_chain.specs.Walk.{AreCandidates, AreRecords, BodyComes, IsRecordOf, SublayoutComes, Gives, StandsAt, Walks, as_body, holds_below, fails_below};
 
 use crate::agreement::judged;
 use crate::bundle::Bundle;
@@ -45,6 +45,15 @@ pub(crate) struct Level<'a> {
     pub links: &'a Bundle,
     /// How deep sublayouts may lie.
     pub depth: u8,
+}
+
+impl<'a> Level<'a> {
+    /// Whether no sublayout may lie below.
+    fn is_deepest(&self) -> bool
+        ensures { IsTrue result ↔ (self.now.depth ≡ 0) }
+    {
+        self.depth == 0
+    }
 }
 
 /// The records with which a layout holds of a bundle.
@@ -224,14 +233,27 @@ fn verify_id<C: Checking>(
         )),
         Counting::One(key, body) => {
             let name = step.name.as_str();
-            let recorded = verify_body(alloc, checking, level, name, id, body, meter)?;
-            Ok(Some(IdRecord {
-                id: text_of(alloc, id)?,
-                key,
-                recorded,
-            }))
+            let recorded = verify_body(alloc, checking, level, name, id, body, meter);
+            record_of(alloc, id, key, recorded)
         }
     }
+}
+
+/// The record of a key id whose body came to this.
+fn record_of(
+    alloc: Global,
+    id: &str,
+    key: (usize, u32),
+    recorded: Result<Recorded, ChainError>,
+) -> Result<Option<IdRecord>, ChainError>
+    ensures { IsRecordOf id.now key recorded result }
+{
+    let recorded = recorded?;
+    Ok(Some(IdRecord {
+        id: text_of(alloc, id)?,
+        key,
+        recorded,
+    }))
 }
 
 /// The artifacts that the body of a key id comes to.
@@ -292,7 +314,7 @@ fn verify_sublayout<C: Checking>(
         (fewest_below (C.setting checking.now) level.now.depth
         sublayout.now (folder_of step.now id.now level.now.links.now)) meter.old meter.new) }
 {
-    if level.depth == 0 {
+    if level.is_deepest() {
         return Err(refused(alloc, ChainFault::TooDeep));
     }
     if !sublayout.inspections.as_slice().is_empty() {

@@ -29,8 +29,8 @@ impl Model for Recorded {
 pub(crate) struct IdRecord {
     /// The key id.
     pub id: Text,
-    /// The number of its key.
-    pub key: u32,
+    /// The number of its key, as `it_dsse::signed_by` answers it.
+    pub key: (usize, u32),
     /// The artifacts that its body comes to.
     pub recorded: Recorded,
 }

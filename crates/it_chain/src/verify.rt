@@ -1,5 +1,5 @@
 //! Whether a layout holds of a bundle.
-ghost use Rattle.std.specs.Prelude.{◌≡◌, ◌≤◌, ℕ, IfOk, IfErr};
+ghost use Rattle.std.specs.Prelude.{◌≡◌, ◌≤◌, ℕ, IfOk, IfErr, map};
 ghost use Rattle.std.specs.List.{sum_by};
 ghost use Rattle.it_dsse.specs.Meter.{RaisedBy};
 ghost use Rattle.it_chain.specs.Chain.{Chain as Chain_of};
@@ -8,6 +8,7 @@ ghost use Rattle.it_chain.specs.Fewest.{Fewest};
 ghost use Rattle.it_chain.specs.First.{First};
 ghost use Rattle.it_chain.specs.declared.refusal.ChainError.TheVariants.{Refused};
 ghost use Rattle.it_chain.specs.declared.refusal.ChainRefusal.{ChainRefusal as Refusal};
+ghost use Rattle.it_dsse.specs.Panel.{panel_of};
 
 use crate::bundle::Bundle;
 use crate::chain::Chain;
@@ -22,9 +23,9 @@ use std::alloc::Global;
 /// Verifies a layout over a bundle at a moment (in-toto 1.0 section 5.2).
 ///
 /// `moment` is in seconds from 1970-01-01T00:00:00Z. Sublayouts may lie up to `depth` deep. Each
-/// signature is checked by `check`, which counts in `meter`: at most once for each id of a step and
-/// each signature of a file that is claimed for it, and so in sublayouts; and at least once, where
-/// there is an answer, for each different key that signed what counts for a step, and so in
+/// signature is checked by the `panel`, which counts in `meter`: at most once for each id of a step
+/// and each signature of a file that is claimed for it, and so in sublayouts; and at least once,
+/// where there is an answer, for each different key that signed what counts for a step, and so in
 /// sublayouts. The answer has a record for each step.
 ///
 /// # Errors
@@ -37,22 +38,28 @@ pub fn verify_chain(
     links: &Bundle,
     moment: i64,
     depth: u8,
-    check: &Box<dyn SignatureCheck>,
+    panel: &[Box<dyn SignatureCheck>],
     meter: &mut Meter,
 ) -> Result<Chain, ChainError>
     requires { depth ≤ 8 }
-    ensures ok { IfOk result (λ chain. Chain_of (record { check = meaning check.now; moment = moment }) depth layout.now links.now chain.steps) }
+    ensures ok { IfOk result (λ chain.
+        Chain_of (record { panel = panel_of (map meaning panel.now); moment = moment })
+        depth layout.now links.now chain.steps) }
     ensures bad { IfErr result (λ e. (r : Refusal) → e ≡ Refused r
-        → First (record { check = meaning check.now; moment = moment }) depth layout.now links.now r) }
-    ensures at_most { (n : ℕ) → Costs (record { check = meaning check.now; moment = moment }) depth layout.now links.now n
+        → First (record { panel = panel_of (map meaning panel.now); moment = moment })
+        depth layout.now links.now r) }
+    ensures at_most { (n : ℕ)
+        → Costs (record { panel = panel_of (map meaning panel.now); moment = moment })
+        depth layout.now links.now n
         → RaisedBy (λ m. m ≤ n) meter.old meter.new }
     ensures at_least { IfOk result (λ chain. (n : ℕ)
-        → Fewest (record { check = meaning check.now; moment = moment }) depth layout.now links.now n
+        → Fewest (record { panel = panel_of (map meaning panel.now); moment = moment })
+        depth layout.now links.now n
         → RaisedBy (λ m. n ≤ m) meter.old meter.new) }
     ensures at_least_keys { IfOk result (λ chain.
         RaisedBy (λ m. sum_by (λ found. found.keys) chain.steps ≤ m) meter.old meter.new) }
 {
-    let checking = Lent { check, moment };
+    let checking = Lent { panel, moment };
     let level = Level {
         layout,
         links,

@@ -1,7 +1,7 @@
 -- How many signatures are tried.
 use Rattle.std.proofs.Common.{◌≡◌, ℕ, suc, ◌+◌, ◌≤◌, List, [], ◌∷◌, Bool, true, false, ◌&&◌, cond, length, filter, None, Some, inl, inr, Contains, refl, ap, arith, ◌∙◌}
 use Rattle.it_base.proofs.Members.{in_cases, in_none}
-use Rattle.it_dsse.specs.Check.{Check, KeyNumber}
+use Rattle.it_dsse.specs.Panel.{KeyNumber, Panel}
 use Rattle.it_dsse.specs.Signed.{Signed, first_place, is_admitted, message_of, tries}
 use Rattle.it_dsse.specs.declared.envelope.Envelope.{Envelope}
 use Rattle.it_dsse.specs.declared.key_object.KeyObject.{KeyObject}
@@ -35,16 +35,16 @@ module _ {X : Type 0} (p q : X → Bool) where
     | inr later ↦ step_at_least (p y) (q y) (first_place q (filter p ys)) (tried_at_least ys x later passes)
   ])
 
-module _ (check : Check) (envelope : Envelope) (id : List ℕ) (object : KeyObject) where
+module _ (panel : Panel) (envelope : Envelope) (id : List ℕ) (object : KeyObject) where
   -- no more signatures are tried than there are
-  pub tries_at_most : tries check envelope id object ≤ length envelope.signatures
-  tries_at_most = elim (check.key_of id object) as (λ o. check.key_of id object ≡ o → tries check envelope id object ≤ length envelope.signatures) [
+  pub tries_at_most : tries panel envelope id object ≤ length envelope.signatures
+  tries_at_most = elim (panel.key_of id object) as (λ o. panel.key_of id object ≡ o → tries panel envelope id object ≤ length envelope.signatures) [
     | None ↦ λ e. rw e (omega arith)
-    | Some n ↦ λ e. rw e (tried_at_most (is_admitted id) (λ s. check.is_valid n (message_of envelope) s.sig) envelope.signatures)
+    | Some n ↦ λ e. rw e (tried_at_most (is_admitted id) (λ s. panel.is_valid n (message_of envelope) s.sig) envelope.signatures)
   ] refl
 
   -- where the key signed, a signature is tried
-  pub signed_tries : (n : KeyNumber) → Signed check envelope id object n → 1 ≤ tries check envelope id object
+  pub signed_tries : (n : KeyNumber) → Signed panel envelope id object n → 1 ≤ tries panel envelope id object
   signed_tries n signed =
       let s = signed.signature in
-      rw signed.key (tried_at_least (is_admitted id) (λ s. check.is_valid n (message_of envelope) s.sig) envelope.signatures s.1 (s.0, s.2, s.3) s.4.admitted)
+      rw signed.key (tried_at_least (is_admitted id) (λ s. panel.is_valid n (message_of envelope) s.sig) envelope.signatures s.1 (s.0, s.2, s.3) s.4.admitted)

@@ -6,6 +6,7 @@ pub mod KeyObject
 pub mod Laws
 pub mod Meter
 pub mod Pae
+pub mod Panel
 pub mod Ring
 pub mod RingIndex
 pub mod Signed

@@ -8,7 +8,7 @@ use Rattle.it_base.specs.HexadecimalText.{IsHexadecimal}
 use Rattle.it_base.specs.Parts.{IsPart}
 use Rattle.it_base.specs.Sequence.{IsList}
 use Rattle.it_base.specs.Text.{IsText}
-use Rattle.it_dsse.specs.Check.{Check, KeyNumber}
+use Rattle.it_dsse.specs.Check.{Check}
 use Rattle.it_dsse.specs.Hmac.{block_of, hmac}
 use Rattle.it_dsse.specs.declared.ring_entry.RingEntry.{RingEntry}
 
@@ -37,11 +37,11 @@ abbrev pub has_key : List ℕ → RingEntry → Bool
 has_key key entry = bytes_eq (block_of entry.secret) key
 
 -- the number of the key under an id: the place of the first entry that has the same key
-abbrev pub number_of : List RingEntry → List ℕ → Option KeyNumber
+abbrev pub number_of : List RingEntry → List ℕ → Option ℕ
 number_of ring id = option_and_then (λ entry. position (has_key (block_of entry.secret)) ring) (find (has_id id) ring)
 
 -- the signature is the code of the message under the secret at a place
-abbrev pub is_code_at : List RingEntry → KeyNumber → List ℕ → List ℕ → Bool
+abbrev pub is_code_at : List RingEntry → ℕ → List ℕ → List ℕ → Bool
 is_code_at ring n message sig = unwrap_or (option_map (λ entry. bytes_eq (hmac entry.secret message) sig) (slice_get ring n)) false
 
 -- what a ring answers: it knows keys of the scheme hmac-sha256 alone

@@ -2,8 +2,8 @@
 use Rattle.std.specs.Prelude.{◌≡◌, ◌⊎◌, ℕ, suc, List, [], ◌∷◌, Bool, ◌||◌, ◌&&◌, if◌then◌else◌, IsTrue, Any, Option, Some, None, filter}
 use Rattle.std.specs.List.{list_any}
 use Rattle.std.specs.Str.{bytes_eq}
-use Rattle.it_dsse.specs.Check.{Check, KeyNumber}
 use Rattle.it_dsse.specs.Pae.{pae_of}
+use Rattle.it_dsse.specs.Panel.{KeyNumber, Panel}
 use Rattle.it_dsse.specs.declared.envelope.Envelope.{Envelope}
 use Rattle.it_dsse.specs.declared.envelope.Signature.{Signature}
 use Rattle.it_dsse.specs.declared.key_object.KeyObject.{KeyObject}
@@ -18,23 +18,23 @@ abbrev pub message_of : Envelope → List ℕ
 message_of envelope = pae_of envelope.payload_type envelope.payload
 
 -- a signature of a message is admitted for an id, and is valid for the key of number n
-pub record Vouches (check : Check) (id : List ℕ) (n : KeyNumber) (message : List ℕ) (signature : Signature) : Type 0 where
+pub record Vouches (panel : Panel) (id : List ℕ) (n : KeyNumber) (message : List ℕ) (signature : Signature) : Type 0 where
   pub admitted : IsTrue (is_admitted id signature)
-  pub valid : IsTrue (check.is_valid n message signature.sig)
+  pub valid : IsTrue (panel.is_valid n message signature.sig)
 
 -- the key of number n, which an id and an object name, signed the envelope: some signature vouches
-pub record Signed (check : Check) (envelope : Envelope) (id : List ℕ) (object : KeyObject) (n : KeyNumber) : Type 0 where
-  pub key : check.key_of id object ≡ Some n
-  pub signature : Any (Vouches check id n (message_of envelope)) envelope.signatures
+pub record Signed (panel : Panel) (envelope : Envelope) (id : List ℕ) (object : KeyObject) (n : KeyNumber) : Type 0 where
+  pub key : panel.key_of id object ≡ Some n
+  pub signature : Any (Vouches panel id n (message_of envelope)) envelope.signatures
 
 -- the same as a test
-abbrev pub is_vouched : Check → List ℕ → KeyNumber → List ℕ → List Signature → Bool
-is_vouched check id n message signatures =
-    list_any (λ signature. is_admitted id signature && check.is_valid n message signature.sig) signatures
+abbrev pub is_vouched : Panel → List ℕ → KeyNumber → List ℕ → List Signature → Bool
+is_vouched panel id n message signatures =
+    list_any (λ signature. is_admitted id signature && panel.is_valid n message signature.sig) signatures
 
 -- the key under an id signed the envelope
-abbrev pub IsSigner : Check → Envelope → KeyObject → List ℕ → Type 0
-IsSigner check envelope object id = (n : KeyNumber) × Signed check envelope id object n
+abbrev pub IsSigner : Panel → Envelope → KeyObject → List ℕ → Type 0
+IsSigner panel envelope object id = (n : KeyNumber) × Signed panel envelope id object n
 
 -- the elements of which P holds, in their order, and no others
 abbrev pub AreThose : {X : Type 0} → (X → Type 0) → List X → List X → Type 0
@@ -46,15 +46,16 @@ unfoldable pub first_place : {X : Type 0} → (X → Bool) → List X → ℕ
 first_place p [] = 0
 first_place p (x ∷ xs) = if p x then 1 else suc (first_place p xs)
 
--- how many signatures are tried for the key of number n: the admitted ones, up to the first valid
-abbrev pub tries_for : Check → Envelope → List ℕ → KeyNumber → ℕ
-tries_for check envelope id n = first_place (λ signature. check.is_valid n (message_of envelope) signature.sig)
-    (filter (is_admitted id) envelope.signatures)
+-- how many signatures of a message are tried for the key of number n: the admitted ones, up to the
+-- first valid
+abbrev pub tries_for : Panel → List ℕ → KeyNumber → List ℕ → List Signature → ℕ
+tries_for panel id n message signatures =
+    first_place (λ signature. panel.is_valid n message signature.sig) (filter (is_admitted id) signatures)
 
 abbrev tries_if : (KeyNumber → ℕ) → Option KeyNumber → ℕ
 tries_if tries None = 0
 tries_if tries (Some n) = tries n
 
--- how many signatures are tried: none where the check knows no key
-abbrev pub tries : Check → Envelope → List ℕ → KeyObject → ℕ
-tries check envelope id object = tries_if (tries_for check envelope id) (check.key_of id object)
+-- how many signatures are tried: none where the panel knows no key
+abbrev pub tries : Panel → Envelope → List ℕ → KeyObject → ℕ
+tries panel envelope id object = tries_if (λ n. tries_for panel id n (message_of envelope) envelope.signatures) (panel.key_of id object)

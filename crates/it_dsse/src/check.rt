@@ -8,6 +8,10 @@ use crate::key_object::KeyObject;
 use crate::meter::Meter;
 
 /// Knows keys by numbers, and tells which signatures are valid. DSSE v1.0 leaves both to its user.
+///
+/// Checks are asked as a panel, a list of them, in which a key is named by the place of a check and
+/// its number there. Checks at different places are taken to hold different keys: nobody compares
+/// keys across places.
 pub trait SignatureCheck: Drop {
     // which keys the check knows, and which signatures are valid
     ghost meaning: { Self → Check };

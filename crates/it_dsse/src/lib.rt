@@ -9,6 +9,7 @@ pub mod key_object;
 pub mod laws;
 mod mac;
 pub mod meter;
+mod panel;
 pub mod ring;
 pub mod ring_entry;
 mod ring_ids;

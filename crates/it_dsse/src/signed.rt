@@ -1,36 +1,40 @@
 //! Who signed an envelope.
-ghost use Rattle.std.specs.Prelude.{◌≡◌, ℕ, ◌&&◌, if◌then◌else◌, filter};
+ghost use Rattle.std.specs.Prelude.{◌≡◌, ◌<◌, ◌&&◌, if◌then◌else◌, length, map};
 ghost use Rattle.it_base.specs.Finds.{Finds};
 ghost use Rattle.it_dsse.specs.Joined.{joined};
 ghost use Rattle.it_dsse.specs.Meter.{raised};
-ghost use Rattle.it_dsse.specs.Signed.{Signed, first_place, is_admitted, is_vouched, message_of, tries, tries_for};
+ghost use Rattle.it_dsse.specs.Panel.{panel_of};
+ghost use Rattle.it_dsse.specs.Signed.{Signed, is_admitted, is_vouched, message_of, tries, tries_for};
 
 use crate::check::SignatureCheck;
 use crate::decimal::{MOST_DIGITS, decimal_in};
 use crate::envelope::{Envelope, Signature};
 use crate::key_object::KeyObject;
 use crate::meter::Meter;
+use crate::panel::{is_valid_in, key_in};
 
-/// The number of the key that signed the envelope, where the check knows the key that `id` and
-/// `object` name and some signature is valid for it; `None` elsewhere (DSSE v1.0, "Protocol").
+/// The key that signed the envelope, where some check of the panel knows the key that `id` and
+/// `object` name and some signature is valid for it; `None` elsewhere (DSSE v1.0, "Protocol"). The
+/// key is the least place whose check knows it, with its number there.
 ///
-/// The signatures whose hint is empty or equals `id` are tried in order until one is valid, and the
-/// meter rises by the number tried. Takes no memory.
+/// The signatures whose hint is empty or equals `id` are tried in order by that check until one is
+/// valid, and the meter rises by the number tried. Takes no memory.
 pub fn signed_by(
     envelope: &Envelope,
     id: &str,
     object: &KeyObject,
-    check: &Box<dyn SignatureCheck>,
+    panel: &[Box<dyn SignatureCheck>],
     meter: &mut Meter,
-) -> Option<u32>
-    ensures answer { Finds (Signed (meaning check.now) envelope.now id.now object.now) result }
-    ensures counted { meter.new
-        ≡ raised meter.old (tries (meaning check.now) envelope.now id.now object.now) }
+) -> Option<(usize, u32)>
+    ensures answer { Finds
+        (Signed (panel_of (map meaning panel.now)) envelope.now id.now object.now) result }
+    ensures counted { meter.new ≡ raised meter.old
+        (tries (panel_of (map meaning panel.now)) envelope.now id.now object.now) }
 {
-    let Some(key) = number_of(check, id, object) else {
+    let Some(key) = key_in(panel, id, object) else {
         return None;
     };
-    let vouched = is_vouched_for(envelope, id, key, check, meter);
+    let vouched = is_vouched_for(envelope, id, key, panel, meter);
     if vouched { Some(key) } else { None }
 }
 
@@ -40,14 +44,16 @@ pub fn signed_by(
 fn is_vouched_for(
     envelope: &Envelope,
     id: &str,
-    key: u32,
-    check: &Box<dyn SignatureCheck>,
+    key: (usize, u32),
+    panel: &[Box<dyn SignatureCheck>],
     meter: &mut Meter,
 ) -> bool
-    ensures answer { result
-        ≡ is_vouched (meaning check.now) id.now key (message_of envelope.now) envelope.now.signatures }
+    requires placed { key.0 < length panel.now }
+    ensures answer { result ≡ is_vouched (panel_of (map meaning panel.now)) id.now key
+        (message_of envelope.now) envelope.now.signatures }
     ensures counted { meter.new
-        ≡ raised meter.old (tries_for (meaning check.now) envelope.now id.now key) }
+        ≡ raised meter.old (tries_for (panel_of (map meaning panel.now)) id.now key
+        (message_of envelope.now) envelope.now.signatures) }
 {
     let kind = envelope.payload_type.as_str().as_bytes();
     let body = envelope.payload.as_slice();
@@ -56,14 +62,7 @@ fn is_vouched_for(
     let body_len = decimal_in(body.len(), &mut body_digits);
     let message: [&[u8]; 8] = [b"DSSEv1 ", kind_len, b" ", kind, b" ", body_len, b" ", body];
     let signatures = envelope.signatures.as_slice();
-    any_valid(signatures, id, key, &message, check, meter)
-}
-
-/// The number of a key, if the check knows it.
-fn number_of(check: &Box<dyn SignatureCheck>, id: &str, object: &KeyObject) -> Option<u32>
-    ensures { result ≡ (meaning check.now).key_of id.now object.now }
-{
-    check.key(id, object)
+    any_valid(signatures, id, key, &message, panel, meter)
 }
 
 /// Whether a signature is tried for an id.
@@ -78,36 +77,37 @@ fn admits(signature: &Signature, id: &str) -> bool
 fn accepts(
     signature: &Signature,
     id: &str,
-    key: u32,
+    key: (usize, u32),
     message: &[&[u8]],
-    check: &Box<dyn SignatureCheck>,
+    panel: &[Box<dyn SignatureCheck>],
     meter: &mut Meter,
 ) -> bool
+    requires placed { key.0 < length panel.now }
     ensures answer { result ≡ (is_admitted id.now signature.now
-        && (meaning check.now).is_valid key (joined message.now) signature.now.sig) }
+        && (panel_of (map meaning panel.now)).is_valid key (joined message.now) signature.now.sig) }
     ensures counted { meter.new
         ≡ raised meter.old (if is_admitted id.now signature.now then 1 else 0) }
 {
-    admits(signature, id) && check.valid(key, message, signature.sig.as_slice(), meter)
+    admits(signature, id) && is_valid_in(panel, key, message, signature.sig.as_slice(), meter)
 }
 
 /// Tries the signatures that are admitted for an id, in order, until one is valid.
 fn any_valid(
     signatures: &[Signature],
     id: &str,
-    key: u32,
+    key: (usize, u32),
     message: &[&[u8]],
-    check: &Box<dyn SignatureCheck>,
+    panel: &[Box<dyn SignatureCheck>],
     meter: &mut Meter,
 ) -> bool
-    ensures answer { result
-        ≡ is_vouched (meaning check.now) id.now key (joined message.now) signatures.now }
-    ensures counted { meter.new ≡ raised meter.old (first_place
-        (λ s. (meaning check.now).is_valid key (joined message.now) s.sig)
-        (filter (is_admitted id.now) signatures.now)) }
+    requires placed { key.0 < length panel.now }
+    ensures answer { result ≡ is_vouched (panel_of (map meaning panel.now)) id.now key
+        (joined message.now) signatures.now }
+    ensures counted { meter.new ≡ raised meter.old (tries_for (panel_of (map meaning panel.now))
+        id.now key (joined message.now) signatures.now) }
 {
     for signature in signatures {
-        if accepts(signature, id, key, message, check, meter) {
+        if accepts(signature, id, key, message, panel, meter) {
             return true;
         }
     }

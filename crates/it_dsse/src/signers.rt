@@ -1,6 +1,7 @@
 //! Which ids signed an envelope.
 ghost use Rattle.std.specs.Prelude.{◌≡◌, ◌↔◌, IfOk, IsTrue, map, string_bytes};
 ghost use Rattle.it_dsse.specs.Meter.{raised};
+ghost use Rattle.it_dsse.specs.Panel.{panel_of};
 ghost use Rattle.it_dsse.specs.Signed.{AreThose, IsSigner, tries};
 
 use crate::check::SignatureCheck;
@@ -16,37 +17,39 @@ pub fn signed_ids(
     envelope: &Envelope,
     ids: &[String],
     object: &KeyObject,
-    check: &Box<dyn SignatureCheck>,
+    panel: &[Box<dyn SignatureCheck>],
 ) -> Result<Vec<String>, AllocError>
-    ensures { IfOk result (λ signers. AreThose (IsSigner (meaning check.now) envelope.now object.now)
+    ensures { IfOk result (λ signers. AreThose (IsSigner (panel_of (map meaning panel.now))
+        envelope.now object.now)
         (map string_bytes ids.now) (map string_bytes signers.items)) }
 {
     let mut meter = Meter { asked: 0 };
     let mut signers = Vec::new(alloc);
     for id in ids {
         let text = id.as_str();
-        if is_signer(envelope, text, object, check, &mut meter) {
+        if is_signer(envelope, text, object, panel, &mut meter) {
             signers.push(String::from_str(alloc, text)?)?;
         }
     }
     Ok(signers)
 }
 
-/// Whether the key that `id` and `object` name signed the envelope: the check knows the key, and some
-/// signature is valid for it (DSSE v1.0, "Protocol").
+/// Whether the key that `id` and `object` name signed the envelope: some check of the panel knows
+/// the key, and some signature is valid for it (DSSE v1.0, "Protocol").
 ///
 /// The meter rises by the number of signatures that [`signed_by`] tries. Takes no memory.
 pub fn is_signer(
     envelope: &Envelope,
     id: &str,
     object: &KeyObject,
-    check: &Box<dyn SignatureCheck>,
+    panel: &[Box<dyn SignatureCheck>],
     meter: &mut Meter,
 ) -> bool
     ensures answer { IsTrue result
-        ↔ IsSigner (meaning check.now) envelope.now object.now id.now }
+        ↔ IsSigner (panel_of (map meaning panel.now)) envelope.now object.now id.now }
     ensures counted { meter.new
-        ≡ raised meter.old (tries (meaning check.now) envelope.now id.now object.now) }
+        ≡ raised meter.old (tries (panel_of (map meaning panel.now)) envelope.now id.now
+        object.now) }
 {
-    signed_by(envelope, id, object, check, meter).is_some()
+    signed_by(envelope, id, object, panel, meter).is_some()
 }

@@ -4,7 +4,7 @@ use Rattle.std.specs.FinMap.{len}
 use Rattle.std.specs.List.{sum_by}
 use Rattle.std.proofs.lemmas.List.Sums.{sum_by-drop_more}
 use Rattle.it_base.specs.Finds.{Finds}
-use Rattle.it_dsse.specs.Check.{Check, KeyNumber}
+use Rattle.it_dsse.specs.Panel.{KeyNumber, Panel}
 use Rattle.it_dsse.specs.Meter.{RaisedBy, raised}
 use Rattle.it_dsse.specs.Signed.{Signed, tries}
 use Rattle.it_dsse.specs.declared.envelope.Envelope.{Envelope}
@@ -74,15 +74,15 @@ module _ (start now new : Meter) (i : ℕ) where
 
 -- ---- one key
 -- the signatures that are tried with a key
-module _ (check : Check) (envelope : Envelope) (id : List ℕ) (object : KeyObject) (now new : Meter) (counted : new ≡ raised now (tries check envelope id object)) where
+module _ (panel : Panel) (envelope : Envelope) (id : List ℕ) (object : KeyObject) (now new : Meter) (counted : new ≡ raised now (tries panel envelope id object)) where
   pub raised_at_most : RaisedBy (λ n. n ≤ length envelope.signatures) now new
-  raised_at_most = (tries check envelope id object, tries_at_most check envelope id object, counted)
+  raised_at_most = (tries panel envelope id object, tries_at_most panel envelope id object, counted)
 
-  pub raised_at_least : (P : ℕ → Type 0) → P (tries check envelope id object) → RaisedBy (AtLeast P) now new
-  raised_at_least P p = (tries check envelope id object, (tries check envelope id object, p, omega arith), counted)
+  pub raised_at_least : (P : ℕ → Type 0) → P (tries panel envelope id object) → RaisedBy (AtLeast P) now new
+  raised_at_least P p = (tries panel envelope id object, (tries panel envelope id object, p, omega arith), counted)
 
 -- where the key signed, a signature is tried
-pub tries_at_least : (check : Check) (envelope : Envelope) (id : List ℕ) (object : KeyObject) (found : Option KeyNumber) → Finds (Signed check envelope id object) found → is_some found ≡ true
-    → 1 ≤ tries check envelope id object
-tries_at_least check envelope id object None none e = cc
-tries_at_least check envelope id object (Some n) signed e = signed_tries check envelope id object n signed
+pub tries_at_least : (panel : Panel) (envelope : Envelope) (id : List ℕ) (object : KeyObject) (found : Option KeyNumber) → Finds (Signed panel envelope id object) found → is_some found ≡ true
+    → 1 ≤ tries panel envelope id object
+tries_at_least panel envelope id object None none e = cc
+tries_at_least panel envelope id object (Some n) signed e = signed_tries panel envelope id object n signed

@@ -4,7 +4,7 @@ use Rattle.std.specs.Borrow.{Bor}
 use Rattle.std.proofs.lemmas.Option.{same_Some}
 use Rattle.it_base.specs.Finds.{Finds}
 use Rattle.it_digest.specs.declared.compare.DigestSet.{DigestSet}
-use Rattle.it_dsse.specs.Check.{Check}
+use Rattle.it_dsse.specs.Panel.{Panel}
 use Rattle.it_dsse.specs.declared.envelope.Envelope.{Envelope}
 use Rattle.it_docs.specs.Statement.{StatementOf}
 use Rattle.it_docs.specs.declared.policy.Expectation.{Expectation}
@@ -18,7 +18,7 @@ use Rattle.it_prov.specs.Judged.{IsAskedOfBuild, IsBuilt, SaysExpected}
 use Rattle.it_prov.specs.Meets.{Attests}
 use Rattle.it_prov.proofs.Meeting.{asked_by, built_of, level_by}
 
-module _ (check : Check) (expectation : Expectation) (digests : DigestSet) (envelope : Envelope) where
+module _ (panel : Panel) (expectation : Expectation) (digests : DigestSet) (envelope : Envelope) where
   says_attests : (found : Option Statement) → Finds (IsHeld envelope) found → (p : Provenance) → SaysExpected expectation digests found p → Attests envelope digests p
   says_attests None held p h = absurd (let none : ◌≡◌ {A = Option Statement} None (Some h.statement) = h.found_is in cc)
   says_attests (Some s) held p h =
@@ -33,7 +33,7 @@ module _ (check : Check) (expectation : Expectation) (digests : DigestSet) (enve
         digests_agree = h.digests_agree;
       }
 
-  meets_says : (found : Option Statement) → Finds (IsHeld envelope) found → (level : ℕ) (m : MeetsAtLevel check expectation digests envelope level)
+  meets_says : (found : Option Statement) → Finds (IsHeld envelope) found → (level : ℕ) (m : MeetsAtLevel panel expectation digests envelope level)
       → SaysExpected expectation digests found m.besides_level.provenance
   meets_says None none level m = let a = m.besides_level.attests in absurd (none a.statement (record { type_is = a.type_is; reads = a.reads }))
   meets_says (Some s) held level m =
@@ -52,15 +52,15 @@ module _ (check : Check) (expectation : Expectation) (digests : DigestSet) (enve
   -- and a builder of this level that it names signed it
   pub built_meets : (found : Option Statement) → Finds (IsHeld envelope) found → (said : Option (Bor Provenance))
       → MatchOption said ((p : Provenance) → ¬ SaysExpected expectation digests found p) (λ p. SaysExpected expectation digests found p.now)
-      → (level : ℕ) → IsBuilt check envelope expectation.builders said level ↔ MeetsAtLevel check expectation digests envelope level
+      → (level : ℕ) → IsBuilt panel envelope expectation.builders said level ↔ MeetsAtLevel panel expectation digests envelope level
   built_meets found held None none level = (λ h. absurd h, λ m. absurd (none m.besides_level.provenance (meets_says found held level m)))
   built_meets found held (Some p) says level =
       let attests = says_attests found held p.now says in
-      (level_by check expectation digests envelope p.now attests says.expected level, built_of check expectation digests envelope p.now attests level)
+      (level_by panel expectation digests envelope p.now attests says.expected level, built_of panel expectation digests envelope p.now attests level)
 
   -- and as many signatures are tried
   pub built_asked : (found : Option Statement) → Finds (IsHeld envelope) found → (said : Option (Bor Provenance))
       → MatchOption said ((p : Provenance) → ¬ SaysExpected expectation digests found p) (λ p. SaysExpected expectation digests found p.now)
-      → (n : ℕ) → IsAskedOfBuild check envelope expectation.builders said expectation.level n → IsAskedFor check expectation digests envelope n
+      → (n : ℕ) → IsAskedOfBuild panel envelope expectation.builders said expectation.level n → IsAskedFor panel expectation digests envelope n
   built_asked found held None none n asked = absurd asked
-  built_asked found held (Some p) says n asked = asked_by check expectation digests envelope p.now (says_attests found held p.now says) says.expected n asked
+  built_asked found held (Some p) says n asked = asked_by panel expectation digests envelope p.now (says_attests found held p.now says) says.expected n asked

@@ -4,7 +4,7 @@ use Rattle.std.specs.FinMap.{entries}
 use Rattle.std.proofs.lemmas.List.Elements.{Contains-append_right, Contains-push_cases}
 use Rattle.it_base.proofs.Members.{in_head, in_none}
 use Rattle.it_base.proofs.Settled.{Settled, some_or_none}
-use Rattle.it_dsse.specs.Check.{Check}
+use Rattle.it_dsse.specs.Panel.{Panel}
 use Rattle.it_dsse.specs.Signed.{IsSigner, tries}
 use Rattle.it_dsse.specs.declared.envelope.Envelope.{Envelope}
 use Rattle.it_dsse.specs.declared.key_object.KeyObject.{KeyObject}
@@ -14,19 +14,19 @@ use Rattle.it_prov.specs.Judged.{IsAskedOfBuilder}
 use Rattle.it_prov.specs.Meets.{SignedByBuilder}
 use Rattle.it_prov.proofs.Entries.{entry_known, known_entry}
 
-module _ (check : Check) (envelope : Envelope) where
+module _ (panel : Panel) (envelope : Envelope) where
   -- the key of an entry signed
   abbrev pub EntrySigned : List ℕ × KeyObject → Type 0
-  EntrySigned e = IsSigner check envelope e.1 e.0
+  EntrySigned e = IsSigner panel envelope e.1 e.0
 
-  pub signed_by_entry : (builder : Builder) (e : List ℕ × KeyObject) → Contains (entries builder.keys) e → EntrySigned e → SignedByBuilder check envelope builder
+  pub signed_by_entry : (builder : Builder) (e : List ℕ × KeyObject) → Contains (entries builder.keys) e → EntrySigned e → SignedByBuilder panel envelope builder
   signed_by_entry builder e c s = record { id = e.0; object = e.1; key = s.0; is_key = entry_known builder.keys e c; signed = s.1 }
 
-  pub not_signed_by : (builder : Builder) → ((e : List ℕ × KeyObject) → Contains (entries builder.keys) e → ¬ EntrySigned e) → ¬ SignedByBuilder check envelope builder
+  pub not_signed_by : (builder : Builder) → ((e : List ℕ × KeyObject) → Contains (entries builder.keys) e → ¬ EntrySigned e) → ¬ SignedByBuilder panel envelope builder
   not_signed_by builder none h = none (h.id, h.object) (known_entry builder.keys h.id h.object h.is_key) (h.key, h.signed)
 
-  pub signed_or_not : (builder : Builder) → Settled (SignedByBuilder check envelope builder)
-  signed_or_not builder = elim (some_or_none EntrySigned (λ e. signer_or_not check envelope e.1 e.0) (entries builder.keys)) [
+  pub signed_or_not : (builder : Builder) → Settled (SignedByBuilder panel envelope builder)
+  signed_or_not builder = elim (some_or_none EntrySigned (λ e. signer_or_not panel envelope e.1 e.0) (entries builder.keys)) [
     | inl s ↦ inl (signed_by_entry builder s.0 s.1 s.2)
     | inr none ↦ inr (not_signed_by builder none)
   ]
@@ -52,12 +52,12 @@ module _ (check : Check) (envelope : Envelope) where
     is_entry : Contains (entries builder.keys) e
     is_entry = subst (λ es. Contains es e) (sym h.are) (Contains-append_right h.done (e ∷ rest) e (in_head e rest))
 
-    pub searched_found : EntrySigned e → SignedByBuilder check envelope builder
+    pub searched_found : EntrySigned e → SignedByBuilder panel envelope builder
     searched_found = signed_by_entry builder e is_entry
 
-    pub searched_asked : EntrySigned e → IsAskedOfBuilder check envelope builder (tries check envelope e.0 e.1)
+    pub searched_asked : EntrySigned e → IsAskedOfBuilder panel envelope builder (tries panel envelope e.0 e.1)
     unfolding signed_by_entry
     searched_asked s = record { signed = signed_by_entry builder e is_entry s; tried = refl }
 
-  pub searched_all : (builder : Builder) → Searched builder [] → ¬ SignedByBuilder check envelope builder
+  pub searched_all : (builder : Builder) → Searched builder [] → ¬ SignedByBuilder panel envelope builder
   searched_all builder h = not_signed_by builder (λ e c. h.none e (subst (λ es. Contains es e) (h.are ∙ append-nil h.done) c))

@@ -2,7 +2,7 @@
 -- are those of SLSA v1.0).
 use Rattle.std.specs.Prelude.{◌≡◌, ◌≤◌, ℕ, Option, Some, None}
 use Rattle.it_digest.specs.declared.compare.DigestSet.{DigestSet}
-use Rattle.it_dsse.specs.Check.{Check}
+use Rattle.it_dsse.specs.Panel.{Panel}
 use Rattle.it_dsse.specs.declared.envelope.Envelope.{Envelope}
 use Rattle.it_docs.specs.declared.policy.Builder.{Builder}
 use Rattle.it_docs.specs.declared.policy.Expectation.{Expectation}
@@ -14,12 +14,12 @@ IsGreatest P None = (n : ℕ) → ¬ P n
 IsGreatest P (Some greatest) = P greatest × ((n : ℕ) → P n → n ≤ greatest)
 
 -- an envelope meets an expectation in all but the level with a builder of this level
-pub record MeetsAtLevel (check : Check) (expectation : Expectation) (digests : DigestSet) (envelope : Envelope) (level : ℕ) : Type 0 where
+pub record MeetsAtLevel (panel : Panel) (expectation : Expectation) (digests : DigestSet) (envelope : Envelope) (level : ℕ) : Type 0 where
   pub builder : Builder
-  pub besides_level : MeetsBesidesLevel check expectation digests envelope builder
+  pub besides_level : MeetsBesidesLevel panel expectation digests envelope builder
   pub level_is : level ≡ builder.level
 
 -- the greatest level of a builder with which one of the envelopes of which P holds meets an expectation
 -- in all but the level
-abbrev pub IsBest : Check → Expectation → DigestSet → (Envelope → Type 0) → Option ℕ → Type 0
-IsBest check expectation digests P = IsGreatest (λ level. (envelope : Envelope) × P envelope × MeetsAtLevel check expectation digests envelope level)
+abbrev pub IsBest : Panel → Expectation → DigestSet → (Envelope → Type 0) → Option ℕ → Type 0
+IsBest panel expectation digests P = IsGreatest (λ level. (envelope : Envelope) × P envelope × MeetsAtLevel panel expectation digests envelope level)

@@ -9,7 +9,7 @@ use Rattle.std.specs.List.{list_any}
 use Rattle.std.specs.Ordering.{nat_cmp}
 use Rattle.it_digest.specs.Compare.{Agree}
 use Rattle.it_digest.specs.declared.compare.DigestSet.{DigestSet}
-use Rattle.it_dsse.specs.Check.{Check}
+use Rattle.it_dsse.specs.Panel.{Panel}
 use Rattle.it_dsse.specs.Signed.{tries}
 use Rattle.it_dsse.specs.declared.envelope.Envelope.{Envelope}
 use Rattle.it_docs.specs.Json.{Json, Fields}
@@ -59,24 +59,24 @@ abbrev pub IsShort : ℕ → Option ℕ → Type 0
 IsShort wanted best = IfSome best (λ n. n < wanted)
 
 -- a builder has this id and this level, and signed the envelope
-pub record IsBuiltBy (check : Check) (envelope : Envelope) (id : List ℕ) (builder : Builder) (level : ℕ) : Type 0 where
+pub record IsBuiltBy (panel : Panel) (envelope : Envelope) (id : List ℕ) (builder : Builder) (level : ℕ) : Type 0 where
   pub id_is : id ≡ builder.id
   pub level_is : level ≡ builder.level
-  pub signed : SignedByBuilder check envelope builder
+  pub signed : SignedByBuilder panel envelope builder
 
 -- a builder signed the envelope, and n signatures are tried with the key that signed
-pub record IsAskedOfBuilder (check : Check) (envelope : Envelope) (builder : Builder) (n : ℕ) : Type 0 where
-  pub signed : SignedByBuilder check envelope builder
-  pub tried : n ≡ tries check envelope signed.id signed.object
+pub record IsAskedOfBuilder (panel : Panel) (envelope : Envelope) (builder : Builder) (n : ℕ) : Type 0 where
+  pub signed : SignedByBuilder panel envelope builder
+  pub tried : n ≡ tries panel envelope signed.id signed.object
 
 -- one of the builders has this id and at least the wanted level and signed the envelope, and n signatures
 -- are tried with its key
-pub record IsAskedOfBuilders (check : Check) (envelope : Envelope) (builders : List Builder) (id : List ℕ) (wanted : ℕ) (n : ℕ) : Type 0 where
+pub record IsAskedOfBuilders (panel : Panel) (envelope : Envelope) (builders : List Builder) (id : List ℕ) (wanted : ℕ) (n : ℕ) : Type 0 where
   pub builder : Builder
   pub stands : Contains builders builder
-  pub built : IsBuiltBy check envelope id builder builder.level
+  pub built : IsBuiltBy panel envelope id builder builder.level
   pub is_enough : wanted ≤ builder.level
-  pub tried : n ≡ tries check envelope built.signed.id built.signed.object
+  pub tried : n ≡ tries panel envelope built.signed.id built.signed.object
 
 -- there is a Statement, a subject of which has the digests, with this provenance, which is expected
 pub record SaysExpected (expectation : Expectation) (digests : DigestSet) (found : Option Statement) (provenance : Provenance) : Type 0 where
@@ -89,12 +89,12 @@ pub record SaysExpected (expectation : Expectation) (digests : DigestSet) (found
   pub expected : IsExpected expectation provenance
 
 -- there is a provenance, and a builder of this level that it names signed the envelope
-abbrev pub IsBuilt : Check → Envelope → List Builder → Option (Bor Provenance) → ℕ → Type 0
-IsBuilt check envelope builders None level = ⊥
-IsBuilt check envelope builders (Some provenance) level = OfSome (IsBuiltBy check envelope provenance.now.builder) builders level
+abbrev pub IsBuilt : Panel → Envelope → List Builder → Option (Bor Provenance) → ℕ → Type 0
+IsBuilt panel envelope builders None level = ⊥
+IsBuilt panel envelope builders (Some provenance) level = OfSome (IsBuiltBy panel envelope provenance.now.builder) builders level
 
 -- there is a provenance, a builder of at least the wanted level that it names signed the envelope, and n
 -- signatures are tried with its key
-abbrev pub IsAskedOfBuild : Check → Envelope → List Builder → Option (Bor Provenance) → ℕ → ℕ → Type 0
-IsAskedOfBuild check envelope builders None wanted n = ⊥
-IsAskedOfBuild check envelope builders (Some provenance) wanted n = IsAskedOfBuilders check envelope builders provenance.now.builder wanted n
+abbrev pub IsAskedOfBuild : Panel → Envelope → List Builder → Option (Bor Provenance) → ℕ → ℕ → Type 0
+IsAskedOfBuild panel envelope builders None wanted n = ⊥
+IsAskedOfBuild panel envelope builders (Some provenance) wanted n = IsAskedOfBuilders panel envelope builders provenance.now.builder wanted n

@@ -5,7 +5,7 @@ use Rattle.std.specs.Prelude.{◌≡◌, ◌≤◌, ℕ, List, Some, None, Conta
 use Rattle.std.specs.FinMap.{get}
 use Rattle.it_digest.specs.Compare.{Agree}
 use Rattle.it_digest.specs.declared.compare.DigestSet.{DigestSet}
-use Rattle.it_dsse.specs.Check.{Check, KeyNumber}
+use Rattle.it_dsse.specs.Panel.{KeyNumber, Panel}
 use Rattle.it_dsse.specs.Signed.{Signed}
 use Rattle.it_dsse.specs.declared.envelope.Envelope.{Envelope}
 use Rattle.it_dsse.specs.declared.key_object.KeyObject.{KeyObject}
@@ -19,13 +19,13 @@ use Rattle.it_docs.specs.declared.policy.Expectation.{Expectation}
 use Rattle.it_docs.specs.declared.statement.Provenance.{Provenance}
 use Rattle.it_docs.specs.declared.statement.Statement.{Statement}
 
--- a builder signed the envelope: the check knows the key of one of the builder's ids, and it signed
-pub record SignedByBuilder (check : Check) (envelope : Envelope) (builder : Builder) : Type 0 where
+-- a builder signed the envelope: the panel knows the key of one of the builder's ids, and it signed
+pub record SignedByBuilder (panel : Panel) (envelope : Envelope) (builder : Builder) : Type 0 where
   pub id : List ℕ
   pub object : KeyObject
   pub key : KeyNumber
   pub is_key : get builder.keys id ≡ Some object
-  pub signed : Signed check envelope id object key
+  pub signed : Signed panel envelope id object key
 
 -- the envelope's payload is a Statement with this provenance, a subject of which has the digests
 pub record Attests (envelope : Envelope) (digests : DigestSet) (provenance : Provenance) : Type 0 where
@@ -49,17 +49,17 @@ pub record ParametersMeet (expectation : Expectation) (parameters : Fields) : Ty
   pub others_ignored : (name : List ℕ) (given : Json) → field_at name parameters ≡ Some given → field_at name expectation.parameters ≡ None → Contains expectation.ignore name
 
 -- an envelope meets an expectation for a file with these digests, but for the level of this builder
-pub record MeetsBesidesLevel (check : Check) (expectation : Expectation) (digests : DigestSet) (envelope : Envelope) (builder : Builder) : Type 0 where
+pub record MeetsBesidesLevel (panel : Panel) (expectation : Expectation) (digests : DigestSet) (envelope : Envelope) (builder : Builder) : Type 0 where
   pub provenance : Provenance
   pub is_expected : Contains expectation.builders builder
-  pub signed : SignedByBuilder check envelope builder
+  pub signed : SignedByBuilder panel envelope builder
   pub attests : Attests envelope digests provenance
   pub built_by : provenance.builder ≡ builder.id
   pub build_type : provenance.build_type ≡ expectation.build_type
   pub parameters : ParametersMeet expectation provenance.parameters
 
 -- an envelope meets an expectation for a file with these digests
-pub record Meets (check : Check) (expectation : Expectation) (digests : DigestSet) (envelope : Envelope) : Type 0 where
+pub record Meets (panel : Panel) (expectation : Expectation) (digests : DigestSet) (envelope : Envelope) : Type 0 where
   pub builder : Builder
-  pub besides_level : MeetsBesidesLevel check expectation digests envelope builder
+  pub besides_level : MeetsBesidesLevel panel expectation digests envelope builder
   pub level_is_enough : expectation.level ≤ builder.level

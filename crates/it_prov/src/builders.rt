@@ -1,7 +1,8 @@
 //! Who built what an envelope attests.
-ghost use Rattle.std.specs.Prelude.{◌≡◌, ◌↔◌, ◌*◌, ◌≤◌, IfSome, IsTrue, length};
+ghost use Rattle.std.specs.Prelude.{◌≡◌, ◌↔◌, ◌*◌, ◌≤◌, IfSome, IsTrue, length, map};
 ghost use Rattle.std.specs.FinMap.{len};
 ghost use Rattle.it_dsse.specs.Meter.{RaisedBy, raised};
+ghost use Rattle.it_dsse.specs.Panel.{panel_of};
 ghost use Rattle.it_dsse.specs.Signed.{IsSigner, tries};
 ghost use Rattle.it_prov.specs.Asked.{AtLeast};
 ghost use Rattle.it_prov.specs.Cost.{key_count};
@@ -23,20 +24,22 @@ pub(crate) fn level_of_builders(
     id: &str,
     wanted: u8,
     envelope: &Envelope,
-    check: &Box<dyn SignatureCheck>,
+    panel: &[Box<dyn SignatureCheck>],
     meter: &mut Meter,
 ) -> Option<u8>
     ensures answer { IsEnoughOrGreatest wanted
-        (OfSome (IsBuiltBy (meaning check.now) envelope.now id.now) builders.now) result }
+        (OfSome (IsBuiltBy (panel_of (map meaning panel.now)) envelope.now id.now) builders.now)
+        result }
     ensures at_most { RaisedBy (λ n. n ≤ key_count builders.now * length envelope.now.signatures)
         meter.old meter.new }
     ensures at_least { IfSome result (λ level. wanted ≤ level → RaisedBy (AtLeast
-        (IsAskedOfBuilders (meaning check.now) envelope.now builders.now id.now wanted))
+        (IsAskedOfBuilders (panel_of (map meaning panel.now)) envelope.now builders.now id.now
+        wanted))
         meter.old meter.new) }
 {
     let mut best = None;
     for builder in builders {
-        if builder.id.as_str() == id && has_signed(builder, envelope, check, meter) {
+        if builder.id.as_str() == id && has_signed(builder, envelope, panel, meter) {
             if builder.level >= wanted {
                 return Some(builder.level);
             }
@@ -50,18 +53,19 @@ pub(crate) fn level_of_builders(
 fn has_signed(
     builder: &Builder,
     envelope: &Envelope,
-    check: &Box<dyn SignatureCheck>,
+    panel: &[Box<dyn SignatureCheck>],
     meter: &mut Meter,
 ) -> bool
     ensures answer { IsTrue result
-        ↔ SignedByBuilder (meaning check.now) envelope.now builder.now }
+        ↔ SignedByBuilder (panel_of (map meaning panel.now)) envelope.now builder.now }
     ensures at_most { RaisedBy (λ n. n ≤ len builder.now.keys * length envelope.now.signatures)
         meter.old meter.new }
     ensures at_least { IsTrue result → RaisedBy (AtLeast
-        (IsAskedOfBuilder (meaning check.now) envelope.now builder.now)) meter.old meter.new }
+        (IsAskedOfBuilder (panel_of (map meaning panel.now)) envelope.now builder.now)) meter.old
+        meter.new }
 {
     for (id, object) in builder.keys.iter() {
-        if is_signer(envelope, id.as_str(), object, check, meter) {
+        if is_signer(envelope, id.as_str(), object, panel, meter) {
             return true;
         }
     }
@@ -72,14 +76,15 @@ fn is_signer(
     envelope: &Envelope,
     id: &str,
     object: &KeyObject,
-    check: &Box<dyn SignatureCheck>,
+    panel: &[Box<dyn SignatureCheck>],
     meter: &mut Meter,
 ) -> bool
     ensures answer { IsTrue result
-        ↔ IsSigner (meaning check.now) envelope.now object.now id.now }
+        ↔ IsSigner (panel_of (map meaning panel.now)) envelope.now object.now id.now }
     ensures counted { meter.new
-        ≡ raised meter.old (tries (meaning check.now) envelope.now id.now object.now) }
+        ≡ raised meter.old (tries (panel_of (map meaning panel.now)) envelope.now id.now
+        object.now) }
 {
-    let number = signed_by(envelope, id, object, check, meter);
+    let number = signed_by(envelope, id, object, panel, meter);
     number.is_some()
 }

@@ -1,6 +1,7 @@
 //! The search for the provenance of a delivered file.
-ghost use Rattle.std.specs.Prelude.{◌≡◌, ◌*◌, ◌≤◌, IfErr, IfOk};
+ghost use Rattle.std.specs.Prelude.{◌≡◌, ◌*◌, ◌≤◌, IfErr, IfOk, map};
 ghost use Rattle.it_dsse.specs.Meter.{RaisedBy};
+ghost use Rattle.it_dsse.specs.Panel.{panel_of};
 ghost use Rattle.it_prov.specs.Asked.{AtLeast, IsAsked};
 ghost use Rattle.it_prov.specs.Cost.{key_count, signature_count};
 ghost use Rattle.it_prov.specs.Finding.{IsFound, IsMissing, NoneFits};
@@ -26,7 +27,7 @@ use std::alloc::{AllocError, Global};
 /// matches the path speaks of the file, and no other. An envelope meets it where one of its builders,
 /// of at least the expected level, signed the envelope, and the payload is a Statement with provenance
 /// that names this builder, with the build type and the parameters that are expected, and a subject of
-/// which agrees with the digests. Each signature is checked by `check`, which counts in `meter`: at
+/// which agrees with the digests. Signatures are checked by the `panel`, which counts in `meter`: at
 /// most once for each key of the expected builders and each signature, and at least once for each
 /// signature that is tried with the key of the builder that signed the envelope found, up to the first
 /// valid one.
@@ -42,21 +43,24 @@ pub fn find_provenance(
     digests: DigestSet,
     expectations: &[Expectation],
     envelopes: &[Envelope],
-    check: &Box<dyn SignatureCheck>,
+    panel: &[Box<dyn SignatureCheck>],
     meter: &mut Meter,
 ) -> Result<usize, ProvError>
-    ensures found { IfOk result (IsFound (meaning check.now) expectations.now path.now digests
+    ensures found { IfOk result (IsFound (panel_of (map meaning panel.now)) expectations.now
+        path.now digests
         envelopes.now) }
     ensures no_expectation { IfErr result (λ e. (named : _) → e ≡ ProvError.NoExpectation named
         → (named ≡ path.now) × NoneFits expectations.now path.now) }
     ensures no_provenance { IfErr result (λ e. (named : _) (best : _)
         → e ≡ ProvError.NoProvenance named best → (named ≡ path.now)
-        × IsMissing (meaning check.now) expectations.now path.now digests envelopes.now best) }
+        × IsMissing (panel_of (map meaning panel.now)) expectations.now path.now digests
+        envelopes.now best) }
     ensures at_most { (expectation : _) → Fits expectations.now path.now expectation
         → RaisedBy (λ n. n ≤ key_count expectation.builders * signature_count envelopes.now)
         meter.old meter.new }
     ensures unasked { NoneFits expectations.now path.now → meter.new ≡ meter.old }
-    ensures at_least { IfOk result (λ index. RaisedBy (AtLeast (IsAsked (meaning check.now)
+    ensures at_least { IfOk result (λ index. RaisedBy (AtLeast (IsAsked
+        (panel_of (map meaning panel.now))
         expectations.now path.now digests envelopes.now index)) meter.old meter.new) }
 {
     let attestations = Attestations::of(alloc, envelopes)?;
@@ -66,7 +70,7 @@ pub fn find_provenance(
         digests,
         expectations,
         &attestations,
-        check,
+        panel,
         meter,
     )
 }
@@ -83,28 +87,31 @@ pub fn find_among(
     digests: DigestSet,
     expectations: &[Expectation],
     attestations: &Attestations,
-    check: &Box<dyn SignatureCheck>,
+    panel: &[Box<dyn SignatureCheck>],
     meter: &mut Meter,
 ) -> Result<usize, ProvError>
     requires { AreHeld attestations.now.envelopes.now attestations.now.statements.items }
-    ensures found { IfOk result (IsFound (meaning check.now) expectations.now path.now digests
+    ensures found { IfOk result (IsFound (panel_of (map meaning panel.now)) expectations.now
+        path.now digests
         attestations.now.envelopes.now) }
     ensures no_expectation { IfErr result (λ e. (named : _) → e ≡ ProvError.NoExpectation named
         → (named ≡ path.now) × NoneFits expectations.now path.now) }
     ensures no_provenance { IfErr result (λ e. (named : _) (best : _)
         → e ≡ ProvError.NoProvenance named best → (named ≡ path.now)
-        × IsMissing (meaning check.now) expectations.now path.now digests attestations.now.envelopes.now best) }
+        × IsMissing (panel_of (map meaning panel.now)) expectations.now path.now digests
+        attestations.now.envelopes.now best) }
     ensures at_most { (expectation : _) → Fits expectations.now path.now expectation
         → RaisedBy (λ n. n ≤ key_count expectation.builders * signature_count attestations.now.envelopes.now)
         meter.old meter.new }
     ensures unasked { NoneFits expectations.now path.now → meter.new ≡ meter.old }
-    ensures at_least { IfOk result (λ index. RaisedBy (AtLeast (IsAsked (meaning check.now)
+    ensures at_least { IfOk result (λ index. RaisedBy (AtLeast (IsAsked
+        (panel_of (map meaning panel.now))
         expectations.now path.now digests attestations.now.envelopes.now index)) meter.old meter.new) }
 {
     let Some(expectation) = fitting(expectations, path) else {
         return Err(ProvError::NoExpectation(text_of(alloc, path)?));
     };
-    match first_to_meet(alloc, expectation, &digests, attestations, check, meter) {
+    match first_to_meet(alloc, expectation, &digests, attestations, panel, meter) {
         Ok(index) => Ok(index),
         Err(MeetingFault::NoneMeets(best)) => {
             Err(ProvError::NoProvenance(text_of(alloc, path)?, best))

@@ -1,7 +1,8 @@
 //! Which envelopes meet an expectation.
-ghost use Rattle.std.specs.Prelude.{◌≡◌, ◌↔◌, ◌*◌, ◌≤◌, Any, Contains, IfErr, IfOk, IfSome, IsTrue, MatchOption, length};
+ghost use Rattle.std.specs.Prelude.{◌≡◌, ◌↔◌, ◌*◌, ◌≤◌, Any, Contains, IfErr, IfOk, IfSome, IsTrue, MatchOption, length, map};
 ghost use Rattle.it_digest.specs.Compare.{Agree};
 ghost use Rattle.it_dsse.specs.Meter.{RaisedBy};
+ghost use Rattle.it_dsse.specs.Panel.{panel_of};
 ghost use Rattle.it_prov.specs.Asked.{AtLeast, IsAskedAt};
 ghost use Rattle.it_prov.specs.Best.{IsBest};
 ghost use Rattle.it_prov.specs.Cost.{key_count, signature_count};
@@ -34,21 +35,24 @@ pub(crate) fn first_to_meet(
     expectation: &Expectation,
     digests: &DigestSet,
     attestations: &Attestations,
-    check: &Box<dyn SignatureCheck>,
+    panel: &[Box<dyn SignatureCheck>],
     meter: &mut Meter,
 ) -> Result<usize, MeetingFault>
     requires { AreHeld attestations.now.envelopes.now attestations.now.statements.items }
     ensures found { IfOk result (IsFirstToMeet
-        (meaning check.now) expectation.now digests.now attestations.now.envelopes.now) }
+        (panel_of (map meaning panel.now)) expectation.now digests.now
+        attestations.now.envelopes.now) }
     ensures missing { IfErr result (λ e. (best : _) → e ≡ MeetingFault.NoneMeets best
-        → NoneMeets (meaning check.now) expectation.now digests.now attestations.now.envelopes.now
-        × IsBest (meaning check.now) expectation.now digests.now
+        → NoneMeets (panel_of (map meaning panel.now)) expectation.now digests.now
+        attestations.now.envelopes.now
+        × IsBest (panel_of (map meaning panel.now)) expectation.now digests.now
         (Contains attestations.now.envelopes.now) best) }
     ensures at_most { RaisedBy (λ n. n
         ≤ key_count expectation.now.builders * signature_count attestations.now.envelopes.now)
         meter.old meter.new }
     ensures at_least { IfOk result (λ index. RaisedBy (AtLeast (IsAskedAt
-        (meaning check.now) expectation.now digests.now attestations.now.envelopes.now index))
+        (panel_of (map meaning panel.now)) expectation.now digests.now
+        attestations.now.envelopes.now index))
         meter.old meter.new) }
 {
     let ignored = set_of(alloc, expectation.ignore.as_slice())?;
@@ -56,7 +60,7 @@ pub(crate) fn first_to_meet(
     for (index, envelope) in attestations.envelopes.iter().enumerate() {
         let statement = &attestations.statements[index];
         let provenance = expected_in(expectation, &ignored, digests, statement);
-        let level = level_of_build(expectation, provenance, envelope, check, meter);
+        let level = level_of_build(expectation, provenance, envelope, panel, meter);
         match level {
             Some(reached) if reached >= expectation.level => return Ok(index),
             _ => best = greater(best, level),
@@ -116,23 +120,25 @@ fn level_of_build(
     expectation: &Expectation,
     provenance: Option<&Provenance>,
     envelope: &Envelope,
-    check: &Box<dyn SignatureCheck>,
+    panel: &[Box<dyn SignatureCheck>],
     meter: &mut Meter,
 ) -> Option<u8>
     ensures answer { IsEnoughOrGreatest expectation.now.level
-        (IsBuilt (meaning check.now) envelope.now expectation.now.builders provenance.entry) result }
+        (IsBuilt (panel_of (map meaning panel.now)) envelope.now expectation.now.builders
+        provenance.entry) result }
     ensures at_most { RaisedBy (λ n. n
         ≤ key_count expectation.now.builders * length envelope.now.signatures)
         meter.old meter.new }
     ensures at_least { IfSome result (λ level. expectation.now.level ≤ level → RaisedBy (AtLeast
-        (IsAskedOfBuild (meaning check.now) envelope.now expectation.now.builders provenance.entry
+        (IsAskedOfBuild (panel_of (map meaning panel.now)) envelope.now expectation.now.builders
+        provenance.entry
         expectation.now.level)) meter.old meter.new) }
 {
     match provenance {
         Some(provenance) => {
             let builders = expectation.builders.as_slice();
             let id = provenance.builder.as_str();
-            level_of_builders(builders, id, expectation.level, envelope, check, meter)
+            level_of_builders(builders, id, expectation.level, envelope, panel, meter)
         }
         None => None,
     }

@@ -217,9 +217,9 @@ fn verified(
     let layout = read_layout(alloc, layout.as_bytes())
         .ok()
         .ok_or("no layout")?;
-    let check: Box<dyn SignatureCheck> = Box::new(alloc, ring(alloc)?)?;
+    let panel: [Box<dyn SignatureCheck>; 1] = [Box::new(alloc, ring(alloc)?)?];
     let mut meter = Meter { asked: 0 };
-    let found = verify_chain(alloc, &layout, bundle, moment, depth, &check, &mut meter);
+    let found = verify_chain(alloc, &layout, bundle, moment, depth, &panel, &mut meter);
     Ok((found, meter.asked))
 }
 

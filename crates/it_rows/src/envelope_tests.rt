@@ -233,8 +233,12 @@ const RING: &str =
     "[{\"id\":\"owner\",\"secret\":\"6f776e6572\"},{\"id\":\"alice\",\"secret\":\"616c696365\"},{\"id\":\"bobz\",\"secret\":\"626F6200\"},{\"id\":\"bob\",\"secret\":\"626f62\"},{\"id\":\"carol\",\"secret\":\"6361726f6c\"}]";
 
 fn ring(alloc: Global) -> Result<HmacRing, Fail> {
+    ring_of(alloc, RING)
+}
+
+fn ring_of(alloc: Global, text: &str) -> Result<HmacRing, Fail> {
     Ok(
-        HmacRing::read(alloc, RING.as_bytes())
+        HmacRing::read(alloc, text.as_bytes())
             .ok()
             .ok_or("no ring")?,
     )
@@ -379,13 +383,13 @@ fn envelope(alloc: Global, signers: &[(&str, &str)]) -> Result<Envelope, AllocEr
 #[test]
 fn finds_signers(rt: HostRuntime) -> Result<(), Fail> {
     let alloc = rt.alloc();
-    let check: Box<dyn SignatureCheck> = Box::new(alloc, ring(alloc)?)?;
+    let panel: [Box<dyn SignatureCheck>; 1] = [Box::new(alloc, ring(alloc)?)?];
     let object = object(alloc)?;
-    let rows: [(&[(&str, &str)], &str, Option<u32>, u64); 9] = [
+    let rows: [(&[(&str, &str)], &str, Option<(usize, u32)>, u64); 9] = [
         (&[("bob", "")], "alice", None, 8),
-        (&[("bob", "")], "bob", Some(2), 8),
-        (&[("bob", "")], "bobz", Some(2), 8),
-        (&[("bob", "bob")], "bob", Some(2), 8),
+        (&[("bob", "")], "bob", Some((0, 2)), 8),
+        (&[("bob", "")], "bobz", Some((0, 2)), 8),
+        (&[("bob", "bob")], "bob", Some((0, 2)), 8),
         (&[("bob", "bob")], "bobz", None, 7),
         (&[("bob", "alice")], "bob", None, 7),
         (&[("bob", "")], "dave", None, 7),
@@ -398,7 +402,7 @@ fn finds_signers(rt: HostRuntime) -> Result<(), Fail> {
                 ("alice", ""),
             ],
             "alice",
-            Some(1),
+            Some((0, 1)),
             10,
         ),
         (&[], "alice", None, 7),
@@ -406,24 +410,65 @@ fn finds_signers(rt: HostRuntime) -> Result<(), Fail> {
     for (signers, id, want, asked) in rows {
         let mut meter = Meter { asked: 7 };
         let envelope = envelope(alloc, signers)?;
-        let found = signed_by(&envelope, id, &object, &check, &mut meter);
+        let found = signed_by(&envelope, id, &object, &panel, &mut meter);
         assert_eq!(rt; found, want, "{id}");
         assert_eq!(rt; meter.asked, asked, "{id}");
     }
     Ok(())
 }
 
+const CAROL_AND_ANOTHER_ALICE: &str =
+    "[{\"id\":\"carol\",\"secret\":\"6361726f6c\"},{\"id\":\"alice\",\"secret\":\"626f62\"}]";
+
+#[test]
+fn finds_signers_by_a_panel(rt: HostRuntime) -> Result<(), Fail> {
+    let alloc = rt.alloc();
+    let object = object(alloc)?;
+    let first = ring_of(alloc, CAROL_AND_ANOTHER_ALICE)?;
+    let panel: [Box<dyn SignatureCheck>; 2] = [
+        Box::new(alloc, first)?,
+        Box::new(alloc, ring(alloc)?)?,
+    ];
+    let rows = [
+        ("bob", "alice", Some((0, 1)), 1),
+        ("alice", "alice", None, 1),
+        ("carol", "carol", Some((0, 0)), 1),
+        ("owner", "owner", Some((1, 0)), 1),
+        ("bob", "bob", Some((1, 2)), 1),
+        ("bob", "dave", None, 0),
+    ];
+    for (secret, id, want, asked) in rows {
+        let mut meter = Meter { asked: 0 };
+        let envelope = envelope(alloc, &[(secret, "")])?;
+        let found = signed_by(&envelope, id, &object, &panel, &mut meter);
+        assert_eq!(rt; found, want, "{id} signed with {secret}");
+        assert_eq!(rt; meter.asked, asked, "{id} signed with {secret}");
+    }
+    Ok(())
+}
+
+#[test]
+fn finds_nobody_by_an_empty_panel(rt: HostRuntime) -> Result<(), Fail> {
+    let alloc = rt.alloc();
+    let mut meter = Meter { asked: 0 };
+    let envelope = envelope(alloc, &[("alice", "")])?;
+    let found = signed_by(&envelope, "alice", &object(alloc)?, &[], &mut meter);
+    assert_eq!(rt; found, None);
+    assert_eq!(rt; meter.asked, 0);
+    Ok(())
+}
+
 #[test]
 fn lists_signers(rt: HostRuntime) -> Result<(), Fail> {
     let alloc = rt.alloc();
-    let check: Box<dyn SignatureCheck> = Box::new(alloc, ring(alloc)?)?;
+    let panel: [Box<dyn SignatureCheck>; 1] = [Box::new(alloc, ring(alloc)?)?];
     let object = object(alloc)?;
     let envelope = envelope(
         alloc,
         &[("bob", ""), ("alice", "alice"), ("owner", "carol")],
     )?;
     let ids = strings(alloc, &["carol", "bobz", "alice", "owner", "bob", "alice"])?;
-    let signers = signed_ids(alloc, &envelope, ids.as_slice(), &object, &check)?;
+    let signers = signed_ids(alloc, &envelope, ids.as_slice(), &object, &panel)?;
     let signers = joined(alloc, signers.as_slice())?;
     assert_eq!(rt; signers.as_str(), "bobz alice bob alice ");
     Ok(())

@@ -110,7 +110,7 @@ fn told(
     )?;
     let policy = read_policy(alloc, text.as_bytes()).ok().ok_or("no policy")?;
     let digests = digests_of(alloc, digest)?;
-    let check: Box<dyn SignatureCheck> = Box::new(alloc, ring(alloc)?)?;
+    let panel: [Box<dyn SignatureCheck>; 1] = [Box::new(alloc, ring(alloc)?)?];
     let mut meter = Meter { asked: 0 };
     let expectations = policy.expectations.as_slice();
     let found = find_provenance(
@@ -119,7 +119,7 @@ fn told(
         digests,
         expectations,
         envelopes,
-        &check,
+        &panel,
         &mut meter,
     );
     Ok((told_answer(alloc, &found)?, meter.asked))

@@ -5,7 +5,7 @@ use Rattle.std.specs.Prelude.{⊤}
 use Rattle.std.specs.FinMap.{empty, entries, get}
 use Rattle.it_base.proofs.Firsts.{first_alike}
 use Rattle.it_digest.specs.Sums.{IsFirstBadLine, SumsOf}
-use Rattle.it_dsse.specs.Check.{Check}
+use Rattle.it_dsse.specs.Panel.{Panel}
 use Rattle.it_dsse.specs.Envelope.{EnvelopeOf}
 use Rattle.it_dsse.specs.Signed.{IsSigner}
 use Rattle.it_dsse.specs.declared.envelope.Envelope.{Envelope}
@@ -30,11 +30,11 @@ use Rattle.it_verify.specs.declared.inputs.Inputs.{Inputs}
 use Rattle.it_verify.specs.declared.refusal.Refusal.{Refusal}
 
 -- inputs that compare, whatever their links and their provenance
-abbrev pub Share : Check → Inputs → Inputs → Type 0
+abbrev pub Share : Panel → Inputs → Inputs → Type 0
 Share = Compare (λ setting depth. any_two) (λ here there. ⊤)
 
-pub share_of : (Bundles : Setting → ℕ → Comparing) (Compares : Type 0 → Type 0 → Type 0) (check : Check) (a b : Inputs) → Compare Bundles Compares check a b → Share check a b
-share_of Bundles Compares check a b h = record {
+pub share_of : (Bundles : Setting → ℕ → Comparing) (Compares : Type 0 → Type 0 → Type 0) (panel : Panel) (a b : Inputs) → Compare Bundles Compares panel a b → Share panel a b
+share_of Bundles Compares panel a b h = record {
   policy = h.policy;
   sums = h.sums;
   moment = h.moment;
@@ -45,8 +45,8 @@ share_of Bundles Compares check a b h = record {
   provenance = λ documents id payload object read key. tt;
 }
 
-signed_back : (check : Check) (a b : Inputs) → a.policy ≡ b.policy → SameSigned check a b → SameSigned check b a
-signed_back check a b policy s = record {
+signed_back : (panel : Panel) (a b : Inputs) → a.policy ≡ b.policy → SameSigned panel a b → SameSigned panel b a
+signed_back panel a b policy s = record {
   envelope = s.another;
   another = s.envelope;
   first = s.second;
@@ -56,13 +56,13 @@ signed_back check a b policy s = record {
   owners = λ p id object is known. let signs = s.owners p id object (subst (λ bytes. PolicyOf bytes p) (sym policy) is) known in (signs.1, signs.0);
 }
 
-pub share_back : (check : Check) (a b : Inputs) → Share check a b → Share check b a
-share_back check a b h = record {
+pub share_back : (panel : Panel) (a b : Inputs) → Share panel a b → Share panel b a
+share_back panel a b h = record {
   policy = sym h.policy;
   sums = sym h.sums;
   moment = sym h.moment;
   depth = sym h.depth;
-  layout = ⊎_elim (λ same. inl (sym same)) (λ s. inr (signed_back check a b h.policy s)) h.layout;
+  layout = ⊎_elim (λ same. inl (sym same)) (λ s. inr (signed_back panel a b h.policy s)) h.layout;
   records = λ name. sym (h.records name);
   bundles = λ documents read. tt;
   provenance = λ documents id payload object read key. tt;
@@ -70,15 +70,15 @@ share_back check a b h = record {
 
 -- ---- the documents
 -- an envelope that the other layout reads as: of the same type and payload, which the same owners signed
-record Counterpart (check : Check) (a b : Inputs) (envelope : Envelope) : Type 0 where
+record Counterpart (panel : Panel) (a b : Inputs) (envelope : Envelope) : Type 0 where
   other : Envelope
   reads : EnvelopeOf b.layout other
   payload_type : envelope.payload_type ≡ other.payload_type
   payload : envelope.payload ≡ other.payload
-  owners : (policy : Policy) (id : List ℕ) (object : KeyObject) → PolicyOf a.policy policy → get policy.owners id ≡ Some object → IsSigner check envelope object id ↔ IsSigner check other object id
+  owners : (policy : Policy) (id : List ℕ) (object : KeyObject) → PolicyOf a.policy policy → get policy.owners id ≡ Some object → IsSigner panel envelope object id ↔ IsSigner panel other object id
 
-same_counterpart : (check : Check) (a b : Inputs) (envelope : Envelope) → EnvelopeOf a.layout envelope → a.layout ≡ b.layout → Counterpart check a b envelope
-same_counterpart check a b envelope is same = record {
+same_counterpart : (panel : Panel) (a b : Inputs) (envelope : Envelope) → EnvelopeOf a.layout envelope → a.layout ≡ b.layout → Counterpart panel a b envelope
+same_counterpart panel a b envelope is same = record {
   other = envelope;
   reads = subst (λ bytes. EnvelopeOf bytes envelope) same is;
   payload_type = refl;
@@ -86,15 +86,15 @@ same_counterpart check a b envelope is same = record {
   owners = λ policy id object p known. (λ x. x, λ x. x);
 }
 
-signed_counterpart : (check : Check) (a b : Inputs) (envelope : Envelope) → EnvelopeOf a.layout envelope → SameSigned check a b → Counterpart check a b envelope
-signed_counterpart check a b envelope is s =
+signed_counterpart : (panel : Panel) (a b : Inputs) (envelope : Envelope) → EnvelopeOf a.layout envelope → SameSigned panel a b → Counterpart panel a b envelope
+signed_counterpart panel a b envelope is s =
     let same : s.envelope ≡ envelope = envelope_same a.layout s.envelope envelope s.first is in
     record {
       other = s.another;
       reads = s.second;
       payload_type = ap (λ (e : Envelope). e.payload_type) (sym same) ∙ s.payload_type;
       payload = ap (λ (e : Envelope). e.payload) (sym same) ∙ s.payload;
-      owners = λ policy id object p known. subst (λ e. IsSigner check e object id ↔ IsSigner check s.another object id) same (s.owners policy id object p known);
+      owners = λ policy id object p known. subst (λ e. IsSigner panel e object id ↔ IsSigner panel s.another object id) same (s.owners policy id object p known);
     }
 
 -- the documents with another envelope of the layout
@@ -102,16 +102,16 @@ abbrev pub with_envelope : Documents → Envelope → Documents
 with_envelope documents envelope = record documents { envelope = envelope }
 
 -- inputs read as the documents, but for the signatures of the layout, which the same owners signed
-pub record Reread (check : Check) (inputs : Inputs) (documents : Documents) : Type 0 where
+pub record Reread (panel : Panel) (inputs : Inputs) (documents : Documents) : Type 0 where
   pub other : Envelope
   pub read : ReadAs inputs (with_envelope documents other)
-  pub owners : (id : List ℕ) (object : KeyObject) → get documents.policy.owners id ≡ Some object → IsSigner check documents.envelope object id ↔ IsSigner check other object id
+  pub owners : (id : List ℕ) (object : KeyObject) → get documents.policy.owners id ≡ Some object → IsSigner panel documents.envelope object id ↔ IsSigner panel other object id
 
-module _ (check : Check) (a b : Inputs) (h : Share check a b) where
-  counterpart : (envelope : Envelope) → EnvelopeOf a.layout envelope → Counterpart check a b envelope
-  counterpart envelope is = ⊎_elim (same_counterpart check a b envelope is) (signed_counterpart check a b envelope is) h.layout
+module _ (panel : Panel) (a b : Inputs) (h : Share panel a b) where
+  counterpart : (envelope : Envelope) → EnvelopeOf a.layout envelope → Counterpart panel a b envelope
+  counterpart envelope is = ⊎_elim (same_counterpart panel a b envelope is) (signed_counterpart panel a b envelope is) h.layout
 
-  pub reread : (documents : Documents) → ReadAs a documents → Reread check b documents
+  pub reread : (documents : Documents) → ReadAs a documents → Reread panel b documents
   reread documents read =
       let part = counterpart documents.envelope read.envelope in
       record {
@@ -131,55 +131,55 @@ module _ (check : Check) (a b : Inputs) (h : Share check a b) where
   recorded_there inspection link x = record { bytes = x.bytes; is_first = sym (h.records inspection.name) ∙ x.is_first; reads = x.reads; name_is = x.name_is }
 
 -- ---- the places that speak of neither links nor provenance
-module _ (check : Check) (a b : Inputs) (h : Share check a b) where
+module _ (panel : Panel) (a b : Inputs) (h : Share panel a b) where
   record_fails_there : (inspection : Inspection) (refusal : Refusal) → RecordFails a inspection refusal → RecordFails b inspection refusal
   record_fails_there inspection refusal =
       ⊎_elim (λ x. inl (sym (h.records inspection.name) ∙ x.0, x.1))
-      (λ x. inr (λ none. x.0 (h.records inspection.name ∙ none), λ link y. x.1 link (recorded_there check b a (share_back check a b h) inspection link y), x.2))
+      (λ x. inr (λ none. x.0 (h.records inspection.name ∙ none), λ link y. x.1 link (recorded_there panel b a (share_back panel a b h) inspection link y), x.2))
 
 -- what stands at a place of inputs does so in others
-abbrev pub Carried : Check → Inputs → Inputs → Place → Type 0
-Carried check a b place = (refusal : Refusal) → Stands check a place refusal → Stands check b place refusal
+abbrev pub Carried : Panel → Inputs → Inputs → Place → Type 0
+Carried panel a b place = (refusal : Refusal) → Stands panel a place refusal → Stands panel b place refusal
 
-module _ (check : Check) (a b : Inputs) (h : Share check a b) where
-  back : Share check b a
-  back = share_back check a b h
+module _ (panel : Panel) (a b : Inputs) (h : Share panel a b) where
+  back : Share panel b a
+  back = share_back panel a b h
 
-  owners_there : Carried check a b at_owners
+  owners_there : Carried panel a b at_owners
   owners_there refusal x =
-      let part = counterpart check a b h x.1 x.3 in
+      let part = counterpart panel a b h x.1 x.3 in
       let sign = λ (owner : List ℕ × KeyObject) (c : Contains (entries x.0.owners) owner). part.owners x.0 owner.0 owner.1 x.2 (entry_known x.0.owners owner c) in (
         x.0,
         part.other,
         subst (λ bytes. PolicyOf bytes x.0) h.policy x.2,
         part.reads,
-        first_alike (OwnerLacks check x.1) (OwnerLacks check part.other) (entries x.0.owners) (λ owner c r lacks. (λ signs. lacks.0 ((sign owner c).1 signs), lacks.1))
+        first_alike (OwnerLacks panel x.1) (OwnerLacks panel part.other) (entries x.0.owners) (λ owner c r lacks. (λ signs. lacks.0 ((sign owner c).1 signs), lacks.1))
             (λ owner c r lacks. (λ signs. lacks.0 ((sign owner c).0 signs), lacks.1)) refusal x.4,
       )
 
-  records_there : Carried check a b at_records
+  records_there : Carried panel a b at_records
   records_there refusal x =
-      let again = reread check a b h x.0 x.1 in (
+      let again = reread panel a b h x.0 x.1 in (
         with_envelope x.0 again.other,
         again.read,
-        first_alike (RecordFails a) (RecordFails b) x.0.layout.inspections (λ inspection c. record_fails_there check a b h inspection) (λ inspection c. record_fails_there check b a back inspection) refusal x.2,
+        first_alike (RecordFails a) (RecordFails b) x.0.layout.inspections (λ inspection c. record_fails_there panel a b h inspection) (λ inspection c. record_fails_there panel b a back inspection) refusal x.2,
       )
 
-  layout_part_there : Carried check a b at_layout
+  layout_part_there : Carried panel a b at_layout
   layout_part_there refusal x =
-      let part = counterpart check a b h x.0 x.2 in
+      let part = counterpart panel a b h x.0 x.2 in
       (part.other, x.1, part.reads, subst (λ bytes. LayoutPartOf bytes x.1) part.payload x.3, x.4)
 
-  type_there : Carried check a b at_payload_type
+  type_there : Carried panel a b at_payload_type
   type_there refusal x =
-      let part = counterpart check a b h x.0 x.1 in
+      let part = counterpart panel a b h x.0 x.1 in
       (part.other, part.reads, λ same. x.2 (part.payload_type ∙ same), x.3)
 
-  no_envelope_there : Carried check a b at_envelope
-  no_envelope_there refusal x = (λ envelope is. let part = counterpart check b a back envelope is in x.0 part.other part.reads, x.1)
+  no_envelope_there : Carried panel a b at_envelope
+  no_envelope_there refusal x = (λ envelope is. let part = counterpart panel b a back envelope is in x.0 part.other part.reads, x.1)
 
   -- what is so of each place of which that is so, and of the places that speak of links or provenance
-  module _ (F : Place → Type 0) (carried : (place : Place) → Carried check a b place → F place) where
+  module _ (F : Place → Type 0) (carried : (place : Place) → Carried panel a b place → F place) where
     pub at_each : F at_links → F at_inspections → F at_deliver → F at_provenance → (place : Place) → F place
     at_each links inspections deliver provenance at_policy = carried at_policy (λ refusal x. (x.0, subst (λ bytes. PolicyPartOf bytes x.0) h.policy x.1, x.2))
     at_each links inspections deliver provenance at_sums = carried at_sums (λ refusal x. (x.0, subst (λ bytes. IsFirstBadLine bytes x.0) h.sums x.1, x.2))

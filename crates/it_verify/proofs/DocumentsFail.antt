@@ -5,7 +5,7 @@ use Rattle.it_base.specs.Places.{IsFirst, NoneAt}
 use Rattle.it_base.proofs.Firsts.{none_append}
 use Rattle.it_digest.specs.Artifacts.{ArtifactMap}
 use Rattle.it_digest.specs.Sums.{IsFirstBadLine, SumsOf}
-use Rattle.it_dsse.specs.Check.{Check}
+use Rattle.it_dsse.specs.Panel.{Panel}
 use Rattle.it_dsse.specs.Envelope.{EnvelopeOf}
 use Rattle.it_dsse.specs.declared.envelope.Envelope.{Envelope}
 use Rattle.it_docs.specs.LayoutPart.{LayoutPartOf}
@@ -23,19 +23,19 @@ use Rattle.it_verify.specs.declared.refusal.Refusal.{Refusal}
 use Rattle.it_verify.proofs.DocumentsRead.{Clear, clear_policy, clear_sums, clear_moment, clear_files, clear_envelope, clear_type, clear_owners}
 use Rattle.it_verify.proofs.Failures.{fails_at, refused_weaker}
 
-module _ (check : Check) (inputs : Inputs) where
+module _ (panel : Panel) (inputs : Inputs) where
   abbrev At : Place → Refusal → Type 0
-  At = Stands check inputs
+  At = Stands panel inputs
 
   abbrev FailsFirst : Failure → Type 0
-  FailsFirst = RefusedAs (First check inputs)
+  FailsFirst = RefusedAs (First panel inputs)
 
-  and_at : (before : List Place) (place : Place) → NoneAt At before → Clear check inputs place → NoneAt At (before ++ place ∷ [])
+  and_at : (before : List Place) (place : Place) → NoneAt At before → Clear panel inputs place → NoneAt At (before ++ place ∷ [])
   and_at before place none clear = none_append At before (place ∷ []) none (clear, tt)
 
   module _ (policy : Policy) (is_policy : PolicyOf inputs.policy policy) where
     none_to_policy : NoneAt At (take 1 places)
-    none_to_policy = (clear_policy check inputs policy is_policy, tt)
+    none_to_policy = (clear_policy panel inputs policy is_policy, tt)
 
     pub sums_fail : (bytes : List ℕ) (e : Failure) → bytes ≡ inputs.sums → RefusedAs (λ refusal. (line : ℕ) × IsFirstBadLine bytes line × (refusal ≡ whole (BadSums line))) e → FailsFirst e
     sums_fail bytes e same h =
@@ -43,7 +43,7 @@ module _ (check : Check) (inputs : Inputs) where
 
     module _ (delivered : ArtifactMap) (is_delivered : SumsOf inputs.sums delivered) where
       none_to_sums : NoneAt At (take 2 places)
-      none_to_sums = and_at (take 1 places) at_sums none_to_policy (clear_sums check inputs delivered is_delivered)
+      none_to_sums = and_at (take 1 places) at_sums none_to_policy (clear_sums panel inputs delivered is_delivered)
 
       pub moment_fails : (text : List ℕ) (e : Failure) → text ≡ inputs.moment → RefusedAs (λ refusal. ((moment : ℤ) → ¬ MomentOf text moment) × (refusal ≡ whole BadMoment)) e → FailsFirst e
       moment_fails text e same h =
@@ -51,7 +51,7 @@ module _ (check : Check) (inputs : Inputs) where
 
       module _ (moment : ℤ) (is_moment : MomentOf inputs.moment moment) where
         none_to_moment : NoneAt At (take 3 places)
-        none_to_moment = and_at (take 2 places) at_moment none_to_sums (clear_moment check inputs moment is_moment)
+        none_to_moment = and_at (take 2 places) at_moment none_to_sums (clear_moment panel inputs moment is_moment)
 
         pub no_files_fail : (e : Failure) → RefusedAs (λ refusal. (delivered ≡ empty) × (refusal ≡ whole NoFiles)) e → FailsFirst e
         no_files_fail e h =
@@ -60,7 +60,7 @@ module _ (check : Check) (inputs : Inputs) where
 
         module _ (some_file : delivered ≢ empty) where
           none_to_files : NoneAt At (take 4 places)
-          none_to_files = and_at (take 3 places) at_files none_to_moment (clear_files check inputs delivered is_delivered some_file)
+          none_to_files = and_at (take 3 places) at_files none_to_moment (clear_files panel inputs delivered is_delivered some_file)
 
           pub envelope_fails : (bytes : List ℕ) (e : Failure) → bytes ≡ inputs.layout → RefusedAs (λ refusal. ((envelope : Envelope) → ¬ EnvelopeOf bytes envelope) × (refusal ≡ whole BadEnvelope)) e → FailsFirst e
           envelope_fails bytes e same h =
@@ -69,7 +69,7 @@ module _ (check : Check) (inputs : Inputs) where
 
           module _ (envelope : Envelope) (is_envelope : EnvelopeOf inputs.layout envelope) where
             none_to_envelope : NoneAt At (take 5 places)
-            none_to_envelope = and_at (take 4 places) at_envelope none_to_files (clear_envelope check inputs envelope is_envelope)
+            none_to_envelope = and_at (take 4 places) at_envelope none_to_files (clear_envelope panel inputs envelope is_envelope)
 
             pub type_fails : (e : Failure) → RefusedAs (λ refusal. (envelope.payload_type ≢ in_toto_type) × (refusal ≡ whole WrongPayloadType)) e → FailsFirst e
             type_fails e h =
@@ -78,16 +78,16 @@ module _ (check : Check) (inputs : Inputs) where
 
             module _ (in_toto : envelope.payload_type ≡ in_toto_type) where
               none_to_type : NoneAt At (take 6 places)
-              none_to_type = and_at (take 5 places) at_payload_type none_to_envelope (clear_type check inputs envelope is_envelope in_toto)
+              none_to_type = and_at (take 5 places) at_payload_type none_to_envelope (clear_type panel inputs envelope is_envelope in_toto)
 
-              pub owners_fail : (e : Failure) → RefusedAs (IsFirst (OwnerLacks check envelope) (entries policy.owners)) e → FailsFirst e
+              pub owners_fail : (e : Failure) → RefusedAs (IsFirst (OwnerLacks panel envelope) (entries policy.owners)) e → FailsFirst e
               owners_fail e h =
                   fails_at At (take 6 places) at_owners (drop 7 places) e none_to_type
-                  (refused_weaker (IsFirst (OwnerLacks check envelope) (entries policy.owners)) (At at_owners) e (λ r x. (policy, envelope, is_policy, is_envelope, x)) h)
+                  (refused_weaker (IsFirst (OwnerLacks panel envelope) (entries policy.owners)) (At at_owners) e (λ r x. (policy, envelope, is_policy, is_envelope, x)) h)
 
-              module _ (sign : OwnersSign check envelope policy.owners) where
+              module _ (sign : OwnersSign panel envelope policy.owners) where
                 none_to_owners : NoneAt At (take 7 places)
-                none_to_owners = and_at (take 6 places) at_owners none_to_type (clear_owners check inputs envelope is_envelope policy is_policy sign)
+                none_to_owners = and_at (take 6 places) at_owners none_to_type (clear_owners panel inputs envelope is_envelope policy is_policy sign)
 
                 pub layout_fails : (payload : List ℕ) (e : Failure) → payload ≡ envelope.payload → RefusedAs (λ refusal. (part : LayoutPart) × LayoutPartOf payload part × (refusal ≡ whole (BadLayout part))) e → FailsFirst e
                 layout_fails payload e same h =

@@ -8,7 +8,7 @@ use Rattle.it_base.proofs.Firsts.{none_first}
 use Rattle.it_digest.specs.Artifacts.{ArtifactMap}
 use Rattle.it_digest.specs.Sums.{SumsOf}
 use Rattle.it_digest.proofs.SumsLemmas.{IsFirstBadLine-none, SumsOf_same}
-use Rattle.it_dsse.specs.Check.{Check}
+use Rattle.it_dsse.specs.Panel.{Panel}
 use Rattle.it_dsse.specs.Envelope.{EnvelopeOf}
 use Rattle.it_dsse.specs.Signed.{IsSigner}
 use Rattle.it_dsse.specs.declared.envelope.Envelope.{Envelope}
@@ -29,14 +29,14 @@ use Rattle.it_verify.specs.Walk.{DocumentsHold, OwnersSign, document_places}
 use Rattle.it_verify.specs.declared.inputs.Inputs.{Inputs}
 use Rattle.it_verify.specs.declared.refusal.Refusal.{Refusal}
 
-none_lacks : (check : Check) (envelope : Envelope) (owners : List (List ℕ × KeyObject)) → ((owner : List ℕ × KeyObject) → Contains owners owner → IsSigner check envelope owner.1 owner.0) → NoneAt (OwnerLacks check envelope) owners
-none_lacks check envelope [] sign = tt
-none_lacks check envelope (o ∷ os) sign = (λ refusal x. x.0 (sign o (in_head o os)), none_lacks check envelope os (λ owner c. sign owner (in_tail o os owner c)))
+none_lacks : (panel : Panel) (envelope : Envelope) (owners : List (List ℕ × KeyObject)) → ((owner : List ℕ × KeyObject) → Contains owners owner → IsSigner panel envelope owner.1 owner.0) → NoneAt (OwnerLacks panel envelope) owners
+none_lacks panel envelope [] sign = tt
+none_lacks panel envelope (o ∷ os) sign = (λ refusal x. x.0 (sign o (in_head o os)), none_lacks panel envelope os (λ owner c. sign owner (in_tail o os owner c)))
 
-module _ (check : Check) (inputs : Inputs) where
+module _ (panel : Panel) (inputs : Inputs) where
   -- nothing stands at a place
   abbrev pub Clear : Place → Type 0
-  Clear place = (refusal : Refusal) → ¬ Stands check inputs place refusal
+  Clear place = (refusal : Refusal) → ¬ Stands panel inputs place refusal
 
   pub clear_policy : (policy : Policy) → PolicyOf inputs.policy policy → Clear at_policy
   clear_policy policy h refusal x = no_policy inputs.policy x.0 x.1 policy h
@@ -60,16 +60,16 @@ module _ (check : Check) (inputs : Inputs) where
     pub clear_type : envelope.payload_type ≡ in_toto_type → Clear at_payload_type
     clear_type same refusal x = x.2 (subst (λ (e : Envelope). e.payload_type ≡ in_toto_type) (same_envelope x.0 x.1) same)
 
-    pub clear_owners : (policy : Policy) → PolicyOf inputs.policy policy → OwnersSign check envelope policy.owners → Clear at_owners
+    pub clear_owners : (policy : Policy) → PolicyOf inputs.policy policy → OwnersSign panel envelope policy.owners → Clear at_owners
     clear_owners policy is_policy sign refusal x =
-        none_first (OwnerLacks check envelope) (entries policy.owners) refusal (none_lacks check envelope (entries policy.owners) (λ owner c. sign owner.0 owner.1 (entry_known policy.owners owner c)))
-        (subst (λ e. IsFirst (OwnerLacks check e) (entries policy.owners) refusal) (sym (same_envelope x.1 x.3))
-        (subst (λ (p : Policy). IsFirst (OwnerLacks check x.1) (entries p.owners) refusal) (policy_same inputs.policy x.0 policy x.2 is_policy) x.4))
+        none_first (OwnerLacks panel envelope) (entries policy.owners) refusal (none_lacks panel envelope (entries policy.owners) (λ owner c. sign owner.0 owner.1 (entry_known policy.owners owner c)))
+        (subst (λ e. IsFirst (OwnerLacks panel e) (entries policy.owners) refusal) (sym (same_envelope x.1 x.3))
+        (subst (λ (p : Policy). IsFirst (OwnerLacks panel x.1) (entries p.owners) refusal) (policy_same inputs.policy x.0 policy x.2 is_policy) x.4))
 
     pub clear_layout : (layout : Layout) → LayoutOf envelope.payload layout → Clear at_layout
     clear_layout layout h refusal x = no_layout x.0.payload x.1 x.3 layout (subst (λ (e : Envelope). LayoutOf e.payload layout) (same_envelope x.0 x.2) h)
 
-  pub documents_stand : (documents : Documents) → DocumentsHold check inputs documents → NoneAt (Stands check inputs) document_places
+  pub documents_stand : (documents : Documents) → DocumentsHold panel inputs documents → NoneAt (Stands panel inputs) document_places
   documents_stand documents hold =
       let read = hold.read in
       let envelope = documents.envelope in (

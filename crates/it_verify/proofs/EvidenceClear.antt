@@ -4,7 +4,7 @@ use Rattle.std.proofs.Common.{◌≡◌, ℕ, List, [], ◌∷◌, flat_map, zip
 use Rattle.std.specs.List.{AllZip}
 use Rattle.std.specs.FinMap.{entries, get}
 use Rattle.it_digest.specs.declared.compare.DigestSet.{DigestSet}
-use Rattle.it_dsse.specs.Check.{Check}
+use Rattle.it_dsse.specs.Panel.{Panel}
 use Rattle.it_docs.specs.declared.link.Link.{Link}
 use Rattle.it_docs.specs.declared.policy.Expectation.{Expectation}
 use Rattle.it_docs.specs.declared.rule.Side.TheVariants.{Materials, Products}
@@ -43,43 +43,43 @@ no_rule links (i ∷ is) [] h = absurd h
 no_rule links (i ∷ is) (l ∷ ls) h = (λ refusal x. x.2.fails (h.0 Materials x.0), (λ refusal x. x.2.fails (h.0 Products x.0), no_rule links is ls h.1))
 
 -- a file that has provenance does not lack it
-pub file_apart : (check : Check) (inputs : Inputs) (expectations : List Expectation) (file : List ℕ × DigestSet) → HasProvenance check inputs expectations file.0 file.1
-    → (refusal : Refusal) → ¬ FileFails check inputs expectations file refusal
-file_apart check inputs expectations file has refusal =
+pub file_apart : (panel : Panel) (inputs : Inputs) (expectations : List Expectation) (file : List ℕ × DigestSet) → HasProvenance panel inputs expectations file.0 file.1
+    → (refusal : Refusal) → ¬ FileFails panel inputs expectations file refusal
+file_apart panel inputs expectations file has refusal =
     ⊎_elim (λ x. x.0 has.expectation has.fits)
-    (λ x. x.3 has.envelope has.is_line (subst (λ e. Meets check e file.1 has.envelope) (fits_one expectations file.0 has.expectation x.0 has.fits x.2) has.meets))
+    (λ x. x.3 has.envelope has.is_line (subst (λ e. Meets panel e file.1 has.envelope) (fits_one expectations file.0 has.expectation x.0 has.fits x.2) has.meets))
 
-no_file : (check : Check) (inputs : Inputs) (expectations : List Expectation) (files : List (List ℕ × DigestSet))
-    → ((file : List ℕ × DigestSet) → Contains files file → HasProvenance check inputs expectations file.0 file.1) → NoneAt (FileFails check inputs expectations) files
-no_file check inputs expectations [] has = tt
-no_file check inputs expectations (f ∷ fs) has =
-    (file_apart check inputs expectations f (has f (in_head f fs)), no_file check inputs expectations fs (λ file c. has file (in_tail f fs file c)))
+no_file : (panel : Panel) (inputs : Inputs) (expectations : List Expectation) (files : List (List ℕ × DigestSet))
+    → ((file : List ℕ × DigestSet) → Contains files file → HasProvenance panel inputs expectations file.0 file.1) → NoneAt (FileFails panel inputs expectations) files
+no_file panel inputs expectations [] has = tt
+no_file panel inputs expectations (f ∷ fs) has =
+    (file_apart panel inputs expectations f (has f (in_head f fs)), no_file panel inputs expectations fs (λ file c. has file (in_tail f fs file c)))
 
-module _ (check : Check) (inputs : Inputs) (documents : Documents) (read : ReadAs inputs documents) where
-  pub clear_links : (m : List StepResult) → Chain (setting_of check documents) inputs.depth documents.layout inputs.links m → Clear check inputs at_links
+module _ (panel : Panel) (inputs : Inputs) (documents : Documents) (read : ReadAs inputs documents) where
+  pub clear_links : (m : List StepResult) → Chain (setting_of panel documents) inputs.depth documents.layout inputs.links m → Clear panel inputs at_links
   clear_links m holds refusal x =
-      chain_excludes (setting_of check documents) inputs.depth documents.layout inputs.links m x.1 holds
-      (read_alike inputs (λ d. ChainFirst (setting_of check d) inputs.depth d.layout inputs.links x.1) x.0 documents x.2 read x.3)
+      chain_excludes (setting_of panel documents) inputs.depth documents.layout inputs.links m x.1 holds
+      (read_alike inputs (λ d. ChainFirst (setting_of panel d) inputs.depth d.layout inputs.links x.1) x.0 documents x.2 read x.3)
 
-  pub clear_records : (links : List Link) → AllZip (HasRecorded inputs) documents.layout.inspections links → Clear check inputs at_records
+  pub clear_records : (links : List Link) → AllZip (HasRecorded inputs) documents.layout.inspections links → Clear panel inputs at_records
   clear_records links h refusal x =
       none_first (RecordFails inputs) documents.layout.inspections refusal (no_record inputs documents.layout.inspections links h)
       (read_alike inputs (λ d. IsFirst (RecordFails inputs) d.layout.inspections refusal) x.0 documents x.1 read x.2)
 
-  pub clear_provenance : ((path : List ℕ) (digests : DigestSet) → get documents.delivered path ≡ Some digests → HasProvenance check inputs documents.policy.expectations path digests)
-      → Clear check inputs at_provenance
+  pub clear_provenance : ((path : List ℕ) (digests : DigestSet) → get documents.delivered path ≡ Some digests → HasProvenance panel inputs documents.policy.expectations path digests)
+      → Clear panel inputs at_provenance
   clear_provenance has refusal x =
-      none_first (FileFails check inputs documents.policy.expectations) (entries documents.delivered) refusal
-      (no_file check inputs documents.policy.expectations (entries documents.delivered) (λ file c. has file.0 file.1 (entry_known documents.delivered file c)))
-      (read_alike inputs (λ d. IsFirst (FileFails check inputs d.policy.expectations) (entries d.delivered) refusal) x.0 documents x.1 read x.2)
+      none_first (FileFails panel inputs documents.policy.expectations) (entries documents.delivered) refusal
+      (no_file panel inputs documents.policy.expectations (entries documents.delivered) (λ file c. has file.0 file.1 (entry_known documents.delivered file c)))
+      (read_alike inputs (λ d. IsFirst (FileFails panel inputs d.policy.expectations) (entries d.delivered) refusal) x.0 documents x.1 read x.2)
 
-  module _ (evidence : Evidence) (is_evidence : IsEvidence check inputs documents evidence) where
-    pub clear_inspections : AllZip (InspectionRulesHold (links_of evidence)) documents.layout.inspections evidence.inspections → Clear check inputs at_inspections
+  module _ (evidence : Evidence) (is_evidence : IsEvidence panel inputs documents evidence) where
+    pub clear_inspections : AllZip (InspectionRulesHold (links_of evidence)) documents.layout.inspections evidence.inspections → Clear panel inputs at_inspections
     clear_inspections h refusal x =
         none_first (InspectionFails (links_of evidence)) (flat_map sides_of (zip documents.layout.inspections evidence.inspections)) refusal
         (no_rule (links_of evidence) documents.layout.inspections evidence.inspections h)
-        (evident_alike check inputs (λ d e. IsFirst (InspectionFails (links_of e)) (flat_map sides_of (zip d.layout.inspections e.inspections)) refusal) x.0 documents x.1 evidence x.2 read x.3 is_evidence x.4)
+        (evident_alike panel inputs (λ d e. IsFirst (InspectionFails (links_of e)) (flat_map sides_of (zip d.layout.inspections e.inspections)) refusal) x.0 documents x.1 evidence x.2 read x.3 is_evidence x.4)
 
-    pub clear_deliver : RulesHold documents.policy.deliver Products (delivery documents.delivered) (links_of evidence) → Clear check inputs at_deliver
+    pub clear_deliver : RulesHold documents.policy.deliver Products (delivery documents.delivered) (links_of evidence) → Clear panel inputs at_deliver
     clear_deliver h refusal x =
-        (evident_alike check inputs (λ d e. IsFirstFault d.policy.deliver Products (delivery d.delivered) (links_of e) x.2 x.3) x.0 documents x.1 evidence x.4 read x.5 is_evidence x.6).fails (h x.2)
+        (evident_alike panel inputs (λ d e. IsFirstFault d.policy.deliver Products (delivery d.delivered) (links_of e) x.2 x.3) x.0 documents x.1 evidence x.4 read x.5 is_evidence x.6).fails (h x.2)

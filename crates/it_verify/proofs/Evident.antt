@@ -8,7 +8,7 @@ use Rattle.std.proofs.lemmas.Slice.Eq.{bytes_eq-Decides}
 use Rattle.it_base.specs.Finds.{Finds}
 use Rattle.it_base.proofs.Settled.{settled_by}
 use Rattle.it_base.proofs.Firsts.{first_or_all}
-use Rattle.it_dsse.specs.Check.{Check}
+use Rattle.it_dsse.specs.Panel.{Panel}
 use Rattle.it_docs.specs.Link.{LinkOf}
 use Rattle.it_docs.specs.declared.link.Link.{Link}
 use Rattle.it_docs.specs.declared.step.Inspection.{Inspection}
@@ -70,17 +70,17 @@ records_of inputs (i ∷ is) all =
     (first.0 ∷ rest.0, (first.1, rest.1))
 
 -- ---- the places
-module _ (check : Check) (inputs : Inputs) (documents : Documents) (read : ReadAs inputs documents) where
-  pub links_or : StandsOr check inputs at_links ((m : List StepResult) × Chain (setting_of check documents) inputs.depth documents.layout inputs.links m)
-  links_or = elim (holds_or_fails (setting_of check documents) inputs.depth documents.layout inputs.links) [
-    | inl holds ↦ inr (holds, clear_links check inputs documents read holds.0 holds.1)
+module _ (panel : Panel) (inputs : Inputs) (documents : Documents) (read : ReadAs inputs documents) where
+  pub links_or : StandsOr panel inputs at_links ((m : List StepResult) × Chain (setting_of panel documents) inputs.depth documents.layout inputs.links m)
+  links_or = elim (holds_or_fails (setting_of panel documents) inputs.depth documents.layout inputs.links) [
+    | inl holds ↦ inr (holds, clear_links panel inputs documents read holds.0 holds.1)
     | inr fails ↦ inl (refusal_of fails.0, (documents, fails.0, read, fails.1, refl))
   ]
 
-  pub records_or : StandsOr check inputs at_records ((links : List Link) × AllZip (HasRecorded inputs) documents.layout.inspections links)
+  pub records_or : StandsOr panel inputs at_records ((links : List Link) × AllZip (HasRecorded inputs) documents.layout.inspections links)
   records_or = elim (first_or_all (RecordFails inputs) (Recorded inputs) (recorded_apart inputs) (recorded_or_fails inputs) documents.layout.inspections) [
     | inl found ↦ inl (found.0, (documents, read, found.1))
     | inr goods ↦
         let records = records_of inputs documents.layout.inspections goods in
-        inr (records, clear_records check inputs documents read records.0 records.1)
+        inr (records, clear_records panel inputs documents read records.0 records.1)
   ]

@@ -5,7 +5,7 @@ use Rattle.std.proofs.lemmas.List.{get_or-map, length-map, map-append}
 use Rattle.std.proofs.lemmas.Map.Made.{AllPairs-from_IsDistinct}
 use Rattle.std.proofs.lemmas.Simd.{map-map}
 use Rattle.std.proofs.lemmas.Slice.Eq.{bytes_eq-Decides}
-use Rattle.it_dsse.specs.Check.{Check}
+use Rattle.it_dsse.specs.Panel.{Panel}
 use Rattle.it_docs.specs.Step.{names_of}
 use Rattle.it_docs.specs.declared.layout.Layout.{Layout}
 use Rattle.it_docs.specs.declared.link.Link.{Link}
@@ -51,7 +51,7 @@ step_names : (setting : Setting) (depth : ℕ) (layout : Layout) (bundle : Conte
 step_names setting zero layout bundle results h = level_names _ setting layout bundle results h
 step_names setting (suc depth) layout bundle results h = level_names _ setting layout bundle results h
 
-module _ (check : Check) (inputs : Inputs) (documents : Documents) (evidence : Evidence) (is_evidence : IsEvidence check inputs documents evidence) where
+module _ (panel : Panel) (inputs : Inputs) (documents : Documents) (evidence : Evidence) (is_evidence : IsEvidence panel inputs documents evidence) where
   link_names : map (λ (l : List ℕ × Recorded). l.0) (links_of evidence) ≡ names_of documents.layout.steps documents.layout.inspections
   link_names =
       let steps = map-map (λ (l : List ℕ × Recorded). l.0) (λ (r : StepResult). (r.name, recorded_by r)) evidence.steps ∙ step_names _ inputs.depth documents.layout inputs.links evidence.steps is_evidence.steps in

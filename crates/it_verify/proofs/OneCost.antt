@@ -4,7 +4,7 @@ use Rattle.std.specs.FinMap.{keys, len}
 use Rattle.it_base.specs.Sum.{CostsIfFound}
 use Rattle.it_base.proofs.Sums.{IsOne, one_if_found, one_sum}
 use Rattle.it_digest.specs.Sums.{lines_of}
-use Rattle.it_dsse.specs.Check.{Check}
+use Rattle.it_dsse.specs.Panel.{Panel}
 use Rattle.it_dsse.specs.Envelope.{EnvelopeOf}
 use Rattle.it_dsse.specs.declared.envelope.Envelope.{Envelope}
 use Rattle.it_docs.specs.declared.policy.Expectation.{Expectation}
@@ -28,17 +28,17 @@ one_file : (expectations : List Expectation) (signatures : ℕ) → IsOne (FileC
 one_file expectations signatures path =
     one_if_found (Fits expectations path) (λ expectation n. n ≡ key_count expectation.builders * signatures) (fits_one expectations path) (λ expectation m n h k. h ∙ sym k)
 
-module _ (check : Check) (inputs : Inputs) where
+module _ (panel : Panel) (inputs : Inputs) where
   same_owners : (x y : Policy × Envelope) → AreOwners inputs x → AreOwners inputs y → x ≡ y
   same_owners x y h k =
       let policy = policy_same inputs.policy x.0 y.0 h.0 k.0 in
       let envelope = envelope_same inputs.layout x.1 y.1 h.1 k.1 in
       λ i. (policy i, envelope i)
 
-  pub inputs_one_cost : (m n : ℕ) → Costs check inputs m → Costs check inputs n → m ≡ n
+  pub inputs_one_cost : (m n : ℕ) → Costs panel inputs m → Costs panel inputs n → m ≡ n
   inputs_one_cost m n a b =
       let owners = one_if_found (AreOwners inputs) (λ read n. n ≡ len read.0.owners * length read.1.signatures) same_owners (λ read m n h k. h ∙ sym k) a.owners b.owners a.of_owners b.of_owners in
-      let links = one_if_found (ReadAs inputs) (LinksCost check inputs) (read_one inputs) (λ documents. one_cost (setting_of check documents) inputs.depth documents.layout inputs.links) a.links b.links a.of_links b.of_links in
+      let links = one_if_found (ReadAs inputs) (LinksCost panel inputs) (read_one inputs) (λ documents. one_cost (setting_of panel documents) inputs.depth documents.layout inputs.links) a.links b.links a.of_links b.of_links in
       let lines = one_sum (λ (line : List ℕ). CostsIfFound (EnvelopeOf line) HasSignatures) one_line (lines_of inputs.provenance) a.signatures b.signatures a.of_lines b.of_lines in
       let same_lines = subst (λ s. CostsIfFound (ReadAs inputs) (λ documents. FilesCost documents s) b.files) (sym lines) b.of_files in
       let files = one_if_found (ReadAs inputs) (λ documents. FilesCost documents a.signatures) (read_one inputs)

@@ -3,7 +3,7 @@ use Rattle.std.proofs.Common.{◌≡◌, List, [], ◌∷◌, refl, sym, subst, 
 use Rattle.std.proofs.lemmas.Option.{same_Some}
 use Rattle.std.specs.List.{AllZip}
 use Rattle.it_digest.proofs.SumsLemmas.{SumsOf_same}
-use Rattle.it_dsse.specs.Check.{Check}
+use Rattle.it_dsse.specs.Panel.{Panel}
 use Rattle.it_docs.specs.Layout.{LayoutOf}
 use Rattle.it_docs.specs.Link.{LinkOf}
 use Rattle.it_docs.specs.declared.step.Inspection.{Inspection}
@@ -40,9 +40,9 @@ records_one inputs (i ∷ is) (x ∷ a) (y ∷ b) h k =
     let rest = records_one inputs is a b h.1 k.1 in
     λ j. first j ∷ rest j
 
-pub evidence_one : (check : Check) (inputs : Inputs) (documents : Documents) (a b : Evidence) → IsEvidence check inputs documents a → IsEvidence check inputs documents b → a ≡ b
-evidence_one check inputs documents a b h k =
-    let steps = chain_one (setting_of check documents) inputs.depth documents.layout inputs.links a.steps b.steps h.steps k.steps in
+pub evidence_one : (panel : Panel) (inputs : Inputs) (documents : Documents) (a b : Evidence) → IsEvidence panel inputs documents a → IsEvidence panel inputs documents b → a ≡ b
+evidence_one panel inputs documents a b h k =
+    let steps = chain_one (setting_of panel documents) inputs.depth documents.layout inputs.links a.steps b.steps h.steps k.steps in
     let inspections = records_one inputs documents.layout.inspections a.inspections b.inspections h.inspections k.inspections in
     λ i. record { steps = steps i; inspections = inspections i }
 
@@ -50,8 +50,8 @@ evidence_one check inputs documents a b h k =
 pub read_alike : (inputs : Inputs) (F : Documents → Type 0) (a b : Documents) → ReadAs inputs a → ReadAs inputs b → F a → F b
 read_alike inputs F a b h k = subst F (read_one inputs a b h k)
 
-pub evident_alike : (check : Check) (inputs : Inputs) (F : Documents → Evidence → Type 0) (a b : Documents) (x y : Evidence) → ReadAs inputs a → ReadAs inputs b → IsEvidence check inputs a x → IsEvidence check inputs b y
+pub evident_alike : (panel : Panel) (inputs : Inputs) (F : Documents → Evidence → Type 0) (a b : Documents) (x y : Evidence) → ReadAs inputs a → ReadAs inputs b → IsEvidence panel inputs a x → IsEvidence panel inputs b y
     → F a x → F b y
-evident_alike check inputs F a b x y h k is are f =
-    let given = read_alike inputs (λ d. IsEvidence check inputs d x) a b h k is in
-    subst (F b) (evidence_one check inputs b x y given are) (read_alike inputs (λ d. F d x) a b h k f)
+evident_alike panel inputs F a b x y h k is are f =
+    let given = read_alike inputs (λ d. IsEvidence panel inputs d x) a b h k is in
+    subst (F b) (evidence_one panel inputs b x y given are) (read_alike inputs (λ d. F d x) a b h k f)

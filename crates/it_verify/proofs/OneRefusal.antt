@@ -5,7 +5,7 @@ use Rattle.it_base.specs.Places.{IsFirst}
 use Rattle.it_base.proofs.Firsts.{OneAt, OneFirst, one_more, one_none}
 use Rattle.it_digest.specs.declared.compare.DigestSet.{DigestSet}
 use Rattle.it_digest.proofs.SumsLemmas.{bad_line_one}
-use Rattle.it_dsse.specs.Check.{Check}
+use Rattle.it_dsse.specs.Panel.{Panel}
 use Rattle.it_docs.specs.LayoutPart.{LayoutPartOf}
 use Rattle.it_docs.specs.declared.link.Link.{Link}
 use Rattle.it_docs.specs.declared.rule.Side.{Side}
@@ -45,27 +45,27 @@ one_side links (side, (inspection, link)) a b h k =
     let same = fault_one (rules_on side inspection) side (recorded_in link) links h.0 k.0 h.1 k.1 h.2 k.2 in
     h.3 ∙ (λ i. whole (RuleFailed (of_inspection inspection.name) side (same.0 i) (same.1 i))) ∙ sym k.3
 
-one_file : (check : Check) (inputs : Inputs) (expectations : List Expectation) (file : List ℕ × DigestSet) → OneAt (FileFails check inputs expectations) file
-one_file check inputs expectations file a b h k =
+one_file : (panel : Panel) (inputs : Inputs) (expectations : List Expectation) (file : List ℕ × DigestSet) → OneAt (FileFails panel inputs expectations) file
+one_file panel inputs expectations file a b h k =
     ⊎_elim (λ x. ⊎_elim (λ y. x.1 ∙ sym y.1) (λ y. absurd (x.0 y.0 y.2)) k)
     (λ x. ⊎_elim (λ y. absurd (y.0 x.0 x.2))
     (λ y.
     let expectation = fits_one expectations file.0 x.0 y.0 x.2 y.2 in
-    let best_there = subst (λ e. IsBest check e file.1 (IsProvenanceLine inputs) x.1) expectation x.4 in
-    let best = best_is_one check y.0 file.1 (IsProvenanceLine inputs) x.1 y.1 best_there y.4 in
+    let best_there = subst (λ e. IsBest panel e file.1 (IsProvenanceLine inputs) x.1) expectation x.4 in
+    let best = best_is_one panel y.0 file.1 (IsProvenanceLine inputs) x.1 y.1 best_there y.4 in
     x.5 ∙ ap (λ level. whole (NoProvenance file.0 level)) best ∙ sym y.5) k) h
 
-module _ (check : Check) (inputs : Inputs) where
+module _ (panel : Panel) (inputs : Inputs) where
   -- ---- place by place
   abbrev OneStands : Place → Type 0
-  OneStands = OneAt (Stands check inputs)
+  OneStands = OneAt (Stands panel inputs)
 
   one_owner : OneStands at_owners
   one_owner a b h k =
       let policy = policy_same inputs.policy h.0 k.0 h.2 k.2 in
       let envelope = envelope_same inputs.layout h.1 k.1 h.3 k.3 in
-      one_each (OwnerLacks check k.1) (λ owner x y p q. p.1 ∙ sym q.1) (entries k.0.owners) a b
-      (subst (λ e. IsFirst (OwnerLacks check e) (entries k.0.owners) a) envelope (subst (λ p. IsFirst (OwnerLacks check h.1) (entries p.owners) a) policy h.4)) k.4
+      one_each (OwnerLacks panel k.1) (λ owner x y p q. p.1 ∙ sym q.1) (entries k.0.owners) a b
+      (subst (λ e. IsFirst (OwnerLacks panel e) (entries k.0.owners) a) envelope (subst (λ p. IsFirst (OwnerLacks panel h.1) (entries p.owners) a) policy h.4)) k.4
 
   one_layout_part : OneStands at_layout
   one_layout_part a b h k =
@@ -74,8 +74,8 @@ module _ (check : Check) (inputs : Inputs) where
 
   one_of_links : OneStands at_links
   one_of_links a b h k =
-      let first = read_alike inputs (λ d. ChainFirst (setting_of check d) inputs.depth d.layout inputs.links h.1) h.0 k.0 h.2 k.2 h.3 in
-      h.4 ∙ ap refusal_of (first_one (setting_of check k.0) inputs.depth k.0.layout inputs.links h.1 k.1 first k.3) ∙ sym k.4
+      let first = read_alike inputs (λ d. ChainFirst (setting_of panel d) inputs.depth d.layout inputs.links h.1) h.0 k.0 h.2 k.2 h.3 in
+      h.4 ∙ ap refusal_of (first_one (setting_of panel k.0) inputs.depth k.0.layout inputs.links h.1 k.1 first k.3) ∙ sym k.4
 
   one_of_records : OneStands at_records
   one_of_records a b h k =
@@ -84,18 +84,18 @@ module _ (check : Check) (inputs : Inputs) where
   one_of_inspections : OneStands at_inspections
   one_of_inspections a b h k =
       one_each (InspectionFails (links_of k.1)) (one_side (links_of k.1)) (flat_map sides_of (zip k.0.layout.inspections k.1.inspections)) a b
-      (evident_alike check inputs (λ d e. IsFirst (InspectionFails (links_of e)) (flat_map sides_of (zip d.layout.inspections e.inspections)) a) h.0 k.0 h.1 k.1 h.2 k.2 h.3 k.3 h.4) k.4
+      (evident_alike panel inputs (λ d e. IsFirst (InspectionFails (links_of e)) (flat_map sides_of (zip d.layout.inspections e.inspections)) a) h.0 k.0 h.1 k.1 h.2 k.2 h.3 k.3 h.4) k.4
 
   one_delivery : OneStands at_deliver
   one_delivery a b h k =
-      let fault = evident_alike check inputs (λ d e. IsFirstFault d.policy.deliver Products (delivery d.delivered) (links_of e) h.2 h.3) h.0 k.0 h.1 k.1 h.4 k.4 h.5 k.5 h.6 in
+      let fault = evident_alike panel inputs (λ d e. IsFirstFault d.policy.deliver Products (delivery d.delivered) (links_of e) h.2 h.3) h.0 k.0 h.1 k.1 h.4 k.4 h.5 k.5 h.6 in
       let same = fault_one k.0.policy.deliver Products (delivery k.0.delivered) (links_of k.1) h.2 k.2 h.3 k.3 fault k.6 in
       h.7 ∙ (λ i. whole (RuleFailed Deliver Products (same.0 i) (same.1 i))) ∙ sym k.7
 
   one_of_files : OneStands at_provenance
   one_of_files a b h k =
-      one_each (FileFails check inputs k.0.policy.expectations) (one_file check inputs k.0.policy.expectations) (entries k.0.delivered) a b
-      (read_alike inputs (λ d. IsFirst (FileFails check inputs d.policy.expectations) (entries d.delivered) a) h.0 k.0 h.1 k.1 h.2) k.2
+      one_each (FileFails panel inputs k.0.policy.expectations) (one_file panel inputs k.0.policy.expectations) (entries k.0.delivered) a b
+      (read_alike inputs (λ d. IsFirst (FileFails panel inputs d.policy.expectations) (entries d.delivered) a) h.0 k.0 h.1 k.1 h.2) k.2
 
   one_stands : (place : Place) → OneStands place
   one_stands at_policy a b h k = h.2 ∙ ap (λ part. whole (BadPolicy part)) (policy_part_one inputs.policy h.0 k.0 h.1 k.1) ∙ sym k.2
@@ -112,9 +112,9 @@ module _ (check : Check) (inputs : Inputs) where
   one_stands at_deliver a b h k = one_delivery a b h k
   one_stands at_provenance a b h k = one_of_files a b h k
 
-  pub refusal_one : (a b : Refusal) → First check inputs a → First check inputs b → a ≡ b
-  refusal_one = one_each (Stands check inputs) one_stands places
+  pub refusal_one : (a b : Refusal) → First panel inputs a → First panel inputs b → a ≡ b
+  refusal_one = one_each (Stands panel inputs) one_stands places
 
-  pub verdict_one : (documents other : Documents) (evidence given : Evidence) → IsMadeBy check inputs documents evidence → IsMadeBy check inputs other given → verdict_of documents evidence ≡ verdict_of other given
+  pub verdict_one : (documents other : Documents) (evidence given : Evidence) → IsMadeBy panel inputs documents evidence → IsMadeBy panel inputs other given → verdict_of documents evidence ≡ verdict_of other given
   verdict_one documents other evidence given h k =
-      evident_alike check inputs (λ d e. verdict_of documents evidence ≡ verdict_of d e) documents other evidence given h.read k.read h.is_evidence k.is_evidence refl
+      evident_alike panel inputs (λ d e. verdict_of documents evidence ≡ verdict_of d e) documents other evidence given h.read k.read h.is_evidence k.is_evidence refl

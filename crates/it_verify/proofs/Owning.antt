@@ -6,7 +6,7 @@ use Rattle.std.proofs.lemmas.List.Elements.{All-contains, All-contains_itself, A
 use Rattle.std.proofs.lemmas.List.Sums.{sum_by-cons, sum_by_push}
 use Rattle.it_base.specs.Places.{IsFirst}
 use Rattle.it_base.proofs.Firsts.{none_at_good}
-use Rattle.it_dsse.specs.Check.{Check}
+use Rattle.it_dsse.specs.Panel.{Panel}
 use Rattle.it_dsse.specs.Meter.{RaisedBy, raised}
 use Rattle.it_dsse.specs.Signed.{IsSigner, tries}
 use Rattle.it_dsse.specs.declared.envelope.Envelope.{Envelope}
@@ -23,22 +23,22 @@ use Rattle.it_verify.specs.declared.failure.Failure.{Failure}
 use Rattle.it_verify.specs.declared.refusal.Refusal.{Refusal}
 use Rattle.it_verify.proofs.Failures.{fails_at}
 
-module _ (check : Check) (envelope : Envelope) where
+module _ (panel : Panel) (envelope : Envelope) where
   abbrev pub Signs : List ℕ × KeyObject → Type 0
-  Signs owner = IsSigner check envelope owner.1 owner.0
+  Signs owner = IsSigner panel envelope owner.1 owner.0
 
-  pub signs_apart : (owner : List ℕ × KeyObject) → Signs owner → (refusal : Refusal) → ¬ OwnerLacks check envelope owner refusal
+  pub signs_apart : (owner : List ℕ × KeyObject) → Signs owner → (refusal : Refusal) → ¬ OwnerLacks panel envelope owner refusal
   signs_apart owner signs refusal x = x.0 signs
 
   -- ---- how many signatures are tried
   abbrev tries_of : List ℕ × KeyObject → ℕ
-  tries_of owner = tries check envelope owner.0 owner.1
+  tries_of owner = tries panel envelope owner.0 owner.1
 
   tried_at_most : (owners : List (List ℕ × KeyObject)) → sum_by tries_of owners ≤ length owners * length envelope.signatures
   tried_at_most [] = omega arith
   tried_at_most (owner ∷ owners) =
       let all = sum_by-cons tries_of owner owners in
-      let first = tries_at_most check envelope owner.0 owner.1 in
+      let first = tries_at_most panel envelope owner.0 owner.1 in
       let others = tried_at_most owners in
       omega arith
 
@@ -47,17 +47,17 @@ module _ (check : Check) (envelope : Envelope) where
   tried_at_least (owner ∷ owners) signed =
       let all = sum_by-cons tries_of owner owners in
       let signs = All-head Signs owner owners signed in
-      let first = signed_tries check envelope owner.0 owner.1 signs.0 signs.1 in
+      let first = signed_tries panel envelope owner.0 owner.1 signs.0 signs.1 in
       let others = tried_at_least owners (All-tail Signs owner owners signed) in
       omega arith
 
   module _ (owners : Named KeyObject) where
     -- the key of each owner in the map signed
-    pub owners_sign : All Signs (entries owners) → OwnersSign check envelope owners
+    pub owners_sign : All Signs (entries owners) → OwnersSign panel envelope owners
     owners_sign signed id object known = All-contains Signs (entries owners) (id, object) signed (known_entry owners id object known)
 
     -- where they signed, a signature was tried for each
-    pub owners_tried : OwnersSign check envelope owners → len owners ≤ owner_tries check envelope owners
+    pub owners_tried : OwnersSign panel envelope owners → len owners ≤ owner_tries panel envelope owners
     owners_tried sign =
         let signed = All-weaker (λ owner. Contains (entries owners) owner) Signs (λ owner c. sign owner.0 owner.1 (entry_known owners owner c)) (entries owners) (All-contains_itself (entries owners)) in
         rw (len-entries owners) (tried_at_least (entries owners) signed)
@@ -72,18 +72,18 @@ module _ (check : Check) (envelope : Envelope) where
     pub none_asked : (meter : Meter) (rest : List (List ℕ × KeyObject)) → rest ≡ entries owners → Asked meter meter rest
     none_asked meter rest all = record { done = []; split = sym all; signed = All-nil Signs; counted = sym (raised-zero meter) }
 
-    most_of : (start now : Meter) → now ≡ raised start (owner_tries check envelope owners) → RaisedBy (λ n. n ≤ len owners * length envelope.signatures) start now
-    most_of start now counted = (owner_tries check envelope owners, rw (len-entries owners) (tried_at_most (entries owners)), counted)
+    most_of : (start now : Meter) → now ≡ raised start (owner_tries panel envelope owners) → RaisedBy (λ n. n ≤ len owners * length envelope.signatures) start now
+    most_of start now counted = (owner_tries panel envelope owners, rw (len-entries owners) (tried_at_most (entries owners)), counted)
 
     -- all were asked
     module _ (start now : Meter) (asked : Asked start now []) where
       all_done : entries owners ≡ asked.done
       all_done = asked.split ∙ append-nil asked.done
 
-      pub all_sign : OwnersSign check envelope owners
+      pub all_sign : OwnersSign panel envelope owners
       all_sign = owners_sign (subst (All Signs) (sym all_done) asked.signed)
 
-      pub all_counted : now ≡ raised start (owner_tries check envelope owners)
+      pub all_counted : now ≡ raised start (owner_tries panel envelope owners)
       all_counted = asked.counted ∙ ap (λ done. raised start (sum_by tries_of done)) (sym all_done)
 
       pub all_at_most : RaisedBy (λ n. n ≤ len owners * length envelope.signatures) start now
@@ -91,10 +91,10 @@ module _ (check : Check) (envelope : Envelope) where
 
     module _ (owner : List ℕ × KeyObject) (rest : List (List ℕ × KeyObject)) (start now new : Meter) (asked : Asked start now (owner ∷ rest)) where
       -- the first of the owners that did not sign
-      pub owner_missing : (e : Failure) → RefusedAs (OwnerLacks check envelope owner) e → RefusedAs (IsFirst (OwnerLacks check envelope) (entries owners)) e
+      pub owner_missing : (e : Failure) → RefusedAs (OwnerLacks panel envelope owner) e → RefusedAs (IsFirst (OwnerLacks panel envelope) (entries owners)) e
       owner_missing e lacks =
-          subst (λ os. RefusedAs (IsFirst (OwnerLacks check envelope) os) e) (sym asked.split)
-          (fails_at (OwnerLacks check envelope) asked.done owner rest e (none_at_good (OwnerLacks check envelope) Signs signs_apart asked.done asked.signed) lacks)
+          subst (λ os. RefusedAs (IsFirst (OwnerLacks panel envelope) os) e) (sym asked.split)
+          (fails_at (OwnerLacks panel envelope) asked.done owner rest e (none_at_good (OwnerLacks panel envelope) Signs signs_apart asked.done asked.signed) lacks)
 
       module _ (once : new ≡ raised now (tries_of owner)) where
         abbrev next : List (List ℕ × KeyObject)

@@ -7,7 +7,7 @@ use Rattle.it_base.specs.Sum.{IsSum}
 use Rattle.it_base.specs.Places.{IsFirst}
 use Rattle.it_digest.specs.Artifacts.{ArtifactMap}
 use Rattle.it_digest.specs.declared.compare.DigestSet.{DigestSet}
-use Rattle.it_dsse.specs.Check.{Check}
+use Rattle.it_dsse.specs.Panel.{Panel}
 use Rattle.it_dsse.specs.Meter.{RaisedBy}
 use Rattle.it_dsse.specs.declared.envelope.Envelope.{Envelope}
 use Rattle.it_dsse.specs.declared.meter.Meter.{Meter}
@@ -44,12 +44,12 @@ pub file_at_most : (expectations : List Expectation) (path : List ℕ) (signatur
 file_at_most expectations path signatures start new fits none most =
     ⊎_elim (λ x. subst (λ m. RaisedBy (λ n. n ≤ m) start new) (sym x.2) (fits x.0 x.1)) (λ x. raised_none most start new (none x.0))
 
-module _ (check : Check) (expectations : List Expectation) (envelopes : List Envelope) (delivered : ArtifactMap) (start : Meter) where
+module _ (panel : Panel) (expectations : List Expectation) (envelopes : List Envelope) (delivered : ArtifactMap) (start : Meter) where
   abbrev Cost : List ℕ → ℕ → Type 0
   Cost = FileCosts expectations (signature_count envelopes)
 
   abbrev Asks : List ℕ × DigestSet → ℕ → Type 0
-  Asks = FileAsks check expectations envelopes
+  Asks = FileAsks panel expectations envelopes
 
   abbrev paths_of : List (List ℕ × DigestSet) → List (List ℕ)
   paths_of files = map (λ file. file.0) files
@@ -58,7 +58,7 @@ module _ (check : Check) (expectations : List Expectation) (envelopes : List Env
   pub record Searched (now : Meter) (rest : List (List ℕ × DigestSet)) : Type 0 where
     pub done : List (List ℕ × DigestSet)
     pub all : entries delivered ≡ done ++ rest
-    pub proven : AllByRecursion (FileProven check expectations envelopes) done
+    pub proven : AllByRecursion (FileProven panel expectations envelopes) done
     pub at_most : (most : ℕ) → IsSum Cost (paths_of done) most → RaisedBy (λ n. n ≤ most) start now
     pub at_least : RaisedBy (AtLeast (IsSum Asks done)) start now
 
@@ -89,11 +89,11 @@ module _ (check : Check) (expectations : List Expectation) (envelopes : List Env
           raised_then (λ n. n ≤ parts.0) (λ n. n ≤ last.0) (λ n. n ≤ most) (λ m n p q. omega arith) start now new (searched.at_most parts.0 parts.2) (one_at_most last.0 last.2)
 
       -- a file more
-      pub one_searched : FileProven check expectations envelopes file → RaisedBy (AtLeast (Asks file)) now new → Searched new rest
+      pub one_searched : FileProven panel expectations envelopes file → RaisedBy (AtLeast (Asks file)) now new → Searched new rest
       one_searched is_proven at_least = record {
         done = next;
         all = all_next;
-        proven = proven_more check expectations envelopes searched.done file searched.proven is_proven;
+        proven = proven_more panel expectations envelopes searched.done file searched.proven is_proven;
         at_most = next_at_most;
         at_least = raised_then (AtLeast (IsSum Asks searched.done)) (AtLeast (Asks file)) (AtLeast (IsSum Asks next))
             (λ m n p q. (p.0 + q.0, sum_push Asks searched.done file p.0 q.0 p.1 q.1, omega (arith, p.2, q.2))) start now new searched.at_least at_least;
@@ -110,15 +110,15 @@ module _ (check : Check) (expectations : List Expectation) (envelopes : List Env
           (h.0, omega arith, h.2)
 
     -- the first file that lacks provenance
-    pub one_lacks : (e : Failure) → RefusedAs (FileLacks check expectations envelopes file) e → RefusedAs (IsFirst (FileLacks check expectations envelopes) (entries delivered)) e
-    one_lacks e lacks = first_lacks check expectations envelopes (entries delivered) searched.done file rest e searched.all searched.proven lacks
+    pub one_lacks : (e : Failure) → RefusedAs (FileLacks panel expectations envelopes file) e → RefusedAs (IsFirst (FileLacks panel expectations envelopes) (entries delivered)) e
+    one_lacks e lacks = first_lacks panel expectations envelopes (entries delivered) searched.done file rest e searched.all searched.proven lacks
 
   module _ (now : Meter) (searched : Searched now []) where
     all_done : entries delivered ≡ searched.done
     all_done = searched.all ∙ append-nil searched.done
 
-    pub all_searched : AllByRecursion (FileProven check expectations envelopes) (entries delivered)
-    all_searched = subst (AllByRecursion (FileProven check expectations envelopes)) (sym all_done) searched.proven
+    pub all_searched : AllByRecursion (FileProven panel expectations envelopes) (entries delivered)
+    all_searched = subst (AllByRecursion (FileProven panel expectations envelopes)) (sym all_done) searched.proven
 
     pub all_at_most : (most : ℕ) → IsSum Cost (keys delivered) most → RaisedBy (λ n. n ≤ most) start now
     all_at_most most cost = searched.at_most most (subst (λ files. IsSum Cost (paths_of files) most) all_done cost)

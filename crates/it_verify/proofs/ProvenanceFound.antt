@@ -9,7 +9,7 @@ use Rattle.it_base.proofs.Firsts.{first_alike}
 use Rattle.it_digest.specs.Artifacts.{ArtifactMap}
 use Rattle.it_digest.specs.Sums.{lines_of}
 use Rattle.it_digest.specs.declared.compare.DigestSet.{DigestSet}
-use Rattle.it_dsse.specs.Check.{Check}
+use Rattle.it_dsse.specs.Panel.{Panel}
 use Rattle.it_dsse.specs.Envelope.{EnvelopeOf}
 use Rattle.it_dsse.specs.declared.envelope.Envelope.{Envelope}
 use Rattle.it_docs.specs.declared.policy.Expectation.{Expectation}
@@ -35,12 +35,12 @@ use Rattle.it_verify.specs.declared.refusal.Refusal.{Refusal}
 use Rattle.it_verify.proofs.Failures.{fails_at}
 
 -- ---- among envelopes
-module _ (check : Check) (expectations : List Expectation) (envelopes : List Envelope) where
+module _ (panel : Panel) (expectations : List Expectation) (envelopes : List Envelope) where
   abbrev Proven : List ℕ × DigestSet → Type 0
-  Proven = FileProven check expectations envelopes
+  Proven = FileProven panel expectations envelopes
 
   abbrev Lacks : List ℕ × DigestSet → Refusal → Type 0
-  Lacks = FileLacks check expectations envelopes
+  Lacks = FileLacks panel expectations envelopes
 
   proven_apart : (file : List ℕ × DigestSet) → Proven file → (refusal : Refusal) → ¬ Lacks file refusal
   proven_apart file h refusal =
@@ -48,11 +48,11 @@ module _ (check : Check) (expectations : List Expectation) (envelopes : List Env
       let first = found.first in
       ⊎_elim (λ x. x.0 found.expectation found.fits)
       (λ x. x.1.none_meets first.envelope (Contains-from_place envelopes h.0 first.envelope first.stands)
-      (subst (λ e. Meets check e file.1 first.envelope) (fits_one expectations file.0 found.expectation x.1.expectation found.fits x.1.fits) first.meets))
+      (subst (λ e. Meets panel e file.1 first.envelope) (fits_one expectations file.0 found.expectation x.1.expectation found.fits x.1.fits) first.meets))
 
   -- a refusal that names a file, and the best level of what does not meet its expectation
   pub none_proven : (file : List ℕ × DigestSet) (path : List ℕ) (best : Option ℕ) (e : Failure) → e ≡ Refused (whole (NoProvenance path best))
-      → (path ≡ file.0) × IsMissing check expectations file.0 file.1 envelopes best → RefusedAs (Lacks file) e
+      → (path ≡ file.0) × IsMissing panel expectations file.0 file.1 envelopes best → RefusedAs (Lacks file) e
   none_proven file path best e is missing = subst (RefusedAs (Lacks file)) (sym is) (inr (best, missing.1, ap (λ named. whole (NoProvenance named best)) missing.0))
 
   none_lacks : (files : List (List ℕ × DigestSet)) → AllByRecursion Proven files → NoneAt Lacks files
@@ -87,17 +87,17 @@ read_of (first ∷ lines) envelopes are envelope line c reads =
     (⊎_elim (λ same. subst (Contains (x.0 ∷ x.1)) (envelope_same line x.0 envelope (subst (λ l. EnvelopeOf l x.0) same x.2) reads) (in_head x.0 x.1)) (λ d. in_tail x.0 x.1 envelope (later x.1 x.4 d)) (in_cases first lines line c)))
     (λ x. ⊎_elim (λ same. absurd (x.0 envelope (subst (λ l. EnvelopeOf l envelope) (sym same) reads))) (later envelopes x.1) (in_cases first lines line c)) are
 
-module _ (check : Check) (inputs : Inputs) (expectations : List Expectation) (envelopes : List Envelope) (are : AreRead (lines_of inputs.provenance) envelopes) where
+module _ (panel : Panel) (inputs : Inputs) (expectations : List Expectation) (envelopes : List Envelope) (are : AreRead (lines_of inputs.provenance) envelopes) where
   is_line : (envelope : Envelope) → Contains envelopes envelope → IsProvenanceLine inputs envelope
   is_line envelope c = let found = line_of (lines_of inputs.provenance) envelopes are envelope c in record { line = found.0; stands = found.1; reads = found.2 }
 
-  has_provenance : (file : List ℕ × DigestSet) → FileProven check expectations envelopes file → HasProvenance check inputs expectations file.0 file.1
+  has_provenance : (file : List ℕ × DigestSet) → FileProven panel expectations envelopes file → HasProvenance panel inputs expectations file.0 file.1
   has_provenance file h =
       let first = h.1.first in
       record { expectation = h.1.expectation; envelope = first.envelope; fits = h.1.fits; is_line = is_line first.envelope (Contains-from_place envelopes h.0 first.envelope first.stands); meets = first.meets }
 
   -- a file takes what is asked among the envelopes
-  pub file_takes : (file : List ℕ × DigestSet) (n : ℕ) → FileAsks check expectations envelopes file n → FileTakes check inputs expectations file n
+  pub file_takes : (file : List ℕ × DigestSet) (n : ℕ) → FileAsks panel expectations envelopes file n → FileTakes panel inputs expectations file n
   file_takes file n h =
       let at = h.1.asked in
       record { expectation = h.1.expectation; envelope = at.envelope; fits = h.1.fits; is_line = is_line at.envelope (Contains-from_place envelopes h.0 at.envelope at.stands); asked = at.asked }
@@ -107,14 +107,14 @@ module _ (check : Check) (inputs : Inputs) (expectations : List Expectation) (en
   is_read envelope is = read_of (lines_of inputs.provenance) envelopes are envelope is.line is.stands is.reads
 
   abbrev HasLevel : (Envelope → Type 0) → Expectation → DigestSet → ℕ → Type 0
-  HasLevel P expectation digests level = (envelope : Envelope) × P envelope × MeetsAtLevel check expectation digests envelope level
+  HasLevel P expectation digests level = (envelope : Envelope) × P envelope × MeetsAtLevel panel expectation digests envelope level
 
   best_alike : (P Q : Envelope → Type 0) → ((envelope : Envelope) → P envelope → Q envelope) → ((envelope : Envelope) → Q envelope → P envelope)
-      → (expectation : Expectation) (digests : DigestSet) (best : Option ℕ) → IsBest check expectation digests P best → IsBest check expectation digests Q best
+      → (expectation : Expectation) (digests : DigestSet) (best : Option ℕ) → IsBest panel expectation digests P best → IsBest panel expectation digests Q best
   best_alike P Q to from expectation digests =
       greatest_alike (HasLevel P expectation digests) (HasLevel Q expectation digests) (λ level h. (h.0, to h.0 h.1, h.2)) (λ level h. (h.0, from h.0 h.1, h.2))
 
-  lacks_fails : (file : List ℕ × DigestSet) (refusal : Refusal) → FileLacks check expectations envelopes file refusal → FileFails check inputs expectations file refusal
+  lacks_fails : (file : List ℕ × DigestSet) (refusal : Refusal) → FileLacks panel expectations envelopes file refusal → FileFails panel inputs expectations file refusal
   lacks_fails file refusal =
       ⊎_elim inl
       (λ x. inr (
@@ -126,7 +126,7 @@ module _ (check : Check) (inputs : Inputs) (expectations : List Expectation) (en
         x.2,
       ))
 
-  fails_lacks : (file : List ℕ × DigestSet) (refusal : Refusal) → FileFails check inputs expectations file refusal → FileLacks check expectations envelopes file refusal
+  fails_lacks : (file : List ℕ × DigestSet) (refusal : Refusal) → FileFails panel inputs expectations file refusal → FileLacks panel expectations envelopes file refusal
   fails_lacks file refusal =
       ⊎_elim inl
       (λ x. inr (
@@ -141,12 +141,12 @@ module _ (check : Check) (inputs : Inputs) (expectations : List Expectation) (en
       ))
 
   -- each delivered file has provenance
-  pub all_proven : (delivered : ArtifactMap) → AllByRecursion (FileProven check expectations envelopes) (entries delivered)
-      → (path : List ℕ) (digests : DigestSet) → get delivered path ≡ Some digests → HasProvenance check inputs expectations path digests
+  pub all_proven : (delivered : ArtifactMap) → AllByRecursion (FileProven panel expectations envelopes) (entries delivered)
+      → (path : List ℕ) (digests : DigestSet) → get delivered path ≡ Some digests → HasProvenance panel inputs expectations path digests
   all_proven delivered h path digests known =
       has_provenance (path, digests)
-      (All-contains (FileProven check expectations envelopes) (entries delivered) (path, digests) (All-from_recursion (FileProven check expectations envelopes) (entries delivered) h) (known_entry delivered path digests known))
+      (All-contains (FileProven panel expectations envelopes) (entries delivered) (path, digests) (All-from_recursion (FileProven panel expectations envelopes) (entries delivered) h) (known_entry delivered path digests known))
 
   -- the first that has none
-  pub first_unproven : (delivered : ArtifactMap) (refusal : Refusal) → IsFirst (FileLacks check expectations envelopes) (entries delivered) refusal → IsFirst (FileFails check inputs expectations) (entries delivered) refusal
-  first_unproven delivered refusal = first_alike (FileLacks check expectations envelopes) (FileFails check inputs expectations) (entries delivered) (λ file c. lacks_fails file) (λ file c. fails_lacks file) refusal
+  pub first_unproven : (delivered : ArtifactMap) (refusal : Refusal) → IsFirst (FileLacks panel expectations envelopes) (entries delivered) refusal → IsFirst (FileFails panel inputs expectations) (entries delivered) refusal
+  first_unproven delivered refusal = first_alike (FileLacks panel expectations envelopes) (FileFails panel inputs expectations) (entries delivered) (λ file c. lacks_fails file) (λ file c. fails_lacks file) refusal

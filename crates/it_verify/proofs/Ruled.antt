@@ -3,7 +3,7 @@ use Rattle.std.proofs.Common.{◌⊎◌, ℕ, List, [], ◌∷◌, flat_map, zip
 use Rattle.std.specs.List.{AllZip}
 use Rattle.std.proofs.lemmas.List.Elements.{All-head, All-tail}
 use Rattle.it_base.proofs.Firsts.{first_or_all}
-use Rattle.it_dsse.specs.Check.{Check}
+use Rattle.it_dsse.specs.Panel.{Panel}
 use Rattle.it_docs.specs.declared.link.Link.{Link}
 use Rattle.it_docs.specs.declared.rule.Side.{Side}
 use Rattle.it_docs.specs.declared.rule.Side.TheVariants.{Materials, Products}
@@ -53,16 +53,16 @@ module _ (links : Links) where
       by_side m p Products = p
 
 -- ---- the places
-module _ (check : Check) (inputs : Inputs) (documents : Documents) (read : ReadAs inputs documents) (evidence : Evidence) (is_evidence : IsEvidence check inputs documents evidence) where
+module _ (panel : Panel) (inputs : Inputs) (documents : Documents) (read : ReadAs inputs documents) (evidence : Evidence) (is_evidence : IsEvidence panel inputs documents evidence) where
   abbrev judged_in : Documents → Evidence → List (Side × (Inspection × Link))
   judged_in d e = flat_map sides_of (zip d.layout.inspections e.inspections)
 
-  pub inspections_or : StandsOr check inputs at_inspections (AllZip (InspectionRulesHold (links_of evidence)) documents.layout.inspections evidence.inspections)
+  pub inspections_or : StandsOr panel inputs at_inspections (AllZip (InspectionRulesHold (links_of evidence)) documents.layout.inspections evidence.inspections)
   inspections_or = elim (first_or_all (InspectionFails (links_of evidence)) (SideHolds (links_of evidence)) (side_apart (links_of evidence)) (side_or_fails (links_of evidence)) (judged_in documents evidence)) [
     | inl found ↦ inl (found.0, (documents, evidence, read, is_evidence, found.1))
     | inr goods ↦
         let rules = both_sides (links_of evidence) documents.layout.inspections evidence.inspections (HasRecorded inputs) is_evidence.inspections goods in
-        inr (rules, clear_inspections check inputs documents read evidence is_evidence rules)
+        inr (rules, clear_inspections panel inputs documents read evidence is_evidence rules)
   ]
 
   abbrev DeliveryHolds : Type 0
@@ -71,9 +71,9 @@ module _ (check : Check) (inputs : Inputs) (documents : Documents) (read : ReadA
   abbrev DeliveryFails : Documents → Evidence → ℕ → List ℕ → Type 0
   DeliveryFails d e index path = IsFirstFault d.policy.deliver Products (delivery d.delivered) (links_of e) index path
 
-  pub deliver_or : StandsOr check inputs at_deliver DeliveryHolds
+  pub deliver_or : StandsOr panel inputs at_deliver DeliveryHolds
   deliver_or = go (fault_of documents.policy.deliver Products (delivery documents.delivered) (links_of evidence)) (fault_of-is Products (delivery documents.delivered) (links_of evidence) documents.policy.deliver)
     where
-      go : (fault : Option (ℕ × List ℕ)) → MatchOption fault DeliveryHolds (λ f. DeliveryFails documents evidence f.0 f.1) → StandsOr check inputs at_deliver DeliveryHolds
+      go : (fault : Option (ℕ × List ℕ)) → MatchOption fault DeliveryHolds (λ f. DeliveryFails documents evidence f.0 f.1) → StandsOr panel inputs at_deliver DeliveryHolds
       go (Some f) h = inl (whole (RuleFailed Deliver Products f.0 f.1), (documents, evidence, f.0, f.1, read, is_evidence, h, refl))
-      go None h = inr (h, clear_deliver check inputs documents read evidence is_evidence h)
+      go None h = inr (h, clear_deliver panel inputs documents read evidence is_evidence h)

@@ -4,7 +4,7 @@ use Rattle.std.specs.FinMap.{keys, len}
 use Rattle.it_base.specs.Sum.{CostsIfFound}
 use Rattle.it_base.proofs.Sums.{some_if_found, some_sum}
 use Rattle.it_digest.specs.Sums.{lines_of}
-use Rattle.it_dsse.specs.Check.{Check}
+use Rattle.it_dsse.specs.Panel.{Panel}
 use Rattle.it_dsse.specs.Envelope.{EnvelopeOf}
 use Rattle.it_dsse.proofs.Decided.{envelope_of, envelope_of-finds}
 use Rattle.it_docs.specs.declared.policy.Expectation.{Expectation}
@@ -36,33 +36,33 @@ file_cost : (expectations : List Expectation) (signatures : ℕ) (path : List �
 file_cost expectations signatures path =
     some_or_none (Fits expectations path) (λ expectation n. n ≡ key_count expectation.builders * signatures) (λ expectation. (key_count expectation.builders * signatures, refl)) (fits_or_none path expectations)
 
-module _ (check : Check) (inputs : Inputs) where
+module _ (panel : Panel) (inputs : Inputs) where
   -- where something stands at a place at which nothing stands if P holds, nothing is so
-  then_found : {X : Type 0} (P : X → Type 0) {G : Type 0} (place : Place) → StandsOr check inputs place G → ((x : X) → P x → (refusal : Refusal) → ¬ Stands check inputs place refusal) → (G → SomeOrNone P) → SomeOrNone P
+  then_found : {X : Type 0} (P : X → Type 0) {G : Type 0} (place : Place) → StandsOr panel inputs place G → ((x : X) → P x → (refusal : Refusal) → ¬ Stands panel inputs place refusal) → (G → SomeOrNone P) → SomeOrNone P
   then_found P place (inl found) clear next = inr (λ x is. clear x is found.0 found.1)
   then_found P place (inr given) clear next = next given.0
 
   owners_or_none : SomeOrNone (AreOwners inputs)
   owners_or_none =
-      then_found (AreOwners inputs) at_policy (policy_or check inputs) (λ read are. clear_policy check inputs read.0 are.0) (λ policy.
-      then_found (AreOwners inputs) at_envelope (envelope_or check inputs) (λ read are. clear_envelope check inputs read.1 are.1) (λ envelope.
+      then_found (AreOwners inputs) at_policy (policy_or panel inputs) (λ read are. clear_policy panel inputs read.0 are.0) (λ policy.
+      then_found (AreOwners inputs) at_envelope (envelope_or panel inputs) (λ read are. clear_envelope panel inputs read.1 are.1) (λ envelope.
       inl ((policy.0, envelope.0), (policy.1, envelope.1))))
 
   read_or_none : SomeOrNone (ReadAs inputs)
   read_or_none =
-      then_found (ReadAs inputs) at_policy (policy_or check inputs) (λ documents read. clear_policy check inputs documents.policy read.policy) (λ policy.
-      then_found (ReadAs inputs) at_sums (sums_or check inputs) (λ documents read. clear_sums check inputs documents.delivered read.delivered) (λ sums.
-      then_found (ReadAs inputs) at_moment (moment_or check inputs) (λ documents read. clear_moment check inputs documents.moment read.moment) (λ moment.
-      then_found (ReadAs inputs) at_envelope (envelope_or check inputs) (λ documents read. clear_envelope check inputs documents.envelope read.envelope) (λ envelope.
-      then_found (ReadAs inputs) at_payload_type (payload_type_or check inputs envelope.0 envelope.1) (λ documents read. clear_type check inputs documents.envelope read.envelope read.payload_type) (λ payload_type.
-      then_found (ReadAs inputs) at_layout (layout_or check inputs envelope.0 envelope.1) (λ documents read. clear_layout check inputs documents.envelope read.envelope documents.layout read.layout) (λ layout.
+      then_found (ReadAs inputs) at_policy (policy_or panel inputs) (λ documents read. clear_policy panel inputs documents.policy read.policy) (λ policy.
+      then_found (ReadAs inputs) at_sums (sums_or panel inputs) (λ documents read. clear_sums panel inputs documents.delivered read.delivered) (λ sums.
+      then_found (ReadAs inputs) at_moment (moment_or panel inputs) (λ documents read. clear_moment panel inputs documents.moment read.moment) (λ moment.
+      then_found (ReadAs inputs) at_envelope (envelope_or panel inputs) (λ documents read. clear_envelope panel inputs documents.envelope read.envelope) (λ envelope.
+      then_found (ReadAs inputs) at_payload_type (payload_type_or panel inputs envelope.0 envelope.1) (λ documents read. clear_type panel inputs documents.envelope read.envelope read.payload_type) (λ payload_type.
+      then_found (ReadAs inputs) at_layout (layout_or panel inputs envelope.0 envelope.1) (λ documents read. clear_layout panel inputs documents.envelope read.envelope documents.layout read.layout) (λ layout.
       let documents : Documents = record { policy = policy.0; delivered = sums.0; moment = moment.0; envelope = envelope.0; layout = layout.0 } in
       inl (documents, record { policy = policy.1; delivered = sums.1; moment = moment.1; envelope = envelope.1; payload_type = payload_type; layout = layout.1 })))))))
 
-  pub inputs_cost : (n : ℕ) × Costs check inputs n
+  pub inputs_cost : (n : ℕ) × Costs panel inputs n
   inputs_cost =
       let owners = some_or_none (AreOwners inputs) (λ read n. n ≡ len read.0.owners * length read.1.signatures) (λ read. (len read.0.owners * length read.1.signatures, refl)) owners_or_none in
-      let links = some_or_none (ReadAs inputs) (LinksCost check inputs) (λ documents. some_cost (setting_of check documents) inputs.depth documents.layout inputs.links) read_or_none in
+      let links = some_or_none (ReadAs inputs) (LinksCost panel inputs) (λ documents. some_cost (setting_of panel documents) inputs.depth documents.layout inputs.links) read_or_none in
       let lines = some_sum (λ line. CostsIfFound (EnvelopeOf line) HasSignatures) line_cost (lines_of inputs.provenance) in
       let files = some_or_none (ReadAs inputs) (λ documents. FilesCost documents lines.0) (λ documents. some_sum (FileCosts documents.policy.expectations lines.0) (file_cost documents.policy.expectations lines.0) (keys documents.delivered)) read_or_none in (
         owners.0 + links.0 + files.0,

@@ -5,7 +5,7 @@ use Rattle.std.specs.List.{AllByRecursion, AllZip}
 use Rattle.it_base.specs.Places.{IsFirst, NoneAt}
 use Rattle.it_base.proofs.Firsts.{none_append}
 use Rattle.it_digest.specs.Sums.{lines_of}
-use Rattle.it_dsse.specs.Check.{Check}
+use Rattle.it_dsse.specs.Panel.{Panel}
 use Rattle.it_dsse.specs.declared.envelope.Envelope.{Envelope}
 use Rattle.it_docs.specs.declared.rule.Side.TheVariants.{Products}
 use Rattle.it_rules.specs.Rules.{RulesHold}
@@ -34,35 +34,35 @@ use Rattle.it_verify.proofs.ProvenanceFound.{all_proven, first_unproven}
 use Rattle.it_verify.proofs.Refused.{made_not_refused}
 use Rattle.it_verify.proofs.RulesJudged.{Hold, hold_zip}
 
-module _ (check : Check) (inputs : Inputs) (documents : Documents) (hold : DocumentsHold check inputs documents) where
+module _ (panel : Panel) (inputs : Inputs) (documents : Documents) (hold : DocumentsHold panel inputs documents) where
   abbrev At : Place → Refusal → Type 0
-  At = Stands check inputs
+  At = Stands panel inputs
 
   abbrev Fails : Failure → Type 0
-  Fails = RefusedAs (First check inputs)
+  Fails = RefusedAs (First panel inputs)
 
   -- ---- the evidence
   -- the layout does not hold of the links
-  pub links_fail : (e : ChainError) → ((r : ChainRefusal) → e ≡ chain.Refused r → ChainFirst (setting_of check documents) inputs.depth documents.layout inputs.links r) → Fails (failure_of e)
+  pub links_fail : (e : ChainError) → ((r : ChainRefusal) → e ≡ chain.Refused r → ChainFirst (setting_of panel documents) inputs.depth documents.layout inputs.links r) → Fails (failure_of e)
   links_fail (chain.Refused r) first =
-      fails_at At document_places at_links (at_records ∷ at_inspections ∷ at_deliver ∷ at_provenance ∷ []) (Refused (refusal_of r)) (documents_stand check inputs documents hold) (documents, r, hold.read, first r refl, refl)
+      fails_at At document_places at_links (at_records ∷ at_inspections ∷ at_deliver ∷ at_provenance ∷ []) (Refused (refusal_of r)) (documents_stand panel inputs documents hold) (documents, r, hold.read, first r refl, refl)
   links_fail chain.OutOfMemory first = tt
 
   -- it holds, and an inspection lacks its record
-  pub records_fail : (m : List StepResult) (e : Failure) → Chain (setting_of check documents) inputs.depth documents.layout inputs.links m → RefusedAs (IsFirst (RecordFails inputs) documents.layout.inspections) e → Fails e
+  pub records_fail : (m : List StepResult) (e : Failure) → Chain (setting_of panel documents) inputs.depth documents.layout inputs.links m → RefusedAs (IsFirst (RecordFails inputs) documents.layout.inspections) e → Fails e
   records_fail m e holds fails =
       fails_at At (document_places ++ at_links ∷ []) at_records (at_inspections ∷ at_deliver ∷ at_provenance ∷ []) e
-      (none_append At document_places (at_links ∷ []) (documents_stand check inputs documents hold) (clear_links check inputs documents hold.read m holds, tt))
+      (none_append At document_places (at_links ∷ []) (documents_stand panel inputs documents hold) (clear_links panel inputs documents hold.read m holds, tt))
       (refused_weaker (IsFirst (RecordFails inputs) documents.layout.inspections) (At at_records) e (λ r x. (documents, hold.read, x)) fails)
 
-  module _ (evidence : Evidence) (is_evidence : IsEvidence check inputs documents evidence) where
+  module _ (evidence : Evidence) (is_evidence : IsEvidence panel inputs documents evidence) where
     abbrev evidence_places : List Place
     evidence_places = document_places ++ at_links ∷ at_records ∷ []
 
     gathered : NoneAt At evidence_places
     gathered =
-        none_append At document_places (at_links ∷ at_records ∷ []) (documents_stand check inputs documents hold)
-        (clear_links check inputs documents hold.read evidence.steps is_evidence.steps, (clear_records check inputs documents hold.read evidence.inspections is_evidence.inspections, tt))
+        none_append At document_places (at_links ∷ at_records ∷ []) (documents_stand panel inputs documents hold)
+        (clear_links panel inputs documents hold.read evidence.steps is_evidence.steps, (clear_records panel inputs documents hold.read evidence.inspections is_evidence.inspections, tt))
 
     -- ---- the rules
     -- a rule of an inspection fails
@@ -77,7 +77,7 @@ module _ (check : Check) (inputs : Inputs) (documents : Documents) (hold : Docum
       inspection_rules = hold_zip (links_of evidence) documents.layout.inspections evidence.inspections (HasRecorded inputs) is_evidence.inspections rules
 
       judged : NoneAt At (evidence_places ++ at_inspections ∷ [])
-      judged = none_append At evidence_places (at_inspections ∷ []) gathered (clear_inspections check inputs documents hold.read evidence is_evidence inspection_rules, tt)
+      judged = none_append At evidence_places (at_inspections ∷ []) gathered (clear_inspections panel inputs documents hold.read evidence is_evidence inspection_rules, tt)
 
       -- those hold, and a rule on what is delivered fails
       pub deliver_fails : (e : Failure) → RefusedAs (DeliverFails (links_of evidence) documents.policy.deliver documents.delivered) e → Fails e
@@ -88,16 +88,16 @@ module _ (check : Check) (inputs : Inputs) (documents : Documents) (hold : Docum
       module _ (deliver : RulesHold documents.policy.deliver Products (delivery documents.delivered) (links_of evidence)) (envelopes : List Envelope) (are : AreRead (lines_of inputs.provenance) envelopes) where
         -- ---- provenance
         -- those hold too, and a file lacks provenance
-        provenance_fails : (e : Failure) → RefusedAs (IsFirst (FileLacks check documents.policy.expectations envelopes) (entries documents.delivered)) e → Fails e
+        provenance_fails : (e : Failure) → RefusedAs (IsFirst (FileLacks panel documents.policy.expectations envelopes) (entries documents.delivered)) e → Fails e
         provenance_fails e fails =
             fails_at At (evidence_places ++ at_inspections ∷ at_deliver ∷ []) at_provenance [] e
             (none_append At evidence_places (at_inspections ∷ at_deliver ∷ []) gathered
-            (clear_inspections check inputs documents hold.read evidence is_evidence inspection_rules, (clear_deliver check inputs documents hold.read evidence is_evidence deliver, tt)))
-            (refused_weaker (IsFirst (FileLacks check documents.policy.expectations envelopes) (entries documents.delivered)) (At at_provenance) e
-            (λ r x. (documents, hold.read, first_unproven check inputs documents.policy.expectations envelopes are documents.delivered r x)) fails)
+            (clear_inspections panel inputs documents hold.read evidence is_evidence inspection_rules, (clear_deliver panel inputs documents hold.read evidence is_evidence deliver, tt)))
+            (refused_weaker (IsFirst (FileLacks panel documents.policy.expectations envelopes) (entries documents.delivered)) (At at_provenance) e
+            (λ r x. (documents, hold.read, first_unproven panel inputs documents.policy.expectations envelopes are documents.delivered r x)) fails)
 
         -- each file has it
-        made_by : AllByRecursion (FileProven check documents.policy.expectations envelopes) (entries documents.delivered) → IsMadeBy check inputs documents evidence
+        made_by : AllByRecursion (FileProven panel documents.policy.expectations envelopes) (entries documents.delivered) → IsMadeBy panel inputs documents evidence
         made_by proven = record {
           read = hold.read;
           some_file = hold.some_file;
@@ -105,26 +105,26 @@ module _ (check : Check) (inputs : Inputs) (documents : Documents) (hold : Docum
           is_evidence = is_evidence;
           inspection_rules = inspection_rules;
           deliver_rules = deliver;
-          provenance = all_proven check inputs documents.policy.expectations envelopes are documents.delivered proven;
+          provenance = all_proven panel inputs documents.policy.expectations envelopes are documents.delivered proven;
         }
 
         -- each has it, or one does not
         pub judged_whole : (a : Result (Unit {0}) Failure)
-            → MatchResult a (λ _. AllByRecursion (FileProven check documents.policy.expectations envelopes) (entries documents.delivered)) (RefusedAs (IsFirst (FileLacks check documents.policy.expectations envelopes) (entries documents.delivered)))
-            → MatchResult a (λ _. IsMadeBy check inputs documents evidence) Fails
+            → MatchResult a (λ _. AllByRecursion (FileProven panel documents.policy.expectations envelopes) (entries documents.delivered)) (RefusedAs (IsFirst (FileLacks panel documents.policy.expectations envelopes) (entries documents.delivered)))
+            → MatchResult a (λ _. IsMadeBy panel inputs documents evidence) Fails
         judged_whole (Ok x) h = made_by h
         judged_whole (Err e) h = provenance_fails e h
 
 -- ---- the verdict
-module _ (check : Check) (inputs : Inputs) where
-  pub is_verdict : (documents : Documents) (evidence : Evidence) (answer : Verdict) → IsMadeBy check inputs documents evidence → answer ≡ verdict_of documents evidence → IsVerdict check inputs answer
-  is_verdict documents evidence answer made is = subst (IsVerdict check inputs) (sym is) (documents, evidence, made, refl)
+module _ (panel : Panel) (inputs : Inputs) where
+  pub is_verdict : (documents : Documents) (evidence : Evidence) (answer : Verdict) → IsMadeBy panel inputs documents evidence → answer ≡ verdict_of documents evidence → IsVerdict panel inputs answer
+  is_verdict documents evidence answer made is = subst (IsVerdict panel inputs) (sym is) (documents, evidence, made, refl)
 
   -- who is accepted was made, and who is refused was not
-  pub on_accepted : (answer : Verdict) → IsVerdict check inputs answer → OnAccepted answer (Made check inputs)
+  pub on_accepted : (answer : Verdict) → IsVerdict panel inputs answer → OnAccepted answer (Made panel inputs)
   on_accepted (verdict.Accepted steps files) h = record { documents = h.0; evidence = h.1; made = h.2 }
   on_accepted (verdict.Refused refusal) h = tt
 
-  pub on_refused : (answer : Verdict) → IsVerdict check inputs answer → OnRefused answer (¬ Made check inputs)
+  pub on_refused : (answer : Verdict) → IsVerdict panel inputs answer → OnRefused answer (¬ Made panel inputs)
   on_refused (verdict.Accepted steps files) h = tt
-  on_refused (verdict.Refused refusal) h = λ made. made_not_refused check inputs refusal made h
+  on_refused (verdict.Refused refusal) h = λ made. made_not_refused panel inputs refusal made h

@@ -7,7 +7,7 @@ use Rattle.std.proofs.lemmas.List.Sums.{sum_by-cons}
 use Rattle.it_base.specs.Sum.{IsSum}
 use Rattle.it_digest.specs.Sums.{lines_of}
 use Rattle.it_digest.specs.declared.compare.DigestSet.{DigestSet}
-use Rattle.it_dsse.specs.Check.{Check}
+use Rattle.it_dsse.specs.Panel.{Panel}
 use Rattle.it_dsse.specs.Meter.{RaisedBy, raised}
 use Rattle.it_dsse.specs.declared.envelope.Envelope.{Envelope}
 use Rattle.it_dsse.specs.declared.meter.Meter.{Meter}
@@ -51,28 +51,28 @@ pub files_cost : (inputs : Inputs) (documents : Documents) (envelopes : List Env
 files_cost inputs documents envelopes are old new raised signatures most lines cost =
     raised most (subst (λ n. FilesCost documents n most) (lines_have (lines_of inputs.provenance) envelopes are signatures lines) cost)
 
-module _ (check : Check) (inputs : Inputs) (start now : Meter) (owners : (most : ℕ) → OwnersCost inputs most → RaisedBy (λ n. n ≤ most) start now) where
+module _ (panel : Panel) (inputs : Inputs) (start now : Meter) (owners : (most : ℕ) → OwnersCost inputs most → RaisedBy (λ n. n ≤ most) start now) where
   -- after the owners
-  pub owners_most : (most : ℕ) → Costs check inputs most → RaisedBy (λ n. n ≤ most) start now
+  pub owners_most : (most : ℕ) → Costs panel inputs most → RaisedBy (λ n. n ≤ most) start now
   owners_most most cost =
       let total = cost.sum in
       raised_weaker (λ n. n ≤ cost.owners) (λ n. n ≤ most) (λ n few. omega arith) start now (owners cost.owners cost.of_owners)
 
-  module _ (documents : Documents) (read : ReadAs inputs documents) (then_now : Meter) (links : (most : ℕ) → LinksCost check inputs documents most → RaisedBy (λ n. n ≤ most) now then_now) where
-    both : (most : ℕ) (cost : Costs check inputs most) → RaisedBy (λ n. n ≤ cost.owners + cost.links) start then_now
+  module _ (documents : Documents) (read : ReadAs inputs documents) (then_now : Meter) (links : (most : ℕ) → LinksCost panel inputs documents most → RaisedBy (λ n. n ≤ most) now then_now) where
+    both : (most : ℕ) (cost : Costs panel inputs most) → RaisedBy (λ n. n ≤ cost.owners + cost.links) start then_now
     both most cost =
-        let of_links : LinksCost check inputs documents cost.links = ⊎_elim (λ x. read_alike inputs (λ d. LinksCost check inputs d cost.links) x.0 documents x.1 read x.2) (λ x. absurd (x.0 documents read)) cost.of_links in
+        let of_links : LinksCost panel inputs documents cost.links = ⊎_elim (λ x. read_alike inputs (λ d. LinksCost panel inputs d cost.links) x.0 documents x.1 read x.2) (λ x. absurd (x.0 documents read)) cost.of_links in
         raised_then (λ n. n ≤ cost.owners) (λ n. n ≤ cost.links) (λ n. n ≤ cost.owners + cost.links) (λ m n p q. omega arith) start now then_now (owners cost.owners cost.of_owners) (links cost.links of_links)
 
     -- after the layout over the links
-    pub links_most : (most : ℕ) → Costs check inputs most → RaisedBy (λ n. n ≤ most) start then_now
+    pub links_most : (most : ℕ) → Costs panel inputs most → RaisedBy (λ n. n ≤ most) start then_now
     links_most most cost =
         let total = cost.sum in
         raised_weaker (λ n. n ≤ cost.owners + cost.links) (λ n. n ≤ most) (λ n few. omega arith) start then_now (both most cost)
 
     -- after the delivered files
     pub files_most : (new : Meter) → ((signatures most : ℕ) → LinesHave inputs signatures → FilesCost documents signatures most → RaisedBy (λ n. n ≤ most) then_now new)
-        → (most : ℕ) → Costs check inputs most → RaisedBy (λ n. n ≤ most) start new
+        → (most : ℕ) → Costs panel inputs most → RaisedBy (λ n. n ≤ most) start new
     files_most new files most cost =
         let of_files : FilesCost documents cost.signatures cost.files = ⊎_elim (λ x. read_alike inputs (λ d. FilesCost d cost.signatures cost.files) x.0 documents x.1 read x.2) (λ x. absurd (x.0 documents read)) cost.of_files in
         let total = cost.sum in
@@ -84,27 +84,27 @@ sum_weaker P Q f [] n h = h
 sum_weaker P Q f (x ∷ xs) n h = (h.0, h.1, f x h.0 h.2, sum_weaker P Q f xs h.1 h.3, h.4)
 
 -- each delivered file takes a check
-files_each : (check : Check) (inputs : Inputs) (expectations : List Expectation) (files : List (List ℕ × DigestSet)) (n : ℕ) → IsSum (FileTakes check inputs expectations) files n → length files ≤ n
-files_each check inputs expectations [] n h = omega arith
-files_each check inputs expectations (file ∷ files) n h =
+files_each : (panel : Panel) (inputs : Inputs) (expectations : List Expectation) (files : List (List ℕ × DigestSet)) (n : ℕ) → IsSum (FileTakes panel inputs expectations) files n → length files ≤ n
+files_each panel inputs expectations [] n h = omega arith
+files_each panel inputs expectations (file ∷ files) n h =
     let signer = h.2.asked.meets.besides_level.signed in
-    let some = signed_tries check h.2.envelope signer.id signer.object signer.key signer.signed in
+    let some = signed_tries panel h.2.envelope signer.id signer.object signer.key signer.signed in
     let first = h.2.asked.tried in
-    let others = files_each check inputs expectations files h.1 h.3 in
+    let others = files_each panel inputs expectations files h.1 h.3 in
     let total = h.4 in
     omega arith
 
 -- the delivered files, over the envelopes that the lines read as
-pub files_take : (check : Check) (inputs : Inputs) (documents : Documents) (envelopes : List Envelope) → AreRead (lines_of inputs.provenance) envelopes → (old new : Meter) (a : Result (Unit {0}) Failure)
-    → OnOk a (RaisedBy (AtLeast (IsSum (FileAsks check documents.policy.expectations envelopes) (entries documents.delivered))) old new) → OnOk a (RaisedBy (AtLeast (FilesTake check inputs documents)) old new)
-files_take check inputs documents envelopes are old new (Ok x) h =
+pub files_take : (panel : Panel) (inputs : Inputs) (documents : Documents) (envelopes : List Envelope) → AreRead (lines_of inputs.provenance) envelopes → (old new : Meter) (a : Result (Unit {0}) Failure)
+    → OnOk a (RaisedBy (AtLeast (IsSum (FileAsks panel documents.policy.expectations envelopes) (entries documents.delivered))) old new) → OnOk a (RaisedBy (AtLeast (FilesTake panel inputs documents)) old new)
+files_take panel inputs documents envelopes are old new (Ok x) h =
     let asked = h.1 in
-    let take = sum_weaker (FileAsks check documents.policy.expectations envelopes) (FileTakes check inputs documents.policy.expectations)
-    (file_takes check inputs documents.policy.expectations envelopes are) (entries documents.delivered) asked.0 asked.1 in
+    let take = sum_weaker (FileAsks panel documents.policy.expectations envelopes) (FileTakes panel inputs documents.policy.expectations)
+    (file_takes panel inputs documents.policy.expectations envelopes are) (entries documents.delivered) asked.0 asked.1 in
     (h.0, (asked.0, take, asked.2), h.2)
-files_take check inputs documents envelopes are old new (Err e) h = tt
+files_take panel inputs documents envelopes are old new (Err e) h = tt
 
-module _ (check : Check) (inputs : Inputs) (documents : Documents) (hold : DocumentsHold check inputs documents) (evidence : Evidence) where
+module _ (panel : Panel) (inputs : Inputs) (documents : Documents) (hold : DocumentsHold panel inputs documents) (evidence : Evidence) where
   fewest_is : (policy : Policy) → PolicyOf inputs.policy policy
       → fewest policy (map (λ (r : StepResult). (r.name, r.keys)) evidence.steps) (keys documents.delivered) ≡ len documents.policy.owners + sum_by (λ (r : StepResult). r.keys) evidence.steps + len documents.delivered
   fewest_is policy is_policy =
@@ -114,15 +114,15 @@ module _ (check : Check) (inputs : Inputs) (documents : Documents) (hold : Docum
       λ i. owners i + signed i + files i
 
   abbrev tried : ℕ
-  tried = owner_tries check documents.envelope documents.policy.owners
+  tried = owner_tries panel documents.envelope documents.policy.owners
 
-  module _ (start now then_now new : Meter) (counted : now ≡ raised start tried) (files : RaisedBy (AtLeast (FilesTake check inputs documents)) then_now new) where
-    takes_all : ((least : ℕ) → LinksTake check inputs documents least → RaisedBy (λ n. least ≤ n) now then_now) → RaisedBy (AtLeast (Takes check inputs)) start new
+  module _ (start now then_now new : Meter) (counted : now ≡ raised start tried) (files : RaisedBy (AtLeast (FilesTake panel inputs documents)) then_now new) where
+    takes_all : ((least : ℕ) → LinksTake panel inputs documents least → RaisedBy (λ n. least ≤ n) now then_now) → RaisedBy (AtLeast (Takes panel inputs)) start new
     takes_all links =
-        let some = some_fewest (setting_of check documents) inputs.depth documents.layout inputs.links in
+        let some = some_fewest (setting_of panel documents) inputs.depth documents.layout inputs.links in
         let owners : RaisedBy (λ n. tried ≤ n) start now = (tried, omega arith, counted) in
         let both = raised_then (λ n. tried ≤ n) (λ n. some.0 ≤ n) (λ n. tried + some.0 ≤ n) (λ m n p q. omega arith) start now then_now owners (links some.0 some.1) in
-        raised_then (λ n. tried + some.0 ≤ n) (AtLeast (FilesTake check inputs documents)) (AtLeast (Takes check inputs))
+        raised_then (λ n. tried + some.0 ≤ n) (AtLeast (FilesTake panel inputs documents)) (AtLeast (Takes panel inputs))
         (λ m n p q. (tried + some.0 + q.0, record { documents = documents; links = some.0; files = q.0; read = hold.read; of_links = some.1; of_files = q.1; sum = refl }, omega (arith, p, q.2)))
         start then_now new both files
 
@@ -130,16 +130,16 @@ module _ (check : Check) (inputs : Inputs) (documents : Documents) (hold : Docum
     takes_each steps =
         let signed = sum_by (λ (r : StepResult). r.keys) evidence.steps in
         let owned = len documents.policy.owners in
-        let owners : RaisedBy (λ n. owned ≤ n) start now = (tried, owners_tried check documents.envelope documents.policy.owners hold.owners, counted) in
+        let owners : RaisedBy (λ n. owned ≤ n) start now = (tried, owners_tried panel documents.envelope documents.policy.owners hold.owners, counted) in
         let both = raised_then (λ n. owned ≤ n) (λ n. signed ≤ n) (λ n. owned + signed ≤ n) (λ m n p q. omega arith) start now then_now owners steps in
-        raised_then (λ n. owned + signed ≤ n) (AtLeast (FilesTake check inputs documents)) (λ n. owned + signed + len documents.delivered ≤ n)
-        (λ m n p q. let each = files_each check inputs documents.policy.expectations (entries documents.delivered) q.0 q.1 in omega (arith, p, q.2, each, len-entries documents.delivered))
+        raised_then (λ n. owned + signed ≤ n) (AtLeast (FilesTake panel inputs documents)) (λ n. owned + signed + len documents.delivered ≤ n)
+        (λ m n p q. let each = files_each panel inputs documents.policy.expectations (entries documents.delivered) q.0 q.1 in omega (arith, p, q.2, each, len-entries documents.delivered))
         start then_now new both files
 
-    pub takes_enough : (answer : Verdict) → answer ≡ verdict_of documents evidence → ((least : ℕ) → LinksTake check inputs documents least → RaisedBy (λ n. least ≤ n) now then_now)
-        → RaisedBy (λ n. sum_by (λ (r : StepResult). r.keys) evidence.steps ≤ n) now then_now → TakesEnough check inputs start new answer
+    pub takes_enough : (answer : Verdict) → answer ≡ verdict_of documents evidence → ((least : ℕ) → LinksTake panel inputs documents least → RaisedBy (λ n. least ≤ n) now then_now)
+        → RaisedBy (λ n. sum_by (λ (r : StepResult). r.keys) evidence.steps ≤ n) now then_now → TakesEnough panel inputs start new answer
     takes_enough answer is links steps =
-        subst (TakesEnough check inputs start new) (sym is) (takes_all links, λ policy is_policy. subst (λ k. RaisedBy (λ n. k ≤ n) start new) (sym (fewest_is policy is_policy)) (takes_each steps))
+        subst (TakesEnough panel inputs start new) (sym is) (takes_all links, λ policy is_policy. subst (λ k. RaisedBy (λ n. k ≤ n) start new) (sym (fewest_is policy is_policy)) (takes_each steps))
 
 -- ---- the count of an answer, which begins at 0
 module _ (start new : Meter) (from_zero : start.asked ≡ 0) where
@@ -155,9 +155,9 @@ module _ (start new : Meter) (from_zero : start.asked ≡ 0) where
       let is = ap (λ (m : Meter). m.asked) h.2 in
       omega arith
 
-  pub asks_enough : (check : Check) (inputs : Inputs) (answer : Verdict) → TakesEnough check inputs start new answer → AsksEnough check inputs new.asked answer
-  asks_enough check inputs (Accepted steps files) h =
+  pub asks_enough : (panel : Panel) (inputs : Inputs) (answer : Verdict) → TakesEnough panel inputs start new answer → AsksEnough panel inputs new.asked answer
+  asks_enough panel inputs (Accepted steps files) h =
       let all = h.0 in
       let takes = all.1 in
       ((takes.0, takes.1, asked_enough takes.0 (all.0, takes.2, all.2)), λ policy is_policy. asked_enough (fewest policy steps files) (h.1 policy is_policy))
-  asks_enough check inputs (Refused refusal) h = tt
+  asks_enough panel inputs (Refused refusal) h = tt

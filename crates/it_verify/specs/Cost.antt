@@ -4,7 +4,7 @@ use Rattle.std.specs.Prelude.{◌≡◌, ℕ, ◌+◌, ◌*◌, List, length}
 use Rattle.std.specs.FinMap.{keys, len}
 use Rattle.it_base.specs.Sum.{CostsIfFound, IsSum}
 use Rattle.it_digest.specs.Sums.{lines_of}
-use Rattle.it_dsse.specs.Check.{Check}
+use Rattle.it_dsse.specs.Panel.{Panel}
 use Rattle.it_dsse.specs.Envelope.{EnvelopeOf}
 use Rattle.it_dsse.specs.declared.envelope.Envelope.{Envelope}
 use Rattle.it_docs.specs.Policy.{PolicyOf}
@@ -33,8 +33,8 @@ abbrev pub FileCosts : List Expectation → ℕ → List ℕ → ℕ → Type 0
 FileCosts expectations signatures path = CostsIfFound (Fits expectations path) (λ expectation n. n ≡ key_count expectation.builders * signatures)
 
 -- what the layout costs over the links
-abbrev pub LinksCost : Check → Inputs → Documents → ℕ → Type 0
-LinksCost check inputs documents = ChainCosts (setting_of check documents) inputs.depth documents.layout inputs.links
+abbrev pub LinksCost : Panel → Inputs → Documents → ℕ → Type 0
+LinksCost panel inputs documents = ChainCosts (setting_of panel documents) inputs.depth documents.layout inputs.links
 
 -- what the delivered files cost, over so many signatures
 abbrev pub FilesCost : Documents → ℕ → ℕ → Type 0
@@ -42,13 +42,13 @@ FilesCost documents signatures = IsSum (FileCosts documents.policy.expectations 
 
 -- what a verification costs: what the owners cost, what the layout costs over the links, and what the
 -- delivered files cost
-pub record Costs (check : Check) (inputs : Inputs) (n : ℕ) : Type 0 where
+pub record Costs (panel : Panel) (inputs : Inputs) (n : ℕ) : Type 0 where
   pub owners : ℕ
   pub links : ℕ
   pub signatures : ℕ
   pub files : ℕ
   pub of_owners : OwnersCost inputs owners
-  pub of_links : CostsIfFound (ReadAs inputs) (LinksCost check inputs) links
+  pub of_links : CostsIfFound (ReadAs inputs) (LinksCost panel inputs) links
   pub of_lines : LinesHave inputs signatures
   pub of_files : CostsIfFound (ReadAs inputs) (λ documents. FilesCost documents signatures) files
   pub sum : n ≡ owners + links + files

@@ -3,7 +3,7 @@ use Rattle.std.specs.Prelude.{◌≡◌, ℕ, List, Contains, Option, option_map
 use Rattle.std.specs.List.{find}
 use Rattle.std.specs.Str.{bytes_eq}
 use Rattle.it_digest.specs.Sums.{SumsOf, lines_of}
-use Rattle.it_dsse.specs.Check.{Check}
+use Rattle.it_dsse.specs.Panel.{Panel}
 use Rattle.it_dsse.specs.Envelope.{EnvelopeOf}
 use Rattle.it_dsse.specs.declared.envelope.Envelope.{Envelope}
 use Rattle.it_docs.specs.Layout.{LayoutOf}
@@ -25,8 +25,8 @@ pub record ReadAs (inputs : Inputs) (documents : Documents) : Type 0 where
   pub layout : LayoutOf documents.envelope.payload documents.layout
 
 -- what the layout and its sublayouts are checked with
-abbrev pub setting_of : Check → Documents → Setting
-setting_of check documents = record { check = check; moment = documents.moment }
+abbrev pub setting_of : Panel → Documents → Setting
+setting_of panel documents = record { panel = panel; moment = documents.moment }
 
 -- the first record of a name (this profile's choice)
 abbrev pub record_at : List ℕ → Inputs → Option (List ℕ)

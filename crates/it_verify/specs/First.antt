@@ -5,7 +5,7 @@ use Rattle.std.specs.FinMap.{empty, entries}
 use Rattle.it_base.specs.Places.{IsFirst}
 use Rattle.it_digest.specs.Sums.{IsFirstBadLine, SumsOf}
 use Rattle.it_digest.specs.declared.compare.DigestSet.{DigestSet}
-use Rattle.it_dsse.specs.Check.{Check}
+use Rattle.it_dsse.specs.Panel.{Panel}
 use Rattle.it_dsse.specs.Envelope.{EnvelopeOf}
 use Rattle.it_dsse.specs.Signed.{IsSigner}
 use Rattle.it_dsse.specs.declared.envelope.Envelope.{Envelope}
@@ -78,8 +78,8 @@ abbrev pub refusal_of : ChainRefusal → Refusal
 refusal_of refusal = record { at = refusal.at; fault = fault_of refusal.fault }
 
 -- an owner did not sign the layout
-abbrev pub OwnerLacks : Check → Envelope → List ℕ × KeyObject → Refusal → Type 0
-OwnerLacks check envelope owner refusal = (¬ IsSigner check envelope owner.1 owner.0) × (refusal ≡ whole (OwnerMissing owner.0))
+abbrev pub OwnerLacks : Panel → Envelope → List ℕ × KeyObject → Refusal → Type 0
+OwnerLacks panel envelope owner refusal = (¬ IsSigner panel envelope owner.1 owner.0) × (refusal ≡ whole (OwnerMissing owner.0))
 
 -- an inspection has no record, or one that is no link of its name
 abbrev pub RecordFails : Inputs → Inspection → Refusal → Type 0
@@ -99,13 +99,13 @@ InspectionFails links (side, (inspection, link)) refusal =
 
 -- no expectation speaks of a delivered file, or no line of the provenance meets the one that does, and
 -- this is the best level with which one meets it in all but the level
-abbrev pub FileFails : Check → Inputs → List Expectation → List ℕ × DigestSet → Refusal → Type 0
-FileFails check inputs expectations (path, digests) refusal =
+abbrev pub FileFails : Panel → Inputs → List Expectation → List ℕ × DigestSet → Refusal → Type 0
+FileFails panel inputs expectations (path, digests) refusal =
     (((expectation : Expectation) → ¬ Fits expectations path expectation) × (refusal ≡ whole (NoExpectation path)))
-    ⊎ ((expectation : Expectation) × (best : Option ℕ) × Fits expectations path expectation × ((envelope : Envelope) → IsProvenanceLine inputs envelope → ¬ Meets check expectation digests envelope)
-    × IsBest check expectation digests (IsProvenanceLine inputs) best × (refusal ≡ whole (NoProvenance path best)))
+    ⊎ ((expectation : Expectation) × (best : Option ℕ) × Fits expectations path expectation × ((envelope : Envelope) → IsProvenanceLine inputs envelope → ¬ Meets panel expectation digests envelope)
+    × IsBest panel expectation digests (IsProvenanceLine inputs) best × (refusal ≡ whole (NoProvenance path best)))
 
-module _ (check : Check) (inputs : Inputs) where
+module _ (panel : Panel) (inputs : Inputs) where
   -- what stands at a place. A place that speaks of what does not read, or of evidence that is not
   -- there, has nothing: an earlier place has
   abbrev pub Stands : Place → Refusal → Type 0
@@ -115,16 +115,16 @@ module _ (check : Check) (inputs : Inputs) where
   Stands at_files refusal = SumsOf inputs.sums empty × (refusal ≡ whole NoFiles)
   Stands at_envelope refusal = ((envelope : Envelope) → ¬ EnvelopeOf inputs.layout envelope) × (refusal ≡ whole BadEnvelope)
   Stands at_payload_type refusal = (envelope : Envelope) × EnvelopeOf inputs.layout envelope × (envelope.payload_type ≢ in_toto_type) × (refusal ≡ whole WrongPayloadType)
-  Stands at_owners refusal = (policy : Policy) × (envelope : Envelope) × PolicyOf inputs.policy policy × EnvelopeOf inputs.layout envelope × IsFirst (OwnerLacks check envelope) (entries policy.owners) refusal
+  Stands at_owners refusal = (policy : Policy) × (envelope : Envelope) × PolicyOf inputs.policy policy × EnvelopeOf inputs.layout envelope × IsFirst (OwnerLacks panel envelope) (entries policy.owners) refusal
   Stands at_layout refusal = (envelope : Envelope) × (part : LayoutPart) × EnvelopeOf inputs.layout envelope × LayoutPartOf envelope.payload part × (refusal ≡ whole (BadLayout part))
   Stands at_links refusal = (documents : Documents) × (inner : ChainRefusal) × ReadAs inputs documents
-      × ChainFirst (setting_of check documents) inputs.depth documents.layout inputs.links inner × (refusal ≡ refusal_of inner)
+      × ChainFirst (setting_of panel documents) inputs.depth documents.layout inputs.links inner × (refusal ≡ refusal_of inner)
   Stands at_records refusal = (documents : Documents) × ReadAs inputs documents × IsFirst (RecordFails inputs) documents.layout.inspections refusal
-  Stands at_inspections refusal = (documents : Documents) × (evidence : Evidence) × ReadAs inputs documents × IsEvidence check inputs documents evidence
+  Stands at_inspections refusal = (documents : Documents) × (evidence : Evidence) × ReadAs inputs documents × IsEvidence panel inputs documents evidence
       × IsFirst (InspectionFails (links_of evidence)) (flat_map sides_of (zip documents.layout.inspections evidence.inspections)) refusal
-  Stands at_deliver refusal = (documents : Documents) × (evidence : Evidence) × (index : ℕ) × (path : List ℕ) × ReadAs inputs documents × IsEvidence check inputs documents evidence
+  Stands at_deliver refusal = (documents : Documents) × (evidence : Evidence) × (index : ℕ) × (path : List ℕ) × ReadAs inputs documents × IsEvidence panel inputs documents evidence
       × IsFirstFault documents.policy.deliver Products (delivery documents.delivered) (links_of evidence) index path × (refusal ≡ whole (RuleFailed Deliver Products index path))
-  Stands at_provenance refusal = (documents : Documents) × ReadAs inputs documents × IsFirst (FileFails check inputs documents.policy.expectations) (entries documents.delivered) refusal
+  Stands at_provenance refusal = (documents : Documents) × ReadAs inputs documents × IsFirst (FileFails panel inputs documents.policy.expectations) (entries documents.delivered) refusal
 
   -- the refusal at the first place at which one stands
   abbrev pub First : Refusal → Type 0

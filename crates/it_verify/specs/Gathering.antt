@@ -9,7 +9,7 @@ use Rattle.std.specs.Ordering.{nat_cmp}
 use Rattle.std.specs.Str.{bytes_eq}
 use Rattle.it_digest.specs.Artifacts.{ArtifactMap}
 use Rattle.it_digest.specs.declared.compare.DigestSet.{DigestSet}
-use Rattle.it_dsse.specs.Check.{Check}
+use Rattle.it_dsse.specs.Panel.{Panel}
 use Rattle.it_dsse.specs.Envelope.{EnvelopeOf}
 use Rattle.it_dsse.specs.Meter.{RaisedBy}
 use Rattle.it_dsse.specs.declared.envelope.Envelope.{Envelope}
@@ -85,27 +85,27 @@ AreRead (line ∷ lines) envelopes =
     ((envelope : Envelope) × (rest : List Envelope) × EnvelopeOf line envelope × (envelopes ≡ envelope ∷ rest) × AreRead lines rest)
     ⊎ (((envelope : Envelope) → ¬ EnvelopeOf line envelope) × AreRead lines envelopes)
 
-module _ (check : Check) (expectations : List Expectation) (envelopes : List Envelope) where
+module _ (panel : Panel) (expectations : List Expectation) (envelopes : List Envelope) where
   -- one of the envelopes meets the expectation that speaks of a file
   abbrev pub FileProven : List ℕ × DigestSet → Type 0
-  FileProven file = (index : ℕ) × IsFound check expectations file.0 file.1 envelopes index
+  FileProven file = (index : ℕ) × IsFound panel expectations file.0 file.1 envelopes index
 
   -- so many signatures are tried with the key by which one of the envelopes meets the expectation that
   -- speaks of a file
   abbrev pub FileAsks : List ℕ × DigestSet → ℕ → Type 0
-  FileAsks file n = (index : ℕ) × IsAsked check expectations file.0 file.1 envelopes index n
+  FileAsks file n = (index : ℕ) × IsAsked panel expectations file.0 file.1 envelopes index n
 
   -- no expectation speaks of a file, or none of the envelopes meets the one that does, and this is the
   -- best level with which one meets it in all but the level
   abbrev pub FileLacks : List ℕ × DigestSet → Refusal → Type 0
   FileLacks file refusal =
       (NoneFits expectations file.0 × (refusal ≡ whole (NoExpectation file.0)))
-      ⊎ ((best : Option ℕ) × IsMissing check expectations file.0 file.1 envelopes best × (refusal ≡ whole (NoProvenance file.0 best)))
+      ⊎ ((best : Option ℕ) × IsMissing panel expectations file.0 file.1 envelopes best × (refusal ≡ whole (NoProvenance file.0 best)))
 
 -- ---- the whole
 -- a verdict that accepts raised a meter by the checks that it takes, or more
-abbrev pub TakesEnough : Check → Inputs → Meter → Meter → Verdict → Type 0
-TakesEnough check inputs old new (verdict.Accepted steps files) =
-    RaisedBy (AtLeast (Takes check inputs)) old new
+abbrev pub TakesEnough : Panel → Inputs → Meter → Meter → Verdict → Type 0
+TakesEnough panel inputs old new (verdict.Accepted steps files) =
+    RaisedBy (AtLeast (Takes panel inputs)) old new
     × ((policy : Policy) → PolicyOf inputs.policy policy → RaisedBy (λ n. fewest policy steps files ≤ n) old new)
-TakesEnough check inputs old new (verdict.Refused refusal) = ⊤
+TakesEnough panel inputs old new (verdict.Refused refusal) = ⊤

@@ -5,7 +5,7 @@ use Rattle.std.specs.List.{AllZip}
 use Rattle.std.specs.FinMap.{empty, get, keys}
 use Rattle.it_digest.specs.Artifacts.{ArtifactMap}
 use Rattle.it_digest.specs.declared.compare.DigestSet.{DigestSet}
-use Rattle.it_dsse.specs.Check.{Check}
+use Rattle.it_dsse.specs.Panel.{Panel}
 use Rattle.it_dsse.specs.Signed.{IsSigner}
 use Rattle.it_dsse.specs.declared.envelope.Envelope.{Envelope}
 use Rattle.it_dsse.specs.declared.key_object.KeyObject.{KeyObject}
@@ -38,8 +38,8 @@ pub record HasRecorded (inputs : Inputs) (inspection : Inspection) (link : Link)
 
 -- the layout holds of the links with these records of its steps, and these are what its inspections
 -- recorded
-pub record IsEvidence (check : Check) (inputs : Inputs) (documents : Documents) (evidence : Evidence) : Type 0 where
-  pub steps : Chain (setting_of check documents) inputs.depth documents.layout inputs.links evidence.steps
+pub record IsEvidence (panel : Panel) (inputs : Inputs) (documents : Documents) (evidence : Evidence) : Type 0 where
+  pub steps : Chain (setting_of panel documents) inputs.depth documents.layout inputs.links evidence.steps
   pub inspections : AllZip (HasRecorded inputs) documents.layout.inspections evidence.inspections
 
 -- the artifacts of a link
@@ -65,30 +65,30 @@ delivery delivered = record { materials = empty; products = delivered }
 
 -- a delivered file has provenance: some line of it is an envelope that meets the expectation which
 -- speaks of the file
-pub record HasProvenance (check : Check) (inputs : Inputs) (expectations : List Expectation) (path : List ℕ) (digests : DigestSet) : Type 0 where
+pub record HasProvenance (panel : Panel) (inputs : Inputs) (expectations : List Expectation) (path : List ℕ) (digests : DigestSet) : Type 0 where
   pub expectation : Expectation
   pub envelope : Envelope
   pub fits : Fits expectations path expectation
   pub is_line : IsProvenanceLine inputs envelope
-  pub meets : Meets check expectation digests envelope
+  pub meets : Meets panel expectation digests envelope
 
 -- the inputs read as these documents with this evidence, and all holds that was laid down: some file
 -- is delivered, every owner of the policy signed the layout, the layout holds of the links and each
 -- inspection has its record, every artifact rule holds, and each delivered file has provenance
-pub record IsMadeBy (check : Check) (inputs : Inputs) (documents : Documents) (evidence : Evidence) : Type 0 where
+pub record IsMadeBy (panel : Panel) (inputs : Inputs) (documents : Documents) (evidence : Evidence) : Type 0 where
   pub read : ReadAs inputs documents
   pub some_file : documents.delivered ≢ empty
-  pub owners : (id : List ℕ) (object : KeyObject) → get documents.policy.owners id ≡ Some object → IsSigner check documents.envelope object id
-  pub is_evidence : IsEvidence check inputs documents evidence
+  pub owners : (id : List ℕ) (object : KeyObject) → get documents.policy.owners id ≡ Some object → IsSigner panel documents.envelope object id
+  pub is_evidence : IsEvidence panel inputs documents evidence
   pub inspection_rules : AllZip (InspectionRulesHold (links_of evidence)) documents.layout.inspections evidence.inspections
   pub deliver_rules : RulesHold documents.policy.deliver Products (delivery documents.delivered) (links_of evidence)
-  pub provenance : (path : List ℕ) (digests : DigestSet) → get documents.delivered path ≡ Some digests → HasProvenance check inputs documents.policy.expectations path digests
+  pub provenance : (path : List ℕ) (digests : DigestSet) → get documents.delivered path ≡ Some digests → HasProvenance panel inputs documents.policy.expectations path digests
 
 -- the delivered files were made as the owners laid down
-pub record Made (check : Check) (inputs : Inputs) : Type 0 where
+pub record Made (panel : Panel) (inputs : Inputs) : Type 0 where
   pub documents : Documents
   pub evidence : Evidence
-  pub made : IsMadeBy check inputs documents evidence
+  pub made : IsMadeBy panel inputs documents evidence
 
 -- the verdict on what was so made: each step with how many different keys signed for it, and the
 -- delivered files in the order of their paths' bytes

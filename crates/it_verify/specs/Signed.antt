@@ -1,7 +1,7 @@
 -- Who signed an envelope, as a text (this profile's choice of the text).
 use Rattle.std.specs.Prelude.{◌≡◌, ◌≢◌, ◌↔◌, ◌⊎◌, ℕ, List, [], ◌++◌, Any, codes}
 use Rattle.std.specs.List.{flat_map}
-use Rattle.it_dsse.specs.Check.{Check}
+use Rattle.it_dsse.specs.Panel.{Panel}
 use Rattle.it_dsse.specs.Envelope.{EnvelopeOf}
 use Rattle.it_dsse.specs.Signed.{AreThose, IsSigner}
 use Rattle.it_dsse.specs.declared.envelope.Envelope.{Envelope}
@@ -32,11 +32,11 @@ abbrev pub no_envelope : Refusal
 no_envelope = record { at = []; fault = BadEnvelope }
 
 -- the text names those of the ids that signed the envelope, and the status says whether some did
-pub record NamesSigners (check : Check) (ids : List (List ℕ)) (envelope : Envelope) (text : List ℕ) (status : Status) : Type 0 where
+pub record NamesSigners (panel : Panel) (ids : List (List ℕ)) (envelope : Envelope) (text : List ℕ) (status : Status) : Type 0 where
   pub signers : List (List ℕ)
-  pub are_those : AreThose (IsSigner check envelope ring_object) ids signers
+  pub are_those : AreThose (IsSigner panel envelope ring_object) ids signers
   pub text_is : text ≡ names_text signers
-  pub good : (status ≡ Good) ↔ Any (IsSigner check envelope ring_object) ids
+  pub good : (status ≡ Good) ↔ Any (IsSigner panel envelope ring_object) ids
 
 -- the text refuses bytes that are no envelope
 pub record RefusesBytes (bytes text : List ℕ) (status : Status) : Type 0 where
@@ -45,6 +45,6 @@ pub record RefusesBytes (bytes text : List ℕ) (status : Status) : Type 0 where
   pub status_is : status ≡ Refused
 
 -- what the command writes and finds
-abbrev pub IsSignedOutput : Check → List (List ℕ) → List ℕ → List ℕ → Status → Type 0
-IsSignedOutput check ids bytes text status = ((envelope : Envelope) × EnvelopeOf bytes envelope × NamesSigners check ids envelope text status)
+abbrev pub IsSignedOutput : Panel → List (List ℕ) → List ℕ → List ℕ → Status → Type 0
+IsSignedOutput panel ids bytes text status = ((envelope : Envelope) × EnvelopeOf bytes envelope × NamesSigners panel ids envelope text status)
     ⊎ RefusesBytes bytes text status

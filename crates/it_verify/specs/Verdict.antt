@@ -1,6 +1,6 @@
 -- The verdict on what is delivered.
 use Rattle.std.specs.Prelude.{◌≡◌, ⊤}
-use Rattle.it_dsse.specs.Check.{Check}
+use Rattle.it_dsse.specs.Panel.{Panel}
 use Rattle.it_verify.specs.Documents.{Documents}
 use Rattle.it_verify.specs.First.{First}
 use Rattle.it_verify.specs.Made.{Evidence, IsMadeBy, verdict_of}
@@ -10,10 +10,10 @@ use Rattle.it_verify.specs.declared.verdict.Verdict.TheVariants.{Accepted, Refus
 
 -- the verdict on inputs: accepted, with the steps and files of what shows that the delivered files were
 -- made as the owners laid down, or refused with the first fault
-abbrev pub IsVerdict : Check → Inputs → Verdict → Type 0
-IsVerdict check inputs (Accepted steps files) =
-    (documents : Documents) × (evidence : Evidence) × IsMadeBy check inputs documents evidence × (Accepted steps files ≡ verdict_of documents evidence)
-IsVerdict check inputs (Refused refusal) = First check inputs refusal
+abbrev pub IsVerdict : Panel → Inputs → Verdict → Type 0
+IsVerdict panel inputs (Accepted steps files) =
+    (documents : Documents) × (evidence : Evidence) × IsMadeBy panel inputs documents evidence × (Accepted steps files ≡ verdict_of documents evidence)
+IsVerdict panel inputs (Refused refusal) = First panel inputs refusal
 
 -- a fact for a verdict that accepts
 abbrev pub OnAccepted : Verdict → Type 0 → Type 0

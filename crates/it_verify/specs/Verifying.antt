@@ -1,6 +1,6 @@
 -- Whether a delivery is accepted, as a text (this profile's choice of the text).
 use Rattle.std.specs.Prelude.{◌≡◌, ℕ, List}
-use Rattle.it_dsse.specs.Check.{Check}
+use Rattle.it_dsse.specs.Panel.{Panel}
 use Rattle.it_verify.specs.Report.{report_of}
 use Rattle.it_verify.specs.Verdict.{IsVerdict}
 use Rattle.it_verify.specs.declared.inputs.Inputs.{Inputs}
@@ -15,8 +15,8 @@ status_of (Accepted steps files) = Good
 status_of (refused_for refusal) = Refused
 
 -- the text is the report of the verdict on the inputs, and the status says whether it accepts
-pub record IsVerifyOutput (check : Check) (inputs : Inputs) (text : List ℕ) (status : Status) : Type 0 where
+pub record IsVerifyOutput (panel : Panel) (inputs : Inputs) (text : List ℕ) (status : Status) : Type 0 where
   pub verdict : Verdict
-  pub is_verdict : IsVerdict check inputs verdict
+  pub is_verdict : IsVerdict panel inputs verdict
   pub text_is : text ≡ report_of verdict
   pub status_is : status ≡ status_of verdict

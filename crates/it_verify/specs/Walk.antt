@@ -2,7 +2,7 @@
 -- stands here.
 use Rattle.std.specs.Prelude.{◌≡◌, ◌≢◌, ℕ, List, [], ◌∷◌, Some, ⊤}
 use Rattle.std.specs.FinMap.{empty, get}
-use Rattle.it_dsse.specs.Check.{Check}
+use Rattle.it_dsse.specs.Panel.{Panel}
 use Rattle.it_dsse.specs.Signed.{IsSigner}
 use Rattle.it_dsse.specs.declared.envelope.Envelope.{Envelope}
 use Rattle.it_dsse.specs.declared.key_object.KeyObject.{KeyObject}
@@ -20,15 +20,15 @@ RefusedAs P (Refused refusal) = P refusal
 RefusedAs P OutOfMemory = ⊤
 
 -- the key of each owner signed the envelope
-abbrev pub OwnersSign : Check → Envelope → Named KeyObject → Type 0
-OwnersSign check envelope owners = (id : List ℕ) (object : KeyObject) → get owners id ≡ Some object → IsSigner check envelope object id
+abbrev pub OwnersSign : Panel → Envelope → Named KeyObject → Type 0
+OwnersSign panel envelope owners = (id : List ℕ) (object : KeyObject) → get owners id ≡ Some object → IsSigner panel envelope object id
 
 -- the inputs read as these documents, some file is delivered, and every owner of the policy signed the
 -- layout
-pub record DocumentsHold (check : Check) (inputs : Inputs) (documents : Documents) : Type 0 where
+pub record DocumentsHold (panel : Panel) (inputs : Inputs) (documents : Documents) : Type 0 where
   pub read : ReadAs inputs documents
   pub some_file : documents.delivered ≢ empty
-  pub owners : OwnersSign check documents.envelope documents.policy.owners
+  pub owners : OwnersSign panel documents.envelope documents.policy.owners
 
 -- the places that speak of the documents alone
 abbrev pub document_places : List Place

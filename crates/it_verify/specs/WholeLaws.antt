@@ -1,7 +1,7 @@
 -- What is shown of the definitions of a verification as a whole.
 use Rattle.std.specs.Prelude.{◌≡◌, ◌≤◌, ◌↔◌, ◌⊎◌, ℕ, List, Option}
 use Rattle.std.specs.List.{AllZip}
-use Rattle.it_dsse.specs.Check.{Check}
+use Rattle.it_dsse.specs.Panel.{Panel}
 use Rattle.it_verify.specs.Alike.{Alike, Within}
 use Rattle.it_verify.specs.Documents.{Documents}
 use Rattle.it_verify.specs.First.{First, Place, Stands}
@@ -18,35 +18,35 @@ use Rattle.it_verify.specs.declared.verdict.Verdict.TheVariants.{Accepted, Refus
 
 -- what was made as the owners laid down has no first fault
 abbrev pub MadeNotRefused : Type 0
-MadeNotRefused = (check : Check) (inputs : Inputs) (refusal : Refusal) → Made check inputs → ¬ First check inputs refusal
+MadeNotRefused = (panel : Panel) (inputs : Inputs) (refusal : Refusal) → Made panel inputs → ¬ First panel inputs refusal
 
 -- delivered files were made as the owners laid down, or there is a first fault
 abbrev pub MadeOrRefused : Type 0
-MadeOrRefused = (check : Check) (inputs : Inputs) → Made check inputs ⊎ ((refusal : Refusal) × First check inputs refusal)
+MadeOrRefused = (panel : Panel) (inputs : Inputs) → Made panel inputs ⊎ ((refusal : Refusal) × First panel inputs refusal)
 
 -- delivered files were made as the owners laid down exactly where nothing stands at any place
 abbrev pub MadeOrFirst : Type 0
-MadeOrFirst = (check : Check) (inputs : Inputs) → Made check inputs ↔ ((place : Place) (refusal : Refusal) → ¬ Stands check inputs place refusal)
+MadeOrFirst = (panel : Panel) (inputs : Inputs) → Made panel inputs ↔ ((place : Place) (refusal : Refusal) → ¬ Stands panel inputs place refusal)
 
 -- there is one first fault at most
 abbrev pub RefusalIsOne : Type 0
-RefusalIsOne = (check : Check) (inputs : Inputs) (a b : Refusal) → First check inputs a → First check inputs b → a ≡ b
+RefusalIsOne = (panel : Panel) (inputs : Inputs) (a b : Refusal) → First panel inputs a → First panel inputs b → a ≡ b
 
 -- whatever documents and evidence show that the files were made as the owners laid down, the verdict on
 -- it is one
 abbrev pub VerdictIsOne : Type 0
 VerdictIsOne =
-    (check : Check) (inputs : Inputs) (documents other : Documents) (evidence given : Evidence)
-    → IsMadeBy check inputs documents evidence → IsMadeBy check inputs other given → verdict_of documents evidence ≡ verdict_of other given
+    (panel : Panel) (inputs : Inputs) (documents other : Documents) (evidence given : Evidence)
+    → IsMadeBy panel inputs documents evidence → IsMadeBy panel inputs other given → verdict_of documents evidence ≡ verdict_of other given
 
 -- inputs come to the same: whatever is the verdict on the first is that on the others, and so is its report
-pub record ComesToTheSame (check : Check) (inputs other : Inputs) : Type 0 where
-  pub verdict : (verdict : Verdict) → IsVerdict check inputs verdict ↔ IsVerdict check other verdict
-  pub report : (text : List ℕ) (status : Status) → IsVerifyOutput check inputs text status ↔ IsVerifyOutput check other text status
+pub record ComesToTheSame (panel : Panel) (inputs other : Inputs) : Type 0 where
+  pub verdict : (verdict : Verdict) → IsVerdict panel inputs verdict ↔ IsVerdict panel other verdict
+  pub report : (text : List ℕ) (status : Status) → IsVerifyOutput panel inputs text status ↔ IsVerifyOutput panel other text status
 
 -- inputs in which the same counts come to the same
 abbrev pub AlikeInputs : Type 0
-AlikeInputs = (check : Check) (inputs other : Inputs) → Alike check inputs other → ComesToTheSame check inputs other
+AlikeInputs = (panel : Panel) (inputs other : Inputs) → Alike panel inputs other → ComesToTheSame panel inputs other
 
 -- the same step, with no more different keys
 abbrev pub HasNoMoreKeys : List ℕ × ℕ → List ℕ × ℕ → Type 0
@@ -66,5 +66,5 @@ OnlyWithholds (Refused refusal) before = IsWithheld refusal.fault
 -- who takes away what counts from what was made as the owners laid down can only withhold
 abbrev pub WithheldInputs : Type 0
 WithheldInputs =
-    (check : Check) (inputs other : Inputs) (documents : Documents) (evidence : Evidence) (verdict : Verdict) → Within check inputs other
-    → IsMadeBy check other documents evidence → IsVerdict check inputs verdict → OnlyWithholds verdict (verdict_of documents evidence)
+    (panel : Panel) (inputs other : Inputs) (documents : Documents) (evidence : Evidence) (verdict : Verdict) → Within panel inputs other
+    → IsMadeBy panel other documents evidence → IsVerdict panel inputs verdict → OnlyWithholds verdict (verdict_of documents evidence)

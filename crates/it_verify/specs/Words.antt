@@ -1,5 +1,5 @@
 -- The words of the command line, in the parser's own terms (this profile's choice).
-use Rattle.std.specs.Prelude.{◌≡◌, ◌≤◌, ℕ, List, [], ◌∷◌, true, Option, Some, MatchOption, codes, pos}
+use Rattle.std.specs.Prelude.{◌≡◌, ◌≤◌, ℕ, List, [], ◌∷◌, length, true, Option, Some, MatchOption, codes, pos}
 use Rattle.std.specs.Str.Parse.{IsNumeral, digits_value, without_leading_plus}
 use Rattle.clap.specs.declared.builder.action.ArgAction.TheVariants.{Append}
 use Rattle.clap.specs.declared.builder.value_parser.ValueParser.TheVariants as parser
@@ -30,6 +30,10 @@ plain_option name = record (new_rule name) { long = Some name; value_names = 1 }
 abbrev pub needed_option : Text → Rule
 needed_option name = record (plain_option name) { required = true }
 
+-- an option that has to be given at least once, with one value each time
+abbrev pub needed_options : Text → Rule
+needed_options name = record (needed_option name) { action = Some Append }
+
 -- how deep sublayouts may lie: from 0 to 8, and 4 where it is not said
 abbrev pub depth_option : Rule
 depth_option = record (plain_option (codes "depth")) { defaults = codes "4" ∷ []; parser = Some (parser.Signed (pos 0) (pos 8)) }
@@ -56,13 +60,13 @@ sign_command =
 abbrev pub digest_command : App
 digest_command = with_rule (new_app (codes "digest")) (needed_words (codes "file"))
 
--- verify --policy F --layout F --links DIR --sums F --at MOMENT --ring F, and what may be left out:
+-- verify --policy F --layout F --links DIR --sums F --at MOMENT --ring F.., and what may be left out:
 -- --provenance F --records DIR --depth N
 abbrev pub needed_of_verify : App
 needed_of_verify =
     with_rule (with_rule (with_rule (with_rule (with_rule (with_rule (new_app (codes "verify")) (needed_option (codes "policy")))
     (needed_option (codes "layout"))) (needed_option (codes "links"))) (needed_option (codes "sums"))) (needed_option (codes "at")))
-    (needed_option (codes "ring"))
+    (needed_options (codes "ring"))
 
 abbrev pub verify_command : App
 verify_command = with_rule (with_rule (with_rule needed_of_verify (plain_option (codes "provenance"))) (plain_option (codes "records"))) depth_option
@@ -114,6 +118,11 @@ pub record WritesDepth (text : Text) (depth : ℕ) : Type 0 where
 abbrev pub IsDepth : Option Text → ℕ → Type 0
 IsDepth given depth = MatchOption given ⊥ (λ text. WritesDepth text depth)
 
+-- these are the rings of the words, in their order, and there are 8 at most
+pub record AreRings (given : Option (List Text)) (rings : List Text) : Type 0 where
+  pub same : given ≡ Some rings
+  pub few : length rings ≤ 8
+
 -- the values of the command verify
 pub record IsVerify (values : List Row) (words : VerifyWords) : Type 0 where
   pub policy : first_of (codes "policy") values ≡ Some words.policy
@@ -121,7 +130,7 @@ pub record IsVerify (values : List Row) (words : VerifyWords) : Type 0 where
   pub links : first_of (codes "links") values ≡ Some words.links
   pub sums : first_of (codes "sums") values ≡ Some words.sums
   pub at : first_of (codes "at") values ≡ Some words.at
-  pub ring : first_of (codes "ring") values ≡ Some words.ring
+  pub rings : AreRings (all_of (codes "ring") values) words.rings
   pub provenance : first_of (codes "provenance") values ≡ words.provenance
   pub records : first_of (codes "records") values ≡ words.records
   pub depth : IsDepth (one_of (codes "depth") values) words.depth

@@ -1,5 +1,5 @@
 //! The documents of a verification: their reading, and who must have signed the layout.
-ghost use Rattle.std.specs.Prelude.{◌≡◌, ◌≢◌, ◌≤◌, IfOk, MatchResult, ℕ, ℤ};
+ghost use Rattle.std.specs.Prelude.{◌≡◌, ◌≢◌, ◌≤◌, IfOk, MatchResult, ℕ, ℤ, map};
 ghost use Rattle.std.specs.FinMap.{empty};
 ghost use Rattle.it_digest.specs.Sums.{IsFirstBadLine, SumsOf};
 ghost use Rattle.it_dsse.specs.Meter.{RaisedBy, raised};
@@ -12,6 +12,7 @@ ghost use Rattle.it_docs.specs.PolicyPart.{PolicyPartOf};
 ghost use Rattle.it_docs.specs.declared.layout_fault.LayoutPart.{LayoutPart};
 ghost use Rattle.it_docs.specs.declared.policy_fault.PolicyPart.{PolicyPart};
 ghost use Rattle.it_dsse.specs.Envelope.{EnvelopeOf};
+ghost use Rattle.it_dsse.specs.Panel.{panel_of};
 ghost use Rattle.it_verify.specs.Cost.{OwnersCost};
 ghost use Rattle.it_verify.specs.Fewest.{owner_tries};
 ghost use Rattle.it_verify.specs.First.{First, whole};
@@ -53,7 +54,7 @@ pub(crate) struct Documents {
     pub layout: Layout,
 }
 
-/// Reads the documents, and asks `check` whether every owner of the policy signed the layout, which
+/// Reads the documents, and asks the `panel` whether every owner of the policy signed the layout, which
 /// `meter` counts.
 ///
 /// # Errors
@@ -64,15 +65,17 @@ pub(crate) struct Documents {
 pub(crate) fn read_documents(
     alloc: Global,
     inputs: &Inputs,
-    check: &Box<dyn SignatureCheck>,
+    panel: &[Box<dyn SignatureCheck>],
     meter: &mut Meter,
 ) -> Result<Documents, Failure>
-    ensures documents { MatchResult result (DocumentsHold (meaning check.now) inputs.now)
-        (RefusedAs (First (meaning check.now) inputs.now)) }
+    ensures documents { MatchResult result (DocumentsHold (panel_of (map meaning panel.now))
+        inputs.now)
+        (RefusedAs (First (panel_of (map meaning panel.now)) inputs.now)) }
     ensures at_most { (most : ℕ) → OwnersCost inputs.now most
         → RaisedBy (λ n. n ≤ most) meter.old meter.new }
     ensures counted { IfOk result (λ documents. meter.new ≡ raised meter.old
-        (owner_tries (meaning check.now) documents.envelope documents.policy.owners)) }
+        (owner_tries (panel_of (map meaning panel.now)) documents.envelope
+        documents.policy.owners)) }
 {
     let policy = policy_in(alloc, inputs.policy.as_slice())?;
     let delivered = delivered_in(alloc, inputs.sums.as_slice())?;
@@ -80,7 +83,7 @@ pub(crate) fn read_documents(
     check_some_file(alloc, &delivered)?;
     let envelope = envelope_in(alloc, inputs.layout.as_slice())?;
     check_type(alloc, &envelope)?;
-    check_owners(alloc, &policy.owners, &envelope, check, meter)?;
+    check_owners(alloc, &policy.owners, &envelope, panel, meter)?;
     let layout = layout_in(alloc, envelope.payload.as_slice())?;
     Ok(Documents {
         policy,

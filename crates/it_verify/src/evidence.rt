@@ -1,7 +1,8 @@
 //! What the steps of a layout and its inspections recorded.
-ghost use Rattle.std.specs.Prelude.{◌≤◌, IfOk, MatchResult, OnOk, ℕ};
+ghost use Rattle.std.specs.Prelude.{◌≤◌, IfOk, MatchResult, OnOk, ℕ, map};
 ghost use Rattle.std.specs.List.{sum_by};
 ghost use Rattle.it_dsse.specs.Meter.{RaisedBy};
+ghost use Rattle.it_dsse.specs.Panel.{panel_of};
 ghost use Rattle.it_verify.specs.Cost.{LinksCost};
 ghost use Rattle.it_verify.specs.Fewest.{LinksTake};
 ghost use Rattle.it_verify.specs.First.{First};
@@ -30,7 +31,7 @@ pub(crate) struct Evidence {
 }
 
 /// Verifies the layout over the links, and finds what its inspections recorded. Each signature is
-/// checked by `check`, which counts in `meter`.
+/// checked by the `panel`, which counts in `meter`.
 ///
 /// # Errors
 ///
@@ -40,18 +41,19 @@ pub(crate) fn gather(
     alloc: Global,
     inputs: &Inputs,
     documents: &Documents,
-    check: &Box<dyn SignatureCheck>,
+    panel: &[Box<dyn SignatureCheck>],
     meter: &mut Meter,
 ) -> Result<Evidence, Failure>
     requires shallow { inputs.now.depth ≤ 8 }
-    requires documents { DocumentsHold (meaning check.now) inputs.now documents.now }
+    requires documents { DocumentsHold (panel_of (map meaning panel.now)) inputs.now documents.now }
     ensures evidence { MatchResult result
-        (IsEvidence (meaning check.now) inputs.now documents.now)
-        (RefusedAs (First (meaning check.now) inputs.now)) }
-    ensures at_most { (most : ℕ) → LinksCost (meaning check.now) inputs.now documents.now most
+        (IsEvidence (panel_of (map meaning panel.now)) inputs.now documents.now)
+        (RefusedAs (First (panel_of (map meaning panel.now)) inputs.now)) }
+    ensures at_most { (most : ℕ) → LinksCost (panel_of (map meaning panel.now)) inputs.now
+        documents.now most
         → RaisedBy (λ n. n ≤ most) meter.old meter.new }
     ensures at_least { OnOk result ((least : ℕ)
-        → LinksTake (meaning check.now) inputs.now documents.now least
+        → LinksTake (panel_of (map meaning panel.now)) inputs.now documents.now least
         → RaisedBy (λ n. least ≤ n) meter.old meter.new) }
     ensures at_least_keys { IfOk result (λ evidence.
         RaisedBy (λ n. sum_by (λ step. step.keys) evidence.steps ≤ n) meter.old meter.new) }
@@ -62,7 +64,7 @@ pub(crate) fn gather(
         &inputs.links,
         documents.moment,
         inputs.depth,
-        check,
+        panel,
         meter,
     )?;
     let links = recorded_links(alloc, inputs, documents.layout.inspections.as_slice())?;

@@ -3,7 +3,7 @@ use it_base::sequence::Sequence;
 use it_base::text::Text;
 use it_chain::bundle::Bundle;
 
-/// All that a verdict rests on, beside the check of signatures.
+/// All that a verdict rests on, beside the checks of signatures.
 #[derive(Drop)]
 pub struct Inputs {
     /// The bytes of the policy.

@@ -1,6 +1,7 @@
 //! Whether the rules hold over what was recorded, and whether the delivered files have provenance.
-ghost use Rattle.std.specs.Prelude.{◌≤◌, MatchResult, OnOk, ℕ};
+ghost use Rattle.std.specs.Prelude.{◌≤◌, MatchResult, OnOk, ℕ, map};
 ghost use Rattle.it_dsse.specs.Meter.{RaisedBy};
+ghost use Rattle.it_dsse.specs.Panel.{panel_of};
 ghost use Rattle.it_prov.specs.Asked.{AtLeast};
 ghost use Rattle.it_verify.specs.Cost.{FilesCost, LinesHave};
 ghost use Rattle.it_verify.specs.Fewest.{FilesTake};
@@ -20,7 +21,7 @@ use it_dsse::meter::Meter;
 use std::alloc::Global;
 
 /// Judges the rules of the inspections and those on what is delivered over the evidence, and looks for
-/// the provenance of each delivered file. Each signature is checked by `check`, which counts in
+/// the provenance of each delivered file. Each signature is checked by the `panel`, which counts in
 /// `meter`.
 ///
 /// # Errors
@@ -32,18 +33,20 @@ pub(crate) fn judge(
     inputs: &Inputs,
     documents: &Documents,
     evidence: &Evidence,
-    check: &Box<dyn SignatureCheck>,
+    panel: &[Box<dyn SignatureCheck>],
     meter: &mut Meter,
 ) -> Result<(), Failure>
-    requires documents { DocumentsHold (meaning check.now) inputs.now documents.now }
-    requires evidence { IsEvidence (meaning check.now) inputs.now documents.now evidence.now }
+    requires documents { DocumentsHold (panel_of (map meaning panel.now)) inputs.now documents.now }
+    requires evidence { IsEvidence (panel_of (map meaning panel.now)) inputs.now documents.now
+        evidence.now }
     ensures made { MatchResult result
-        (λ _. IsMadeBy (meaning check.now) inputs.now documents.now evidence.now)
-        (RefusedAs (First (meaning check.now) inputs.now)) }
+        (λ _. IsMadeBy (panel_of (map meaning panel.now)) inputs.now documents.now evidence.now)
+        (RefusedAs (First (panel_of (map meaning panel.now)) inputs.now)) }
     ensures at_most { (signatures most : ℕ) → LinesHave inputs.now signatures
         → FilesCost documents.now signatures most → RaisedBy (λ n. n ≤ most) meter.old meter.new }
     ensures at_least { OnOk result (RaisedBy
-        (AtLeast (FilesTake (meaning check.now) inputs.now documents.now)) meter.old meter.new) }
+        (AtLeast (FilesTake (panel_of (map meaning panel.now)) inputs.now documents.now))
+        meter.old meter.new) }
 {
     let recorded = evidence.inspections.as_slice();
     let links = named_links(alloc, evidence.steps.as_slice(), recorded)?;
@@ -63,7 +66,7 @@ pub(crate) fn judge(
         expectations,
         delivered,
         envelopes.as_slice(),
-        check,
+        panel,
         meter,
     )
 }

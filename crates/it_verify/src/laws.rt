@@ -1,5 +1,5 @@
 //! Laws about a verification as a whole, what it costs, and its report: functions that do nothing, and
-//! whose contracts say what is true of all inputs, every check, every verdict and every name.
+//! whose contracts say what is true of all inputs, every panel of checks, every verdict and every name.
 ghost use Rattle.it_verify.specs.CostLaws.{InputsHaveCost, InputsHaveOneCost};
 ghost use Rattle.it_verify.specs.ReportLaws.{FirstLinesTell, FormsAreWords, FormsTell, ReportTells};
 ghost use Rattle.it_verify.specs.WholeLaws.{AlikeInputs, MadeNotRefused, MadeOrFirst, MadeOrRefused, RefusalIsOne, VerdictIsOne, WithheldInputs};

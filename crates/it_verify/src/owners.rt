@@ -1,8 +1,9 @@
 //! Whether the owners of a policy signed the layout.
-ghost use Rattle.std.specs.Prelude.{◌≡◌, ◌*◌, ◌≤◌, MatchResult, OnOk, length};
+ghost use Rattle.std.specs.Prelude.{◌≡◌, ◌*◌, ◌≤◌, MatchResult, OnOk, length, map};
 ghost use Rattle.std.specs.FinMap.{entries, len};
 ghost use Rattle.it_base.specs.Places.{IsFirst};
 ghost use Rattle.it_dsse.specs.Meter.{RaisedBy, raised};
+ghost use Rattle.it_dsse.specs.Panel.{panel_of};
 ghost use Rattle.it_dsse.specs.Signed.{IsSigner, tries};
 ghost use Rattle.it_verify.specs.Fewest.{owner_tries};
 ghost use Rattle.it_verify.specs.First.{OwnerLacks};
@@ -24,19 +25,21 @@ pub(crate) fn check_owners(
     alloc: Global,
     owners: &Table<KeyObject>,
     envelope: &Envelope,
-    check: &Box<dyn SignatureCheck>,
+    panel: &[Box<dyn SignatureCheck>],
     meter: &mut Meter,
 ) -> Result<(), Failure>
     ensures signed { MatchResult result
-        (λ _. OwnersSign (meaning check.now) envelope.now owners.now)
-        (RefusedAs (IsFirst (OwnerLacks (meaning check.now) envelope.now) (entries owners.now))) }
+        (λ _. OwnersSign (panel_of (map meaning panel.now)) envelope.now owners.now)
+        (RefusedAs (IsFirst (OwnerLacks (panel_of (map meaning panel.now)) envelope.now) (entries
+        owners.now))) }
     ensures at_most { RaisedBy (λ n. n ≤ len owners.now * length envelope.now.signatures)
         meter.old meter.new }
     ensures counted { OnOk result (meter.new
-        ≡ raised meter.old (owner_tries (meaning check.now) envelope.now owners.now)) }
+        ≡ raised meter.old (owner_tries (panel_of (map meaning panel.now)) envelope.now
+        owners.now)) }
 {
     for (id, object) in owners.iter() {
-        check_owner(alloc, id.as_str(), object, envelope, check, meter)?;
+        check_owner(alloc, id.as_str(), object, envelope, panel, meter)?;
     }
     Ok(())
 }
@@ -47,16 +50,20 @@ fn check_owner(
     id: &str,
     object: &KeyObject,
     envelope: &Envelope,
-    check: &Box<dyn SignatureCheck>,
+    panel: &[Box<dyn SignatureCheck>],
     meter: &mut Meter,
 ) -> Result<(), Failure>
     ensures signed { MatchResult result
-        (λ _. IsSigner (meaning check.now) envelope.now object.now id.now)
-        (RefusedAs (OwnerLacks (meaning check.now) envelope.now (id.now, object.now))) }
+        (λ _. IsSigner (panel_of (map meaning panel.now)) envelope.now object.now id.now)
+        (RefusedAs (OwnerLacks (panel_of (map meaning panel.now)) envelope.now (
+          id.now,
+          object.now,
+        ))) }
     ensures counted { meter.new
-        ≡ raised meter.old (tries (meaning check.now) envelope.now id.now object.now) }
+        ≡ raised meter.old (tries (panel_of (map meaning panel.now)) envelope.now id.now
+        object.now) }
 {
-    let key = signed_by(envelope, id, object, check, meter);
+    let key = signed_by(envelope, id, object, panel, meter);
     if key.is_none() {
         return Err(refused(alloc, Fault::OwnerMissing(text_of(alloc, id)?)));
     }

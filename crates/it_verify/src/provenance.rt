@@ -1,11 +1,12 @@
 //! Whether each delivered file has provenance.
-ghost use Rattle.std.specs.Prelude.{◌≤◌, IfOk, MatchResult, OnOk, ℕ};
+ghost use Rattle.std.specs.Prelude.{◌≤◌, IfOk, MatchResult, OnOk, ℕ, map};
 ghost use Rattle.std.specs.FinMap.{entries, keys};
 ghost use Rattle.std.specs.List.{AllByRecursion};
 ghost use Rattle.it_base.specs.Sum.{IsSum};
 ghost use Rattle.it_base.specs.Places.{IsFirst};
 ghost use Rattle.it_digest.specs.Sums.{lines_of};
 ghost use Rattle.it_dsse.specs.Meter.{RaisedBy};
+ghost use Rattle.it_dsse.specs.Panel.{panel_of};
 ghost use Rattle.it_prov.specs.Asked.{AtLeast};
 ghost use Rattle.it_prov.specs.Cost.{signature_count};
 ghost use Rattle.it_prov.specs.Held.{AreHeld};
@@ -50,7 +51,7 @@ pub(crate) fn envelopes_in(alloc: Global, provenance: &[u8]) -> Result<Vec<Envel
 }
 
 /// Looks for provenance of each delivered file among the envelopes, in the order of the paths' bytes.
-/// Each signature is checked by `check`, which counts in `meter`.
+/// Each signature is checked by the `panel`, which counts in `meter`.
 ///
 /// # Errors
 ///
@@ -62,21 +63,24 @@ pub(crate) fn find_each(
     expectations: &[Expectation],
     delivered: &Artifacts,
     envelopes: &[Envelope],
-    check: &Box<dyn SignatureCheck>,
+    panel: &[Box<dyn SignatureCheck>],
     meter: &mut Meter,
 ) -> Result<(), Failure>
     ensures provenance { MatchResult result
-        (λ _. AllByRecursion (FileProven (meaning check.now) expectations.now envelopes.now) (entries delivered.now))
-        (RefusedAs (IsFirst (FileLacks (meaning check.now) expectations.now envelopes.now) (entries delivered.now))) }
+        (λ _. AllByRecursion (FileProven (panel_of (map meaning panel.now)) expectations.now
+        envelopes.now) (entries delivered.now))
+        (RefusedAs (IsFirst (FileLacks (panel_of (map meaning panel.now)) expectations.now
+        envelopes.now) (entries delivered.now))) }
     ensures at_most { (most : ℕ)
         → IsSum (FileCosts expectations.now (signature_count envelopes.now)) (keys delivered.now) most
         → RaisedBy (λ n. n ≤ most) meter.old meter.new }
     ensures at_least { OnOk result (RaisedBy (AtLeast (IsSum
-        (FileAsks (meaning check.now) expectations.now envelopes.now) (entries delivered.now)))
+        (FileAsks (panel_of (map meaning panel.now)) expectations.now envelopes.now) (entries
+        delivered.now)))
         meter.old meter.new) }
 {
     let attestations = Attestations::of(alloc, envelopes)?;
-    find_each_among(alloc, expectations, delivered, &attestations, check, meter)
+    find_each_among(alloc, expectations, delivered, &attestations, panel, meter)
 }
 
 /// Looks for provenance of each delivered file among envelopes whose Statements were read.
@@ -85,18 +89,21 @@ fn find_each_among(
     expectations: &[Expectation],
     delivered: &Artifacts,
     attestations: &Attestations,
-    check: &Box<dyn SignatureCheck>,
+    panel: &[Box<dyn SignatureCheck>],
     meter: &mut Meter,
 ) -> Result<(), Failure>
     requires { AreHeld attestations.now.envelopes.now attestations.now.statements.items }
     ensures provenance { MatchResult result
-        (λ _. AllByRecursion (FileProven (meaning check.now) expectations.now attestations.now.envelopes.now) (entries delivered.now))
-        (RefusedAs (IsFirst (FileLacks (meaning check.now) expectations.now attestations.now.envelopes.now) (entries delivered.now))) }
+        (λ _. AllByRecursion (FileProven (panel_of (map meaning panel.now)) expectations.now
+        attestations.now.envelopes.now) (entries delivered.now))
+        (RefusedAs (IsFirst (FileLacks (panel_of (map meaning panel.now)) expectations.now
+        attestations.now.envelopes.now) (entries delivered.now))) }
     ensures at_most { (most : ℕ)
         → IsSum (FileCosts expectations.now (signature_count attestations.now.envelopes.now)) (keys delivered.now) most
         → RaisedBy (λ n. n ≤ most) meter.old meter.new }
     ensures at_least { OnOk result (RaisedBy (AtLeast (IsSum
-        (FileAsks (meaning check.now) expectations.now attestations.now.envelopes.now)
+        (FileAsks (panel_of (map meaning panel.now)) expectations.now
+        attestations.now.envelopes.now)
         (entries delivered.now))) meter.old meter.new) }
 {
     for (path, digests) in delivered.iter() {
@@ -106,7 +113,7 @@ fn find_each_among(
             *digests,
             expectations,
             attestations,
-            check,
+            panel,
             meter,
         )?;
     }
@@ -120,17 +127,19 @@ fn find_one(
     digests: DigestSet,
     expectations: &[Expectation],
     attestations: &Attestations,
-    check: &Box<dyn SignatureCheck>,
+    panel: &[Box<dyn SignatureCheck>],
     meter: &mut Meter,
 ) -> Result<(), Failure>
     requires { AreHeld attestations.now.envelopes.now attestations.now.statements.items }
     ensures provenance { MatchResult result
-        (λ _. FileProven (meaning check.now) expectations.now attestations.now.envelopes.now (path.now, digests))
-        (RefusedAs (FileLacks (meaning check.now) expectations.now attestations.now.envelopes.now (path.now, digests))) }
+        (λ _. FileProven (panel_of (map meaning panel.now)) expectations.now
+        attestations.now.envelopes.now (path.now, digests))
+        (RefusedAs (FileLacks (panel_of (map meaning panel.now)) expectations.now
+        attestations.now.envelopes.now (path.now, digests))) }
     ensures at_most { (most : ℕ)
         → FileCosts expectations.now (signature_count attestations.now.envelopes.now) path.now most
         → RaisedBy (λ n. n ≤ most) meter.old meter.new }
-    ensures at_least { OnOk result (RaisedBy (AtLeast (FileAsks (meaning check.now)
+    ensures at_least { OnOk result (RaisedBy (AtLeast (FileAsks (panel_of (map meaning panel.now))
         expectations.now attestations.now.envelopes.now (path.now, digests)))
         meter.old meter.new) }
 {
@@ -140,7 +149,7 @@ fn find_one(
         digests,
         expectations,
         attestations,
-        check,
+        panel,
         meter,
     ) {
         Ok(_) => Ok(()),

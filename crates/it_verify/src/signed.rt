@@ -2,6 +2,7 @@
 ghost use Rattle.std.specs.Prelude.{◌≡◌, ◌≢◌, ◌↔◌, [], IfErr, IfOk, IsErrOf, map, string_bytes};
 ghost use Rattle.std.specs.Io.KnownBytes.{Appends};
 ghost use Rattle.it_base.specs.Writing.{AppendsBeginning};
+ghost use Rattle.it_dsse.specs.Panel.{panel_of};
 ghost use Rattle.it_dsse.specs.Signed.{AreThose, IsSigner};
 ghost use Rattle.it_verify.specs.Outcome.{IsOutputFault};
 ghost use Rattle.it_verify.specs.Report.{report_of};
@@ -30,7 +31,7 @@ use std::alloc::{AllocError, Global};
 use std::io::Write;
 
 /// Writes those of `ids` that signed the envelope, in the order given, each as a report writes a
-/// name and on a line of its own. `check` is asked with the key object `hmac`, `hmac-sha256` and an
+/// name and on a line of its own. The `panel` is asked with the key object `hmac`, `hmac-sha256` and an
 /// empty public part (DSSE v1.0, "Protocol").
 ///
 /// The answer is `Good` where some id signed, and `Refused` elsewhere. Where the bytes are no
@@ -44,19 +45,21 @@ pub fn run_signed<W: Write>(
     alloc: Global,
     envelope: &[u8],
     ids: &[String],
-    check: &Box<dyn SignatureCheck>,
+    panel: &[Box<dyn SignatureCheck>],
     out: &mut W,
 ) -> Result<Status, RunFault>
     ensures ok { IfOk result (λ status. (text : _)
-        × IsSignedOutput (meaning check.now) (map string_bytes ids.now) envelope.now text status
+        × IsSignedOutput (panel_of (map meaning panel.now)) (map string_bytes ids.now)
+        envelope.now text status
         × Appends (W.contents out.old) (W.contents out.new) text) }
     ensures write { IsErrOf result RunFault.Write → (text : _) × (status : _)
-        × IsSignedOutput (meaning check.now) (map string_bytes ids.now) envelope.now text status
+        × IsSignedOutput (panel_of (map meaning panel.now)) (map string_bytes ids.now)
+        envelope.now text status
         × AppendsBeginning (W.contents out.old) (W.contents out.new) text }
     ensures memory { IsErrOf result RunFault.OutOfMemory → out.new ≡ out.old }
     ensures faults { IfErr result IsOutputFault }
 {
-    let output = signed_output(alloc, envelope, ids, check)?;
+    let output = signed_output(alloc, envelope, ids, panel)?;
     put(out, &output)
 }
 
@@ -64,13 +67,14 @@ fn signed_output(
     alloc: Global,
     bytes: &[u8],
     ids: &[String],
-    check: &Box<dyn SignatureCheck>,
+    panel: &[Box<dyn SignatureCheck>],
 ) -> Result<Output, AllocError>
-    ensures { IfOk result (λ output. IsSignedOutput (meaning check.now) (map string_bytes ids.now)
+    ensures { IfOk result (λ output. IsSignedOutput (panel_of (map meaning panel.now)) (map
+        string_bytes ids.now)
         bytes.now output.text.items output.status) }
 {
     match Envelope::read(alloc, bytes) {
-        Ok(envelope) => signers_output(alloc, &envelope, ids, check),
+        Ok(envelope) => signers_output(alloc, &envelope, ids, panel),
         Err(EnvelopeFault::BadEnvelope) => no_envelope_output(alloc),
         Err(EnvelopeFault::OutOfMemory) => Err(AllocError),
     }
@@ -94,12 +98,13 @@ fn signers_output(
     alloc: Global,
     envelope: &Envelope,
     ids: &[String],
-    check: &Box<dyn SignatureCheck>,
+    panel: &[Box<dyn SignatureCheck>],
 ) -> Result<Output, AllocError>
-    ensures { IfOk result (λ output. NamesSigners (meaning check.now) (map string_bytes ids.now)
+    ensures { IfOk result (λ output. NamesSigners (panel_of (map meaning panel.now)) (map
+        string_bytes ids.now)
         envelope.now output.text.items output.status) }
 {
-    let signers = signers(alloc, envelope, ids, check)?;
+    let signers = signers(alloc, envelope, ids, panel)?;
     names_output(alloc, signers.as_slice())
 }
 
@@ -107,14 +112,14 @@ fn signers(
     alloc: Global,
     envelope: &Envelope,
     ids: &[String],
-    check: &Box<dyn SignatureCheck>,
+    panel: &[Box<dyn SignatureCheck>],
 ) -> Result<Vec<String>, AllocError>
     ensures { IfOk result (λ signers. AreThose
-        (IsSigner (meaning check.now) envelope.now ring_object)
+        (IsSigner (panel_of (map meaning panel.now)) envelope.now ring_object)
         (map string_bytes ids.now) (map string_bytes signers.items)) }
 {
     let object = ring_object(alloc)?;
-    signed_ids(alloc, envelope, ids, &object, check)
+    signed_ids(alloc, envelope, ids, &object, panel)
 }
 
 fn ring_object(alloc: Global) -> Result<KeyObject, AllocError>

@@ -23,7 +23,7 @@ pub enum Verdict {
 pub struct Answer {
     /// Whether the delivery is accepted.
     pub verdict: Verdict,
-    /// How often the check was asked whether a signature is valid: for the owners of the policy, for
+    /// How often a check was asked whether a signature is valid: for the owners of the policy, for
     /// the links and sublayouts at every depth, and for the provenance, one count for all of them.
     /// The greatest number that this holds stands for every greater one.
     pub asked: u64,

@@ -1,7 +1,8 @@
 //! `itv verify`: whether a delivery is accepted.
-ghost use Rattle.std.specs.Prelude.{◌≡◌, ◌≤◌, IfErr, IfOk, IsErrOf};
+ghost use Rattle.std.specs.Prelude.{◌≡◌, ◌≤◌, IfErr, IfOk, IsErrOf, map};
 ghost use Rattle.std.specs.Io.KnownBytes.{Appends};
 ghost use Rattle.it_base.specs.Writing.{AppendsBeginning};
+ghost use Rattle.it_dsse.specs.Panel.{panel_of};
 ghost use Rattle.it_verify.specs.Outcome.{IsOutputFault};
 ghost use Rattle.it_verify.specs.Verifying.{IsVerifyOutput, status_of};
 
@@ -26,33 +27,34 @@ use std::io::Write;
 pub fn run_verify<W: Write>(
     alloc: Global,
     inputs: &Inputs,
-    check: &Box<dyn SignatureCheck>,
+    panel: &[Box<dyn SignatureCheck>],
     out: &mut W,
 ) -> Result<Status, RunFault>
     requires { inputs.now.depth ≤ 8 }
     ensures ok { IfOk result (λ status. (text : _)
-        × IsVerifyOutput (meaning check.now) inputs.now text status
+        × IsVerifyOutput (panel_of (map meaning panel.now)) inputs.now text status
         × Appends (W.contents out.old) (W.contents out.new) text) }
     ensures write { IsErrOf result RunFault.Write → (text : _) × (status : _)
-        × IsVerifyOutput (meaning check.now) inputs.now text status
+        × IsVerifyOutput (panel_of (map meaning panel.now)) inputs.now text status
         × AppendsBeginning (W.contents out.old) (W.contents out.new) text }
     ensures memory { IsErrOf result RunFault.OutOfMemory → out.new ≡ out.old }
     ensures faults { IfErr result IsOutputFault }
 {
-    let output = verified_output(alloc, inputs, check)?;
+    let output = verified_output(alloc, inputs, panel)?;
     put(out, &output)
 }
 
 fn verified_output(
     alloc: Global,
     inputs: &Inputs,
-    check: &Box<dyn SignatureCheck>,
+    panel: &[Box<dyn SignatureCheck>],
 ) -> Result<Output, AllocError>
     requires { inputs.now.depth ≤ 8 }
-    ensures { IfOk result (λ output. IsVerifyOutput (meaning check.now) inputs.now output.text.items
+    ensures { IfOk result (λ output. IsVerifyOutput (panel_of (map meaning panel.now)) inputs.now
+        output.text.items
         output.status) }
 {
-    let answer = verify(alloc, inputs, check)?;
+    let answer = verify(alloc, inputs, panel)?;
     Ok(Output {
         text: report(alloc, &answer.verdict)?,
         status: status_of(&answer.verdict),

@@ -2,6 +2,7 @@
 ghost use Rattle.std.specs.Prelude.{◌≡◌, ◌≤◌, IfOk, MatchResult, map, ℕ};
 ghost use Rattle.std.specs.FinMap.{keys};
 ghost use Rattle.it_dsse.specs.Meter.{RaisedBy};
+ghost use Rattle.it_dsse.specs.Panel.{panel_of};
 ghost use Rattle.it_verify.specs.Cost.{Costs};
 ghost use Rattle.it_verify.specs.Fewest.{AsksEnough};
 ghost use Rattle.it_verify.specs.First.{First};
@@ -27,7 +28,7 @@ use std::alloc::{AllocError, Global};
 /// Verifies delivered files (in-toto 1.0 section 5.2; SLSA v1.0, verifying artifacts): were they made
 /// as the owners of the policy laid down?
 ///
-/// Signatures are checked by `check`. The verdict is `Accepted` exactly where the layout is signed by
+/// Signatures are checked by the `panel`. The verdict is `Accepted` exactly where the layout is signed by
 /// every owner and has not expired at the moment, each step has its threshold of different authorised
 /// keys whose signed records agree, every artifact rule holds of what was recorded and of what is
 /// delivered, and each delivered file has signed provenance that meets its expectation. Otherwise it is
@@ -46,19 +47,22 @@ use std::alloc::{AllocError, Global};
 pub fn verify(
     alloc: Global,
     inputs: &Inputs,
-    check: &Box<dyn SignatureCheck>,
+    panel: &[Box<dyn SignatureCheck>],
 ) -> Result<Answer, AllocError>
     requires { inputs.now.depth ≤ 8 }
-    ensures answers { IfOk result (λ answer. IsVerdict (meaning check.now) inputs.now answer.verdict) }
-    ensures accepted { IfOk result (λ answer. OnAccepted answer.verdict (Made (meaning check.now) inputs.now)) }
-    ensures refused { IfOk result (λ answer. OnRefused answer.verdict (¬ Made (meaning check.now) inputs.now)) }
+    ensures answers { IfOk result (λ answer. IsVerdict (panel_of (map meaning panel.now))
+        inputs.now answer.verdict) }
+    ensures accepted { IfOk result (λ answer. OnAccepted answer.verdict (Made
+        (panel_of (map meaning panel.now)) inputs.now)) }
+    ensures refused { IfOk result (λ answer. OnRefused answer.verdict (¬ Made
+        (panel_of (map meaning panel.now)) inputs.now)) }
     ensures asked_at_most { IfOk result (λ answer. (most : ℕ)
-        → Costs (meaning check.now) inputs.now most → answer.asked ≤ most) }
+        → Costs (panel_of (map meaning panel.now)) inputs.now most → answer.asked ≤ most) }
     ensures asked_at_least { IfOk result (λ answer.
-        AsksEnough (meaning check.now) inputs.now answer.asked answer.verdict) }
+        AsksEnough (panel_of (map meaning panel.now)) inputs.now answer.asked answer.verdict) }
 {
     let mut meter = Meter { asked: 0 };
-    let verdict = verdict_on(alloc, inputs, check, &mut meter)?;
+    let verdict = verdict_on(alloc, inputs, panel, &mut meter)?;
     Ok(Answer {
         verdict,
         asked: meter.asked,
@@ -69,17 +73,17 @@ pub fn verify(
 fn verdict_on(
     alloc: Global,
     inputs: &Inputs,
-    check: &Box<dyn SignatureCheck>,
+    panel: &[Box<dyn SignatureCheck>],
     meter: &mut Meter,
 ) -> Result<Verdict, AllocError>
     requires { inputs.now.depth ≤ 8 }
-    ensures verdict { IfOk result (IsVerdict (meaning check.now) inputs.now) }
-    ensures at_most { (most : ℕ) → Costs (meaning check.now) inputs.now most
+    ensures verdict { IfOk result (IsVerdict (panel_of (map meaning panel.now)) inputs.now) }
+    ensures at_most { (most : ℕ) → Costs (panel_of (map meaning panel.now)) inputs.now most
         → RaisedBy (λ n. n ≤ most) meter.old meter.new }
     ensures at_least { IfOk result
-        (TakesEnough (meaning check.now) inputs.now meter.old meter.new) }
+        (TakesEnough (panel_of (map meaning panel.now)) inputs.now meter.old meter.new) }
 {
-    match accepted(alloc, inputs, check, meter) {
+    match accepted(alloc, inputs, panel, meter) {
         Ok(verdict) => Ok(verdict),
         Err(Failure::Refused(refusal)) => Ok(Verdict::Refused(refusal)),
         Err(Failure::OutOfMemory) => Err(AllocError),
@@ -90,20 +94,20 @@ fn verdict_on(
 fn accepted(
     alloc: Global,
     inputs: &Inputs,
-    check: &Box<dyn SignatureCheck>,
+    panel: &[Box<dyn SignatureCheck>],
     meter: &mut Meter,
 ) -> Result<Verdict, Failure>
     requires { inputs.now.depth ≤ 8 }
-    ensures verdict { MatchResult result (IsVerdict (meaning check.now) inputs.now)
-        (RefusedAs (First (meaning check.now) inputs.now)) }
-    ensures at_most { (most : ℕ) → Costs (meaning check.now) inputs.now most
+    ensures verdict { MatchResult result (IsVerdict (panel_of (map meaning panel.now)) inputs.now)
+        (RefusedAs (First (panel_of (map meaning panel.now)) inputs.now)) }
+    ensures at_most { (most : ℕ) → Costs (panel_of (map meaning panel.now)) inputs.now most
         → RaisedBy (λ n. n ≤ most) meter.old meter.new }
     ensures at_least { IfOk result
-        (TakesEnough (meaning check.now) inputs.now meter.old meter.new) }
+        (TakesEnough (panel_of (map meaning panel.now)) inputs.now meter.old meter.new) }
 {
-    let documents = read_documents(alloc, inputs, check, meter)?;
-    let evidence = gather(alloc, inputs, &documents, check, meter)?;
-    judge(alloc, inputs, &documents, &evidence, check, meter)?;
+    let documents = read_documents(alloc, inputs, panel, meter)?;
+    let evidence = gather(alloc, inputs, &documents, panel, meter)?;
+    judge(alloc, inputs, &documents, &evidence, panel, meter)?;
     Ok(verdict_of(alloc, &documents, evidence)?)
 }
 

@@ -38,7 +38,7 @@ pub enum Words {
     Sign(SignWords),
     /// `itv digest FILE..`: the SHA-256 of each file.
     Digest(DigestWords),
-    /// `itv verify --policy F --layout F --links DIR --sums F --at MOMENT --ring F [--provenance F]
+    /// `itv verify --policy F --layout F --links DIR --sums F --at MOMENT --ring F.. [--provenance F]
     /// [--records DIR] [--depth N]`: whether delivered files were made as the owners laid down.
     Verify(VerifyWords),
 }
@@ -65,7 +65,7 @@ impl From<AllocError> for WordsFault {
 /// The command that the words name, with its values. The first word is the program's name.
 ///
 /// No word asks for help: `--help`, `-h`, `help` and `--version` are words that do not parse. The
-/// depth of a verification is at most 8.
+/// depth of a verification is at most 8, and it has 1 to 8 rings.
 ///
 /// # Errors
 ///
@@ -79,7 +79,7 @@ pub fn read_words(alloc: Global, words: &[String]) -> Result<Words, WordsFault>
     let matches = parsed(alloc, words)?;
     match named(alloc, &matches)? {
         Some(command) => Ok(command),
-        None => Err(note::no_command(alloc)),
+        None => Err(note::too_many_rings(alloc)),
     }
 }
 

@@ -1,9 +1,11 @@
 -- What the commands write and find, by their words and by what stands at the paths in them.
-use Rattle.std.specs.Prelude.{◌≡◌, ℕ, List, [], ◌∷◌, ◌++◌, Option}
+use Rattle.std.specs.Prelude.{◌≡◌, ℕ, List, [], ◌∷◌, ◌++◌, Option, map}
 use Rattle.std.specs.Cmp.Lexicographic.{slice_cmp}
+use Rattle.std.specs.List.{AllZip}
 use Rattle.std.specs.List.Sorted.{IsPermutation, IsSorted}
 use Rattle.std.specs.Ordering.{nat_cmp}
 use Rattle.it_dsse.specs.Pae.{pae_of}
+use Rattle.it_dsse.specs.Panel.{panel_of}
 use Rattle.it_dsse.specs.Ring.{ids_of, ring_check}
 use Rattle.it_dsse.specs.declared.ring_entry.RingEntry.{RingEntry}
 use Rattle.it_verify.specs.Digesting.{IsDigestLine}
@@ -22,13 +24,13 @@ use Rattle.it_verify.specs.declared.words.signing.SignWords.{SignWords}
 use Rattle.it_verify.specs.declared.words.verifying.VerifyWords.{VerifyWords}
 use Rattle.itv.specs.Reading.{Holdings, AreInputs, HoldsRing}
 
--- verify: the output of a verification of the inputs, checked by the ring
+-- verify: the output of a verification of the inputs, checked by the rings in the order of the words
 pub record Verifies (disk : Holdings) (words : VerifyWords) (text : List ℕ) (status : Status) : Type 0 where
   pub inputs : Inputs
   pub are_inputs : AreInputs disk words inputs
-  pub ring : List RingEntry
-  pub holds_ring : HoldsRing disk words.ring ring
-  pub is_output : IsVerifyOutput (ring_check ring) inputs text status
+  pub rings : List (List RingEntry)
+  pub holds_rings : AllZip (HoldsRing disk) words.rings rings
+  pub is_output : IsVerifyOutput (panel_of (map ring_check rings)) inputs text status
 
 -- signed: which ids of the ring, in the order of their bytes, signed the envelope
 pub record ShowsSigners (disk : Holdings) (words : SignedWords) (text : List ℕ) (status : Status) : Type 0 where
@@ -39,7 +41,7 @@ pub record ShowsSigners (disk : Holdings) (words : SignedWords) (text : List ℕ
   pub ids : List (List ℕ)
   pub same_ids : IsPermutation (ids_of ring) ids
   pub in_order : IsSorted (slice_cmp nat_cmp) ids
-  pub is_output : IsSignedOutput (ring_check ring) ids envelope text status
+  pub is_output : IsSignedOutput (panel_of (ring_check ring ∷ [])) ids envelope text status
 
 -- sign: the body's envelope under the key of the ring
 pub record Signs (disk : Holdings) (words : SignWords) (text : List ℕ) (status : Status) : Type 0 where

@@ -1,6 +1,6 @@
 //! `itv`: a verifier of software supply chains by the in-toto specification 1.0.
 //!
-//! Reads the words, the files and the ring, and hands them to the command of `it_verify`.
+//! Reads the words, the files and the rings, and hands them to the command of `it_verify`.
 #![tactic(auto)]
 
 mod digesting;

@@ -1,6 +1,7 @@
 //! `itv signed ENVELOPE --ring F`.
-ghost use Rattle.std.specs.Prelude.{◌≡◌, ◌≢◌, IfErr, IfOk, map, string_bytes};
+ghost use Rattle.std.specs.Prelude.{◌≡◌, ◌≢◌, [], ◌∷◌, IfErr, IfOk, map, string_bytes};
 ghost use Rattle.std.specs.Io.KnownBytes.{Appends};
+ghost use Rattle.it_dsse.specs.Panel.{panel_of};
 ghost use Rattle.it_dsse.specs.Ring.{ring_check};
 ghost use Rattle.it_verify.specs.Signed.{IsSignedOutput};
 ghost use Rattle.itv.specs.Commands.{ShowsSigners};
@@ -42,10 +43,11 @@ fn show_by<W: Write>(
     out: &mut W,
 ) -> Result<Status, Fault>
     ensures ok { IfOk result (λ status. (text : _)
-        × IsSignedOutput (ring_check ring) (map string_bytes ids.now) envelope.now text status
+        × IsSignedOutput (panel_of (ring_check ring ∷ [])) (map string_bytes ids.now)
+        envelope.now text status
         × Appends (W.contents out.old) (W.contents out.new) text) }
     ensures nothing { IfErr result (λ fault. fault ≢ Fault.Run RunFault.Write → out.new ≡ out.old) }
 {
-    let check: Box<dyn SignatureCheck> = Box::new(alloc, ring)?;
-    Ok(run_signed(alloc, envelope, ids, &check, out)?)
+    let panel: [Box<dyn SignatureCheck>; 1] = [Box::new(alloc, ring)?];
+    Ok(run_signed(alloc, envelope, ids, &panel, out)?)
 }

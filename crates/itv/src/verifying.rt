@@ -1,10 +1,12 @@
 //! `itv verify`: whether delivered files were made as the owners laid down.
-ghost use Rattle.std.specs.Prelude.{◌≡◌, ◌≢◌, ◌≤◌, IfErr, IfOk};
+ghost use Rattle.std.specs.Prelude.{◌≡◌, ◌≢◌, ◌≤◌, IfErr, IfOk, map};
 ghost use Rattle.std.specs.Io.KnownBytes.{Appends};
+ghost use Rattle.std.specs.List.{AllZip};
+ghost use Rattle.it_dsse.specs.Panel.{panel_of};
 ghost use Rattle.it_dsse.specs.Ring.{ring_check};
 ghost use Rattle.it_verify.specs.Verifying.{IsVerifyOutput};
 ghost use Rattle.itv.specs.Commands.{Verifies};
-ghost use Rattle.itv.specs.Reading.{AreInputs, HoldsIfGiven};
+ghost use Rattle.itv.specs.Reading.{AreInputs, HoldsIfGiven, HoldsRing};
 
 use crate::disk::Disk;
 use crate::fault::Fault;
@@ -20,7 +22,7 @@ use it_verify::words::verifying::VerifyWords;
 use std::alloc::Global;
 use std::io::Write;
 
-/// Reads all files and folders and the ring, and writes the report of the verdict.
+/// Reads all files and folders and the rings, and writes the report of the verdict.
 pub(crate) fn run<R: Disk + AllocGlobal, W: Write>(
     rt: &R,
     words: &VerifyWords,
@@ -33,25 +35,39 @@ pub(crate) fn run<R: Disk + AllocGlobal, W: Write>(
 {
     let alloc = rt.alloc();
     let inputs = inputs(rt, words)?;
-    let ring = read_ring(rt, words.ring.as_str())?;
-    Ok(verify_by(alloc, &inputs, ring, out)?)
+    let rings = read_rings(rt, words.rings.as_slice())?;
+    Ok(verify_by(alloc, &inputs, rings, out)?)
 }
 
-/// Writes the report of the verdict on the inputs, with signatures checked by the ring.
+/// Writes the report of the verdict on the inputs, with signatures checked by the rings.
 fn verify_by<W: Write>(
     alloc: Global,
     inputs: &Inputs,
-    ring: HmacRing,
+    rings: Vec<HmacRing>,
     out: &mut W,
 ) -> Result<Status, Fault>
     requires { inputs.now.depth ≤ 8 }
     ensures ok { IfOk result (λ status. (text : _)
-        × IsVerifyOutput (ring_check ring) inputs.now text status
+        × IsVerifyOutput (panel_of (map ring_check rings.items)) inputs.now text status
         × Appends (W.contents out.old) (W.contents out.new) text) }
     ensures nothing { IfErr result (λ fault. fault ≢ Fault.Run RunFault.Write → out.new ≡ out.old) }
 {
-    let check: Box<dyn SignatureCheck> = Box::new(alloc, ring)?;
-    Ok(run_verify(alloc, inputs, &check, out)?)
+    let mut panel: Vec<Box<dyn SignatureCheck>> = Vec::new(alloc);
+    for ring in rings {
+        panel.push(Box::new(alloc, ring)?)?;
+    }
+    Ok(run_verify(alloc, inputs, panel.as_slice(), out)?)
+}
+
+/// The rings at the paths, in their order.
+fn read_rings<R: Disk + AllocGlobal>(rt: &R, paths: &[Text]) -> Result<Vec<HmacRing>, Fault>
+    ensures { IfOk result (λ rings. AllZip (HoldsRing R.holdings) paths.now rings.items) }
+{
+    let mut rings = Vec::new(rt.alloc());
+    for path in paths {
+        rings.push(read_ring(rt, path.as_str())?)?;
+    }
+    Ok(rings)
 }
 
 /// What stands at the paths of the options. What no path is given for is empty.

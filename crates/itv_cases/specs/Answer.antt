@@ -1,6 +1,6 @@
 -- What a verification comes to (a word of this project).
 use Rattle.std.specs.Prelude.{◌≡◌, Ok}
-use Rattle.it_dsse.specs.Check.{Check}
+use Rattle.it_dsse.specs.Panel.{Panel}
 use Rattle.it_verify.specs.Outcome.{exit_status}
 use Rattle.it_verify.specs.Verifying.{IsVerifyOutput}
 use Rattle.it_verify.specs.declared.inputs.Inputs.{Inputs}
@@ -8,7 +8,7 @@ use Rattle.it_verify.specs.declared.outcome.Status.{Status}
 use Rattle.itv_cases.specs.declared.answer.Answer.{Answer}
 
 -- the report is that of the verdict on the inputs, and the status is the exit status that goes with it
-pub record IsAnswer (check : Check) (inputs : Inputs) (answer : Answer) : Type 0 where
+pub record IsAnswer (panel : Panel) (inputs : Inputs) (answer : Answer) : Type 0 where
   pub found : Status
-  pub is_output : IsVerifyOutput check inputs answer.report found
+  pub is_output : IsVerifyOutput panel inputs answer.report found
   pub status_is : answer.status ≡ exit_status (Ok found)

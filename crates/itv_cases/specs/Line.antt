@@ -7,7 +7,7 @@ use Rattle.it_base.specs.Text.{IsText}
 use Rattle.itv_cases.specs.Reading.{InputsOf, WantedOf}
 use Rattle.itv_cases.specs.declared.case.Case.{Case}
 
--- the case that a line is, but for the files and folders, and the ring
+-- the case that a line is, but for the files and folders, and the rings
 pub record CaseOf (line : List ℕ) (case : Case) : Type 0 where
   pub document : Data
   pub is_document : IsDocument line document

@@ -1,5 +1,6 @@
 //! What a verification comes to.
-ghost use Rattle.std.specs.Prelude.{◌≡◌, ◌≤◌, ◌↔◌, IsTrue, IfOk};
+ghost use Rattle.std.specs.Prelude.{◌≡◌, ◌≤◌, ◌↔◌, IsTrue, IfOk, map};
+ghost use Rattle.it_dsse.specs.Panel.{panel_of};
 
 use it_base::sequence::Sequence;
 use it_dsse::check::SignatureCheck;
@@ -35,13 +36,13 @@ impl Answer {
     pub(crate) fn of(
         alloc: Global,
         inputs: &Inputs,
-        check: &Box<dyn SignatureCheck>,
+        panel: &[Box<dyn SignatureCheck>],
     ) -> Result<Answer, AllocError>
         requires { inputs.now.depth ≤ 8 }
-        ensures { IfOk result (IsAnswer (meaning check.now) inputs.now) }
+        ensures { IfOk result (IsAnswer (panel_of (map meaning panel.now)) inputs.now) }
     {
         let mut report = Vec::new(alloc);
-        match run_verify(alloc, inputs, check, &mut report) {
+        match run_verify(alloc, inputs, panel, &mut report) {
             Ok(status) => Ok(Answer {
                 report: Sequence::from(report),
                 status: exit_of(&Ok(status)),

@@ -1,8 +1,9 @@
 //! A case: the inputs of a verification, and what another implementation came to.
-ghost use Rattle.std.specs.Prelude.{◌≤◌, [], codes, IfOk};
+ghost use Rattle.std.specs.Prelude.{◌≤◌, [], codes, IfOk, map};
 ghost use Rattle.serde_json.specs.View.{view};
 ghost use Rattle.it_base.specs.Parts.{IsPart, IsPartOr};
 ghost use Rattle.it_base.specs.Sequence.{IsList};
+ghost use Rattle.it_dsse.specs.Panel.{panel_of};
 ghost use Rattle.it_dsse.specs.Ring.{ring_check};
 ghost use Rattle.itv_cases.specs.Answer.{IsAnswer};
 ghost use Rattle.itv_cases.specs.Part.{IsBytes, IsNamed};
@@ -25,6 +26,8 @@ use thiserror::Error;
 /// The depth that a verification may go down to.
 const MOST_DEPTH: u8 = 8;
 
+const BAD_RINGS: CaseFault = CaseFault::BadMember("rings");
+
 /// A verification with the answer that is wanted.
 #[derive(Drop)]
 pub(crate) struct Case {
@@ -32,8 +35,8 @@ pub(crate) struct Case {
     pub(crate) name: Text,
     /// What the verification looks at.
     pub(crate) inputs: Inputs,
-    /// The secrets that signatures are checked with.
-    pub(crate) ring: HmacRing,
+    /// The rings of secrets that signatures are checked with, in the order of their places.
+    pub(crate) rings: Sequence<HmacRing>,
     /// What the other implementation came to.
     pub(crate) wanted: Answer,
     ghost within_depth: { inputs.depth ≤ 8 },
@@ -88,7 +91,7 @@ impl Case {
         Ok(Case {
             name: text_part(alloc, &document, "name")?,
             inputs,
-            ring: ring(alloc, &document)?,
+            rings: Sequence::from(rings(alloc, &document)?),
             wanted: wanted(alloc, &document)?,
         })
     }
@@ -104,24 +107,27 @@ impl Case {
         let Case {
             name,
             inputs,
-            ring,
+            rings,
             wanted,
         } = self;
         Ok(Run {
             name,
             wanted,
-            given: answer_by(alloc, &inputs, ring)?,
+            given: answer_by(alloc, &inputs, rings.into_vec())?,
         })
     }
 }
 
-/// What the verification comes to, with signatures checked by the ring.
-fn answer_by(alloc: Global, inputs: &Inputs, ring: HmacRing) -> Result<Answer, AllocError>
+/// What the verification comes to, with signatures checked by the rings.
+fn answer_by(alloc: Global, inputs: &Inputs, rings: Vec<HmacRing>) -> Result<Answer, AllocError>
     requires { inputs.now.depth ≤ 8 }
-    ensures { IfOk result (IsAnswer (ring_check ring) inputs.now) }
+    ensures { IfOk result (IsAnswer (panel_of (map ring_check rings.items)) inputs.now) }
 {
-    let check: Box<dyn SignatureCheck> = Box::new(alloc, ring)?;
-    Answer::of(alloc, inputs, &check)
+    let mut panel: Vec<Box<dyn SignatureCheck>> = Vec::new(alloc);
+    for ring in rings {
+        panel.push(Box::new(alloc, ring)?)?;
+    }
+    Answer::of(alloc, inputs, panel.as_slice())
 }
 
 fn inputs(alloc: Global, case: &Value) -> Result<Inputs, CaseFault>
@@ -155,17 +161,21 @@ fn records(alloc: Global, case: &Value) -> Result<Sequence<(Text, Sequence<u8>)>
     Ok(Sequence::from(named_part(alloc, case, "records")?))
 }
 
-/// The one ring of a case.
-fn ring(alloc: Global, case: &Value) -> Result<HmacRing, CaseFault> {
-    let bad = CaseFault::BadMember("rings");
-    let rings = needed(case, "rings")?.as_array().ok_or(bad)?;
-    let [ring] = rings.as_slice() else {
-        return Err(bad);
-    };
-    let bytes = bytes_of(alloc, ring)?.ok_or(bad)?;
-    match HmacRing::read(alloc, bytes.as_slice()) {
+/// The rings of a case, in their order.
+fn rings(alloc: Global, case: &Value) -> Result<Vec<HmacRing>, CaseFault> {
+    let mut rings = Vec::new(alloc);
+    for ring in needed(case, "rings")?.as_array().ok_or(BAD_RINGS)? {
+        let bytes = bytes_of(alloc, ring)?.ok_or(BAD_RINGS)?;
+        rings.push(read_ring(alloc, bytes.as_slice())?)?;
+    }
+    Ok(rings)
+}
+
+/// The ring that the bytes are.
+fn read_ring(alloc: Global, bytes: &[u8]) -> Result<HmacRing, CaseFault> {
+    match HmacRing::read(alloc, bytes) {
         Ok(ring) => Ok(ring),
-        Err(RingFault::BadRing) => Err(bad),
+        Err(RingFault::BadRing) => Err(BAD_RINGS),
         Err(RingFault::OutOfMemory) => Err(CaseFault::OutOfMemory),
     }
 }

@@ -85,7 +85,8 @@ pub(crate) fn sums(alloc: Global, lines: &[(&str, &str)]) -> Result<Sequence<u8>
     Ok(Sequence::from(list.into_bytes()))
 }
 
-fn ring(alloc: Global) -> Result<HmacRing, Fail> {
+/// The ring whose ids sign the base case.
+pub(crate) fn ring(alloc: Global) -> Result<HmacRing, Fail> {
     Ok(HmacRing::read(alloc, RING.as_bytes())?)
 }
 
@@ -224,14 +225,27 @@ pub(crate) fn run<W: Write>(
     if inputs.depth > 8 {
         return Err(Fail::from("too deep"));
     }
-    let check: Box<dyn SignatureCheck> = Box::new(alloc, ring(alloc)?)?;
-    Ok(run_verify(alloc, inputs, &check, out))
+    let panel: [Box<dyn SignatureCheck>; 1] = [Box::new(alloc, ring(alloc)?)?];
+    Ok(run_verify(alloc, inputs, &panel, out))
 }
 
-/// The exit status and the report.
+/// The exit status and the report, over the ring.
 pub(crate) fn reported(alloc: Global, inputs: &Inputs) -> Result<(u8, String), Fail> {
+    let panel: [Box<dyn SignatureCheck>; 1] = [Box::new(alloc, ring(alloc)?)?];
+    reported_by(alloc, inputs, &panel)
+}
+
+/// The exit status and the report, over a panel of checks.
+pub(crate) fn reported_by(
+    alloc: Global,
+    inputs: &Inputs,
+    panel: &[Box<dyn SignatureCheck>],
+) -> Result<(u8, String), Fail> {
+    if inputs.depth > 8 {
+        return Err(Fail::from("too deep"));
+    }
     let mut out = Vec::new(alloc);
-    let status = run(alloc, inputs, &mut out)?;
+    let status = run_verify(alloc, inputs, panel, &mut out);
     let report = String::from_utf8(out)
         .ok()
         .ok_or("a report that is no text")?;
@@ -243,6 +257,6 @@ pub(crate) fn asked(alloc: Global, inputs: &Inputs) -> Result<u64, Fail> {
     if inputs.depth > 8 {
         return Err(Fail::from("too deep"));
     }
-    let check: Box<dyn SignatureCheck> = Box::new(alloc, ring(alloc)?)?;
-    Ok(verify(alloc, inputs, &check)?.asked)
+    let panel: [Box<dyn SignatureCheck>; 1] = [Box::new(alloc, ring(alloc)?)?];
+    Ok(verify(alloc, inputs, &panel)?.asked)
 }

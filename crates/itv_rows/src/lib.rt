@@ -11,6 +11,8 @@ mod cut_tests;
 #[cfg(test)]
 mod noise_tests;
 #[cfg(test)]
+mod panel_tests;
+#[cfg(test)]
 mod report_tests;
 #[cfg(test)]
 mod signed_tests;

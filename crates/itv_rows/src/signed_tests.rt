@@ -31,8 +31,8 @@ fn signed<W: Write>(
 ) -> Result<Result<Status, RunFault>, Fail> {
     let ring = HmacRing::read(alloc, RING.as_bytes())?;
     let ids = ring.ids(alloc)?;
-    let check: Box<dyn SignatureCheck> = Box::new(alloc, ring)?;
-    Ok(run_signed(alloc, envelope.as_bytes(), ids.as_slice(), &check, out))
+    let panel: [Box<dyn SignatureCheck>; 1] = [Box::new(alloc, ring)?];
+    Ok(run_signed(alloc, envelope.as_bytes(), ids.as_slice(), &panel, out))
 }
 
 #[test]
@@ -71,9 +71,9 @@ fn names_an_empty_id(rt: HostRuntime) -> Result<(), Fail> {
     let alloc = rt.alloc();
     let ring = HmacRing::read(alloc, br#"[{"id":"","secret":"626f62"}]"#)?;
     let ids = ring.ids(alloc)?;
-    let check: Box<dyn SignatureCheck> = Box::new(alloc, ring)?;
+    let panel: [Box<dyn SignatureCheck>; 1] = [Box::new(alloc, ring)?];
     let mut out = Vec::new(alloc);
-    let status = run_signed(alloc, BY_BOB.as_bytes(), ids.as_slice(), &check, &mut out);
+    let status = run_signed(alloc, BY_BOB.as_bytes(), ids.as_slice(), &panel, &mut out);
     assert_eq!(rt; status, Ok(Status::Good));
     assert_eq!(rt; out.as_slice(), b"\\e\n".as_slice());
     Ok(())

@@ -1,3 +1,4 @@
+use it_base::text::Text;
 use it_verify::words::verifying::VerifyWords;
 use it_verify::words::{Words, WordsFault, read_words};
 use std::alloc::{AllocError, Global};
@@ -26,20 +27,33 @@ fn read(alloc: Global, words: &[String]) -> Result<Option<VerifyWords>, WordsFau
     }
 }
 
+fn joined(alloc: Global, texts: &[Text]) -> Result<String, AllocError> {
+    let mut joined = String::new(alloc);
+    for (index, text) in texts.iter().enumerate() {
+        if index > 0 {
+            joined.push('+')?;
+        }
+        joined.push_str(text.as_str())?;
+    }
+    Ok(joined)
+}
+
 fn shown(alloc: Global, words: &VerifyWords) -> Result<String, AllocError> {
     let policy = words.policy.as_str();
     let layout = words.layout.as_str();
     let links = words.links.as_str();
     let sums = words.sums.as_str();
     let at = words.at.as_str();
-    let ring = words.ring.as_str();
+    let rings = joined(alloc, words.rings.as_slice())?;
     let provenance = words
         .provenance
         .as_ref()
         .map_or("none", |path| path.as_str());
     let records = words.records.as_ref().map_or("none", |path| path.as_str());
     let depth = words.depth;
-    format!(in alloc; "{policy} {layout} {links} {sums} {at} {ring} {provenance} {records} {depth}")
+    format!(in alloc;
+        "{policy} {layout} {links} {sums} {at} {rings} {provenance} {records} {depth}"
+    )
 }
 
 #[test]
@@ -64,6 +78,24 @@ fn reads_the_words_of_a_verification(rt: HostRuntime) -> Result<(), Fail> {
         };
         assert_eq!(rt; shown(alloc, &read)?.as_str(), want, "{further:?}");
     }
+    Ok(())
+}
+
+#[test]
+fn reads_eight_rings_and_no_ninth(rt: HostRuntime) -> Result<(), Fail> {
+    let alloc = rt.alloc();
+    let further = [
+        "--ring=2", "--ring", "3", "--ring=4", "--ring=3", "--ring=6", "--ring=", "--ring=8",
+    ];
+    let mut words = texts(alloc, NEEDED.as_slice(), further.as_slice())?;
+    let Some(read) = read(alloc, words.as_slice())? else {
+        panic!(rt; "eight rings");
+    };
+    let want = "p l d s m r+2+3+4+3+6++8 none none 4";
+    assert_eq!(rt; shown(alloc, &read)?.as_str(), want);
+    words.push(String::from_str(alloc, "--ring=9")?)?;
+    let read = read_words(alloc, words.as_slice());
+    assert!(rt; matches!(read, Err(WordsFault::Unread(_))));
     Ok(())
 }
 

@@ -1,11 +1,19 @@
 //! The kinds of arguments that commands take.
-ghost use Rattle.std.specs.Prelude.{◌≡◌, false, map, option_map};
+ghost use Rattle.std.specs.Prelude.{◌≡◌, false, IfOk, map, option_map};
 ghost use Rattle.clap.specs.Words.{found_of};
 ghost use Rattle.clap.specs.Walk.{all_of, first_of, rows_of, rule_of};
-ghost use Rattle.it_verify.specs.Words.{needed_option, needed_word, needed_words, plain_option};
+ghost use Rattle.it_verify.specs.Words.{
+  needed_option,
+  needed_options,
+  needed_word,
+  needed_words,
+  plain_option,
+};
 
 use clap::{Arg, ArgAction, ArgMatches};
-use std::alloc::Global;
+use it_base::sequence::Sequence;
+use it_base::text::Text;
+use std::alloc::{AllocError, Global};
 
 /// A word that has to be given, in its place.
 pub(super) fn needed_word<'a>(alloc: Global, name: &'a str, shown: &'a str) -> Arg<'a>
@@ -42,6 +50,14 @@ pub(super) fn needed_option<'a>(alloc: Global, name: &'a str, shown: &'a str) ->
     plain_option(alloc, name, shown).required(true)
 }
 
+/// An option that has to be given at least once, with one value each time.
+pub(super) fn needed_options<'a>(alloc: Global, name: &'a str, shown: &'a str) -> Arg<'a>
+    ensures rule { rule_of result ≡ needed_options name.entry.now }
+    ensures local { result.global ≡ false }
+{
+    needed_option(alloc, name, shown).action(ArgAction::Append)
+}
+
 /// The value that was given to an argument.
 pub(super) fn value<'a>(values: &ArgMatches<'a>, name: &str) -> Option<&'a str>
     ensures { option_map (λ text. text.now) result
@@ -56,4 +72,15 @@ pub(super) fn values<'v, 'a>(values: &'v ArgMatches<'a>, name: &str) -> Option<&
         ≡ all_of name.now (rows_of (found_of values.now)) }
 {
     values.get_strs(name)
+}
+
+/// The words, owned and in their order.
+pub(super) fn texts(alloc: Global, words: &[&str]) -> Result<Sequence<Text>, AllocError>
+    ensures { IfOk result (λ texts. texts ≡ map (λ word. word.now) words.now) }
+{
+    let mut texts = Vec::with_capacity(alloc, words.len())?;
+    for word in words {
+        texts.push(Text::from(String::from_str(alloc, word)?))?;
+    }
+    Ok(Sequence::from(texts))
 }

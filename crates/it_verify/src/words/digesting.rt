@@ -1,12 +1,12 @@
 //! The words of `itv digest`.
-ghost use Rattle.std.specs.Prelude.{◌≡◌, false, IfOk, map};
+ghost use Rattle.std.specs.Prelude.{◌≡◌, false, IfOk};
 ghost use Rattle.clap.specs.Words.{app_of, found_of};
 ghost use Rattle.clap.specs.Walk.{rows_of};
 ghost use Rattle.clap.specs.declared.builder.command.Command.TheViews.{out-Command};
 ghost use Rattle.it_base.specs.Finds.{Finds};
 ghost use Rattle.it_verify.specs.Words.{IsDigest, digest_command};
 
-use super::arguments::{needed_words, values as values_of};
+use super::arguments::{needed_words, texts, values as values_of};
 use clap::{ArgMatches, Command};
 use it_base::sequence::Sequence;
 use it_base::text::Text;
@@ -40,14 +40,4 @@ pub(super) fn read(
     Ok(Some(DigestWords {
         files: texts(alloc, files)?,
     }))
-}
-
-fn texts(alloc: Global, words: &[&str]) -> Result<Sequence<Text>, AllocError>
-    ensures { IfOk result (λ texts. texts ≡ map (λ word. word.now) words.now) }
-{
-    let mut texts = Vec::with_capacity(alloc, words.len())?;
-    for word in words {
-        texts.push(Text::from(String::from_str(alloc, word)?))?;
-    }
-    Ok(Sequence::from(texts))
 }

@@ -20,9 +20,9 @@ pub(super) fn fault_of(alloc: Global, error: &Error) -> WordsFault
     }
 }
 
-/// The fault of words that name no command.
-pub(super) fn no_command(alloc: Global) -> WordsFault {
-    match String::from_str(alloc, "the words name no command") {
+/// The fault of words with more than 8 rings.
+pub(super) fn too_many_rings(alloc: Global) -> WordsFault {
+    match String::from_str(alloc, "the option '--ring <F>' is given more than 8 times") {
         Ok(note) => WordsFault::Unread(note),
         Err(AllocError) => WordsFault::OutOfMemory,
     }

@@ -1,10 +1,11 @@
 //! The words of `itv verify`.
-ghost use Rattle.std.specs.Prelude.{◌≡◌, false, IfOk, codes, option_map};
-ghost use Rattle.clap.specs.Words.{app_of, found_of, one_of};
+ghost use Rattle.std.specs.Prelude.{◌≡◌, false, IfOk, codes, map, option_map};
+ghost use Rattle.clap.specs.Words.{all_of, app_of, found_of, one_of};
 ghost use Rattle.clap.specs.Walk.{rows_of, rule_of};
 ghost use Rattle.clap.specs.declared.builder.command.Command.TheViews.{out-Command};
-ghost use Rattle.it_base.specs.Finds.{Finds};
+ghost use Rattle.it_base.specs.Finds.{Finds, FindsAs};
 ghost use Rattle.it_verify.specs.Words.{
+  AreRings,
   IsDepth,
   IsVerify,
   depth_option,
@@ -12,10 +13,16 @@ ghost use Rattle.it_verify.specs.Words.{
   verify_command,
 };
 
-use super::arguments::{needed_option, plain_option, value};
+use super::arguments::{
+    needed_option, needed_options, plain_option, texts, value, values as values_of,
+};
 use clap::{Arg, ArgMatches, Command, value_parser};
+use it_base::sequence::Sequence;
 use it_base::text::Text;
 use std::alloc::{AllocError, Global};
+
+/// How many rings may be given.
+const MOST_RINGS: usize = 8;
 
 /// The values of `itv verify`.
 #[derive(Drop)]
@@ -30,8 +37,8 @@ pub struct VerifyWords {
     pub sums: Text,
     /// The moment at which no layout may have expired.
     pub at: Text,
-    /// The path of the ring's file.
-    pub ring: Text,
+    /// The paths of the rings' files, in the order of the words; there are 1 to 8.
+    pub rings: Sequence<Text>,
     /// The path of the provenance's file, where there is one.
     pub provenance: Option<Text>,
     /// The path of the folder that the records of inspections are in, where there is one.
@@ -62,7 +69,7 @@ fn needed<'a>(alloc: Global) -> Result<Command<'a>, AllocError>
         .arg(needed_option(alloc, "links", "DIR"))?
         .arg(needed_option(alloc, "sums", "F"))?
         .arg(needed_option(alloc, "at", "MOMENT"))?
-        .arg(needed_option(alloc, "ring", "F"))
+        .arg(needed_options(alloc, "ring", "F"))
 }
 
 /// How deep sublayouts may lie: from 0 to 8, and 4 where it is not said.
@@ -75,7 +82,7 @@ fn depth_option<'a>(alloc: Global) -> Arg<'a>
         .default_value("4")
 }
 
-/// The command's values, or `None` where one is missing.
+/// The command's values, or `None` where one is missing or there are more than 8 rings.
 pub(super) fn read(
     alloc: Global,
     values: &ArgMatches<'_>,
@@ -97,7 +104,7 @@ pub(super) fn read(
     let Some(at) = value(values, "at") else {
         return Ok(None);
     };
-    let Some(ring) = value(values, "ring") else {
+    let Some(rings) = rings(values) else {
         return Ok(None);
     };
     let Some(depth) = depth(values) else {
@@ -109,7 +116,7 @@ pub(super) fn read(
         links: text(alloc, links)?,
         sums: text(alloc, sums)?,
         at: text(alloc, at)?,
-        ring: text(alloc, ring)?,
+        rings: texts(alloc, rings)?,
         provenance: text_if_given(alloc, value(values, "provenance"))?,
         records: text_if_given(alloc, value(values, "records"))?,
         depth,
@@ -128,6 +135,19 @@ fn text_if_given(alloc: Global, word: Option<&str>) -> Result<Option<Text>, Allo
     match word {
         Some(word) => Ok(Some(text(alloc, word)?)),
         None => Ok(None),
+    }
+}
+
+/// The rings in the order of the words, or `None` where there are none or more than 8.
+fn rings<'v, 'a>(values: &'v ArgMatches<'a>) -> Option<&'v [&'a str]>
+    ensures { FindsAs (λ texts. map (λ text. text.now) texts.now)
+        (AreRings (all_of (codes "ring") (rows_of (found_of values.now)))) result }
+{
+    let rings = values_of(values, "ring")?;
+    if rings.len() <= MOST_RINGS {
+        Some(rings)
+    } else {
+        None
     }
 }
 

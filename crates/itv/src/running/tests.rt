@@ -175,7 +175,7 @@ struct Change {
     status: u8,
 }
 
-static CHANGES: [Change; 17] = [
+static CHANGES: [Change; 20] = [
     Change {
         from: "--depth 1",
         to: "--depth 1",
@@ -275,6 +275,24 @@ static CHANGES: [Change; 17] = [
     Change {
         from: "--ring ring",
         to: "--ring policy",
+        text: "policy is no ring of secrets",
+        status: 2,
+    },
+    Change {
+        from: "--ring ring",
+        to: "--ring ring --ring other",
+        text: ACCEPTED,
+        status: 0,
+    },
+    Change {
+        from: "--ring ring",
+        to: "--ring other --ring ring",
+        text: "refused 33 Threshold\nat -\nstep build\nfound 1\nneeded 2\n",
+        status: 1,
+    },
+    Change {
+        from: "--ring ring",
+        to: "--ring ring --ring policy",
         text: "policy is no ring of secrets",
         status: 2,
     },

@@ -3,7 +3,7 @@ use Rattle.std.specs.FinMap.{keys}
 use Rattle.std.proofs.lemmas.Int.{ints}
 use Rattle.std.proofs.lemmas.List.Elements.{Contains-get_or}
 use Rattle.std.proofs.lemmas.Result.{err_from_is_err_and}
-use Rattle.it_chain.specs.Asked.{GivenFewest, IdFewest, RaisedAtLeast, RaisedWithin, RecordsFewest, SignaturesIn, cost_below, fewest_below, key_total}
+use Rattle.it_chain.specs.Asked.{GivenFewest, RaisedAtLeast, RaisedWithin, RecordsFewest, SignaturesIn, cost_below, fewest_below, key_total}
 use Rattle.it_chain.specs.Answer.{signers as signers_of, with_record}
 use Rattle.it_chain.specs.Contents.{empty, files_of, folder_at}
 use Rattle.it_chain.specs.Cost.{StepCosts}
@@ -12,30 +12,29 @@ use Rattle.it_chain.specs.Names.{folder_name, folder_of}
 use Rattle.it_chain.specs.First.{step_places, at_id, at_records, at_threshold, here}
 use Rattle.it_chain.specs.Level.{StepHolds, links_in}
 use Rattle.it_chain.specs.Signers.{entry_of}
-use Rattle.it_chain.specs.Walk.{AreCandidates, AreRuled, BodyComes, FailsAt, Gives, StandsAt, as_body, fails_below, holds_below}
+use Rattle.it_chain.specs.Walk.{AreCandidates, AreRuled, FailsAt, Gives, StandsAt, as_body, fails_below, holds_below}
 use Rattle.it_chain.specs.declared.record.IdRecord.{IdRecord}
 use Rattle.it_chain.specs.declared.refusal.ChainError.TheVariants.{Refused}
 use Rattle.it_chain.specs.declared.refusal.ChainFault.TheVariants.{TwoPayloads}
 use Rattle.it_chain.proofs.Asking.{least_more, least_none, least_of, within_least, within_none}
-use Rattle.it_chain.proofs.LevelAsking.{LevelSum, OfId, SignersSum, below_asks, body_raises, candidates_raise, signer_fails, signer_more, step_asks, step_fails, step_more, step_raises}
-use Rattle.it_chain.proofs.LevelFewest.{FewestSum, below_takes, given_more, id_takes, one_fewest_below, some_fewest_below, step_takes}
+use Rattle.it_chain.proofs.LevelAsking.{LevelSum, SignersSum, below_asks, candidates_raise, record_asks, signer_fails, signer_more, step_asks, step_fails, step_more, step_raises}
+use Rattle.it_chain.proofs.LevelFewest.{FewestSum, below_takes, given_more, one_fewest_below, record_takes, some_fewest_below, step_takes}
 use Rattle.it_chain.proofs.LevelWalks.{level_holds, rules_fail, steps_fail}
 use Rattle.it_chain.proofs.LevelRules.{links_differ}
 use Rattle.it_chain.proofs.StepWalks.{judged_walks}
 use Rattle.it_chain.proofs.SignerWalks.{AreWalked, signer_known, signer_listed, walked_all, walked_fail, walked_more, walked_none}
-use Rattle.it_chain.proofs.Walks.{folder_or, level_below, nil_of, fails_before, fails_at, none_counts, none_more, one_counts, one_below, apart_below, two_count, walks_behind, walks_body, walks_given, walks_one, walks_two, zip_more}
+use Rattle.it_chain.proofs.Walks.{folder_or, level_below, nil_of, not_deepest, fails_before, fails_at, none_counts, none_more, one_counts, one_below, apart_below, two_count, walks_behind, walks_given, walks_record, walks_two, zip_more}
 use Rattle.it_chain.proofs.level.+level.Goals as goal
 use Rattle.it_chain.proofs.level.+level.Goals.{verify_ids-in-Some+in_ok-push, verify_ids-in_default}
 
-pub verify_id-returns-in_err-recorded-in-One-clause-answer : goal.verify_id-returns-in_err-recorded-in-One-clause-answer
-verify_id-returns-in_err-recorded-in-One-clause-answer g t c =
+pub verify_id-returns-in-One-clause-answer : goal.verify_id-returns-in-One-clause-answer
+verify_id-returns-in-One-clause-answer g t c =
     let s = g.C.Checking.setting c.args.checking.now in
     let l = c.args.level.now in
     let one = one_counts (holds_below s l.depth) (fails_below s l.depth) s l.layout.now l.links.now c.args.step.now c.args.signer.now.id.now c.args.signer.now.object.now c.args.found.now c.requires.candidates c.requires.listed c.requires.known
     c.in-One.key c.in-One.body.now c.in-One.ensures.answer in
-    let p = err_from_is_err_and c.from_residual-in_err-recorded-in-One.result c.from_residual-in_err-recorded-in-One.ensures.1 in
-    rw (p.1, p.2) (walks_body s l.depth l.layout.now l.links.now c.args.step.now c.args.signer.now.id.now c.in-One.key (as_body c.in-One.body.now) c.in_err-recorded-in-One.field-0.0 one
-    (subst (λ n. BodyComes (holds_below s l.depth) (fails_below s l.depth) l.links.now n c.args.signer.now.id.now (as_body c.in-One.body.now) (Err c.in_err-recorded-in-One.field-0.0)) c.as_str-name.ensures c.in_err-recorded-in-One.ensures.answer))
+    walks_record s l.depth l.layout.now l.links.now c.args.step.now c.args.signer.now.id.now c.in-One.key (as_body c.in-One.body.now) one c.verify_body-recorded.result c.record_of.result
+    (rw c.as_str-name.ensures at c.verify_body-recorded.ensures.answer) c.record_of.ensures
 
 pub verify_id-returns-in-Nothing-clause-answer : goal.verify_id-returns-in-Nothing-clause-answer
 verify_id-returns-in-Nothing-clause-answer g t c =
@@ -55,17 +54,6 @@ verify_id-returns-in_ok-text_of-in-Several-2-clause-answer g t c =
     (two_count (holds_below s l.depth) (fails_below s l.depth) s l.layout.now l.links.now c.args.step.now c.args.signer.now.id.now c.args.signer.now.object.now c.args.found.now c.requires.candidates c.requires.listed c.requires.known
     c.in-Several.ensures.answer)
     (c.refused.ensures ∙ (λ k. Refused (here (TwoPayloads (name k) (id k)))))
-
-pub verify_id-returns-in_ok-text_of-in-One-clause-answer : goal.verify_id-returns-in_ok-text_of-in-One-clause-answer
-verify_id-returns-in_ok-text_of-in-One-clause-answer g t c =
-    let s = g.C.Checking.setting c.args.checking.now in
-    let l = c.args.level.now in
-    let one = one_counts (holds_below s l.depth) (fails_below s l.depth) s l.layout.now l.links.now c.args.step.now c.args.signer.now.id.now c.args.signer.now.object.now c.args.found.now c.requires.candidates c.requires.listed c.requires.known
-    c.in-One.key c.in-One.body.now c.in-One.ensures.answer in
-    let id : c.in_ok-text_of-in-One.field-0 ≡ c.args.signer.now.id.now = c.in_ok-text_of-in-One.ensures in
-    walks_one s l.depth l.layout.now l.links.now c.args.step.now c.args.signer.now.id.now c.in-One.key (as_body c.in-One.body.now) c.in_ok-recorded-in-One.recorded
-    (record { id = c.in_ok-text_of-in-One.field-0; key = c.in-One.key; recorded = c.in_ok-recorded-in-One.recorded }) one (rw c.as_str-name.ensures at c.in_ok-recorded-in-One.ensures.answer)
-    (λ k. record { id = id k; key = c.in-One.key; recorded = c.in_ok-recorded-in-One.recorded })
 
 pub verify_ids-returns-in_err-record-clause-answer : goal.verify_ids-returns-in_err-record-clause-answer
 verify_ids-returns-in_err-record-clause-answer g t c =
@@ -237,7 +225,7 @@ verify_sublayout-returns-clause-answer g t c =
     let bare : c.args.sublayout.now.inspections ≡ [] = sym c.as_slice.ensures ∙ nil_of c.as_slice.result.now (sym c.is_empty.ensures ∙ c.if-not-is_empty.false) in
     let folder : c.unwrap_or.result.now ≡ folder_of c.args.step.now c.args.id.now links =
     ap (λ r. r.now) c.unwrap_or.ensures ∙ folder_or c.dir.result _ (folder_at c.as_str.result.now links) c.dir.ensures c.new-none.ensures ∙ ap (λ n. unwrap_or (folder_at n links) empty) name in
-    level_below s c.args.sublayout.now (folder_of c.args.step.now c.args.id.now links) v.depth (v.depth - 1) (omega (arith, c.if-level-eq0.false)) bare c.verify_level.result (rw folder at c.verify_level.ensures.answer)
+    level_below s c.args.sublayout.now (folder_of c.args.step.now c.args.id.now links) v.depth (v.depth - 1) (not_deepest c.is_deepest.result v.depth c.is_deepest.ensures c.if-is_deepest.false) bare c.verify_level.result (rw folder at c.verify_level.ensures.answer)
 
 pub verify_steps-loop-step-init : goal.verify_steps-loop-step-init
 verify_steps-loop-step-init g t c =
@@ -331,8 +319,8 @@ verify_step-returns-clause-asked g t c =
     step_asks s v.depth v.layout.now v.links.now c.args.step.now c.as_slice.result.now are c.as_slice-signers.result.now same c.args.meter.now c.verify_ids.new.meter c.in_ok-records.records.items c.judged.result
     (rw c.as_slice-2.ensures.value at c.judged.ensures) c.in_ok-records.ensures.asked
 
-pub verify_sublayout-returns-then-level-eq0-clause-asked : goal.verify_sublayout-returns-then-level-eq0-clause-asked
-verify_sublayout-returns-then-level-eq0-clause-asked g t c =
+pub verify_sublayout-returns-then-is_deepest-clause-asked : goal.verify_sublayout-returns-then-is_deepest-clause-asked
+verify_sublayout-returns-then-is_deepest-clause-asked g t c =
     let s = g.C.Checking.setting c.args.checking.now in
     let v = c.args.level.now in
     within_none (cost_below s v.depth c.args.sublayout.now (folder_of c.args.step.now c.args.id.now v.links.now)) c.args.meter.now c.args.meter.now refl
@@ -358,7 +346,7 @@ verify_sublayout-returns-clause-asked g t c =
     let name : c.as_str.result.now ≡ folder_name c.args.step.now c.args.id.now = c.as_str.ensures.value ∙ c.in_ok-name.ensures in
     let folder : c.unwrap_or.result.now ≡ folder_of c.args.step.now c.args.id.now links =
     ap (λ r. r.now) c.unwrap_or.ensures ∙ folder_or c.dir.result _ (folder_at c.as_str.result.now links) c.dir.ensures c.new-none.ensures ∙ ap (λ n. unwrap_or (folder_at n links) empty) name in
-    below_asks s c.args.sublayout.now (folder_of c.args.step.now c.args.id.now links) c.args.meter.now c.verify_level.new.meter v.depth (v.depth - 1) (omega (arith, c.if-level-eq0.false)) c.verify_level.result (rw folder at c.verify_level.ensures.asked)
+    below_asks s c.args.sublayout.now (folder_of c.args.step.now c.args.id.now links) c.args.meter.now c.verify_level.new.meter v.depth (v.depth - 1) (not_deepest c.is_deepest.result v.depth c.is_deepest.ensures c.if-is_deepest.false) c.verify_level.result (rw folder at c.verify_level.ensures.asked)
 
 pub verify_id-returns-in_err-text_of-in-Several-clause-asked : goal.verify_id-returns-in_err-text_of-in-Several-clause-asked
 verify_id-returns-in_err-text_of-in-Several-clause-asked g t c =
@@ -386,36 +374,14 @@ verify_id-returns-in-Nothing-clause-asked g t c =
     let l = c.args.level.now in
     candidates_raise s l.depth l.layout.now l.links.now c.args.step.now c.args.found.now c.args.signer.now.id.now 0 c.args.meter.now c.counted.new.meter c.in-Nothing.ensures.asked
 
-pub verify_id-returns-in_err-recorded-in-One-clause-asked : goal.verify_id-returns-in_err-recorded-in-One-clause-asked
-verify_id-returns-in_err-recorded-in-One-clause-asked g t c =
+pub verify_id-returns-in-One-clause-asked : goal.verify_id-returns-in-One-clause-asked
+verify_id-returns-in-One-clause-asked g t c =
     let s = g.C.Checking.setting c.args.checking.now in
     let l = c.args.level.now in
     let one = one_counts (holds_below s l.depth) (fails_below s l.depth) s l.layout.now l.links.now c.args.step.now c.args.signer.now.id.now c.args.signer.now.object.now c.args.found.now c.requires.candidates c.requires.listed c.requires.known
     c.in-One.key c.in-One.body.now c.in-One.ensures.answer in
-    let p = err_from_is_err_and c.from_residual-in_err-recorded-in-One.result c.from_residual-in_err-recorded-in-One.ensures.1 in
-    rw p.1 (within_least 0 1 (OfId s l.depth l.layout.now l.links.now c.args.step.now c.args.found.now c.args.signer.now.id.now) c.args.meter.now c.verify_body.new.meter (omega arith)
-    (body_raises s l.depth l.layout.now l.links.now c.args.step.now c.args.found.now c.args.signer.now.id.now (holds_below s l.depth) c.in-One.key (as_body c.in-One.body.now) one c.args.meter.now c.counted.new.meter c.verify_body.new.meter
-    c.in-One.ensures.asked (rw c.as_str-name.ensures at c.in_err-recorded-in-One.ensures.asked)))
-
-pub verify_id-returns-in_err-text_of-in-One-clause-asked : goal.verify_id-returns-in_err-text_of-in-One-clause-asked
-verify_id-returns-in_err-text_of-in-One-clause-asked g t c =
-    let s = g.C.Checking.setting c.args.checking.now in
-    let l = c.args.level.now in
-    let one = one_counts (holds_below s l.depth) (fails_below s l.depth) s l.layout.now l.links.now c.args.step.now c.args.signer.now.id.now c.args.signer.now.object.now c.args.found.now c.requires.candidates c.requires.listed c.requires.known
-    c.in-One.key c.in-One.body.now c.in-One.ensures.answer in
-    let p = err_from_is_err_and c.from_residual-in_err-text_of-in-One.result c.from_residual-in_err-text_of-in-One.ensures.1 in
-    rw p.1 (within_least 0 1 (OfId s l.depth l.layout.now l.links.now c.args.step.now c.args.found.now c.args.signer.now.id.now) c.args.meter.now c.verify_body.new.meter (omega arith)
-    (body_raises s l.depth l.layout.now l.links.now c.args.step.now c.args.found.now c.args.signer.now.id.now (holds_below s l.depth) c.in-One.key (as_body c.in-One.body.now) one c.args.meter.now c.counted.new.meter c.verify_body.new.meter
-    c.in-One.ensures.asked (rw c.as_str-name.ensures at c.in_ok-recorded-in-One.ensures.asked)))
-
-pub verify_id-returns-in_ok-text_of-in-One-clause-asked : goal.verify_id-returns-in_ok-text_of-in-One-clause-asked
-verify_id-returns-in_ok-text_of-in-One-clause-asked g t c =
-    let s = g.C.Checking.setting c.args.checking.now in
-    let l = c.args.level.now in
-    let one = one_counts (holds_below s l.depth) (fails_below s l.depth) s l.layout.now l.links.now c.args.step.now c.args.signer.now.id.now c.args.signer.now.object.now c.args.found.now c.requires.candidates c.requires.listed c.requires.known
-    c.in-One.key c.in-One.body.now c.in-One.ensures.answer in
-    body_raises s l.depth l.layout.now l.links.now c.args.step.now c.args.found.now c.args.signer.now.id.now (holds_below s l.depth) c.in-One.key (as_body c.in-One.body.now) one c.args.meter.now c.counted.new.meter c.verify_body.new.meter
-    c.in-One.ensures.asked (rw c.as_str-name.ensures at c.in_ok-recorded-in-One.ensures.asked)
+    record_asks s l.depth l.layout.now l.links.now c.args.step.now c.args.found.now c.args.signer.now.id.now (holds_below s l.depth) c.in-One.key (as_body c.in-One.body.now) one c.args.meter.now c.counted.new.meter c.verify_body-recorded.new.meter
+    c.in-One.ensures.asked c.verify_body-recorded.result c.record_of.result c.record_of.ensures (rw c.as_str-name.ensures at c.verify_body-recorded.ensures.asked)
 
 -- ---- the least that is asked
 pub verify_steps-returns-clause-fewest : goal.verify_steps-returns-clause-fewest
@@ -444,18 +410,16 @@ verify_sublayout-returns-clause-fewest g t c =
     let name : c.as_str.result.now ≡ folder_name c.args.step.now c.args.id.now = c.as_str.ensures.value ∙ c.in_ok-name.ensures in
     let folder : c.unwrap_or.result.now ≡ folder_of c.args.step.now c.args.id.now links =
     ap (λ r. r.now) c.unwrap_or.ensures ∙ folder_or c.dir.result _ (folder_at c.as_str.result.now links) c.dir.ensures c.new-none.ensures ∙ ap (λ n. unwrap_or (folder_at n links) empty) name in
-    below_takes s c.args.sublayout.now (folder_of c.args.step.now c.args.id.now links) c.args.meter.now c.verify_level.new.meter v.depth (v.depth - 1) (omega (arith, c.if-level-eq0.false)) c.verify_level.result (rw folder at c.verify_level.ensures.fewest)
+    below_takes s c.args.sublayout.now (folder_of c.args.step.now c.args.id.now links) c.args.meter.now c.verify_level.new.meter v.depth (v.depth - 1) (not_deepest c.is_deepest.result v.depth c.is_deepest.ensures c.if-is_deepest.false) c.verify_level.result (rw folder at c.verify_level.ensures.fewest)
 
 pub verify_id-returns-in-Nothing-clause-fewest : goal.verify_id-returns-in-Nothing-clause-fewest
 verify_id-returns-in-Nothing-clause-fewest g t c = least_of 0 (SignaturesIn c.args.found.now) c.args.meter.now c.counted.new.meter c.in-Nothing.ensures.asked
 
-pub verify_id-returns-in_ok-text_of-in-One-clause-fewest : goal.verify_id-returns-in_ok-text_of-in-One-clause-fewest
-verify_id-returns-in_ok-text_of-in-One-clause-fewest g t c =
+pub verify_id-returns-in-One-clause-fewest : goal.verify_id-returns-in-One-clause-fewest
+verify_id-returns-in-One-clause-fewest g t c =
     let s = g.C.Checking.setting c.args.checking.now in
     let l = c.args.level.now in
     let one = one_counts (holds_below s l.depth) (fails_below s l.depth) s l.layout.now l.links.now c.args.step.now c.args.signer.now.id.now c.args.signer.now.object.now c.args.found.now c.requires.candidates c.requires.listed c.requires.known
     c.in-One.key c.in-One.body.now c.in-One.ensures.answer in
-    let id : c.in_ok-text_of-in-One.field-0 ≡ c.args.signer.now.id.now = c.in_ok-text_of-in-One.ensures in
-    subst (λ i. RaisedAtLeast (IdFewest (fewest_below s l.depth) s l.layout.now l.links.now c.args.step.now i) c.args.meter.now c.verify_body.new.meter) (sym id)
-    (id_takes (fewest_below s l.depth) (one_fewest_below s l.depth) (some_fewest_below s l.depth) (holds_below s l.depth) s l.layout.now l.links.now c.args.step.now c.args.signer.now.id.now c.in-One.key (as_body c.in-One.body.now) one c.args.found.now
-    c.args.meter.now c.counted.new.meter c.verify_body.new.meter c.in-One.ensures.asked (rw c.as_str-name.ensures at c.in_ok-recorded-in-One.ensures.fewest))
+    record_takes (fewest_below s l.depth) (one_fewest_below s l.depth) (some_fewest_below s l.depth) (holds_below s l.depth) s l.layout.now l.links.now c.args.step.now c.args.signer.now.id.now c.in-One.key (as_body c.in-One.body.now) one
+    c.args.found.now c.args.meter.now c.counted.new.meter c.verify_body-recorded.new.meter c.in-One.ensures.asked c.verify_body-recorded.result c.record_of.result c.record_of.ensures (rw c.as_str-name.ensures at c.verify_body-recorded.ensures.fewest)

@@ -1,9 +1,10 @@
 use Rattle.std.proofs.Common.{map, take, string_bytes}
-use Rattle.it_dsse.specs.Signed.{AreThose}
-use Rattle.it_dsse.specs.Signed.{IsSigner}
+use Rattle.it_dsse.specs.Panel.{Panel, panel_of}
+use Rattle.it_dsse.specs.Signed.{AreThose, IsSigner}
 use Rattle.it_dsse.proofs.signers.signed_ids.Given as goal
 
 abbrev pub invariant-loop-id : goal.invariant-loop-id
 invariant-loop-id g l =
-    AreThose (IsSigner ((goal.SignatureCheck-dyn g (l.check.vtable, l.check.value)).meaning l.check.value) l.envelope l.object)
+    let panel : Panel = panel_of (map (λ check. (goal.SignatureCheck-dyn g (check.vtable, check.value)).meaning check.value) l.panel) in
+    AreThose (IsSigner panel l.envelope l.object)
     (map string_bytes (take l.id-index l.ids)) (map string_bytes l.signers.items)

@@ -1,7 +1,8 @@
-use Rattle.std.proofs.Common.{◌≡◌, ◌∙◌, ◌+◌, ◌*◌, ◌≤◌, ℕ, Some, true, drop, length, refl, sym, arith}
+use Rattle.std.proofs.Common.{◌≡◌, ◌∙◌, ◌+◌, ◌*◌, ◌≤◌, ℕ, Some, true, drop, length, refl, sym, arith, map}
 use Rattle.std.specs.FinMap.{len}
 use Rattle.std.proofs.lemmas.Slice.Eq.{bytes_eq-Decides}
 use Rattle.it_dsse.specs.Meter.{RaisedBy}
+use Rattle.it_dsse.specs.Panel.{panel_of}
 use Rattle.it_prov.specs.Asked.{AtLeast}
 use Rattle.it_prov.specs.Cost.{key_count}
 use Rattle.it_prov.specs.Judged.{IsAskedOfBuilder, IsAskedOfBuilders, IsBuiltBy}
@@ -14,9 +15,9 @@ use Rattle.it_prov.proofs.builders.level_of_builders.Goals.{then-eq+then-has_sig
 
 pub loop-builder-init : goal.loop-builder-init
 loop-builder-init g c =
-    let check = (goal.SignatureCheck-dyn g (c.args.check.now.vtable, c.args.check.now.value)).meaning c.args.check.now.value in
+    let panel = panel_of (map (λ check. (goal.SignatureCheck-dyn g (check.vtable, check.value)).meaning check.value) c.args.panel.now) in
     record {
-      so_far = so_far_none c.args.wanted (IsBuiltBy check c.args.envelope.now c.args.id.now);
+      so_far = so_far_none c.args.wanted (IsBuiltBy panel c.args.envelope.now c.args.id.now);
       asked = leaves_all _ (key_count c.args.builders.now * length c.args.envelope.now.signatures) c.args.meter.now refl;
     }
 
@@ -41,21 +42,21 @@ returns-then-builder-wanted-clause-at_most g c =
 
 pub returns-then-builder-wanted-clause-at_least : goal.returns-then-builder-wanted-clause-at_least
 returns-then-builder-wanted-clause-at_least g c =
-    let check = (goal.SignatureCheck-dyn g (c.args.check.now.vtable, c.args.check.now.value)).meaning c.args.check.now.value in
+    let panel = panel_of (map (λ check. (goal.SignatureCheck-dyn g (check.vtable, check.value)).meaning check.value) c.args.panel.now) in
     let envelope = c.args.envelope.now in
     let builder = c.builder-item.result in
     let id : c.args.id.now ≡ builder.id = sym ((bytes_eq-Decides _ _).0 (sym c.eq.ensures ∙ c.if-eq.true)) ∙ c.as_str.ensures in
     let stands = stands_at c.args.builders.now c.loop-builder.builder-index builder c.loop-builder-test.true c.builder-item.is in
-    let of_one = IsAskedOfBuilder check envelope builder in
-    let of_all = IsAskedOfBuilders check envelope c.args.builders.now c.args.id.now c.args.wanted in
+    let of_one = IsAskedOfBuilder panel envelope builder in
+    let of_all = IsAskedOfBuilders panel envelope c.args.builders.now c.args.id.now c.args.wanted in
     λ enough. raised_still _ of_all c.args.meter.now c.loop-builder.meter c.has_signed.new.meter c.loop-builder.invariant.asked
     (raised_as of_one of_all (λ n a. record { builder = builder; stands = stands; built = record { id_is = id; level_is = refl; signed = a.signed }; is_enough = enough; tried = a.tried })
     c.loop-builder.meter c.has_signed.new.meter (c.has_signed.ensures.at_least c.if-has_signed.true))
 
 pub loop-builder-preserved : goal.loop-builder-preserved
 loop-builder-preserved g c =
-    let check = (goal.SignatureCheck-dyn g (c.args.check.now.vtable, c.args.check.now.value)).meaning c.args.check.now.value in
-    let built = IsBuiltBy check c.args.envelope.now c.args.id.now in
+    let panel = panel_of (map (λ check. (goal.SignatureCheck-dyn g (check.vtable, check.value)).meaning check.value) c.args.panel.now) in
+    let built = IsBuiltBy panel c.args.envelope.now c.args.id.now in
     let s = length c.args.envelope.now.signatures in
     let builder = c.builder-item.result in
     let before = c.loop-builder.best in
@@ -65,7 +66,7 @@ loop-builder-preserved g c =
           let id : c.args.id.now ≡ builder.id = sym ((bytes_eq-Decides _ _).0 (sym c.eq.ensures ∙ w.if-eq.true)) ∙ c.as_str.ensures in
           record {
             more = Some builder.level;
-            greatest = built_greatest check c.args.envelope.now c.args.id.now builder (record { id_is = id; level_is = refl; signed = w.has_signed.ensures.answer.0 w.if-has_signed.true });
+            greatest = built_greatest panel c.args.envelope.now c.args.id.now builder (record { id_is = id; level_is = refl; signed = w.has_signed.ensures.answer.0 w.if-has_signed.true });
             short = w.if-builder-wanted.false;
             both = rw w.best-is w.greater-best.ensures;
           }
@@ -92,8 +93,8 @@ loop-builder-preserved g c =
 
 pub returns-clause-answer : goal.returns-clause-answer
 returns-clause-answer g c =
-    let check = (goal.SignatureCheck-dyn g (c.args.check.now.vtable, c.args.check.now.value)).meaning c.args.check.now.value in
-    let built = IsBuiltBy check c.args.envelope.now c.args.id.now in
+    let panel = panel_of (map (λ check. (goal.SignatureCheck-dyn g (check.vtable, check.value)).meaning check.value) c.args.panel.now) in
+    let built = IsBuiltBy panel c.args.envelope.now c.args.id.now in
     enough_or_greatest c.args.wanted _ c.loop-builder.best (so_far_all c.args.wanted built c.args.builders.now c.loop-builder.builder-index c.loop-builder.best c.loop-builder-test.false c.loop-builder.invariant.so_far).greatest
 
 pub returns-clause-at_most : goal.returns-clause-at_most
@@ -103,6 +104,6 @@ returns-clause-at_most g c =
 
 pub returns-clause-at_least : goal.returns-clause-at_least
 returns-clause-at_least g c =
-    let check = (goal.SignatureCheck-dyn g (c.args.check.now.vtable, c.args.check.now.value)).meaning c.args.check.now.value in
-    let asked = IsAskedOfBuilders check c.args.envelope.now c.args.builders.now c.args.id.now c.args.wanted in
+    let panel = panel_of (map (λ check. (goal.SignatureCheck-dyn g (check.vtable, check.value)).meaning check.value) c.args.panel.now) in
+    let asked = IsAskedOfBuilders panel c.args.envelope.now c.args.builders.now c.args.id.now c.args.wanted in
     short_or c.args.wanted (RaisedBy (AtLeast asked) c.args.meter.now c.loop-builder.meter) c.loop-builder.best c.loop-builder.invariant.so_far.short

@@ -1,4 +1,5 @@
-use Rattle.std.proofs.Common.{◌*◌, drop, length, take}
+use Rattle.std.proofs.Common.{◌*◌, drop, length, take, map}
+use Rattle.it_dsse.specs.Panel.{panel_of}
 use Rattle.it_prov.specs.Cost.{key_count}
 use Rattle.it_prov.specs.Judged.{IsBuiltBy}
 use Rattle.it_prov.proofs.Asking.{Leaves}
@@ -9,6 +10,6 @@ use Rattle.it_prov.proofs.builders.level_of_builders.Given as goal
 -- signature to be tried once for each of their keys
 abbrev pub invariant-loop-builder : goal.invariant-loop-builder
 invariant-loop-builder g l = record {
-  so_far : SoFar l.wanted (IsBuiltBy ((goal.SignatureCheck-dyn g (l.check.vtable, l.check.value)).meaning l.check.value) l.envelope l.id) (take l.builder-index l.builders) l.best;
+  so_far : SoFar l.wanted (IsBuiltBy (panel_of (map (λ check. (goal.SignatureCheck-dyn g (check.vtable, check.value)).meaning check.value) l.panel)) l.envelope l.id) (take l.builder-index l.builders) l.best;
   asked : Leaves (key_count (drop l.builder-index l.builders) * length l.envelope.signatures) (key_count l.builders * length l.envelope.signatures) l.fn.meter l.meter;
 }

@@ -1,5 +1,6 @@
-use Rattle.std.proofs.Common.{refl}
+use Rattle.std.proofs.Common.{refl, map}
 use Rattle.std.proofs.lemmas.Result.{err_from_is_err_and}
+use Rattle.it_dsse.specs.Panel.{panel_of}
 use Rattle.it_prov.proofs.Asking.{raised_none}
 use Rattle.it_verify.proofs.DocumentsFail.{sums_fail, moment_fails, no_files_fail, envelope_fails, type_fails, owners_fail, layout_fails}
 use Rattle.it_verify.proofs.OwnersCosting.{owners_at_most}
@@ -7,42 +8,42 @@ use Rattle.it_verify.proofs.documents.read_documents.Goals as goal
 
 pub returns-in_err-delivered-clause-documents : goal.returns-in_err-delivered-clause-documents
 returns-in_err-delivered-clause-documents g c =
-    let check = (goal.SignatureCheck-dyn g (c.args.check.now.vtable, c.args.check.now.value)).meaning c.args.check.now.value in
+    let panel = panel_of (map (λ check. (goal.SignatureCheck-dyn g (check.vtable, check.value)).meaning check.value) c.args.panel.now) in
     let p = err_from_is_err_and c.from_residual-in_err-delivered.result c.from_residual-in_err-delivered.ensures.1 in
-    rw (p.1, p.2) (sums_fail check c.args.inputs.now c.in_ok-policy.policy (rw c.as_slice.ensures at c.in_ok-policy.ensures.policy)
+    rw (p.1, p.2) (sums_fail panel c.args.inputs.now c.in_ok-policy.policy (rw c.as_slice.ensures at c.in_ok-policy.ensures.policy)
     c.as_slice-2.result.now c.in_err-delivered.field-0.0 c.as_slice-2.ensures c.in_err-delivered.ensures.delivered)
 
 pub returns-in_err-moment-clause-documents : goal.returns-in_err-moment-clause-documents
 returns-in_err-moment-clause-documents g c =
-    let check = (goal.SignatureCheck-dyn g (c.args.check.now.vtable, c.args.check.now.value)).meaning c.args.check.now.value in
+    let panel = panel_of (map (λ check. (goal.SignatureCheck-dyn g (check.vtable, check.value)).meaning check.value) c.args.panel.now) in
     let p = err_from_is_err_and c.from_residual-in_err-moment.result c.from_residual-in_err-moment.ensures.1 in
-    rw (p.1, p.2) (moment_fails check c.args.inputs.now c.in_ok-policy.policy (rw c.as_slice.ensures at c.in_ok-policy.ensures.policy)
+    rw (p.1, p.2) (moment_fails panel c.args.inputs.now c.in_ok-policy.policy (rw c.as_slice.ensures at c.in_ok-policy.ensures.policy)
     c.in_ok-delivered.delivered (rw c.as_slice-2.ensures at c.in_ok-delivered.ensures.delivered)
     c.as_str.result.now c.in_err-moment.field-0.0 c.as_str.ensures c.in_err-moment.ensures.moment)
 
 pub returns-in_err-check_some_file-clause-documents : goal.returns-in_err-check_some_file-clause-documents
 returns-in_err-check_some_file-clause-documents g c =
-    let check = (goal.SignatureCheck-dyn g (c.args.check.now.vtable, c.args.check.now.value)).meaning c.args.check.now.value in
+    let panel = panel_of (map (λ check. (goal.SignatureCheck-dyn g (check.vtable, check.value)).meaning check.value) c.args.panel.now) in
     let p = err_from_is_err_and c.from_residual-in_err-check_some_file.result c.from_residual-in_err-check_some_file.ensures.1 in
-    rw (p.1, p.2) (no_files_fail check c.args.inputs.now c.in_ok-policy.policy (rw c.as_slice.ensures at c.in_ok-policy.ensures.policy)
+    rw (p.1, p.2) (no_files_fail panel c.args.inputs.now c.in_ok-policy.policy (rw c.as_slice.ensures at c.in_ok-policy.ensures.policy)
     c.in_ok-delivered.delivered (rw c.as_slice-2.ensures at c.in_ok-delivered.ensures.delivered)
     c.in_ok-moment.moment (rw c.as_str.ensures at c.in_ok-moment.ensures.moment)
     c.in_err-check_some_file.field-0.0 c.in_err-check_some_file.ensures.some_file)
 
 pub returns-in_err-envelope-clause-documents : goal.returns-in_err-envelope-clause-documents
 returns-in_err-envelope-clause-documents g c =
-    let check = (goal.SignatureCheck-dyn g (c.args.check.now.vtable, c.args.check.now.value)).meaning c.args.check.now.value in
+    let panel = panel_of (map (λ check. (goal.SignatureCheck-dyn g (check.vtable, check.value)).meaning check.value) c.args.panel.now) in
     let p = err_from_is_err_and c.from_residual-in_err-envelope.result c.from_residual-in_err-envelope.ensures.1 in
-    rw (p.1, p.2) (envelope_fails check c.args.inputs.now c.in_ok-policy.policy (rw c.as_slice.ensures at c.in_ok-policy.ensures.policy)
+    rw (p.1, p.2) (envelope_fails panel c.args.inputs.now c.in_ok-policy.policy (rw c.as_slice.ensures at c.in_ok-policy.ensures.policy)
     c.in_ok-delivered.delivered (rw c.as_slice-2.ensures at c.in_ok-delivered.ensures.delivered)
     c.in_ok-moment.moment (rw c.as_str.ensures at c.in_ok-moment.ensures.moment) c.in_ok-check_some_file.ensures.some_file
     c.as_slice-3.result.now c.in_err-envelope.field-0.0 c.as_slice-3.ensures c.in_err-envelope.ensures.envelope)
 
 pub returns-in_err-check_type-clause-documents : goal.returns-in_err-check_type-clause-documents
 returns-in_err-check_type-clause-documents g c =
-    let check = (goal.SignatureCheck-dyn g (c.args.check.now.vtable, c.args.check.now.value)).meaning c.args.check.now.value in
+    let panel = panel_of (map (λ check. (goal.SignatureCheck-dyn g (check.vtable, check.value)).meaning check.value) c.args.panel.now) in
     let p = err_from_is_err_and c.from_residual-in_err-check_type.result c.from_residual-in_err-check_type.ensures.1 in
-    rw (p.1, p.2) (type_fails check c.args.inputs.now c.in_ok-policy.policy (rw c.as_slice.ensures at c.in_ok-policy.ensures.policy)
+    rw (p.1, p.2) (type_fails panel c.args.inputs.now c.in_ok-policy.policy (rw c.as_slice.ensures at c.in_ok-policy.ensures.policy)
     c.in_ok-delivered.delivered (rw c.as_slice-2.ensures at c.in_ok-delivered.ensures.delivered)
     c.in_ok-moment.moment (rw c.as_str.ensures at c.in_ok-moment.ensures.moment) c.in_ok-check_some_file.ensures.some_file
     c.in_ok-envelope.envelope (rw c.as_slice-3.ensures at c.in_ok-envelope.ensures.envelope)
@@ -50,9 +51,9 @@ returns-in_err-check_type-clause-documents g c =
 
 pub returns-in_err-check_owners-clause-documents : goal.returns-in_err-check_owners-clause-documents
 returns-in_err-check_owners-clause-documents g c =
-    let check = (goal.SignatureCheck-dyn g (c.args.check.now.vtable, c.args.check.now.value)).meaning c.args.check.now.value in
+    let panel = panel_of (map (λ check. (goal.SignatureCheck-dyn g (check.vtable, check.value)).meaning check.value) c.args.panel.now) in
     let p = err_from_is_err_and c.from_residual-in_err-check_owners.result c.from_residual-in_err-check_owners.ensures.1 in
-    rw (p.1, p.2) (owners_fail check c.args.inputs.now c.in_ok-policy.policy (rw c.as_slice.ensures at c.in_ok-policy.ensures.policy)
+    rw (p.1, p.2) (owners_fail panel c.args.inputs.now c.in_ok-policy.policy (rw c.as_slice.ensures at c.in_ok-policy.ensures.policy)
     c.in_ok-delivered.delivered (rw c.as_slice-2.ensures at c.in_ok-delivered.ensures.delivered)
     c.in_ok-moment.moment (rw c.as_str.ensures at c.in_ok-moment.ensures.moment) c.in_ok-check_some_file.ensures.some_file
     c.in_ok-envelope.envelope (rw c.as_slice-3.ensures at c.in_ok-envelope.ensures.envelope) c.in_ok-check_type.ensures.payload_type
@@ -60,9 +61,9 @@ returns-in_err-check_owners-clause-documents g c =
 
 pub returns-in_err-layout-clause-documents : goal.returns-in_err-layout-clause-documents
 returns-in_err-layout-clause-documents g c =
-    let check = (goal.SignatureCheck-dyn g (c.args.check.now.vtable, c.args.check.now.value)).meaning c.args.check.now.value in
+    let panel = panel_of (map (λ check. (goal.SignatureCheck-dyn g (check.vtable, check.value)).meaning check.value) c.args.panel.now) in
     let p = err_from_is_err_and c.from_residual-in_err-layout.result c.from_residual-in_err-layout.ensures.1 in
-    rw (p.1, p.2) (layout_fails check c.args.inputs.now c.in_ok-policy.policy (rw c.as_slice.ensures at c.in_ok-policy.ensures.policy)
+    rw (p.1, p.2) (layout_fails panel c.args.inputs.now c.in_ok-policy.policy (rw c.as_slice.ensures at c.in_ok-policy.ensures.policy)
     c.in_ok-delivered.delivered (rw c.as_slice-2.ensures at c.in_ok-delivered.ensures.delivered)
     c.in_ok-moment.moment (rw c.as_str.ensures at c.in_ok-moment.ensures.moment) c.in_ok-check_some_file.ensures.some_file
     c.in_ok-envelope.envelope (rw c.as_slice-3.ensures at c.in_ok-envelope.ensures.envelope) c.in_ok-check_type.ensures.payload_type c.in_ok-check_owners.ensures.signed

@@ -1,4 +1,4 @@
-use Rattle.std.proofs.Common.{◌≡◌, rules}
+use Rattle.std.proofs.Common.{rules}
 use Rattle.itv.proofs.signed.run.Goals as goal
 
 pub returns-clause-ok : goal.returns-clause-ok

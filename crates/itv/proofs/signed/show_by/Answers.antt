@@ -1,7 +1,8 @@
-use Rattle.std.proofs.Common.{◌≡◌, ◌∙◌, map, ap, refl, subst}
+use Rattle.std.proofs.Common.{◌≡◌, ◌∙◌, [], ◌∷◌, map, ap, refl, subst}
 use Rattle.std.specs.String.{string_bytes}
 use denote.Param.Object.{read_made}
 use Rattle.it_dsse.specs.Check.{Check}
+use Rattle.it_dsse.specs.Panel.{panel_of}
 use Rattle.it_dsse.specs.Ring.{ring_check}
 use Rattle.it_verify.specs.Signed.{IsSignedOutput}
 use Rattle.itv.proofs.signed.show_by.OwnLists.{at-1-1, own-1}
@@ -13,4 +14,4 @@ returns-clause-ok g c =
     let boxed = c.into_dyn_box in
     let read : (own-1.entry boxed.result.vtable).1.meaning boxed.result.value ≡ ring_check c.in_ok-new.field-0.value =
     read_made own-1 (own-1.entry at-1-1) at-1-1 refl Check (λ j y. j.1.meaning y) boxed.result.vtable boxed.result.value c.in_ok-new.field-0.value boxed.ensures.1 in
-    (told.0, subst (λ check. IsSignedOutput check (map string_bytes c.args.ids.now) c.args.envelope.now told.0 c.in_ok-run_signed.field-0) (read ∙ ap ring_check c.in_ok-new.ensures.ok) told.1, told.2)
+    (told.0, subst (λ check. IsSignedOutput (panel_of (check ∷ [])) (map string_bytes c.args.ids.now) c.args.envelope.now told.0 c.in_ok-run_signed.field-0) (read ∙ ap ring_check c.in_ok-new.ensures.ok) told.1, told.2)

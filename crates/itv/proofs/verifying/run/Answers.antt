@@ -1,4 +1,4 @@
-use Rattle.std.proofs.Common.{◌≡◌, rules}
+use Rattle.std.proofs.Common.{rules}
 use Rattle.itv.proofs.verifying.run.Goals as goal
 
 pub returns-clause-ok : goal.returns-clause-ok
@@ -8,8 +8,8 @@ returns-clause-ok g c =
       record {
         inputs = c.in_ok-inputs.inputs;
         are_inputs = c.in_ok-inputs.ensures;
-        ring = c.in_ok-ring.ring;
-        holds_ring = search rules;
+        rings = c.in_ok-rings.rings.items;
+        holds_rings = search rules;
         is_output = told.1;
       },
       told.2,

@@ -1,4 +1,3 @@
-use crate::devices::{Full, Pipe, nested, text};
 use it_base::base64_text::{base64_part, base64_text_of};
 use it_base::document::{member, read_document};
 use it_base::hexadecimal_text::hexadecimal_part;
@@ -6,6 +5,7 @@ use it_base::parts::{from_bytes, part, part_or};
 use it_base::sequence::Sequence;
 use it_base::text::Text;
 use it_base::writing::{WriteError, write_all_of};
+use it_devices::{Full, Pipe, nested, text};
 use serde_json::Value;
 use std::alloc::Global;
 use std::test::Fail;

@@ -1,8 +1,8 @@
-use crate::devices::{ABC, NOTHING, with_changed_code};
 use it_chain::bundle::Bundle;
 use it_chain::chain::Chain;
 use it_chain::refusal::{ChainError, ChainFault, ChainRefusal};
 use it_chain::verify_chain;
+use it_devices::{ABC, NOTHING, with_changed_code};
 use it_docs::layout_reading::read_layout;
 use it_dsse::check::SignatureCheck;
 use it_dsse::meter::Meter;
@@ -13,72 +13,48 @@ use std::test::Fail;
 
 const KIND: &str = "application/vnd.in-toto+json";
 
-// The moment at which the layouts here expire, as a text and as its number, and the second before.
+// The moment at which the layouts here expire, as a text and as its number.
 const LATER: &str = "2030-01-01T00:00:00Z";
 
 const EXPIRES: i64 = 1893456000;
 
-const EARLIER: &str = "2029-12-31T23:59:59Z";
-
-// Two ids have one key, and two others the same first eight characters.
+// Two ids have one key.
 const RING: &str =
-    "[{\"id\":\"owner\",\"secret\":\"6f776e6572\"},{\"id\":\"alice\",\"secret\":\"616c696365\"},{\"id\":\"bob\",\"secret\":\"626f62\"},{\"id\":\"bobz\",\"secret\":\"626f6200\"},{\"id\":\"carol\",\"secret\":\"6361726f6c\"},{\"id\":\"12345678a\",\"secret\":\"61\"},{\"id\":\"12345678b\",\"secret\":\"62\"}]";
+    "[{\"id\":\"owner\",\"secret\":\"6f776e6572\"},{\"id\":\"alice\",\"secret\":\"616c696365\"},{\"id\":\"bob\",\"secret\":\"626f62\"},{\"id\":\"bobz\",\"secret\":\"626f6200\"},{\"id\":\"carol\",\"secret\":\"6361726f6c\"}]";
 
 const KEYS: &str =
-    "\"alice\":{\"scheme\":\"hmac-sha256\"},\"bob\":{\"scheme\":\"hmac-sha256\"},\"bobz\":{\"scheme\":\"hmac-sha256\"},\"carol\":{\"scheme\":\"hmac-sha256\"},\"12345678a\":{\"scheme\":\"hmac-sha256\"},\"12345678b\":{\"scheme\":\"hmac-sha256\"}";
+    "\"alice\":{\"scheme\":\"hmac-sha256\"},\"bob\":{\"scheme\":\"hmac-sha256\"},\"bobz\":{\"scheme\":\"hmac-sha256\"},\"carol\":{\"scheme\":\"hmac-sha256\"}";
 
 // A step that alice records, and the rules on it.
 const BUILD: &str =
     "{\"name\":\"build\",\"threshold\":1,\"pubkeys\":[\"alice\"],\"expected_materials\":[[\"ALLOW\",\"src/*\"],[\"DISALLOW\",\"*\"]],\"expected_products\":[[\"CREATE\",\"app\"],[\"DISALLOW\",\"*\"]]}";
 
-// The same step, and one that bob records.
-const BUILD_AND_PACK: &str =
-    "{\"name\":\"build\",\"threshold\":1,\"pubkeys\":[\"alice\"],\"expected_materials\":[[\"ALLOW\",\"src/*\"],[\"DISALLOW\",\"*\"]],\"expected_products\":[[\"CREATE\",\"app\"],[\"DISALLOW\",\"*\"]]},{\"name\":\"pack\",\"threshold\":1,\"pubkeys\":[\"bob\"]}";
-
-// A link of the step, one with another digest of the product, and one of another step.
+// A link of the step, and one with another digest of the product.
 const LINK: &str =
     "{\"_type\":\"link\",\"name\":\"build\",\"materials\":{\"src/a\":{\"sha256\":\"e3b0c44298fc1c149afbf4c8996fb92427ae41e4649b934ca495991b7852b855\"}},\"products\":{\"app\":{\"sha256\":\"ba7816bf8f01cfea414140de5dae2223b00361a396177a9cb410ff61f20015ad\"}}}";
 
 const OTHER_LINK: &str =
     "{\"_type\":\"link\",\"name\":\"build\",\"materials\":{\"src/a\":{\"sha256\":\"e3b0c44298fc1c149afbf4c8996fb92427ae41e4649b934ca495991b7852b855\"}},\"products\":{\"app\":{\"sha256\":\"e3b0c44298fc1c149afbf4c8996fb92427ae41e4649b934ca495991b7852b855\"}}}";
 
-const LINK_OF_PACK: &str =
-    "{\"_type\":\"link\",\"name\":\"pack\",\"materials\":{\"src/a\":{\"sha256\":\"e3b0c44298fc1c149afbf4c8996fb92427ae41e4649b934ca495991b7852b855\"}},\"products\":{\"app\":{\"sha256\":\"ba7816bf8f01cfea414140de5dae2223b00361a396177a9cb410ff61f20015ad\"}}}";
-
-// A link of the step with a product that its rules do not allow.
-const TWO_PRODUCTS: &str =
-    "{\"_type\":\"link\",\"name\":\"build\",\"products\":{\"app\":{},\"lib\":{}}}";
-
-// A layout with these steps, and what stands beside them.
-fn layout_with(
-    alloc: Global,
-    steps: &str,
-    expires: &str,
-    more: &str,
-) -> Result<String, AllocError> {
+// A layout with these steps.
+fn layout_with(alloc: Global, steps: &str) -> Result<String, AllocError> {
     format!(in alloc;
-        "{{\"_type\":\"layout\",\"expires\":\"{expires}\",\"keys\":{{{KEYS}}},\"steps\":[{steps}]{more}}}"
+        "{{\"_type\":\"layout\",\"expires\":\"{LATER}\",\"keys\":{{{KEYS}}},\"steps\":[{steps}]}}"
     )
 }
 
 // A layout with one step without rules.
-fn layout_of(
-    alloc: Global,
-    step: &str,
-    threshold: u64,
-    ids: &str,
-    expires: &str,
-) -> Result<String, AllocError> {
+fn layout_of(alloc: Global, step: &str, threshold: u64, ids: &str) -> Result<String, AllocError> {
     let step = format!(in alloc;
         "{{\"name\":\"{step}\",\"threshold\":{threshold},\"pubkeys\":[{ids}]}}"
     )?;
-    layout_with(alloc, step.as_str(), expires, "")
+    layout_with(alloc, step.as_str())
 }
 
 // A link with the material `src/a` and the product `app`.
-fn link_of(alloc: Global, name: &str, digest: &str) -> Result<String, AllocError> {
+fn link_of(alloc: Global, name: &str) -> Result<String, AllocError> {
     format!(in alloc;
-        "{{\"_type\":\"link\",\"name\":\"{name}\",\"materials\":{{\"src/a\":{{\"sha256\":\"{NOTHING}\"}}}},\"products\":{{\"app\":{{\"sha256\":\"{digest}\"}}}}}}"
+        "{{\"_type\":\"link\",\"name\":\"{name}\",\"materials\":{{\"src/a\":{{\"sha256\":\"{NOTHING}\"}}}},\"products\":{{\"app\":{{\"sha256\":\"{ABC}\"}}}}}}"
     )
 }
 
@@ -91,8 +67,6 @@ enum Signed<'a> {
     Hinted(&'a str, &'a str),
     /// By the key of an id, and then a byte of the signature is changed.
     Changed(&'a str),
-    /// Not at all: it is no envelope.
-    Not,
 }
 
 // A file's name, how it is signed, and the body.
@@ -127,7 +101,6 @@ fn text_of(alloc: Global, signed: Signed, body: &str) -> Result<String, Fail> {
             let envelope = envelope_of(alloc, id, body)?;
             Ok(with_changed_code(alloc, envelope.as_str())?)
         }
-        Signed::Not => Ok(String::from_str(alloc, body)?),
     }
 }
 
@@ -208,7 +181,6 @@ fn verified(
     alloc: Global,
     layout: &str,
     bundle: &Bundle,
-    moment: i64,
     depth: u8,
 ) -> Result<(Result<Chain, ChainError>, u64), Fail> {
     if depth > 8 {
@@ -219,19 +191,13 @@ fn verified(
         .ok_or("no layout")?;
     let panel: [Box<dyn SignatureCheck>; 1] = [Box::new(alloc, ring(alloc)?)?];
     let mut meter = Meter { asked: 0 };
-    let found = verify_chain(alloc, &layout, bundle, moment, depth, &panel, &mut meter);
+    let found = verify_chain(alloc, &layout, bundle, EXPIRES, depth, &panel, &mut meter);
     Ok((found, meter.asked))
 }
 
 // The same in words.
-fn told(
-    alloc: Global,
-    layout: &str,
-    bundle: &Bundle,
-    moment: i64,
-    depth: u8,
-) -> Result<(String, u64), Fail> {
-    let (found, asked) = verified(alloc, layout, bundle, moment, depth)?;
+fn told(alloc: Global, layout: &str, bundle: &Bundle, depth: u8) -> Result<(String, u64), Fail> {
+    let (found, asked) = verified(alloc, layout, bundle, depth)?;
     let words = match found {
         Ok(chain) => told_chain(alloc, &chain)?,
         Err(ChainError::Refused(refusal)) => {
@@ -355,105 +321,27 @@ fn told_of(
     ids: &str,
     links: &[&str],
 ) -> Result<(String, u64), Fail> {
-    let layout = layout_of(alloc, "build", threshold, ids, LATER)?;
+    let layout = layout_of(alloc, "build", threshold, ids)?;
     let bundle = bundle_by(alloc, links)?;
-    told(alloc, layout.as_str(), &bundle, EXPIRES, 0)
-}
-
-// Files that do not count: no envelope, of nobody listed, for another step, under a name that is
-// claimed for none. Repeated ones count once.
-#[test]
-fn passes_over_noise(rt: HostRuntime) -> Result<(), Fail> {
-    let alloc = rt.alloc();
-    let layout = layout_of(alloc, "build", 1, "\"alice\"", LATER)?;
-    let mut bundle = bundle_of(
-        alloc,
-        &[
-            ("build.0.link", Signed::Not, ""),
-            ("build.carol.link", Signed::By("carol"), LINK),
-            ("build.alice.link", Signed::By("alice"), LINK_OF_PACK),
-            ("build.a.b.link", Signed::By("alice"), LINK),
-            ("build.link", Signed::By("alice"), LINK),
-        ],
-    )?;
-    let (none, _) = told(alloc, layout.as_str(), &bundle, EXPIRES, 0)?;
-    assert_eq!(rt; none.as_str(), "threshold build 0 1");
-    add(
-        alloc,
-        &mut bundle,
-        ("build.x.link", Signed::By("alice"), LINK),
-    )?;
-    add(
-        alloc,
-        &mut bundle,
-        ("build.y.link", Signed::By("alice"), LINK),
-    )?;
-    let (one, _) = told(alloc, layout.as_str(), &bundle, EXPIRES, 0)?;
-    assert_eq!(rt; one.as_str(), "build 1");
-    Ok(())
-}
-
-// What these steps come to at a moment over one file under the name of alice's link.
-fn told_at(
-    alloc: Global,
-    steps: &str,
-    moment: i64,
-    signed: Signed,
-    body: &str,
-) -> Result<(String, u64), Fail> {
-    let layout = layout_with(alloc, steps, LATER, "")?;
-    let mut bundle = Bundle::new(alloc);
-    add(alloc, &mut bundle, ("build.alice.link", signed, body))?;
-    told(alloc, layout.as_str(), &bundle, moment, 0)
-}
-
-#[test]
-fn looks_at_nothing_of_a_layout_that_has_expired(rt: HostRuntime) -> Result<(), Fail> {
-    let alloc = rt.alloc();
-    let by_alice = Signed::By("alice");
-    let (told, asked) = told_at(alloc, BUILD, EXPIRES, by_alice, LINK)?;
-    assert_eq!(rt; told.as_str(), "build 1");
-    assert_eq!(rt; asked, 1);
-    let (told, asked) = told_at(alloc, BUILD, EXPIRES + 1, by_alice, LINK)?;
-    assert_eq!(rt; told.as_str(), "expired");
-    assert_eq!(rt; asked, 0);
-    let (told, asked) = told_at(alloc, BUILD, EXPIRES + 1, Signed::Not, "")?;
-    assert_eq!(rt; told.as_str(), "expired");
-    assert_eq!(rt; asked, 0);
-    Ok(())
-}
-
-#[test]
-fn asks_for_all_records_before_it_judges_rules(rt: HostRuntime) -> Result<(), Fail> {
-    let alloc = rt.alloc();
-    let by_alice = Signed::By("alice");
-    let (told, asked) = told_at(alloc, BUILD, EXPIRES, by_alice, TWO_PRODUCTS)?;
-    assert_eq!(rt; told.as_str(), "rule 1 lib");
-    assert_eq!(rt; asked, 1);
-    let (told, asked) = told_at(alloc, BUILD_AND_PACK, EXPIRES, by_alice, TWO_PRODUCTS)?;
-    assert_eq!(rt; told.as_str(), "threshold pack 0 1");
-    assert_eq!(rt; asked, 1);
-    Ok(())
+    told(alloc, layout.as_str(), &bundle, 0)
 }
 
 // Alice records by a layout, whose one step bob records by a layout of his own, whose one step carol
 // records by a link. Beside alice's layout stands bob's link.
-fn nested(alloc: Global, expires: &str, innermost: bool) -> Result<Bundle, Fail> {
-    let link = link_of(alloc, "core", ABC)?;
+fn nested(alloc: Global) -> Result<Bundle, Fail> {
+    let link = link_of(alloc, "core")?;
     let core = bundle_of(
         alloc,
         &[("core.carol.link", Signed::By("carol"), link.as_str())],
     )?;
-    let of_bob = layout_of(alloc, "core", 1, "\"carol\"", LATER)?;
+    let of_bob = layout_of(alloc, "core", 1, "\"carol\"")?;
     let mut inner = bundle_of(
         alloc,
         &[("inner.bob.link", Signed::By("bob"), of_bob.as_str())],
     )?;
-    if innermost {
-        add_folder(alloc, &mut inner, "inner.bob", core)?;
-    }
-    let of_alice = layout_of(alloc, "inner", 1, "\"bob\"", expires)?;
-    let beside = link_of(alloc, "build", ABC)?;
+    add_folder(alloc, &mut inner, "inner.bob", core)?;
+    let of_alice = layout_of(alloc, "inner", 1, "\"bob\"")?;
+    let beside = link_of(alloc, "build")?;
     let mut outer = bundle_of(
         alloc,
         &[
@@ -467,14 +355,14 @@ fn nested(alloc: Global, expires: &str, innermost: bool) -> Result<Bundle, Fail>
 
 // What the step with these ids comes to over the bundle.
 fn told_below(alloc: Global, ids: &str, bundle: &Bundle, depth: u8) -> Result<(String, u64), Fail> {
-    let layout = layout_of(alloc, "build", 1, ids, LATER)?;
-    told(alloc, layout.as_str(), bundle, EXPIRES, depth)
+    let layout = layout_of(alloc, "build", 1, ids)?;
+    told(alloc, layout.as_str(), bundle, depth)
 }
 
 #[test]
 fn verifies_a_sublayout_in_a_sublayout_down_to_the_depth(rt: HostRuntime) -> Result<(), Fail> {
     let alloc = rt.alloc();
-    let bundle = nested(alloc, LATER, true)?;
+    let bundle = nested(alloc)?;
     let rows = [
         (ALICE, 2, "build 1", 3),
         (ALICE_BOB, 2, "build 2", 4),
@@ -489,105 +377,14 @@ fn verifies_a_sublayout_in_a_sublayout_down_to_the_depth(rt: HostRuntime) -> Res
     Ok(())
 }
 
-// Enough other records do not make it good.
-#[test]
-fn passes_over_no_sublayout_that_fails(rt: HostRuntime) -> Result<(), Fail> {
-    let alloc = rt.alloc();
-    let bare = nested(alloc, LATER, false)?;
-    let (told, asked) = told_below(alloc, ALICE, &bare, 2)?;
-    assert_eq!(rt; told.as_str(), "build/alice inner/bob threshold core 0 1");
-    assert_eq!(rt; asked, 2);
-    let expired = nested(alloc, EARLIER, true)?;
-    for ids in [ALICE, ALICE_BOB] {
-        let (told, asked) = told_below(alloc, ids, &expired, 2)?;
-        assert_eq!(rt; told.as_str(), "build/alice expired", "{ids}");
-        assert_eq!(rt; asked, 1, "{ids}");
-    }
-    Ok(())
-}
-
-#[test]
-fn refuses_inspections_in_a_sublayout_but_first_its_depth(rt: HostRuntime) -> Result<(), Fail> {
-    let alloc = rt.alloc();
-    let layout = layout_with(alloc, BUILD, LATER, "")?;
-    let inspected = layout_with(alloc, "", LATER, ",\"inspect\":[{\"name\":\"check\"}]")?;
-    let record = ("build.alice.link", Signed::By("alice"), inspected.as_str());
-    let bundle = bundle_of(alloc, &[record])?;
-    for (depth, want) in [(1, "build/alice inspection"), (0, "build/alice too deep")] {
-        let (words, asked) = told(alloc, layout.as_str(), &bundle, EXPIRES, depth)?;
-        assert_eq!(rt; words.as_str(), want);
-        assert_eq!(rt; asked, 1, "{want}");
-    }
-    Ok(())
-}
-
-// A link under so many layouts, each of which alice records by the next.
-fn nested_by_alice(alloc: Global, layouts: u8) -> Result<Bundle, Fail> {
-    let layout = layout_of(alloc, "build", 1, "\"alice\"", LATER)?;
-    let link = link_of(alloc, "build", ABC)?;
-    let name = "build.alice.link";
-    let mut bundle = bundle_of(alloc, &[(name, Signed::By("alice"), link.as_str())])?;
-    for _ in 0..layouts {
-        let mut outer = bundle_of(alloc, &[(name, Signed::By("alice"), layout.as_str())])?;
-        add_folder(alloc, &mut outer, "build.alice", bundle)?;
-        bundle = outer;
-    }
-    Ok(bundle)
-}
-
-#[test]
-fn goes_down_eight_sublayouts_and_not_nine(rt: HostRuntime) -> Result<(), Fail> {
-    let alloc = rt.alloc();
-    let layout = layout_of(alloc, "build", 1, "\"alice\"", LATER)?;
-    let rows = [
-        (8, "build 1"),
-        (
-            9,
-            "build/alice build/alice build/alice build/alice build/alice build/alice build/alice build/alice build/alice too deep",
-        ),
-    ];
-    for (layouts, want) in rows {
-        let bundle = nested_by_alice(alloc, layouts)?;
-        let (words, asked) = told(alloc, layout.as_str(), &bundle, EXPIRES, 8)?;
-        assert_eq!(rt; words.as_str(), want);
-        assert_eq!(rt; asked, 9, "{want}");
-    }
-    Ok(())
-}
-
-// Both ids sign the same layout, which is verified for each.
-#[test]
-fn ids_that_begin_alike_share_the_folder_of_a_sublayout(rt: HostRuntime) -> Result<(), Fail> {
-    let alloc = rt.alloc();
-    let layout = layout_of(alloc, "build", 2, "\"12345678a\",\"12345678b\"", LATER)?;
-    let inner = layout_of(alloc, "core", 1, "\"carol\"", LATER)?;
-    let link = link_of(alloc, "core", ABC)?;
-    let mut bundle = bundle_of(
-        alloc,
-        &[
-            ("build.a.link", Signed::By("12345678a"), inner.as_str()),
-            ("build.b.link", Signed::By("12345678b"), inner.as_str()),
-        ],
-    )?;
-    let core = bundle_of(
-        alloc,
-        &[("core.carol.link", Signed::By("carol"), link.as_str())],
-    )?;
-    add_folder(alloc, &mut bundle, "build.12345678", core)?;
-    let (words, asked) = told(alloc, layout.as_str(), &bundle, EXPIRES, 1)?;
-    assert_eq!(rt; words.as_str(), "build 2");
-    assert_eq!(rt; asked, 4);
-    Ok(())
-}
-
 #[test]
 fn a_sublayout_without_steps_comes_to_two_empty_maps(rt: HostRuntime) -> Result<(), Fail> {
     let alloc = rt.alloc();
-    let layout = layout_with(alloc, BUILD, LATER, "")?;
-    let bare = layout_with(alloc, "", LATER, "")?;
+    let layout = layout_with(alloc, BUILD)?;
+    let bare = layout_with(alloc, "")?;
     let record = ("build.alice.link", Signed::By("alice"), bare.as_str());
     let bundle = bundle_of(alloc, &[record])?;
-    let (Ok(chain), _) = verified(alloc, layout.as_str(), &bundle, EXPIRES, 1)? else {
+    let (Ok(chain), _) = verified(alloc, layout.as_str(), &bundle, 1)? else {
         return Err(Fail::from("no chain"));
     };
     let record = chain.steps.as_slice().first().ok_or("no step")?;

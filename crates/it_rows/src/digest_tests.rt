@@ -1,5 +1,5 @@
-use crate::devices::{ABC, NOTHING, Source, map_of};
 use hex::{FromHex, FromHexError};
+use it_devices::{ABC, NOTHING, Source, map_of};
 use it_digest::artifacts::Artifacts;
 use it_digest::compare::{Compare, DigestSet};
 use it_digest::reader::{DigestFault, sha256_of_reader};

@@ -1,6 +1,6 @@
-use crate::devices::{ABC, NOTHING, strings};
 use it_base::document::read_document;
 use it_base::parts::FromDocument;
+use it_devices::{ABC, NOTHING, strings};
 use it_docs::layout_fault::{LayoutFault, LayoutPart};
 use it_docs::layout_reading::read_layout;
 use it_docs::link::read_link;

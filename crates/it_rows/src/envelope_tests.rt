@@ -1,6 +1,6 @@
-use crate::devices::{Full, Pipe, strings, text};
 use it_base::parts::from_bytes;
 use it_base::sequence::Sequence;
+use it_devices::{Full, Pipe, strings, text};
 use it_dsse::check::SignatureCheck;
 use it_dsse::envelope::{Envelope, EnvelopeFault, Signature};
 use it_dsse::key_object::KeyObject;

@@ -8,7 +8,6 @@ mod base_tests;
 mod bundle_tests;
 #[cfg(test)]
 mod chain_tests;
-pub mod devices;
 #[cfg(test)]
 mod digest_tests;
 #[cfg(test)]

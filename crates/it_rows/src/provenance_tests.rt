@@ -1,6 +1,6 @@
-use crate::devices::{ABC as A, NOTHING as B, text};
 use it_base::sequence::Sequence;
 use it_base::text::Text;
+use it_devices::{ABC as A, NOTHING as B, text};
 use it_digest::compare::DigestSet;
 use it_digest::sums::read_sums;
 use it_docs::policy_reading::read_policy;

@@ -3,9 +3,9 @@ ghost use Rattle.std.specs.Prelude.{◌<◌};
 mod by_definition;
 mod by_queue;
 
-use crate::devices::{map_of, text};
 use by_definition::first_fault;
 use by_queue::first_fault as first_fault_by_queue;
+use it_devices::{map_of, text};
 use it_digest::artifacts::Artifacts;
 use it_digest::compare::DigestSet;
 use it_docs::rule::{Rule, Side};

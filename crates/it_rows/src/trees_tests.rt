@@ -1,4 +1,4 @@
-use crate::devices::text;
+use it_devices::text;
 use it_docs::table::Table;
 use it_docs::tree::{Members, Tree, Trees};
 use std::alloc::{AllocError, Global};

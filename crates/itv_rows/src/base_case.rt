@@ -3,10 +3,10 @@
 use it_base::sequence::Sequence;
 use it_base::text::Text;
 use it_chain::bundle::Bundle;
+use it_devices::{ABC as A, NOTHING as B};
 use it_dsse::check::SignatureCheck;
 use it_dsse::ring::HmacRing;
 use it_dsse::signing::sign;
-use it_rows::devices::{ABC as A, NOTHING as B};
 use it_verify::inputs::Inputs;
 use it_verify::outcome::{RunFault, Status, exit_of};
 use it_verify::{run_verify, verify};
@@ -45,8 +45,6 @@ pub(crate) const POLICY: &str = r#"{"owners":{"owner":K},
 // On one line, as provenance is.
 pub(crate) const STATEMENT: &str =
     r#"{"_type":"https://in-toto.io/Statement/v1","subject":[{"name":"app","digest":{"sha256":"A"}}],"predicateType":"https://slsa.dev/provenance/v1","predicate":{"buildDefinition":{"buildType":"https://ci.example/make","externalParameters":{"ref":"v1"}},"runDetails":{"builder":{"id":"https://ci.example/1"}}}}"#;
-
-pub(crate) const SUMS: &str = "A  app\n";
 
 pub(crate) const MOMENT: &str = "2029-12-31T00:00:00Z";
 
@@ -173,26 +171,12 @@ pub(crate) fn policy(alloc: Global, changes: &[(&str, &str)]) -> Result<Sequence
     Ok(Sequence::from(filled(alloc, POLICY, changes)?.into_bytes()))
 }
 
-/// The provenance: a Statement with these changes, signed by the builder.
-pub(crate) fn provenance(alloc: Global, changes: &[(&str, &str)]) -> Result<Sequence<u8>, Fail> {
-    let body = filled(alloc, STATEMENT, changes)?;
+/// The provenance: the Statement, signed by the builder.
+fn provenance(alloc: Global) -> Result<Sequence<u8>, Fail> {
+    let body = filled(alloc, STATEMENT, &[])?;
     let mut line = signed(alloc, "builder", IN_TOTO, body.as_str())?;
     line.push(b'\n')?;
     Ok(Sequence::from(line))
-}
-
-/// Records of inspections: the name of each, and the name in its link.
-pub(crate) fn records(
-    alloc: Global,
-    names: &[(&str, &str)],
-) -> Result<Sequence<(Text, Sequence<u8>)>, AllocError> {
-    let mut records = Vec::new(alloc);
-    for (name, in_link) in names {
-        let name = Text::from(String::from_str(alloc, name)?);
-        let link = format!(in alloc; "{{\"_type\":\"link\",\"name\":\"{in_link}\"}}")?;
-        records.push((name, Sequence::from(link.into_bytes())))?;
-    }
-    Ok(Sequence::from(records))
 }
 
 /// The base case without its link.
@@ -201,8 +185,8 @@ pub(crate) fn without_links(alloc: Global) -> Result<Inputs, Fail> {
         policy: policy(alloc, &[])?,
         layout: layout(alloc, &[])?,
         links: Bundle::new(alloc),
-        records: records(alloc, &[])?,
-        provenance: provenance(alloc, &[])?,
+        records: Sequence::from(Vec::new(alloc)),
+        provenance: provenance(alloc)?,
         sums: sums(alloc, &[("A", "app")])?,
         moment: Text::from(String::from_str(alloc, MOMENT)?),
         depth: 4,

@@ -1,6 +1,6 @@
+use it_devices::{Source, strings};
 use it_digest::reader::DigestFault;
 use it_dsse::ring::HmacRing;
-use it_rows::devices::{Source, strings};
 use it_verify::outcome::{RunFault, Status};
 use it_verify::words::{Words, WordsFault, read_words};
 use it_verify::{run_digest, run_match, run_pae, run_sign};

@@ -4,8 +4,8 @@ use crate::base_case::{
 };
 use it_base::sequence::Sequence;
 use it_chain::bundle::Bundle;
+use it_devices::{nested, text};
 use it_dsse::ring::{HmacRing, RingFault};
-use it_rows::devices::{nested, text};
 use std::alloc::Global;
 use std::test::Fail;
 

@@ -6,7 +6,7 @@ use crate::base_case::{
 };
 use it_base::sequence::Sequence;
 use it_chain::bundle::Bundle;
-use it_rows::devices::{text, with_changed_code};
+use it_devices::{text, with_changed_code};
 use it_verify::inputs::Inputs;
 use std::alloc::Global;
 use std::test::Fail;

@@ -1,10 +1,10 @@
 use it_base::sequence::Sequence;
 use it_base::text::Text;
 use it_chain::refusal::RuleItem;
+use it_devices::text;
 use it_docs::layout_fault::LayoutPart;
 use it_docs::policy_fault::PolicyPart;
 use it_docs::rule::Side;
-use it_rows::devices::text;
 use it_verify::refusal::{Fault, Refusal};
 use it_verify::report;
 use it_verify::verdict::Verdict;

@@ -1,8 +1,8 @@
 use crate::base_case::RING;
+use it_devices::{Full, Pipe, strings};
 use it_digest::reader::DigestFault;
 use it_dsse::check::SignatureCheck;
 use it_dsse::ring::HmacRing;
-use it_rows::devices::{Full, Pipe, strings};
 use it_verify::outcome::{RunFault, Status, exit_of};
 use it_verify::run_signed;
 use it_verify::words::{Words, WordsFault, read_words};

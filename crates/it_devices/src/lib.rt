@@ -1,4 +1,6 @@
-//! What the rows share: texts, digests that are known, and readers and writers that fail.
+//! What the tests share: texts, digests that are known, and readers and writers that fail.
+#![tactic(auto)]
+
 use it_base::text::Text;
 use it_digest::artifacts::Artifacts;
 use it_digest::compare::DigestSet;

@@ -1,5 +1,5 @@
 -- What the functions that verify a level come to, put together.
-use Rattle.std.proofs.Common.{◌≡◌, ◌≢◌, ◌<◌, ◌+◌, ◌-◌, ◌↔◌, ℕ, zero, suc, List, [], ◌∷◌, ◌++◌, flat_map, take, get_or, length, Option, Some, None, Result, Ok, Err, IfOk, IfErr, Bor, option_map, unwrap_or, Bool, IsTrue, true, false, inl, inr, Contains, refl, sym, ap, subst, ◌∙◌, arith}
+use Rattle.std.proofs.Common.{◌≡◌, ◌≢◌, ◌<◌, ◌+◌, ◌↔◌, ℕ, zero, suc, List, [], ◌∷◌, ◌++◌, flat_map, take, get_or, length, Option, Some, None, Result, Ok, Err, IfOk, IfErr, Bor, option_map, unwrap_or, Bool, IsTrue, true, false, inl, inr, Contains, refl, sym, ap, subst, ◌∙◌, arith}
 use Rattle.std.specs.FinMap.{get}
 use Rattle.std.specs.Bool.{◌==◌}
 use Rattle.std.proofs.lemmas.Bool.Decides.{Decides-eqb}
@@ -292,10 +292,9 @@ pub folder_or : (found : Option (Bor Contents)) (none : Bor Contents) (folder : 
 folder_or None none folder e is = is ∙ ap (λ o. unwrap_or o empty) e
 folder_or (Some x) none folder e is = ap (λ o. unwrap_or o empty) e
 
--- a depth below which there is another
-pub not_deepest : (deepest : Bool) (depth : ℕ) → (IsTrue deepest ↔ (depth ≡ 0)) → deepest ≡ false → depth ≡ suc (depth - 1)
-not_deepest deepest zero h false_is = let yes : deepest ≡ true = h.1 refl in cc
-not_deepest deepest (suc depth) h false_is = omega arith
+-- what a test that fails tells
+pub not_when : (test : Bool) (P : Type 0) → (IsTrue test ↔ P) → test ≡ false → ¬ P
+not_when test P h is p = let yes : test ≡ true = h.1 p in cc
 
 pub nil_of : {X : Type 0} (xs : List X) → (length xs == 0) ≡ true → xs ≡ []
 nil_of [] h = refl

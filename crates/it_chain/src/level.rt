@@ -1,5 +1,5 @@
 //! A layout over a bundle, with its sublayouts.
-ghost use Rattle.std.specs.Prelude.{◌≡◌, ◌≤◌, ◌∷◌, ◌↔◌, [], IfOk, IsTrue, Some, Contains, length, map, flat_map};
+ghost use Rattle.std.specs.Prelude.{◌≡◌, ◌≤◌, ◌<ℤ◌, ◌∷◌, ◌↔◌, [], IfOk, IsTrue, Some, Contains, length, map, flat_map};
 ghost use Rattle.std.specs.FinMap.{get, keys};
 ghost use Rattle.std.specs.List.{AllZip};
 ghost use Rattle.it_base.specs.Sum.{IsSum};
@@ -76,7 +76,7 @@ pub(crate) fn verify_level<C: Checking>(
         (LevelFewest (fewest_below (C.setting checking.now) level.now.depth)
         (C.setting checking.now) level.now.layout.now level.now.links.now) meter.old meter.new) }
 {
-    if level.layout.expires < checking.moment() {
+    if is_expired(checking, level.layout) {
         return Err(refused(alloc, ChainFault::Expired));
     }
     let claims = Claims::of(alloc, level.links.files())?;
@@ -85,6 +85,13 @@ pub(crate) fn verify_level<C: Checking>(
     Ok(Chain {
         steps: Sequence::from(steps),
     })
+}
+
+/// Whether a layout has expired.
+fn is_expired<C: Checking>(checking: &C, layout: &Layout) -> bool
+    ensures { IsTrue result ↔ (layout.now.expires <ℤ (C.setting checking.now).moment) }
+{
+    layout.expires < checking.moment()
 }
 
 /// The records of a layout's steps.

@@ -1,6 +1,5 @@
 use Rattle.std.proofs.Common.{◌≡◌, ◌∙◌, ◌<ℤ◌, ◌-◌, [], ◌∷◌, ◌++◌, Option, None, Some, Contains, map, zip, Err, flat_map, append-nil, rules, refl, sym, ap, subst, unwrap_or, length, take, take_all, arith}
 use Rattle.std.specs.FinMap.{keys}
-use Rattle.std.proofs.lemmas.Int.{ints}
 use Rattle.std.proofs.lemmas.List.Elements.{Contains-get_or}
 use Rattle.std.proofs.lemmas.Result.{err_from_is_err_and}
 use Rattle.it_chain.specs.Asked.{GivenFewest, RaisedAtLeast, RaisedWithin, RecordsFewest, SignaturesIn, cost_below, fewest_below, key_total}
@@ -23,7 +22,7 @@ use Rattle.it_chain.proofs.LevelWalks.{level_holds, rules_fail, steps_fail}
 use Rattle.it_chain.proofs.LevelRules.{links_differ}
 use Rattle.it_chain.proofs.StepWalks.{judged_walks}
 use Rattle.it_chain.proofs.SignerWalks.{AreWalked, signer_known, signer_listed, walked_all, walked_fail, walked_more, walked_none}
-use Rattle.it_chain.proofs.Walks.{folder_or, level_below, nil_of, not_deepest, fails_before, fails_at, none_counts, none_more, one_counts, one_below, apart_below, two_count, walks_behind, walks_given, walks_record, walks_two, zip_more}
+use Rattle.it_chain.proofs.Walks.{folder_or, level_below, nil_of, not_when, fails_before, fails_at, none_counts, none_more, one_counts, one_below, apart_below, two_count, walks_behind, walks_given, walks_record, walks_two, zip_more}
 use Rattle.it_chain.proofs.level.+level.Goals as goal
 use Rattle.it_chain.proofs.level.+level.Goals.{verify_ids-in-Some+in_ok-push, verify_ids-in_default}
 
@@ -150,7 +149,7 @@ pub verify_level-returns-in_err-steps-clause-answer : goal.verify_level-returns-
 verify_level-returns-in_err-steps-clause-answer g t c =
     let s = g.C.Checking.setting c.args.checking.now in
     let v = c.args.level.now in
-    let in_time : ¬ (v.layout.now.expires <ℤ s.moment) = λ late. absurd (omega (arith, ints, late, c.if-level-moment.false, c.moment.ensures)) in
+    let in_time : ¬ (v.layout.now.expires <ℤ s.moment) = not_when c.is_expired.result (v.layout.now.expires <ℤ s.moment) c.is_expired.ensures c.if-is_expired.false in
     let p = err_from_is_err_and c.from_residual-in_err-steps.result c.from_residual-in_err-steps.ensures.1 in
     rw (p.1, p.2) (steps_fail (holds_below s v.depth) (fails_below s v.depth) (one_below s v.depth) (apart_below s v.depth) s v.layout.now v.links.now c.in_err-steps.field-0.0 in_time c.in_err-steps.ensures.answer)
 
@@ -164,7 +163,7 @@ pub verify_level-returns-in_err-run_step_rules-clause-answer : goal.verify_level
 verify_level-returns-in_err-run_step_rules-clause-answer g t c =
     let s = g.C.Checking.setting c.args.checking.now in
     let v = c.args.level.now in
-    let in_time : ¬ (v.layout.now.expires <ℤ s.moment) = λ late. absurd (omega (arith, ints, late, c.if-level-moment.false, c.moment.ensures)) in
+    let in_time : ¬ (v.layout.now.expires <ℤ s.moment) = not_when c.is_expired.result (v.layout.now.expires <ℤ s.moment) c.is_expired.ensures c.if-is_expired.false in
     let p = err_from_is_err_and c.from_residual-in_err-run_step_rules.result c.from_residual-in_err-run_step_rules.ensures.1 in
     rw (p.1, p.2) (rules_fail (holds_below s v.depth) (fails_below s v.depth) (one_below s v.depth) (apart_below s v.depth) s v.layout.now v.links.now c.in_ok-steps.steps.items c.in_ok-steps.ensures.answer.1
     c.in_err-run_step_rules.field-0.0 in_time c.in_ok-steps.ensures.answer.0 (subst (λ rs. AreRuled (links_in rs) (zip v.layout.now.steps rs) (Err c.in_err-run_step_rules.field-0.0)) c.as_slice-2.ensures.value
@@ -174,7 +173,7 @@ pub verify_level-returns-clause-answer : goal.verify_level-returns-clause-answer
 verify_level-returns-clause-answer g t c =
     let s = g.C.Checking.setting c.args.checking.now in
     let v = c.args.level.now in
-    let in_time : ¬ (v.layout.now.expires <ℤ s.moment) = λ late. absurd (omega (arith, ints, late, c.if-level-moment.false, c.moment.ensures)) in
+    let in_time : ¬ (v.layout.now.expires <ℤ s.moment) = not_when c.is_expired.result (v.layout.now.expires <ℤ s.moment) c.is_expired.ensures c.if-is_expired.false in
     rw c.from.ensures (level_holds (holds_below s v.depth) (fails_below s v.depth) (one_below s v.depth) (apart_below s v.depth) s v.layout.now v.links.now c.in_ok-steps.steps.items c.in_ok-steps.ensures.answer.1 in_time
     (rw (c.as_slice.ensures, c.as_slice-2.ensures.value) at c.in_ok-run_step_rules.ensures))
 
@@ -225,7 +224,7 @@ verify_sublayout-returns-clause-answer g t c =
     let bare : c.args.sublayout.now.inspections ≡ [] = sym c.as_slice.ensures ∙ nil_of c.as_slice.result.now (sym c.is_empty.ensures ∙ c.if-not-is_empty.false) in
     let folder : c.unwrap_or.result.now ≡ folder_of c.args.step.now c.args.id.now links =
     ap (λ r. r.now) c.unwrap_or.ensures ∙ folder_or c.dir.result _ (folder_at c.as_str.result.now links) c.dir.ensures c.new-none.ensures ∙ ap (λ n. unwrap_or (folder_at n links) empty) name in
-    level_below s c.args.sublayout.now (folder_of c.args.step.now c.args.id.now links) v.depth (v.depth - 1) (not_deepest c.is_deepest.result v.depth c.is_deepest.ensures c.if-is_deepest.false) bare c.verify_level.result (rw folder at c.verify_level.ensures.answer)
+    level_below s c.args.sublayout.now (folder_of c.args.step.now c.args.id.now links) v.depth (v.depth - 1) (omega (arith, not_when c.is_deepest.result (v.depth ≡ 0) c.is_deepest.ensures c.if-is_deepest.false)) bare c.verify_level.result (rw folder at c.verify_level.ensures.answer)
 
 pub verify_steps-loop-step-init : goal.verify_steps-loop-step-init
 verify_steps-loop-step-init g t c =
@@ -259,8 +258,8 @@ verify_steps-returns-clause-asked g t c =
     let all : take c.loop-step.step-index steps ≡ v.layout.now.steps = take_all c.loop-step.step-index steps (omega arith) ∙ c.as_slice-step-items.ensures in
     subst (λ ss. RaisedWithin (key_total c.loop-step.results.items) (LevelSum s v.depth v.layout.now v.links.now ss) c.args.meter.now c.loop-step.meter) all c.loop-step.invariant.asked
 
-pub verify_level-returns-then-level-moment-clause-asked : goal.verify_level-returns-then-level-moment-clause-asked
-verify_level-returns-then-level-moment-clause-asked g t c =
+pub verify_level-returns-then-is_expired-clause-asked : goal.verify_level-returns-then-is_expired-clause-asked
+verify_level-returns-then-is_expired-clause-asked g t c =
     let s = g.C.Checking.setting c.args.checking.now in
     let v = c.args.level.now in
     within_none (LevelSum s v.depth v.layout.now v.links.now v.layout.now.steps) c.args.meter.now c.args.meter.now refl
@@ -346,7 +345,7 @@ verify_sublayout-returns-clause-asked g t c =
     let name : c.as_str.result.now ≡ folder_name c.args.step.now c.args.id.now = c.as_str.ensures.value ∙ c.in_ok-name.ensures in
     let folder : c.unwrap_or.result.now ≡ folder_of c.args.step.now c.args.id.now links =
     ap (λ r. r.now) c.unwrap_or.ensures ∙ folder_or c.dir.result _ (folder_at c.as_str.result.now links) c.dir.ensures c.new-none.ensures ∙ ap (λ n. unwrap_or (folder_at n links) empty) name in
-    below_asks s c.args.sublayout.now (folder_of c.args.step.now c.args.id.now links) c.args.meter.now c.verify_level.new.meter v.depth (v.depth - 1) (not_deepest c.is_deepest.result v.depth c.is_deepest.ensures c.if-is_deepest.false) c.verify_level.result (rw folder at c.verify_level.ensures.asked)
+    below_asks s c.args.sublayout.now (folder_of c.args.step.now c.args.id.now links) c.args.meter.now c.verify_level.new.meter v.depth (v.depth - 1) (omega (arith, not_when c.is_deepest.result (v.depth ≡ 0) c.is_deepest.ensures c.if-is_deepest.false)) c.verify_level.result (rw folder at c.verify_level.ensures.asked)
 
 pub verify_id-returns-in_err-text_of-in-Several-clause-asked : goal.verify_id-returns-in_err-text_of-in-Several-clause-asked
 verify_id-returns-in_err-text_of-in-Several-clause-asked g t c =
@@ -410,7 +409,7 @@ verify_sublayout-returns-clause-fewest g t c =
     let name : c.as_str.result.now ≡ folder_name c.args.step.now c.args.id.now = c.as_str.ensures.value ∙ c.in_ok-name.ensures in
     let folder : c.unwrap_or.result.now ≡ folder_of c.args.step.now c.args.id.now links =
     ap (λ r. r.now) c.unwrap_or.ensures ∙ folder_or c.dir.result _ (folder_at c.as_str.result.now links) c.dir.ensures c.new-none.ensures ∙ ap (λ n. unwrap_or (folder_at n links) empty) name in
-    below_takes s c.args.sublayout.now (folder_of c.args.step.now c.args.id.now links) c.args.meter.now c.verify_level.new.meter v.depth (v.depth - 1) (not_deepest c.is_deepest.result v.depth c.is_deepest.ensures c.if-is_deepest.false) c.verify_level.result (rw folder at c.verify_level.ensures.fewest)
+    below_takes s c.args.sublayout.now (folder_of c.args.step.now c.args.id.now links) c.args.meter.now c.verify_level.new.meter v.depth (v.depth - 1) (omega (arith, not_when c.is_deepest.result (v.depth ≡ 0) c.is_deepest.ensures c.if-is_deepest.false)) c.verify_level.result (rw folder at c.verify_level.ensures.fewest)
 
 pub verify_id-returns-in-Nothing-clause-fewest : goal.verify_id-returns-in-Nothing-clause-fewest
 verify_id-returns-in-Nothing-clause-fewest g t c = least_of 0 (SignaturesIn c.args.found.now) c.args.meter.now c.counted.new.meter c.in-Nothing.ensures.asked

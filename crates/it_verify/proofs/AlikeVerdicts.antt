@@ -27,10 +27,10 @@ use Rattle.it_verify.specs.Verdict.{IsVerdict}
 use Rattle.it_verify.specs.Verifying.{IsVerifyOutput}
 use Rattle.it_verify.specs.WholeLaws.{ComesToTheSame}
 use Rattle.it_verify.specs.declared.inputs.Inputs.{Inputs}
-use Rattle.it_verify.specs.declared.outcome.Status.{Status}
-use Rattle.it_verify.specs.declared.refusal.Refusal.{Refusal}
-use Rattle.it_verify.specs.declared.verdict.Verdict.{Verdict}
-use Rattle.it_verify.specs.declared.verdict.Verdict.TheVariants.{Accepted, Refused}
+use Rattle.it_words.specs.declared.outcome.Status.{Status}
+use Rattle.it_report.specs.declared.refusal.Refusal.{Refusal}
+use Rattle.it_report.specs.declared.verdict.Verdict.{Verdict}
+use Rattle.it_report.specs.declared.verdict.Verdict.TheVariants.{Accepted, Refused}
 use Rattle.it_verify.proofs.Counterparts.{Carried, Reread, Share, at_each, recorded_there, reread, share_back, share_of, with_envelope}
 
 alike_share : (panel : Panel) (a b : Inputs) → Alike panel a b → Share panel a b

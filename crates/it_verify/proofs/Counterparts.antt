@@ -27,7 +27,7 @@ use Rattle.it_verify.specs.Documents.{Documents, ReadAs}
 use Rattle.it_verify.specs.First.{Place, at_policy, at_sums, at_moment, at_files, at_envelope, at_payload_type, at_owners, at_layout, at_links, at_records, at_inspections, at_deliver, at_provenance, OwnerLacks, RecordFails, Stands}
 use Rattle.it_verify.specs.Made.{HasRecorded}
 use Rattle.it_verify.specs.declared.inputs.Inputs.{Inputs}
-use Rattle.it_verify.specs.declared.refusal.Refusal.{Refusal}
+use Rattle.it_report.specs.declared.refusal.Refusal.{Refusal}
 
 -- inputs that compare, whatever their links and their provenance
 abbrev pub Share : Panel → Inputs → Inputs → Type 0

@@ -18,8 +18,8 @@ use Rattle.it_verify.specs.First.{Place, at_sums, at_moment, at_files, at_envelo
 use Rattle.it_verify.specs.Walk.{OwnersSign, RefusedAs}
 use Rattle.it_verify.specs.declared.failure.Failure.{Failure}
 use Rattle.it_verify.specs.declared.inputs.Inputs.{Inputs}
-use Rattle.it_verify.specs.declared.refusal.Fault.TheVariants.{BadSums, BadMoment, NoFiles, BadEnvelope, WrongPayloadType, BadLayout}
-use Rattle.it_verify.specs.declared.refusal.Refusal.{Refusal}
+use Rattle.it_report.specs.declared.refusal.Fault.TheVariants.{BadSums, BadMoment, NoFiles, BadEnvelope, WrongPayloadType, BadLayout}
+use Rattle.it_report.specs.declared.refusal.Refusal.{Refusal}
 use Rattle.it_verify.proofs.DocumentsRead.{Clear, clear_policy, clear_sums, clear_moment, clear_files, clear_envelope, clear_type, clear_owners}
 use Rattle.it_verify.proofs.Failures.{fails_at, refused_weaker}
 

@@ -27,7 +27,7 @@ use Rattle.it_verify.specs.Documents.{Documents}
 use Rattle.it_verify.specs.First.{Place, at_policy, at_sums, at_moment, at_files, at_envelope, at_payload_type, at_owners, at_layout, OwnerLacks, Stands}
 use Rattle.it_verify.specs.Walk.{DocumentsHold, OwnersSign, document_places}
 use Rattle.it_verify.specs.declared.inputs.Inputs.{Inputs}
-use Rattle.it_verify.specs.declared.refusal.Refusal.{Refusal}
+use Rattle.it_report.specs.declared.refusal.Refusal.{Refusal}
 
 none_lacks : (panel : Panel) (envelope : Envelope) (owners : List (List ℕ × KeyObject)) → ((owner : List ℕ × KeyObject) → Contains owners owner → IsSigner panel envelope owner.1 owner.0) → NoneAt (OwnerLacks panel envelope) owners
 none_lacks panel envelope [] sign = tt

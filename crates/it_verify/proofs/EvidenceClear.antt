@@ -25,7 +25,7 @@ use Rattle.it_verify.specs.Documents.{Documents, ReadAs, setting_of}
 use Rattle.it_verify.specs.First.{at_links, at_records, at_inspections, at_deliver, at_provenance, RecordFails, InspectionFails, FileFails, sides_of}
 use Rattle.it_verify.specs.Made.{Evidence, HasProvenance, HasRecorded, InspectionRulesHold, IsEvidence, delivery, links_of}
 use Rattle.it_verify.specs.declared.inputs.Inputs.{Inputs}
-use Rattle.it_verify.specs.declared.refusal.Refusal.{Refusal}
+use Rattle.it_report.specs.declared.refusal.Refusal.{Refusal}
 use Rattle.it_verify.proofs.DocumentsRead.{Clear}
 use Rattle.it_verify.proofs.OneReading.{read_alike, evident_alike}
 

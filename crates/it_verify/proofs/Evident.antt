@@ -21,8 +21,8 @@ use Rattle.it_verify.specs.Documents.{Documents, ReadAs, record_at, setting_of}
 use Rattle.it_verify.specs.First.{at_links, at_records, RecordFails, refusal_of, whole}
 use Rattle.it_verify.specs.Made.{HasRecorded}
 use Rattle.it_verify.specs.declared.inputs.Inputs.{Inputs}
-use Rattle.it_verify.specs.declared.refusal.Fault.TheVariants.{RecordMissing, BadRecord}
-use Rattle.it_verify.specs.declared.refusal.Refusal.{Refusal}
+use Rattle.it_report.specs.declared.refusal.Fault.TheVariants.{RecordMissing, BadRecord}
+use Rattle.it_report.specs.declared.refusal.Refusal.{Refusal}
 use Rattle.it_verify.proofs.Documented.{StandsOr}
 use Rattle.it_verify.proofs.EvidenceClear.{clear_links, clear_records}
 

@@ -5,7 +5,7 @@ use Rattle.it_base.proofs.Firsts.{first_behind}
 use Rattle.it_verify.specs.Walk.{RefusedAs}
 use Rattle.it_verify.specs.declared.failure.Failure.{Failure}
 use Rattle.it_verify.specs.declared.failure.Failure.TheVariants.{Refused, OutOfMemory}
-use Rattle.it_verify.specs.declared.refusal.Refusal.{Refusal}
+use Rattle.it_report.specs.declared.refusal.Refusal.{Refusal}
 
 -- where one fact of a refusal gives another
 pub refused_weaker : (P Q : Refusal → Type 0) (e : Failure) → ((r : Refusal) → P r → Q r) → RefusedAs P e → RefusedAs Q e

@@ -7,7 +7,7 @@ use Rattle.it_verify.specs.Documents.{Documents, ReadAs}
 use Rattle.it_verify.specs.First.{Place, at_policy, at_sums, at_moment, at_files, at_envelope, at_payload_type, at_owners, at_layout, at_links, at_records, at_inspections, at_deliver, at_provenance, First, Stands, places}
 use Rattle.it_verify.specs.Made.{Evidence, IsEvidence, Made}
 use Rattle.it_verify.specs.declared.inputs.Inputs.{Inputs}
-use Rattle.it_verify.specs.declared.refusal.Refusal.{Refusal}
+use Rattle.it_report.specs.declared.refusal.Refusal.{Refusal}
 use Rattle.it_verify.proofs.Documented.{StandsOr, policy_or, sums_or, moment_or, files_or, envelope_or, payload_type_or, owners_or, layout_or}
 use Rattle.it_verify.proofs.Evident.{links_or, records_or}
 use Rattle.it_verify.proofs.Proven.{provenance_or}

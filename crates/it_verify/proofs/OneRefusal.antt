@@ -27,8 +27,8 @@ use Rattle.it_verify.specs.Documents.{Documents, IsProvenanceLine, setting_of}
 use Rattle.it_verify.specs.First.{Place, at_policy, at_sums, at_moment, at_files, at_envelope, at_payload_type, at_owners, at_layout, at_links, at_records, at_inspections, at_deliver, at_provenance, OwnerLacks, RecordFails, InspectionFails, FileFails, First, Stands, places, refusal_of, sides_of, whole}
 use Rattle.it_verify.specs.Made.{Evidence, IsMadeBy, delivery, links_of, recorded_in, rules_on, verdict_of}
 use Rattle.it_verify.specs.declared.inputs.Inputs.{Inputs}
-use Rattle.it_verify.specs.declared.refusal.Fault.TheVariants.{BadPolicy, BadSums, BadLayout, RuleFailed, NoProvenance}
-use Rattle.it_verify.specs.declared.refusal.Refusal.{Refusal}
+use Rattle.it_report.specs.declared.refusal.Fault.TheVariants.{BadPolicy, BadSums, BadLayout, RuleFailed, NoProvenance}
+use Rattle.it_report.specs.declared.refusal.Refusal.{Refusal}
 use Rattle.it_verify.proofs.OneReading.{read_alike, evident_alike}
 
 one_each : {P R : Type 0} (At : P → R → Type 0) → ((p : P) → OneAt At p) → (ps : List P) → OneFirst At ps

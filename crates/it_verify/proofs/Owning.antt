@@ -20,7 +20,7 @@ use Rattle.it_verify.specs.Fewest.{owner_tries}
 use Rattle.it_verify.specs.First.{OwnerLacks}
 use Rattle.it_verify.specs.Walk.{OwnersSign, RefusedAs}
 use Rattle.it_verify.specs.declared.failure.Failure.{Failure}
-use Rattle.it_verify.specs.declared.refusal.Refusal.{Refusal}
+use Rattle.it_report.specs.declared.refusal.Refusal.{Refusal}
 use Rattle.it_verify.proofs.Failures.{fails_at}
 
 module _ (panel : Panel) (envelope : Envelope) where

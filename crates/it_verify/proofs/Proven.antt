@@ -24,8 +24,8 @@ use Rattle.it_verify.specs.Documents.{Documents, IsProvenanceLine, ReadAs}
 use Rattle.it_verify.specs.First.{at_provenance, FileFails, whole}
 use Rattle.it_verify.specs.Made.{HasProvenance}
 use Rattle.it_verify.specs.declared.inputs.Inputs.{Inputs}
-use Rattle.it_verify.specs.declared.refusal.Fault.TheVariants.{NoExpectation, NoProvenance}
-use Rattle.it_verify.specs.declared.refusal.Refusal.{Refusal}
+use Rattle.it_report.specs.declared.refusal.Fault.TheVariants.{NoExpectation, NoProvenance}
+use Rattle.it_report.specs.declared.refusal.Refusal.{Refusal}
 use Rattle.it_verify.proofs.Documented.{StandsOr}
 use Rattle.it_verify.proofs.EvidenceClear.{file_apart, clear_provenance}
 

@@ -7,7 +7,7 @@ use Rattle.it_verify.specs.Documents.{Documents}
 use Rattle.it_verify.specs.First.{Place, at_policy, at_sums, at_moment, at_files, at_envelope, at_payload_type, at_owners, at_layout, at_links, at_records, at_inspections, at_deliver, at_provenance, First, Stands, places}
 use Rattle.it_verify.specs.Made.{Evidence, IsMadeBy, Made}
 use Rattle.it_verify.specs.declared.inputs.Inputs.{Inputs}
-use Rattle.it_verify.specs.declared.refusal.Refusal.{Refusal}
+use Rattle.it_report.specs.declared.refusal.Refusal.{Refusal}
 use Rattle.it_verify.proofs.DocumentsRead.{clear_policy, clear_sums, clear_moment, clear_files, clear_envelope, clear_type, clear_owners, clear_layout}
 use Rattle.it_verify.proofs.EvidenceClear.{clear_links, clear_records, clear_inspections, clear_deliver, clear_provenance}
 

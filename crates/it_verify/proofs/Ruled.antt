@@ -16,8 +16,8 @@ use Rattle.it_verify.specs.Documents.{Documents, ReadAs}
 use Rattle.it_verify.specs.First.{at_inspections, at_deliver, InspectionFails, sides_of, whole}
 use Rattle.it_verify.specs.Made.{Evidence, HasRecorded, InspectionRulesHold, IsEvidence, delivery, links_of, recorded_in, rules_on}
 use Rattle.it_verify.specs.declared.inputs.Inputs.{Inputs}
-use Rattle.it_verify.specs.declared.refusal.Fault.TheVariants.{RuleFailed}
-use Rattle.it_verify.specs.declared.refusal.Refusal.{Refusal}
+use Rattle.it_report.specs.declared.refusal.Fault.TheVariants.{RuleFailed}
+use Rattle.it_report.specs.declared.refusal.Refusal.{Refusal}
 use Rattle.it_verify.proofs.Documented.{StandsOr}
 use Rattle.it_verify.proofs.EvidenceClear.{clear_deliver, clear_inspections}
 

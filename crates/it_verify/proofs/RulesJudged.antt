@@ -12,7 +12,7 @@ use Rattle.it_verify.specs.Gathering.{SideFails}
 use Rattle.it_verify.specs.Made.{InspectionRulesHold, recorded_in}
 use Rattle.it_verify.specs.Walk.{RefusedAs}
 use Rattle.it_verify.specs.declared.failure.Failure.{Failure}
-use Rattle.it_verify.specs.declared.refusal.Refusal.{Refusal}
+use Rattle.it_report.specs.declared.refusal.Refusal.{Refusal}
 use Rattle.it_verify.proofs.Failures.{refused_weaker}
 
 -- lists of which one is empty

@@ -17,7 +17,7 @@ use Rattle.it_verify.specs.Cost.{AreOwners, Costs, FileCosts, FilesCost, LinksCo
 use Rattle.it_verify.specs.Documents.{Documents, ReadAs, setting_of}
 use Rattle.it_verify.specs.First.{Place, at_policy, at_sums, at_moment, at_envelope, at_payload_type, at_layout, Stands}
 use Rattle.it_verify.specs.declared.inputs.Inputs.{Inputs}
-use Rattle.it_verify.specs.declared.refusal.Refusal.{Refusal}
+use Rattle.it_report.specs.declared.refusal.Refusal.{Refusal}
 use Rattle.it_verify.proofs.Documented.{StandsOr, policy_or, sums_or, moment_or, envelope_or, payload_type_or, layout_or}
 use Rattle.it_verify.proofs.DocumentsRead.{clear_policy, clear_sums, clear_moment, clear_envelope, clear_type, clear_layout}
 

@@ -24,9 +24,9 @@ use Rattle.it_verify.specs.Walk.{DocumentsHold, RefusedAs, document_places}
 use Rattle.it_verify.specs.declared.failure.Failure.{Failure}
 use Rattle.it_verify.specs.declared.failure.Failure.TheVariants.{Refused}
 use Rattle.it_verify.specs.declared.inputs.Inputs.{Inputs}
-use Rattle.it_verify.specs.declared.refusal.Refusal.{Refusal}
-use Rattle.it_verify.specs.declared.verdict.Verdict.{Verdict}
-use Rattle.it_verify.specs.declared.verdict.Verdict.TheVariants as verdict
+use Rattle.it_report.specs.declared.refusal.Refusal.{Refusal}
+use Rattle.it_report.specs.declared.verdict.Verdict.{Verdict}
+use Rattle.it_report.specs.declared.verdict.Verdict.TheVariants as verdict
 use Rattle.it_verify.proofs.DocumentsRead.{documents_stand}
 use Rattle.it_verify.proofs.EvidenceClear.{clear_deliver, clear_inspections, clear_links, clear_records}
 use Rattle.it_verify.proofs.Failures.{fails_at, refused_weaker}

@@ -29,8 +29,8 @@ use Rattle.it_verify.specs.Made.{Evidence, verdict_of}
 use Rattle.it_verify.specs.Walk.{DocumentsHold}
 use Rattle.it_verify.specs.declared.failure.Failure.{Failure}
 use Rattle.it_verify.specs.declared.inputs.Inputs.{Inputs}
-use Rattle.it_verify.specs.declared.verdict.Verdict.{Verdict}
-use Rattle.it_verify.specs.declared.verdict.Verdict.TheVariants.{Accepted, Refused}
+use Rattle.it_report.specs.declared.verdict.Verdict.{Verdict}
+use Rattle.it_report.specs.declared.verdict.Verdict.TheVariants.{Accepted, Refused}
 use Rattle.it_verify.proofs.Lines.{lines_have}
 use Rattle.it_verify.proofs.OneReading.{read_alike}
 use Rattle.it_verify.proofs.Owning.{owners_tried}

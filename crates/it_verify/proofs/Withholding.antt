@@ -26,9 +26,9 @@ use Rattle.it_verify.specs.Made.{Evidence, HasProvenance, HasRecorded, IsEvidenc
 use Rattle.it_verify.specs.Verdict.{IsVerdict}
 use Rattle.it_verify.specs.WholeLaws.{HasNoMoreKeys, IsWithheld, OnlyWithholds}
 use Rattle.it_verify.specs.declared.inputs.Inputs.{Inputs}
-use Rattle.it_verify.specs.declared.refusal.Refusal.{Refusal}
-use Rattle.it_verify.specs.declared.verdict.Verdict.{Verdict}
-use Rattle.it_verify.specs.declared.verdict.Verdict.TheVariants.{Accepted, Refused}
+use Rattle.it_report.specs.declared.refusal.Refusal.{Refusal}
+use Rattle.it_report.specs.declared.verdict.Verdict.{Verdict}
+use Rattle.it_report.specs.declared.verdict.Verdict.TheVariants.{Accepted, Refused}
 use Rattle.it_verify.proofs.Counterparts.{Carried, Reread, Share, at_each, recorded_there, reread, share_of, with_envelope}
 use Rattle.it_verify.proofs.OneReading.{read_alike}
 use Rattle.it_verify.proofs.Refused.{none_stands}

@@ -18,8 +18,8 @@ use Rattle.it_prov.specs.Asked.{IsAskedFor}
 use Rattle.it_prov.specs.Fits.{Fits}
 use Rattle.it_verify.specs.Documents.{Documents, IsProvenanceLine, ReadAs, setting_of}
 use Rattle.it_verify.specs.declared.inputs.Inputs.{Inputs}
-use Rattle.it_verify.specs.declared.verdict.Verdict.{Verdict}
-use Rattle.it_verify.specs.declared.verdict.Verdict.TheVariants.{Accepted, Refused}
+use Rattle.it_report.specs.declared.verdict.Verdict.{Verdict}
+use Rattle.it_report.specs.declared.verdict.Verdict.TheVariants.{Accepted, Refused}
 
 -- how many signatures of an envelope are tried for the keys of owners
 abbrev pub owner_tries : Panel → Envelope → Named KeyObject → ℕ

@@ -36,9 +36,9 @@ use Rattle.it_prov.specs.Meets.{Meets}
 use Rattle.it_verify.specs.Documents.{Documents, ReadAs, IsProvenanceLine, record_at, setting_of}
 use Rattle.it_verify.specs.Made.{Evidence, HasRecorded, IsEvidence, delivery, links_of, recorded_in, rules_on}
 use Rattle.it_verify.specs.declared.inputs.Inputs.{Inputs}
-use Rattle.it_verify.specs.declared.refusal.Fault.{Fault}
-use Rattle.it_verify.specs.declared.refusal.Fault.TheVariants.{BadPolicy, BadSums, BadMoment, NoFiles, BadEnvelope, WrongPayloadType, OwnerMissing, BadLayout, Expired, TwoPayloads, TooDeep, Threshold, Disagree, InspectionInSublayout, RuleFailed, RecordMissing, BadRecord, NoExpectation, NoProvenance}
-use Rattle.it_verify.specs.declared.refusal.Refusal.{Refusal}
+use Rattle.it_report.specs.declared.refusal.Fault.{Fault}
+use Rattle.it_report.specs.declared.refusal.Fault.TheVariants.{BadPolicy, BadSums, BadMoment, NoFiles, BadEnvelope, WrongPayloadType, OwnerMissing, BadLayout, Expired, TwoPayloads, TooDeep, Threshold, Disagree, InspectionInSublayout, RuleFailed, RecordMissing, BadRecord, NoExpectation, NoProvenance}
+use Rattle.it_report.specs.declared.refusal.Refusal.{Refusal}
 
 -- where a verification can fail
 pub data Place : Type 0 where

@@ -34,11 +34,11 @@ use Rattle.it_verify.specs.First.{refusal_of, whole}
 use Rattle.it_verify.specs.Made.{delivery, recorded_in}
 use Rattle.it_verify.specs.declared.failure.Failure.{Failure}
 use Rattle.it_verify.specs.declared.failure.Failure.TheVariants.{Refused, OutOfMemory}
-use Rattle.it_verify.specs.declared.refusal.Fault.TheVariants.{RecordMissing, BadRecord, RuleFailed, NoExpectation, NoProvenance}
+use Rattle.it_report.specs.declared.refusal.Fault.TheVariants.{RecordMissing, BadRecord, RuleFailed, NoExpectation, NoProvenance}
 use Rattle.it_verify.specs.declared.inputs.Inputs.{Inputs}
-use Rattle.it_verify.specs.declared.refusal.Refusal.{Refusal}
-use Rattle.it_verify.specs.declared.verdict.Verdict.{Verdict}
-use Rattle.it_verify.specs.declared.verdict.Verdict.TheVariants as verdict
+use Rattle.it_report.specs.declared.refusal.Refusal.{Refusal}
+use Rattle.it_report.specs.declared.verdict.Verdict.{Verdict}
+use Rattle.it_report.specs.declared.verdict.Verdict.TheVariants as verdict
 
 -- ---- the links
 -- why a layout does not hold of its links, as a failure of the whole

@@ -25,8 +25,8 @@ use Rattle.it_prov.specs.Meets.{Meets}
 use Rattle.it_verify.specs.Documents.{Documents, ReadAs, IsProvenanceLine, record_at, setting_of}
 pub use Rattle.it_verify.specs.declared.evidence.Evidence.{Evidence}
 use Rattle.it_verify.specs.declared.inputs.Inputs.{Inputs}
-use Rattle.it_verify.specs.declared.verdict.Verdict.{Verdict}
-use Rattle.it_verify.specs.declared.verdict.Verdict.TheVariants.{Accepted}
+use Rattle.it_report.specs.declared.verdict.Verdict.{Verdict}
+use Rattle.it_report.specs.declared.verdict.Verdict.TheVariants.{Accepted}
 
 -- an inspection recorded this: the first record of its name is a link of that name. Nobody here runs
 -- inspections (this profile's choice)

@@ -5,8 +5,8 @@ use Rattle.it_verify.specs.Documents.{Documents}
 use Rattle.it_verify.specs.First.{First}
 use Rattle.it_verify.specs.Made.{Evidence, IsMadeBy, verdict_of}
 use Rattle.it_verify.specs.declared.inputs.Inputs.{Inputs}
-use Rattle.it_verify.specs.declared.verdict.Verdict.{Verdict}
-use Rattle.it_verify.specs.declared.verdict.Verdict.TheVariants.{Accepted, Refused}
+use Rattle.it_report.specs.declared.verdict.Verdict.{Verdict}
+use Rattle.it_report.specs.declared.verdict.Verdict.TheVariants.{Accepted, Refused}
 
 -- the verdict on inputs: accepted, with the steps and files of what shows that the delivered files were
 -- made as the owners laid down, or refused with the first fault

@@ -1,13 +1,13 @@
 -- Whether a delivery is accepted, as a text (this profile's choice of the text).
 use Rattle.std.specs.Prelude.{◌≡◌, ℕ, List}
 use Rattle.it_dsse.specs.Panel.{Panel}
-use Rattle.it_verify.specs.Report.{report_of}
+use Rattle.it_report.specs.Report.{report_of}
 use Rattle.it_verify.specs.Verdict.{IsVerdict}
 use Rattle.it_verify.specs.declared.inputs.Inputs.{Inputs}
-use Rattle.it_verify.specs.declared.outcome.Status.{Status}
-use Rattle.it_verify.specs.declared.outcome.Status.TheVariants.{Good, Refused}
-use Rattle.it_verify.specs.declared.verdict.Verdict.{Verdict}
-use Rattle.it_verify.specs.declared.verdict.Verdict.TheVariants.{Accepted, Refused as refused_for}
+use Rattle.it_words.specs.declared.outcome.Status.{Status}
+use Rattle.it_words.specs.declared.outcome.Status.TheVariants.{Good, Refused}
+use Rattle.it_report.specs.declared.verdict.Verdict.{Verdict}
+use Rattle.it_report.specs.declared.verdict.Verdict.TheVariants.{Accepted, Refused as refused_for}
 
 -- what a verdict is for the command: good where it accepts
 abbrev pub status_of : Verdict → Status

@@ -12,7 +12,7 @@ use Rattle.it_verify.specs.First.{Place, at_policy, at_sums, at_moment, at_files
 use Rattle.it_verify.specs.declared.failure.Failure.{Failure}
 use Rattle.it_verify.specs.declared.failure.Failure.TheVariants.{Refused, OutOfMemory}
 use Rattle.it_verify.specs.declared.inputs.Inputs.{Inputs}
-use Rattle.it_verify.specs.declared.refusal.Refusal.{Refusal}
+use Rattle.it_report.specs.declared.refusal.Refusal.{Refusal}
 
 -- a failure: a refusal of which P holds, or that memory was refused
 abbrev pub RefusedAs : (Refusal → Type 0) → Failure → Type 0

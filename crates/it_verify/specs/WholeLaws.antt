@@ -9,12 +9,12 @@ use Rattle.it_verify.specs.Made.{Evidence, IsMadeBy, Made, verdict_of}
 use Rattle.it_verify.specs.Verdict.{IsVerdict}
 use Rattle.it_verify.specs.Verifying.{IsVerifyOutput}
 use Rattle.it_verify.specs.declared.inputs.Inputs.{Inputs}
-use Rattle.it_verify.specs.declared.outcome.Status.{Status}
-use Rattle.it_verify.specs.declared.refusal.Fault.{Fault}
-use Rattle.it_verify.specs.declared.refusal.Fault.TheVariants.{NoProvenance, Threshold}
-use Rattle.it_verify.specs.declared.refusal.Refusal.{Refusal}
-use Rattle.it_verify.specs.declared.verdict.Verdict.{Verdict}
-use Rattle.it_verify.specs.declared.verdict.Verdict.TheVariants.{Accepted, Refused}
+use Rattle.it_words.specs.declared.outcome.Status.{Status}
+use Rattle.it_report.specs.declared.refusal.Fault.{Fault}
+use Rattle.it_report.specs.declared.refusal.Fault.TheVariants.{NoProvenance, Threshold}
+use Rattle.it_report.specs.declared.refusal.Refusal.{Refusal}
+use Rattle.it_report.specs.declared.verdict.Verdict.{Verdict}
+use Rattle.it_report.specs.declared.verdict.Verdict.TheVariants.{Accepted, Refused}
 
 -- what was made as the owners laid down has no first fault
 abbrev pub MadeNotRefused : Type 0

@@ -4,7 +4,7 @@ ghost use Rattle.it_verify.specs.First.{fault_of, refusal_of};
 ghost use Rattle.it_verify.specs.Gathering.{failure_of};
 
 use crate::failure::Failure;
-use crate::refusal::{Fault, Refusal};
+use it_report::refusal::{Fault, Refusal};
 use it_chain::refusal::{ChainError, ChainFault, ChainRefusal};
 
 impl From<ChainFault> for Fault {

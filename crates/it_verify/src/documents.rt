@@ -21,7 +21,7 @@ ghost use Rattle.it_verify.specs.Walk.{DocumentsHold, RefusedAs};
 use crate::failure::{Failure, refused};
 use crate::inputs::Inputs;
 use crate::owners::check_owners;
-use crate::refusal::Fault;
+use it_report::refusal::Fault;
 use it_digest::artifacts::Artifacts;
 use it_digest::sums::{SumsFault, read_sums};
 use it_docs::layout::Layout;

@@ -3,7 +3,7 @@ ghost use Rattle.std.specs.Prelude.{◌≡◌, IfOk};
 ghost use Rattle.it_verify.specs.First.{whole};
 ghost use Rattle.it_verify.specs.declared.failure.Failure.TheVariants.{OutOfMemory, Refused};
 
-use crate::refusal::{Fault, Refusal};
+use it_report::refusal::{Fault, Refusal};
 use it_base::sequence::Sequence;
 use it_base::text::Text;
 use std::alloc::{AllocError, AllocFailed, Global};

@@ -1,8 +1,9 @@
-//! Laws about a verification as a whole, what it costs, and its report: functions that do nothing, and
-//! whose contracts say what is true of all inputs, every panel of checks, every verdict and every name.
+//! Laws about a verification as a whole and what it costs: functions that do nothing, and whose contracts
+//! say what is true of all inputs and every panel of checks. Those of the report are public here too.
 ghost use Rattle.it_verify.specs.CostLaws.{InputsHaveCost, InputsHaveOneCost};
-ghost use Rattle.it_verify.specs.ReportLaws.{FirstLinesTell, FormsAreWords, FormsTell, ReportTells};
 ghost use Rattle.it_verify.specs.WholeLaws.{AlikeInputs, MadeNotRefused, MadeOrFirst, MadeOrRefused, RefusalIsOne, VerdictIsOne, WithheldInputs};
+
+pub use it_report::laws::{first_lines_tell, forms_are_words, forms_tell, report_tells};
 
 /// What was made as the owners laid down is never refused.
 pub fn made_not_refused()
@@ -51,25 +52,4 @@ pub fn inputs_have_cost()
 /// A verification of inputs costs one number of checks at most.
 pub fn inputs_have_one_cost()
     ensures { InputsHaveOneCost }
-{}
-
-/// Where the first lines of two verdicts differ, their reports do.
-pub fn first_lines_tell()
-    ensures { FirstLinesTell }
-{}
-
-/// Equal reports are of equal verdicts: who reads a report knows all of the verdict.
-pub fn report_tells()
-    ensures { ReportTells }
-{}
-
-/// Names that are written alike are the same.
-pub fn forms_tell()
-    ensures { FormsTell }
-{}
-
-/// A name that is written has no space, no line feed and no other byte up to 0x20, so it stays one word
-/// of its line.
-pub fn forms_are_words()
-    ensures { FormsAreWords }
 {}

@@ -10,7 +10,7 @@ ghost use Rattle.it_verify.specs.First.{OwnerLacks};
 ghost use Rattle.it_verify.specs.Walk.{OwnersSign, RefusedAs};
 
 use crate::failure::{Failure, refused, text_of};
-use crate::refusal::Fault;
+use it_report::refusal::Fault;
 use it_docs::table::Table;
 use it_dsse::check::SignatureCheck;
 use it_dsse::envelope::Envelope;

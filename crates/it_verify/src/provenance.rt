@@ -15,7 +15,7 @@ ghost use Rattle.it_verify.specs.Gathering.{AreRead, FileAsks, FileLacks, FilePr
 ghost use Rattle.it_verify.specs.Walk.{RefusedAs};
 
 use crate::failure::{Failure, refused};
-use crate::refusal::Fault;
+use it_report::refusal::Fault;
 use it_digest::artifacts::Artifacts;
 use it_digest::compare::DigestSet;
 use it_digest::sums::split_line;

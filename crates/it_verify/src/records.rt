@@ -10,7 +10,7 @@ ghost use Rattle.it_verify.specs.Walk.{RefusedAs};
 
 use crate::failure::{Failure, refused, text_of};
 use crate::inputs::Inputs;
-use crate::refusal::Fault;
+use it_report::refusal::Fault;
 use it_base::sequence::Sequence;
 use it_base::text::Text;
 use it_docs::fault::DocumentFault;

@@ -10,7 +10,7 @@ ghost use Rattle.it_verify.specs.Made.{InspectionRulesHold, delivery, recorded_i
 ghost use Rattle.it_verify.specs.Walk.{RefusedAs};
 
 use crate::failure::{Failure, refused, text_of};
-use crate::refusal::Fault;
+use it_report::refusal::Fault;
 use it_chain::refusal::RuleItem;
 use it_digest::artifacts::Artifacts;
 use it_docs::link::Link;

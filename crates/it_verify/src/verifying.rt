@@ -3,14 +3,14 @@ ghost use Rattle.std.specs.Prelude.{◌≡◌, ◌≤◌, IfErr, IfOk, IsErrOf, 
 ghost use Rattle.std.specs.Io.KnownBytes.{Appends};
 ghost use Rattle.it_base.specs.Writing.{AppendsBeginning};
 ghost use Rattle.it_dsse.specs.Panel.{panel_of};
-ghost use Rattle.it_verify.specs.Outcome.{IsOutputFault};
+ghost use Rattle.it_words.specs.Outcome.{IsOutputFault};
 ghost use Rattle.it_verify.specs.Verifying.{IsVerifyOutput, status_of};
 
 use crate::inputs::Inputs;
-use crate::outcome::{RunFault, Status};
-use crate::output::{Output, put};
-use crate::reporting::report;
-use crate::verdict::Verdict;
+use it_words::outcome::{RunFault, Status};
+use it_commands::output::{Output, put};
+use it_report::report;
+use it_report::verdict::Verdict;
 use crate::whole::verify;
 use it_dsse::check::SignatureCheck;
 use std::alloc::{AllocError, Global};

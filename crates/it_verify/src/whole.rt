@@ -16,7 +16,7 @@ use crate::evidence::{Evidence, gather};
 use crate::failure::Failure;
 use crate::inputs::Inputs;
 use crate::judging::judge;
-use crate::verdict::{Answer, Verdict};
+use it_report::verdict::{Answer, Verdict};
 use it_base::sequence::Sequence;
 use it_base::text::Text;
 use it_chain::chain::StepResult;

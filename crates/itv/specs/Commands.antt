@@ -8,20 +8,20 @@ use Rattle.it_dsse.specs.Pae.{pae_of}
 use Rattle.it_dsse.specs.Panel.{panel_of}
 use Rattle.it_dsse.specs.Ring.{ids_of, ring_check}
 use Rattle.it_dsse.specs.declared.ring_entry.RingEntry.{RingEntry}
-use Rattle.it_verify.specs.Digesting.{IsDigestLine}
-use Rattle.it_verify.specs.Matching.{IsMatchOutput}
-use Rattle.it_verify.specs.Signed.{IsSignedOutput}
-use Rattle.it_verify.specs.Signing.{IsSignOutput}
+use Rattle.it_commands.specs.Digesting.{IsDigestLine}
+use Rattle.it_commands.specs.Matching.{IsMatchOutput}
+use Rattle.it_commands.specs.Signed.{IsSignedOutput}
+use Rattle.it_commands.specs.Signing.{IsSignOutput}
 use Rattle.it_verify.specs.Verifying.{IsVerifyOutput}
 use Rattle.it_verify.specs.declared.inputs.Inputs.{Inputs}
-use Rattle.it_verify.specs.declared.outcome.Status.{Status}
-use Rattle.it_verify.specs.declared.outcome.Status.TheVariants.{Good}
-use Rattle.it_verify.specs.declared.words.Words.{Words}
-use Rattle.it_verify.specs.declared.words.Words.TheVariants.{Signed, Match, Pae, Sign, Digest, Verify}
-use Rattle.it_verify.specs.declared.words.encoding.PaeWords.{PaeWords}
-use Rattle.it_verify.specs.declared.words.signed.SignedWords.{SignedWords}
-use Rattle.it_verify.specs.declared.words.signing.SignWords.{SignWords}
-use Rattle.it_verify.specs.declared.words.verifying.VerifyWords.{VerifyWords}
+use Rattle.it_words.specs.declared.outcome.Status.{Status}
+use Rattle.it_words.specs.declared.outcome.Status.TheVariants.{Good}
+use Rattle.it_words.specs.declared.words.Words.{Words}
+use Rattle.it_words.specs.declared.words.Words.TheVariants.{Signed, Match, Pae, Sign, Digest, Verify}
+use Rattle.it_words.specs.declared.words.encoding.PaeWords.{PaeWords}
+use Rattle.it_words.specs.declared.words.signed.SignedWords.{SignedWords}
+use Rattle.it_words.specs.declared.words.signing.SignWords.{SignWords}
+use Rattle.it_words.specs.declared.words.verifying.VerifyWords.{VerifyWords}
 use Rattle.itv.specs.Reading.{Holdings, AreInputs, HoldsRing}
 
 -- verify: the output of a verification of the inputs, checked by the rings in the order of the words

@@ -1,6 +1,6 @@
 //! Why the program stops, as its notes say it.
 ghost use Rattle.std.specs.Prelude.{◌≡◌};
-ghost use Rattle.it_verify.specs.declared.outcome.RunFault.TheVariants.{OutOfMemory};
+ghost use Rattle.it_words.specs.declared.outcome.RunFault.TheVariants.{OutOfMemory};
 ghost use Rattle.itv.specs.Fault.{program_status};
 ghost use Rattle.itv.specs.declared.fault.Fault.TheVariants.{Run};
 

@@ -1,7 +1,7 @@
 //! `itv match PATTERN PATH`.
 ghost use Rattle.std.specs.Prelude.{◌≡◌, ◌≢◌, IfErr, IfOk};
 ghost use Rattle.std.specs.Io.KnownBytes.{Appends};
-ghost use Rattle.it_verify.specs.Matching.{IsMatchOutput};
+ghost use Rattle.it_commands.specs.Matching.{IsMatchOutput};
 
 use crate::fault::Fault;
 use it_verify::outcome::{RunFault, Status};

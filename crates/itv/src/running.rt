@@ -1,7 +1,7 @@
 //! A command, run by its words.
 ghost use Rattle.std.specs.Prelude.{IfOk, map, string_bytes};
 ghost use Rattle.std.specs.Io.KnownBytes.{Appends};
-ghost use Rattle.it_verify.specs.Words.{AreWordsOf, GoesNoDeeper};
+ghost use Rattle.it_words.specs.Words.{AreWordsOf, GoesNoDeeper};
 ghost use Rattle.itv.specs.Commands.{IsOutputOf};
 
 use crate::disk::Disk;

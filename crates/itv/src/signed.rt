@@ -3,7 +3,7 @@ ghost use Rattle.std.specs.Prelude.{◌≡◌, ◌≢◌, [], ◌∷◌, IfErr, 
 ghost use Rattle.std.specs.Io.KnownBytes.{Appends};
 ghost use Rattle.it_dsse.specs.Panel.{panel_of};
 ghost use Rattle.it_dsse.specs.Ring.{ring_check};
-ghost use Rattle.it_verify.specs.Signed.{IsSignedOutput};
+ghost use Rattle.it_commands.specs.Signed.{IsSignedOutput};
 ghost use Rattle.itv.specs.Commands.{ShowsSigners};
 
 use crate::disk::Disk;

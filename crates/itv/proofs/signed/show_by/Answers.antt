@@ -4,7 +4,7 @@ use denote.Param.Object.{read_made}
 use Rattle.it_dsse.specs.Check.{Check}
 use Rattle.it_dsse.specs.Panel.{panel_of}
 use Rattle.it_dsse.specs.Ring.{ring_check}
-use Rattle.it_verify.specs.Signed.{IsSignedOutput}
+use Rattle.it_commands.specs.Signed.{IsSignedOutput}
 use Rattle.itv.proofs.signed.show_by.OwnLists.{at-1-1, own-1}
 use Rattle.itv.proofs.signed.show_by.Goals as goal
 

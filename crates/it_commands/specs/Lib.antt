@@ -1,0 +1,4 @@
+pub mod Digesting
+pub mod Matching
+pub mod Signed
+pub mod Signing

@@ -1,0 +1,4 @@
+pub mod Fault
+pub mod Name
+pub mod Report
+pub mod ReportLaws

@@ -1,5 +1,0 @@
-use Rattle.it_verify.proofs.Forms.{forms_are_words as proof}
-use Rattle.it_verify.proofs.laws.forms_are_words.Goals as goal
-
-pub returns : goal.returns
-returns c = proof

@@ -1,0 +1,24 @@
+-- How a command ends (this profile's choice).
+use Rattle.std.specs.Prelude.{ℕ, Result, Ok, Err}
+use Rattle.it_words.specs.declared.outcome.Status.{Status}
+use Rattle.it_words.specs.declared.outcome.Status.TheVariants.{Good, Refused}
+use Rattle.it_words.specs.declared.outcome.RunFault.{RunFault}
+use Rattle.it_words.specs.declared.outcome.RunFault.TheVariants.{Write, OutOfMemory, UnknownKey, BadName, Digest}
+
+-- the exit status of the program
+abbrev pub exit_status : Result Status RunFault → ℕ
+exit_status (Ok Good) = 0
+exit_status (Ok Refused) = 1
+exit_status (Err Write) = 2
+exit_status (Err OutOfMemory) = 3
+exit_status (Err UnknownKey) = 2
+exit_status (Err BadName) = 2
+exit_status (Err (Digest fault)) = 2
+
+-- a fault that every command may have: its output could not be written, or memory was refused
+abbrev pub IsOutputFault : RunFault → Type 0
+IsOutputFault Write = Unit {0}
+IsOutputFault OutOfMemory = Unit {0}
+IsOutputFault UnknownKey = ⊥
+IsOutputFault BadName = ⊥
+IsOutputFault (Digest fault) = ⊥

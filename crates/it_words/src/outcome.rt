@@ -1,0 +1,65 @@
+//! How a command ends.
+ghost use Rattle.std.specs.Prelude.{◌≡◌};
+ghost use Rattle.it_words.specs.Outcome.{exit_status};
+ghost use Rattle.it_words.specs.declared.outcome.RunFault.TheVariants.{OutOfMemory};
+
+use it_digest::reader::DigestFault;
+use std::alloc::AllocError;
+use thiserror::Error;
+
+/// What a command found, once its whole output went out.
+#[derive(Clone, Copy, Debug, PartialEq, Eq)]
+pub enum Status {
+    /// What was asked holds.
+    Good,
+    /// What was asked does not hold.
+    Refused,
+}
+
+/// Why a command stopped before its whole output went out.
+#[derive(Clone, Copy, Debug, PartialEq, Eq, Error)]
+pub enum RunFault {
+    /// The writer answered an error, or took nothing.
+    #[error("cannot write the output")]
+    Write,
+    /// Memory was refused.
+    #[error("out of memory")]
+    OutOfMemory,
+    /// The ring has no secret under the id.
+    #[error("the ring has no such key")]
+    UnknownKey,
+    /// A file's name has a line feed, which a digest list cannot hold.
+    #[error("a name with a line feed cannot stand in a digest list")]
+    BadName,
+    /// A file has no digest, for this reason.
+    #[error("{}", digest_note(.0))]
+    Digest(DigestFault),
+}
+
+impl From<AllocError> for RunFault {
+    ghost from_gives = { λ _ fault. fault ≡ OutOfMemory };
+
+    fn from(_error: AllocError) -> RunFault {
+        RunFault::OutOfMemory
+    }
+}
+
+fn digest_note(fault: &DigestFault) -> &'static str {
+    match fault {
+        DigestFault::Read => "cannot read the file",
+        DigestFault::TooLarge => "the file is too large",
+    }
+}
+
+/// The status that the program ends with: 0 for `Good`, 1 for `Refused`, 3 for want of memory, and
+/// 2 for every other fault.
+pub fn exit_of(outcome: &Result<Status, RunFault>) -> u8
+    ensures { result ≡ exit_status outcome.now }
+{
+    match outcome {
+        Ok(Status::Good) => 0,
+        Ok(Status::Refused) => 1,
+        Err(RunFault::OutOfMemory) => 3,
+        Err(_) => 2,
+    }
+}

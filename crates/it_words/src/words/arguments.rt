@@ -1,0 +1,86 @@
+//! The kinds of arguments that commands take.
+ghost use Rattle.std.specs.Prelude.{◌≡◌, false, IfOk, map, option_map};
+ghost use Rattle.clap.specs.Words.{found_of};
+ghost use Rattle.clap.specs.Walk.{all_of, first_of, rows_of, rule_of};
+ghost use Rattle.it_words.specs.Words.{
+  needed_option,
+  needed_options,
+  needed_word,
+  needed_words,
+  plain_option,
+};
+
+use clap::{Arg, ArgAction, ArgMatches};
+use it_base::sequence::Sequence;
+use it_base::text::Text;
+use std::alloc::{AllocError, Global};
+
+/// A word that has to be given, in its place.
+pub(super) fn needed_word<'a>(alloc: Global, name: &'a str, shown: &'a str) -> Arg<'a>
+    ensures rule { rule_of result ≡ needed_word name.entry.now }
+    ensures local { result.global ≡ false }
+{
+    Arg::new(alloc, name).value_name(shown).required(true)
+}
+
+/// Words of which at least one has to be given, in their place.
+pub(super) fn needed_words<'a>(alloc: Global, name: &'a str, shown: &'a str) -> Arg<'a>
+    ensures rule { rule_of result ≡ needed_words name.entry.now }
+    ensures local { result.global ≡ false }
+{
+    Arg::new(alloc, name)
+        .value_name(shown)
+        .required(true)
+        .action(ArgAction::Append)
+}
+
+/// An option that may be left out, with one value.
+pub(super) fn plain_option<'a>(alloc: Global, name: &'a str, shown: &'a str) -> Arg<'a>
+    ensures rule { rule_of result ≡ plain_option name.entry.now }
+    ensures local { result.global ≡ false }
+{
+    Arg::new(alloc, name).long(name).value_name(shown)
+}
+
+/// An option that has to be given, with one value.
+pub(super) fn needed_option<'a>(alloc: Global, name: &'a str, shown: &'a str) -> Arg<'a>
+    ensures rule { rule_of result ≡ needed_option name.entry.now }
+    ensures local { result.global ≡ false }
+{
+    plain_option(alloc, name, shown).required(true)
+}
+
+/// An option that has to be given at least once, with one value each time.
+pub(super) fn needed_options<'a>(alloc: Global, name: &'a str, shown: &'a str) -> Arg<'a>
+    ensures rule { rule_of result ≡ needed_options name.entry.now }
+    ensures local { result.global ≡ false }
+{
+    needed_option(alloc, name, shown).action(ArgAction::Append)
+}
+
+/// The value that was given to an argument.
+pub(super) fn value<'a>(values: &ArgMatches<'a>, name: &str) -> Option<&'a str>
+    ensures { option_map (λ text. text.now) result
+        ≡ first_of name.now (rows_of (found_of values.now)) }
+{
+    values.get_str(name)
+}
+
+/// All values that were given to an argument, in the order of the words.
+pub(super) fn values<'v, 'a>(values: &'v ArgMatches<'a>, name: &str) -> Option<&'v [&'a str]>
+    ensures { option_map (λ texts. map (λ text. text.now) texts.now) result
+        ≡ all_of name.now (rows_of (found_of values.now)) }
+{
+    values.get_strs(name)
+}
+
+/// The words, owned and in their order.
+pub(super) fn texts(alloc: Global, words: &[&str]) -> Result<Sequence<Text>, AllocError>
+    ensures { IfOk result (λ texts. texts ≡ map (λ word. word.now) words.now) }
+{
+    let mut texts = Vec::with_capacity(alloc, words.len())?;
+    for word in words {
+        texts.push(Text::from(String::from_str(alloc, word)?))?;
+    }
+    Ok(Sequence::from(texts))
+}

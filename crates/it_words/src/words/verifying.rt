@@ -1,0 +1,160 @@
+//! The words of `itv verify`.
+ghost use Rattle.std.specs.Prelude.{◌≡◌, false, IfOk, codes, map, option_map};
+ghost use Rattle.clap.specs.Words.{all_of, app_of, found_of, one_of};
+ghost use Rattle.clap.specs.Walk.{rows_of, rule_of};
+ghost use Rattle.clap.specs.declared.builder.command.Command.TheViews.{out-Command};
+ghost use Rattle.it_base.specs.Finds.{Finds, FindsAs};
+ghost use Rattle.it_words.specs.Words.{
+  AreRings,
+  IsDepth,
+  IsVerify,
+  depth_option,
+  needed_of_verify,
+  verify_command,
+};
+
+use super::arguments::{
+    needed_option, needed_options, plain_option, texts, value, values as values_of,
+};
+use clap::{Arg, ArgMatches, Command, value_parser};
+use it_base::sequence::Sequence;
+use it_base::text::Text;
+use std::alloc::{AllocError, Global};
+
+/// How many rings may be given.
+const MOST_RINGS: usize = 8;
+
+/// The values of `itv verify`.
+#[derive(Drop)]
+pub struct VerifyWords {
+    /// The path of the policy's file.
+    pub policy: Text,
+    /// The path of the layout's file.
+    pub layout: Text,
+    /// The path of the folder that the links are in.
+    pub links: Text,
+    /// The path of the digest list's file.
+    pub sums: Text,
+    /// The moment at which no layout may have expired.
+    pub at: Text,
+    /// The paths of the rings' files, in the order of the words; there are 1 to 8.
+    pub rings: Sequence<Text>,
+    /// The path of the provenance's file, where there is one.
+    pub provenance: Option<Text>,
+    /// The path of the folder that the records of inspections are in, where there is one.
+    pub records: Option<Text>,
+    /// How deep sublayouts may lie, at most 8.
+    pub depth: u8,
+}
+
+/// The command, as the parser takes it.
+pub(super) fn command<'a>(alloc: Global) -> Result<Command<'a>, AllocError>
+    ensures app { IfOk result (λ command. app_of command ≡ verify_command) }
+    ensures local { IfOk result (λ command. (out-Command command).has_globals ≡ false) }
+{
+    needed(alloc)?
+        .arg(plain_option(alloc, "provenance", "F"))?
+        .arg(plain_option(alloc, "records", "DIR"))?
+        .arg(depth_option(alloc))
+}
+
+/// The command with the options that have to be given.
+fn needed<'a>(alloc: Global) -> Result<Command<'a>, AllocError>
+    ensures app { IfOk result (λ command. app_of command ≡ needed_of_verify) }
+    ensures local { IfOk result (λ command. (out-Command command).has_globals ≡ false) }
+{
+    Command::new(alloc, "verify")
+        .arg(needed_option(alloc, "policy", "F"))?
+        .arg(needed_option(alloc, "layout", "F"))?
+        .arg(needed_option(alloc, "links", "DIR"))?
+        .arg(needed_option(alloc, "sums", "F"))?
+        .arg(needed_option(alloc, "at", "MOMENT"))?
+        .arg(needed_options(alloc, "ring", "F"))
+}
+
+/// How deep sublayouts may lie: from 0 to 8, and 4 where it is not said.
+fn depth_option<'a>(alloc: Global) -> Arg<'a>
+    ensures rule { rule_of result ≡ depth_option }
+    ensures local { result.global ≡ false }
+{
+    plain_option(alloc, "depth", "N")
+        .value_parser(value_parser!(u8).range(0..=8))
+        .default_value("4")
+}
+
+/// The command's values, or `None` where one is missing or there are more than 8 rings.
+pub(super) fn read(
+    alloc: Global,
+    values: &ArgMatches<'_>,
+) -> Result<Option<VerifyWords>, AllocError>
+    ensures { IfOk result (Finds (IsVerify (rows_of (found_of values.now)))) }
+{
+    let Some(policy) = value(values, "policy") else {
+        return Ok(None);
+    };
+    let Some(layout) = value(values, "layout") else {
+        return Ok(None);
+    };
+    let Some(links) = value(values, "links") else {
+        return Ok(None);
+    };
+    let Some(sums) = value(values, "sums") else {
+        return Ok(None);
+    };
+    let Some(at) = value(values, "at") else {
+        return Ok(None);
+    };
+    let Some(rings) = rings(values) else {
+        return Ok(None);
+    };
+    let Some(depth) = depth(values) else {
+        return Ok(None);
+    };
+    Ok(Some(VerifyWords {
+        policy: text(alloc, policy)?,
+        layout: text(alloc, layout)?,
+        links: text(alloc, links)?,
+        sums: text(alloc, sums)?,
+        at: text(alloc, at)?,
+        rings: texts(alloc, rings)?,
+        provenance: text_if_given(alloc, value(values, "provenance"))?,
+        records: text_if_given(alloc, value(values, "records"))?,
+        depth,
+    }))
+}
+
+fn text(alloc: Global, word: &str) -> Result<Text, AllocError>
+    ensures { IfOk result (λ text. text ≡ word.now) }
+{
+    Ok(Text::from(String::from_str(alloc, word)?))
+}
+
+fn text_if_given(alloc: Global, word: Option<&str>) -> Result<Option<Text>, AllocError>
+    ensures { IfOk result (λ text. text ≡ option_map (λ given. given.now) word.entry) }
+{
+    match word {
+        Some(word) => Ok(Some(text(alloc, word)?)),
+        None => Ok(None),
+    }
+}
+
+/// The rings in the order of the words, or `None` where there are none or more than 8.
+fn rings<'v, 'a>(values: &'v ArgMatches<'a>) -> Option<&'v [&'a str]>
+    ensures { FindsAs (λ texts. map (λ text. text.now) texts.now)
+        (AreRings (all_of (codes "ring") (rows_of (found_of values.now)))) result }
+{
+    let rings = values_of(values, "ring")?;
+    if rings.len() <= MOST_RINGS {
+        Some(rings)
+    } else {
+        None
+    }
+}
+
+/// The depth, or `None` where there is none of at most 8.
+fn depth(values: &ArgMatches<'_>) -> Option<u8>
+    ensures { Finds (IsDepth (one_of (codes "depth") (rows_of (found_of values.now)))) result }
+{
+    let depth = values.get_one::<u8>("depth")?;
+    if depth <= 8 { Some(depth) } else { None }
+}

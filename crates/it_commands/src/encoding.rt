@@ -5,9 +5,9 @@ ghost use Rattle.it_base.specs.Writing.{AppendsBeginning};
 ghost use Rattle.it_dsse.specs.Pae.{pae_of};
 ghost use Rattle.it_words.specs.Outcome.{IsOutputFault};
 
-use it_words::outcome::{RunFault, Status};
 use crate::output::{Output, put};
 use it_dsse::pae;
+use it_words::outcome::{RunFault, Status};
 use std::alloc::Global;
 use std::io::Write;
 

@@ -5,9 +5,9 @@ ghost use Rattle.it_base.specs.Writing.{AppendsBeginning};
 ghost use Rattle.it_commands.specs.Matching.{IsMatchOutput};
 ghost use Rattle.it_words.specs.Outcome.{IsOutputFault};
 
-use it_words::outcome::{RunFault, Status};
 use crate::output::{Output, put};
 use it_glob::Pattern;
+use it_words::outcome::{RunFault, Status};
 use std::alloc::{AllocError, Global};
 use std::io::Write;
 

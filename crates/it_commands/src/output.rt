@@ -3,8 +3,8 @@ ghost use Rattle.std.specs.Prelude.{◌≡◌, IfOk, IfErr};
 ghost use Rattle.std.specs.Io.KnownBytes.{Appends};
 ghost use Rattle.it_base.specs.Writing.{AppendsBeginning};
 
-use it_words::outcome::{RunFault, Status};
 use it_base::writing::{WriteError, write_all_of};
+use it_words::outcome::{RunFault, Status};
 use std::io::Write;
 
 /// A command's whole output, and what the command found.

@@ -15,18 +15,18 @@ ghost use Rattle.it_commands.specs.Signed.{
   ring_object,
 };
 
-use it_report::name::push_name;
-use it_words::outcome::{RunFault, Status};
 use crate::output::{Output, put};
-use it_report::refusal::{Fault, Refusal};
-use it_report::refused_report;
-use it_report::verdict::Verdict;
 use it_base::sequence::Sequence;
 use it_base::text::Text;
 use it_dsse::check::SignatureCheck;
 use it_dsse::envelope::{Envelope, EnvelopeFault};
 use it_dsse::key_object::KeyObject;
 use it_dsse::signed_ids;
+use it_report::name::push_name;
+use it_report::refusal::{Fault, Refusal};
+use it_report::refused_report;
+use it_report::verdict::Verdict;
+use it_words::outcome::{RunFault, Status};
 use std::alloc::{AllocError, Global};
 use std::io::Write;
 

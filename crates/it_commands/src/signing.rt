@@ -8,12 +8,12 @@ ghost use Rattle.it_dsse.specs.Written.{written_form};
 ghost use Rattle.it_words.specs.Outcome.{IsOutputFault};
 ghost use Rattle.it_commands.specs.Signing.{IsSignOutput};
 
-use it_words::outcome::{RunFault, Status};
 use it_base::writing::{WriteError, write_all_of};
 use it_dsse::envelope::Envelope;
 use it_dsse::ring::HmacRing;
 use it_dsse::signing::{SignFault, sign};
 use it_dsse::written::WriteFault;
+use it_words::outcome::{RunFault, Status};
 use std::alloc::Global;
 use std::io::Write;
 

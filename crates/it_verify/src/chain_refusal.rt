@@ -4,52 +4,50 @@ ghost use Rattle.it_verify.specs.First.{fault_of, refusal_of};
 ghost use Rattle.it_verify.specs.Gathering.{failure_of};
 
 use crate::failure::Failure;
-use it_report::refusal::{Fault, Refusal};
 use it_chain::refusal::{ChainError, ChainFault, ChainRefusal};
+use it_report::refusal::{Fault, Refusal};
 
-impl From<ChainFault> for Fault {
-    ghost from_gives = { λ inner fault. fault ≡ fault_of inner };
-
-    fn from(inner: ChainFault) -> Fault {
-        match inner {
-            ChainFault::Expired => Fault::Expired,
-            ChainFault::TwoPayloads { step, id } => Fault::TwoPayloads { step, id },
-            ChainFault::TooDeep => Fault::TooDeep,
-            ChainFault::Threshold {
-                step,
-                found,
-                needed,
-            } => Fault::Threshold {
-                step,
-                found,
-                needed,
-            },
-            ChainFault::Disagree { step, id } => Fault::Disagree { step, id },
-            ChainFault::InspectionInSublayout => Fault::InspectionInSublayout,
-            ChainFault::RuleFailed {
-                item,
-                side,
-                index,
-                path,
-            } => Fault::RuleFailed {
-                item,
-                side,
-                index,
-                path,
-            },
-        }
+/// The fault of a layout, as a fault of the whole.
+fn fault_of(inner: ChainFault) -> Fault
+    ensures { result ≡ fault_of inner }
+{
+    match inner {
+        ChainFault::Expired => Fault::Expired,
+        ChainFault::TwoPayloads { step, id } => Fault::TwoPayloads { step, id },
+        ChainFault::TooDeep => Fault::TooDeep,
+        ChainFault::Threshold {
+            step,
+            found,
+            needed,
+        } => Fault::Threshold {
+            step,
+            found,
+            needed,
+        },
+        ChainFault::Disagree { step, id } => Fault::Disagree { step, id },
+        ChainFault::InspectionInSublayout => Fault::InspectionInSublayout,
+        ChainFault::RuleFailed {
+            item,
+            side,
+            index,
+            path,
+        } => Fault::RuleFailed {
+            item,
+            side,
+            index,
+            path,
+        },
     }
 }
 
-impl From<ChainRefusal> for Refusal {
-    ghost from_gives = { λ inner refusal. refusal ≡ refusal_of inner };
-
-    fn from(inner: ChainRefusal) -> Refusal {
-        let ChainRefusal { at, fault } = inner;
-        Refusal {
-            at,
-            fault: Fault::from(fault),
-        }
+/// The refusal of a layout, as a refusal of the whole.
+fn refusal_of(inner: ChainRefusal) -> Refusal
+    ensures { result ≡ refusal_of inner }
+{
+    let ChainRefusal { at, fault } = inner;
+    Refusal {
+        at,
+        fault: fault_of(fault),
     }
 }
 
@@ -58,7 +56,7 @@ impl From<ChainError> for Failure {
 
     fn from(error: ChainError) -> Failure {
         match error {
-            ChainError::Refused(inner) => Failure::Refused(Refusal::from(inner)),
+            ChainError::Refused(inner) => Failure::Refused(refusal_of(inner)),
             ChainError::OutOfMemory => Failure::OutOfMemory,
         }
     }

@@ -21,7 +21,6 @@ ghost use Rattle.it_verify.specs.Walk.{DocumentsHold, RefusedAs};
 use crate::failure::{Failure, refused};
 use crate::inputs::Inputs;
 use crate::owners::check_owners;
-use it_report::refusal::Fault;
 use it_digest::artifacts::Artifacts;
 use it_digest::sums::{SumsFault, read_sums};
 use it_docs::layout::Layout;
@@ -34,6 +33,7 @@ use it_docs::policy_reading::read_policy;
 use it_dsse::check::SignatureCheck;
 use it_dsse::envelope::{Envelope, EnvelopeFault};
 use it_dsse::meter::Meter;
+use it_report::refusal::Fault;
 use std::alloc::Global;
 
 /// The payload type of layouts.

@@ -3,9 +3,9 @@ ghost use Rattle.std.specs.Prelude.{◌≡◌, IfOk};
 ghost use Rattle.it_verify.specs.First.{whole};
 ghost use Rattle.it_verify.specs.declared.failure.Failure.TheVariants.{OutOfMemory, Refused};
 
-use it_report::refusal::{Fault, Refusal};
 use it_base::sequence::Sequence;
 use it_base::text::Text;
+use it_report::refusal::{Fault, Refusal};
 use std::alloc::{AllocError, AllocFailed, Global};
 
 /// Why a verification stops before it accepts.

@@ -10,13 +10,13 @@ ghost use Rattle.it_verify.specs.First.{OwnerLacks};
 ghost use Rattle.it_verify.specs.Walk.{OwnersSign, RefusedAs};
 
 use crate::failure::{Failure, refused, text_of};
-use it_report::refusal::Fault;
 use it_docs::table::Table;
 use it_dsse::check::SignatureCheck;
 use it_dsse::envelope::Envelope;
 use it_dsse::key_object::KeyObject;
 use it_dsse::meter::Meter;
 use it_dsse::signed_by;
+use it_report::refusal::Fault;
 use std::alloc::Global;
 
 /// Asks of each owner, in the order of the ids' bytes, whether the key signed the envelope, and stops

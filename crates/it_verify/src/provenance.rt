@@ -15,7 +15,6 @@ ghost use Rattle.it_verify.specs.Gathering.{AreRead, FileAsks, FileLacks, FilePr
 ghost use Rattle.it_verify.specs.Walk.{RefusedAs};
 
 use crate::failure::{Failure, refused};
-use it_report::refusal::Fault;
 use it_digest::artifacts::Artifacts;
 use it_digest::compare::DigestSet;
 use it_digest::sums::split_line;
@@ -26,6 +25,7 @@ use it_dsse::meter::Meter;
 use it_prov::attestations::Attestations;
 use it_prov::fault::ProvError;
 use it_prov::find_among;
+use it_report::refusal::Fault;
 use std::alloc::{AllocError, Global};
 
 /// The envelopes of the provenance, one a line. A line that is none is passed over.

@@ -10,12 +10,12 @@ ghost use Rattle.it_verify.specs.Walk.{RefusedAs};
 
 use crate::failure::{Failure, refused, text_of};
 use crate::inputs::Inputs;
-use it_report::refusal::Fault;
 use it_base::sequence::Sequence;
 use it_base::text::Text;
 use it_docs::fault::DocumentFault;
 use it_docs::link::{Link, read_link};
 use it_docs::step::Inspection;
+use it_report::refusal::Fault;
 use std::alloc::{AllocError, Global};
 use std::collections::BTreeMap;
 

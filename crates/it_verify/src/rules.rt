@@ -10,12 +10,12 @@ ghost use Rattle.it_verify.specs.Made.{InspectionRulesHold, delivery, recorded_i
 ghost use Rattle.it_verify.specs.Walk.{RefusedAs};
 
 use crate::failure::{Failure, refused, text_of};
-use it_report::refusal::Fault;
 use it_chain::refusal::RuleItem;
 use it_digest::artifacts::Artifacts;
 use it_docs::link::Link;
 use it_docs::rule::{Rule, Side};
 use it_docs::step::Inspection;
+use it_report::refusal::Fault;
 use it_rules::item::{Item, Named};
 use it_rules::rules::run_rules;
 use std::alloc::Global;

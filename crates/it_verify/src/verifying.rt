@@ -7,12 +7,12 @@ ghost use Rattle.it_words.specs.Outcome.{IsOutputFault};
 ghost use Rattle.it_verify.specs.Verifying.{IsVerifyOutput, status_of};
 
 use crate::inputs::Inputs;
-use it_words::outcome::{RunFault, Status};
+use crate::whole::verify;
 use it_commands::output::{Output, put};
+use it_dsse::check::SignatureCheck;
 use it_report::report;
 use it_report::verdict::Verdict;
-use crate::whole::verify;
-use it_dsse::check::SignatureCheck;
+use it_words::outcome::{RunFault, Status};
 use std::alloc::{AllocError, Global};
 use std::io::Write;
 

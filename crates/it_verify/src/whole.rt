@@ -16,13 +16,13 @@ use crate::evidence::{Evidence, gather};
 use crate::failure::Failure;
 use crate::inputs::Inputs;
 use crate::judging::judge;
-use it_report::verdict::{Answer, Verdict};
 use it_base::sequence::Sequence;
 use it_base::text::Text;
 use it_chain::chain::StepResult;
 use it_digest::artifacts::Artifacts;
 use it_dsse::check::SignatureCheck;
 use it_dsse::meter::Meter;
+use it_report::verdict::{Answer, Verdict};
 use std::alloc::{AllocError, Global};
 
 /// Verifies delivered files (in-toto 1.0 section 5.2; SLSA v1.0, verifying artifacts): were they made

@@ -1,5 +1,7 @@
 -- A text in the standard alphabet of base64 has no mark of the other one.
-use Rattle.std.proofs.Common.{◌≡◌, ℕ, zero, suc, ◌/◌, ◌%◌, ◌*◌, ◌+◌, List, [], ◌∷◌, Bool, true, false, not, length, replicate, slice_index, Result, Ok, Err, Some, IfOk, String, string_bytes, refl, ap, ◌∙◌, inl, inr}
+use Rattle.std.proofs.Common.{◌≡◌, ℕ, zero, suc, ◌/◌, ◌%◌, ◌*◌, ◌+◌, List, [], ◌∷◌, Bool, true}
+use Rattle.std.proofs.Common.{false, not, length, replicate, slice_index, Result, Ok, Err, Some}
+use Rattle.std.proofs.Common.{IfOk, String, string_bytes, refl, ap, ◌∙◌, inl, inr}
 use Rattle.std.proofs.lemmas.Bool.{cases_lt, not-true}
 use Rattle.std.proofs.lemmas.List.{get_or_past}
 use Rattle.std.proofs.lemmas.List.Folds.{list_any-append}
@@ -13,14 +15,17 @@ use Rattle.base64.specs.Rfc4648.{encode_symbols, padding_len}
 use Rattle.base64.specs.Tables.{all_below}
 use Rattle.it_base.specs.Base64Text.{base64_decoded, base64_encoded, is_url_mark}
 
-none_of_symbols : (p : ℕ → Bool) (table : List ℕ) → ((place : ℕ) → p (slice_index table place) ≡ false) → (bytes : List ℕ)
+none_of_symbols : (p : ℕ → Bool) (table : List ℕ)
+    → ((place : ℕ) → p (slice_index table place) ≡ false) → (bytes : List ℕ)
     → list_any p (encode_symbols table bytes) ≡ false
 unfolding encode_symbols
 none_of_symbols p table none [] = refl
 none_of_symbols p table none (a ∷ []) = rw (none (a / 4), none (a % 4 * 16)) refl
-none_of_symbols p table none (a ∷ b ∷ []) = rw (none (a / 4), none (a % 4 * 16 + b / 16), none (b % 16 * 4)) refl
+none_of_symbols p table none (a ∷ b ∷ []) =
+    rw (none (a / 4), none (a % 4 * 16 + b / 16), none (b % 16 * 4)) refl
 none_of_symbols p table none (a ∷ b ∷ c ∷ rest) =
-    rw (none (a / 4), none (a % 4 * 16 + b / 16), none (b % 16 * 4 + c / 64), none (c % 64)) (none_of_symbols p table none rest)
+    rw (none (a / 4), none (a % 4 * 16 + b / 16), none (b % 16 * 4 + c / 64), none (c % 64))
+    (none_of_symbols p table none rest)
 
 none_of_copies : (p : ℕ → Bool) (n x : ℕ) → p x ≡ false → list_any p (replicate n x) ≡ false
 none_of_copies p zero x none = refl
@@ -41,12 +46,16 @@ plain place = elim (cases_lt place 64) [
 no_mark : (bytes : List ℕ) → list_any is_url_mark (base64_encoded bytes) ≡ false
 unfolding base64_encoded
 no_mark bytes =
-    list_any-append is_url_mark (encode_symbols standard.encode_table bytes) (replicate (padding_len (length bytes)) 61)
-    ∙ rw (none_of_symbols is_url_mark standard.encode_table plain bytes) (none_of_copies is_url_mark (padding_len (length bytes)) 61 refl)
+    list_any-append is_url_mark (encode_symbols standard.encode_table bytes)
+    (replicate (padding_len (length bytes)) 61)
+    ∙ rw (none_of_symbols is_url_mark standard.encode_table plain bytes)
+    (none_of_copies is_url_mark (padding_len (length bytes)) 61 refl)
 
 -- a text that the standard alphabet decodes reads back
-pub reads_back : (bytes : List ℕ) (result : Result (String Global) AllocError) → IfOk result (λ text. string_bytes text ≡ base64_encoded bytes)
-    → IfOk result (λ text. decoded_of standard (string_bytes text) ≡ Some bytes) → IfOk result (λ text. base64_decoded (string_bytes text) ≡ Some bytes)
+pub reads_back : (bytes : List ℕ) (result : Result (String Global) AllocError)
+    → IfOk result (λ text. string_bytes text ≡ base64_encoded bytes)
+    → IfOk result (λ text. decoded_of standard (string_bytes text) ≡ Some bytes)
+    → IfOk result (λ text. base64_decoded (string_bytes text) ≡ Some bytes)
 unfolding base64_decoded
 reads_back bytes (Ok text) is decodes = rw (is, no_mark bytes, ← is) decodes
 reads_back bytes (Err e) is decodes = tt

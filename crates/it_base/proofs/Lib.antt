@@ -3,8 +3,14 @@ pub mod Decided
 pub mod Documents
 pub mod Firsts
 pub mod Items
+pub mod ListDecided
+pub mod Lists
 pub mod Members
 pub mod Pieces
 pub mod Settled
 pub mod Sums
+pub mod TableDecided
+pub mod TableLemmas
+pub mod TreeLengths
+pub mod TreesRead
 pub mod Unique

@@ -7,7 +7,8 @@ in_head x xs = (0, omega arith, refl)
 pub in_tail : {X : Type 0} (y : X) (xs : List X) (x : X) → Contains xs x → Contains (y ∷ xs) x
 in_tail y xs x c = (suc c.0, omega (arith, c.1), c.2)
 
-pub in_cases : {X : Type 0} (y : X) (xs : List X) (x : X) → Contains (y ∷ xs) x → (y ≡ x) ⊎ Contains xs x
+pub in_cases : {X : Type 0} (y : X) (xs : List X) (x : X) → Contains (y ∷ xs) x → (y ≡ x)
+    ⊎ Contains xs x
 in_cases y xs x (zero, below, e) = inl e
 in_cases y xs x (suc k, below, e) = inr (k, omega (arith, below), e)
 

@@ -1,5 +1,6 @@
 -- What holds or does not, with a proof either way.
-use Rattle.std.proofs.Common.{◌≡◌, ◌⊎◌, List, [], ◌∷◌, Bool, true, false, inl, inr, Contains, Decides, refl, sym, subst}
+use Rattle.std.proofs.Common.{◌≡◌, ◌⊎◌, List, [], ◌∷◌, Bool, true, false, inl, inr, Contains}
+use Rattle.std.proofs.Common.{Decides, refl, sym, subst}
 use Rattle.std.proofs.lemmas.Bool.Decides.{not_from_Decides}
 use Rattle.it_base.proofs.Members.{in_head, in_tail, in_cases, in_none}
 
@@ -18,13 +19,17 @@ settled_both (inr n) q = inr (λ h. n h.0)
 
 module _ {X : Type 0} (P : X → Type 0) (each : (x : X) → Settled (P x)) where
   -- it holds of an element, or of none
-  pub some_or_none : (xs : List X) → ((x : X) × Contains xs x × P x) ⊎ ((x : X) → Contains xs x → ¬ P x)
+  pub some_or_none : (xs : List X) → ((x : X) × Contains xs x × P x)
+      ⊎ ((x : X) → Contains xs x → ¬ P x)
   some_or_none [] = inr (λ x c. absurd (in_none x c))
   some_or_none (x ∷ xs) = elim (each x) [
     | inl p ↦ inl (x, in_head x xs, p)
     | inr n ↦ elim (some_or_none xs) [
       | inl s ↦ inl (s.0, in_tail x xs s.0 s.1, s.2)
-      | inr none ↦ inr (λ y c p. elim (in_cases x xs y c) [ inl same ↦ n (subst P (sym same) p) | inr later ↦ none y later p ])
+      | inr none ↦ inr (λ y c p. elim (in_cases x xs y c) [
+        | inl same ↦ n (subst P (sym same) p)
+        | inr later ↦ none y later p
+      ])
     ]
   ]
 
@@ -33,7 +38,10 @@ module _ {X : Type 0} (P : X → Type 0) (each : (x : X) → Settled (P x)) wher
   every_or_not [] = inl (λ x c. absurd (in_none x c))
   every_or_not (x ∷ xs) = elim (each x) [
     | inl p ↦ elim (every_or_not xs) [
-      | inl all ↦ inl (λ y c. elim (in_cases x xs y c) [ inl same ↦ subst P same p | inr later ↦ all y later ])
+      | inl all ↦ inl (λ y c. elim (in_cases x xs y c) [
+        | inl same ↦ subst P same p
+        | inr later ↦ all y later
+      ])
       | inr n ↦ inr (λ all. n (λ y c. all y (in_tail x xs y c)))
     ]
     | inr n ↦ inr (λ all. n (all x (in_head x xs)))

@@ -27,11 +27,14 @@ member_same : {X : Type 0} (P : Data → X → Type 0) → IsUnique P → (membe
 member_same P same None x y h k = absurd h
 member_same P same (Some v) x y h k = same v x y h k
 
-pub part_same : {X : Type 0} (P : Data → X → Type 0) → IsUnique P → (name : List ℕ) → IsUnique (IsPart P name)
+pub part_same : {X : Type 0} (P : Data → X → Type 0) → IsUnique P → (name : List ℕ)
+    → IsUnique (IsPart P name)
 part_same P same name d = member_same P same (member_at name d)
 
-items_same : {X : Type 0} (P : Data → X → Type 0) → IsUnique P → (items : Option Items) (xs ys : List X)
-    → MatchOption items ⊥ (λ ds. AreEach P ds xs) → MatchOption items ⊥ (λ ds. AreEach P ds ys) → xs ≡ ys
+items_same : {X : Type 0} (P : Data → X → Type 0) → IsUnique P
+    → (items : Option Items) (xs ys : List X)
+    → MatchOption items ⊥ (λ ds. AreEach P ds xs) → MatchOption items ⊥ (λ ds. AreEach P ds ys)
+    → xs ≡ ys
 items_same P same None xs ys h k = absurd h
 items_same P same (Some ds) xs ys h k = each_same P same ds xs ys h k
 
@@ -39,6 +42,7 @@ pub list_same : {X : Type 0} (P : Data → X → Type 0) → IsUnique P → IsUn
 list_same P same d = items_same P same (as_array d)
 
 -- the bytes of a document are one value at most
-pub of_document_same : {X : Type 0} (P : Data → X → Type 0) → IsUnique P → (bytes : List ℕ) (x y : X) → OfDocument P bytes x → OfDocument P bytes y → x ≡ y
+pub of_document_same : {X : Type 0} (P : Data → X → Type 0) → IsUnique P
+    → (bytes : List ℕ) (x y : X) → OfDocument P bytes x → OfDocument P bytes y → x ≡ y
 of_document_same P same bytes x y h k =
     same h.0 x y h.2 (subst (λ d. P d y) (same_document bytes k.0 h.0 k.1 h.1) k.2)

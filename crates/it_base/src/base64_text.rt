@@ -34,8 +34,8 @@ pub fn base64_part(
     }
 }
 
-/// The base64 text of the bytes, in the standard alphabet with padding (RFC 4648 section 4). It reads
-/// back as the bytes.
+/// The base64 text of the bytes, in the standard alphabet with padding (RFC 4648 section 4). It
+/// reads back as the bytes.
 ///
 /// # Errors
 ///

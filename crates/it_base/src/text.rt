@@ -1,9 +1,11 @@
 //! A text, which contracts see as its bytes in UTF-8.
-ghost use Rattle.std.specs.Prelude.{◌≡◌, List, ℕ, IfOk, string_bytes};
+ghost use Rattle.std.specs.Prelude.{◌≡◌, ◌↔◌, List, ℕ, IfOk, IsTrue, string_bytes};
 ghost use Rattle.serde_json.specs.View.{view};
 ghost use Rattle.it_base.specs.Finds.{Finds};
+ghost use Rattle.it_base.specs.Parts.{IsPart};
 ghost use Rattle.it_base.specs.Text.{IsText};
 
+use crate::document::member;
 use crate::parts::FromDocument;
 use serde_json::Value;
 use std::alloc::{AllocError, Global};
@@ -31,6 +33,17 @@ impl From<String> for Text {
 }
 
 impl Text {
+    /// A copy of a text, in memory of `alloc`.
+    ///
+    /// # Errors
+    ///
+    /// `AllocError` where memory was refused.
+    pub fn copy(alloc: Global, text: &str) -> Result<Text, AllocError>
+        ensures { IfOk result (λ copy. copy ≡ text.now) }
+    {
+        Ok(Text::from(String::from_str(alloc, text)?))
+    }
+
     /// Lends the text. Takes no memory.
     pub fn as_str(&self) -> &str
         ensures { result.now ≡ self.now }
@@ -46,7 +59,26 @@ impl FromDocument for Text {
     fn from_document(alloc: Global, value: &Value) -> Result<Option<Text>, AllocError> {
         match value.as_str() {
             None => Ok(None),
-            Some(text) => Ok(Some(Text::from(String::from_str(alloc, text)?))),
+            Some(text) => Ok(Some(Text::copy(alloc, text)?)),
         }
+    }
+}
+
+/// Whether the member of this name is this text. Takes no memory.
+pub fn has_text(value: &Value, name: &str, text: &str) -> bool
+    ensures { IsTrue result ↔ IsPart IsText name.now (view value.now) text.now }
+{
+    match member(value, name) {
+        None => false,
+        Some(found) => is_text(found, text),
+    }
+}
+
+fn is_text(value: &Value, text: &str) -> bool
+    ensures { IsTrue result ↔ IsText (view value.now) text.now }
+{
+    match value.as_str() {
+        None => false,
+        Some(found) => found == text,
     }
 }

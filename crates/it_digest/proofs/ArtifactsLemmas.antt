@@ -1,21 +1,23 @@
 -- A map under paths, beside its entries by the bytes of the paths.
-use Rattle.std.proofs.Common.{◌≡◌, ℕ, List, [], ◌∷◌, ◌++◌, ◌&&◌, ◌↔◌, length, map, Option, Some, None, String, Global, Ordering, Less, Equal, Greater, string_bytes, string_cmp, nat_cmp, is_eq, cond, Bool, true, false, bytes_eq, T, refl, sym, ap, subst, ◌∙◌}
+use Rattle.std.proofs.Common.{◌≡◌, ℕ, List, [], ◌∷◌, ◌++◌, ◌&&◌, map, Option, Some, None, String}
+use Rattle.std.proofs.Common.{Global, Ordering, Less, Greater, string_bytes, string_cmp, nat_cmp}
+use Rattle.std.proofs.Common.{is_eq, cond, Bool, bytes_eq, refl, sym, ap, ◌∙◌}
 use Rattle.std.specs.Bool.{Decides}
 use Rattle.std.specs.Cmp.Lexicographic.{slice_cmp, pointwise}
-use Rattle.std.specs.FinMap.{find, is_sorted, insert, get, entries, from_entries, from_entries_push, from_sorted, get-from_entries, get-from_sorted, entries-from_sorted, same_entries_map, entries-insert, same_map, empty, empty_of_len, len, len-entries, len-empty, nat_cmp-IsAntisymmetric, slice_cmp-IsAntisymmetric}
-use Rattle.std.specs.FinMap.Entries.{below_all, put, by_order}
+use Rattle.std.specs.FinMap.{find, insert, entries, from_entries, from_entries_push}
+use Rattle.std.specs.FinMap.{nat_cmp-IsAntisymmetric, slice_cmp-IsAntisymmetric}
 use Rattle.std.specs.List.{AllByRecursion}
 use Rattle.std.specs.List.Sorted.{IsStrictlySortedBy}
-use Rattle.std.specs.Map.{lookup, keys_of}
+use Rattle.std.specs.Map.{keys_of}
 use Rattle.std.specs.Option.{option_eq}
-use Rattle.std.specs.Ordering.{match_ordering, ordering_reverse, is_lt}
-use Rattle.std.specs.BTreeMap.{insert_entry, is_at}
+use Rattle.std.specs.Ordering.{ordering_reverse}
 use Rattle.std.proofs.lemmas.Bool.Decides.{Decides-and}
 use Rattle.std.proofs.lemmas.Cmp.{nat_list_cmp_total}
-use Rattle.std.proofs.lemmas.List.{length-map, map-append}
+use Rattle.std.proofs.lemmas.List.{map-append}
 use Rattle.std.proofs.lemmas.Slice.Eq.{bytes_eq-Decides, slice_eq-Decides}
+use Rattle.it_base.proofs.TableLemmas.{entries-named_entries}
 use Rattle.it_digest.specs.declared.compare.DigestSet.{DigestSet}
-use Rattle.it_digest.specs.Artifacts.{ArtifactMap, path_entries}
+use Rattle.it_digest.specs.Artifacts.{path_entries}
 
 abbrev pub path_cmp : List ℕ → List ℕ → Ordering
 path_cmp = slice_cmp nat_cmp
@@ -25,142 +27,122 @@ Entry = String Global × DigestSet
 
 -- ---- the entries by the bytes of their paths
 
-path_entries-match_ordering : (o : Ordering) (a b c : List Entry) → path_entries (match_ordering o a b c) ≡ match_ordering o (path_entries a) (path_entries b) (path_entries c)
-path_entries-match_ordering Less a b c = refl
-path_entries-match_ordering Equal a b c = refl
-path_entries-match_ordering Greater a b c = refl
-
-by_order-match_ordering : {A : Type 0} (o : Ordering) (a b c : A) → match_ordering o a b c ≡ by_order o a b c
-by_order-match_ordering Less a b c = refl
-by_order-match_ordering Equal a b c = refl
-by_order-match_ordering Greater a b c = refl
-
-path_entries-insert_entry : (es : List Entry) (k : String Global) (v : DigestSet) → path_entries (insert_entry string_cmp es k v) ≡ put path_cmp (string_bytes k) v (path_entries es)
-path_entries-insert_entry [] k v = refl
-path_entries-insert_entry (e ∷ es) k v =
-    path_entries-match_ordering (string_cmp k e.0) _ _ _ ∙ by_order-match_ordering (string_cmp k e.0) _ _ _
-    ∙ ap (λ rest. by_order (string_cmp k e.0) ((string_bytes k, v) ∷ path_entries (e ∷ es)) ((string_bytes e.0, v) ∷ path_entries es) ((string_bytes e.0, e.1) ∷ rest)) (path_entries-insert_entry es k v)
-
-find-path_entries : (q : List ℕ) (es : List Entry) → find path_cmp q (path_entries es) ≡ lookup (is_at (λ k. path_cmp q (string_bytes k))) es
-find-path_entries q [] = refl
-find-path_entries q (e ∷ es) = ap (cond (is_eq (path_cmp q (string_bytes e.0))) (Some e.1)) (find-path_entries q es)
-
-pub keys-path_entries : (es : List Entry) → map string_bytes (keys_of es) ≡ map (λ (e : List ℕ × DigestSet). e.0) (path_entries es)
+pub keys-path_entries : (es : List Entry) → map string_bytes (keys_of es) ≡ map
+    (λ (e : List ℕ × DigestSet). e.0) (path_entries es)
 keys-path_entries [] = refl
 keys-path_entries (e ∷ es) = ap (λ ks. string_bytes e.0 ∷ ks) (keys-path_entries es)
 
--- ---- the finite map of some entries
-
-pub get-path_entries : (q : List ℕ) (es : List Entry) → get (from_entries {R = path_cmp} (path_entries es)) q ≡ lookup (is_at (λ k. path_cmp q (string_bytes k))) es
-get-path_entries q es = get-from_entries nat_list_cmp_total (path_entries es) q ∙ find-path_entries q es
-
-both : (a b : Bool) → T a → T b → T (a && b)
-both true b p q = q
-both false b p q = p
-
-below_from_sorted : (k : String Global) (es : List Entry) → AllByRecursion (λ y. string_cmp k y ≡ Less) (keys_of es) → T (below_all path_cmp (string_bytes k) (path_entries es))
-below_from_sorted k [] h = tt
-below_from_sorted k (e ∷ es) h = both _ _ (subst (λ o. T (is_lt o)) (sym h.0) tt) (below_from_sorted k es h.1)
-
-is_sorted-path_entries : (es : List Entry) → IsStrictlySortedBy string_cmp (keys_of es) → T (is_sorted path_cmp (path_entries es))
-unfolding IsStrictlySortedBy
-is_sorted-path_entries [] h = tt
-is_sorted-path_entries (e ∷ es) h = both _ _ (below_from_sorted e.0 es h.0) (is_sorted-path_entries es h.1)
-
-entries-from_entries : (es : List (List ℕ × DigestSet)) → T (is_sorted path_cmp es) → entries (from_entries {R = path_cmp} es) ≡ es
-entries-from_entries es h =
-    ap entries (same_map nat_list_cmp_total (slice_cmp-IsAntisymmetric nat_cmp-IsAntisymmetric) (from_entries es) (from_sorted es) (λ q. get-from_entries nat_list_cmp_total es q ∙ sym (get-from_sorted path_cmp es q h))) ∙ entries-from_sorted path_cmp es h
-
--- the entries of the map of some entries in order
-pub entries-path_entries : (es : List Entry) → IsStrictlySortedBy string_cmp (keys_of es) → entries (from_entries {R = path_cmp} (path_entries es)) ≡ path_entries es
-entries-path_entries es h = entries-from_entries (path_entries es) (is_sorted-path_entries es h)
-
-pub from_entries-insert : (old new : List Entry) (k : String Global) (v : DigestSet) → IsStrictlySortedBy string_cmp (keys_of old) → IsStrictlySortedBy string_cmp (keys_of new) → new ≡ insert_entry string_cmp old k v
-    → from_entries {R = path_cmp} (path_entries new) ≡ insert (from_entries (path_entries old)) (string_bytes k) v
-from_entries-insert old new k v was is e =
-    let m : ArtifactMap = from_entries (path_entries old) in
-    same_entries_map (from_entries {R = path_cmp} (path_entries new)) (insert m (string_bytes k) v)
-    (entries-path_entries new is ∙ ap path_entries e ∙ path_entries-insert_entry old k v
-    ∙ ap (put path_cmp (string_bytes k) v) (sym (entries-path_entries old was)) ∙ sym (entries-insert nat_list_cmp_total m (string_bytes k) v))
-
 -- ---- one entry after others in order
 
-above_all : (k : String Global) (done : List Entry) (e : Entry) (left : List Entry) → AllByRecursion (λ y. string_cmp k y ≡ Less) (keys_of (done ++ e ∷ left)) → string_cmp k e.0 ≡ Less
+above_all : (k : String Global) (done : List Entry) (e : Entry) (left : List Entry)
+    → AllByRecursion (λ y. string_cmp k y ≡ Less) (keys_of (done ++ e ∷ left))
+    → string_cmp k e.0 ≡ Less
 above_all k [] e left h = h.0
 above_all k (d ∷ done) e left h = above_all k done e left h.1
 
-find_before : (done : List Entry) (e : Entry) (left : List Entry) → IsStrictlySortedBy string_cmp (keys_of (done ++ e ∷ left)) → find path_cmp (string_bytes e.0) (path_entries done) ≡ None
+find_before : (done : List Entry) (e : Entry) (left : List Entry) → IsStrictlySortedBy string_cmp
+    (keys_of (done ++ e ∷ left)) → find path_cmp (string_bytes e.0) (path_entries done) ≡ None
 unfolding IsStrictlySortedBy
 find_before [] e left h = refl
 find_before (d ∷ done) e left h =
-    let above : path_cmp (string_bytes e.0) (string_bytes d.0) ≡ Greater = nat_list_cmp_total.antisymm (string_bytes e.0) (string_bytes d.0) ∙ ap ordering_reverse (above_all d.0 done e left h.0) in
-    ap (λ o. cond (is_eq o) (Some d.1) (find path_cmp (string_bytes e.0) (path_entries done))) above ∙ find_before done e left h.1
+    let above : path_cmp (string_bytes e.0) (string_bytes d.0) ≡ Greater =
+    nat_list_cmp_total.antisymm (string_bytes e.0) (string_bytes d.0)
+    ∙ ap ordering_reverse (above_all d.0 done e left h.0) in
+    ap (λ o. cond (is_eq o) (Some d.1) (find path_cmp (string_bytes e.0) (path_entries done))) above
+    ∙ find_before done e left h.1
 
-pub from_entries-more : (done : List Entry) (e : Entry) (left : List Entry) → IsStrictlySortedBy string_cmp (keys_of (done ++ e ∷ left))
-    → from_entries {R = path_cmp} (path_entries (done ++ e ∷ [])) ≡ insert (from_entries (path_entries done)) (string_bytes e.0) e.1
+pub from_entries-more : (done : List Entry) (e : Entry) (left : List Entry)
+    → IsStrictlySortedBy string_cmp (keys_of (done ++ e ∷ left))
+    → from_entries {R = path_cmp} (path_entries (done ++ e ∷ [])) ≡ insert
+    (from_entries (path_entries done)) (string_bytes e.0) e.1
 from_entries-more done e left h =
-    ap (λ es. from_entries {R = path_cmp} es) (map-append (λ (x : Entry). (string_bytes x.0, x.1)) done (e ∷ []))
-    ∙ from_entries_push nat_list_cmp_total (slice_cmp-IsAntisymmetric nat_cmp-IsAntisymmetric) (path_entries done) (string_bytes e.0) e.1 (find_before done e left h)
+    ap (λ es. from_entries {R = path_cmp} es)
+    (map-append (λ (x : Entry). (string_bytes x.0, x.1)) done (e ∷ []))
+    ∙ from_entries_push nat_list_cmp_total (slice_cmp-IsAntisymmetric nat_cmp-IsAntisymmetric)
+    (path_entries done) (string_bytes e.0) e.1 (find_before done e left h)
 
 -- ---- equal maps
 
-abbrev pub same_entry : (DigestSet → DigestSet → Bool) → List ℕ × DigestSet → List ℕ × DigestSet → Bool
+abbrev pub same_entry : (DigestSet → DigestSet → Bool) → List ℕ × DigestSet → List ℕ × DigestSet
+    → Bool
 same_entry same p q = bytes_eq p.0 q.0 && same p.1 q.1
 
-pub same_entry-Decides : (same : DigestSet → DigestSet → Bool) → ((a b : DigestSet) → Decides (same a b) (a ≡ b)) → (p q : List ℕ × DigestSet) → Decides (same_entry same p q) (p ≡ q)
+pub same_entry-Decides : (same : DigestSet → DigestSet → Bool)
+    → ((a b : DigestSet) → Decides (same a b) (a ≡ b)) → (p q : List ℕ × DigestSet)
+    → Decides (same_entry same p q) (p ≡ q)
 same_entry-Decides same decides p q =
     let keys : Decides (bytes_eq p.0 q.0) (p.0 ≡ q.0) = bytes_eq-Decides p.0 q.0 in
-    let both_parts : Decides (same_entry same p q) ((p.0 ≡ q.0) × (p.1 ≡ q.1)) = Decides-and (bytes_eq p.0 q.0) (same p.1 q.1) keys (decides p.1 q.1) in
-    (λ h. let e = both_parts.0 h in λ i. (e.0 i, e.1 i), λ e. both_parts.1 (ap (λ x. x.0) e, ap (λ x. x.1) e))
+    let both_parts : Decides (same_entry same p q) ((p.0 ≡ q.0) × (p.1 ≡ q.1)) =
+    Decides-and (bytes_eq p.0 q.0) (same p.1 q.1) keys (decides p.1 q.1) in (
+      λ h. let e = both_parts.0 h in λ i. (e.0 i, e.1 i),
+      λ e. both_parts.1 (ap (λ x. x.0) e, ap (λ x. x.1) e),
+    )
 
-pointwise-path_entries : (same : DigestSet → DigestSet → Bool) (es fs : List Entry) → pointwise (λ (p q : Entry). bytes_eq (string_bytes p.0) (string_bytes q.0) && same p.1 q.1) es fs ≡ pointwise (same_entry same) (path_entries es) (path_entries fs)
+pointwise-path_entries : (same : DigestSet → DigestSet → Bool) (es fs : List Entry)
+    → pointwise (λ (p q : Entry). bytes_eq (string_bytes p.0) (string_bytes q.0) && same p.1 q.1) es
+    fs ≡ pointwise (same_entry same) (path_entries es) (path_entries fs)
 pointwise-path_entries same [] [] = refl
 pointwise-path_entries same [] (f ∷ fs) = refl
 pointwise-path_entries same (e ∷ es) [] = refl
-pointwise-path_entries same (e ∷ es) (f ∷ fs) = ap (λ b. same_entry same (string_bytes e.0, e.1) (string_bytes f.0, f.1) && b) (pointwise-path_entries same es fs)
+pointwise-path_entries same (e ∷ es) (f ∷ fs) =
+    ap (λ b. same_entry same (string_bytes e.0, e.1) (string_bytes f.0, f.1) && b)
+    (pointwise-path_entries same es fs)
 
-option_eq-Decides : {A : Type 0} (same : A → A → Bool) → ((a b : A) → Decides (same a b) (a ≡ b)) → (x y : Option A) → Decides (option_eq same x y) (x ≡ y)
+option_eq-Decides : {A : Type 0} (same : A → A → Bool) → ((a b : A) → Decides (same a b) (a ≡ b))
+    → (x y : Option A) → Decides (option_eq same x y) (x ≡ y)
 option_eq-Decides same decides None None = (λ h. refl, λ h. refl)
 option_eq-Decides same decides None (Some y) = (λ h. cc h, λ h. cc h)
 option_eq-Decides same decides (Some x) None = (λ h. cc h, λ h. cc h)
-option_eq-Decides same decides (Some x) (Some y) = (λ h. ap Some ((decides x y).0 h), λ h. (decides x y).1 (cc h))
+option_eq-Decides same decides (Some x) (Some y) =
+    (λ h. ap Some ((decides x y).0 h), λ h. (decides x y).1 (cc h))
 
 abbrev pub same_value : Option (List ℕ) → Option (List ℕ) → Bool
 same_value x y = option_eq bytes_eq x y
 
 -- `==` on digest sets decides whether they are equal
-pub digest_set_eq-Decides : (a b : DigestSet) → Decides (same_value a.sha256 b.sha256 && (same_value a.sha384 b.sha384 && same_value a.sha512 b.sha512)) (a ≡ b)
+pub digest_set_eq-Decides : (a b : DigestSet)
+    → Decides (same_value a.sha256 b.sha256
+    && (same_value a.sha384 b.sha384 && same_value a.sha512 b.sha512)) (a ≡ b)
 digest_set_eq-Decides a b =
     let each = option_eq-Decides bytes_eq bytes_eq-Decides in
-    let longer = Decides-and (same_value a.sha384 b.sha384) (same_value a.sha512 b.sha512) (each a.sha384 b.sha384) (each a.sha512 b.sha512) in
-    let values = Decides-and (same_value a.sha256 b.sha256) (same_value a.sha384 b.sha384 && same_value a.sha512 b.sha512) (each a.sha256 b.sha256) longer in (
+    let longer = Decides-and (same_value a.sha384 b.sha384) (same_value a.sha512 b.sha512)
+    (each a.sha384 b.sha384) (each a.sha512 b.sha512) in
+    let values = Decides-and (same_value a.sha256 b.sha256) (same_value a.sha384 b.sha384
+    && same_value a.sha512 b.sha512) (each a.sha256 b.sha256) longer in (
       λ h. let e = values.0 h in λ i. record { sha256 = e.0 i; sha384 = e.1.0 i; sha512 = e.1.1 i },
-      λ e. values.1 (ap (λ (d : DigestSet). d.sha256) e, (ap (λ (d : DigestSet). d.sha384) e, ap (λ (d : DigestSet). d.sha512) e)),
+      λ e. values.1 (
+        ap (λ (d : DigestSet). d.sha256) e,
+        (ap (λ (d : DigestSet). d.sha384) e, ap (λ (d : DigestSet). d.sha512) e),
+      ),
     )
 
--- `==` on the entries in order says whether the maps are equal, where `==` on the digest sets decides `≡`
-pub same_maps : (same : DigestSet → DigestSet → Bool) → ((a b : DigestSet) → Decides (same a b) (a ≡ b)) → (es fs : List Entry) (r : Bool) → IsStrictlySortedBy string_cmp (keys_of es) → IsStrictlySortedBy string_cmp (keys_of fs)
-    → r ≡ pointwise (λ (p q : Entry). bytes_eq (string_bytes p.0) (string_bytes q.0) && same p.1 q.1) es fs → Decides r (from_entries {R = path_cmp} (path_entries es) ≡ from_entries (path_entries fs))
+-- `==` on the entries in order says whether the maps are equal, where `==` on the digest sets
+-- decides `≡`
+pub same_maps : (same : DigestSet → DigestSet → Bool)
+    → ((a b : DigestSet) → Decides (same a b) (a ≡ b)) → (es fs : List Entry) (r : Bool)
+    → IsStrictlySortedBy string_cmp (keys_of es) → IsStrictlySortedBy string_cmp (keys_of fs)
+    → r ≡ pointwise (λ (p q : Entry). bytes_eq (string_bytes p.0) (string_bytes q.0)
+    && same p.1 q.1) es fs
+    → Decides r (from_entries {R = path_cmp} (path_entries es) ≡ from_entries (path_entries fs))
 same_maps same decides es fs r a b e =
-    let lists : Decides r (path_entries es ≡ path_entries fs) = slice_eq-Decides (same_entry-Decides same decides) (path_entries es) (path_entries fs) r (e ∙ pointwise-path_entries same es fs) in (
+    let lists : Decides r (path_entries es ≡ path_entries fs) =
+    slice_eq-Decides (same_entry-Decides same decides) (path_entries es) (path_entries fs) r
+    (e ∙ pointwise-path_entries same es fs) in (
       λ h. ap (λ xs. from_entries {R = path_cmp} xs) (lists.0 h),
-      λ h. lists.1 (sym (entries-path_entries es a) ∙ ap entries h ∙ entries-path_entries fs b),
+      λ h. lists.1 (sym (entries-named_entries es a) ∙ ap entries h ∙ entries-named_entries fs b),
     )
 
 -- ---- paths in order
 
-AllByRecursion-string_bytes : (k : String Global) (ks : List (String Global)) → AllByRecursion (λ y. string_cmp k y ≡ Less) ks → AllByRecursion (λ y. path_cmp (string_bytes k) y ≡ Less) (map string_bytes ks)
+AllByRecursion-string_bytes : (k : String Global) (ks : List (String Global))
+    → AllByRecursion (λ y. string_cmp k y ≡ Less) ks
+    → AllByRecursion (λ y. path_cmp (string_bytes k) y ≡ Less) (map string_bytes ks)
 AllByRecursion-string_bytes k [] h = tt
 AllByRecursion-string_bytes k (x ∷ xs) h = (h.0, AllByRecursion-string_bytes k xs h.1)
 
-pub IsStrictlySortedBy-string_bytes : (ks : List (String Global)) → IsStrictlySortedBy string_cmp ks → IsStrictlySortedBy path_cmp (map string_bytes ks)
+pub IsStrictlySortedBy-string_bytes : (ks : List (String Global)) → IsStrictlySortedBy string_cmp ks
+    → IsStrictlySortedBy path_cmp (map string_bytes ks)
 unfolding IsStrictlySortedBy
 IsStrictlySortedBy-string_bytes [] h = tt
-IsStrictlySortedBy-string_bytes (x ∷ xs) h = (AllByRecursion-string_bytes x xs h.0, IsStrictlySortedBy-string_bytes xs h.1)
-
--- ---- the empty map
-
-pub empty-path_entries : (es : List Entry) → IsStrictlySortedBy string_cmp (keys_of es) → (length es ≡ 0) ↔ (from_entries {R = path_cmp} (path_entries es) ≡ empty)
-empty-path_entries es h =
-    let long : len (from_entries {R = path_cmp} (path_entries es)) ≡ length es = len-entries (from_entries {R = path_cmp} (path_entries es)) ∙ ap length (entries-path_entries es h) ∙ length-map es _ in
-    (λ e. empty_of_len _ (long ∙ e), λ e. sym long ∙ ap len e ∙ len-empty path_cmp DigestSet)
+IsStrictlySortedBy-string_bytes (x ∷ xs) h =
+    (AllByRecursion-string_bytes x xs h.0, IsStrictlySortedBy-string_bytes xs h.1)

@@ -1,5 +1,9 @@
 -- A digest list, read line by line.
-use Rattle.std.proofs.Common.{◌≡◌, ◌≢◌, inl, inr, ℕ, suc, ◌+◌, ◌-◌, ◌==◌, ◌<◌, ◌≤◌, List, [], ◌∷◌, ◌++◌, length, take, drop, get_or, Option, Some, None, zero, cond, not, is_some, nat_lt, MatchBool, Bool, true, false, refl, sym, ap, subst, ◌∙◌, append-nil, append_assoc, length-append, take-append-drop, length-take-le, take_all, arith}
+use Rattle.std.proofs.Common.{◌≡◌, ◌≢◌, inl, inr, ℕ, suc, ◌+◌, ◌-◌, ◌==◌, ◌<◌, ◌≤◌, List, [], ◌∷◌}
+use Rattle.std.proofs.Common.{◌++◌, length, take, drop, get_or, Option, Some, None, zero, cond, not}
+use Rattle.std.proofs.Common.{is_some, nat_lt, MatchBool, Bool, true, false, refl, sym, ap, subst}
+use Rattle.std.proofs.Common.{◌∙◌, append-nil, append_assoc, length-append, take-append-drop}
+use Rattle.std.proofs.Common.{length-take-le, take_all, arith}
 use Rattle.std.proofs.Math.ListN.{get_or-append}
 use Rattle.std.proofs.Math.Seq.{get_or-append_seam, take-append-add, take-append_seam}
 use Rattle.std.proofs.lemmas.Cmp.{nat_list_cmp_total}
@@ -8,12 +12,14 @@ use Rattle.std.proofs.lemmas.List.Quantifiers.{all_pairs_push}
 use Rattle.std.specs.List.{AllPairs, AllZip, onto_first, position, position_or_len}
 use Rattle.std.specs.Cmp.{Equal-is, eq_by_cmp_equiv}
 use Rattle.std.specs.Ordering.{eq_by_cmp}
-use Rattle.std.specs.FinMap.{empty, find, from_entries, from_entries_push, get, get-from_entries, insert, nat_cmp-IsAntisymmetric, slice_cmp-IsAntisymmetric}
+use Rattle.std.specs.FinMap.{empty, find, from_entries, from_entries_push, get, get-from_entries}
+use Rattle.std.specs.FinMap.{insert, nat_cmp-IsAntisymmetric, slice_cmp-IsAntisymmetric}
 use Rattle.it_base.specs.HexadecimalText.{hexadecimal_decoded}
 use Rattle.it_digest.specs.declared.compare.DigestSet.{DigestSet}
 use Rattle.it_digest.specs.Artifacts.{ArtifactMap}
 use Rattle.it_digest.specs.DigestSet.{only_sha256}
-use Rattle.it_digest.specs.Sums.{AddsNothing, AddsSum, AreSums, IsFirstBadLine, IsMarkedPath, IsSum, SumsOf, lines_of}
+use Rattle.it_digest.specs.Sums.{AddsNothing, AddsSum, AreSums, IsFirstBadLine, IsMarkedPath, IsSum}
+use Rattle.it_digest.specs.Sums.{SumsOf, lines_of}
 use Rattle.it_digest.proofs.ArtifactsLemmas.{path_cmp}
 
 abbrev pub Entry : Type 0
@@ -25,33 +31,49 @@ abbrev is_line_feed : ℕ → Bool
 is_line_feed byte = byte == 10
 
 -- one more byte in front of the first line
-lines_of-onto_first : (byte n : ℕ) (rest : List ℕ) → lines_of rest ≡ take n rest ∷ lines_of (drop (n + 1) rest) → onto_first byte (lines_of rest) ≡ take (1 + n) (byte ∷ rest) ∷ lines_of (drop (1 + n + 1) (byte ∷ rest))
+lines_of-onto_first : (byte n : ℕ) (rest : List ℕ) → lines_of rest ≡ take n rest ∷ lines_of
+    (drop (n + 1) rest) → onto_first byte (lines_of rest) ≡ take (1 + n) (byte ∷ rest) ∷ lines_of
+    (drop (1 + n + 1) (byte ∷ rest))
 lines_of-onto_first byte n rest h =
     let front : suc n ≡ 1 + n = omega arith in
     let back : suc (n + 1) ≡ 1 + n + 1 = omega arith in
-    ap (onto_first byte) h ∙ (λ i. take (front i) (byte ∷ rest) ∷ lines_of (drop (back i) (byte ∷ rest)))
+    ap (onto_first byte) h
+    ∙ (λ i. take (front i) (byte ∷ rest) ∷ lines_of (drop (back i) (byte ∷ rest)))
 
 -- the first line ends at the first line feed, or with the bytes
-lines_of-first : (byte : ℕ) (rest : List ℕ) → lines_of (byte ∷ rest) ≡ take (position_or_len is_line_feed (byte ∷ rest)) (byte ∷ rest) ∷ lines_of (drop (position_or_len is_line_feed (byte ∷ rest) + 1) (byte ∷ rest))
-lines_of-first byte [] = elim (byte == 10) as (λ b. cond b ([] ∷ []) ((byte ∷ []) ∷ []) ≡ take (cond (not b) 1 0) (byte ∷ []) ∷ lines_of (drop (cond (not b) 1 0 + 1) (byte ∷ []))) [ true ↦ refl | false ↦ refl ]
+lines_of-first : (byte : ℕ) (rest : List ℕ) → lines_of (byte ∷ rest) ≡ take
+    (position_or_len is_line_feed (byte ∷ rest)) (byte ∷ rest) ∷ lines_of
+    (drop (position_or_len is_line_feed (byte ∷ rest) + 1) (byte ∷ rest))
+lines_of-first byte [] =
+    elim (byte == 10) as (λ b. cond b ([] ∷ []) ((byte ∷ []) ∷ []) ≡ take (cond (not b) 1 0)
+    (byte ∷ []) ∷ lines_of (drop (cond (not b) 1 0 + 1) (byte ∷ []))) [ true ↦ refl | false ↦ refl ]
 lines_of-first byte (next ∷ rest) =
     let n = position_or_len is_line_feed (next ∷ rest) in
-    elim (byte == 10) as (λ b. cond b ([] ∷ lines_of (next ∷ rest)) (onto_first byte (lines_of (next ∷ rest))) ≡ take (cond (not b) (1 + n) 0) (byte ∷ next ∷ rest) ∷ lines_of (drop (cond (not b) (1 + n) 0 + 1) (byte ∷ next ∷ rest))) [
+    elim (byte == 10) as (λ b. cond b ([] ∷ lines_of (next ∷ rest))
+    (onto_first byte (lines_of (next ∷ rest))) ≡ take (cond (not b) (1 + n) 0)
+    (byte ∷ next ∷ rest) ∷ lines_of (drop (cond (not b) (1 + n) 0 + 1) (byte ∷ next ∷ rest))) [
       | true ↦ refl
       | false ↦ lines_of-onto_first byte n (next ∷ rest) (lines_of-first next rest)
     ]
 
 at_or_past : (n m end : ℕ) → cond (nat_lt n m) (Some n) None ≡ Some end → n ≡ end
-at_or_past n m end = elim (nat_lt n m) as (λ b. cond b (Some n) None ≡ Some end → n ≡ end) [ true ↦ λ e. cc e | false ↦ λ e. cc e ]
+at_or_past n m end = elim (nat_lt n m) as (λ b. cond b (Some n) None ≡ Some end → n ≡ end) [
+  | true ↦ λ e. cc e
+  | false ↦ λ e. cc e
+]
 
 past : (n m : ℕ) → ◌≡◌ {A = Option ℕ} (cond (nat_lt n m) (Some n) None) None → m ≤ n
 past n m e = grind (arith)
 
-pub lines_of-at : (text : List ℕ) (end : ℕ) → 0 < length text → position is_line_feed text ≡ Some end → lines_of text ≡ take end text ∷ lines_of (drop (end + 1) text)
+pub lines_of-at : (text : List ℕ) (end : ℕ) → 0 < length text → position is_line_feed text
+    ≡ Some end → lines_of text ≡ take end text ∷ lines_of (drop (end + 1) text)
 lines_of-at [] end some at = absurd (omega arith)
-lines_of-at (byte ∷ rest) end some at = subst (λ n. lines_of (byte ∷ rest) ≡ take n (byte ∷ rest) ∷ lines_of (drop (n + 1) (byte ∷ rest))) (at_or_past _ _ end at) (lines_of-first byte rest)
+lines_of-at (byte ∷ rest) end some at =
+    subst (λ n. lines_of (byte ∷ rest) ≡ take n (byte ∷ rest) ∷ lines_of
+    (drop (n + 1) (byte ∷ rest))) (at_or_past _ _ end at) (lines_of-first byte rest)
 
-pub lines_of-none : (text : List ℕ) → 0 < length text → position is_line_feed text ≡ None → lines_of text ≡ text ∷ []
+pub lines_of-none : (text : List ℕ) → 0 < length text → position is_line_feed text ≡ None
+    → lines_of text ≡ text ∷ []
 lines_of-none [] some none = absurd (omega arith)
 lines_of-none (byte ∷ rest) some none =
     let n = position_or_len is_line_feed (byte ∷ rest) in
@@ -63,7 +85,8 @@ lines_of-none (byte ∷ rest) some none =
 -- ---- one line
 
 pub digits_of : (line : List ℕ) (e : Entry) (h : IsSum line e) → take 64 line ≡ h.digits
-digits_of line e h = ap (take 64) h.written ∙ ap (λ n. take n (h.digits ++ h.text)) (sym h.digits_many) ∙ take-append_seam h.digits h.text
+digits_of line e h = ap (take 64) h.written ∙ ap (λ n. take n (h.digits ++ h.text))
+    (sym h.digits_many) ∙ take-append_seam h.digits h.text
 
 pub text_of : (line : List ℕ) (e : Entry) (h : IsSum line e) → drop 64 line ≡ h.text
 text_of line e h = ap (drop 64) h.written ∙ drop_at h.digits h.text 64 h.digits_many
@@ -74,13 +97,17 @@ path_of text path h = elim h.written [ inl e ↦ ap (drop 2) e | inr e ↦ ap (d
 -- a line gives one entry at most
 pub same_sum : (line : List ℕ) (e f : Entry) → IsSum line e → IsSum line f → e ≡ f
 same_sum line e f h k =
-    let paths : e.0 ≡ f.0 = sym (path_of h.text e.0 h.path_is) ∙ ap (drop 2) (sym (text_of line e h) ∙ text_of line f k) ∙ path_of k.text f.0 k.path_is in
-    let digests : Some h.digest ≡ Some k.digest = sym h.digest_is ∙ ap hexadecimal_decoded (sym (digits_of line e h) ∙ digits_of line f k) ∙ k.digest_is in
+    let paths : e.0 ≡ f.0 = sym (path_of h.text e.0 h.path_is)
+    ∙ ap (drop 2) (sym (text_of line e h) ∙ text_of line f k) ∙ path_of k.text f.0 k.path_is in
+    let digests : Some h.digest ≡ Some k.digest = sym h.digest_is
+    ∙ ap hexadecimal_decoded (sym (digits_of line e h) ∙ digits_of line f k) ∙ k.digest_is in
     let same : h.digest ≡ k.digest = cc digests in
     let sets : e.1 ≡ f.1 = h.digests_are ∙ ap only_sha256 same ∙ sym k.digests_are in
     λ i. (paths i, sets i)
 
-pub IsSum-read : (line digits text digest path : List ℕ) → digits ≡ take 64 line → text ≡ drop 64 line → 64 ≤ length line → Some digest ≡ hexadecimal_decoded digits → IsMarkedPath text path → IsSum line (path, only_sha256 digest)
+pub IsSum-read : (line digits text digest path : List ℕ) → digits ≡ take 64 line
+    → text ≡ drop 64 line → 64 ≤ length line → Some digest ≡ hexadecimal_decoded digits
+    → IsMarkedPath text path → IsSum line (path, only_sha256 digest)
 IsSum-read line digits text digest path front back long digest_is path_is =
     record {
       digits = digits;
@@ -93,44 +120,60 @@ IsSum-read line digits text digest path front back long digest_is path_is =
       path_is = path_is;
     }
 
-pub no_digest : (line digits : List ℕ) → digits ≡ take 64 line → None ≡ hexadecimal_decoded digits → (e : Entry) → ¬ IsSum line e
+pub no_digest : (line digits : List ℕ) → digits ≡ take 64 line → None ≡ hexadecimal_decoded digits
+    → (e : Entry) → ¬ IsSum line e
 no_digest line digits front none e h =
-    let found : None ≡ Some h.digest = none ∙ ap hexadecimal_decoded (front ∙ digits_of line e h) ∙ h.digest_is in
+    let found : None ≡ Some h.digest = none ∙ ap hexadecimal_decoded (front ∙ digits_of line e h)
+    ∙ h.digest_is in
     cc found
 
-pub no_path : (line text : List ℕ) → text ≡ drop 64 line → ((path : List ℕ) → ¬ IsMarkedPath text path) → (e : Entry) → ¬ IsSum line e
-no_path line text back none e h = none e.0 (subst (λ t. IsMarkedPath t e.0) (sym (back ∙ text_of line e h)) h.path_is)
+pub no_path : (line text : List ℕ) → text ≡ drop 64 line
+    → ((path : List ℕ) → ¬ IsMarkedPath text path) → (e : Entry) → ¬ IsSum line e
+no_path line text back none e h =
+    none e.0 (subst (λ t. IsMarkedPath t e.0) (sym (back ∙ text_of line e h)) h.path_is)
 
 -- ---- a line and the map before it
 
-pub AddsSum-or_nothing : (line path : List ℕ) (digests : DigestSet) (old new : ArtifactMap) (before : Option DigestSet) (r : Bool) → IsSum line (path, digests) → before ≡ get old path → new ≡ insert old path digests → is_some before ≡ not r
+pub AddsSum-or_nothing : (line path : List ℕ) (digests : DigestSet) (old new : ArtifactMap)
+    (before : Option DigestSet) (r : Bool) → IsSum line (path, digests) → before ≡ get old path
+    → new ≡ insert old path digests → is_some before ≡ not r
     → MatchBool r (AddsSum line old new) (AddsNothing line old)
-AddsSum-or_nothing line path digests old new None true is looked put variant = record { entry = (path, digests); is_sum = is; is_new = sym looked; added = put }
+AddsSum-or_nothing line path digests old new None true is looked put variant = record {
+  entry = (path, digests);
+  is_sum = is;
+  is_new = sym looked;
+  added = put;
+}
 AddsSum-or_nothing line path digests old new None false is looked put variant = cc variant
 AddsSum-or_nothing line path digests old new (Some v) true is looked put variant = cc variant
 AddsSum-or_nothing line path digests old new (Some v) false is looked put variant = λ e other none.
-    let found : Some v ≡ None = looked ∙ ap (λ (f : Entry). get old f.0) (same_sum line (path, digests) e is other) ∙ none in
+    let found : Some v ≡ None = looked ∙ ap (λ (f : Entry). get old f.0)
+    (same_sum line (path, digests) e is other) ∙ none in
     cc found
 
 -- ---- lines and entries, one each
 
 module _ {A B : Type 0} (R : A → B → Type 0) where
-  AllZip_same : ((x : A) (y z : B) → R x y → R x z → y ≡ z) → (xs : List A) (ys zs : List B) → AllZip R xs ys → AllZip R xs zs → ys ≡ zs
+  AllZip_same : ((x : A) (y z : B) → R x y → R x z → y ≡ z) → (xs : List A) (ys zs : List B)
+      → AllZip R xs ys → AllZip R xs zs → ys ≡ zs
   AllZip_same one [] [] [] h k = refl
   AllZip_same one [] [] (z ∷ zs) h k = absurd k
   AllZip_same one [] (y ∷ ys) zs h k = absurd h
   AllZip_same one (x ∷ xs) [] zs h k = absurd h
   AllZip_same one (x ∷ xs) (y ∷ ys) [] h k = absurd k
-  AllZip_same one (x ∷ xs) (y ∷ ys) (z ∷ zs) h k = λ i. one x y z h.0 k.0 i ∷ AllZip_same one xs ys zs h.1 k.1 i
+  AllZip_same one (x ∷ xs) (y ∷ ys) (z ∷ zs) h k =
+      λ i. one x y z h.0 k.0 i ∷ AllZip_same one xs ys zs h.1 k.1 i
 
-  AllZip-one_more : (xs : List A) (ys : List B) (x : A) (y : B) → AllZip R xs ys → R x y → AllZip R (xs ++ x ∷ []) (ys ++ y ∷ [])
+  AllZip-one_more : (xs : List A) (ys : List B) (x : A) (y : B) → AllZip R xs ys → R x y
+      → AllZip R (xs ++ x ∷ []) (ys ++ y ∷ [])
   AllZip-one_more [] [] x y h r = (r, tt)
   AllZip-one_more [] (b ∷ ys) x y h r = absurd h
   AllZip-one_more (a ∷ xs) [] x y h r = absurd h
   AllZip-one_more (a ∷ xs) (b ∷ ys) x y h r = (h.0, AllZip-one_more xs ys x y h.1 r)
 
   -- what the first of some lines give, and what the others do
-  AllZip_parts : (xs more : List A) (zs : List B) → AllZip R (xs ++ more) zs → (front : List B) × (back : List B) × (zs ≡ front ++ back) × AllZip R xs front × AllZip R more back
+  AllZip_parts : (xs more : List A) (zs : List B) → AllZip R (xs ++ more) zs → (front : List B)
+      × (back : List B) × (zs ≡ front ++ back) × AllZip R xs front × AllZip R more back
   AllZip_parts [] more zs h = ([], zs, refl, tt, h)
   AllZip_parts (x ∷ xs) more [] h = absurd h
   AllZip_parts (x ∷ xs) more (z ∷ zs) h =
@@ -154,65 +197,85 @@ AllPairs-front es fs h i j d below within =
     rw (get_or-append es fs d i first, get_or-append es fs d j within) at (h i j d below longer)
 
 same_path : (p q : List ℕ) → eq_by_cmp path_cmp p q ≡ true → p ≡ q
-same_path p q e = slice_cmp-IsAntisymmetric nat_cmp-IsAntisymmetric p q ((Equal-is (path_cmp p q)).0 e)
+same_path p q e = slice_cmp-IsAntisymmetric nat_cmp-IsAntisymmetric p q
+    ((Equal-is (path_cmp p q)).0 e)
 
 none_later : (b : Bool) (x : DigestSet) (r : Option DigestSet) → cond b (Some x) r ≡ None → r ≡ None
 none_later true x r e = cc e
 none_later false x r e = e
 
 -- a path that is not found differs from each, and one that differs from each is not found
-differs_from_each : (q : List ℕ) (es : List Entry) → find path_cmp q es ≡ None → (k : ℕ) (d : Entry) → k < length es → (get_or es k d).0 ≢ q
+differs_from_each : (q : List ℕ) (es : List Entry) → find path_cmp q es ≡ None → (k : ℕ) (d : Entry)
+    → k < length es → (get_or es k d).0 ≢ q
 differs_from_each q [] none k d below = absurd (omega arith)
 differs_from_each q (e ∷ es) none zero d below = λ same.
-    let tied : eq_by_cmp path_cmp q e.0 ≡ true = rw same ((eq_by_cmp_equiv nat_list_cmp_total).refl q) in
+    let tied : eq_by_cmp path_cmp q e.0 ≡ true =
+    rw same ((eq_by_cmp_equiv nat_list_cmp_total).refl q) in
     let found : cond true (Some e.1) (find path_cmp q es) ≡ None = rw tied at none in
     cc found
-differs_from_each q (e ∷ es) none (suc k) d below = differs_from_each q es (none_later (eq_by_cmp path_cmp q e.0) e.1 (find path_cmp q es) none) k d (omega arith)
+differs_from_each q (e ∷ es) none (suc k) d below =
+    differs_from_each q es (none_later (eq_by_cmp path_cmp q e.0) e.1 (find path_cmp q es) none) k d
+    (omega arith)
 
-none_from_differing : (q : List ℕ) (es : List Entry) → ((k : ℕ) (d : Entry) → k < length es → (get_or es k d).0 ≢ q) → find path_cmp q es ≡ None
+none_from_differing : (q : List ℕ) (es : List Entry)
+    → ((k : ℕ) (d : Entry) → k < length es → (get_or es k d).0 ≢ q) → find path_cmp q es ≡ None
 none_from_differing q [] differs = refl
 none_from_differing q (e ∷ es) differs =
-    elim (eq_by_cmp path_cmp q e.0) as (λ b. eq_by_cmp path_cmp q e.0 ≡ b → cond b (Some e.1) (find path_cmp q es) ≡ None) [
+    elim (eq_by_cmp path_cmp q e.0) as (λ b. eq_by_cmp path_cmp q e.0 ≡ b
+    → cond b (Some e.1) (find path_cmp q es) ≡ None) [
       | true ↦ λ tied. absurd (differs 0 e (omega arith) (sym (same_path q e.0 tied)))
       | false ↦ λ _. none_from_differing q es (λ k d below. differs (suc k) d (omega arith))
     ] refl
 
 -- ---- one more line
 
-AreSums-more : (lines : List (List ℕ)) (es : List Entry) (line : List ℕ) (e : Entry) → AreSums lines es → IsSum line e → get (from_entries {R = path_cmp} es) e.0 ≡ None → AreSums (lines ++ line ∷ []) (es ++ e ∷ [])
+AreSums-more : (lines : List (List ℕ)) (es : List Entry) (line : List ℕ) (e : Entry)
+    → AreSums lines es → IsSum line e → get (from_entries {R = path_cmp} es) e.0 ≡ None
+    → AreSums (lines ++ line ∷ []) (es ++ e ∷ [])
 AreSums-more lines es line e h is none =
     record {
       each_gives = AllZip-one_more IsSum lines es line e h.each_gives is;
-      paths_differ = all_pairs_push PathsDiffer es e h.paths_differ (differs_from_each e.0 es (sym (get-from_entries nat_list_cmp_total es e.0) ∙ none));
+      paths_differ = all_pairs_push PathsDiffer es e h.paths_differ
+          (differs_from_each e.0 es (sym (get-from_entries nat_list_cmp_total es e.0) ∙ none));
     }
 
-AreSums-front : (lines more : List (List ℕ)) (es : List Entry) → AreSums (lines ++ more) es → (front : List Entry) × AreSums lines front
+AreSums-front : (lines more : List (List ℕ)) (es : List Entry) → AreSums (lines ++ more) es
+    → (front : List Entry) × AreSums lines front
 AreSums-front lines more es h =
     let p = AllZip_parts IsSum lines more es h.each_gives in
-    let pairs : AllPairs PathsDiffer (p.0 ++ p.1) = subst (AllPairs PathsDiffer) p.2 h.paths_differ in
+    let pairs : AllPairs PathsDiffer (p.0 ++ p.1) =
+    subst (AllPairs PathsDiffer) p.2 h.paths_differ in
     (p.0, record { each_gives = p.3; paths_differ = AllPairs-front p.0 p.1 pairs })
 
-AreSums_same : (lines : List (List ℕ)) (es fs : List Entry) → AreSums lines es → AreSums lines fs → es ≡ fs
+AreSums_same : (lines : List (List ℕ)) (es fs : List Entry) → AreSums lines es → AreSums lines fs
+    → es ≡ fs
 AreSums_same lines es fs h k = AllZip_same IsSum same_sum lines es fs h.each_gives k.each_gives
 
-AllPairs-last : (es : List Entry) (f : Entry) → AllPairs PathsDiffer (es ++ f ∷ []) → (k : ℕ) (d : Entry) → k < length es → (get_or es k d).0 ≢ f.0
+AllPairs-last : (es : List Entry) (f : Entry) → AllPairs PathsDiffer (es ++ f ∷ [])
+    → (k : ℕ) (d : Entry) → k < length es → (get_or es k d).0 ≢ f.0
 AllPairs-last es f h k d below =
     let within : length es < length (es ++ f ∷ []) = simp length-append (omega arith) in
-    rw (get_or-append es (f ∷ []) d k below, get_or-append_seam es f [] d) at (h k (length es) d below within)
+    rw (get_or-append es (f ∷ []) d k below, get_or-append_seam es f [] d) at
+    (h k (length es) d below within)
 
 -- a line that adds nothing is bad
-not_AreSums : (lines : List (List ℕ)) (es : List Entry) (line : List ℕ) → AreSums lines es → AddsNothing line (from_entries es) → (more : List Entry) → ¬ AreSums (lines ++ line ∷ []) more
+not_AreSums : (lines : List (List ℕ)) (es : List Entry) (line : List ℕ) → AreSums lines es
+    → AddsNothing line (from_entries es) → (more : List Entry) → ¬ AreSums (lines ++ line ∷ []) more
 not_AreSums lines es line h nothing more k =
     let p = AllZip_parts IsSum lines (line ∷ []) more k.each_gives in
     let last = AllZip_one IsSum line p.1 p.4 in
     let same : p.0 ≡ es = AllZip_same IsSum same_sum lines p.0 es p.3 h.each_gives in
-    let pairs : AllPairs PathsDiffer (es ++ last.0 ∷ []) = subst (AllPairs PathsDiffer) (p.2 ∙ ap (λ l. l ++ p.1) same ∙ ap (λ l. es ++ l) last.1) k.paths_differ in
-    nothing last.0 last.2 (get-from_entries nat_list_cmp_total es last.0.0 ∙ none_from_differing last.0.0 es (AllPairs-last es last.0 pairs))
+    let pairs : AllPairs PathsDiffer (es ++ last.0 ∷ []) =
+    subst (AllPairs PathsDiffer) (p.2 ∙ ap (λ l. l ++ p.1) same ∙ ap (λ l. es ++ l) last.1)
+    k.paths_differ in
+    nothing last.0 last.2 (get-from_entries nat_list_cmp_total es last.0.0
+    ∙ none_from_differing last.0.0 es (AllPairs-last es last.0 pairs))
 
 -- ---- the lines read so far
 
 -- some lines were read, and these are left
-pub record HasRead (bytes : List ℕ) (left : List (List ℕ)) (sums : ArtifactMap) (number : ℕ) : Type 0 where
+pub record HasRead (bytes : List ℕ) (left : List (List ℕ)) (sums : ArtifactMap)
+    (number : ℕ) : Type 0 where
   pub lines : List (List ℕ)
   pub entries : List Entry
   pub lines_are : lines_of bytes ≡ lines ++ left
@@ -221,57 +284,96 @@ pub record HasRead (bytes : List ℕ) (left : List (List ℕ)) (sums : ArtifactM
   pub sums_are : sums ≡ from_entries entries
 
 pub HasRead-none : (bytes : List ℕ) → HasRead bytes (lines_of bytes) empty 0
-HasRead-none bytes = record { lines = []; entries = []; lines_are = refl; number_is = refl; are_sums = record { each_gives = tt; paths_differ = λ i j d below within. absurd (omega arith) }; sums_are = refl }
+HasRead-none bytes = record {
+  lines = [];
+  entries = [];
+  lines_are = refl;
+  number_is = refl;
+  are_sums = record {
+    each_gives = tt;
+    paths_differ = λ i j d below within. absurd (omega arith);
+  };
+  sums_are = refl;
+}
 
-pub HasRead-more : (bytes line : List ℕ) (left after : List (List ℕ)) (sums new : ArtifactMap) (number : ℕ) → HasRead bytes left sums number → left ≡ line ∷ after → AddsSum line sums new → HasRead bytes after new (number + 1)
+pub HasRead-more : (bytes line : List ℕ) (left after : List (List ℕ)) (sums new : ArtifactMap)
+    (number : ℕ) → HasRead bytes left sums number → left ≡ line ∷ after → AddsSum line sums new
+    → HasRead bytes after new (number + 1)
 HasRead-more bytes line left after sums new number h split adds =
     let e = adds.entry in
-    let none : get (from_entries {R = path_cmp} h.entries) e.0 ≡ None = ap (λ m. get m e.0) (sym h.sums_are) ∙ adds.is_new in
+    let none : get (from_entries {R = path_cmp} h.entries) e.0 ≡ None =
+    ap (λ m. get m e.0) (sym h.sums_are) ∙ adds.is_new in
     record {
       lines = h.lines ++ line ∷ [];
       entries = h.entries ++ e ∷ [];
-      lines_are = h.lines_are ∙ ap (λ l. h.lines ++ l) split ∙ sym (append_assoc h.lines (line ∷ []) after);
+      lines_are = h.lines_are ∙ ap (λ l. h.lines ++ l) split
+          ∙ sym (append_assoc h.lines (line ∷ []) after);
       number_is = simp length-append (omega (arith, h.number_is));
       are_sums = AreSums-more h.lines h.entries line e h.are_sums adds.is_sum none;
       sums_are = adds.added ∙ ap (λ m. insert m e.0 e.1) h.sums_are
-          ∙ sym (from_entries_push nat_list_cmp_total (slice_cmp-IsAntisymmetric nat_cmp-IsAntisymmetric) h.entries e.0 e.1 (sym (get-from_entries nat_list_cmp_total h.entries e.0) ∙ none));
+          ∙ sym (from_entries_push nat_list_cmp_total
+          (slice_cmp-IsAntisymmetric nat_cmp-IsAntisymmetric) h.entries e.0 e.1
+          (sym (get-from_entries nat_list_cmp_total h.entries e.0) ∙ none));
     }
 
-pub HasRead-all : (bytes : List ℕ) (sums : ArtifactMap) (number : ℕ) → HasRead bytes [] sums number → SumsOf bytes sums
-HasRead-all bytes sums number h = record { entries = h.entries; are_sums = subst (λ lines. AreSums lines h.entries) (sym (h.lines_are ∙ append-nil h.lines)) h.are_sums; map_is = h.sums_are }
+pub HasRead-all : (bytes : List ℕ) (sums : ArtifactMap) (number : ℕ) → HasRead bytes [] sums number
+    → SumsOf bytes sums
+HasRead-all bytes sums number h = record {
+  entries = h.entries;
+  are_sums = subst (λ lines. AreSums lines h.entries)
+      (sym (h.lines_are ∙ append-nil h.lines)) h.are_sums;
+  map_is = h.sums_are;
+}
 
-pub HasRead-bad : (bytes line : List ℕ) (left after : List (List ℕ)) (sums : ArtifactMap) (number : ℕ) → HasRead bytes left sums number → left ≡ line ∷ after → AddsNothing line sums → IsFirstBadLine bytes (number + 1)
+pub HasRead-bad : (bytes line : List ℕ) (left after : List (List ℕ)) (sums : ArtifactMap)
+    (number : ℕ) → HasRead bytes left sums number → left ≡ line ∷ after → AddsNothing line sums
+    → IsFirstBadLine bytes (number + 1)
 HasRead-bad bytes line left after sums number h split nothing =
-    let whole : lines_of bytes ≡ h.lines ++ line ∷ after = h.lines_are ∙ ap (λ l. h.lines ++ l) split in
+    let whole : lines_of bytes ≡ h.lines ++ line ∷ after = h.lines_are
+    ∙ ap (λ l. h.lines ++ l) split in
     let fewer : number + 1 - 1 ≡ length h.lines = omega (arith, h.number_is) in
     let more_by_one : number + 1 ≡ length h.lines + 1 = omega (arith, h.number_is) in
-    let before : take (number + 1 - 1) (lines_of bytes) ≡ h.lines = rw (fewer, whole) (take-append_seam h.lines (line ∷ after)) in
-    let with_it : take (number + 1) (lines_of bytes) ≡ h.lines ++ line ∷ [] = rw (more_by_one, whole) (take-append-add h.lines (line ∷ after) 1) in
+    let before : take (number + 1 - 1) (lines_of bytes) ≡ h.lines =
+    rw (fewer, whole) (take-append_seam h.lines (line ∷ after)) in
+    let with_it : take (number + 1) (lines_of bytes) ≡ h.lines ++ line ∷ [] =
+    rw (more_by_one, whole) (take-append-add h.lines (line ∷ after) 1) in
     record {
       entries = h.entries;
       good_before = subst (λ lines. AreSums lines h.entries) (sym before) h.are_sums;
-      bad = λ more k. not_AreSums h.lines h.entries line h.are_sums (subst (AddsNothing line) h.sums_are nothing) more (subst (λ lines. AreSums lines more) with_it k);
+      bad = λ more k. not_AreSums h.lines h.entries line h.are_sums
+          (subst (AddsNothing line) h.sums_are nothing) more
+          (subst (λ lines. AreSums lines more) with_it k);
     }
 
 -- ---- what a digest list stands for
 
-pub SumsOf_same : (bytes : List ℕ) (sums other : ArtifactMap) → SumsOf bytes sums → SumsOf bytes other → other ≡ sums
-SumsOf_same bytes sums other h k = k.map_is ∙ ap (λ es. from_entries {R = path_cmp} es) (AreSums_same (lines_of bytes) k.entries h.entries k.are_sums h.are_sums) ∙ sym h.map_is
+pub SumsOf_same : (bytes : List ℕ) (sums other : ArtifactMap) → SumsOf bytes sums
+    → SumsOf bytes other → other ≡ sums
+SumsOf_same bytes sums other h k = k.map_is ∙ ap (λ es. from_entries {R = path_cmp} es)
+    (AreSums_same (lines_of bytes) k.entries h.entries k.are_sums h.are_sums) ∙ sym h.map_is
 
-pub IsFirstBadLine-none : (bytes : List ℕ) (number : ℕ) → IsFirstBadLine bytes number → (sums : ArtifactMap) → ¬ SumsOf bytes sums
+pub IsFirstBadLine-none : (bytes : List ℕ) (number : ℕ) → IsFirstBadLine bytes number
+    → (sums : ArtifactMap) → ¬ SumsOf bytes sums
 IsFirstBadLine-none bytes number h sums k =
-    let front = AreSums-front (take number (lines_of bytes)) (drop number (lines_of bytes)) k.entries (rw take-append-drop k.are_sums) in
+    let front = AreSums-front (take number (lines_of bytes)) (drop number (lines_of bytes))
+    k.entries (rw take-append-drop k.are_sums) in
     h.bad front.0 front.1
 
 -- a line before the first bad one is not the first bad one
-no_earlier : (bytes : List ℕ) (m n : ℕ) → IsFirstBadLine bytes m → IsFirstBadLine bytes n → ¬ (m < n)
+no_earlier : (bytes : List ℕ) (m n : ℕ) → IsFirstBadLine bytes m → IsFirstBadLine bytes n
+    → ¬ (m < n)
 no_earlier bytes m n h k less =
     let front = take (n - 1) (lines_of bytes) in
-    let parts : take m (lines_of bytes) ++ drop m front ≡ front = ap (λ xs. xs ++ drop m front) (sym (take-take m (n - 1) (lines_of bytes) (omega (arith, less)))) ∙ take-append-drop m front in
-    let good = AreSums-front (take m (lines_of bytes)) (drop m front) k.entries (subst (λ xs. AreSums xs k.entries) (sym parts) k.good_before) in
+    let parts : take m (lines_of bytes) ++ drop m front ≡ front =
+    ap (λ xs. xs ++ drop m front)
+    (sym (take-take m (n - 1) (lines_of bytes) (omega (arith, less))))
+    ∙ take-append-drop m front in
+    let good = AreSums-front (take m (lines_of bytes)) (drop m front) k.entries
+    (subst (λ xs. AreSums xs k.entries) (sym parts) k.good_before) in
     h.bad good.0 good.1
 
-pub bad_line_one : (bytes : List ℕ) (m n : ℕ) → IsFirstBadLine bytes m → IsFirstBadLine bytes n → m ≡ n
+pub bad_line_one : (bytes : List ℕ) (m n : ℕ) → IsFirstBadLine bytes m → IsFirstBadLine bytes n
+    → m ≡ n
 bad_line_one bytes m n h k =
     let up : ¬ (m < n) = no_earlier bytes m n h k in
     let down : ¬ (n < m) = no_earlier bytes n m k h in

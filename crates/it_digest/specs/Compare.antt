@@ -3,11 +3,13 @@ use Rattle.std.specs.Prelude.{◌≡◌, ◌≢◌, ℕ, if◌then◌else◌, Li
 use Rattle.std.specs.Str.{bytes_eq}
 use Rattle.it_digest.specs.declared.compare.DigestSet.{DigestSet}
 use Rattle.it_digest.specs.declared.compare.Compare.{Compare}
-use Rattle.it_digest.specs.declared.compare.Compare.TheVariants.{Agree as agree, Differ as differ, Apart as apart}
+use Rattle.it_digest.specs.declared.compare.Compare.TheVariants.{Agree as agree, Differ as differ}
+use Rattle.it_digest.specs.declared.compare.Compare.TheVariants.{Apart as apart}
 use Rattle.it_digest.specs.DigestSet.{Algorithm, algorithms, value_in}
 
 -- an algorithm stands in both sets, with these values
-pub record StandsInBoth (a b : DigestSet) (algorithm : Algorithm) (in_a in_b : List ℕ) : Type 0 where
+pub record StandsInBoth (a b : DigestSet) (algorithm : Algorithm) (in_a in_b : List ℕ)
+    : Type 0 where
   pub first : value_in algorithm a ≡ Some in_a
   pub second : value_in algorithm b ≡ Some in_b
 
@@ -49,7 +51,8 @@ joined apart y = y
 -- what some algorithms say together
 abbrev pub compared_under : List Algorithm → DigestSet → DigestSet → Compare
 compared_under [] a b = apart
-compared_under (h ∷ rest) a b = joined (compared_values (value_in h a) (value_in h b)) (compared_under rest a b)
+compared_under (h ∷ rest) a b =
+    joined (compared_values (value_in h a) (value_in h b)) (compared_under rest a b)
 
 -- the comparison of two digest sets
 abbrev pub compared : DigestSet → DigestSet → Compare

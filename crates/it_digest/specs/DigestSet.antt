@@ -37,8 +37,10 @@ value_code = coded_option (coded_list coded_ℕ)
 -- a digest set is stored as its values
 abbrev pub digest_set_code : Coded DigestSet
 digest_set_code =
-    code_by (Option (List ℕ) × (Option (List ℕ) × Option (List ℕ))) (coded× value_code (coded× value_code value_code))
-    (λ set. (set.sha256, (set.sha384, set.sha512))) (λ p. record { sha256 = p.0; sha384 = p.1.0; sha512 = p.1.1 }) (λ _. refl)
+    code_by (Option (List ℕ) × (Option (List ℕ) × Option (List ℕ)))
+    (coded× value_code (coded× value_code value_code))
+    (λ set. (set.sha256, (set.sha384, set.sha512)))
+    (λ p. record { sha256 = p.0; sha384 = p.1.0; sha512 = p.1.1 }) (λ _. refl)
 
 -- the set with this SHA-256 and no other digest
 abbrev pub only_sha256 : List ℕ → DigestSet

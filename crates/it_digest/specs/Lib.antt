@@ -1,5 +1,6 @@
 pub mod Artifacts
 pub mod Compare
+pub mod Digest
 pub mod DigestSet
 pub mod Reader
 pub mod Sums

@@ -1,7 +1,8 @@
 -- Digest lists as `sha256sum` of the GNU core utilities writes them: a line for each file, with 64
 -- hexadecimal digits, a space, a space (text) or a star (binary), and the file's path. This
 -- profile's choices: digits of either case, paths in UTF-8, no escaped paths, no path twice.
-use Rattle.std.specs.Prelude.{◌≡◌, ◌≢◌, ◌⊎◌, ℕ, ◌-◌, ◌==◌, if◌then◌else◌, List, [], ◌∷◌, ◌++◌, length, take, codes, Some, None, AllPairs}
+use Rattle.std.specs.Prelude.{◌≡◌, ◌≢◌, ◌⊎◌, ℕ, ◌-◌, ◌==◌, if◌then◌else◌, List, [], ◌∷◌, ◌++◌}
+use Rattle.std.specs.Prelude.{length, take, codes, Some, None, AllPairs}
 use Rattle.std.specs.List.{AllZip, onto_first}
 use Rattle.std.specs.Str.{IsUtf8}
 use Rattle.std.specs.FinMap.{from_entries, get, insert}

@@ -5,9 +5,14 @@ ghost use Rattle.std.specs.Ordering.{nat_cmp};
 ghost use Rattle.std.specs.Cmp.Lexicographic.{slice_cmp};
 ghost use Rattle.std.specs.List.Sorted.{IsStrictlySortedBy};
 ghost use Rattle.std.specs.FinMap as finite;
+ghost use Rattle.it_base.specs.Table.{IsTable};
 ghost use Rattle.it_digest.specs.Artifacts.{path_entries};
+ghost use Rattle.it_digest.specs.Digest.{IsDigestSet};
 
 use crate::compare::DigestSet;
+use it_base::parts::FromDocument;
+use it_base::table::Table;
+use serde_json::Value;
 use std::alloc::{AllocError, Global};
 use std::collections::BTreeMap;
 use std::collections::btree_map::{Iter, Keys};
@@ -16,25 +21,20 @@ use std::marker::Model;
 /// A map from path to digest set. Paths are compared by their bytes.
 #[derive(Drop)]
 pub struct Artifacts {
-    by_path: BTreeMap<String, DigestSet>,
+    by_path: Table<DigestSet>,
 }
 
 impl Model for Artifacts {
-    ghost use Rattle.std.specs.Prelude.{map};
-    ghost use Rattle.std.specs.List.Sorted.{IsStrictlySortedBy};
     ghost use Rattle.std.specs.Coded.{coded_ℕ, coded_list};
-    ghost use Rattle.std.specs.String.{string_cmp};
     ghost use Rattle.std.specs.FinMap as finite;
     ghost use Rattle.it_digest.specs.DigestSet.{digest_set_code};
-    ghost use Rattle.it_digest.specs.Artifacts.{ArtifactMap, path_entries};
+    ghost use Rattle.it_digest.specs.Artifacts.{ArtifactMap};
 
     ghost Value = { ArtifactMap };
 
     ghost coded = { finite.code (coded_list coded_ℕ) digest_set_code };
 
-    ghost view = { λ a. finite.from_entries (path_entries a.by_path.entries) };
-
-    ghost invariant = { λ a. IsStrictlySortedBy string_cmp (map (λ e. e.0) a.by_path.entries) };
+    ghost view = { λ a. a.by_path };
 }
 
 impl Artifacts {
@@ -43,7 +43,7 @@ impl Artifacts {
         ensures { result ≡ finite.empty }
     {
         Artifacts {
-            by_path: BTreeMap::new(alloc),
+            by_path: Table::new(alloc),
         }
     }
 
@@ -61,8 +61,7 @@ impl Artifacts {
         ensures ok { OnOk result (self.new ≡ finite.insert self.old (string_bytes path) digests) }
         ensures err { OnErr result (self.new ≡ self.old) }
     {
-        let before = self.by_path.insert(path, digests)?;
-        Ok(before)
+        self.by_path.insert(path, digests)
     }
 
     /// The digests of a path, if it stands in the map.
@@ -77,7 +76,7 @@ impl Artifacts {
         ensures paths { map string_bytes result ≡ finite.keys self.now }
         ensures ordered { IsStrictlySortedBy (slice_cmp nat_cmp) (map string_bytes result) }
     {
-        self.by_path.keys()
+        self.by_path.as_map().keys()
     }
 
     /// The paths with their digests, each path once, in the order of their bytes.
@@ -95,7 +94,7 @@ impl Artifacts {
     pub fn copy(&self, alloc: Global) -> Result<Artifacts, AllocError>
         ensures { IfOk result (λ copy. copy ≡ self.now) }
     {
-        map_of(alloc, &self.by_path)
+        map_of(alloc, self.by_path.as_map())
     }
 
     /// Whether no path stands in the map.
@@ -110,7 +109,20 @@ impl Artifacts {
     pub fn same_as(&self, other: &Artifacts) -> bool
         ensures { IsTrue result ↔ (self.now ≡ other.now) }
     {
-        self.by_path == other.by_path
+        self.by_path.as_map() == other.by_path.as_map()
+    }
+}
+
+impl FromDocument for Artifacts {
+    ghost is_of = { IsTable IsDigestSet };
+
+    /// The artifacts that a JSON object from path to digest set is (in-toto 1.0 section 4.4). A
+    /// member whose value is null counts as missing.
+    fn from_document(alloc: Global, value: &Value) -> Result<Option<Artifacts>, AllocError> {
+        match Table::<DigestSet>::from_document(alloc, value)? {
+            None => Ok(None),
+            Some(by_path) => Ok(Some(Artifacts { by_path })),
+        }
     }
 }
 

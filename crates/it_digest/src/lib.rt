@@ -4,5 +4,6 @@
 
 pub mod artifacts;
 pub mod compare;
+pub mod digest;
 pub mod reader;
 pub mod sums;

@@ -40,10 +40,14 @@ impl From<io::Error> for DigestFault {
 ///
 /// After either the reader stands where its last read left it.
 pub fn sha256_of_reader<R: Read>(reader: &mut R, limit: u64) -> Result<[u8; 32], DigestFault>
-    ensures ok { IfOk result (IsDigestOfRest (R.remaining reader.old) (R.remaining reader.new) limit) }
-    ensures whole { IfOk result (λ digest. IfSome (R.remaining reader.old) (λ bytes. digest ≡ sha256 bytes)) }
-    ensures too_large { result ≡ Err DigestFault.TooLarge → GaveMoreThan (R.remaining reader.old) (R.remaining reader.new) limit }
-    ensures read { result ≡ Err DigestFault.Read → GaveAtMost (R.remaining reader.old) (R.remaining reader.new) limit }
+    ensures ok { IfOk result
+        (IsDigestOfRest (R.remaining reader.old) (R.remaining reader.new) limit) }
+    ensures whole { IfOk result
+        (λ digest. IfSome (R.remaining reader.old) (λ bytes. digest ≡ sha256 bytes)) }
+    ensures too_large { result ≡ Err DigestFault.TooLarge
+        → GaveMoreThan (R.remaining reader.old) (R.remaining reader.new) limit }
+    ensures read { result ≡ Err DigestFault.Read
+        → GaveAtMost (R.remaining reader.old) (R.remaining reader.new) limit }
 {
     let mut hasher = Sha256::new();
     let mut buffer = [0; BLOCK_SIZE];

@@ -5,7 +5,8 @@ ghost use Rattle.std.specs.List.{position};
 ghost use Rattle.it_base.specs.Finds.{FindsAs};
 ghost use Rattle.it_base.specs.HexadecimalText.{hexadecimal_decoded};
 ghost use Rattle.it_digest.specs.Artifacts.{ArtifactMap};
-ghost use Rattle.it_digest.specs.Sums.{AddsNothing, AddsSum, IsFirstBadLine, IsMarkedPath, IsSum, SumsOf, lines_of};
+ghost use Rattle.it_digest.specs.Sums.{AddsNothing, AddsSum, IsFirstBadLine, IsMarkedPath, IsSum};
+ghost use Rattle.it_digest.specs.Sums.{SumsOf, lines_of};
 ghost use Rattle.it_digest.specs.declared.sums.SumsFault.TheVariants as fault;
 
 use crate::artifacts::Artifacts;
@@ -51,9 +52,12 @@ struct Sum<'a> {
 /// - `OutOfMemory` where memory was refused.
 pub fn read_sums(alloc: Global, bytes: &[u8]) -> Result<Artifacts, SumsFault>
     ensures ok { IfOk result (SumsOf bytes.now) }
-    ensures only { IfOk result (λ sums. (other : ArtifactMap) → SumsOf bytes.now other → other ≡ sums) }
-    ensures first_bad { (line : ℕ) → result ≡ Err (SumsFault.BadSums line) → IsFirstBadLine bytes.now line }
-    ensures none { (line : ℕ) → result ≡ Err (SumsFault.BadSums line) → (sums : ArtifactMap) → ¬ SumsOf bytes.now sums }
+    ensures only { IfOk result
+        (λ sums. (other : ArtifactMap) → SumsOf bytes.now other → other ≡ sums) }
+    ensures first_bad { (line : ℕ) → result ≡ Err (SumsFault.BadSums line)
+        → IsFirstBadLine bytes.now line }
+    ensures none { (line : ℕ) → result ≡ Err (SumsFault.BadSums line)
+        → (sums : ArtifactMap) → ¬ SumsOf bytes.now sums }
 {
     let mut sums = Artifacts::new(alloc);
     let mut rest = bytes;
@@ -91,7 +95,8 @@ fn first_line_feed(text: &[u8]) -> Option<usize>
 
 /// Adds what a line says to the map. Answers whether the line is good and its path is new.
 fn add_sum(alloc: Global, sums: &mut Artifacts, line: &[u8]) -> Result<bool, AllocError>
-    ensures { IfOk result (λ added. MatchBool added (AddsSum line.now sums.old sums.new) (AddsNothing line.now sums.old)) }
+    ensures { IfOk result (λ added.
+        MatchBool added (AddsSum line.now sums.old sums.new) (AddsNothing line.now sums.old)) }
 {
     match read_sum(line) {
         None => Ok(false),

@@ -1,5 +1,8 @@
 -- Which moment a text is, as an answer.
-use Rattle.std.proofs.Common.{◌≡◌, ℕ, ◌+◌, ◌*◌, ◌-◌, ◌/◌, ◌%◌, ◌<◌, ◌≤◌, ℤ, pos, ◌+ℤ◌, ◌*ℤ◌, List, length, get_or, Bool, true, false, ◌&&◌, eqb, ltb, leb, eqb-true, eq-eqb, leb-true, le-leb, Option, Some, None, option_and_then, MatchOption, Decides, arith, refl, sym, subst, true≢false}
+use Rattle.std.proofs.Common.{◌≡◌, ℕ, ◌+◌, ◌*◌, ◌-◌, ◌/◌, ◌%◌, ◌<◌, ◌≤◌, ℤ, pos, ◌+ℤ◌, ◌*ℤ◌, List}
+use Rattle.std.proofs.Common.{length, get_or, Bool, true, false, ◌&&◌, eqb, ltb, leb, eqb-true}
+use Rattle.std.proofs.Common.{eq-eqb, leb-true, le-leb, Option, Some, None, option_and_then}
+use Rattle.std.proofs.Common.{MatchOption, Decides, arith, refl, sym, subst, true≢false}
 use Rattle.std.proofs.lemmas.Bool.Decides.{Decides-and, Decides-ltb}
 use Rattle.std.proofs.lemmas.Int.{ints}
 use Rattle.serde_json.specs.Data.{Data}
@@ -51,47 +54,86 @@ abbrev has_mark : List ℕ → ℕ → ℕ → Bool
 has_mark text i mark = eqb (get_or text i 0) mark
 
 abbrev has_marks : List ℕ → Bool
-has_marks text = eqb (length text) 20 && (has_mark text 4 45 && (has_mark text 7 45 && (has_mark text 10 84 && (has_mark text 13 58 && (has_mark text 16 58 && has_mark text 19 90)))))
+has_marks text = eqb (length text) 20
+    && (has_mark text 4 45
+    && (has_mark text 7 45
+    && (has_mark text 10 84
+    && (has_mark text 13 58 && (has_mark text 16 58 && has_mark text 19 90)))))
 
 abbrev has_numbers : List ℕ → Bool
-has_numbers text = are_digits text 0 1 && (are_digits text 2 3 && (are_digits text 5 6 && (are_digits text 8 9 && (are_digits text 11 12 && (are_digits text 14 15 && are_digits text 17 18)))))
+has_numbers text = are_digits text 0 1
+    && (are_digits text 2 3
+    && (are_digits text 5 6
+    && (are_digits text 8 9
+    && (are_digits text 11 12 && (are_digits text 14 15 && are_digits text 17 18)))))
 
 abbrev is_date_and_time : List ℕ → Bool
 is_date_and_time text =
-    is_from_to 1 12 (number_at text 5 6) && (is_from_to 1 (days_in_month (pos (year_at text)) (number_at text 5 6)) (number_at text 8 9)
-    && (ltb (number_at text 11 12) 24 && (ltb (number_at text 14 15) 60 && ltb (number_at text 17 18) 60)))
+    is_from_to 1 12 (number_at text 5 6)
+    && (is_from_to 1 (days_in_month (pos (year_at text)) (number_at text 5 6))
+    (number_at text 8 9)
+    && (ltb (number_at text 11 12) 24
+    && (ltb (number_at text 14 15) 60 && ltb (number_at text 17 18) 60)))
 
 from_to-Decides : (low high n : ℕ) → Decides (is_from_to low high n) (IsFromTo low high n)
-from_to-Decides low high n = Decides-and (leb low n) (leb n high) (leb-true low n, le-leb low n) (leb-true n high, le-leb n high)
+from_to-Decides low high n = Decides-and (leb low n) (leb n high) (leb-true low n, le-leb low n)
+    (leb-true n high, le-leb n high)
 
 digits-Decides : (text : List ℕ) (i j : ℕ) → Decides (are_digits text i j) (AreDigits text i j)
-digits-Decides text i j = Decides-and _ _ (from_to-Decides 48 57 (get_or text i 0)) (from_to-Decides 48 57 (get_or text j 0))
+digits-Decides text i j = Decides-and _ _ (from_to-Decides 48 57 (get_or text i 0))
+    (from_to-Decides 48 57 (get_or text j 0))
 
 mark-Decides : (n mark : ℕ) → Decides (eqb n mark) (n ≡ mark)
 mark-Decides n mark = (eqb-true n mark, eq-eqb n mark)
 
 marks-Decides : (text : List ℕ)
-    → Decides (has_marks text) ((length text ≡ 20) × ((get_or text 4 0 ≡ 45) × ((get_or text 7 0 ≡ 45) × ((get_or text 10 0 ≡ 84) × ((get_or text 13 0 ≡ 58) × ((get_or text 16 0 ≡ 58) × (get_or text 19 0 ≡ 90)))))))
+    → Decides (has_marks text) ((length text ≡ 20)
+    × ((get_or text 4 0 ≡ 45)
+    × ((get_or text 7 0 ≡ 45)
+    × ((get_or text 10 0 ≡ 84)
+    × ((get_or text 13 0 ≡ 58) × ((get_or text 16 0 ≡ 58) × (get_or text 19 0 ≡ 90)))))))
 marks-Decides text =
     let at = λ (i mark : ℕ). mark-Decides (get_or text i 0) mark in
     Decides-and _ _ (mark-Decides (length text) 20)
-    (Decides-and _ _ (at 4 45) (Decides-and _ _ (at 7 45) (Decides-and _ _ (at 10 84) (Decides-and _ _ (at 13 58) (Decides-and _ _ (at 16 58) (at 19 90))))))
+    (Decides-and _ _ (at 4 45)
+    (Decides-and _ _ (at 7 45)
+    (Decides-and _ _ (at 10 84)
+    (Decides-and _ _ (at 13 58) (Decides-and _ _ (at 16 58) (at 19 90))))))
 
 numbers-Decides : (text : List ℕ)
-    → Decides (has_numbers text) (AreDigits text 0 1 × (AreDigits text 2 3 × (AreDigits text 5 6 × (AreDigits text 8 9 × (AreDigits text 11 12 × (AreDigits text 14 15 × AreDigits text 17 18))))))
+    → Decides (has_numbers text) (AreDigits text 0 1
+    × (AreDigits text 2 3
+    × (AreDigits text 5 6
+    × (AreDigits text 8 9
+    × (AreDigits text 11 12 × (AreDigits text 14 15 × AreDigits text 17 18))))))
 numbers-Decides text =
     let at = digits-Decides text in
-    Decides-and _ _ (at 0 1) (Decides-and _ _ (at 2 3) (Decides-and _ _ (at 5 6) (Decides-and _ _ (at 8 9) (Decides-and _ _ (at 11 12) (Decides-and _ _ (at 14 15) (at 17 18))))))
+    Decides-and _ _ (at 0 1)
+    (Decides-and _ _ (at 2 3)
+    (Decides-and _ _ (at 5 6)
+    (Decides-and _ _ (at 8 9)
+    (Decides-and _ _ (at 11 12) (Decides-and _ _ (at 14 15) (at 17 18))))))
 
 date_and_time-Decides : (text : List ℕ)
-    → Decides (is_date_and_time text) (IsFromTo 1 12 (number_at text 5 6) × (IsFromTo 1 (days_in_month (pos (year_at text)) (number_at text 5 6)) (number_at text 8 9) × ((number_at text 11 12 < 24) × ((number_at text 14 15 < 60) × (number_at text 17 18 < 60)))))
+    → Decides (is_date_and_time text) (IsFromTo 1 12 (number_at text 5 6)
+    × (IsFromTo 1 (days_in_month (pos (year_at text)) (number_at text 5 6)) (number_at text 8 9)
+    × ((number_at text 11 12 < 24)
+    × ((number_at text 14 15 < 60) × (number_at text 17 18 < 60)))))
 date_and_time-Decides text =
-    Decides-and _ _ (from_to-Decides 1 12 (number_at text 5 6)) (Decides-and _ _ (from_to-Decides 1 (days_in_month (pos (year_at text)) (number_at text 5 6)) (number_at text 8 9))
-    (Decides-and _ _ (Decides-ltb (number_at text 11 12) 24) (Decides-and _ _ (Decides-ltb (number_at text 14 15) 60) (Decides-ltb (number_at text 17 18) 60))))
+    Decides-and _ _ (from_to-Decides 1 12 (number_at text 5 6))
+    (Decides-and _ _
+    (from_to-Decides 1 (days_in_month (pos (year_at text)) (number_at text 5 6))
+    (number_at text 8 9))
+    (Decides-and _ _ (Decides-ltb (number_at text 11 12) 24)
+    (Decides-and _ _ (Decides-ltb (number_at text 14 15) 60)
+    (Decides-ltb (number_at text 17 18) 60))))
 
-moment_text-Decides : (text : List ℕ) → Decides (has_marks text && (has_numbers text && is_date_and_time text)) (IsMomentText text)
+moment_text-Decides : (text : List ℕ)
+    → Decides (has_marks text && (has_numbers text && is_date_and_time text)) (IsMomentText text)
 moment_text-Decides text =
-    let all = Decides-and (has_marks text) (has_numbers text && is_date_and_time text) (marks-Decides text) (Decides-and (has_numbers text) (is_date_and_time text) (numbers-Decides text) (date_and_time-Decides text)) in (
+    let all = Decides-and (has_marks text) (has_numbers text && is_date_and_time text)
+    (marks-Decides text) (Decides-and (has_numbers text) (is_date_and_time text)
+    (numbers-Decides text) (date_and_time-Decides text)) in (
       λ e.
           let h = all.0 e in
           let m = h.0 in
@@ -124,7 +166,8 @@ moment_text-Decides text =
     )
 
 -- two digits are the number that is read at them
-number_read : (text : List ℕ) (i j : ℕ) → AreDigits text i j → HasNumber text i j (number_at text i j)
+number_read : (text : List ℕ) (i j : ℕ) → AreDigits text i j
+    → HasNumber text i j (number_at text i j)
 number_read text i j h = (omega (arith, h.0, h.1), omega (arith, h.0, h.1), omega (arith, h.0, h.1))
 
 date_at : (text : List ℕ) → IsMomentText text → Date
@@ -142,7 +185,8 @@ date_at text h =
 
 -- the number of seconds that the numbers at their places come to
 abbrev seconds_at : (text : List ℕ) → IsMomentText text → ℤ
-seconds_at text h = (pos 86400 *ℤ epoch_day (date_at text h)) +ℤ pos (3600 * number_at text 11 12 + 60 * number_at text 14 15 + number_at text 17 18)
+seconds_at text h = (pos 86400 *ℤ epoch_day (date_at text h)) +ℤ pos
+    (3600 * number_at text 11 12 + 60 * number_at text 14 15 + number_at text 17 18)
 
 abbrev moment_where : (text : List ℕ) (b : Bool) → Decides b (IsMomentText text) → Option ℤ
 moment_where text true d = Some (seconds_at text (d.0 refl))
@@ -150,7 +194,8 @@ moment_where text false d = None
 
 -- decides `MomentOf`
 pub moment_of : List ℕ → Option ℤ
-moment_of text = moment_where text (has_marks text && (has_numbers text && is_date_and_time text)) (moment_text-Decides text)
+moment_of text = moment_where text (has_marks text && (has_numbers text && is_date_and_time text))
+    (moment_text-Decides text)
 
 -- decides `IsMoment`
 abbrev pub moment_part_of : Data → Option ℤ
@@ -164,8 +209,12 @@ is_moment text h = record {
   hour = number_at text 11 12;
   minute = number_at text 14 15;
   second = number_at text 17 18;
-  text_is = text_from_numbers text (number_at text 0 1) (number_at text 2 3) (number_at text 5 6) (number_at text 8 9) (number_at text 11 12) (number_at text 14 15) (number_at text 17 18) h.marks
-      (number_read text 0 1 h.century) (number_read text 2 3 h.years) (number_read text 5 6 h.month) (number_read text 8 9 h.day) (number_read text 11 12 h.hour) (number_read text 14 15 h.minute) (number_read text 17 18 h.second);
+  text_is = text_from_numbers text (number_at text 0 1) (number_at text 2 3) (number_at text 5 6)
+      (number_at text 8 9) (number_at text 11 12) (number_at text 14 15) (number_at text 17 18)
+      h.marks
+      (number_read text 0 1 h.century) (number_read text 2 3 h.years) (number_read text 5 6 h.month)
+      (number_read text 8 9 h.day) (number_read text 11 12 h.hour)
+      (number_read text 14 15 h.minute) (number_read text 17 18 h.second);
   year_is = refl;
   hour_in = h.hour_in;
   minute_in = h.minute_in;
@@ -177,7 +226,8 @@ days_at_most : (year : ℤ) (month : ℕ) → days_in_month year month ≤ 31
 days_at_most year month = grind arith
 
 -- the digits of a number below a hundred, and the number that they are
-digits_back : (n : ℕ) → n < 100 → IsFromTo 48 57 (48 + n / 10) × IsFromTo 48 57 (48 + n % 10) × (10 * (48 + n / 10 - 48) + (48 + n % 10 - 48) ≡ n)
+digits_back : (n : ℕ) → n < 100 → IsFromTo 48 57 (48 + n / 10) × IsFromTo 48 57 (48 + n % 10)
+    × (10 * (48 + n / 10 - 48) + (48 + n % 10 - 48) ≡ n)
 digits_back n h = ((omega arith, omega arith), (omega arith, omega arith), omega arith)
 
 has_moment : (text : List ℕ) (moment : ℤ) → MomentOf text moment → IsMomentText text
@@ -189,11 +239,14 @@ has_moment text moment is = subst IsMomentText (sym is.text_is) whole
         let century = digits_back (is.year / 100) (omega (arith, ints, below)) in
         let years = digits_back (is.year % 100) (omega arith) in
         let month = digits_back is.date.month (omega (arith, is.date.month_in)) in
-        let day = digits_back is.date.day (omega (arith, is.date.day_in, days_at_most is.date.year is.date.month)) in
+        let day = digits_back is.date.day
+        (omega (arith, is.date.day_in, days_at_most is.date.year is.date.month)) in
         let hour = digits_back is.hour (omega (arith, is.hour_in)) in
         let minute = digits_back is.minute (omega (arith, is.minute_in)) in
         let second = digits_back is.second (omega (arith, is.second_in)) in
-        let year : 100 * (10 * (48 + is.year / 100 / 10 - 48) + (48 + is.year / 100 % 10 - 48)) + (10 * (48 + is.year % 100 / 10 - 48) + (48 + is.year % 100 % 10 - 48)) ≡ is.year = omega (arith, century.2, years.2) in
+        let year : 100 * (10 * (48 + is.year / 100 / 10 - 48) + (48 + is.year / 100 % 10 - 48))
+        + (10 * (48 + is.year % 100 / 10 - 48) + (48 + is.year % 100 % 10 - 48)) ≡ is.year =
+        omega (arith, century.2, years.2) in
         record {
           marks = (refl, refl, refl, refl, refl, refl, refl);
           century = (century.0, century.1);
@@ -212,13 +265,17 @@ has_moment text moment is = subst IsMomentText (sym is.text_is) whole
 
 pub moment_of-finds : (text : List ℕ) → Finds (MomentOf text) (moment_of text)
 unfolding moment_of
-moment_of-finds text = go (has_marks text && (has_numbers text && is_date_and_time text)) (moment_text-Decides text)
+moment_of-finds text = go (has_marks text && (has_numbers text && is_date_and_time text))
+    (moment_text-Decides text)
   where
-    go : (b : Bool) (d : Decides b (IsMomentText text)) → Finds (MomentOf text) (moment_where text b d)
+    go : (b : Bool) (d : Decides b (IsMomentText text))
+        → Finds (MomentOf text) (moment_where text b d)
     go true d = is_moment text (d.0 refl)
     go false d = λ moment is. true≢false (sym (d.1 (has_moment text moment is)))
 
-at_text : (found : Option (List ℕ)) → Finds (λ moment. MatchOption found ⊥ (λ text. MomentOf text moment)) (option_and_then moment_of found)
+at_text : (found : Option (List ℕ))
+    → Finds (λ moment. MatchOption found ⊥ (λ text. MomentOf text moment))
+    (option_and_then moment_of found)
 at_text None = λ moment h. h
 at_text (Some text) = moment_of-finds text
 

@@ -1,5 +1,7 @@
 -- The rule that a list of texts is, as a relation and as an answer.
-use Rattle.std.proofs.Common.{subst, ◌≡◌, ◌≢◌, ℕ, List, [], ◌∷◌, length, ◌&&◌, Bool, true, false, codes, cond, Option, Some, None, option_map, refl, sym, ap, ◌∙◌, ◌⊎◌, inl, inr}
+use Rattle.std.proofs.Common.{subst, ◌≡◌, ◌≢◌, ℕ, List, [], ◌∷◌, length, ◌&&◌, Bool, true, false}
+use Rattle.std.proofs.Common.{codes, cond, Option, Some, None, option_map, refl, sym, ap, ◌∙◌, ◌⊎◌}
+use Rattle.std.proofs.Common.{inl, inr}
 use Rattle.std.specs.Str.{str_to_ascii_lowercase, bytes_eq}
 use Rattle.std.proofs.lemmas.Slice.Eq.{bytes_eq-Decides}
 use Rattle.std.proofs.lemmas.Option.{same_Some}
@@ -11,30 +13,37 @@ use Rattle.it_base.proofs.Items.{list_same}
 use Rattle.it_docs.specs.Rule.{is_keyword, IsKeyword, IsSide, IsShort, IsRule, RuleOf}
 use Rattle.it_docs.specs.RuleAnswer.{side_of, short_of, is_match, match_of, prefixed_of, rule_of}
 use Rattle.it_docs.specs.declared.rule.Rule.{Rule}
-use Rattle.it_docs.specs.declared.rule.Rule.TheVariants.{Match, Create, Delete, Modify, Allow, Disallow, Require}
+use Rattle.it_docs.specs.declared.rule.Rule.TheVariants.{Match, Create, Delete, Modify, Allow}
+use Rattle.it_docs.specs.declared.rule.Rule.TheVariants.{Disallow, Require}
 use Rattle.it_docs.specs.declared.rule.Side.{Side}
 use Rattle.it_docs.specs.declared.rule.Side.TheVariants.{Materials, Products}
 
 -- a text that is one keyword is no other
-other_keyword : (a b text : List ℕ) → bytes_eq (str_to_ascii_lowercase a) (str_to_ascii_lowercase b) ≡ false → IsKeyword a text → is_keyword b text ≡ false
+other_keyword : (a b text : List ℕ) → bytes_eq (str_to_ascii_lowercase a) (str_to_ascii_lowercase b)
+    ≡ false → IsKeyword a text → is_keyword b text ≡ false
 other_keyword a b text apart is =
-    let first : str_to_ascii_lowercase text ≡ str_to_ascii_lowercase a = (bytes_eq-Decides (str_to_ascii_lowercase text) (str_to_ascii_lowercase a)).0 is in
+    let first : str_to_ascii_lowercase text ≡ str_to_ascii_lowercase a =
+    (bytes_eq-Decides (str_to_ascii_lowercase text) (str_to_ascii_lowercase a)).0 is in
     ap (λ l. bytes_eq l (str_to_ascii_lowercase b)) first ∙ apart
 
 side_of-IsSide : (side : Side) (text : List ℕ) → IsSide side text → side_of text ≡ Some side
 unfolding side_of
 side_of-IsSide Materials text is = rw is refl
-side_of-IsSide Products text is = rw (other_keyword (codes "PRODUCTS") (codes "MATERIALS") text refl is, is) refl
+side_of-IsSide Products text is =
+    rw (other_keyword (codes "PRODUCTS") (codes "MATERIALS") text refl is, is) refl
 
-first_or : {A : Type 0} (b : Bool) (x : A) (rest : Option A) (r : A) → cond b (Some x) rest ≡ Some r → ((b ≡ true) × (x ≡ r)) ⊎ ((b ≡ false) × (rest ≡ Some r))
+first_or : {A : Type 0} (b : Bool) (x : A) (rest : Option A) (r : A) → cond b (Some x) rest ≡ Some r
+    → ((b ≡ true) × (x ≡ r)) ⊎ ((b ≡ false) × (rest ≡ Some r))
 first_or true x rest r e = inl (refl, cc)
 first_or false x rest r e = inr (refl, e)
 
-either_or : {A : Type 0} (b : Bool) (x rest : Option A) (r : A) → cond b x rest ≡ Some r → ((b ≡ true) × (x ≡ Some r)) ⊎ (rest ≡ Some r)
+either_or : {A : Type 0} (b : Bool) (x rest : Option A) (r : A) → cond b x rest ≡ Some r
+    → ((b ≡ true) × (x ≡ Some r)) ⊎ (rest ≡ Some r)
 either_or true x rest r e = inl (refl, e)
 either_or false x rest r e = inr e
 
-if_some : {A : Type 0} (b : Bool) (x : Option A) (r : A) → cond b x None ≡ Some r → (b ≡ true) × (x ≡ Some r)
+if_some : {A : Type 0} (b : Bool) (x : Option A) (r : A) → cond b x None ≡ Some r → (b ≡ true)
+    × (x ≡ Some r)
 if_some true x r e = (refl, e)
 if_some false x r e = absurd (cc)
 
@@ -42,7 +51,8 @@ both : (a b : Bool) → (a && b) ≡ true → (a ≡ true) × (b ≡ true)
 both true b e = (refl, e)
 both false b e = absurd (cc)
 
-map_some : {A B : Type 0} (f : A → B) (o : Option A) (r : B) → option_map f o ≡ Some r → (a : A) × (o ≡ Some a) × (f a ≡ r)
+map_some : {A B : Type 0} (f : A → B) (o : Option A) (r : B) → option_map f o ≡ Some r → (a : A)
+    × (o ≡ Some a) × (f a ≡ r)
 map_some f None r e = absurd (cc)
 map_some f (Some a) r e = (a, refl, cc)
 
@@ -51,13 +61,16 @@ unfolding side_of
 IsSide-side_of side text e =
     elim (first_or (is_keyword (codes "MATERIALS") text) Materials _ side e) [
       | inl p ↦ subst (λ s. IsSide s text) p.1 p.0
-      | inr p ↦ let q = if_some (is_keyword (codes "PRODUCTS") text) (Some Products) side p.1 in let same : Products ≡ side = cc (q.1) in subst (λ s. IsSide s text) same q.0
+      | inr p ↦ let q = if_some (is_keyword (codes "PRODUCTS") text) (Some Products) side p.1 in
+          let same : Products ≡ side = cc (q.1) in subst (λ s. IsSide s text) same q.0
     ]
 
-short_of-is : (keyword : List ℕ) (operand : List ℕ) (rule : Rule) → short_of keyword operand ≡ Some rule → RuleOf (keyword ∷ operand ∷ []) rule
+short_of-is : (keyword : List ℕ) (operand : List ℕ) (rule : Rule) → short_of keyword operand
+    ≡ Some rule → RuleOf (keyword ∷ operand ∷ []) rule
 unfolding short_of
 short_of-is k x r e =
-    let is_rule = λ (word : List ℕ) (is : IsKeyword word k). let h : IsShort (k ∷ x ∷ []) word x = record { first = k; texts_are = refl; is_first = is } in h in
+    let is_rule = λ (word : List ℕ) (is : IsKeyword word k). let h : IsShort (k ∷ x ∷ []) word x =
+    record { first = k; texts_are = refl; is_first = is } in h in
     let P : Rule → Type 0 = λ r. RuleOf (k ∷ x ∷ []) r in
     elim (first_or (is_keyword (codes "CREATE") k) (Create x) _ r e) [
       | inl p ↦ subst P p.1 (is_rule (codes "CREATE") p.0)
@@ -69,7 +82,9 @@ short_of-is k x r e =
             | inl p ↦ subst P p.1 (is_rule (codes "ALLOW") p.0)
             | inr p ↦ elim (first_or (is_keyword (codes "DISALLOW") k) (Disallow x) _ r p.1) [
               | inl p ↦ subst P p.1 (is_rule (codes "DISALLOW") p.0)
-              | inr p ↦ let q = if_some (is_keyword (codes "REQUIRE") k) (Some (Require x)) r p.1 in let same : Require x ≡ r = cc (q.1) in subst P same (is_rule (codes "REQUIRE") q.0)
+              | inr p ↦ let q = if_some (is_keyword (codes "REQUIRE") k) (Some (Require x)) r p.1 in
+                  let same : Require x ≡ r = cc (q.1) in
+                  subst P same (is_rule (codes "REQUIRE") q.0)
             ]
           ]
         ]
@@ -77,21 +92,27 @@ short_of-is k x r e =
     ]
 
 abbrev AreMatchWords : List ℕ → List ℕ → List ℕ → Type 0
-AreMatchWords match with from = IsKeyword (codes "MATCH") match × (IsKeyword (codes "WITH") with × IsKeyword (codes "FROM") from)
+AreMatchWords match with from = IsKeyword (codes "MATCH") match
+    × (IsKeyword (codes "WITH") with × IsKeyword (codes "FROM") from)
 
-match_words : (match with from : List ℕ) → is_match match with from ≡ true → AreMatchWords match with from
+match_words : (match with from : List ℕ) → is_match match with from ≡ true
+    → AreMatchWords match with from
 match_words m w f e =
-    let first = both (is_keyword (codes "MATCH") m) (is_keyword (codes "WITH") w && is_keyword (codes "FROM") f) e in
+    let first = both (is_keyword (codes "MATCH") m) (is_keyword (codes "WITH") w
+    && is_keyword (codes "FROM") f) e in
     (first.0, both (is_keyword (codes "WITH") w) (is_keyword (codes "FROM") f) first.1)
 
-match_of-is : (pattern source side target step : List ℕ) (rule : Rule) → match_of pattern source side target step ≡ Some rule → (s : Side) × IsSide s side × (Match pattern source s target step ≡ rule)
+match_of-is : (pattern source side target step : List ℕ) (rule : Rule)
+    → match_of pattern source side target step ≡ Some rule → (s : Side) × IsSide s side
+    × (Match pattern source s target step ≡ rule)
 unfolding match_of
 match_of-is pattern source side target step rule e =
     let found = map_some (λ s. Match pattern source s target step) (side_of side) rule e in
     (found.0, IsSide-side_of found.0 side found.1, found.2)
 
 -- what is answered is the rule
-pub rule_of-is : (texts : List (List ℕ)) (rule : Rule) → rule_of texts ≡ Some rule → RuleOf texts rule
+pub rule_of-is : (texts : List (List ℕ)) (rule : Rule) → rule_of texts ≡ Some rule
+    → RuleOf texts rule
 unfolding rule_of prefixed_of
 rule_of-is [] r e = absurd (cc)
 rule_of-is (a ∷ []) r e = absurd (cc)
@@ -104,7 +125,22 @@ rule_of-is (m ∷ p ∷ w ∷ d ∷ f ∷ s ∷ []) r e =
     let words = match_words m w f q.0 in
     let found = match_of-is p [] d [] s r q.1 in
     subst (λ r. RuleOf (m ∷ p ∷ w ∷ d ∷ f ∷ s ∷ []) r) found.2
-    (inl (refl, refl, record { match = m; with = w; side_word = d; from = f; texts_are = refl; is_match = words.0; is_with = words.1.0; is_side = found.1; is_from = words.1.1 }))
+    (inl (
+      refl,
+      refl,
+      record {
+        match = m;
+        with = w;
+        side_word = d;
+        from = f;
+        texts_are = refl;
+        is_match =
+            words.0;
+        is_with = words.1.0;
+        is_side = found.1;
+        is_from = words.1.1;
+      },
+    ))
 rule_of-is (a ∷ b ∷ c ∷ d ∷ f ∷ g ∷ h ∷ []) r e = absurd (cc)
 rule_of-is (m ∷ p ∷ a ∷ b ∷ c ∷ d ∷ f ∷ s ∷ []) r e =
     let P : Rule → Type 0 = λ r. RuleOf (m ∷ p ∷ a ∷ b ∷ c ∷ d ∷ f ∷ s ∷ []) r in
@@ -113,27 +149,83 @@ rule_of-is (m ∷ p ∷ a ∷ b ∷ c ∷ d ∷ f ∷ s ∷ []) r e =
           let first = both (is_keyword (codes "IN") a) (is_match m c f) q.0 in
           let words = match_words m c f first.1 in
           let found = match_of-is p b d [] s r q.1 in
-          subst P found.2 (inr (inl (refl, record { match = m; within = a; with = c; side_word = d; from = f; texts_are = refl; is_match = words.0; is_within = first.0; is_with = words.1.0; is_side = found.1; is_from = words.1.1 })))
+          subst P found.2
+          (inr (inl (
+            refl,
+            record {
+              match = m;
+              within = a;
+              with = c;
+              side_word = d;
+              from = f;
+              texts_are = refl;
+              is_match =
+                  words.0;
+              is_within = first.0;
+              is_with = words.1.0;
+              is_side = found.1;
+              is_from =
+                  words.1.1;
+            },
+          )))
       | inr q ↦
-          let holds = if_some (is_keyword (codes "IN") c && is_match m a f) (match_of p [] b d s) r q in
+          let holds = if_some (is_keyword (codes "IN") c && is_match m a f) (match_of p [] b d s) r
+          q in
           let first = both (is_keyword (codes "IN") c) (is_match m a f) holds.0 in
           let words = match_words m a f first.1 in
           let found = match_of-is p [] b d s r holds.1 in
-          subst P found.2 (inr (inr (inl (refl, record { match = m; with = a; side_word = b; within = c; from = f; texts_are = refl; is_match = words.0; is_with = words.1.0; is_side = found.1; is_within = first.0; is_from = words.1.1 }))))
+          subst P found.2
+          (inr (inr (inl (
+            refl,
+            record {
+              match = m;
+              with = a;
+              side_word = b;
+              within = c;
+              from = f;
+              texts_are = refl;
+              is_match =
+                  words.0;
+              is_with = words.1.0;
+              is_side = found.1;
+              is_within = first.0;
+              is_from =
+                  words.1.1;
+            },
+          ))))
     ]
 rule_of-is (a ∷ b ∷ c ∷ d ∷ f ∷ g ∷ h ∷ i ∷ j ∷ []) r e = absurd (cc)
 rule_of-is (m ∷ p ∷ i ∷ a ∷ w ∷ d ∷ j ∷ b ∷ f ∷ s ∷ []) r e =
-    let q = if_some ((is_keyword (codes "IN") i && is_keyword (codes "IN") j) && is_match m w f) _ r e in
-    let first = both (is_keyword (codes "IN") i && is_keyword (codes "IN") j) (is_match m w f) q.0 in
+    let q = if_some ((is_keyword (codes "IN") i && is_keyword (codes "IN") j) && is_match m w f) _ r
+    e in
+    let first = both (is_keyword (codes "IN") i && is_keyword (codes "IN") j)
+    (is_match m w f) q.0 in
     let within = both (is_keyword (codes "IN") i) (is_keyword (codes "IN") j) first.0 in
     let words = match_words m w f first.1 in
     let found = match_of-is p a d b s r q.1 in
     subst (λ r. RuleOf (m ∷ p ∷ i ∷ a ∷ w ∷ d ∷ j ∷ b ∷ f ∷ s ∷ []) r) found.2
-    (inr (inr (inr (record { match = m; within = i; with = w; side_word = d; within_target = j; from = f; texts_are = refl; is_match = words.0; is_within = within.0; is_with = words.1.0; is_side = found.1; is_within_target = within.1; is_from = words.1.1 }))))
+    (inr (inr (inr (record {
+      match = m;
+      within = i;
+      with = w;
+      side_word = d;
+      within_target = j;
+      from = f;
+      texts_are =
+          refl;
+      is_match = words.0;
+      is_within = within.0;
+      is_with = words.1.0;
+      is_side =
+          found.1;
+      is_within_target = within.1;
+      is_from = words.1.1;
+    }))))
 rule_of-is (a ∷ b ∷ c ∷ d ∷ f ∷ g ∷ h ∷ i ∷ j ∷ k ∷ l ∷ rest) r e = absurd (cc)
 
 -- lists of other lengths are no MATCH with a prefix
-pub no_prefixed : (texts : List (List ℕ)) → length texts ≢ 8 → length texts ≢ 10 → None ≡ prefixed_of texts
+pub no_prefixed : (texts : List (List ℕ)) → length texts ≢ 8 → length texts ≢ 10
+    → None ≡ prefixed_of texts
 unfolding prefixed_of
 no_prefixed [] h8 h10 = refl
 no_prefixed (a ∷ []) h8 h10 = refl
@@ -149,35 +241,105 @@ no_prefixed (m ∷ p ∷ i ∷ a ∷ w ∷ d ∷ j ∷ b ∷ f ∷ s ∷ []) h8 
 no_prefixed (a ∷ b ∷ c ∷ d ∷ f ∷ g ∷ h ∷ i ∷ j ∷ k ∷ l ∷ rest) h8 h10 = refl
 
 -- each rule is answered
-pub RuleOf-answer : (texts : List (List ℕ)) (rule : Rule) → RuleOf texts rule → rule_of texts ≡ Some rule
+pub RuleOf-answer : (texts : List (List ℕ)) (rule : Rule) → RuleOf texts rule
+    → rule_of texts ≡ Some rule
 unfolding rule_of prefixed_of short_of match_of
 RuleOf-answer texts (Create x) is = rw (is.texts_are, is.is_first) refl
-RuleOf-answer texts (Delete x) is = rw (is.texts_are, other_keyword (codes "DELETE") (codes "CREATE") is.first refl is.is_first, is.is_first) refl
+RuleOf-answer texts (Delete x) is =
+    rw (
+      is.texts_are,
+      other_keyword (codes "DELETE") (codes "CREATE") is.first refl is.is_first,
+      is.is_first,
+    ) refl
 RuleOf-answer texts (Modify x) is =
-    let apart = λ (word : List ℕ) (differ : bytes_eq (str_to_ascii_lowercase (codes "MODIFY")) (str_to_ascii_lowercase word) ≡ false). other_keyword (codes "MODIFY") word is.first differ is.is_first in
+    let apart = λ (word : List ℕ) (differ : bytes_eq (str_to_ascii_lowercase (codes "MODIFY"))
+    (str_to_ascii_lowercase word) ≡ false). other_keyword (codes "MODIFY") word is.first differ
+    is.is_first in
     rw (is.texts_are, apart (codes "CREATE") refl, apart (codes "DELETE") refl, is.is_first) refl
 RuleOf-answer texts (Allow x) is =
-    let apart = λ (word : List ℕ) (differ : bytes_eq (str_to_ascii_lowercase (codes "ALLOW")) (str_to_ascii_lowercase word) ≡ false). other_keyword (codes "ALLOW") word is.first differ is.is_first in
-    rw (is.texts_are, apart (codes "CREATE") refl, apart (codes "DELETE") refl, apart (codes "MODIFY") refl, is.is_first) refl
+    let apart = λ (word : List ℕ) (differ : bytes_eq (str_to_ascii_lowercase (codes "ALLOW"))
+    (str_to_ascii_lowercase word) ≡ false). other_keyword (codes "ALLOW") word is.first differ
+    is.is_first in
+    rw (
+      is.texts_are,
+      apart (codes "CREATE") refl,
+      apart (codes "DELETE") refl,
+      apart (codes "MODIFY") refl,
+      is.is_first,
+    ) refl
 RuleOf-answer texts (Disallow x) is =
-    let apart = λ (word : List ℕ) (differ : bytes_eq (str_to_ascii_lowercase (codes "DISALLOW")) (str_to_ascii_lowercase word) ≡ false). other_keyword (codes "DISALLOW") word is.first differ is.is_first in
-    rw (is.texts_are, apart (codes "CREATE") refl, apart (codes "DELETE") refl, apart (codes "MODIFY") refl, apart (codes "ALLOW") refl, is.is_first) refl
+    let apart = λ (word : List ℕ) (differ : bytes_eq (str_to_ascii_lowercase (codes "DISALLOW"))
+    (str_to_ascii_lowercase word) ≡ false). other_keyword (codes "DISALLOW") word is.first
+    differ is.is_first in
+    rw (
+      is.texts_are,
+      apart (codes "CREATE") refl,
+      apart (codes "DELETE") refl,
+      apart (codes "MODIFY") refl,
+      apart (codes "ALLOW") refl,
+      is.is_first,
+    ) refl
 RuleOf-answer texts (Require x) is =
-    let apart = λ (word : List ℕ) (differ : bytes_eq (str_to_ascii_lowercase (codes "REQUIRE")) (str_to_ascii_lowercase word) ≡ false). other_keyword (codes "REQUIRE") word is.first differ is.is_first in
-    rw (is.texts_are, apart (codes "CREATE") refl, apart (codes "DELETE") refl, apart (codes "MODIFY") refl, apart (codes "ALLOW") refl, apart (codes "DISALLOW") refl, is.is_first) refl
+    let apart = λ (word : List ℕ) (differ : bytes_eq (str_to_ascii_lowercase (codes "REQUIRE"))
+    (str_to_ascii_lowercase word) ≡ false). other_keyword (codes "REQUIRE") word is.first differ
+    is.is_first in
+    rw (
+      is.texts_are,
+      apart (codes "CREATE") refl,
+      apart (codes "DELETE") refl,
+      apart (codes "MODIFY") refl,
+      apart (codes "ALLOW") refl,
+      apart (codes "DISALLOW") refl,
+      is.is_first,
+    ) refl
 RuleOf-answer texts (Match p a side b s) is =
     elim is [
-      | inl h ↦ let m = h.2 in rw (m.texts_are, m.is_match, m.is_with, m.is_from, side_of-IsSide side m.side_word m.is_side, h.0, h.1) refl
-      | inr (inl h) ↦ let m = h.1 in rw (m.texts_are, m.is_match, m.is_within, m.is_with, m.is_from, side_of-IsSide side m.side_word m.is_side, h.0) refl
+      | inl h ↦ let m = h.2 in
+          rw (
+            m.texts_are,
+            m.is_match,
+            m.is_with,
+            m.is_from,
+            side_of-IsSide side m.side_word m.is_side,
+            h.0,
+            h.1,
+          ) refl
+      | inr (inl h) ↦ let m = h.1 in rw (
+        m.texts_are,
+        m.is_match,
+        m.is_within,
+        m.is_with,
+        m.is_from,
+        side_of-IsSide side m.side_word m.is_side,
+        h.0,
+      ) refl
       | inr (inr (inl h)) ↦
           let m = h.1 in
           let no_source = other_keyword (codes "WITH") (codes "IN") m.with refl m.is_with in
-          rw (m.texts_are, no_source, m.is_match, m.is_within, m.is_with, m.is_from, side_of-IsSide side m.side_word m.is_side, h.0) refl
-      | inr (inr (inr m)) ↦ rw (m.texts_are, m.is_match, m.is_within, m.is_within_target, m.is_with, m.is_from, side_of-IsSide side m.side_word m.is_side) refl
+          rw (
+            m.texts_are,
+            no_source,
+            m.is_match,
+            m.is_within,
+            m.is_with,
+            m.is_from,
+            side_of-IsSide side m.side_word m.is_side,
+            h.0,
+          ) refl
+      | inr (inr (inr m)) ↦ rw (
+        m.texts_are,
+        m.is_match,
+        m.is_within,
+        m.is_within_target,
+        m.is_with,
+        m.is_from,
+        side_of-IsSide side m.side_word m.is_side,
+      ) refl
     ]
 
 -- what is answered is what is found
-pub found-rule_of : (texts : List (List ℕ)) (found : Option Rule) → found ≡ rule_of texts → Finds (RuleOf texts) found
+pub found-rule_of : (texts : List (List ℕ)) (found : Option Rule) → found ≡ rule_of texts
+    → Finds (RuleOf texts) found
 found-rule_of texts None e = λ rule is. let h = e ∙ RuleOf-answer texts rule is in absurd (cc h)
 found-rule_of texts (Some rule) e = rule_of-is texts rule (sym e)
 
@@ -185,6 +347,9 @@ pub text_same : (d : Data) (a b : List ℕ) → IsText d a → IsText d b → a 
 text_same d a b h k = same_Some a b (sym h ∙ k)
 
 -- what the texts are, the part is that is a list of them
-pub found_of_texts : (d : Data) (texts : List (List ℕ)) → IsList IsText d texts → (found : Option Rule) → Finds (RuleOf texts) found → Finds (IsRule d) found
-found_of_texts d texts is_list None none = λ rule is. none rule (subst (λ ts. RuleOf ts rule) (list_same IsText text_same d is.0 texts is.1 is_list) is.2)
+pub found_of_texts : (d : Data) (texts : List (List ℕ)) → IsList IsText d texts
+    → (found : Option Rule) → Finds (RuleOf texts) found → Finds (IsRule d) found
+found_of_texts d texts is_list None none =
+    λ rule is. none rule
+    (subst (λ ts. RuleOf ts rule) (list_same IsText text_same d is.0 texts is.1 is_list) is.2)
 found_of_texts d texts is_list (Some rule) is = (texts, is_list, is)

@@ -32,10 +32,15 @@ abbrev pub OneRule : Type 0
 OneRule = (texts : List (List ℕ)) (x y : Rule) → RuleOf texts x → RuleOf texts y → x ≡ y
 
 abbrev pub OneStatement : Type 0
-OneStatement = (bytes : List ℕ) (x y : Statement) → StatementOf bytes x → StatementOf bytes y → x ≡ y
+OneStatement =
+    (bytes : List ℕ) (x y : Statement) → StatementOf bytes x → StatementOf bytes y → x ≡ y
 
 abbrev pub BadPartIsNoLayout : Type 0
-BadPartIsNoLayout = (bytes : List ℕ) (part : LayoutPart) → LayoutPartOf bytes part → (layout : Layout) → ¬ LayoutOf bytes layout
+BadPartIsNoLayout =
+    (bytes : List ℕ) (part : LayoutPart) → LayoutPartOf bytes part
+    → (layout : Layout) → ¬ LayoutOf bytes layout
 
 abbrev pub BadPartIsNoPolicy : Type 0
-BadPartIsNoPolicy = (bytes : List ℕ) (part : PolicyPart) → PolicyPartOf bytes part → (policy : Policy) → ¬ PolicyOf bytes policy
+BadPartIsNoPolicy =
+    (bytes : List ℕ) (part : PolicyPart) → PolicyPartOf bytes part
+    → (policy : Policy) → ¬ PolicyOf bytes policy

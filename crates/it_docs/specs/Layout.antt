@@ -9,11 +9,11 @@ use Rattle.it_base.specs.Text.{IsText}
 use Rattle.it_dsse.specs.KeyObject.{IsKeyObject}
 use Rattle.it_docs.specs.Moment.{IsMoment}
 use Rattle.it_docs.specs.Step.{IsInspection, IsStep}
-use Rattle.it_docs.specs.Table.{IsTable}
+use Rattle.it_base.specs.Table.{IsTable}
 use Rattle.it_docs.specs.declared.layout.Layout.{Layout}
 
--- a layout of a document; what is missing is empty. That names differ and thresholds are at least 1 is
--- kept by the types, so a document where they are not is no layout.
+-- a layout of a document; what is missing is empty. That names differ and thresholds are at least 1
+-- is kept by the types, so a document where they are not is no layout.
 pub record IsLayout (d : Data) (layout : Layout) : Type 0 where
   pub type_is : IsPart IsText (codes "_type") d (codes "layout")
   pub expires : IsPart IsMoment (codes "expires") d layout.expires

@@ -10,15 +10,17 @@ use Rattle.it_base.specs.Text.{IsText}
 use Rattle.it_dsse.specs.KeyObject.{IsKeyObject}
 use Rattle.it_dsse.specs.declared.key_object.KeyObject.{KeyObject}
 use Rattle.it_docs.specs.FirstPart.{IsFirstPart}
-use Rattle.it_docs.specs.List.{IsListOrMissing, PartItemReads}
+use Rattle.it_base.specs.List.{IsListOrMissing, PartItemReads}
 use Rattle.it_docs.specs.Moment.{IsMoment}
-use Rattle.it_docs.specs.Names.{IsFirstRepeat}
+use Rattle.it_docs.specs.Repeats.{IsFirstRepeat}
 use Rattle.it_docs.specs.Step.{IsInspection, IsStep, names_of}
-use Rattle.it_docs.specs.Table.{IsTable, Named}
+use Rattle.it_base.specs.Table.{IsTable, Named}
 use Rattle.it_docs.specs.declared.layout_fault.LayoutFault.{LayoutFault}
 use Rattle.it_docs.specs.declared.layout_fault.LayoutFault.TheVariants.{BadLayout, OutOfMemory}
 use Rattle.it_docs.specs.declared.layout_fault.LayoutPart.{LayoutPart}
-use Rattle.it_docs.specs.declared.layout_fault.LayoutPart.TheVariants.{Json, WrongType, Expires, Keys, Steps, Step, Inspects, Inspect, DuplicateName}
+use Rattle.it_docs.specs.declared.layout_fault.LayoutPart.TheVariants.{Json, WrongType, Expires}
+use Rattle.it_docs.specs.declared.layout_fault.LayoutPart.TheVariants.{Keys, Steps, Step, Inspects}
+use Rattle.it_docs.specs.declared.layout_fault.LayoutPart.TheVariants.{Inspect, DuplicateName}
 use Rattle.it_docs.specs.declared.step.Inspection.{Inspection}
 use Rattle.it_docs.specs.declared.step.Step.{Step as LayoutStep}
 
@@ -39,14 +41,17 @@ abbrev pub PartReads : Data → LayoutPart → Type 0
 PartReads d Json = IsTrue (is_some (as_object d))
 PartReads d WrongType = IsPart IsText (codes "_type") d (codes "layout")
 PartReads d Expires = (moment : ℤ) × IsPart IsMoment (codes "expires") d moment
-PartReads d Keys = (keys : Named KeyObject) × IsPartOr (IsTable IsKeyObject) empty (codes "keys") d keys
+PartReads d Keys =
+    (keys : Named KeyObject) × IsPartOr (IsTable IsKeyObject) empty (codes "keys") d keys
 PartReads d Steps = IsListOrMissing (codes "steps") d
 PartReads d (Step n) = PartItemReads IsStep (codes "steps") d n
 PartReads d Inspects = IsListOrMissing (codes "inspect") d
 PartReads d (Inspect n) = PartItemReads IsInspection (codes "inspect") d n
 PartReads d (DuplicateName name) =
-    (steps : List LayoutStep) (inspections : List Inspection) → IsPartOr (IsList IsStep) [] (codes "steps") d steps
-    → IsPartOr (IsList IsInspection) [] (codes "inspect") d inspections → ¬ IsFirstRepeat (names_of steps inspections) name
+    (steps : List LayoutStep) (inspections : List Inspection)
+    → IsPartOr (IsList IsStep) [] (codes "steps") d steps
+    → IsPartOr (IsList IsInspection) [] (codes "inspect") d inspections
+    → ¬ IsFirstRepeat (names_of steps inspections) name
 
 -- the bytes are a document with this part
 abbrev pub Reads : List ℕ → LayoutPart → Type 0
@@ -64,13 +69,16 @@ IsLayoutFault d OutOfMemory = Unit {0}
 -- why the steps of a document do not read
 abbrev pub IsStepsFault : Data → LayoutFault → Type 0
 IsStepsFault d (BadLayout Steps) = ¬ PartReads d Steps
-IsStepsFault d (BadLayout (Step n)) = PartReads d Steps × (¬ PartReads d (Step n)) × ((m : ℕ) → m < n → PartReads d (Step m))
+IsStepsFault d (BadLayout (Step n)) =
+    PartReads d Steps × (¬ PartReads d (Step n)) × ((m : ℕ) → m < n → PartReads d (Step m))
 IsStepsFault d (BadLayout part) = ⊥
 IsStepsFault d OutOfMemory = Unit {0}
 
 -- why the inspections of a document do not read
 abbrev pub IsInspectionsFault : Data → LayoutFault → Type 0
 IsInspectionsFault d (BadLayout Inspects) = ¬ PartReads d Inspects
-IsInspectionsFault d (BadLayout (Inspect n)) = PartReads d Inspects × (¬ PartReads d (Inspect n)) × ((m : ℕ) → m < n → PartReads d (Inspect m))
+IsInspectionsFault d (BadLayout (Inspect n)) =
+    PartReads d Inspects × (¬ PartReads d (Inspect n))
+    × ((m : ℕ) → m < n → PartReads d (Inspect m))
 IsInspectionsFault d (BadLayout part) = ⊥
 IsInspectionsFault d OutOfMemory = Unit {0}

@@ -1,5 +1,5 @@
--- Levels of builders and of expectations, the build levels of SLSA v1.0. That a policy gives a builder
--- its level, and that a level which is missing is 0, is this profile's choice.
+-- Levels of builders and of expectations, the build levels of SLSA v1.0. That a policy gives a
+-- builder its level, and that a level which is missing is 0, is this profile's choice.
 use Rattle.std.specs.Prelude.{◌≡◌, ℕ, ◌≤◌, Some, codes, option_and_then}
 use Rattle.serde_json.specs.Data.{Data}
 use Rattle.serde_json.specs.Find.{as_number, as_u64}

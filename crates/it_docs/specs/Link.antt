@@ -5,8 +5,8 @@ use Rattle.serde_json.specs.Data.{Data}
 use Rattle.it_base.specs.Document.{OfDocument}
 use Rattle.it_base.specs.Parts.{IsPart, IsPartOr}
 use Rattle.it_base.specs.Text.{IsText}
-use Rattle.it_docs.specs.Digest.{IsDigestSet}
-use Rattle.it_docs.specs.Table.{IsTable}
+use Rattle.it_digest.specs.Digest.{IsDigestSet}
+use Rattle.it_base.specs.Table.{IsTable}
 use Rattle.it_docs.specs.declared.link.Link.{Link}
 
 -- a link of a document; maps that are missing are empty (this profile's choice)

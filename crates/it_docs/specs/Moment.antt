@@ -1,6 +1,7 @@
 -- Moments in UTC: the date and time of RFC 3339 in its one form of 20 bytes, without leap seconds
 -- (this profile's choice).
-use Rattle.std.specs.Prelude.{◌≡◌, ℕ, ◌+◌, ◌*◌, ◌/◌, ◌%◌, ◌<◌, ℤ, pos, ◌+ℤ◌, ◌*ℤ◌, List, [], ◌∷◌, ◌++◌, MatchOption}
+use Rattle.std.specs.Prelude.{◌≡◌, ℕ, ◌+◌, ◌*◌, ◌/◌, ◌%◌, ◌<◌, ℤ, pos, ◌+ℤ◌, ◌*ℤ◌, List, [], ◌∷◌}
+use Rattle.std.specs.Prelude.{◌++◌, MatchOption}
 use Rattle.serde_json.specs.Data.{Data}
 use Rattle.serde_json.specs.Find.{as_str}
 use Rattle.jiff.specs.Types.{Date}
@@ -17,7 +18,8 @@ AreTwoDigits tens ones n = (n < 100) × (tens ≡ 48 + n / 10) × (ones ≡ 48 +
 -- `YYYY-MM-DDThh:mm:ssZ`
 abbrev pub moment_text : ℕ → ℕ → ℕ → ℕ → ℕ → ℕ → List ℕ
 moment_text year month day hour minute second =
-    two_digits_of (year / 100) ++ two_digits_of (year % 100) ++ 45 ∷ two_digits_of month ++ 45 ∷ two_digits_of day
+    two_digits_of (year / 100) ++ two_digits_of (year % 100)
+    ++ 45 ∷ two_digits_of month ++ 45 ∷ two_digits_of day
     ++ 84 ∷ two_digits_of hour ++ 58 ∷ two_digits_of minute ++ 58 ∷ two_digits_of second ++ 90 ∷ []
 
 -- the text is this moment, as the number of seconds from 1970-01-01T00:00:00Z: a date of the

@@ -1,4 +1,5 @@
--- The payload type of the documents of in-toto (DSSE v1.0, "Envelope", payloadType; in-toto Attestation v1, envelope).
+-- The payload type of the documents of in-toto (DSSE v1.0, "Envelope", payloadType; in-toto
+-- Attestation v1, envelope).
 use Rattle.std.specs.Prelude.{ℕ, List, codes}
 
 -- layouts, links and Statements travel under this type

@@ -8,11 +8,11 @@ use Rattle.it_base.specs.Sequence.{IsList}
 use Rattle.it_base.specs.Text.{IsText}
 use Rattle.it_dsse.specs.KeyObject.{IsKeyObject}
 use Rattle.it_dsse.specs.declared.key_object.KeyObject.{KeyObject}
-use Rattle.it_docs.specs.Json.{no_fields}
+use Rattle.it_base.specs.Json.{no_fields}
 use Rattle.it_docs.specs.Level.{IsLevelPart}
 use Rattle.it_docs.specs.Rule.{IsRule}
-use Rattle.it_docs.specs.Table.{IsTable, Named}
-use Rattle.it_docs.specs.TreeOf.{IsMembers}
+use Rattle.it_base.specs.Table.{IsTable, Named}
+use Rattle.it_base.specs.TreeOf.{IsMembers}
 use Rattle.it_docs.specs.declared.policy.Builder.{Builder}
 use Rattle.it_docs.specs.declared.policy.Expectation.{Expectation}
 use Rattle.it_docs.specs.declared.policy.Policy.{Policy}
@@ -37,8 +37,8 @@ pub record HasOwners (d : Data) (owners : Named KeyObject) : Type 0 where
   pub part : IsPart (IsTable IsKeyObject) (codes "owners") d owners
   pub some : owners ≢ empty
 
--- a policy of a document; that there is an owner is kept by the type, so a document without any is no
--- policy
+-- a policy of a document; that there is an owner is kept by the type, so a document without any is
+-- no policy
 pub record IsPolicy (d : Data) (policy : Policy) : Type 0 where
   pub owners : IsPart (IsTable IsKeyObject) (codes "owners") d policy.owners
   pub deliver : IsPartOr (IsList IsRule) [] (codes "deliver") d policy.deliver

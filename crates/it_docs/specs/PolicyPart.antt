@@ -7,14 +7,15 @@ use Rattle.it_base.specs.Parts.{IsPartOr}
 use Rattle.it_base.specs.Sequence.{IsList}
 use Rattle.it_dsse.specs.declared.key_object.KeyObject.{KeyObject}
 use Rattle.it_docs.specs.FirstPart.{IsFirstPart}
-use Rattle.it_docs.specs.List.{IsListOrMissing, PartItemReads}
+use Rattle.it_base.specs.List.{IsListOrMissing, PartItemReads}
 use Rattle.it_docs.specs.Policy.{HasOwners, IsExpectation}
 use Rattle.it_docs.specs.Rule.{IsRule}
-use Rattle.it_docs.specs.Table.{Named}
+use Rattle.it_base.specs.Table.{Named}
 use Rattle.it_docs.specs.declared.policy_fault.PolicyFault.{PolicyFault}
 use Rattle.it_docs.specs.declared.policy_fault.PolicyFault.TheVariants.{BadPolicy, OutOfMemory}
 use Rattle.it_docs.specs.declared.policy_fault.PolicyPart.{PolicyPart}
-use Rattle.it_docs.specs.declared.policy_fault.PolicyPart.TheVariants.{Json, Owners, Deliver, Expectations, Expectation}
+use Rattle.it_docs.specs.declared.policy_fault.PolicyPart.TheVariants.{Json, Owners, Deliver}
+use Rattle.it_docs.specs.declared.policy_fault.PolicyPart.TheVariants.{Expectations, Expectation}
 use Rattle.it_docs.specs.declared.rule.Rule.{Rule}
 
 -- the parts in their order; of expectations the least number comes first
@@ -49,6 +50,8 @@ IsPolicyFault d OutOfMemory = Unit {0}
 -- why the expectations of a document do not read
 abbrev pub IsExpectationsFault : Data → PolicyFault → Type 0
 IsExpectationsFault d (BadPolicy Expectations) = ¬ PartReads d Expectations
-IsExpectationsFault d (BadPolicy (Expectation n)) = PartReads d Expectations × (¬ PartReads d (Expectation n)) × ((m : ℕ) → m < n → PartReads d (Expectation m))
+IsExpectationsFault d (BadPolicy (Expectation n)) =
+    PartReads d Expectations × (¬ PartReads d (Expectation n))
+    × ((m : ℕ) → m < n → PartReads d (Expectation m))
 IsExpectationsFault d (BadPolicy part) = ⊥
 IsExpectationsFault d OutOfMemory = Unit {0}

@@ -6,7 +6,8 @@ use Rattle.serde_json.specs.Data.{Data}
 use Rattle.it_base.specs.Sequence.{IsList}
 use Rattle.it_base.specs.Text.{IsText}
 use Rattle.it_docs.specs.declared.rule.Rule.{Rule}
-use Rattle.it_docs.specs.declared.rule.Rule.TheVariants.{Match, Create, Delete, Modify, Allow, Disallow, Require}
+use Rattle.it_docs.specs.declared.rule.Rule.TheVariants.{Match, Create, Delete, Modify, Allow}
+use Rattle.it_docs.specs.declared.rule.Rule.TheVariants.{Disallow, Require}
 use Rattle.it_docs.specs.declared.rule.Side.{Side}
 use Rattle.it_docs.specs.declared.rule.Side.TheVariants.{Materials, Products}
 
@@ -29,7 +30,8 @@ pub record IsShort (texts : List (List ℕ)) (keyword operand : List ℕ) : Type
   pub is_first : IsKeyword keyword first
 
 -- MATCH pattern WITH side FROM step
-pub record IsPlainMatch (texts : List (List ℕ)) (pattern : List ℕ) (side : Side) (step : List ℕ) : Type 0 where
+pub record IsPlainMatch (texts : List (List ℕ)) (pattern : List ℕ) (side : Side) (step : List ℕ)
+    : Type 0 where
   pub match : List ℕ
   pub with : List ℕ
   pub side_word : List ℕ
@@ -41,7 +43,8 @@ pub record IsPlainMatch (texts : List (List ℕ)) (pattern : List ℕ) (side : S
   pub is_from : IsKeyword (codes "FROM") from
 
 -- MATCH pattern IN source WITH side FROM step
-pub record IsSourceMatch (texts : List (List ℕ)) (pattern source : List ℕ) (side : Side) (step : List ℕ) : Type 0 where
+pub record IsSourceMatch (texts : List (List ℕ)) (pattern source : List ℕ)
+    (side : Side) (step : List ℕ) : Type 0 where
   pub match : List ℕ
   pub within : List ℕ
   pub with : List ℕ
@@ -55,7 +58,8 @@ pub record IsSourceMatch (texts : List (List ℕ)) (pattern source : List ℕ) (
   pub is_from : IsKeyword (codes "FROM") from
 
 -- MATCH pattern WITH side IN target FROM step
-pub record IsTargetMatch (texts : List (List ℕ)) (pattern : List ℕ) (side : Side) (target step : List ℕ) : Type 0 where
+pub record IsTargetMatch (texts : List (List ℕ)) (pattern : List ℕ)
+    (side : Side) (target step : List ℕ) : Type 0 where
   pub match : List ℕ
   pub with : List ℕ
   pub side_word : List ℕ
@@ -69,14 +73,17 @@ pub record IsTargetMatch (texts : List (List ℕ)) (pattern : List ℕ) (side : 
   pub is_from : IsKeyword (codes "FROM") from
 
 -- MATCH pattern IN source WITH side IN target FROM step
-pub record IsFullMatch (texts : List (List ℕ)) (pattern source : List ℕ) (side : Side) (target step : List ℕ) : Type 0 where
+pub record IsFullMatch (texts : List (List ℕ)) (pattern source : List ℕ)
+    (side : Side) (target step : List ℕ) : Type 0 where
   pub match : List ℕ
   pub within : List ℕ
   pub with : List ℕ
   pub side_word : List ℕ
   pub within_target : List ℕ
   pub from : List ℕ
-  pub texts_are : texts ≡ match ∷ pattern ∷ within ∷ source ∷ with ∷ side_word ∷ within_target ∷ target ∷ from ∷ step ∷ []
+  pub texts_are : texts
+      ≡ match ∷ pattern ∷ within ∷ source ∷ with ∷ side_word
+      ∷ within_target ∷ target ∷ from ∷ step ∷ []
   pub is_match : IsKeyword (codes "MATCH") match
   pub is_within : IsKeyword (codes "IN") within
   pub is_with : IsKeyword (codes "WITH") with
@@ -87,8 +94,10 @@ pub record IsFullMatch (texts : List (List ℕ)) (pattern source : List ℕ) (si
 -- the texts are a MATCH; a prefix that is missing is empty
 abbrev pub MatchOf : List (List ℕ) → List ℕ → List ℕ → Side → List ℕ → List ℕ → Type 0
 MatchOf texts pattern source side target step =
-    ((source ≡ []) × (target ≡ []) × IsPlainMatch texts pattern side step) ⊎ ((target ≡ []) × IsSourceMatch texts pattern source side step)
-    ⊎ ((source ≡ []) × IsTargetMatch texts pattern side target step) ⊎ IsFullMatch texts pattern source side target step
+    ((source ≡ []) × (target ≡ []) × IsPlainMatch texts pattern side step)
+    ⊎ ((target ≡ []) × IsSourceMatch texts pattern source side step)
+    ⊎ ((source ≡ []) × IsTargetMatch texts pattern side target step)
+    ⊎ IsFullMatch texts pattern source side target step
 
 -- the texts are this rule
 abbrev pub RuleOf : List (List ℕ) → Rule → Type 0

@@ -9,9 +9,9 @@ use Rattle.it_base.specs.Sequence.{IsList}
 use Rattle.it_base.specs.Text.{IsText}
 use Rattle.it_digest.specs.DigestSet.{no_digests}
 use Rattle.it_digest.specs.declared.compare.DigestSet.{DigestSet}
-use Rattle.it_docs.specs.Digest.{IsDigestSet}
-use Rattle.it_docs.specs.Json.{no_fields}
-use Rattle.it_docs.specs.TreeOf.{IsMembers}
+use Rattle.it_digest.specs.Digest.{IsDigestSet}
+use Rattle.it_base.specs.Json.{no_fields}
+use Rattle.it_base.specs.TreeOf.{IsMembers}
 use Rattle.it_docs.specs.declared.statement.Provenance.{Provenance}
 use Rattle.it_docs.specs.declared.statement.Statement.{Statement}
 
@@ -30,8 +30,10 @@ IsBuilder = IsPart (IsPart (IsPart IsText (codes "id")) (codes "builder")) (code
 
 -- a provenance of a document; parameters that are missing are none (this profile's choice)
 pub record IsProvenance (d : Data) (provenance : Provenance) : Type 0 where
-  pub build_type : IsPart (IsPart IsText (codes "buildType")) (codes "buildDefinition") d provenance.build_type
-  pub parameters : IsPart (IsPartOr IsMembers no_fields (codes "externalParameters")) (codes "buildDefinition") d provenance.parameters
+  pub build_type : IsPart (IsPart IsText (codes "buildType")) (codes "buildDefinition") d
+      provenance.build_type
+  pub parameters : IsPart (IsPartOr IsMembers no_fields (codes "externalParameters"))
+      (codes "buildDefinition") d provenance.parameters
   pub builder : IsBuilder d provenance.builder
 
 -- the provenance of a Statement

@@ -14,14 +14,18 @@ pub record IsStep (d : Data) (step : Step) : Type 0 where
   pub name : IsPart IsText (codes "name") d step.name
   pub threshold : IsThresholdPart d step.threshold
   pub pubkeys : IsPartOr (IsList IsText) [] (codes "pubkeys") d step.pubkeys
-  pub expected_materials : IsPartOr (IsList IsRule) [] (codes "expected_materials") d step.expected_materials
-  pub expected_products : IsPartOr (IsList IsRule) [] (codes "expected_products") d step.expected_products
+  pub expected_materials :
+      IsPartOr (IsList IsRule) [] (codes "expected_materials") d step.expected_materials
+  pub expected_products :
+      IsPartOr (IsList IsRule) [] (codes "expected_products") d step.expected_products
 
 -- an inspection of a layout
 pub record IsInspection (d : Data) (inspection : Inspection) : Type 0 where
   pub name : IsPart IsText (codes "name") d inspection.name
-  pub expected_materials : IsPartOr (IsList IsRule) [] (codes "expected_materials") d inspection.expected_materials
-  pub expected_products : IsPartOr (IsList IsRule) [] (codes "expected_products") d inspection.expected_products
+  pub expected_materials :
+      IsPartOr (IsList IsRule) [] (codes "expected_materials") d inspection.expected_materials
+  pub expected_products :
+      IsPartOr (IsList IsRule) [] (codes "expected_products") d inspection.expected_products
 
 -- the names of steps and inspections, steps first
 abbrev pub names_of : List Step → List Inspection → List (List ℕ)

@@ -1,6 +1,7 @@
 //! Laws of the documents: each input has at most one record, and none where a part of it
 //! fails.
-ghost use Rattle.it_docs.specs.Laws.{BadPartIsNoLayout, BadPartIsNoPolicy, OneLayout, OneLink, OneMoment, OnePolicy, OneRule, OneStatement};
+ghost use Rattle.it_docs.specs.Laws.{BadPartIsNoLayout, BadPartIsNoPolicy, OneLayout, OneLink};
+ghost use Rattle.it_docs.specs.Laws.{OneMoment, OnePolicy, OneRule, OneStatement};
 
 /// The bytes are at most one layout.
 pub fn one_layout()

@@ -4,8 +4,8 @@ ghost use Rattle.std.specs.Str.{bytes_eq};
 ghost use Rattle.it_docs.specs.Step.{names_of};
 
 use crate::step::{Inspection, Step};
-use crate::table::Table;
 use it_base::sequence::Sequence;
+use it_base::table::Table;
 use it_dsse::key_object::KeyObject;
 
 /// A layout.
@@ -20,5 +20,6 @@ pub struct Layout {
     /// The inspections, in order.
     pub inspections: Sequence<Inspection>,
     /// No two of the names of steps and inspections are equal.
-    pub ghost names_differ: { IsDistinct bytes_eq (names_of steps inspections) } by { IsDistinct-prop _ _ },
+    pub ghost names_differ: { IsDistinct bytes_eq
+        (names_of steps inspections) } by { IsDistinct-prop _ _ },
 }

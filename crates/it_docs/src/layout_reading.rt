@@ -6,23 +6,23 @@ ghost use Rattle.serde_json.specs.View.{view};
 ghost use Rattle.it_base.specs.Parts.{IsPartOr};
 ghost use Rattle.it_base.specs.Sequence.{IsList};
 ghost use Rattle.it_docs.specs.Layout.{IsLayout, LayoutOf};
-ghost use Rattle.it_docs.specs.Names.{IsFirstRepeat};
+ghost use Rattle.it_docs.specs.Repeats.{IsFirstRepeat};
 ghost use Rattle.it_docs.specs.Step.{IsInspection, IsStep, names_of};
 ghost use Rattle.it_docs.specs.declared.layout_fault.LayoutPart.{LayoutPart as Part};
-ghost use Rattle.it_docs.specs.LayoutPart.{IsInspectionsFault, IsLayoutFault, IsStepsFault, LayoutPartOf};
+ghost use Rattle.it_docs.specs.LayoutPart.{IsInspectionsFault, IsLayoutFault, IsStepsFault};
+ghost use Rattle.it_docs.specs.LayoutPart.{LayoutPartOf};
 
 use crate::layout::Layout;
 use crate::layout_fault::{LayoutFault, LayoutPart};
-use crate::list::{ListFault, numbered_list};
 use crate::moment::moment_at;
-use crate::names::first_repeat;
+use crate::repeats::first_repeat;
 use crate::step::{Inspection, Step};
-use crate::table::Table;
-use crate::text::has_text;
 use it_base::document::read_document;
+use it_base::list::{ListFault, numbered_list};
 use it_base::parts::part_or;
 use it_base::sequence::Sequence;
-use it_base::text::Text;
+use it_base::table::Table;
+use it_base::text::{Text, has_text};
 use it_dsse::key_object::KeyObject;
 use serde_json::Value;
 use std::alloc::{AllocError, Global};
@@ -112,7 +112,7 @@ fn repeated_name(
     let names = names_in_order(alloc, steps, inspections)?;
     match first_repeat(alloc, names.as_slice())? {
         None => Ok(None),
-        Some(name) => Ok(Some(Text::from(String::from_str(alloc, name)?))),
+        Some(name) => Ok(Some(Text::copy(alloc, name)?)),
     }
 }
 

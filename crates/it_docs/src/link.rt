@@ -4,11 +4,9 @@ ghost use Rattle.serde_json.specs.View.{view};
 ghost use Rattle.it_base.specs.Finds.{Finds};
 ghost use Rattle.it_docs.specs.Link.{IsLink, LinkOf};
 
-use crate::digest::artifacts_at;
 use crate::fault::DocumentFault;
-use crate::text::has_text;
-use it_base::parts::{FromDocument, from_bytes, part};
-use it_base::text::Text;
+use it_base::parts::{FromDocument, from_bytes, part, part_or};
+use it_base::text::{Text, has_text};
 use it_digest::artifacts::Artifacts;
 use serde_json::Value;
 use std::alloc::{AllocError, Global};
@@ -51,10 +49,10 @@ impl FromDocument for Link {
         let Some(name) = part::<Text>(alloc, value, "name")? else {
             return Ok(None);
         };
-        let Some(materials) = artifacts_at(alloc, value, "materials")? else {
+        let Some(materials) = part_or(alloc, value, "materials", Artifacts::new(alloc))? else {
             return Ok(None);
         };
-        let Some(products) = artifacts_at(alloc, value, "products")? else {
+        let Some(products) = part_or(alloc, value, "products", Artifacts::new(alloc))? else {
             return Ok(None);
         };
         Ok(Some(Link {

@@ -25,7 +25,8 @@ pub struct BadMoment;
 ///
 /// `BadMoment` where the text is no such moment.
 pub fn read_moment(text: &str) -> Result<i64, BadMoment>
-    ensures { MatchResult result (MomentOf text.now) (λ _. (moment : ℤ) → ¬ MomentOf text.now moment) }
+    ensures { MatchResult result (MomentOf text.now)
+        (λ _. (moment : ℤ) → ¬ MomentOf text.now moment) }
 {
     match moment_of(text.as_bytes()) {
         Some(moment) => Ok(moment),
@@ -81,8 +82,7 @@ fn moment_of(text: &[u8]) -> Option<i64>
     let hour = two_digits(h1, h2)?;
     let minute = two_digits(n1, n2)?;
     let second = two_digits(s1, s2)?;
-    let year = 100 * u16::from(century) + u16::from(year);
-    let days = day_number(year, month, day)?;
+    let days = day_number(100 * u16::from(century) + u16::from(year), month, day)?;
     let seconds = second_of_day(hour, minute, second)?;
     Some(86_400 * days + i64::from(seconds))
 }

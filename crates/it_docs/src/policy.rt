@@ -7,14 +7,14 @@ ghost use Rattle.it_base.specs.Parts.{IsPart};
 ghost use Rattle.it_base.specs.Text.{IsText};
 ghost use Rattle.it_docs.specs.Level.{IsLevel, IsLevelPart};
 
-use crate::list::list_or_empty;
 use crate::rule::Rule;
-use crate::table::Table;
-use crate::tree::Members;
 use it_base::document::member;
+use it_base::list::list_or_empty;
 use it_base::parts::{FromDocument, part, part_or};
 use it_base::sequence::Sequence;
+use it_base::table::Table;
 use it_base::text::Text;
+use it_base::tree::Members;
 use it_dsse::key_object::KeyObject;
 use it_glob::Pattern;
 use serde_json::Value;

@@ -8,14 +8,14 @@ ghost use Rattle.it_docs.specs.Policy.{HasOwners, IsExpectation, IsPolicy, Polic
 ghost use Rattle.it_docs.specs.PolicyPart.{IsExpectationsFault, IsPolicyFault, PolicyPartOf};
 ghost use Rattle.it_docs.specs.declared.policy_fault.PolicyPart.{PolicyPart as Part};
 
-use crate::list::{ListFault, list_or_empty, numbered_list};
 use crate::policy::{Expectation, Policy};
 use crate::policy_fault::{PolicyFault, PolicyPart};
 use crate::rule::Rule;
-use crate::table::Table;
 use it_base::document::read_document;
+use it_base::list::{ListFault, list_or_empty, numbered_list};
 use it_base::parts::part;
 use it_base::sequence::Sequence;
+use it_base::table::Table;
 use it_dsse::key_object::KeyObject;
 use serde_json::Value;
 use std::alloc::{AllocError, Global};

@@ -3,7 +3,8 @@ ghost use Rattle.std.specs.Prelude.{◌≡◌, ◌∷◌, [], IfOk, map, string_
 ghost use Rattle.serde_json.specs.View.{view};
 ghost use Rattle.it_base.specs.Finds.{Finds};
 ghost use Rattle.it_docs.specs.Rule.{IsRule, RuleOf, is_keyword as is_this_keyword};
-ghost use Rattle.it_docs.specs.RuleAnswer.{is_match as is_match_of, match_of, prefixed_of, rule_of, short_of, side_of as side_at};
+ghost use Rattle.it_docs.specs.RuleAnswer.{is_match as is_match_of, match_of, prefixed_of, rule_of};
+ghost use Rattle.it_docs.specs.RuleAnswer.{short_of, side_of as side_at};
 
 use it_base::parts::FromDocument;
 use it_base::sequence::Sequence;
@@ -87,7 +88,7 @@ fn texts_of(alloc: Global, strings: &[String]) -> Result<Vec<Text>, AllocError>
 {
     let mut texts = Vec::new(alloc);
     for string in strings {
-        texts.push(text_of(alloc, string.as_str())?)?;
+        texts.push(Text::copy(alloc, string.as_str())?)?;
     }
     Ok(texts)
 }
@@ -194,17 +195,11 @@ fn match_rule(
     };
     Ok(Some(Rule::Match {
         pattern: Pattern::read(alloc, pattern.as_str())?,
-        source_prefix: text_of(alloc, source_prefix)?,
+        source_prefix: Text::copy(alloc, source_prefix)?,
         side,
-        target_prefix: text_of(alloc, target_prefix)?,
-        from: text_of(alloc, step.as_str())?,
+        target_prefix: Text::copy(alloc, target_prefix)?,
+        from: Text::copy(alloc, step.as_str())?,
     }))
-}
-
-fn text_of(alloc: Global, text: &str) -> Result<Text, AllocError>
-    ensures { IfOk result (λ t. t ≡ text.now) }
-{
-    Ok(Text::from(String::from_str(alloc, text)?))
 }
 
 #[tactic(auto, unfolding(crate::specs::RuleAnswer::short_of))]
@@ -223,7 +218,7 @@ fn short_rule(alloc: Global, word: &Text, operand: &Text) -> Result<Option<Rule>
     } else if is_keyword(word, "DISALLOW") {
         Rule::Disallow(Pattern::read(alloc, text)?)
     } else if is_keyword(word, "REQUIRE") {
-        Rule::Require(text_of(alloc, text)?)
+        Rule::Require(Text::copy(alloc, text)?)
     } else {
         return Ok(None);
     };

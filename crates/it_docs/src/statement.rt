@@ -4,17 +4,17 @@ ghost use Rattle.serde_json.specs.View.{view, items_view};
 ghost use Rattle.it_base.specs.Finds.{Finds};
 ghost use Rattle.it_base.specs.Parts.{IsPart};
 ghost use Rattle.it_base.specs.Sequence.{AreEach, IsList};
-ghost use Rattle.it_docs.specs.Statement.{IsBuilder, IsProvenance, IsProvenanceOf, IsStatement, IsSubject, IsSubjects, StatementOf};
+ghost use Rattle.it_docs.specs.Statement.{IsBuilder, IsProvenance, IsProvenanceOf, IsStatement};
+ghost use Rattle.it_docs.specs.Statement.{IsSubject, IsSubjects, StatementOf};
 
-use crate::digest::digest_set;
 use crate::fault::DocumentFault;
-use crate::text::has_text;
-use crate::tree::Members;
 use it_base::document::member;
 use it_base::parts::{FromDocument, from_bytes, part, part_or};
 use it_base::sequence::Sequence;
-use it_base::text::Text;
+use it_base::text::{Text, has_text};
+use it_base::tree::Members;
 use it_digest::compare::DigestSet;
+use it_digest::digest::digest_set;
 use serde_json::Value;
 use std::alloc::{AllocError, Global};
 

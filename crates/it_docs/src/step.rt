@@ -4,9 +4,9 @@ ghost use Rattle.serde_json.specs.View.{view};
 ghost use Rattle.it_base.specs.Finds.{Finds};
 ghost use Rattle.it_docs.specs.Threshold.{IsThreshold, IsThresholdPart};
 
-use crate::list::list_or_empty;
 use crate::rule::Rule;
 use it_base::document::member;
+use it_base::list::list_or_empty;
 use it_base::parts::{FromDocument, part};
 use it_base::sequence::Sequence;
 use it_base::text::Text;

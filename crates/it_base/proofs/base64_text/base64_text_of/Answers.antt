@@ -8,4 +8,6 @@ returns-clause-text c = c.standard_text.ensures.text
 
 pub returns-clause-reads_back : goal.returns-clause-reads_back
 unfolding base64_encoded
-returns-clause-reads_back c = reads_back c.args.bytes.now c.standard_text.result c.standard_text.ensures.text c.standard_text.ensures.decodes
+returns-clause-reads_back c =
+    reads_back c.args.bytes.now c.standard_text.result c.standard_text.ensures.text
+    c.standard_text.ensures.decodes

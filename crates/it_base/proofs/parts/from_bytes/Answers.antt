@@ -9,5 +9,7 @@ pub returns : goal.returns
 returns g c =
     let P = g.T.FromDocument.is_of in
     let is_document = rw c.in-Some.is at c.in_ok-value.ensures in
-    IfOk-weaker c.from_document.result (Finds (P (view c.in-Some.value))) (Finds (OfDocument P c.args.bytes.now))
-    (λ found h. found_of_document P c.args.bytes.now (view c.in-Some.value) found is_document h) c.from_document.ensures
+    IfOk-weaker c.from_document.result (Finds (P (view c.in-Some.value)))
+    (Finds (OfDocument P c.args.bytes.now))
+    (λ found h. found_of_document P c.args.bytes.now (view c.in-Some.value) found is_document h)
+    c.from_document.ensures

@@ -7,4 +7,5 @@ use Rattle.it_digest.proofs.artifacts.map_of.Given as goal
 -- what was copied so far, and what is left
 abbrev pub invariant-loop-path : goal.invariant-loop-path
 invariant-loop-path l =
-    (done : List Entry) × (l.by_path.entries ≡ done ++ l.path-iterator) × (l.map ≡ from_entries (path_entries done))
+    (done : List Entry) × (l.by_path.entries ≡ done ++ l.path-iterator)
+    × (l.map ≡ from_entries (path_entries done))

@@ -7,7 +7,8 @@ use Rattle.it_docs.proofs.layout_reading.layout_of.Goals as goal
 pub returns-in_err-steps : goal.returns-in_err-steps
 returns-in_err-steps c =
     let d = view c.args.document.now in
-    let p = err_from_is_err_and c.from_residual-in_err-steps.result c.from_residual-in_err-steps.ensures.1 in
+    let p = err_from_is_err_and c.from_residual-in_err-steps.result
+    c.from_residual-in_err-steps.ensures.1 in
     let head : IsHead d = record {
       json = search rules;
       wrong_type = search rules;
@@ -19,14 +20,16 @@ returns-in_err-steps c =
 pub returns-in_err-inspections : goal.returns-in_err-inspections
 returns-in_err-inspections c =
     let d = view c.args.document.now in
-    let p = err_from_is_err_and c.from_residual-in_err-inspections.result c.from_residual-in_err-inspections.ensures.1 in
+    let p = err_from_is_err_and c.from_residual-in_err-inspections.result
+    c.from_residual-in_err-inspections.ensures.1 in
     let head : IsHead d = record {
       json = search rules;
       wrong_type = search rules;
       expires = (c.in-Some.expires, c.in-Some.ensures);
       keys = (c.in-Some-2.keys, rw (c.in-Some-2.is, c.new-no_keys.ensures) at c.in_ok-keys.ensures);
     } in
-    rw (p.1, p.2) (inspections_fault d head c.in_ok-steps.steps c.in_ok-steps.ensures c.in_err-inspections.field-0.0 c.in_err-inspections.ensures)
+    rw (p.1, p.2) (inspections_fault d head c.in_ok-steps.steps c.in_ok-steps.ensures
+    c.in_err-inspections.field-0.0 c.in_err-inspections.ensures)
 
 pub returns-in-Some-3 : goal.returns-in-Some-3
 returns-in-Some-3 c =
@@ -37,5 +40,7 @@ returns-in-Some-3 c =
       expires = (c.in-Some.expires, c.in-Some.ensures);
       keys = (c.in-Some-2.keys, rw (c.in-Some-2.is, c.new-no_keys.ensures) at c.in_ok-keys.ensures);
     } in
-    let repeat = rw (c.in-Some-3.is, c.as_slice.ensures, c.as_slice-2.ensures) at c.in_ok-name.ensures in
-    duplicate_fault d head c.in_ok-steps.steps c.in_ok-inspections.inspections c.in_ok-steps.ensures c.in_ok-inspections.ensures c.in-Some-3.name repeat
+    let repeat = rw (c.in-Some-3.is, c.as_slice.ensures, c.as_slice-2.ensures) at
+    c.in_ok-name.ensures in
+    duplicate_fault d head c.in_ok-steps.steps c.in_ok-inspections.inspections c.in_ok-steps.ensures
+    c.in_ok-inspections.ensures c.in-Some-3.name repeat

@@ -13,6 +13,7 @@ returns-in-Ok c =
       (omega (arith, ints, ymd.0), omega (arith, ints, ymd.1), omega (arith, ints, ymd.2)),
       (omega (arith, ints, bound, widened), omega (arith, ints, bound, widened)),
       let same : c.from.result ≡ c.to_unix_epoch_day.result = omega (arith, ints, bound, widened) in
-          let again : to_z w64 (of_z w64 c.from.result) ≡ c.from.result = omega (arith, ints, bound, widened) in
+          let again : to_z w64 (of_z w64 c.from.result) ≡ c.from.result =
+          omega (arith, ints, bound, widened) in
           again ∙ same ∙ value,
     )

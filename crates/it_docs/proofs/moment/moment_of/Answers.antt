@@ -5,13 +5,27 @@ use Rattle.it_docs.proofs.moment.moment_of.Goals as goal
 
 pub returns-in_err-days : goal.returns-in_err-days
 returns-in_err-days c = rw c.from_residual-in_err-days.ensures
-    (λ moment is. (rw (c.in_err-days.was, c.from.ensures, c.from-2.ensures) at c.day_number.ensures) is.date (date_from_numbers c.args.text.now moment is c.in_ok-century.century c.in_ok-year.year c.in_ok-month.month c.in_ok-day.day c.in_ok-century.ensures c.in_ok-year.ensures c.in_ok-month.ensures c.in_ok-day.ensures))
+    (λ moment is. (rw (c.in_err-days.was, c.from.ensures, c.from-2.ensures) at c.day_number.ensures)
+    is.date (date_from_numbers c.args.text.now moment is c.in_ok-century.century
+    c.in_ok-year.year c.in_ok-month.month c.in_ok-day.day c.in_ok-century.ensures
+    c.in_ok-year.ensures c.in_ok-month.ensures c.in_ok-day.ensures))
 
 pub returns : goal.returns
 returns c =
-    let marks : HasMarks c.args.text.now = (omega arith, omega arith, omega arith, omega arith, omega arith, omega arith, omega arith) in
-    let text = text_from_numbers c.args.text.now c.in_ok-century.century c.in_ok-year.year c.in_ok-month.month c.in_ok-day.day c.in_ok-hour.hour c.in_ok-minute.minute c.in_ok-second.second marks
-    c.in_ok-century.ensures c.in_ok-year.ensures c.in_ok-month.ensures c.in_ok-day.ensures c.in_ok-hour.ensures c.in_ok-minute.ensures c.in_ok-second.ensures in
+    let marks : HasMarks c.args.text.now = (
+      omega arith,
+      omega arith,
+      omega arith,
+      omega arith,
+      omega arith,
+      omega arith,
+      omega arith,
+    ) in
+    let text = text_from_numbers c.args.text.now c.in_ok-century.century c.in_ok-year.year
+    c.in_ok-month.month c.in_ok-day.day c.in_ok-hour.hour c.in_ok-minute.minute
+    c.in_ok-second.second marks
+    c.in_ok-century.ensures c.in_ok-year.ensures c.in_ok-month.ensures c.in_ok-day.ensures
+    c.in_ok-hour.ensures c.in_ok-minute.ensures c.in_ok-second.ensures in
     let days = rw (c.from.ensures, c.from-2.ensures) at c.in_ok-days.ensures in
     let seconds = c.in_ok-seconds.ensures in
     let month : days.0.month ≡ c.in_ok-month.month = omega (arith, ints, days.1.1) in
@@ -27,5 +41,6 @@ returns c =
       hour_in = seconds.0;
       minute_in = seconds.1;
       second_in = seconds.2;
-      number_is = let bound = days.2 in let value = days.3 in let widened = c.from-3.ensures in let number = seconds.3 in omega (arith, ints, bound, value, widened, number);
+      number_is = let bound = days.2 in let value = days.3 in let widened = c.from-3.ensures in
+          let number = seconds.3 in omega (arith, ints, bound, value, widened, number);
     }

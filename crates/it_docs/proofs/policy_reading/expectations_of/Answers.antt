@@ -1,8 +1,9 @@
 use Rattle.std.proofs.Common.{codes}
 use Rattle.serde_json.specs.View.{view}
 use Rattle.it_docs.specs.Policy.{IsExpectation}
-use Rattle.it_docs.proofs.Lists.{item_fault}
+use Rattle.it_base.proofs.Lists.{item_fault}
 use Rattle.it_docs.proofs.policy_reading.expectations_of.Goals as goal
 
 pub returns-in-Err-NoItem : goal.returns-in-Err-NoItem
-returns-in-Err-NoItem c = item_fault IsExpectation (codes "expectations") (view c.args.document.now) c.in-Err-NoItem.n (rw c.in-Err-NoItem.field-0-is at c.in-Err-NoItem.ensures)
+returns-in-Err-NoItem c = item_fault IsExpectation (codes "expectations") (view c.args.document.now)
+    c.in-Err-NoItem.n (rw c.in-Err-NoItem.field-0-is at c.in-Err-NoItem.ensures)

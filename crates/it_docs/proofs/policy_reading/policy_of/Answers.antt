@@ -7,13 +7,15 @@ use Rattle.it_docs.proofs.policy_reading.policy_of.Goals as goal
 pub returns-in_err-expectations : goal.returns-in_err-expectations
 returns-in_err-expectations c =
     let d = view c.args.document.now in
-    let p = err_from_is_err_and c.from_residual-in_err-expectations.result c.from_residual-in_err-expectations.ensures.1 in
+    let p = err_from_is_err_and c.from_residual-in_err-expectations.result
+    c.from_residual-in_err-expectations.ensures.1 in
     let head : IsHead d = record {
       json = search rules;
       owners = (c.in-Some.owners, rw c.in-Some.is at c.in_ok-owners.ensures);
       deliver = (c.in-Some-2.deliver, rw c.in-Some-2.is at c.in_ok-deliver.ensures);
     } in
-    rw (p.1, p.2) (expectations_fault d head c.in_err-expectations.field-0.0 c.in_err-expectations.ensures)
+    rw (p.1, p.2) (expectations_fault d head c.in_err-expectations.field-0.0
+    c.in_err-expectations.ensures)
 
 pub returns-in_default : goal.returns-in_default
 returns-in_default c =
@@ -23,4 +25,6 @@ returns-in_default c =
 pub returns-in_default-2 : goal.returns-in_default-2
 returns-in_default-2 c =
     let none = rw c.in_default-2.is at c.in_ok-deliver.ensures in
-    deliver_fault (view c.args.document.now) (search rules) (c.in-Some.owners, rw c.in-Some.is at c.in_ok-owners.ensures) (λ reads. none reads.0 reads.1)
+    deliver_fault (view c.args.document.now) (search rules)
+    (c.in-Some.owners, rw c.in-Some.is at c.in_ok-owners.ensures)
+    (λ reads. none reads.0 reads.1)

@@ -6,7 +6,8 @@ pub returns-in_default : goal.returns-in_default
 returns-in_default c =
     let here = rw c.deref-item-items.ensures.value at c.item-item.is in
     let below = rw c.deref-item-items.ensures.value at c.loop-item-test.true in
-    each_none IsSubject c.args.items.now.items c.loop-item.item-index c.item-item.result below here c.in_default.ensures
+    each_none IsSubject c.args.items.now.items c.loop-item.item-index c.item-item.result below here
+    c.in_default.ensures
 
 pub loop-item-preserved : goal.loop-item-preserved
 loop-item-preserved c =

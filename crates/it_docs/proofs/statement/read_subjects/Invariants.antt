@@ -5,4 +5,5 @@ use Rattle.it_docs.specs.Statement.{IsSubject}
 use Rattle.it_docs.proofs.statement.read_subjects.Given as goal
 
 abbrev pub invariant-loop-item : goal.invariant-loop-item
-invariant-loop-item l = AreEach IsSubject (items_view (take l.item-index l.items.items)) l.subjects.items
+invariant-loop-item l = AreEach IsSubject (items_view (take l.item-index l.items.items))
+    l.subjects.items

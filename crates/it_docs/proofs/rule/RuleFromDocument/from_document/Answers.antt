@@ -9,4 +9,5 @@ pub returns-in-Some : goal.returns-in-Some
 returns-in-Some c =
     let is_list = rw c.in-Some.is at c.in_ok-from_document.ensures in
     let read = rw c.as_slice.ensures at c.found_rule.ensures in
-    IfOk-weaker c.found_rule.result _ (Finds (IsRule (view c.args.value.now))) (found_of_texts (view c.args.value.now) c.in-Some.texts is_list) read
+    IfOk-weaker c.found_rule.result _ (Finds (IsRule (view c.args.value.now)))
+    (found_of_texts (view c.args.value.now) c.in-Some.texts is_list) read

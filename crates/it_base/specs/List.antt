@@ -1,0 +1,41 @@
+-- Lists of a document, item by item.
+use Rattle.std.specs.Prelude.{◌≡◌, ℕ, ◌<◌, List, Option, Some, MatchOption, IsTrue, is_some}
+use Rattle.std.specs.Prelude.{option_and_then}
+use Rattle.serde_json.specs.Data.{Data, Items}
+use Rattle.serde_json.specs.Find.{as_array, get_item}
+use Rattle.it_base.specs.Document.{member_at}
+use Rattle.it_base.specs.declared.list.ListFault.{ListFault}
+use Rattle.it_base.specs.declared.list.ListFault.TheVariants.{NoList, NoItem, OutOfMemory}
+
+-- the member of this name is a list, or it is missing
+abbrev pub IsListOrMissing : List ℕ → Data → Type 0
+IsListOrMissing name d =
+    MatchOption (member_at name d) (Unit {0}) (λ v. IsTrue (is_some (as_array v)))
+
+-- the item at a place is some value, where there is an item
+abbrev pub ItemReads : {X : Type 0} → (Data → X → Type 0) → Items → ℕ → Type 0
+ItemReads {X} P items n = (v : Data) → get_item n items ≡ Some v → (x : X) × P v x
+
+-- the items of the list that the member of this name is
+abbrev pub items_at : List ℕ → Data → Option Items
+items_at name d = option_and_then as_array (member_at name d)
+
+-- the item at a place of the list of this name is some value, where there is an item
+abbrev pub PartItemReads : {X : Type 0} → (Data → X → Type 0) → List ℕ → Data → ℕ → Type 0
+PartItemReads P name d n = MatchOption (items_at name d) (Unit {0}) (λ items. ItemReads P items n)
+
+-- the first item that is no value
+pub record IsFirstBad {X : Type 0} (P : Data → X → Type 0) (items : Items) (n : ℕ) : Type 0 where
+  pub bad : ¬ ItemReads P items n
+  pub before : (m : ℕ) → m < n → ItemReads P items m
+
+abbrev pub IsItemFault : {X : Type 0} → (Data → X → Type 0) → Items → ListFault → Type 0
+IsItemFault P items NoList = ⊥
+IsItemFault P items (NoItem n) = IsFirstBad P items n
+IsItemFault P items OutOfMemory = Unit {0}
+
+-- why the member of this name is no list of values
+abbrev pub IsListFault : {X : Type 0} → (Data → X → Type 0) → List ℕ → Data → ListFault → Type 0
+IsListFault P name d NoList = ¬ IsListOrMissing name d
+IsListFault P name d (NoItem n) = MatchOption (items_at name d) ⊥ (λ items. IsFirstBad P items n)
+IsListFault P name d OutOfMemory = Unit {0}

@@ -1,0 +1,93 @@
+//! Lists of a document that may be missing.
+ghost use Rattle.std.specs.Prelude.{◌≡◌, [], IfOk, MatchResult};
+ghost use Rattle.serde_json.specs.View.{view, items_view};
+ghost use Rattle.it_base.specs.Finds.{Finds};
+ghost use Rattle.it_base.specs.Parts.{IsPartOr};
+ghost use Rattle.it_base.specs.Sequence.{AreEach, IsList};
+ghost use Rattle.it_base.specs.declared.list.ListFault.TheVariants.{OutOfMemory};
+ghost use Rattle.it_base.specs.List.{IsItemFault, IsListFault};
+
+use crate::document::member;
+use crate::parts::{FromDocument, part_or};
+use crate::sequence::Sequence;
+use serde_json::Value;
+use std::alloc::{AllocError, AllocFailed, Global};
+
+/// Why a list was not read.
+#[derive(Clone, Copy, Debug, PartialEq, Eq)]
+pub enum ListFault {
+    /// The member is no list.
+    NoList,
+    /// The item at this place, from 0, is the first that is no such value.
+    NoItem(usize),
+    /// Memory was refused.
+    OutOfMemory,
+}
+
+impl From<AllocError> for ListFault {
+    ghost from_gives = { λ _ e. e ≡ OutOfMemory };
+
+    fn from(_e: AllocError) -> ListFault {
+        ListFault::OutOfMemory
+    }
+}
+
+impl<T: Drop> From<AllocFailed<T>> for ListFault {
+    ghost from_gives = { λ _ e. e ≡ OutOfMemory };
+
+    fn from(_e: AllocFailed<T>) -> ListFault {
+        ListFault::OutOfMemory
+    }
+}
+
+/// The values of a list, or none where there is no such member. `None` where the member is no list
+/// of such values.
+pub fn list_or_empty<T: FromDocument>(
+    alloc: Global,
+    value: &Value,
+    name: &str,
+) -> Result<Option<Sequence<T>>, AllocError>
+    ensures { IfOk result (Finds (IsPartOr (IsList T.is_of) [] name.now (view value.now))) }
+{
+    part_or(alloc, value, name, Sequence::from(Vec::new(alloc)))
+}
+
+/// The values of a list, or none where there is no such member.
+///
+/// # Errors
+///
+/// `NoList` where the member is no list, `NoItem` with the first item that is no such value, and
+/// `OutOfMemory` where memory was refused.
+pub fn numbered_list<T: FromDocument>(
+    alloc: Global,
+    value: &Value,
+    name: &str,
+) -> Result<Sequence<T>, ListFault>
+    ensures { MatchResult result (IsPartOr (IsList T.is_of) [] name.now (view value.now))
+        (IsListFault T.is_of name.now (view value.now)) }
+{
+    match member(value, name) {
+        None => Ok(Sequence::from(Vec::new(alloc))),
+        Some(found) => match found.as_array() {
+            None => Err(ListFault::NoList),
+            Some(items) => read_numbered(alloc, items),
+        },
+    }
+}
+
+fn read_numbered<T: FromDocument>(
+    alloc: Global,
+    items: &Vec<Value>,
+) -> Result<Sequence<T>, ListFault>
+    ensures { MatchResult result (AreEach T.is_of (items_view items.now.items))
+        (IsItemFault T.is_of (items_view items.now.items)) }
+{
+    let mut values = Vec::new(alloc);
+    for (place, item) in items.iter().enumerate() {
+        let Some(value) = T::from_document(alloc, item)? else {
+            return Err(ListFault::NoItem(place));
+        };
+        values.push(value)?;
+    }
+    Ok(Sequence::from(values))
+}

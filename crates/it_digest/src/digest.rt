@@ -1,0 +1,60 @@
+//! The reading of digest sets (in-toto Attestation v1, DigestSet).
+ghost use Rattle.std.specs.Prelude.{◌≡◌, None, Some};
+ghost use Rattle.serde_json.specs.View.{view};
+ghost use Rattle.it_base.specs.Finds.{Finds};
+ghost use Rattle.it_digest.specs.Digest.{HasDigest, IsDigest, IsDigestSet};
+
+use crate::compare::DigestSet;
+use it_base::document::member;
+use it_base::parts::FromDocument;
+use serde_json::Value;
+use std::alloc::{AllocError, Global};
+
+/// The digest set that a JSON object is, or `None` where the part is no object, or its `sha256`,
+/// `sha384` or `sha512` is no text of exactly the algorithm's digits. Other algorithms are not
+/// looked at.
+pub fn digest_set(value: &Value) -> Option<DigestSet>
+    ensures { Finds (IsDigestSet (view value.now)) result }
+{
+    if !value.is_object() {
+        return None;
+    }
+    let sha256 = digest_at::<32>(value, "sha256")?;
+    let sha384 = digest_at::<48>(value, "sha384")?;
+    let sha512 = digest_at::<64>(value, "sha512")?;
+    Some(DigestSet {
+        sha256,
+        sha384,
+        sha512,
+    })
+}
+
+/// The digest at a member, or `Some(None)` where the member is missing.
+fn digest_at<const N: usize>(value: &Value, name: &str) -> Option<Option<[u8; N]>>
+    ensures { Finds (HasDigest N name.now (view value.now)) result }
+{
+    match member(value, name) {
+        None => Some(None),
+        Some(found) => Some(Some(digest(found)?)),
+    }
+}
+
+fn digest<const N: usize>(value: &Value) -> Option<[u8; N]>
+    ensures { Finds (IsDigest N (view value.now)) result }
+{
+    let text = value.as_str()?;
+    let mut bytes = [0; N];
+    match hex::decode_to_slice(text, &mut bytes) {
+        Ok(()) => Some(bytes),
+        Err(_) => None,
+    }
+}
+
+impl FromDocument for DigestSet {
+    ghost is_of = { IsDigestSet };
+
+    /// The digest set that a JSON object is.
+    fn from_document(_alloc: Global, value: &Value) -> Result<Option<DigestSet>, AllocError> {
+        Ok(digest_set(value))
+    }
+}

@@ -1,5 +1,6 @@
 -- How many signatures are tried.
-use Rattle.std.proofs.Common.{◌≡◌, ℕ, suc, ◌+◌, ◌≤◌, List, [], ◌∷◌, Bool, true, false, ◌&&◌, cond, length, filter, None, Some, inl, inr, Contains, refl, ap, arith, ◌∙◌}
+use Rattle.std.proofs.Common.{◌≡◌, ℕ, suc, ◌+◌, ◌≤◌, List, [], ◌∷◌, Bool, true, false, ◌&&◌, cond}
+use Rattle.std.proofs.Common.{length, filter, None, Some, inl, inr, Contains, refl, ap, arith, ◌∙◌}
 use Rattle.it_base.proofs.Members.{in_cases, in_none}
 use Rattle.it_dsse.specs.Panel.{KeyNumber, Panel}
 use Rattle.it_dsse.specs.Signed.{Signed, first_place, is_admitted, message_of, tries}
@@ -26,25 +27,35 @@ module _ {X : Type 0} (p q : X → Bool) where
   tried_at_most : (xs : List X) → first_place q (filter p xs) ≤ length xs
   unfolding first_place
   tried_at_most [] = omega arith
-  tried_at_most (x ∷ xs) = rw (first_place_step p q x xs) (step_at_most (p x) (q x) (first_place q (filter p xs)) (length xs) (tried_at_most xs))
+  tried_at_most (x ∷ xs) =
+      rw (first_place_step p q x xs) (step_at_most (p x) (q x) (first_place q (filter p xs))
+      (length xs) (tried_at_most xs))
 
-  tried_at_least : (xs : List X) (x : X) → Contains xs x → p x ≡ true → 1 ≤ first_place q (filter p xs)
+  tried_at_least : (xs : List X) (x : X) → Contains xs x → p x ≡ true
+      → 1 ≤ first_place q (filter p xs)
   tried_at_least [] x c passes = absurd (in_none x c)
   tried_at_least (y ∷ ys) x c passes = rw (first_place_step p q y ys) (elim (in_cases y ys x c) [
     | inl same ↦ step_admitted (p y) (q y) (first_place q (filter p ys)) (ap p same ∙ passes)
-    | inr later ↦ step_at_least (p y) (q y) (first_place q (filter p ys)) (tried_at_least ys x later passes)
+    | inr later ↦ step_at_least (p y) (q y) (first_place q (filter p ys))
+        (tried_at_least ys x later passes)
   ])
 
 module _ (panel : Panel) (envelope : Envelope) (id : List ℕ) (object : KeyObject) where
   -- no more signatures are tried than there are
   pub tries_at_most : tries panel envelope id object ≤ length envelope.signatures
-  tries_at_most = elim (panel.key_of id object) as (λ o. panel.key_of id object ≡ o → tries panel envelope id object ≤ length envelope.signatures) [
-    | None ↦ λ e. rw e (omega arith)
-    | Some n ↦ λ e. rw e (tried_at_most (is_admitted id) (λ s. panel.is_valid n (message_of envelope) s.sig) envelope.signatures)
-  ] refl
+  tries_at_most = elim (panel.key_of id object) as (λ o. panel.key_of id object ≡ o
+      → tries panel envelope id object ≤ length envelope.signatures) [
+        | None ↦ λ e. rw e (omega arith)
+        | Some n ↦ λ e. rw e
+            (tried_at_most (is_admitted id) (λ s. panel.is_valid n (message_of envelope) s.sig)
+            envelope.signatures)
+      ] refl
 
   -- where the key signed, a signature is tried
-  pub signed_tries : (n : KeyNumber) → Signed panel envelope id object n → 1 ≤ tries panel envelope id object
+  pub signed_tries : (n : KeyNumber) → Signed panel envelope id object n
+      → 1 ≤ tries panel envelope id object
   signed_tries n signed =
       let s = signed.signature in
-      rw signed.key (tried_at_least (is_admitted id) (λ s. panel.is_valid n (message_of envelope) s.sig) envelope.signatures s.1 (s.0, s.2, s.3) s.4.admitted)
+      rw signed.key (tried_at_least (is_admitted id)
+      (λ s. panel.is_valid n (message_of envelope) s.sig) envelope.signatures s.1
+      (s.0, s.2, s.3) s.4.admitted)

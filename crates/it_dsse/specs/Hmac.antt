@@ -1,5 +1,6 @@
 -- HMAC (RFC 2104 section 2) with SHA-256, on lists of bytes.
-use Rattle.std.specs.Prelude.{ℕ, List, ◌++◌, ◌-◌, length, map, nat_lt, replicate, bit_xor, if◌then◌else◌}
+use Rattle.std.specs.Prelude.{ℕ, List, ◌++◌, ◌-◌, length, map, nat_lt, replicate, bit_xor}
+use Rattle.std.specs.Prelude.{if◌then◌else◌}
 use Rattle.sha2.specs.Sha256.{sha256}
 
 -- how many bytes a block of SHA-256 has
@@ -20,4 +21,5 @@ masked mask bytes = map (λ byte. bit_xor byte mask) bytes
 
 -- the code of a message under a key
 unfoldable pub hmac : List ℕ → List ℕ → List ℕ
-hmac key message = sha256 (masked 0x5c (block_of key) ++ sha256 (masked 0x36 (block_of key) ++ message))
+hmac key message =
+    sha256 (masked 0x5c (block_of key) ++ sha256 (masked 0x36 (block_of key) ++ message))

@@ -1,5 +1,6 @@
 -- Key objects (in-toto 1.0 section 4.2).
-use Rattle.std.specs.Prelude.{◌≡◌, ℕ, List, [], IsTrue, is_some, Option, Some, codes, option_and_then, unwrap_or}
+use Rattle.std.specs.Prelude.{◌≡◌, ℕ, List, [], IsTrue, is_some, Option, Some, codes}
+use Rattle.std.specs.Prelude.{option_and_then, unwrap_or}
 use Rattle.serde_json.specs.Data.{Data}
 use Rattle.serde_json.specs.Find.{as_object, as_str}
 use Rattle.it_base.specs.Document.{member_at}

@@ -8,7 +8,8 @@ pub mod Meter
 pub mod Pae
 pub mod Panel
 pub mod Ring
-pub mod RingIndex
 pub mod Signed
 pub mod Signing
+pub mod Vouched
 pub mod Written
+pub mod inside

@@ -1,5 +1,6 @@
 -- What a panel of checks means, one beside another (this profile's choice).
-use Rattle.std.specs.Prelude.{ℕ, suc, List, [], ◌∷◌, Bool, false, Option, Some, None, option_map, unwrap_or, slice_get}
+use Rattle.std.specs.Prelude.{ℕ, suc, List, [], ◌∷◌, Bool, false, Option, Some, None, option_map}
+use Rattle.std.specs.Prelude.{unwrap_or, slice_get}
 use Rattle.it_dsse.specs.Check.{Check}
 use Rattle.it_dsse.specs.declared.key_object.KeyObject.{KeyObject}
 
@@ -20,11 +21,14 @@ key_at place None later = later
 -- the key at the least place whose check knows it, the places beginning with this one
 abbrev pub key_from : ℕ → List Check → List ℕ → KeyObject → Option KeyNumber
 key_from place [] id object = None
-key_from place (check ∷ checks) id object = key_at place (check.key_of id object) (key_from (suc place) checks id object)
+key_from place (check ∷ checks) id object =
+    key_at place (check.key_of id object) (key_from (suc place) checks id object)
 
 -- the signature is valid by the check at the place of the key
 abbrev pub is_valid_at : List Check → KeyNumber → List ℕ → List ℕ → Bool
-is_valid_at checks key message sig = unwrap_or (option_map (λ check. check.is_valid key.1 message sig) (slice_get checks key.0)) false
+is_valid_at checks key message sig =
+    unwrap_or
+    (option_map (λ check. check.is_valid key.1 message sig) (slice_get checks key.0)) false
 
 -- what the checks answer together
 abbrev pub panel_of : List Check → Panel

@@ -1,5 +1,7 @@
 -- Rings of secrets, and the check that a ring is (this profile's choice).
-use Rattle.std.specs.Prelude.{ℕ, ◌≤◌, List, length, map, Bool, false, if◌then◌else◌, Option, None, option_map, option_and_then, unwrap_or, codes, find, position, slice_get}
+use Rattle.std.specs.Prelude.{ℕ, ◌≤◌, List, length, map, Bool, false, if◌then◌else◌, Option, None}
+use Rattle.std.specs.Prelude.{option_map, option_and_then, unwrap_or, codes, find, position}
+use Rattle.std.specs.Prelude.{slice_get}
 use Rattle.std.specs.List.{IsDistinct}
 use Rattle.std.specs.Str.{bytes_eq}
 use Rattle.serde_json.specs.Data.{Data}
@@ -38,15 +40,20 @@ has_key key entry = bytes_eq (block_of entry.secret) key
 
 -- the number of the key under an id: the place of the first entry that has the same key
 abbrev pub number_of : List RingEntry → List ℕ → Option ℕ
-number_of ring id = option_and_then (λ entry. position (has_key (block_of entry.secret)) ring) (find (has_id id) ring)
+number_of ring id =
+    option_and_then (λ entry. position (has_key (block_of entry.secret)) ring)
+    (find (has_id id) ring)
 
 -- the signature is the code of the message under the secret at a place
 abbrev pub is_code_at : List RingEntry → ℕ → List ℕ → List ℕ → Bool
-is_code_at ring n message sig = unwrap_or (option_map (λ entry. bytes_eq (hmac entry.secret message) sig) (slice_get ring n)) false
+is_code_at ring n message sig =
+    unwrap_or
+    (option_map (λ entry. bytes_eq (hmac entry.secret message) sig) (slice_get ring n)) false
 
 -- what a ring answers: it knows keys of the scheme hmac-sha256 alone
 abbrev pub ring_check : List RingEntry → Check
 ring_check ring = record {
-  key_of = λ id object. if bytes_eq object.scheme (codes "hmac-sha256") then number_of ring id else None;
+  key_of = λ id object.
+      if bytes_eq object.scheme (codes "hmac-sha256") then number_of ring id else None;
   is_valid = is_code_at ring;
 }

@@ -14,9 +14,14 @@ signature_of secret id kind body = record { keyid = id; sig = hmac secret (pae_o
 -- the body of a type with that one signature
 abbrev pub signed_envelope : List ℕ → List ℕ → List ℕ → List ℕ → Envelope
 signed_envelope secret id kind body =
-    record { payload = body; payload_type = kind; signatures = signature_of secret id kind body ∷ [] }
+    record {
+      payload = body;
+      payload_type = kind;
+      signatures = signature_of secret id kind body ∷ [];
+    }
 
 -- the envelope is that of the body under the secret that the ring has for the id
 abbrev pub IsSignedUnder : List RingEntry → List ℕ → List ℕ → List ℕ → Envelope → Type 0
 IsSignedUnder ring id kind body envelope =
-    MatchOption (find (has_id id) ring) ⊥ (λ entry. envelope ≡ signed_envelope entry.secret id kind body)
+    MatchOption (find (has_id id) ring) ⊥
+    (λ entry. envelope ≡ signed_envelope entry.secret id kind body)

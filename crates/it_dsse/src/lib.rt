@@ -3,23 +3,29 @@
 
 pub mod check;
 mod decimal;
-mod encoding;
 pub mod envelope;
 pub mod key_object;
 pub mod laws;
 mod mac;
 pub mod meter;
 mod panel;
+pub mod payload_type;
+mod pre_authentication;
 pub mod ring;
 pub mod ring_entry;
 mod ring_ids;
 mod ring_index;
-mod signed;
+pub mod sign;
+mod signer_key;
 mod signers;
-pub mod signing;
 pub mod written;
 
-pub use encoding::pae;
 pub use mac::{hmac_sha256, hmac_sha256_parts};
-pub use signed::signed_by;
+pub use pre_authentication::pae;
+pub use signer_key::signed_by;
 pub use signers::{is_signer, signed_ids};
+
+/// The signing of a body, under the name that it has for callers.
+pub mod signing {
+    pub use crate::sign::{SignFault, sign};
+}

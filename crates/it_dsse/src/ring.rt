@@ -1,5 +1,6 @@
 //! A ring of secrets, and the check that it is.
-ghost use Rattle.std.specs.Prelude.{◌≡◌, IfOk, IsErrOf, find, map, position, slice_get, string_bytes};
+ghost use Rattle.std.specs.Prelude.{◌≡◌, IfOk, IsErrOf, find, map, position, slice_get};
+ghost use Rattle.std.specs.Prelude.{string_bytes};
 ghost use Rattle.std.specs.Option.{option_copied};
 ghost use Rattle.std.specs.Cmp.Lexicographic.{slice_cmp};
 ghost use Rattle.std.specs.List.Sorted.{IsPermutation, IsSorted};
@@ -37,7 +38,7 @@ pub struct HmacRing {
 impl Model for HmacRing {
     ghost use Rattle.std.specs.Prelude.{List, length, ◌≤◌};
     ghost use Rattle.it_dsse.specs.declared.ring_entry.RingEntry.{RingEntry};
-    ghost use Rattle.it_dsse.specs.RingIndex.{PlacesIds, PlacesKeys};
+    ghost use Rattle.it_dsse.specs.inside.RingIndex.{PlacesIds, PlacesKeys};
 
     ghost Value = { List RingEntry };
 

@@ -3,7 +3,7 @@ ghost use Rattle.std.specs.Prelude.{◌≡◌, ◌≤◌, IfOk, IsSome, MatchOpt
 ghost use Rattle.std.specs.List.{IsDistinct};
 ghost use Rattle.std.specs.Str.{bytes_eq};
 ghost use Rattle.it_dsse.specs.Ring.{ids_of};
-ghost use Rattle.it_dsse.specs.RingIndex.{PlacesIds, PlacesKeys};
+ghost use Rattle.it_dsse.specs.inside.RingIndex.{PlacesIds, PlacesKeys};
 
 use crate::mac::block;
 use crate::ring_entry::RingEntry;

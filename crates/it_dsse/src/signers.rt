@@ -8,7 +8,7 @@ use crate::check::SignatureCheck;
 use crate::envelope::Envelope;
 use crate::key_object::KeyObject;
 use crate::meter::Meter;
-use crate::signed::signed_by;
+use crate::signer_key::signed_by;
 use std::alloc::{AllocError, Global};
 
 /// Those of the ids whose key signed the envelope, in the order given.

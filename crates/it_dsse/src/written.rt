@@ -7,7 +7,8 @@ ghost use Rattle.it_base.specs.Base64Text.{IsBase64, base64_encoded};
 ghost use Rattle.it_base.specs.Sequence.{IsList};
 ghost use Rattle.it_base.specs.Writing.{AppendsBeginning};
 ghost use Rattle.it_dsse.specs.Envelope.{EnvelopeOf, IsEnvelope, IsSignature};
-ghost use Rattle.it_dsse.specs.Written.{document_of, signature_document, signatures_document, written_form};
+ghost use Rattle.it_dsse.specs.Written.{document_of, signature_document, signatures_document};
+ghost use Rattle.it_dsse.specs.Written.{written_form};
 ghost use Rattle.it_dsse.specs.declared.written.WriteFault.TheVariants as fault;
 
 use crate::envelope::{Envelope, Signature};
@@ -43,10 +44,10 @@ impl From<WriteError> for WriteFault {
 }
 
 impl Envelope {
-    /// Writes the envelope as compact JSON (DSSE v1.0, "Envelope", its JSON form), with no line feed
-    /// after it: its members in the order of their bytes, payload and signatures as base64 in the
-    /// standard alphabet with padding, and an empty hint as an empty text. It reads back as the same
-    /// envelope.
+    /// Writes the envelope as compact JSON (DSSE v1.0, "Envelope", its JSON form), with no line
+    /// feed after it: its members in the order of their bytes, payload and signatures as base64 in
+    /// the standard alphabet with padding, and an empty hint as an empty text. It reads back as the
+    /// same envelope.
     ///
     /// # Errors
     ///

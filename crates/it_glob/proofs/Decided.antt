@@ -1,5 +1,7 @@
 -- Whether a pattern matches a text, as an answer.
-use Rattle.std.proofs.Common.{◌≡◌, ℕ, ◌≤◌, ◌⊎◌, inl, inr, Bool, true, false, ◌&&◌, ◌||◌, not, eqb, leb, cond, List, [], ◌∷◌, refl, true≢false, sym, Decides, MatchBool, eqb-true, eq-eqb, leb-true, le-leb}
+use Rattle.std.proofs.Common.{◌≡◌, ℕ, ◌≤◌, ◌⊎◌, inl, inr, Bool, true, false, ◌&&◌, ◌||◌, not, eqb}
+use Rattle.std.proofs.Common.{leb, cond, List, [], ◌∷◌, refl, true≢false, sym, Decides, MatchBool}
+use Rattle.std.proofs.Common.{eqb-true, eq-eqb, leb-true, le-leb}
 use Rattle.std.proofs.lemmas.Bool.Decides.{Decides-and, Decides-like, Decides-not, Decides-or}
 use Rattle.std.specs.Str.{chars}
 use Rattle.it_glob.specs.Pattern.{InBody, Matches, MatchesChars, Takes, items_of}
@@ -12,7 +14,8 @@ abbrev is_in_body : List ℕ → ℕ → Bool
 is_in_body [] c = false
 is_in_body (x ∷ []) c = eqb c x
 is_in_body (x ∷ y ∷ []) c = eqb c x || eqb c y
-is_in_body (x ∷ y ∷ z ∷ rest) c = cond (eqb y 45) ((leb x c && leb c z) || is_in_body rest c) (eqb c x || is_in_body (y ∷ z ∷ rest) c)
+is_in_body (x ∷ y ∷ z ∷ rest) c = cond (eqb y 45) ((leb x c && leb c z) || is_in_body rest c)
+    (eqb c x || is_in_body (y ∷ z ∷ rest) c)
 
 -- decides `Takes`
 abbrev is_taken : Item → ℕ → Bool
@@ -55,54 +58,74 @@ equal-Decides c d = (eqb-true c d, eq-eqb c d)
 at_most-Decides : (a b : ℕ) → Decides (leb a b) (a ≤ b)
 at_most-Decides a b = (leb-true a b, le-leb a b)
 
-either-Decides : {P Q : Type 0} (b r s : Bool) → Decides r P → Decides s Q → Decides (cond b r s) (MatchBool b P Q)
+either-Decides : {P Q : Type 0} (b r s : Bool) → Decides r P → Decides s Q
+    → Decides (cond b r s) (MatchBool b P Q)
 either-Decides true r s h k = h
 either-Decides false r s h k = k
 
 is_in_body-Decides : (body : List ℕ) (c : ℕ) → Decides (is_in_body body c) (InBody body c)
 is_in_body-Decides [] c = never (λ h. h)
 is_in_body-Decides (x ∷ []) c = equal-Decides c x
-is_in_body-Decides (x ∷ y ∷ []) c = Decides-or (eqb c x) (eqb c y) (equal-Decides c x) (equal-Decides c y)
+is_in_body-Decides (x ∷ y ∷ []) c = Decides-or (eqb c x) (eqb c y) (equal-Decides c x)
+    (equal-Decides c y)
 is_in_body-Decides (x ∷ y ∷ z ∷ rest) c =
-    either-Decides (eqb y 45) ((leb x c && leb c z) || is_in_body rest c) (eqb c x || is_in_body (y ∷ z ∷ rest) c)
-    (Decides-or (leb x c && leb c z) (is_in_body rest c) (Decides-and (leb x c) (leb c z) (at_most-Decides x c) (at_most-Decides c z)) (is_in_body-Decides rest c))
-    (Decides-or (eqb c x) (is_in_body (y ∷ z ∷ rest) c) (equal-Decides c x) (is_in_body-Decides (y ∷ z ∷ rest) c))
+    either-Decides (eqb y 45) ((leb x c && leb c z) || is_in_body rest c)
+    (eqb c x || is_in_body (y ∷ z ∷ rest) c)
+    (Decides-or (leb x c && leb c z) (is_in_body rest c)
+    (Decides-and (leb x c) (leb c z) (at_most-Decides x c) (at_most-Decides c z))
+    (is_in_body-Decides rest c))
+    (Decides-or (eqb c x) (is_in_body (y ∷ z ∷ rest) c) (equal-Decides c x)
+    (is_in_body-Decides (y ∷ z ∷ rest) c))
 
 is_taken-Decides : (item : Item) (c : ℕ) → Decides (is_taken item c) (Takes item c)
 is_taken-Decides Star c = never (λ h. h)
 is_taken-Decides Any c = (λ _. tt, λ _. refl)
 is_taken-Decides (OneOf negated body) c =
-    either-Decides negated (not (is_in_body body c)) (is_in_body body c) (Decides-not (is_in_body body c) (is_in_body-Decides body c)) (is_in_body-Decides body c)
+    either-Decides negated (not (is_in_body body c)) (is_in_body body c)
+    (Decides-not (is_in_body body c) (is_in_body-Decides body c)) (is_in_body-Decides body c)
 is_taken-Decides (Exactly d) c = equal-Decides c d
 
-some_rest-Decides : (items : List Item) (test : List ℕ → Bool) → ((cs : List ℕ) → Decides (test cs) (MatchesChars items cs)) → (cs : List ℕ)
+some_rest-Decides : (items : List Item) (test : List ℕ → Bool)
+    → ((cs : List ℕ) → Decides (test cs) (MatchesChars items cs)) → (cs : List ℕ)
     → Decides (some_rest test cs) (MatchesChars items cs ⊎ MatchesLater items cs)
-some_rest-Decides items test each [] = Decides-like (test []) inl (λ h. elim h [ inl m ↦ m | inr m ↦ absurd m ]) (each [])
-some_rest-Decides items test each (c ∷ cs) = Decides-or (test (c ∷ cs)) (some_rest test cs) (each (c ∷ cs)) (some_rest-Decides items test each cs)
+some_rest-Decides items test each [] =
+    Decides-like (test []) inl (λ h. elim h [ inl m ↦ m | inr m ↦ absurd m ]) (each [])
+some_rest-Decides items test each (c ∷ cs) = Decides-or (test (c ∷ cs)) (some_rest test cs)
+    (each (c ∷ cs)) (some_rest-Decides items test each cs)
 
-first_and_rest-Decides : (First : ℕ → Type 0) (Rest : List ℕ → Type 0) (first : ℕ → Bool) (rest : List ℕ → Bool)
-    → ((c : ℕ) → Decides (first c) (First c)) → ((cs : List ℕ) → Decides (rest cs) (Rest cs)) → (cs : List ℕ)
-    → Decides (first_and_rest first rest cs) ((c : ℕ) × (left : List ℕ) × (cs ≡ c ∷ left) × First c × Rest left)
+first_and_rest-Decides : (First : ℕ → Type 0) (Rest : List ℕ → Type 0) (first : ℕ → Bool)
+    (rest : List ℕ → Bool)
+    → ((c : ℕ) → Decides (first c) (First c)) → ((cs : List ℕ) → Decides (rest cs) (Rest cs))
+    → (cs : List ℕ)
+    → Decides (first_and_rest first rest cs) ((c : ℕ) × (left : List ℕ) × (cs ≡ c ∷ left) × First c
+    × Rest left)
 first_and_rest-Decides First Rest first rest one each [] = never (λ h. let e = h.2 in cc)
 first_and_rest-Decides First Rest first rest one each (c ∷ cs) =
     Decides-like (first c && rest cs) (λ h. (c, cs, refl, h.0, h.1))
     (λ h. let head : h.0 ≡ c = cc in let tail : h.1 ≡ cs = cc in (rw head at h.3, rw tail at h.4))
     (Decides-and (first c) (rest cs) (one c) (each cs))
 
-is_match_of_chars-Decides : (items : List Item) (cs : List ℕ) → Decides (is_match_of_chars items cs) (MatchesChars items cs)
+is_match_of_chars-Decides : (items : List Item) (cs : List ℕ) → Decides (is_match_of_chars items cs)
+    (MatchesChars items cs)
 is_match_of_chars-Decides [] [] = (λ _. refl, λ _. refl)
 is_match_of_chars-Decides [] (c ∷ cs) = never (λ e. cc)
 is_match_of_chars-Decides (Star ∷ items) cs =
     Decides-like (some_rest (is_match_of_chars items) cs) (star_over items cs) (star_takes items cs)
     (some_rest-Decides items (is_match_of_chars items) (is_match_of_chars-Decides items) cs)
 is_match_of_chars-Decides (Any ∷ items) cs =
-    first_and_rest-Decides (Takes Any) (MatchesChars items) (is_taken Any) (is_match_of_chars items) (is_taken-Decides Any) (is_match_of_chars-Decides items) cs
+    first_and_rest-Decides (Takes Any) (MatchesChars items) (is_taken Any) (is_match_of_chars items)
+    (is_taken-Decides Any) (is_match_of_chars-Decides items) cs
 is_match_of_chars-Decides (OneOf negated body ∷ items) cs =
-    first_and_rest-Decides (Takes (OneOf negated body)) (MatchesChars items) (is_taken (OneOf negated body)) (is_match_of_chars items) (is_taken-Decides (OneOf negated body)) (is_match_of_chars-Decides items) cs
+    first_and_rest-Decides (Takes (OneOf negated body)) (MatchesChars items)
+    (is_taken (OneOf negated body)) (is_match_of_chars items)
+    (is_taken-Decides (OneOf negated body)) (is_match_of_chars-Decides items) cs
 is_match_of_chars-Decides (Exactly d ∷ items) cs =
-    first_and_rest-Decides (Takes (Exactly d)) (MatchesChars items) (is_taken (Exactly d)) (is_match_of_chars items) (is_taken-Decides (Exactly d)) (is_match_of_chars-Decides items) cs
+    first_and_rest-Decides (Takes (Exactly d)) (MatchesChars items) (is_taken (Exactly d))
+    (is_match_of_chars items) (is_taken-Decides (Exactly d)) (is_match_of_chars-Decides items)
+    cs
 
 -- a text is matched just where the answer says so
-pub is_match-Decides : (pattern text : List ℕ) → Decides (is_match pattern text) (Matches (items_of pattern) text)
+pub is_match-Decides : (pattern text : List ℕ) → Decides (is_match pattern text)
+    (Matches (items_of pattern) text)
 unfolding is_match Matches
 is_match-Decides pattern text = is_match_of_chars-Decides (items_of pattern) (chars text)

@@ -1,3 +1,2 @@
-pub mod Item
-pub mod Matching
 pub mod Pattern
+pub mod inside

@@ -1,6 +1,9 @@
--- Path patterns. The in-toto specification 1.0, section 4.3.3, names the files of artifact rules by path patterns.
--- Which texts are patterns and what they match is this profile's choice. A character is a Unicode scalar value.
-use Rattle.std.specs.Prelude.{◌≡◌, ℕ, zero, suc, ◌+◌, ◌≤◌, ◌⊎◌, Bool, true, false, List, [], ◌∷◌, ◌++◌, Option, ◌==◌, ⊤, if◌then◌else◌, MatchBool, take, drop, position, option_map, unwrap_or, encode_utf8}
+-- Path patterns. The in-toto specification 1.0, section 4.3.3, names the files of artifact rules by
+-- path patterns. Which texts are patterns and what they match is this profile's choice. A character
+-- is a Unicode scalar value.
+use Rattle.std.specs.Prelude.{◌≡◌, ℕ, zero, suc, ◌+◌, ◌≤◌, ◌⊎◌, Bool, true, false, List, [], ◌∷◌}
+use Rattle.std.specs.Prelude.{◌++◌, Option, ◌==◌, ⊤, if◌then◌else◌, MatchBool, take, drop}
+use Rattle.std.specs.Prelude.{position, option_map, unwrap_or, encode_utf8}
 use Rattle.std.specs.Str.{byte, chars}
 use Rattle.it_glob.specs.declared.item.Item.{Item}
 use Rattle.it_glob.specs.declared.item.Item.TheVariants.{Star, Any, OneOf, Exactly}
@@ -9,20 +12,22 @@ use Rattle.it_glob.specs.declared.item.Item.TheVariants.{Star, Any, OneOf, Exact
 abbrev pub is_close : ℕ → Bool
 is_close c = c == byte "]"
 
--- how long the body of a set is that begins cs: it ends before the first ] that is not its first character
+-- how long the body of a set is that begins cs: it ends before the first ] that is not its first
+-- character
 abbrev pub body_len : List ℕ → Option ℕ
 body_len cs = option_map (λ n. n + 1) (position is_close (drop 1 cs))
 
--- whether a set is negated, where these characters follow its [, and the characters from its body on: a ! that stands
--- right after the [ is the negation
+-- whether a set is negated, where these characters follow its [, and the characters from its body
+-- on: a ! that stands right after the [ is the negation
 abbrev pub negation_of : List ℕ → Bool × List ℕ
 negation_of [] = (false, [])
 negation_of (c ∷ cs) = if c == byte "!" then (true, cs) else (false, c ∷ cs)
 
--- the set with or without negation whose body begins these characters, and how many characters it takes after its [:
--- the ! if it is negated, the body and the ]
+-- the set with or without negation whose body begins these characters, and how many characters it
+-- takes after its [: the ! if it is negated, the body and the ]
 abbrev pub set_of : Bool × List ℕ → Option (Item × ℕ)
-set_of (negated, cs) = option_map (λ n. (OneOf negated (take n cs), (if negated then n + 2 else n + 1))) (body_len cs)
+set_of (negated, cs) =
+    option_map (λ n. (OneOf negated (take n cs), (if negated then n + 2 else n + 1))) (body_len cs)
 
 -- the set whose [ precedes these characters
 abbrev pub set_at : List ℕ → Option (Item × ℕ)
@@ -46,14 +51,15 @@ items_after (suc n) (c ∷ cs) = items_after n cs
 unfoldable pub items_of : List ℕ → List Item
 items_of text = items_after 0 (chars text)
 
--- a character is in the body of a set. Where at least three characters are left and the second is -, they are
--- a range from the first to the third, both included; else the first is itself
+-- a character is in the body of a set. Where at least three characters are left and the second is
+-- -, they are a range from the first to the third, both included; else the first is itself
 abbrev pub InBody : List ℕ → ℕ → Type 0
 InBody [] c = ⊥
 InBody (x ∷ []) c = c ≡ x
 InBody (x ∷ y ∷ []) c = (c ≡ x) ⊎ (c ≡ y)
 InBody (x ∷ y ∷ z ∷ rest) c =
-    MatchBool (y == byte "-") (((x ≤ c) × (c ≤ z)) ⊎ InBody rest c) ((c ≡ x) ⊎ InBody (y ∷ z ∷ rest) c)
+    MatchBool (y == byte "-") (((x ≤ c) × (c ≤ z)) ⊎ InBody rest c)
+    ((c ≡ x) ⊎ InBody (y ∷ z ∷ rest) c)
 
 -- an item takes a character. A star is no test of a character
 abbrev pub Takes : Item → ℕ → Type 0
@@ -62,11 +68,14 @@ Takes Any c = ⊤
 Takes (OneOf negated body) c = MatchBool negated (¬ InBody body c) (InBody body c)
 Takes (Exactly d) c = c ≡ d
 
--- items match characters. A star takes any front of them, also the empty one; another item takes the first
+-- items match characters. A star takes any front of them, also the empty one; another item takes
+-- the first
 abbrev pub MatchesChars : List Item → List ℕ → Type 0
 MatchesChars [] cs = cs ≡ []
-MatchesChars (Star ∷ items) cs = (front : List ℕ) × (rest : List ℕ) × (cs ≡ front ++ rest) × MatchesChars items rest
-MatchesChars (item ∷ items) cs = (c : ℕ) × (rest : List ℕ) × (cs ≡ c ∷ rest) × Takes item c × MatchesChars items rest
+MatchesChars (Star ∷ items) cs =
+    (front : List ℕ) × (rest : List ℕ) × (cs ≡ front ++ rest) × MatchesChars items rest
+MatchesChars (item ∷ items) cs =
+    (c : ℕ) × (rest : List ℕ) × (cs ≡ c ∷ rest) × Takes item c × MatchesChars items rest
 
 -- items match a whole text
 unfoldable pub Matches : List Item → List ℕ → Type 0

@@ -1,7 +1,7 @@
 //! The items of a pattern.
 ghost use Rattle.std.specs.Prelude.{◌≡◌, [], IsTrue, ◌↔◌, MatchOption};
 ghost use Rattle.it_glob.specs.Pattern.{InBody};
-ghost use Rattle.it_glob.specs.Item.{IsFirstRange};
+ghost use Rattle.it_glob.specs.inside.FirstRange.{IsFirstRange};
 
 use std::marker::Model;
 

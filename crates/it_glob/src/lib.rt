@@ -3,7 +3,7 @@
 
 mod front;
 mod item;
-mod matching;
+mod match_items;
 mod pattern;
 mod reading;
 

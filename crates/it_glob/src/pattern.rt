@@ -5,7 +5,7 @@ ghost use Rattle.it_glob.specs.Pattern.{items_of, Matches, front_of, plain_count
 
 use crate::front::front_of_text;
 use crate::item::Item;
-use crate::matching::match_items;
+use crate::match_items::match_items;
 use crate::reading::read_items;
 use std::alloc::{AllocError, Global};
 use std::marker::Model;
@@ -30,8 +30,8 @@ impl Model for Pattern {
 }
 
 impl Pattern {
-    /// Reads a pattern's text. Every text is a pattern: what begins no item of its own stands for itself.
-    /// The pattern keeps a copy of the text. The one error is that memory ran out.
+    /// Reads a pattern's text. Every text is a pattern: what begins no item of its own stands for
+    /// itself. The pattern keeps a copy of the text. The one error is that memory ran out.
     pub fn read(alloc: Global, text: &str) -> Result<Pattern, AllocError>
         ensures { IfOk result (λ p. p ≡ text.now) }
     {

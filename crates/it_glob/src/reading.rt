@@ -1,6 +1,8 @@
 //! The reading of a pattern's text into items.
-ghost use Rattle.std.specs.Prelude.{◌≡◌, ◌+◌, ◌≤◌, ◌<◌, IfOk, IfSome, if◌then◌else◌, length, position};
-ghost use Rattle.it_glob.specs.Pattern.{items_of, items_after, item_at, plain_item, set_at, negation_of, body_len, is_close};
+ghost use Rattle.std.specs.Prelude.{◌≡◌, ◌+◌, ◌≤◌, ◌<◌, IfOk, IfSome, length, position};
+ghost use Rattle.std.specs.Prelude.{if◌then◌else◌};
+ghost use Rattle.it_glob.specs.Pattern.{items_of, items_after, item_at, plain_item, set_at};
+ghost use Rattle.it_glob.specs.Pattern.{negation_of, body_len, is_close};
 
 use crate::item::{Body, Item};
 use std::alloc::{AllocError, Global};

@@ -9,8 +9,12 @@ use Rattle.it_prov.proofs.Greatest.{greatest_one, some_greatest}
 use Rattle.it_prov.proofs.Meeting.{greatest_level}
 
 module _ (panel : Panel) (expectation : Expectation) (digests : DigestSet) where
-  pub best_is_one : (P : Envelope → Type 0) (a b : Option ℕ) → IsBest panel expectation digests P a → IsBest panel expectation digests P b → a ≡ b
-  best_is_one P = greatest_one (λ level. (envelope : Envelope) × P envelope × MeetsAtLevel panel expectation digests envelope level)
+  pub best_is_one : (P : Envelope → Type 0) (a b : Option ℕ) → IsBest panel expectation digests P a
+      → IsBest panel expectation digests P b → a ≡ b
+  best_is_one P = greatest_one (λ level. (envelope : Envelope) × P envelope
+      × MeetsAtLevel panel expectation digests envelope level)
 
-  pub some_best : (envelopes : List Envelope) → (best : Option ℕ) × IsBest panel expectation digests (Contains envelopes) best
-  some_best = some_greatest (MeetsAtLevel panel expectation digests) (greatest_level panel expectation digests)
+  pub some_best : (envelopes : List Envelope) → (best : Option ℕ) × IsBest panel expectation digests
+      (Contains envelopes) best
+  some_best = some_greatest (MeetsAtLevel panel expectation digests)
+      (greatest_level panel expectation digests)

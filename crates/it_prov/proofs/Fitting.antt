@@ -1,5 +1,7 @@
 -- Some expectation fits a path, or none does.
-use Rattle.std.proofs.Common.{◌≡◌, ◌⊎◌, ◌+◌, ◌<◌, ℕ, List, [], ◌∷◌, ◌++◌, length, get_or, take, drop, Option, Some, None, MatchOption, Bor, inl, inr, Contains, refl, sym, ap, subst, arith, ◌∙◌}
+use Rattle.std.proofs.Common.{◌≡◌, ◌⊎◌, ◌+◌, ◌<◌, ℕ, List, [], ◌∷◌, ◌++◌, length, get_or, take}
+use Rattle.std.proofs.Common.{drop, Option, Some, None, MatchOption, Bor, inl, inr, Contains, refl}
+use Rattle.std.proofs.Common.{sym, ap, subst, arith, ◌∙◌}
 use Rattle.std.specs.List.{AllWithin, HoldsAt}
 use Rattle.std.proofs.lemmas.List.{drop_more, get_or-take, length-take, take-append-drop}
 use Rattle.std.proofs.lemmas.List.Elements.{Contains-append_right}
@@ -12,57 +14,94 @@ use Rattle.it_prov.specs.Fits.{SpeaksOf, Fits}
 
 module _ (path : List ℕ) where
   speaks_or_not : (expectation : Expectation) → Settled (SpeaksOf path expectation)
-  speaks_or_not expectation = settled_by (is_match expectation.files path) (is_match-Decides expectation.files path)
+  speaks_or_not expectation = settled_by (is_match expectation.files path)
+      (is_match-Decides expectation.files path)
 
-  fits_first : (expectation : Expectation) (rest : List Expectation) → SpeaksOf path expectation → Fits (expectation ∷ rest) path expectation
-  fits_first expectation rest speaks = record { front = []; rest = rest; they_are = refl; speaks = speaks; none_before = λ other c. absurd (in_none other c) }
+  fits_first : (expectation : Expectation) (rest : List Expectation) → SpeaksOf path expectation
+      → Fits (expectation ∷ rest) path expectation
+  fits_first expectation rest speaks = record {
+    front = [];
+    rest = rest;
+    they_are = refl;
+    speaks = speaks;
+    none_before =
+        λ other c. absurd (in_none other c);
+  }
 
-  fits_later : (silent : Expectation) (expectations : List Expectation) (expectation : Expectation) → ¬ SpeaksOf path silent → Fits expectations path expectation → Fits (silent ∷ expectations) path expectation
+  fits_later : (silent : Expectation) (expectations : List Expectation) (expectation : Expectation)
+      → ¬ SpeaksOf path silent → Fits expectations path expectation
+      → Fits (silent ∷ expectations) path expectation
   fits_later silent expectations expectation quiet fits = record {
     front = silent ∷ fits.front;
     rest = fits.rest;
     they_are = ap (λ others. silent ∷ others) fits.they_are;
     speaks = fits.speaks;
-    none_before = λ other c. elim (in_cases silent fits.front other c) [ inl same ↦ subst (λ e. ¬ SpeaksOf path e) same quiet | inr later ↦ fits.none_before other later ];
+    none_before = λ other c. elim (in_cases silent fits.front other c) [
+      | inl same ↦ subst (λ e. ¬ SpeaksOf path e) same quiet
+      | inr later ↦ fits.none_before other later
+    ];
   }
 
-  fits_or_silent : (expectations : List Expectation) → ((expectation : Expectation) × Fits expectations path expectation) ⊎ ((expectation : Expectation) → Contains expectations expectation → ¬ SpeaksOf path expectation)
+  fits_or_silent : (expectations : List Expectation)
+      → ((expectation : Expectation) × Fits expectations path expectation)
+      ⊎ ((expectation : Expectation) → Contains expectations expectation
+      → ¬ SpeaksOf path expectation)
   fits_or_silent [] = inr (λ other c. absurd (in_none other c))
   fits_or_silent (x ∷ xs) = elim (speaks_or_not x) [
     | inl speaks ↦ inl (x, fits_first x xs speaks)
     | inr quiet ↦ elim (fits_or_silent xs) [
       | inl found ↦ inl (found.0, fits_later x xs found.0 quiet found.1)
-      | inr silent ↦ inr (λ other c. elim (in_cases x xs other c) [ inl same ↦ subst (λ e. ¬ SpeaksOf path e) same quiet | inr later ↦ silent other later ])
+      | inr silent ↦ inr
+          (λ other c. elim (in_cases x xs other c) [
+            | inl same ↦ subst (λ e. ¬ SpeaksOf path e) same quiet
+            | inr later ↦ silent other later
+          ])
     ]
   ]
 
   -- where no expectation speaks of the path, none fits it
-  silent_fits_none : (expectations : List Expectation) → ((expectation : Expectation) → Contains expectations expectation → ¬ SpeaksOf path expectation) → NoneFits expectations path
-  silent_fits_none expectations silent e fits = silent e (subst (λ xs. Contains xs e) (sym fits.they_are) (Contains-append_right fits.front (e ∷ fits.rest) e (in_head e fits.rest))) fits.speaks
+  silent_fits_none : (expectations : List Expectation)
+      → ((expectation : Expectation) → Contains expectations expectation
+      → ¬ SpeaksOf path expectation) → NoneFits expectations path
+  silent_fits_none expectations silent e fits =
+      silent e (subst (λ xs. Contains xs e) (sym fits.they_are)
+      (Contains-append_right fits.front (e ∷ fits.rest) e (in_head e fits.rest))) fits.speaks
 
-  pub fits_or_none : (expectations : List Expectation) → ((expectation : Expectation) × Fits expectations path expectation) ⊎ NoneFits expectations path
+  pub fits_or_none : (expectations : List Expectation)
+      → ((expectation : Expectation) × Fits expectations path expectation)
+      ⊎ NoneFits expectations path
   fits_or_none expectations = elim (fits_or_silent expectations) [
     | inl found ↦ inl found
     | inr silent ↦ inr (silent_fits_none expectations silent)
   ]
 
   -- the first that speaks of the path fits it
-  fits_at : (expectations : List Expectation) (expectation : Expectation) (i : ℕ) → i < length expectations → get_or expectations i expectation ≡ expectation → SpeaksOf path expectation
-      → AllWithin (λ other. ¬ SpeaksOf path other) expectations 0 i → Fits expectations path expectation
+  fits_at : (expectations : List Expectation) (expectation : Expectation) (i : ℕ)
+      → i < length expectations → get_or expectations i expectation ≡ expectation
+      → SpeaksOf path expectation
+      → AllWithin (λ other. ¬ SpeaksOf path other) expectations 0 i
+      → Fits expectations path expectation
   fits_at expectations expectation i below is speaks before = record {
     front = take i expectations;
     rest = drop (i + 1) expectations;
-    they_are = sym (take-append-drop i expectations) ∙ ap (λ xs. take i expectations ++ xs) (drop_more expectations i expectation below ∙ ap (λ x. x ∷ drop (i + 1) expectations) is);
+    they_are = sym (take-append-drop i expectations) ∙ ap (λ xs. take i expectations ++ xs)
+        (drop_more expectations i expectation below ∙ ap (λ x. x ∷ drop (i + 1) expectations) is);
     speaks = speaks;
     none_before = λ other c.
         let within : c.0 < i = omega (arith, c.1, length-take i expectations) in
-        subst (λ x. ¬ SpeaksOf path x) (sym (get_or-take i expectations c.0 other within) ∙ c.2) (before c.0 other (omega arith) within);
+        subst (λ x. ¬ SpeaksOf path x) (sym (get_or-take i expectations c.0 other within) ∙ c.2)
+        (before c.0 other (omega arith) within);
   }
 
   -- what a search for the first that speaks of the path comes to
   pub fits_found : (expectations : List Expectation) (found : Option (Bor Expectation))
-      → MatchOption found (AllWithin (λ other. ¬ SpeaksOf path other) expectations 0 (length expectations))
-      (λ x. SpeaksOf path x.now × (i : ℕ) × (i < length expectations) × HoldsAt (λ y. y ≡ x.now) expectations i × AllWithin (λ other. ¬ SpeaksOf path other) expectations 0 i)
+      → MatchOption found (AllWithin (λ other. ¬ SpeaksOf path other) expectations 0
+      (length expectations))
+      (λ x. SpeaksOf path x.now × (i : ℕ) × (i < length expectations)
+      × HoldsAt (λ y. y ≡ x.now) expectations i
+      × AllWithin (λ other. ¬ SpeaksOf path other) expectations 0 i)
       → MatchOption found (NoneFits expectations path) (λ x. Fits expectations path x.now)
-  fits_found expectations None silent = silent_fits_none expectations (λ other c. subst (λ x. ¬ SpeaksOf path x) c.2 (silent c.0 other (omega arith) c.1))
+  fits_found expectations None silent =
+      silent_fits_none expectations (λ other c. subst (λ x. ¬ SpeaksOf path x) c.2
+      (silent c.0 other (omega arith) c.1))
   fits_found expectations (Some x) h = fits_at expectations x.now h.1 h.2 (h.3 x.now) h.0 h.4

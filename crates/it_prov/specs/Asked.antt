@@ -1,5 +1,5 @@
--- How many checks of validity it takes at least to find provenance (a word of this project; no standard
--- speaks of it).
+-- How many checks of validity it takes at least to find provenance (a word of this project; no
+-- standard speaks of it).
 use Rattle.std.specs.Prelude.{◌≡◌, ◌≤◌, ℕ, List, Some}
 use Rattle.std.specs.List.{slice_get}
 use Rattle.it_digest.specs.declared.compare.DigestSet.{DigestSet}
@@ -14,20 +14,24 @@ use Rattle.it_prov.specs.Meets.{Meets}
 abbrev pub AtLeast : (ℕ → Type 0) → ℕ → Type 0
 AtLeast P n = (least : ℕ) × P least × (least ≤ n)
 
--- an envelope meets an expectation, and n signatures are tried with the key of the builder that signed:
--- those that are admitted for its id, up to the first valid one
-pub record IsAskedFor (panel : Panel) (expectation : Expectation) (digests : DigestSet) (envelope : Envelope) (n : ℕ) : Type 0 where
+-- an envelope meets an expectation, and n signatures are tried with the key of the builder that
+-- signed: those that are admitted for its id, up to the first valid one
+pub record IsAskedFor (panel : Panel) (expectation : Expectation) (digests : DigestSet)
+    (envelope : Envelope) (n : ℕ) : Type 0 where
   pub meets : Meets panel expectation digests envelope
-  pub tried : n ≡ tries panel envelope meets.besides_level.signed.id meets.besides_level.signed.object
+  pub tried : n
+      ≡ tries panel envelope meets.besides_level.signed.id meets.besides_level.signed.object
 
 -- the same of the envelope at an index
-pub record IsAskedAt (panel : Panel) (expectation : Expectation) (digests : DigestSet) (envelopes : List Envelope) (index : ℕ) (n : ℕ) : Type 0 where
+pub record IsAskedAt (panel : Panel) (expectation : Expectation) (digests : DigestSet)
+    (envelopes : List Envelope) (index : ℕ) (n : ℕ) : Type 0 where
   pub envelope : Envelope
   pub stands : slice_get envelopes index ≡ Some envelope
   pub asked : IsAskedFor panel expectation digests envelope n
 
 -- the same of the expectation that fits a path
-pub record IsAsked (panel : Panel) (expectations : List Expectation) (path : List ℕ) (digests : DigestSet) (envelopes : List Envelope) (index : ℕ) (n : ℕ) : Type 0 where
+pub record IsAsked (panel : Panel) (expectations : List Expectation) (path : List ℕ)
+    (digests : DigestSet) (envelopes : List Envelope) (index : ℕ) (n : ℕ) : Type 0 where
   pub expectation : Expectation
   pub fits : Fits expectations path expectation
   pub asked : IsAskedAt panel expectation digests envelopes index n

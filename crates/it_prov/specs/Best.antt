@@ -1,5 +1,5 @@
--- The greatest build level with which an expectation is met in all else (this profile's choice; the levels
--- are those of SLSA v1.0).
+-- The greatest build level with which an expectation is met in all else (this profile's choice;
+-- the levels are those of SLSA v1.0).
 use Rattle.std.specs.Prelude.{◌≡◌, ◌≤◌, ℕ, Option, Some, None}
 use Rattle.it_digest.specs.declared.compare.DigestSet.{DigestSet}
 use Rattle.it_dsse.specs.Panel.{Panel}
@@ -14,12 +14,14 @@ IsGreatest P None = (n : ℕ) → ¬ P n
 IsGreatest P (Some greatest) = P greatest × ((n : ℕ) → P n → n ≤ greatest)
 
 -- an envelope meets an expectation in all but the level with a builder of this level
-pub record MeetsAtLevel (panel : Panel) (expectation : Expectation) (digests : DigestSet) (envelope : Envelope) (level : ℕ) : Type 0 where
+pub record MeetsAtLevel (panel : Panel) (expectation : Expectation) (digests : DigestSet)
+    (envelope : Envelope) (level : ℕ) : Type 0 where
   pub builder : Builder
   pub besides_level : MeetsBesidesLevel panel expectation digests envelope builder
   pub level_is : level ≡ builder.level
 
--- the greatest level of a builder with which one of the envelopes of which P holds meets an expectation
--- in all but the level
+-- the greatest level of a builder with which one of the envelopes of which P holds meets an
+-- expectation in all but the level
 abbrev pub IsBest : Panel → Expectation → DigestSet → (Envelope → Type 0) → Option ℕ → Type 0
-IsBest panel expectation digests P = IsGreatest (λ level. (envelope : Envelope) × P envelope × MeetsAtLevel panel expectation digests envelope level)
+IsBest panel expectation digests P = IsGreatest (λ level.
+    (envelope : Envelope) × P envelope × MeetsAtLevel panel expectation digests envelope level)

@@ -8,7 +8,8 @@ abbrev pub SpeaksOf : List ℕ → Expectation → Type 0
 SpeaksOf path expectation = Matches (items_of expectation.files) path
 
 -- the first of the expectations that speaks of a path
-pub record Fits (expectations : List Expectation) (path : List ℕ) (expectation : Expectation) : Type 0 where
+pub record Fits (expectations : List Expectation) (path : List ℕ) (expectation : Expectation) :
+    Type 0 where
   pub front : List Expectation
   pub rest : List Expectation
   pub they_are : expectations ≡ front ++ expectation ∷ rest

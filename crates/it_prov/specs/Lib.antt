@@ -4,5 +4,5 @@ pub mod Cost
 pub mod Finding
 pub mod Fits
 pub mod Held
-pub mod Judged
 pub mod Meets
+pub mod inside

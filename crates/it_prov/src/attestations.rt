@@ -6,13 +6,11 @@ ghost use Rattle.it_prov.specs.Held.{AreHeld, AreOf, IsHeld};
 use it_docs::fault::DocumentFault;
 use it_docs::statement::{Statement, read_statement};
 use it_dsse::envelope::Envelope;
+use it_dsse::payload_type::IN_TOTO;
 use std::alloc::{AllocError, Global};
 
-/// The payload type of Statements.
-const IN_TOTO: &str = "application/vnd.in-toto+json";
-
-/// Envelopes, and the Statements that they hold: each is read once, for as many searches as there are
-/// files.
+/// Envelopes, and the Statements that they hold: each is read once, for as many searches as there
+/// are files.
 #[derive(Drop)]
 pub struct Attestations<'a> {
     /// The envelopes.
@@ -22,8 +20,8 @@ pub struct Attestations<'a> {
 }
 
 impl<'a> Attestations<'a> {
-    /// Reads what each of the envelopes holds. An envelope that is not of the in-toto type, or whose
-    /// payload is no Statement, holds none.
+    /// Reads what each of the envelopes holds. An envelope that is not of the in-toto type, or
+    /// whose payload is no Statement, holds none.
     ///
     /// # Errors
     ///

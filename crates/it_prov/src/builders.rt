@@ -1,21 +1,20 @@
 //! Who built what an envelope attests.
-ghost use Rattle.std.specs.Prelude.{◌≡◌, ◌↔◌, ◌*◌, ◌≤◌, IfSome, IsTrue, length, map};
+ghost use Rattle.std.specs.Prelude.{◌↔◌, ◌*◌, ◌≤◌, IfSome, IsTrue, length, map};
 ghost use Rattle.std.specs.FinMap.{len};
-ghost use Rattle.it_dsse.specs.Meter.{RaisedBy, raised};
+ghost use Rattle.it_dsse.specs.Meter.{RaisedBy};
 ghost use Rattle.it_dsse.specs.Panel.{panel_of};
-ghost use Rattle.it_dsse.specs.Signed.{IsSigner, tries};
 ghost use Rattle.it_prov.specs.Asked.{AtLeast};
 ghost use Rattle.it_prov.specs.Cost.{key_count};
-ghost use Rattle.it_prov.specs.Judged.{IsAskedOfBuilder, IsAskedOfBuilders, IsBuiltBy, IsEnoughOrGreatest, OfSome};
+ghost use Rattle.it_prov.specs.inside.Judged.{IsAskedOfBuilder, IsAskedOfBuilders, IsBuiltBy};
+ghost use Rattle.it_prov.specs.inside.Judged.{IsEnoughOrGreatest, OfSome};
 ghost use Rattle.it_prov.specs.Meets.{SignedByBuilder};
 
 use crate::levels::greater;
 use it_docs::policy::Builder;
 use it_dsse::check::SignatureCheck;
 use it_dsse::envelope::Envelope;
-use it_dsse::key_object::KeyObject;
+use it_dsse::is_signer;
 use it_dsse::meter::Meter;
-use it_dsse::signed_by;
 
 /// The level of a builder that has this id and signed the envelope: of the first whose level is at
 /// least the wanted one, or else the greatest. `None` where no builder with this id signed.
@@ -70,21 +69,4 @@ fn has_signed(
         }
     }
     false
-}
-
-fn is_signer(
-    envelope: &Envelope,
-    id: &str,
-    object: &KeyObject,
-    panel: &[Box<dyn SignatureCheck>],
-    meter: &mut Meter,
-) -> bool
-    ensures answer { IsTrue result
-        ↔ IsSigner (panel_of (map meaning panel.now)) envelope.now object.now id.now }
-    ensures counted { meter.new
-        ≡ raised meter.old (tries (panel_of (map meaning panel.now)) envelope.now id.now
-        object.now) }
-{
-    let number = signed_by(envelope, id, object, panel, meter);
-    number.is_some()
 }

@@ -24,19 +24,20 @@ use std::alloc::{AllocError, Global};
 /// artifacts).
 ///
 /// The file has this `path` and these `digests`. The first of the `expectations` whose pattern
-/// matches the path speaks of the file, and no other. An envelope meets it where one of its builders,
-/// of at least the expected level, signed the envelope, and the payload is a Statement with provenance
-/// that names this builder, with the build type and the parameters that are expected, and a subject of
-/// which agrees with the digests. Signatures are checked by the `panel`, which counts in `meter`: at
-/// most once for each key of the expected builders and each signature, and at least once for each
-/// signature that is tried with the key of the builder that signed the envelope found, up to the first
-/// valid one.
+/// matches the path speaks of the file, and no other. An envelope meets it where one of its
+/// builders, of at least the expected level, signed the envelope, and the payload is a Statement
+/// with provenance that names this builder, with the build type and the parameters that are
+/// expected, and a subject of which agrees with the digests. Signatures are checked by the `panel`,
+/// which counts in `meter`: at most once for each key of the expected builders and each signature,
+/// and at least once for each signature that is tried with the key of the builder that signed the
+/// envelope found, up to the first valid one.
 ///
 /// # Errors
 ///
 /// `NoExpectation` with the path where no expectation's pattern matches it, `NoProvenance` with the
-/// path where none of the `envelopes` meets the expectation, and with the greatest level of a builder
-/// with which one of them meets it in all but the level, and `OutOfMemory` where memory was refused.
+/// path where none of the `envelopes` meets the expectation, and with the greatest level of a
+/// builder with which one of them meets it in all but the level, and `OutOfMemory` where memory was
+/// refused.
 pub fn find_provenance(
     alloc: Global,
     path: &str,
@@ -75,8 +76,8 @@ pub fn find_provenance(
     )
 }
 
-/// The index of the first envelope that is provenance of a delivered file, as `find_provenance` answers
-/// it, among envelopes whose Statements were read before.
+/// The index of the first envelope that is provenance of a delivered file, as `find_provenance`
+/// answers it, among envelopes whose Statements were read before.
 ///
 /// # Errors
 ///
@@ -101,12 +102,14 @@ pub fn find_among(
         × IsMissing (panel_of (map meaning panel.now)) expectations.now path.now digests
         attestations.now.envelopes.now best) }
     ensures at_most { (expectation : _) → Fits expectations.now path.now expectation
-        → RaisedBy (λ n. n ≤ key_count expectation.builders * signature_count attestations.now.envelopes.now)
+        → RaisedBy (λ n. n
+        ≤ key_count expectation.builders * signature_count attestations.now.envelopes.now)
         meter.old meter.new }
     ensures unasked { NoneFits expectations.now path.now → meter.new ≡ meter.old }
     ensures at_least { IfOk result (λ index. RaisedBy (AtLeast (IsAsked
         (panel_of (map meaning panel.now))
-        expectations.now path.now digests attestations.now.envelopes.now index)) meter.old meter.new) }
+        expectations.now path.now digests attestations.now.envelopes.now index)) meter.old
+        meter.new) }
 {
     let Some(expectation) = fitting(expectations, path) else {
         return Err(ProvError::NoExpectation(text_of(alloc, path)?));

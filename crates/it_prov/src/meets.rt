@@ -1,5 +1,6 @@
 //! Which envelopes meet an expectation.
-ghost use Rattle.std.specs.Prelude.{◌≡◌, ◌↔◌, ◌*◌, ◌≤◌, Any, Contains, IfErr, IfOk, IfSome, IsTrue, MatchOption, length, map};
+ghost use Rattle.std.specs.Prelude.{◌≡◌, ◌↔◌, ◌*◌, ◌≤◌, Any, Contains, IfErr, IfOk, IfSome};
+ghost use Rattle.std.specs.Prelude.{IsTrue, MatchOption, length, map};
 ghost use Rattle.it_digest.specs.Compare.{Agree};
 ghost use Rattle.it_dsse.specs.Meter.{RaisedBy};
 ghost use Rattle.it_dsse.specs.Panel.{panel_of};
@@ -8,7 +9,9 @@ ghost use Rattle.it_prov.specs.Best.{IsBest};
 ghost use Rattle.it_prov.specs.Cost.{key_count, signature_count};
 ghost use Rattle.it_prov.specs.Finding.{IsFirstToMeet, NoneMeets};
 ghost use Rattle.it_prov.specs.Held.{AreHeld};
-ghost use Rattle.it_prov.specs.Judged.{HasNames, IsAskedOfBuild, IsBuilt, IsEnoughOrGreatest, IsExpected, SaysExpected};
+ghost use Rattle.it_prov.specs.inside.Judged.{HasNames, IsAskedOfBuild, IsBuilt};
+ghost use Rattle.it_prov.specs.inside.Judged.{IsEnoughOrGreatest};
+ghost use Rattle.it_prov.specs.inside.Judged.{IsExpected, SaysExpected};
 
 use crate::attestations::Attestations;
 use crate::builders::level_of_builders;
@@ -24,8 +27,8 @@ use it_dsse::meter::Meter;
 use std::alloc::Global;
 use std::collections::BTreeSet;
 
-/// The index of the first envelope that meets an expectation for a file with these digests. Keys are
-/// asked last.
+/// The index of the first envelope that meets an expectation for a file with these digests. Keys
+/// are asked last.
 ///
 /// # Errors
 ///
@@ -114,8 +117,8 @@ fn is_expected(expectation: &Expectation, ignored: &BTreeSet<&str>, provenance: 
         && parameters_meet(expectation, ignored, &provenance.parameters)
 }
 
-/// The level of a builder that a provenance names and that signed the envelope, as `level_of_builders`
-/// answers it.
+/// The level of a builder that a provenance names and that signed the envelope, as
+/// `level_of_builders` answers it.
 fn level_of_build(
     expectation: &Expectation,
     provenance: Option<&Provenance>,

@@ -1,6 +1,6 @@
 //! Whether the parameters of a build are those that are expected.
 ghost use Rattle.std.specs.Prelude.{◌≡◌, ◌↔◌, IfOk, IsTrue};
-ghost use Rattle.it_prov.specs.Judged.{HasNames, IsMet, MayStand, OfEachName};
+ghost use Rattle.it_prov.specs.inside.Judged.{HasNames, IsMet, MayStand, OfEachName};
 ghost use Rattle.it_prov.specs.Meets.{ParametersMeet};
 
 use it_base::text::Text;

@@ -1,5 +1,6 @@
 -- When MATCH claims a path.
-use Rattle.std.proofs.Common.{Bool, IsTrue, ◌≡◌, ◌∙◌, ◌↔◌, ◌++◌, ℕ, List, Option, Some, None, MatchOption, sym, subst, refl, Contains}
+use Rattle.std.proofs.Common.{Bool, IsTrue, ◌≡◌, ◌∙◌, ◌↔◌, ◌++◌, ℕ, List, Option, Some, None}
+use Rattle.std.proofs.Common.{MatchOption, sym, subst, refl, Contains}
 use Rattle.std.specs.FinMap.{get}
 use Rattle.std.proofs.lemmas.List.{append_cancel_left}
 use Rattle.it_digest.specs.Artifacts.{ArtifactMap}
@@ -19,22 +20,30 @@ BothAre P here there = MatchOption here ⊥ (λ a. MatchOption there ⊥ (λ b. 
 abbrev pub BothAgree : Option DigestSet → Option DigestSet → Type 0
 BothAgree = BothAre Agree
 
-pub parts : (P : DigestSet → DigestSet → Type 0) (here there : Option DigestSet) → BothAre P here there → (a : DigestSet) × (b : DigestSet) × (here ≡ Some a) × (there ≡ Some b) × P a b
+pub parts : (P : DigestSet → DigestSet → Type 0) (here there : Option DigestSet)
+    → BothAre P here there → (a : DigestSet) × (b : DigestSet) × (here ≡ Some a) × (there ≡ Some b)
+    × P a b
 parts P None there h = absurd h
 parts P (Some a) None h = absurd h
 parts P (Some a) (Some b) h = (a, b, refl, refl, h)
 
-module _ (pattern source : List ℕ) (side : Side) (target from : List ℕ) (artifacts : ArtifactMap) (links : Links) (path : List ℕ) where
+module _ (pattern source : List ℕ) (side : Side) (target from : List ℕ) (artifacts : ArtifactMap)
+    (links : Links) (path : List ℕ) where
   -- what is left of the path is one text
-  pub one_rest : (rest : List ℕ) → path ≡ folder_prefix source ++ rest → (m : MatchClaims pattern source side target from artifacts links path) → m.rest ≡ rest
+  pub one_rest : (rest : List ℕ) → path ≡ folder_prefix source ++ rest
+      → (m : MatchClaims pattern source side target from artifacts links path) → m.rest ≡ rest
   one_rest rest e m = append_cancel_left (folder_prefix source) m.rest rest (sym m.under_source ∙ e)
 
-  pub no_match : (rest : List ℕ) → path ≡ folder_prefix source ++ rest → ¬ IsMatch pattern rest → ¬ MatchClaims pattern source side target from artifacts links path
+  pub no_match : (rest : List ℕ) → path ≡ folder_prefix source ++ rest → ¬ IsMatch pattern rest
+      → ¬ MatchClaims pattern source side target from artifacts links path
   no_match rest e none m = none (subst (IsMatch pattern) (one_rest rest e m) m.is_match)
 
   -- with the rest and the item known, the digests decide
-  pub claims_from_digests : (rest : List ℕ) (linked : Recorded) → NamesDiffer links → path ≡ folder_prefix source ++ rest → IsMatch pattern rest → Contains links (from, linked)
-      → BothAgree (get artifacts path) (get (artifacts_on side linked) (folder_prefix target ++ rest)) ↔ MatchClaims pattern source side target from artifacts links path
+  pub claims_from_digests : (rest : List ℕ) (linked : Recorded) → NamesDiffer links
+      → path ≡ folder_prefix source ++ rest → IsMatch pattern rest → Contains links (from, linked)
+      → BothAgree (get artifacts path)
+      (get (artifacts_on side linked) (folder_prefix target ++ rest))
+      ↔ MatchClaims pattern source side target from artifacts links path
   claims_from_digests rest linked differ e matched named = (
     λ h. let p = parts Agree _ _ h in record {
       rest = rest;
@@ -49,15 +58,19 @@ module _ (pattern source : List ℕ) (side : Side) (target from : List ℕ) (art
       digests_agree = p.4;
     },
     λ m.
-        let one : m.linked ≡ linked = named_once links from m.linked linked differ m.is_named named in
+        let one : m.linked ≡ linked = named_once links from m.linked linked differ m.is_named
+        named in
         let there : get (artifacts_on side linked) (folder_prefix target ++ rest) ≡ Some m.there =
-        subst (λ (r : List ℕ). get (artifacts_on side linked) (folder_prefix target ++ r) ≡ Some m.there) (one_rest rest e m)
-        (subst (λ (k : Recorded). get (artifacts_on side k) (folder_prefix target ++ m.rest) ≡ Some m.there) one m.stands_there) in
+        subst (λ (r : List ℕ). get (artifacts_on side linked) (folder_prefix target ++ r)
+        ≡ Some m.there) (one_rest rest e m)
+        (subst (λ (k : Recorded). get (artifacts_on side k) (folder_prefix target ++ m.rest)
+        ≡ Some m.there) one m.stands_there) in
         rw (m.stands_here, there) m.digests_agree,
   )
 
 -- an answer on digests, as an answer on the path
-pub answer_on_path : {M : Type 0} (r : Bool) (here there x y : Option DigestSet) → (IsTrue r ↔ BothAgree here there) → here ≡ x → there ≡ y → (BothAgree x y ↔ M) → IsTrue r ↔ M
+pub answer_on_path : {M : Type 0} (r : Bool) (here there x y : Option DigestSet)
+    → (IsTrue r ↔ BothAgree here there) → here ≡ x → there ≡ y → (BothAgree x y ↔ M) → IsTrue r ↔ M
 answer_on_path r here there x y h p q iff =
     let a : IsTrue r ↔ BothAgree x y = rw (p, q) at h in
     (λ t. iff.0 (a.0 t), λ m. a.1 (iff.1 m))

@@ -1,5 +1,5 @@
 pub mod FolderPrefix
 pub mod Item
-pub mod Marks
 pub mod Ranges
 pub mod Rules
+pub mod inside

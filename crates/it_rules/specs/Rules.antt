@@ -1,6 +1,6 @@
 -- Artifact rules (in-toto 1.0, section 4.3.3). No queue stands here: each path is judged by itself
--- over the whole list of rules, and a rule sees earlier ones only through the paths that they claim.
--- Paths are in the order of their bytes.
+-- over the whole list of rules, and a rule sees earlier ones only through the paths that they
+-- claim. Paths are in the order of their bytes.
 use Rattle.std.specs.Prelude.{◌≡◌, ◌≢◌, ℕ, ◌<◌, List, ◌++◌, Some, Contains, AllPairs, ⊤, IsTrue}
 use Rattle.std.specs.List.{slice_get}
 use Rattle.std.specs.Ordering.{nat_cmp}
@@ -12,7 +12,8 @@ use Rattle.it_digest.specs.Artifacts.{ArtifactMap}
 use Rattle.it_digest.specs.Compare.{Agree, Differ}
 use Rattle.it_digest.specs.declared.compare.DigestSet.{DigestSet}
 use Rattle.it_docs.specs.declared.rule.Rule.{Rule}
-use Rattle.it_docs.specs.declared.rule.Rule.TheVariants.{Match, Create, Delete, Modify, Allow, Disallow, Require}
+use Rattle.it_docs.specs.declared.rule.Rule.TheVariants.{Match, Create, Delete, Modify, Allow}
+use Rattle.it_docs.specs.declared.rule.Rule.TheVariants.{Disallow, Require}
 use Rattle.it_docs.specs.declared.rule.Side.{Side}
 use Rattle.it_rules.specs.FolderPrefix.{folder_prefix}
 use Rattle.it_rules.specs.Item.{Recorded, Links, artifacts_on}
@@ -25,9 +26,10 @@ IsMatch pattern path = Matches (items_of pattern) path
 abbrev pub Stands : ArtifactMap → List ℕ → Type 0
 Stands artifacts path = IsTrue (contains_key artifacts path)
 
--- MATCH claims a path of these artifacts: without the source prefix the pattern matches it, and with
--- the target prefix instead the named item has it on the given side, with digests that agree
-pub record MatchClaims (pattern source : List ℕ) (linked_side : Side) (target from : List ℕ) (artifacts : ArtifactMap) (links : Links) (path : List ℕ) : Type 0 where
+-- MATCH claims a path of these artifacts: without the source prefix the pattern matches it, and
+-- with the target prefix instead the named item has it on the given side, with digests that agree
+pub record MatchClaims (pattern source : List ℕ) (linked_side : Side) (target from : List ℕ)
+    (artifacts : ArtifactMap) (links : Links) (path : List ℕ) : Type 0 where
   pub rest : List ℕ
   pub linked : Recorded
   pub here : DigestSet
@@ -36,7 +38,8 @@ pub record MatchClaims (pattern source : List ℕ) (linked_side : Side) (target 
   pub is_match : IsMatch pattern rest
   pub is_named : Contains links (from, linked)
   pub stands_here : get artifacts path ≡ Some here
-  pub stands_there : get (artifacts_on linked_side linked) (folder_prefix target ++ rest) ≡ Some there
+  pub stands_there :
+      get (artifacts_on linked_side linked) (folder_prefix target ++ rest) ≡ Some there
   pub digests_agree : Agree here there
 
 -- CREATE claims a product that is no material
@@ -63,7 +66,8 @@ pub record ModifyClaims (pattern : List ℕ) (item : Recorded) (path : List ℕ)
 
 -- a rule claims a path of the side that it is judged on. DISALLOW and REQUIRE claim nothing
 abbrev pub Claims : Rule → Side → Recorded → Links → List ℕ → Type 0
-Claims (Match pattern source linked_side target from) side item links path = MatchClaims pattern source linked_side target from (artifacts_on side item) links path
+Claims (Match pattern source linked_side target from) side item links path =
+    MatchClaims pattern source linked_side target from (artifacts_on side item) links path
 Claims (Create pattern) side item links path = CreateClaims pattern item path
 Claims (Delete pattern) side item links path = DeleteClaims pattern item path
 Claims (Modify pattern) side item links path = ModifyClaims pattern item path
@@ -72,12 +76,14 @@ Claims (Disallow pattern) side item links path = ⊥
 Claims (Require text) side item links path = ⊥
 
 -- a path of the side that no rule with an index below i claims
-pub record IsFree (rules : List Rule) (side : Side) (item : Recorded) (links : Links) (i : ℕ) (path : List ℕ) : Type 0 where
+pub record IsFree (rules : List Rule) (side : Side) (item : Recorded) (links : Links) (i : ℕ)
+    (path : List ℕ) : Type 0 where
   pub stands : Stands (artifacts_on side item) path
-  pub unclaimed : (j : ℕ) (rule : Rule) → j < i → slice_get rules j ≡ Some rule → ¬ Claims rule side item links path
+  pub unclaimed : (j : ℕ) (rule : Rule) → j < i → slice_get rules j ≡ Some rule
+      → ¬ Claims rule side item links path
 
--- a rule holds over the paths that are free before it: DISALLOW where it matches none of them, REQUIRE
--- where its text, taken literally (this profile's choice), is one of them
+-- a rule holds over the paths that are free before it: DISALLOW where it matches none of them,
+-- REQUIRE where its text, taken literally (this profile's choice), is one of them
 abbrev pub HoldsOver : Rule → (List ℕ → Type 0) → Type 0
 HoldsOver (Disallow pattern) Free = (path : List ℕ) → Free path → ¬ IsMatch pattern path
 HoldsOver (Require text) Free = Free text
@@ -85,7 +91,8 @@ HoldsOver rule Free = ⊤
 
 -- the rule with the index i holds
 abbrev pub Holds : List Rule → Side → Recorded → Links → ℕ → Type 0
-Holds rules side item links i = (rule : Rule) → slice_get rules i ≡ Some rule → HoldsOver rule (IsFree rules side item links i)
+Holds rules side item links i =
+    (rule : Rule) → slice_get rules i ≡ Some rule → HoldsOver rule (IsFree rules side item links i)
 
 -- every rule holds
 abbrev pub RulesHold : List Rule → Side → Recorded → Links → Type 0
@@ -95,19 +102,23 @@ RulesHold rules side item links = (i : ℕ) → Holds rules side item links i
 pub record IsLeastMatch (pattern : List ℕ) (Free : List ℕ → Type 0) (path : List ℕ) : Type 0 where
   pub is_free : Free path
   pub is_match : IsMatch pattern path
-  pub is_least : (other : List ℕ) → Free other → IsMatch pattern other → slice_cmp nat_cmp other path ≢ Less
+  pub is_least : (other : List ℕ) → Free other → IsMatch pattern other
+      → slice_cmp nat_cmp other path ≢ Less
 
--- the path with which a rule fails: of DISALLOW the least free path that it matches, of REQUIRE its text
+-- the path with which a rule fails: of DISALLOW the least free path that it matches, of REQUIRE its
+-- text
 abbrev pub FailsWith : Rule → (List ℕ → Type 0) → List ℕ → Type 0
 FailsWith (Disallow pattern) Free path = IsLeastMatch pattern Free path
 FailsWith (Require text) Free path = path ≡ text
 FailsWith rule Free path = ⊥
 
 -- the first rule that does not hold, by its index, and the path with which it fails
-pub record IsFirstFault (rules : List Rule) (side : Side) (item : Recorded) (links : Links) (index : ℕ) (path : List ℕ) : Type 0 where
+pub record IsFirstFault (rules : List Rule) (side : Side) (item : Recorded) (links : Links)
+    (index : ℕ) (path : List ℕ) : Type 0 where
   pub fails : ¬ Holds rules side item links index
   pub before_hold : (i : ℕ) → i < index → Holds rules side item links i
-  pub path_is : (rule : Rule) → slice_get rules index ≡ Some rule → FailsWith rule (IsFree rules side item links index) path
+  pub path_is : (rule : Rule) → slice_get rules index ≡ Some rule
+      → FailsWith rule (IsFree rules side item links index) path
 
 -- no name stands twice
 abbrev pub NamesDiffer : Links → Type 0

@@ -2,7 +2,8 @@
 ghost use Rattle.std.specs.Prelude.{◌≡◌, ◌↔◌, IfOk, IsTrue, MatchOption, Contains};
 ghost use Rattle.it_digest.specs.Compare.{Agree, Differ};
 ghost use Rattle.it_rules.specs.Item.{Recorded, links_of, recorded_of};
-ghost use Rattle.it_rules.specs.Rules.{Claims, CreateClaims, DeleteClaims, IsMatch, MatchClaims, ModifyClaims, NamesDiffer};
+ghost use Rattle.it_rules.specs.Rules.{Claims, CreateClaims, DeleteClaims, IsMatch, MatchClaims};
+ghost use Rattle.it_rules.specs.Rules.{ModifyClaims, NamesDiffer};
 
 use crate::folder_prefix::{join_folder, strip_folder};
 use crate::item::{Item, Named};

@@ -1,7 +1,7 @@
 //! The paths of one side of an item, with a mark on each that a rule has consumed.
 ghost use Rattle.std.specs.Prelude.{◌≡◌, ◌↔◌, List, ℕ, length, IfOk, OnOk, IsTrue, MatchOption};
 ghost use Rattle.it_rules.specs.Item.{links_of, recorded_of};
-ghost use Rattle.it_rules.specs.Marks.{ArePaths, ArePathsOf, IsLeft};
+ghost use Rattle.it_rules.specs.inside.Marks.{ArePaths, ArePathsOf, IsLeft};
 ghost use Rattle.it_rules.specs.Rules.{Claims, IsLeastMatch, IsMatch, NamesDiffer};
 
 use crate::claims::claims;

@@ -1,6 +1,8 @@
 //! The range of sorted paths that begin with a front, found by binary search.
 ghost use Rattle.std.specs.Prelude.{◌≡◌};
-ghost use Rattle.it_rules.specs.Ranges.{AreInOrder, IsFrontRange, is_before as is_before_of, is_reached as is_reached_of};
+ghost use Rattle.it_rules.specs.Ranges.{AreInOrder, IsFrontRange};
+ghost use Rattle.it_rules.specs.inside.FrontOrder.{is_before as is_before_of};
+ghost use Rattle.it_rules.specs.inside.FrontOrder.{is_reached as is_reached_of};
 
 /// The range of the paths that begin with a front: those at the places from the first number to
 /// before the second. Takes no memory.

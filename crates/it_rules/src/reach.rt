@@ -2,7 +2,7 @@
 ghost use Rattle.std.specs.Prelude.{IfOk};
 ghost use Rattle.it_docs.specs.declared.rule.Side.{Side};
 ghost use Rattle.it_rules.specs.Item.{Links, Recorded};
-ghost use Rattle.it_rules.specs.Marks.{ArePaths, Covers, IsMatchUnder};
+ghost use Rattle.it_rules.specs.inside.Marks.{ArePaths, Covers, IsMatchUnder};
 ghost use Rattle.it_rules.specs.Rules.{Claims, IsMatch};
 
 use crate::folder_prefix::join_folder;

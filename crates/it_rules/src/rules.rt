@@ -1,7 +1,7 @@
 //! The run of a list of rules.
 ghost use Rattle.std.specs.Prelude.{◌≡◌, ◌↔◌, length, IfOk, IfSome, IsNone, MatchOption};
 ghost use Rattle.it_rules.specs.Item.{links_of, recorded_of};
-ghost use Rattle.it_rules.specs.Marks.{ArePaths, IsLeft};
+ghost use Rattle.it_rules.specs.inside.Marks.{ArePaths, IsLeft};
 ghost use Rattle.it_rules.specs.Rules.{FailsWith, HoldsOver, IsFirstFault, NamesDiffer, RulesHold};
 
 use crate::item::{Item, Named};
@@ -20,8 +20,8 @@ pub struct RuleFault {
     pub path: Text,
 }
 
-/// Runs artifact rules on one side of an item (in-toto 1.0, section 4.3.3), each over the paths that
-/// the rules before it have not consumed. What no rule consumes is allowed.
+/// Runs artifact rules on one side of an item (in-toto 1.0, section 4.3.3), each over the paths
+/// that the rules before it have not consumed. What no rule consumes is allowed.
 ///
 /// `side` is the side of `item` that is judged, and `links` are the items that `MATCH` rules may
 /// name, under names that all differ. A `MATCH` from a name that is not there consumes nothing.

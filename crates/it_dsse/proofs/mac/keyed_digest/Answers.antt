@@ -5,5 +5,14 @@ use Rattle.it_dsse.proofs.mac.keyed_digest.Goals as goal
 
 pub loop-part-preserved : goal.loop-part-preserved
 loop-part-preserved c =
-    rw (take_more c.args.message.now c.loop-part.part-index (record { ref_ptr = (0, 0); now = [] }) c.loop-part-test.true, map-append, concat-append, append-nil, ← append_assoc)
+    rw (
+      take_more c.args.message.now c.loop-part.part-index (record {
+        ref_ptr = (0, 0);
+        now = [];
+      }) c.loop-part-test.true,
+      map-append,
+      concat-append,
+      append-nil,
+      ← append_assoc,
+    )
     (c.update-in-loop-part.ensures _ c.loop-part.invariant)

@@ -8,10 +8,13 @@ use Rattle.it_dsse.proofs.ring_ids.sort_texts.Goals as goal
 
 pub returns-clause-same : goal.returns-clause-same
 returns-clause-same c =
-    on_ok_weaker c.sort.result (λ _. IsPermutation-map string_bytes c.args.texts.now.items c.sort.new.self.items c.sort.ensures.permutation)
+    on_ok_weaker c.sort.result
+    (λ _. IsPermutation-map string_bytes c.args.texts.now.items c.sort.new.self.items
+    c.sort.ensures.permutation)
     c.sort.ensures.sorted
 
 pub returns-clause-ordered : goal.returns-clause-ordered
 returns-clause-ordered c =
-    on_ok_weaker c.sort.result (λ h. sorted_map string_bytes (λ a b. is_lt (slice_cmp nat_cmp a b)) c.sort.new.self.items h)
+    on_ok_weaker c.sort.result (λ h. sorted_map string_bytes (λ a b. is_lt (slice_cmp nat_cmp a b))
+    c.sort.new.self.items h)
     c.sort.ensures.sorted

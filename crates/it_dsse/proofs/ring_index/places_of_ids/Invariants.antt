@@ -2,7 +2,7 @@ use Rattle.std.proofs.Common.{take}
 use Rattle.std.specs.List.{IsDistinct}
 use Rattle.std.specs.Str.{bytes_eq}
 use Rattle.it_dsse.specs.Ring.{ids_of}
-use Rattle.it_dsse.specs.RingIndex.{PlacesIds}
+use Rattle.it_dsse.specs.inside.RingIndex.{PlacesIds}
 use Rattle.it_dsse.proofs.ring_index.places_of_ids.Given as goal
 
 abbrev pub invariant-loop-place : goal.invariant-loop-place

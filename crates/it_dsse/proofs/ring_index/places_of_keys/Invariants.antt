@@ -1,5 +1,5 @@
 use Rattle.std.proofs.Common.{take}
-use Rattle.it_dsse.specs.RingIndex.{PlacesKeys}
+use Rattle.it_dsse.specs.inside.RingIndex.{PlacesKeys}
 use Rattle.it_dsse.proofs.ring_index.places_of_keys.Given as goal
 
 abbrev pub invariant-loop-place : goal.invariant-loop-place

@@ -5,6 +5,8 @@ use Rattle.it_dsse.proofs.signers.signed_ids.Given as goal
 
 abbrev pub invariant-loop-id : goal.invariant-loop-id
 invariant-loop-id g l =
-    let panel : Panel = panel_of (map (λ check. (goal.SignatureCheck-dyn g (check.vtable, check.value)).meaning check.value) l.panel) in
+    let panel : Panel = panel_of
+    (map (λ check. (goal.SignatureCheck-dyn g (check.vtable, check.value)).meaning check.value)
+    l.panel) in
     AreThose (IsSigner panel l.envelope l.object)
     (map string_bytes (take l.id-index l.ids)) (map string_bytes l.signers.items)

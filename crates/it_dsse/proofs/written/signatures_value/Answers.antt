@@ -15,10 +15,14 @@ loop-signature-preserved c =
     let values = c.loop-signature.values.items in
     let value = c.in_ok-signature_value.field-0 in
     let cut : take (i + 1) signatures ≡ take i signatures ++ signature ∷ [] =
-    take_more signatures i signature c.loop-signature-test.true ∙ ap (λ s. take i signatures ++ s ∷ []) (sym c.signature-item.is) in
+    take_more signatures i signature c.loop-signature-test.true
+    ∙ ap (λ s. take i signatures ++ s ∷ []) (sym c.signature-item.is) in
     record {
-      document = documents_more view signature_document values c.push.new.self.items signatures i value signature
-          c.loop-signature-test.true c.signature-item.is c.loop-signature.invariant.document c.in_ok-signature_value.ensures.document c.in_ok-push.ensures.items;
+      document = documents_more view signature_document values c.push.new.self.items signatures i
+          value signature
+          c.loop-signature-test.true c.signature-item.is c.loop-signature.invariant.document
+          c.in_ok-signature_value.ensures.document c.in_ok-push.ensures.items;
       reads_back = rw (c.in_ok-push.ensures.items, cut)
-          (each_push IsSignature values (take i signatures) value signature c.loop-signature.invariant.reads_back c.in_ok-signature_value.ensures.reads_back);
+          (each_push IsSignature values (take i signatures) value signature
+          c.loop-signature.invariant.reads_back c.in_ok-signature_value.ensures.reads_back);
     }

@@ -8,7 +8,11 @@ use Rattle.it_glob.proofs.front.front_of_text.Goals as goal
 pub len_of_front-requires : goal.len_of_front-requires
 len_of_front-requires c =
     let parts = split_at_front c.args.text.now c.utf8.text in
-    rw c.requires (omega (arith, ap length parts.2, length-append (front_of (items_of c.args.text.now)) parts.0))
+    rw c.requires (omega (
+      arith,
+      ap length parts.2,
+      length-append (front_of (items_of c.args.text.now)) parts.0,
+    ))
 
 pub range-requires-clause-end_boundary : goal.range-requires-clause-end_boundary
 range-requires-clause-end_boundary c =
@@ -19,5 +23,6 @@ pub returns : goal.returns
 returns c =
     let parts = split_at_front c.args.text.now c.utf8.text in
     c.range.ensures.value
-    ∙ ap (slice_range c.args.text.now 0) (c.len_of_front.ensures ∙ ap (λ l. length (front_of l)) c.requires)
+    ∙ ap (slice_range c.args.text.now 0) (c.len_of_front.ensures
+    ∙ ap (λ l. length (front_of l)) c.requires)
     ∙ slice_range-front _ _ parts.0 parts.2

@@ -8,4 +8,6 @@ pub returns : goal.returns
 returns c =
     let path = c.args.path.now in
     fits_found path c.args.expectations.now c.find.result
-    (first_from_find _ _ c.find.result (SpeaksOf path) (λ e. ¬ SpeaksOf path e) c.find.ensures.ran (YieldsList-from_slice c.args.expectations.now cc) (λ x q k. search rules) (λ x q k. search rules))
+    (first_from_find _ _ c.find.result (SpeaksOf path) (λ e. ¬ SpeaksOf path e) c.find.ensures.ran
+    (YieldsList-from_slice c.args.expectations.now cc) (λ x q k. search rules)
+    (λ x q k. search rules))

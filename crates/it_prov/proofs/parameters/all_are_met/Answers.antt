@@ -2,7 +2,7 @@ use Rattle.std.proofs.Common.{◌↔◌, IsTrue, refl, string_bytes, subst, rule
 use Rattle.std.specs.Map.Iter.{deref_pair}
 use Rattle.std.proofs.lemmas.Iterator.{cases_from_all}
 use Rattle.std.proofs.lemmas.Iterator.Consumers.{YieldsList-from_rest}
-use Rattle.it_prov.specs.Judged.{IsMet, OfEachName}
+use Rattle.it_prov.specs.inside.Judged.{IsMet, OfEachName}
 use Rattle.it_prov.proofs.Trees.{Entry, of_each_name}
 use Rattle.it_prov.proofs.parameters.all_are_met.Goals as goal
 
@@ -11,5 +11,7 @@ returns c =
     let met = IsMet c.args.expected.now c.args.given.now in
     subst (λ fields. IsTrue c.all.result ↔ OfEachName met fields) c.iter.ensures
     (of_each_name met c.all.result c.iter.result
-    (cases_from_all _ _ c.all.result (λ (e : Entry). met (string_bytes e.0)) (λ (e : Entry). ¬ met (string_bytes e.0)) c.all.ensures.ran
-    (YieldsList-from_rest {shows = deref_pair} c.iter.result refl) (λ x q k. search rules) (λ x q k. search rules)))
+    (cases_from_all _ _ c.all.result (λ (e : Entry). met (string_bytes e.0))
+    (λ (e : Entry). ¬ met (string_bytes e.0)) c.all.ensures.ran
+    (YieldsList-from_rest {shows = deref_pair} c.iter.result refl) (λ x q k. search rules)
+    (λ x q k. search rules)))

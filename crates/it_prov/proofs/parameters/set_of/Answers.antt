@@ -10,5 +10,8 @@ pub loop-name-preserved : goal.loop-name-preserved
 loop-name-preserved c =
     let i = c.loop-name.name-index in
     let names = c.args.names.now in
-    let more : take (i + 1) names ≡ take i names ++ c.as_str.result.now ∷ [] = take_more names i c.name-item.result c.loop-name-test.true ∙ ap (λ x. take i names ++ x ∷ []) (sym c.name-item.is ∙ sym c.as_str.ensures) in
-    rw more (has_more (take i names) c.loop-name.set _ c.as_str.result c.in_ok-insert.ensures.keys c.loop-name.invariant)
+    let more : take (i + 1) names ≡ take i names ++ c.as_str.result.now ∷ [] =
+    take_more names i c.name-item.result c.loop-name-test.true
+    ∙ ap (λ x. take i names ++ x ∷ []) (sym c.name-item.is ∙ sym c.as_str.ensures) in
+    rw more (has_more (take i names) c.loop-name.set _ c.as_str.result c.in_ok-insert.ensures.keys
+    c.loop-name.invariant)

@@ -1,5 +1,5 @@
 use Rattle.std.proofs.Common.{take}
-use Rattle.it_prov.specs.Judged.{HasNames}
+use Rattle.it_prov.specs.inside.Judged.{HasNames}
 use Rattle.it_prov.proofs.parameters.set_of.Given as goal
 
 -- the names so far

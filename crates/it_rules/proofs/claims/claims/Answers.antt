@@ -1,4 +1,10 @@
 use Rattle.it_rules.proofs.claims.claims.Goals as goal
 
 pub returns-in-Match : goal.returns-in-Match
-returns-in-Match c = rw c.in-Match.is (rw (c.as_str-source.ensures, c.as_str-in-Match.ensures, c.as_str.ensures, c.artifacts_on-artifacts.ensures) at c.match_claims.ensures)
+returns-in-Match c = rw c.in-Match.is
+    (rw (
+      c.as_str-source.ensures,
+      c.as_str-in-Match.ensures,
+      c.as_str.ensures,
+      c.artifacts_on-artifacts.ensures,
+    ) at c.match_claims.ensures)

@@ -5,4 +5,5 @@ use Rattle.it_rules.proofs.claims.find_named.Given as goal
 
 -- no link so far has the name
 abbrev pub invariant-loop-link : goal.invariant-loop-link
-invariant-loop-link l = (i : ℕ) (link : Named) → i < l.link-index → slice_get l.links i ≡ Some link → link.name.now ≢ l.name
+invariant-loop-link l = (i : ℕ) (link : Named) → i < l.link-index → slice_get l.links i ≡ Some link
+    → link.name.now ≢ l.name

@@ -8,16 +8,24 @@ use Rattle.it_rules.proofs.claims.match_claims.Goals as goal
 
 pub returns-then-not-matches : goal.returns-then-not-matches
 returns-then-not-matches c =
-    let none : ¬ IsMatch c.args.pattern.now c.in-Some.rest.now = λ m. (let t = c.matches.ensures.1 m in cc (t, c.if-not-matches.true)) in
-    (λ h. absurd (cc h), λ m. absurd (no_match _ _ _ _ _ _ _ _ c.in-Some.rest.now c.in-Some.ensures none m))
+    let none : ¬ IsMatch c.args.pattern.now c.in-Some.rest.now =
+    λ m. (let t = c.matches.ensures.1 m in cc (t, c.if-not-matches.true)) in (
+      λ h. absurd (cc h),
+      λ m. absurd (no_match _ _ _ _ _ _ _ _ c.in-Some.rest.now c.in-Some.ensures none m),
+    )
 
 pub returns-in_default-find_named : goal.returns-in_default-find_named
-returns-in_default-find_named c = (λ h. absurd (cc h), λ m. absurd (c.in_default-find_named.ensures m.linked m.is_named))
+returns-in_default-find_named c =
+    (λ h. absurd (cc h), λ m. absurd (c.in_default-find_named.ensures m.linked m.is_named))
 
 pub returns : goal.returns
 returns c =
     let linked = recorded_of c.in-Some-find_named.linked.now in
-    let there : c.get-there.result ≡ get (artifacts_on c.args.target.now.side linked) (folder_prefix c.args.target.now.prefix.now ++ c.in-Some.rest.now) =
-    c.get-there.ensures ∙ ap (λ m. get m c.as_str.result.now) c.artifacts_on.ensures ∙ ap (get (artifacts_on c.args.target.now.side linked)) (c.as_str.ensures.value ∙ c.in_ok-linked_path.ensures) in
+    let there : c.get-there.result ≡ get (artifacts_on c.args.target.now.side linked)
+    (folder_prefix c.args.target.now.prefix.now ++ c.in-Some.rest.now) =
+    c.get-there.ensures ∙ ap (λ m. get m c.as_str.result.now) c.artifacts_on.ensures
+    ∙ ap (get (artifacts_on c.args.target.now.side linked)) (c.as_str.ensures.value
+    ∙ c.in_ok-linked_path.ensures) in
     answer_on_path c.agree.result _ _ _ _ c.agree.ensures c.get-here.ensures there
-    (claims_from_digests _ _ _ _ _ _ _ _ c.in-Some.rest.now linked c.requires c.in-Some.ensures (c.matches.ensures.0 c.if-not-matches.false) c.in-Some-find_named.ensures)
+    (claims_from_digests _ _ _ _ _ _ _ _ c.in-Some.rest.now linked c.requires c.in-Some.ensures
+    (c.matches.ensures.0 c.if-not-matches.false) c.in-Some-find_named.ensures)

@@ -7,5 +7,6 @@ use Rattle.it_rules.proofs.marks.consume.Given as goal
 abbrev pub invariant-loop-place : goal.invariant-loop-place
 invariant-loop-place l = record {
   within : l.end ≤ length l.paths;
-  marking : Marking (Claims l.rule l.side (recorded_of l.item) (links_of l.links)) l.paths l.initial.marks l.marks l.place;
+  marking : Marking (Claims l.rule l.side (recorded_of l.item) (links_of l.links)) l.paths
+      l.initial.marks l.marks l.place;
 }

@@ -11,12 +11,17 @@ pub loop-path-preserved : goal.loop-path-preserved
 loop-path-preserved c =
     let before = rw c.in-Some.ensures.steps at c.loop-path.invariant.whole in
     rw c.in_ok-push.ensures.items (record {
-      whole = lent_more c.loop-path.paths.items c.as_str.result c.in-Some.path.now c.next.new.self c.as_str.ensures.value ∙ before;
-      are_texts = All-push (λ lent. IsUtf8 lent.now) c.loop-path.paths.items c.as_str.result c.loop-path.invariant.are_texts c.as_str.utf8;
+      whole = lent_more c.loop-path.paths.items c.as_str.result c.in-Some.path.now c.next.new.self
+          c.as_str.ensures.value ∙ before;
+      are_texts = All-push (λ lent. IsUtf8 lent.now) c.loop-path.paths.items c.as_str.result
+          c.loop-path.invariant.are_texts c.as_str.utf8;
     })
 
 pub returns : goal.returns
 returns c =
     let whole = rw c.in-None.ensures.steps.0 at c.loop-path.invariant.whole in
-    let sorted : IsStrictlySortedBy (slice_cmp nat_cmp) (keys c.args.artifacts.now) = subst (IsStrictlySortedBy (slice_cmp nat_cmp)) c.paths-path-items.ensures.paths c.paths-path-items.ensures.ordered in
-    are_paths_of c.args.artifacts.now c.loop-path.paths.items (rw append-nil at whole) sorted c.loop-path.invariant.are_texts
+    let sorted : IsStrictlySortedBy (slice_cmp nat_cmp) (keys c.args.artifacts.now) =
+    subst (IsStrictlySortedBy (slice_cmp nat_cmp)) c.paths-path-items.ensures.paths
+    c.paths-path-items.ensures.ordered in
+    are_paths_of c.args.artifacts.now c.loop-path.paths.items (rw append-nil at whole) sorted
+    c.loop-path.invariant.are_texts

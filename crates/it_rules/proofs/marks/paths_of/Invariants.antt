@@ -6,6 +6,7 @@ use Rattle.it_rules.proofs.marks.paths_of.Given as goal
 -- the paths so far, and those to come, are the keys
 abbrev pub invariant-loop-path : goal.invariant-loop-path
 invariant-loop-path l = record {
-  whole : map (λ lent. lent.now) l.paths.items ++ map string_bytes l.path-iterator ≡ keys l.artifacts;
+  whole : map (λ lent. lent.now) l.paths.items ++ map string_bytes l.path-iterator
+      ≡ keys l.artifacts;
   are_texts : All (λ lent. IsUtf8 lent.now) l.paths.items;
 }

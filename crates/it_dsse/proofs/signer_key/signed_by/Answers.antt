@@ -1,0 +1,22 @@
+use Rattle.std.proofs.Common.{◌∙◌, map, sym}
+use Rattle.it_dsse.specs.Panel.{panel_of}
+use Rattle.it_dsse.proofs.Vouching.{signed_found, not_signed}
+use Rattle.it_dsse.proofs.signer_key.signed_by.Goals as goal
+
+pub returns-then-vouched-clause-answer : goal.returns-then-vouched-clause-answer
+returns-then-vouched-clause-answer g c =
+    let panel = panel_of
+    (map (λ check. (goal.SignatureCheck-dyn g (check.vtable, check.value)).meaning check.value)
+    c.args.panel.now) in
+    signed_found panel c.args.envelope.now c.args.id.now c.args.object.now c.in-Some.key
+    c.in-Some.ensures.key
+    (sym c.is_vouched_for-vouched.ensures.answer ∙ c.if-vouched.true)
+
+pub returns-else-vouched-clause-answer : goal.returns-else-vouched-clause-answer
+returns-else-vouched-clause-answer g c =
+    let panel = panel_of
+    (map (λ check. (goal.SignatureCheck-dyn g (check.vtable, check.value)).meaning check.value)
+    c.args.panel.now) in
+    not_signed panel c.args.envelope.now c.args.id.now c.args.object.now c.in-Some.key
+    c.in-Some.ensures.key
+    (sym c.is_vouched_for-vouched.ensures.answer ∙ c.if-vouched.false)

@@ -1,0 +1,2 @@
+pub mod FirstRange
+pub mod Restarts

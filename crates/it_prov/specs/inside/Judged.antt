@@ -1,0 +1,111 @@
+-- What the functions that judge an envelope come to, in the words of the definitions. Nothing
+-- that is trusted stands here.
+use Rattle.std.specs.Prelude.{◌≡◌, ◌↔◌, ◌<◌, ◌≤◌, ℕ, List, Bool, Option, Some, None, Contains}
+use Rattle.std.specs.Prelude.{IfSome, IsTrue}
+use Rattle.std.specs.Borrow.{Bor}
+use Rattle.std.specs.BTreeMap.{is_at}
+use Rattle.std.specs.BTreeSet.{BTreeSet}
+use Rattle.std.specs.Cmp.Lexicographic.{slice_cmp}
+use Rattle.std.specs.List.{list_any}
+use Rattle.std.specs.Ordering.{nat_cmp}
+use Rattle.it_digest.specs.Compare.{Agree}
+use Rattle.it_digest.specs.declared.compare.DigestSet.{DigestSet}
+use Rattle.it_dsse.specs.Panel.{Panel}
+use Rattle.it_dsse.specs.Signed.{tries}
+use Rattle.it_dsse.specs.declared.envelope.Envelope.{Envelope}
+use Rattle.it_base.specs.Json.{Json, Fields}
+use Rattle.it_base.specs.TreeOf.{field_at}
+use Rattle.it_docs.specs.declared.policy.Builder.{Builder}
+use Rattle.it_docs.specs.declared.policy.Expectation.{Expectation}
+use Rattle.it_docs.specs.declared.statement.Provenance.{Provenance}
+use Rattle.it_docs.specs.declared.statement.Statement.{Statement}
+use Rattle.it_prov.specs.Meets.{ParametersMeet, SignedByBuilder, StandsEqual}
+
+-- whether a name is one of these lent ones
+abbrev pub is_among : List (Bor (List ℕ)) → List ℕ → Bool
+is_among lent name = list_any (is_at (λ key. slice_cmp nat_cmp name key.now)) lent
+
+-- a set has the names of a list, and no others
+abbrev pub HasNames : List (List ℕ) → BTreeSet (Bor (List ℕ)) → Type 0
+HasNames names set = (name : List ℕ) → IsTrue (is_among set.keys name) ↔ Contains names name
+
+-- what is expected under a name stands there
+abbrev pub IsMet : Fields → Fields → List ℕ → Type 0
+IsMet expected given name =
+    (tree : Json) → field_at name expected ≡ Some tree → StandsEqual given name tree
+
+-- a parameter may stand under a name: one is expected there, or the name may be ignored
+abbrev pub MayStand : Expectation → List ℕ → Type 0
+MayStand expectation name =
+    field_at name expectation.parameters ≡ None → Contains expectation.ignore name
+
+-- P holds of each name under which there is a tree
+abbrev pub OfEachName : (List ℕ → Type 0) → Fields → Type 0
+OfEachName P fields = (name : List ℕ) (tree : Json) → field_at name fields ≡ Some tree → P name
+
+-- the build is of the expected type and has the expected parameters
+pub record IsExpected (expectation : Expectation) (provenance : Provenance) : Type 0 where
+  pub build_type : provenance.build_type ≡ expectation.build_type
+  pub parameters : ParametersMeet expectation provenance.parameters
+
+-- R holds of a number with one of the elements
+abbrev pub OfSome : {X : Type 0} → (X → ℕ → Type 0) → List X → ℕ → Type 0
+OfSome {X} R xs n = (x : X) × Contains xs x × R x n
+
+-- a number of which P holds that is at least the wanted one or the greatest, or none where P
+-- holds of none
+abbrev pub IsEnoughOrGreatest : ℕ → (ℕ → Type 0) → Option ℕ → Type 0
+IsEnoughOrGreatest wanted P None = (n : ℕ) → ¬ P n
+IsEnoughOrGreatest wanted P (Some level) = P level × (level < wanted → (n : ℕ) → P n → n ≤ level)
+
+-- a number, where there is one, is less than the wanted one
+abbrev pub IsShort : ℕ → Option ℕ → Type 0
+IsShort wanted best = IfSome best (λ n. n < wanted)
+
+-- a builder has this id and this level, and signed the envelope
+pub record IsBuiltBy (panel : Panel) (envelope : Envelope) (id : List ℕ) (builder : Builder)
+    (level : ℕ) : Type 0 where
+  pub id_is : id ≡ builder.id
+  pub level_is : level ≡ builder.level
+  pub signed : SignedByBuilder panel envelope builder
+
+-- a builder signed the envelope, and n signatures are tried with the key that signed
+pub record IsAskedOfBuilder (panel : Panel) (envelope : Envelope) (builder : Builder) (n : ℕ)
+    : Type 0 where
+  pub signed : SignedByBuilder panel envelope builder
+  pub tried : n ≡ tries panel envelope signed.id signed.object
+
+-- one of the builders has this id and at least the wanted level and signed the envelope, and n
+-- signatures are tried with its key
+pub record IsAskedOfBuilders (panel : Panel) (envelope : Envelope) (builders : List Builder)
+    (id : List ℕ) (wanted : ℕ) (n : ℕ) : Type 0 where
+  pub builder : Builder
+  pub stands : Contains builders builder
+  pub built : IsBuiltBy panel envelope id builder builder.level
+  pub is_enough : wanted ≤ builder.level
+  pub tried : n ≡ tries panel envelope built.signed.id built.signed.object
+
+-- there is a Statement, a subject of which has the digests, with this provenance, which is expected
+pub record SaysExpected (expectation : Expectation) (digests : DigestSet)
+    (found : Option Statement) (provenance : Provenance) : Type 0 where
+  pub statement : Statement
+  pub subject : DigestSet
+  pub found_is : found ≡ Some statement
+  pub provenance_is : statement.provenance ≡ Some provenance
+  pub is_subject : Contains statement.subjects subject
+  pub digests_agree : Agree subject digests
+  pub expected : IsExpected expectation provenance
+
+-- there is a provenance, and a builder of this level that it names signed the envelope
+abbrev pub IsBuilt : Panel → Envelope → List Builder → Option (Bor Provenance) → ℕ → Type 0
+IsBuilt panel envelope builders None level = ⊥
+IsBuilt panel envelope builders (Some provenance) level =
+    OfSome (IsBuiltBy panel envelope provenance.now.builder) builders level
+
+-- there is a provenance, a builder of at least the wanted level that it names signed the
+-- envelope, and n signatures are tried with its key
+abbrev pub IsAskedOfBuild :
+    Panel → Envelope → List Builder → Option (Bor Provenance) → ℕ → ℕ → Type 0
+IsAskedOfBuild panel envelope builders None wanted n = ⊥
+IsAskedOfBuild panel envelope builders (Some provenance) wanted n =
+    IsAskedOfBuilders panel envelope builders provenance.now.builder wanted n

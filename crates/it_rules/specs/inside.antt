@@ -1,0 +1,2 @@
+pub mod FrontOrder
+pub mod Marks

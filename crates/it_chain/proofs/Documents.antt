@@ -22,30 +22,39 @@ base64_same d x y h k = same_Some x y (sym h ∙ k)
 signature_part_same : IsUnique IsSignature
 signature_part_same d x y h k =
     let sig = part_same IsBase64 base64_same (codes "sig") d x.sig y.sig h.sig k.sig in
-    let keyid = part_or_same IsText [] (codes "keyid") text_same d x.keyid y.keyid h.keyid k.keyid in
+    let keyid = part_or_same IsText [] (codes "keyid") text_same d x.keyid y.keyid h.keyid
+    k.keyid in
     λ i. record { sig = sig i; keyid = keyid i }
 
 envelope_part_same : IsUnique IsEnvelope
 envelope_part_same d x y h k =
-    let payload = part_same IsBase64 base64_same (codes "payload") d x.payload y.payload h.payload k.payload in
-    let payload_type = part_same IsText text_same (codes "payloadType") d x.payload_type y.payload_type h.payload_type k.payload_type in
-    let signatures = part_same (IsList IsSignature) (list_same IsSignature signature_part_same) (codes "signatures") d x.signatures y.signatures h.signatures k.signatures in
+    let payload = part_same IsBase64 base64_same (codes "payload") d x.payload y.payload h.payload
+    k.payload in
+    let payload_type = part_same IsText text_same (codes "payloadType") d x.payload_type
+    y.payload_type h.payload_type k.payload_type in
+    let signatures = part_same (IsList IsSignature) (list_same IsSignature signature_part_same)
+    (codes "signatures") d x.signatures y.signatures h.signatures k.signatures in
     λ i. record { payload = payload i; payload_type = payload_type i; signatures = signatures i }
 
 -- bytes are one envelope at most
-pub envelope_same : (bytes : List ℕ) (x y : Envelope) → EnvelopeOf bytes x → EnvelopeOf bytes y → x ≡ y
+pub envelope_same : (bytes : List ℕ) (x y : Envelope) → EnvelopeOf bytes x → EnvelopeOf bytes y
+    → x ≡ y
 envelope_same = of_document_same IsEnvelope envelope_part_same
 
 apart_lengths : (m n : ℕ) → m ≡ 4 → n ≡ 6 → ¬ (m ≡ n)
 apart_lengths m n four six same = absurd (omega arith)
 
-two_types : (d : Data) → IsPart IsText (codes "_type") d (codes "link") → ¬ IsPart IsText (codes "_type") d (codes "layout")
+two_types : (d : Data) → IsPart IsText (codes "_type") d (codes "link")
+    → ¬ IsPart IsText (codes "_type") d (codes "layout")
 two_types d h k =
-    let same : codes "link" ≡ codes "layout" = part_same IsText text_same (codes "_type") d (codes "link") (codes "layout") h k in
+    let same : codes "link" ≡ codes "layout" = part_same IsText text_same (codes "_type") d
+    (codes "link") (codes "layout") h k in
     apart_lengths (length (codes "link")) (length (codes "layout")) refl refl (ap length same)
 
 -- bytes are not both a link and a layout
-pub link_or_layout : (bytes : List ℕ) (link : Link) (layout : Layout) → LinkOf bytes link → ¬ LayoutOf bytes layout
+pub link_or_layout : (bytes : List ℕ) (link : Link) (layout : Layout) → LinkOf bytes link
+    → ¬ LayoutOf bytes layout
 link_or_layout bytes link layout h k =
-    let is : IsLayout h.0 layout = subst (λ d. IsLayout d layout) (same_document bytes k.0 h.0 k.1 h.1) k.2 in
+    let is : IsLayout h.0 layout =
+    subst (λ d. IsLayout d layout) (same_document bytes k.0 h.0 k.1 h.1) k.2 in
     two_types h.0 h.2.type_is is.type_is

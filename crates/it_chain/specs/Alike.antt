@@ -5,9 +5,11 @@ use Rattle.it_docs.specs.declared.layout.Layout.{Layout}
 use Rattle.it_docs.specs.declared.step.Step.{Step}
 use Rattle.it_chain.specs.Chain.{Chain}
 use Rattle.it_chain.specs.Contents.{Contents, files_of}
-use Rattle.it_chain.specs.Counted.{Setting, Counted, Found}
-use Rattle.it_chain.specs.First.{First}
-use Rattle.it_chain.specs.Names.{IsClaimed, folder_of}
+use Rattle.it_chain.specs.CountedBodies.{Setting, Counted}
+use Rattle.it_chain.specs.Threshold.{Found}
+use Rattle.it_chain.specs.First.{FirstChainFailure}
+use Rattle.it_chain.specs.ClaimedFiles.{IsClaimed}
+use Rattle.it_chain.specs.Sublayouts.{folder_of}
 use Rattle.it_chain.specs.declared.bundle.File.{File}
 use Rattle.it_chain.specs.declared.chain.StepResult.{StepResult}
 use Rattle.it_chain.specs.declared.refusal.ChainRefusal.{ChainRefusal}
@@ -23,28 +25,32 @@ any_two layout bundle other = ⊤
 -- the folders of each sublayout that counts in the first bundle compare as given
 abbrev pub FoldersCompare : Comparing → Setting → Comparing
 FoldersCompare sub setting layout bundle other =
-    (step : Step) (id payload : List ℕ) (sublayout : Layout) → Contains layout.steps step → Counted setting layout bundle step id payload → LayoutOf payload sublayout
+    (step : Step) (id payload : List ℕ) (sublayout : Layout) → Contains layout.steps step
+    → Counted setting layout bundle step id payload → LayoutOf payload sublayout
     → sub sublayout (folder_of step.name id bundle) (folder_of step.name id other)
 
 -- what counts in the first bundle counts in the second, and the folders of each sublayout among it
 -- compare as given
-pub record LevelWithin (sub : Comparing) (setting : Setting) (layout : Layout) (bundle other : Contents) : Type 0 where
-  pub bodies : (step : Step) (id payload : List ℕ) → Contains layout.steps step → Counted setting layout bundle step id payload → Counted setting layout other step id payload
+pub record LevelWithin (sub : Comparing) (setting : Setting) (layout : Layout)
+    (bundle other : Contents) : Type 0 where
+  pub bodies : (step : Step) (id payload : List ℕ) → Contains layout.steps step
+      → Counted setting layout bundle step id payload → Counted setting layout other step id payload
   pub folders : FoldersCompare sub setting layout bundle other
 
 -- what counts in the first bundle counts in the second, down to a depth of sublayouts
-abbrev pub Within : Setting → ℕ → Comparing
-Within setting zero = LevelWithin any_two setting
-Within setting (suc depth) = LevelWithin (Within setting depth) setting
+abbrev pub ChainWithin : Setting → ℕ → Comparing
+ChainWithin setting zero = LevelWithin any_two setting
+ChainWithin setting (suc depth) = LevelWithin (ChainWithin setting depth) setting
 
 -- the same counts in both bundles, down to a depth of sublayouts
-abbrev pub Alike : Setting → ℕ → Comparing
-Alike setting depth layout bundle other = Within setting depth layout bundle other × Within setting depth layout other bundle
+abbrev pub ChainAlike : Setting → ℕ → Comparing
+ChainAlike setting depth layout bundle other =
+    ChainWithin setting depth layout bundle other × ChainWithin setting depth layout other bundle
 
 -- how the folders of sublayouts compare in bundles that are alike
 abbrev pub deeper_alike : Setting → ℕ → Comparing
 deeper_alike setting zero = any_two
-deeper_alike setting (suc depth) = Alike setting depth
+deeper_alike setting (suc depth) = ChainAlike setting depth
 
 -- a file's bytes stand in a bundle under a name that is claimed for a step
 pub record HasCopy (bundle : Contents) (step : Step) (file : File) : Type 0 where
@@ -56,11 +62,17 @@ pub record HasCopy (bundle : Contents) (step : Step) (file : File) : Type 0 wher
 -- each file of the first bundle that counts has such a copy in the second
 abbrev pub HasCopies : Setting → Comparing
 HasCopies setting layout bundle other =
-    (step : Step) (id payload : List ℕ) → Contains layout.steps step → (counted : Counted setting layout bundle step id payload) → HasCopy other step counted.file
+    (step : Step) (id payload : List ℕ) → Contains layout.steps step
+    → (counted : Counted setting layout bundle step id payload) → HasCopy other step counted.file
 
--- a layout comes to the same over both bundles: the same records, the same first failure, and in each
--- step the same number of different keys
-pub record ComesToTheSame (setting : Setting) (depth : ℕ) (layout : Layout) (bundle other : Contents) : Type 0 where
-  pub chain : (results : List StepResult) → Chain setting depth layout bundle results ↔ Chain setting depth layout other results
-  pub first : (refusal : ChainRefusal) → First setting depth layout bundle refusal ↔ First setting depth layout other refusal
-  pub found : (step : Step) (found : ℕ) → Contains layout.steps step → Found setting layout bundle step found ↔ Found setting layout other step found
+-- a layout comes to the same over both bundles: the same records, the same first failure, and in
+-- each step the same number of different keys
+pub record ComesToTheSame (setting : Setting) (depth : ℕ) (layout : Layout)
+    (bundle other : Contents) : Type 0 where
+  pub chain : (results : List StepResult)
+      → Chain setting depth layout bundle results ↔ Chain setting depth layout other results
+  pub first : (refusal : ChainRefusal)
+      → FirstChainFailure setting depth layout bundle refusal
+      ↔ FirstChainFailure setting depth layout other refusal
+  pub found : (step : Step) (found : ℕ) → Contains layout.steps step
+      → Found setting layout bundle step found ↔ Found setting layout other step found

@@ -23,6 +23,8 @@ abbrev mutual
   folders_height (folder name inner rest) = max (suc (height inner)) (folders_height rest)
 
 -- no folder is as high as the bundle that it is in
-pub most_le-folders_height : (entries : List (String Global × Contents)) → most (λ inner. height inner + 1) (map (λ entry. entry.1) entries) ≤ folders_height (folders_view entries)
+pub most_le-folders_height : (entries : List (String Global × Contents))
+    → most (λ inner. height inner + 1) (map (λ entry. entry.1) entries) ≤ folders_height
+    (folders_view entries)
 most_le-folders_height [] = omega arith
 most_le-folders_height (entry ∷ entries) = omega (arith, most_le-folders_height entries)

@@ -28,7 +28,9 @@ with_file file (contents_of files below) = contents_of (files ++ file ∷ []) be
 -- the folder of this name
 abbrev pub folder_in : List ℕ → Folders → Option Contents
 folder_in name no_folders = None
-folder_in name (folder other inner rest) = match_ordering (slice_cmp nat_cmp name other) (folder_in name rest) (Some inner) (folder_in name rest)
+folder_in name (folder other inner rest) =
+    match_ordering (slice_cmp nat_cmp name other) (folder_in name rest) (Some inner)
+    (folder_in name rest)
 
 abbrev pub folder_at : List ℕ → Contents → Option Contents
 folder_at name (contents_of files below) = folder_in name below
@@ -37,7 +39,8 @@ folder_at name (contents_of files below) = folder_in name below
 abbrev pub put : List ℕ → Contents → Folders → Folders
 put name added no_folders = folder name added no_folders
 put name added (folder other inner rest) =
-    match_ordering (slice_cmp nat_cmp name other) (folder name added (folder other inner rest)) (folder other added rest) (folder other inner (put name added rest))
+    match_ordering (slice_cmp nat_cmp name other) (folder name added (folder other inner rest))
+    (folder other added rest) (folder other inner (put name added rest))
 
 -- the same with one folder more
 abbrev pub with_folder : List ℕ → Contents → Contents → Contents

@@ -1,6 +1,7 @@
--- How many checks of validity a layout over a bundle may ask for (a word of this project; no standard
--- speaks of it).
-use Rattle.std.specs.Prelude.{◌≡◌, ◌≢◌, ◌↔◌, ℕ, zero, suc, ◌+◌, ◌*◌, List, length, AllPairs, Contains}
+-- How many checks of validity a layout over a bundle may ask for (a word of this project; no
+-- standard speaks of it).
+use Rattle.std.specs.Prelude.{◌≡◌, ◌≢◌, ◌↔◌, ℕ, zero, suc, ◌+◌, ◌*◌, List, length, AllPairs}
+use Rattle.std.specs.Prelude.{Contains}
 use Rattle.std.specs.Set.{distinct_count}
 use Rattle.std.specs.Str.{bytes_eq}
 use Rattle.it_base.specs.Sum.{CostsIfFound, IsSum}
@@ -10,8 +11,9 @@ use Rattle.it_docs.specs.Layout.{LayoutOf}
 use Rattle.it_docs.specs.declared.layout.Layout.{Layout}
 use Rattle.it_docs.specs.declared.step.Step.{Step}
 use Rattle.it_chain.specs.Contents.{Contents, files_of}
-use Rattle.it_chain.specs.Counted.{Setting, Counted}
-use Rattle.it_chain.specs.Names.{IsClaimed, folder_of}
+use Rattle.it_chain.specs.CountedBodies.{Setting, Counted}
+use Rattle.it_chain.specs.ClaimedFiles.{IsClaimed}
+use Rattle.it_chain.specs.Sublayouts.{folder_of}
 use Rattle.it_chain.specs.declared.bundle.File.{File}
 
 -- how many signatures an envelope has
@@ -24,10 +26,13 @@ Costing = Layout → Contents → ℕ → Type 0
 
 -- the signatures of a file that is claimed for a step and reads as an envelope
 abbrev pub FileHas : Step → File → ℕ → Type 0
-FileHas step file = CostsIfFound (λ envelope. IsClaimed step.name file.name × EnvelopeOf file.bytes envelope) HasSignatures
+FileHas step file =
+    CostsIfFound
+    (λ envelope. IsClaimed step.name file.name × EnvelopeOf file.bytes envelope) HasSignatures
 
 -- a key id and a sublayout's bytes that count for it
-pub record IsSublayout (setting : Setting) (layout : Layout) (bundle : Contents) (step : Step) (id payload : List ℕ) : Type 0 where
+pub record IsSublayout (setting : Setting) (layout : Layout) (bundle : Contents) (step : Step)
+    (id payload : List ℕ) : Type 0 where
   pub sublayout : Layout
   pub counted : Counted setting layout bundle step id payload
   pub reads : LayoutOf payload sublayout
@@ -37,8 +42,11 @@ module _ (sub : Costing) (setting : Setting) (layout : Layout) (bundle : Content
   pub record SublayoutsCost (step : Step) (n : ℕ) : Type 0 where
     pub bodies : List (List ℕ × List ℕ)
     pub once : AllPairs (λ a b. a ≢ b) bodies
-    pub are_those : (id payload : List ℕ) → Contains bodies (id, payload) ↔ IsSublayout setting layout bundle step id payload
-    pub sum : IsSum (λ body. CostsIfFound (LayoutOf body.1) (λ sublayout. sub sublayout (folder_of step.name body.0 bundle))) bodies n
+    pub are_those : (id payload : List ℕ)
+        → Contains bodies (id, payload) ↔ IsSublayout setting layout bundle step id payload
+    pub sum : IsSum
+        (λ body. CostsIfFound (LayoutOf body.1)
+        (λ sublayout. sub sublayout (folder_of step.name body.0 bundle))) bodies n
 
   -- a step costs a panel for each of its ids and each signature, and what its sublayouts cost
   pub record StepCosts (step : Step) (n : ℕ) : Type 0 where
@@ -55,6 +63,6 @@ abbrev pub no_cost : Costing
 no_cost layout bundle n = n ≡ 0
 
 -- what a layout over a bundle costs, down to a depth of sublayouts
-abbrev pub Costs : Setting → ℕ → Costing
-Costs setting zero = LevelCosts no_cost setting
-Costs setting (suc depth) = LevelCosts (Costs setting depth) setting
+abbrev pub ChainCosts : Setting → ℕ → Costing
+ChainCosts setting zero = LevelCosts no_cost setting
+ChainCosts setting (suc depth) = LevelCosts (ChainCosts setting depth) setting

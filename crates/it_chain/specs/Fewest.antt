@@ -6,11 +6,13 @@ use Rattle.it_docs.specs.declared.layout.Layout.{Layout}
 use Rattle.it_docs.specs.declared.step.Step.{Step}
 use Rattle.it_chain.specs.Contents.{Contents}
 use Rattle.it_chain.specs.Cost.{Costing, SublayoutsCost, no_cost}
-use Rattle.it_chain.specs.Counted.{Setting, Found}
+use Rattle.it_chain.specs.CountedBodies.{Setting}
+use Rattle.it_chain.specs.Threshold.{Found}
 
--- a step takes a check for each different key that signed what counts for it, and what its sublayouts
--- take
-pub record StepFewest (sub : Costing) (setting : Setting) (layout : Layout) (bundle : Contents) (step : Step) (n : ℕ) : Type 0 where
+-- a step takes a check for each different key that signed what counts for it, and what its
+-- sublayouts take
+pub record StepFewest (sub : Costing) (setting : Setting) (layout : Layout) (bundle : Contents)
+    (step : Step) (n : ℕ) : Type 0 where
   pub keys : ℕ
   pub sublayouts : ℕ
   pub of_keys : Found setting layout bundle step keys
@@ -21,6 +23,6 @@ abbrev pub LevelFewest : Costing → Setting → Costing
 LevelFewest sub setting layout bundle = IsSum (StepFewest sub setting layout bundle) layout.steps
 
 -- what a layout over a bundle takes at the least, down to a depth of sublayouts
-abbrev pub Fewest : Setting → ℕ → Costing
-Fewest setting zero = LevelFewest no_cost setting
-Fewest setting (suc depth) = LevelFewest (Fewest setting depth) setting
+abbrev pub ChainFewest : Setting → ℕ → Costing
+ChainFewest setting zero = LevelFewest no_cost setting
+ChainFewest setting (suc depth) = LevelFewest (ChainFewest setting depth) setting

@@ -1,6 +1,7 @@
 -- The failure of a layout over a bundle: the one at the first place at which something stands (the
 -- order is this profile's choice).
-use Rattle.std.specs.Prelude.{◌≡◌, ◌≢◌, ◌⊎◌, ℕ, zero, suc, ◌<◌, ◌<ℤ◌, List, [], ◌∷◌, ◌++◌, map, flat_map, zip, Contains}
+use Rattle.std.specs.Prelude.{◌≡◌, ◌≢◌, ◌⊎◌, ℕ, zero, suc, ◌<◌, List, [], ◌∷◌, ◌++◌, map, flat_map}
+use Rattle.std.specs.Prelude.{zip, Contains}
 use Rattle.std.specs.List.{AllZip}
 use Rattle.std.specs.FinMap.{keys}
 use Rattle.std.specs.Ordering.{nat_cmp}
@@ -16,14 +17,20 @@ use Rattle.it_rules.specs.Item.{Recorded}
 use Rattle.it_rules.specs.Rules.{IsFirstFault}
 use Rattle.it_chain.specs.Chain.{Chain, none_holds}
 use Rattle.it_chain.specs.Contents.{Contents}
-use Rattle.it_chain.specs.Counted.{Setting, Counted, Found}
-use Rattle.it_chain.specs.Level.{Holding, HasRecord, StepHolds, links_in, recorded_in, rules_on}
-use Rattle.it_chain.specs.Names.{folder_of}
+use Rattle.it_chain.specs.CountedBodies.{Setting, Counted}
+use Rattle.it_chain.specs.Threshold.{Found}
+use Rattle.it_chain.specs.Level.{Holding, HasRecord, StepHolds}
+use Rattle.it_chain.specs.StepRules.{links_in, recorded_in, rules_on}
+use Rattle.it_chain.specs.Sublayouts.{folder_of}
 use Rattle.it_chain.specs.declared.chain.StepResult.{StepResult}
 use Rattle.it_chain.specs.declared.refusal.ChainFault.{ChainFault}
-use Rattle.it_chain.specs.declared.refusal.ChainFault.TheVariants.{Expired, TwoPayloads, TooDeep, Threshold, Disagree, InspectionInSublayout, RuleFailed}
+use Rattle.it_chain.specs.declared.refusal.ChainFault.TheVariants.{Expired, TwoPayloads, TooDeep}
+use Rattle.it_chain.specs.declared.refusal.ChainFault.TheVariants.{Threshold, Disagree}
+use Rattle.it_chain.specs.declared.refusal.ChainFault.TheVariants.{InspectionInSublayout}
+use Rattle.it_chain.specs.declared.refusal.ChainFault.TheVariants.{RuleFailed}
 use Rattle.it_chain.specs.declared.refusal.ChainRefusal.{ChainRefusal}
 use Rattle.it_chain.specs.declared.refusal.RuleItem.TheVariants.{Step as of_step}
+use Rattle.it_chain.specs.Expiry.{IsExpired}
 
 -- a fault of the layout itself
 abbrev pub here : ChainFault → ChainRefusal
@@ -38,30 +45,33 @@ abbrev pub Failing : Type 1
 Failing = Layout → Contents → ChainRefusal → Type 0
 
 -- where a layout can fail
-pub data Place : Type 0 where
-  at_expiry : Place
-  at_id : Step → List ℕ → Place
-  at_threshold : Step → Place
-  at_records : Step → Place
-  at_rules : Step → Side → Place
+pub data ChainPlace : Type 0 where
+  at_expiry : ChainPlace
+  at_id : Step → List ℕ → ChainPlace
+  at_threshold : Step → ChainPlace
+  at_records : Step → ChainPlace
+  at_rules : Step → Side → ChainPlace
 
 -- a step's places: each key id that the layout has, in the order of the ids' bytes, then the
 -- threshold, then whether the records agree
-abbrev pub step_places : Layout → Step → List Place
-step_places layout step = map (at_id step) (keys layout.keys) ++ at_threshold step ∷ at_records step ∷ []
+abbrev pub step_places : Layout → Step → List ChainPlace
+step_places layout step =
+    map (at_id step) (keys layout.keys) ++ at_threshold step ∷ at_records step ∷ []
 
-abbrev pub rule_places : Step → List Place
+abbrev pub rule_places : Step → List ChainPlace
 rule_places step = at_rules step Materials ∷ at_rules step Products ∷ []
 
 -- all places in their order: expiry, the steps one by one, and then the rules of all steps
-abbrev pub places : Layout → List Place
-places layout = at_expiry ∷ flat_map (step_places layout) layout.steps ++ flat_map rule_places layout.steps
+abbrev pub places : Layout → List ChainPlace
+places layout =
+    at_expiry ∷ flat_map (step_places layout) layout.steps ++ flat_map rule_places layout.steps
 
 -- one text stands before another in the order of their bytes
 abbrev pub IsBefore : List ℕ → List ℕ → Type 0
 IsBefore a b = slice_cmp nat_cmp a b ≡ Less
 
-module _ (sub : Holding) (fails : Failing) (setting : Setting) (layout : Layout) (bundle : Contents) where
+module _ (sub : Holding) (fails : Failing) (setting : Setting) (layout : Layout)
+    (bundle : Contents) where
   -- a key id has two bodies that count and differ (this profile's choice)
   pub record HasTwo (step : Step) (id : List ℕ) : Type 0 where
     pub payload : List ℕ
@@ -92,43 +102,56 @@ module _ (sub : Holding) (fails : Failing) (setting : Setting) (layout : Layout)
     pub expected : Recorded
     pub given : Recorded
     pub of_least : HasRecord sub setting layout bundle step least expected
-    pub is_least : (other : List ℕ) (recorded : Recorded) → HasRecord sub setting layout bundle step other recorded → ¬ IsBefore other least
+    pub is_least : (other : List ℕ) (recorded : Recorded)
+        → HasRecord sub setting layout bundle step other recorded → ¬ IsBefore other least
     pub of_id : HasRecord sub setting layout bundle step id given
     pub differs : given ≢ expected
-    pub is_first : (other : List ℕ) (recorded : Recorded) → HasRecord sub setting layout bundle step other recorded → IsBefore other id → recorded ≡ expected
+    pub is_first : (other : List ℕ) (recorded : Recorded)
+        → HasRecord sub setting layout bundle step other recorded → IsBefore other id
+        → recorded ≡ expected
 
-  -- over the records with which the steps hold, a step's rules on a side fail, first the one at this
-  -- index, with this path
+  -- over the records with which the steps hold, a step's rules on a side fail, first the one at
+  -- this index, with this path
   pub record RulesFail (step : Step) (side : Side) (index : ℕ) (path : List ℕ) : Type 0 where
     pub results : List StepResult
     pub result : StepResult
     pub steps : AllZip (StepHolds sub setting layout bundle) layout.steps results
     pub of_step : Contains (zip layout.steps results) (step, result)
-    pub fault : IsFirstFault (rules_on side step) side (recorded_in result) (links_in results) index path
+    pub fault : IsFirstFault (rules_on side step) side (recorded_in result)
+        (links_in results) index path
 
   -- what stands at a place
-  abbrev pub Stands : Place → ChainRefusal → Type 0
-  Stands at_expiry refusal = (layout.expires <ℤ setting.moment) × (refusal ≡ here Expired)
-  Stands (at_id step id) refusal = (HasTwo step id × (refusal ≡ here (TwoPayloads step.name id))) ⊎ SublayoutFails step id refusal
-  Stands (at_threshold step) refusal = (found : ℕ) × TooFew step found × (refusal ≡ here (Threshold step.name found step.threshold))
-  Stands (at_records step) refusal = (id : List ℕ) × IsLeastOther step id × (refusal ≡ here (Disagree step.name id))
-  Stands (at_rules step side) refusal =
-      (index : ℕ) × (path : List ℕ) × RulesFail step side index path × (refusal ≡ here (RuleFailed (of_step step.name) side index path))
+  abbrev pub StandsInChain : ChainPlace → ChainRefusal → Type 0
+  StandsInChain at_expiry refusal = IsExpired setting layout × (refusal ≡ here Expired)
+  StandsInChain (at_id step id) refusal =
+      (HasTwo step id × (refusal ≡ here (TwoPayloads step.name id)))
+      ⊎ SublayoutFails step id refusal
+  StandsInChain (at_threshold step) refusal =
+      (found : ℕ) × TooFew step found × (refusal ≡ here (Threshold step.name found step.threshold))
+  StandsInChain (at_records step) refusal =
+      (id : List ℕ) × IsLeastOther step id × (refusal ≡ here (Disagree step.name id))
+  StandsInChain (at_rules step side) refusal =
+      (index : ℕ) × (path : List ℕ) × RulesFail step side index path
+      × (refusal ≡ here (RuleFailed (of_step step.name) side index path))
 
 -- the first failure of a layout, what its sublayouts come to being given
 abbrev pub LevelFails : Holding → Failing → Setting → Failing
-LevelFails sub fails setting layout bundle refusal = IsFirst (Stands sub fails setting layout bundle) (places layout) refusal
+LevelFails sub fails setting layout bundle refusal =
+    IsFirst (StandsInChain sub fails setting layout bundle) (places layout) refusal
 
 -- a sublayout that is one too deep fails for that alone
 abbrev pub too_deep : Failing
 too_deep layout bundle refusal = refusal ≡ here TooDeep
 
--- a sublayout with inspections fails for that alone (this profile's choice), any other as it does itself
+-- a sublayout with inspections fails for that alone (this profile's choice), any other as it does
+-- itself
 abbrev pub uninspected : Failing → Failing
 uninspected fails layout bundle refusal =
-    ((layout.inspections ≢ []) × (refusal ≡ here InspectionInSublayout)) ⊎ ((layout.inspections ≡ []) × fails layout bundle refusal)
+    ((layout.inspections ≢ []) × (refusal ≡ here InspectionInSublayout))
+    ⊎ ((layout.inspections ≡ []) × fails layout bundle refusal)
 
 -- the first failure of a layout over a bundle, down to a depth of sublayouts
-abbrev pub First : Setting → ℕ → Failing
-First setting zero = LevelFails none_holds too_deep setting
-First setting (suc depth) = LevelFails (Chain setting depth) (uninspected (First setting depth)) setting
+abbrev pub FirstChainFailure : Setting → ℕ → Failing
+FirstChainFailure setting zero = LevelFails none_holds too_deep setting
+FirstChainFailure setting (suc depth) =
+    LevelFails (Chain setting depth) (uninspected (FirstChainFailure setting depth)) setting

@@ -3,23 +3,30 @@ use Rattle.std.specs.Prelude.{◌≡◌, ◌⊎◌, ℕ, suc, ◌≤◌, List, M
 use Rattle.std.specs.List.{AllZip}
 use Rattle.it_docs.specs.declared.layout.Layout.{Layout}
 use Rattle.it_docs.specs.declared.step.Step.{Step}
-use Rattle.it_chain.specs.Alike.{Alike, ComesToTheSame, FoldersCompare, HasCopies, Within, deeper_alike}
+use Rattle.it_chain.specs.Alike.{ChainAlike, ComesToTheSame, FoldersCompare, HasCopies, ChainWithin}
+use Rattle.it_chain.specs.Alike.{deeper_alike}
 use Rattle.it_chain.specs.Answer.{answer}
 use Rattle.it_chain.specs.Chain.{Chain}
 use Rattle.it_chain.specs.Contents.{Contents}
-use Rattle.it_chain.specs.Cost.{Costs}
-use Rattle.it_chain.specs.Counted.{Setting, Found}
-use Rattle.it_chain.specs.Fewest.{Fewest}
-use Rattle.it_chain.specs.First.{First}
+use Rattle.it_chain.specs.Cost.{ChainCosts}
+use Rattle.it_chain.specs.CountedBodies.{Setting}
+use Rattle.it_chain.specs.Threshold.{Found}
+use Rattle.it_chain.specs.Fewest.{ChainFewest}
+use Rattle.it_chain.specs.First.{FirstChainFailure}
 use Rattle.it_chain.specs.Lower.{Lower, AnswersRight}
 use Rattle.it_chain.specs.declared.chain.StepResult.{StepResult}
 use Rattle.it_chain.specs.declared.refusal.ChainFault.{ChainFault}
-use Rattle.it_chain.specs.declared.refusal.ChainFault.TheVariants.{Expired, TwoPayloads, TooDeep, Threshold, Disagree, InspectionInSublayout, RuleFailed}
+use Rattle.it_chain.specs.declared.refusal.ChainFault.TheVariants.{Expired, TwoPayloads, TooDeep}
+use Rattle.it_chain.specs.declared.refusal.ChainFault.TheVariants.{Threshold, Disagree}
+use Rattle.it_chain.specs.declared.refusal.ChainFault.TheVariants.{InspectionInSublayout}
+use Rattle.it_chain.specs.declared.refusal.ChainFault.TheVariants.{RuleFailed}
 use Rattle.it_chain.specs.declared.refusal.ChainRefusal.{ChainRefusal}
 
 -- the number of different keys is one number
 abbrev pub FoundIsOne : Type 0
-FoundIsOne = (setting : Setting) (layout : Layout) (bundle : Contents) (step : Step) (m n : ℕ) → Found setting layout bundle step m → Found setting layout bundle step n → m ≡ n
+FoundIsOne =
+    (setting : Setting) (layout : Layout) (bundle : Contents) (step : Step) (m n : ℕ)
+    → Found setting layout bundle step m → Found setting layout bundle step n → m ≡ n
 
 -- a layout holds of a bundle with one list of records at most
 abbrev pub ChainIsOne : Type 0
@@ -30,29 +37,38 @@ ChainIsOne =
 -- a layout that holds of a bundle has no failure over it
 abbrev pub ChainOrFirst : Type 0
 ChainOrFirst =
-    (setting : Setting) (depth : ℕ) (layout : Layout) (bundle : Contents) (m : List StepResult) (refusal : ChainRefusal)
-    → Chain setting depth layout bundle m → ¬ First setting depth layout bundle refusal
+    (setting : Setting) (depth : ℕ) (layout : Layout) (bundle : Contents) (m : List StepResult)
+    (refusal : ChainRefusal)
+    → Chain setting depth layout bundle m → ¬ FirstChainFailure setting depth layout bundle refusal
 
 -- a layout has one first failure over a bundle at most
 abbrev pub FirstIsOne : Type 0
 FirstIsOne =
     (setting : Setting) (depth : ℕ) (layout : Layout) (bundle : Contents) (a b : ChainRefusal)
-    → First setting depth layout bundle a → First setting depth layout bundle b → a ≡ b
+    → FirstChainFailure setting depth layout bundle a
+    → FirstChainFailure setting depth layout bundle b → a ≡ b
 
 -- a layout that holds of a bundle holds of it with the same records at every greater depth
 abbrev pub ChainGoesDeeper : Type 0
-ChainGoesDeeper = (setting : Setting) (depth : ℕ) (layout : Layout) (bundle : Contents) (m : List StepResult) → Chain setting depth layout bundle m → Chain setting (suc depth) layout bundle m
+ChainGoesDeeper =
+    (setting : Setting) (depth : ℕ) (layout : Layout) (bundle : Contents) (m : List StepResult)
+    → Chain setting depth layout bundle m → Chain setting (suc depth) layout bundle m
 
 -- over bundles that are alike a layout comes to the same
 abbrev pub AlikeChains : Type 0
-AlikeChains = (setting : Setting) (depth : ℕ) (layout : Layout) (bundle other : Contents) → Alike setting depth layout bundle other → ComesToTheSame setting depth layout bundle other
+AlikeChains =
+    (setting : Setting) (depth : ℕ) (layout : Layout) (bundle other : Contents)
+    → ChainAlike setting depth layout bundle other
+    → ComesToTheSame setting depth layout bundle other
 
--- bundles are alike that have copies of each other's files that count, whatever else is in them, if the
--- folders of sublayouts are alike
+-- bundles are alike that have copies of each other's files that count, whatever else is in them, if
+-- the folders of sublayouts are alike
 abbrev pub NoiseIsAlike : Type 0
 NoiseIsAlike =
-    (setting : Setting) (depth : ℕ) (layout : Layout) (bundle other : Contents) → HasCopies setting layout bundle other → HasCopies setting layout other bundle
-    → FoldersCompare (deeper_alike setting depth) setting layout bundle other → Alike setting depth layout bundle other
+    (setting : Setting) (depth : ℕ) (layout : Layout) (bundle other : Contents)
+    → HasCopies setting layout bundle other → HasCopies setting layout other bundle
+    → FoldersCompare (deeper_alike setting depth) setting layout bundle other
+    → ChainAlike setting depth layout bundle other
 
 -- the same record of a step, with no more different keys
 pub record IsNoMore (result before : StepResult) : Type 0 where
@@ -71,23 +87,31 @@ IsThresholdFault (Disagree step id) = ⊥
 IsThresholdFault InspectionInSublayout = ⊥
 IsThresholdFault (RuleFailed item side index path) = ⊥
 
--- where a layout holds of a bundle, it comes over another one to the same records with no more different
--- keys, or fails at a threshold
-pub record OnlyWithholds (setting : Setting) (depth : ℕ) (layout : Layout) (other bundle : Contents) : Type 0 where
-  pub chain : (results before : List StepResult) → Chain setting depth layout other results → Chain setting depth layout bundle before → AllZip IsNoMore results before
-  pub first : (refusal : ChainRefusal) (before : List StepResult) → First setting depth layout other refusal → Chain setting depth layout bundle before → IsThresholdFault refusal.fault
+-- where a layout holds of a bundle, it comes over another one to the same records with no more
+-- different keys, or fails at a threshold
+pub record ChainOnlyWithholds (setting : Setting) (depth : ℕ) (layout : Layout)
+    (other bundle : Contents) : Type 0 where
+  pub chain : (results before : List StepResult) → Chain setting depth layout other results
+      → Chain setting depth layout bundle before → AllZip IsNoMore results before
+  pub first : (refusal : ChainRefusal) (before : List StepResult)
+      → FirstChainFailure setting depth layout other refusal
+      → Chain setting depth layout bundle before → IsThresholdFault refusal.fault
 
 -- who takes away what counts can only withhold
 abbrev pub WithheldChains : Type 0
 WithheldChains =
-    (setting : Setting) (depth : ℕ) (layout : Layout) (other bundle : Contents) → Within setting depth layout other bundle → OnlyWithholds setting depth layout other bundle
+    (setting : Setting) (depth : ℕ) (layout : Layout) (other bundle : Contents)
+    → ChainWithin setting depth layout other bundle
+    → ChainOnlyWithholds setting depth layout other bundle
 
--- the deciding function, where what it asks of the crates below answers right, answers the records with
--- which a layout holds of a bundle, or else its first failure
+-- the deciding function, where what it asks of the crates below answers right, answers the records
+-- with which a layout holds of a bundle, or else its first failure
 abbrev pub AnswerIsRight : Type 0
 AnswerIsRight =
-    (lower : Lower) → AnswersRight lower → (setting : Setting) (depth : ℕ) (layout : Layout) (bundle : Contents)
-    → MatchResult (answer lower setting depth layout bundle) (Chain setting depth layout bundle) (First setting depth layout bundle)
+    (lower : Lower) → AnswersRight lower
+    → (setting : Setting) (depth : ℕ) (layout : Layout) (bundle : Contents)
+    → MatchResult (answer lower setting depth layout bundle) (Chain setting depth layout bundle)
+    (FirstChainFailure setting depth layout bundle)
 
 -- functions that answer right stand ready for the crates below
 abbrev pub SomeAnswersRight : Type 0
@@ -97,24 +121,29 @@ SomeAnswersRight = (lower : Lower) × AnswersRight lower
 abbrev pub HoldsOrFails : Type 0
 HoldsOrFails =
     (setting : Setting) (depth : ℕ) (layout : Layout) (bundle : Contents)
-    → ((m : List StepResult) × Chain setting depth layout bundle m) ⊎ ((refusal : ChainRefusal) × First setting depth layout bundle refusal)
+    → ((m : List StepResult) × Chain setting depth layout bundle m)
+    ⊎ ((refusal : ChainRefusal) × FirstChainFailure setting depth layout bundle refusal)
 
 -- a layout over a bundle costs some number of checks
 abbrev pub HasCost : Type 0
-HasCost = (setting : Setting) (depth : ℕ) (layout : Layout) (bundle : Contents) → (n : ℕ) × Costs setting depth layout bundle n
+HasCost =
+    (setting : Setting) (depth : ℕ) (layout : Layout) (bundle : Contents) → (n : ℕ)
+    × ChainCosts setting depth layout bundle n
 
 -- and no other
 abbrev pub CostIsOne : Type 0
 CostIsOne =
     (setting : Setting) (depth : ℕ) (layout : Layout) (bundle : Contents) (m n : ℕ)
-    → Costs setting depth layout bundle m → Costs setting depth layout bundle n → m ≡ n
+    → ChainCosts setting depth layout bundle m → ChainCosts setting depth layout bundle n → m ≡ n
 
 -- a layout over a bundle takes some number of checks at the least
 abbrev pub HasFewest : Type 0
-HasFewest = (setting : Setting) (depth : ℕ) (layout : Layout) (bundle : Contents) → (n : ℕ) × Fewest setting depth layout bundle n
+HasFewest =
+    (setting : Setting) (depth : ℕ) (layout : Layout) (bundle : Contents) → (n : ℕ)
+    × ChainFewest setting depth layout bundle n
 
 -- and no other
 abbrev pub FewestIsOne : Type 0
 FewestIsOne =
     (setting : Setting) (depth : ℕ) (layout : Layout) (bundle : Contents) (m n : ℕ)
-    → Fewest setting depth layout bundle m → Fewest setting depth layout bundle n → m ≡ n
+    → ChainFewest setting depth layout bundle m → ChainFewest setting depth layout bundle n → m ≡ n

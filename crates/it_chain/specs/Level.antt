@@ -1,62 +1,31 @@
 -- When one layout holds of a bundle, what its sublayouts come to being given (in-toto 1.0 section
 -- 5.2, verifying the final product).
-use Rattle.std.specs.Prelude.{◌≡◌, ℕ, ◌≤◌, ◌<ℤ◌, List, [], ◌∷◌, map}
+use Rattle.std.specs.Prelude.{◌≡◌, ℕ, ◌≤◌, List, []}
 use Rattle.std.specs.List.{AllZip}
-use Rattle.std.specs.FinMap.{empty}
-use Rattle.it_digest.specs.Artifacts.{ArtifactMap}
 use Rattle.it_docs.specs.declared.layout.Layout.{Layout}
 use Rattle.it_docs.specs.declared.step.Step.{Step}
-use Rattle.it_docs.specs.declared.rule.Rule.{Rule}
-use Rattle.it_docs.specs.declared.rule.Side.{Side}
-use Rattle.it_docs.specs.declared.rule.Side.TheVariants.{Materials, Products}
-use Rattle.it_rules.specs.Item.{Recorded, Links}
-use Rattle.it_rules.specs.Rules.{RulesHold}
+use Rattle.it_rules.specs.Item.{Recorded}
 use Rattle.it_chain.specs.Contents.{Contents}
-use Rattle.it_chain.specs.Counted.{Setting, Body, of_link, of_layout, BodyOf, Counted, Found}
-use Rattle.it_chain.specs.Names.{folder_of}
+use Rattle.it_chain.specs.CountedBodies.{Setting, Body, of_link, of_layout, BodyOf, Counted}
+use Rattle.it_chain.specs.Threshold.{Found}
+use Rattle.it_chain.specs.Sublayouts.{folder_of}
 use Rattle.it_chain.specs.declared.chain.StepResult.{StepResult}
+use Rattle.it_chain.specs.Summary.{summary}
+use Rattle.it_chain.specs.StepRules.{recorded_in, links_in, StepRulesHold}
+use Rattle.it_chain.specs.Expiry.{IsExpired}
 
 -- which layouts hold of which bundles, and with which records of their steps
 abbrev pub Holding : Type 1
 Holding = Layout → Contents → List StepResult → Type 0
 
--- the artifacts of a step's record
-abbrev pub recorded_in : StepResult → Recorded
-recorded_in result = record { materials = result.materials; products = result.products }
-
--- the records of steps, each under its step's name
-abbrev pub links_in : List StepResult → Links
-links_in results = map (λ result. (result.name, recorded_in result)) results
-
--- what a sublayout stands for: the materials of its first step and the products of its last, and
--- nothing where it has no steps
-abbrev pub first_materials : List StepResult → ArtifactMap
-first_materials [] = empty
-first_materials (result ∷ results) = result.materials
-
-abbrev pub last_products : ArtifactMap → List StepResult → ArtifactMap
-last_products before [] = before
-last_products before (result ∷ results) = last_products result.products results
-
-abbrev pub summary : List StepResult → Recorded
-summary results = record { materials = first_materials results; products = last_products empty results }
-
--- the rules that a step has for a side
-abbrev pub rules_on : Side → Step → List Rule
-rules_on Materials step = step.expected_materials
-rules_on Products step = step.expected_products
-
--- the rules of a step hold of its record on both sides
-pub record StepRulesHold (links : Links) (step : Step) (result : StepResult) : Type 0 where
-  pub materials : RulesHold step.expected_materials Materials (recorded_in result) links
-  pub products : RulesHold step.expected_products Products (recorded_in result) links
-
 -- a body of a key id comes to these artifacts: a link to what it records, a sublayout without
 -- inspections to the summary of its steps over its own folder
 abbrev pub Records : Holding → Contents → List ℕ → List ℕ → Body → Recorded → Type 0
-Records sub bundle step id (of_link link) recorded = recorded ≡ record { materials = link.materials; products = link.products }
+Records sub bundle step id (of_link link) recorded =
+    recorded ≡ record { materials = link.materials; products = link.products }
 Records sub bundle step id (of_layout layout) recorded =
-    (results : List StepResult) × (layout.inspections ≡ []) × sub layout (folder_of step id bundle) results × (recorded ≡ summary results)
+    (results : List StepResult) × (layout.inspections ≡ [])
+    × sub layout (folder_of step id bundle) results × (recorded ≡ summary results)
 
 module _ (sub : Holding) (setting : Setting) (layout : Layout) (bundle : Contents) where
   -- a key id has these artifacts recorded for a step: they are what a body comes to that counts
@@ -72,14 +41,17 @@ module _ (sub : Holding) (setting : Setting) (layout : Layout) (bundle : Content
   -- choice)
   pub record StepHolds (step : Step) (result : StepResult) : Type 0 where
     pub name : result.name ≡ step.name
-    pub one_body : (id payload other : List ℕ) → Counted setting layout bundle step id payload → Counted setting layout bundle step id other → payload ≡ other
-    pub agree : (id payload : List ℕ) → Counted setting layout bundle step id payload → HasRecord step id (recorded_in result)
+    pub one_body : (id payload other : List ℕ) → Counted setting layout bundle step id payload
+        → Counted setting layout bundle step id other → payload ≡ other
+    pub agree : (id payload : List ℕ) → Counted setting layout bundle step id payload
+        → HasRecord step id (recorded_in result)
     pub keys : Found setting layout bundle step result.keys
     pub threshold : step.threshold ≤ result.keys
 
 -- a layout holds with these records, one for each step: it has not expired at the moment, each step
 -- holds, and so do the rules of each step over these records
-pub record LevelHolds (sub : Holding) (setting : Setting) (layout : Layout) (bundle : Contents) (results : List StepResult) : Type 0 where
-  pub unexpired : ¬ (layout.expires <ℤ setting.moment)
+pub record LevelHolds (sub : Holding) (setting : Setting) (layout : Layout) (bundle : Contents)
+    (results : List StepResult) : Type 0 where
+  pub unexpired : ¬ IsExpired setting layout
   pub steps : AllZip (StepHolds sub setting layout bundle) layout.steps results
   pub rules : AllZip (StepRulesHold (links_in results)) layout.steps results

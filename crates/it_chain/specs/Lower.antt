@@ -12,7 +12,7 @@ use Rattle.it_docs.specs.declared.rule.Rule.{Rule}
 use Rattle.it_docs.specs.declared.rule.Side.{Side}
 use Rattle.it_rules.specs.Item.{Recorded, Links}
 use Rattle.it_rules.specs.Rules.{IsFirstFault, NamesDiffer, RulesHold}
-use Rattle.it_chain.specs.Names.{IsClaimed}
+use Rattle.it_chain.specs.ClaimedFiles.{IsClaimed}
 
 -- which names are claimed, what bytes read as, which artifacts are the same, and which rule is the
 -- first to fail
@@ -26,7 +26,9 @@ pub record Lower : Type 0 where
 
 -- a list of rules has this first fault, or none
 abbrev pub IsFaultOf : List Rule → Side → Recorded → Links → Option (ℕ × List ℕ) → Type 0
-IsFaultOf rules side item links fault = MatchOption fault (RulesHold rules side item links) (λ f. IsFirstFault rules side item links f.0 f.1)
+IsFaultOf rules side item links fault =
+    MatchOption fault (RulesHold rules side item links)
+    (λ f. IsFirstFault rules side item links f.0 f.1)
 
 -- the functions answer what the definitions say
 pub record AnswersRight (lower : Lower) : Type 0 where
@@ -35,4 +37,5 @@ pub record AnswersRight (lower : Lower) : Type 0 where
   pub link : (bytes : List ℕ) → Finds (LinkOf bytes) (lower.link_of bytes)
   pub layout : (bytes : List ℕ) → Finds (LayoutOf bytes) (lower.layout_of bytes)
   pub same : (a b : Recorded) → IsTrue (lower.is_same a b) ↔ (a ≡ b)
-  pub fault : (rules : List Rule) (side : Side) (item : Recorded) (links : Links) → NamesDiffer links → IsFaultOf rules side item links (lower.fault_of rules side item links)
+  pub fault : (rules : List Rule) (side : Side) (item : Recorded) (links : Links)
+      → NamesDiffer links → IsFaultOf rules side item links (lower.fault_of rules side item links)

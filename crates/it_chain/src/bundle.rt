@@ -1,5 +1,6 @@
 //! The files and folders that a layout is checked against.
-ghost use Rattle.std.specs.Prelude.{◌≡◌, OnOk, OnErr, IfErr, IsSome, None, string_bytes, option_map};
+ghost use Rattle.std.specs.Prelude.{◌≡◌, OnOk, OnErr, IfErr, IsSome, None, string_bytes};
+ghost use Rattle.std.specs.Prelude.{option_map};
 
 use it_base::sequence::Sequence;
 use it_base::text::Text;
@@ -55,7 +56,8 @@ impl Model for Bundle {
 }
 
 impl Bundle {
-    ghost use Rattle.it_chain.specs.Contents.{Contents, empty, files_of, with_file, with_folder, folder_at};
+    ghost use Rattle.it_chain.specs.Contents.{Contents, empty, files_of, with_file, with_folder};
+    ghost use Rattle.it_chain.specs.Contents.{folder_at};
 
     /// A bundle without files and folders. Takes no memory.
     pub fn new(alloc: Global) -> Bundle
@@ -89,8 +91,8 @@ impl Bundle {
     ///
     /// # Errors
     ///
-    /// `NameTaken` exactly where a folder of that name is there: it hands `folder` back. `OutOfMemory`
-    /// where memory was refused. The bundle is then as it was.
+    /// `NameTaken` exactly where a folder of that name is there: it hands `folder` back.
+    /// `OutOfMemory` where memory was refused. The bundle is then as it was.
     pub fn add_dir(&mut self, name: String, folder: Bundle) -> Result<(), BundleFault>
         ensures ok { OnOk result (self.new ≡ with_folder (string_bytes name) folder self.old) }
         ensures free { OnOk result (folder_at (string_bytes name) self.old ≡ None) }

@@ -5,8 +5,8 @@ ghost use Rattle.it_base.specs.Finds.{Finds};
 ghost use Rattle.it_dsse.specs.Envelope.{EnvelopeOf};
 ghost use Rattle.it_docs.specs.Layout.{LayoutOf};
 ghost use Rattle.it_docs.specs.Link.{LinkOf};
-ghost use Rattle.it_chain.specs.Claims.{files_at};
-ghost use Rattle.it_chain.specs.Walk.{AreRead, IsBody, IsRead, IsReadAt};
+ghost use Rattle.it_chain.specs.inside.ClaimedFiles.{files_at};
+ghost use Rattle.it_chain.specs.inside.Candidates.{AreRead, IsBody, IsRead, IsReadAt};
 
 use crate::bundle::File;
 use it_docs::fault::DocumentFault;
@@ -15,10 +15,8 @@ use it_docs::layout_fault::LayoutFault;
 use it_docs::layout_reading::read_layout;
 use it_docs::link::{Link, read_link};
 use it_dsse::envelope::{Envelope, EnvelopeFault};
+use it_dsse::payload_type::IN_TOTO;
 use std::alloc::{AllocError, Global};
-
-/// The payload type of links and layouts.
-const IN_TOTO: &str = "application/vnd.in-toto+json";
 
 /// What the body of an envelope is for a step.
 #[derive(Drop)]

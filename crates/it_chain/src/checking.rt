@@ -4,7 +4,7 @@ ghost use Rattle.it_base.specs.Finds.{Finds};
 ghost use Rattle.it_dsse.specs.Meter.{raised};
 ghost use Rattle.it_dsse.specs.Panel.{panel_of};
 ghost use Rattle.it_dsse.specs.Signed.{Signed, tries};
-ghost use Rattle.it_chain.specs.Counted.{Setting};
+ghost use Rattle.it_chain.specs.CountedBodies.{Setting};
 
 use it_dsse::check::SignatureCheck;
 use it_dsse::envelope::Envelope;

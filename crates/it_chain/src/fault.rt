@@ -1,7 +1,7 @@
 //! How refusals are made.
 ghost use Rattle.std.specs.Prelude.{◌≡◌, IfOk};
 ghost use Rattle.it_chain.specs.First.{here, under as under_of};
-ghost use Rattle.it_chain.specs.Walk.{IsUnder};
+ghost use Rattle.it_chain.specs.inside.Sublayouts.{IsUnder};
 ghost use Rattle.it_chain.specs.declared.refusal.ChainError.TheVariants.{Refused};
 
 use crate::refusal::{ChainError, ChainFault, ChainRefusal};

@@ -1,6 +1,9 @@
 //! Laws about the definitions of chains: functions that do nothing, and whose contracts say what is
 //! true of every layout, bundle and panel of checks.
-ghost use Rattle.it_chain.specs.Laws.{AlikeChains, AnswerIsRight, ChainGoesDeeper, ChainIsOne, ChainOrFirst, CostIsOne, FewestIsOne, FirstIsOne, FoundIsOne, HasCost, HasFewest, HoldsOrFails, NoiseIsAlike, SomeAnswersRight, WithheldChains};
+ghost use Rattle.it_chain.specs.Laws.{AlikeChains, AnswerIsRight, ChainGoesDeeper, ChainIsOne};
+ghost use Rattle.it_chain.specs.Laws.{ChainOrFirst, CostIsOne, FewestIsOne, FirstIsOne, FoundIsOne};
+ghost use Rattle.it_chain.specs.Laws.{HasCost, HasFewest, HoldsOrFails, NoiseIsAlike};
+ghost use Rattle.it_chain.specs.Laws.{SomeAnswersRight, WithheldChains};
 
 /// The number of different keys that signed what counts for a step is one number.
 pub fn found_is_one()
@@ -39,8 +42,8 @@ pub fn noise_is_alike()
     ensures { NoiseIsAlike }
 {}
 
-/// Where a layout holds of a bundle, it comes over one of which less counts to the same records with
-/// no more keys, or fails at a threshold.
+/// Where a layout holds of a bundle, it comes over one of which less counts to the same records
+/// with no more keys, or fails at a threshold.
 pub fn withheld_chains()
     ensures { WithheldChains }
 {}
@@ -73,8 +76,8 @@ pub fn cost_is_one()
     ensures { CostIsOne }
 {}
 
-/// A layout over a bundle takes some number of checks at the least: with `fewest_is_one`, always just
-/// one.
+/// A layout over a bundle takes some number of checks at the least: with `fewest_is_one`, always
+/// just one.
 pub fn has_fewest()
     ensures { HasFewest }
 {}

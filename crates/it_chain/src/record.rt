@@ -17,7 +17,7 @@ impl Model for Recorded {
 
     ghost Value = { Recorded };
 
-    ghost use Rattle.it_chain.specs.RecordCode.{recorded_code};
+    ghost use Rattle.it_chain.specs.inside.RecordCode.{recorded_code};
 
     ghost coded = { recorded_code };
 

@@ -63,8 +63,8 @@ pub enum ChainFault {
 /// Why a layout does not hold of a bundle, and where.
 #[derive(Drop)]
 pub struct ChainRefusal {
-    /// The sublayouts down to the layout of which the fault speaks, the outermost first: each by the
-    /// name of its step and the key id that signed it. Empty for the outermost layout.
+    /// The sublayouts down to the layout of which the fault speaks, the outermost first: each by
+    /// the name of its step and the key id that signed it. Empty for the outermost layout.
     pub at: Sequence<(Text, Text)>,
     /// What is wrong with that layout.
     pub fault: ChainFault,

@@ -4,7 +4,7 @@ ghost use Rattle.std.specs.Cmp.Lexicographic.{slice_cmp};
 ghost use Rattle.std.specs.List.Sorted.{IsStrictlySortedBy};
 ghost use Rattle.std.specs.Ordering.{nat_cmp};
 ghost use Rattle.it_chain.specs.Answer.{signers as signers_of};
-ghost use Rattle.it_chain.specs.Signers.{AreIds, entry_of};
+ghost use Rattle.it_chain.specs.inside.Signers.{AreIds, entry_of};
 
 use it_base::text::Text;
 use it_docs::layout::Layout;

@@ -2,8 +2,8 @@
 ghost use Rattle.std.specs.Prelude.{◌≡◌, IfOk, zip};
 ghost use Rattle.it_rules.specs.Item.{links_of, recorded_of};
 ghost use Rattle.it_rules.specs.Rules.{NamesDiffer};
-ghost use Rattle.it_chain.specs.Level.{links_in, recorded_in};
-ghost use Rattle.it_chain.specs.Walk.{AreRuled, IsSideRuled};
+ghost use Rattle.it_chain.specs.StepRules.{links_in, recorded_in};
+ghost use Rattle.it_chain.specs.inside.StepRules.{AreRuled, IsSideRuled};
 
 use crate::chain::StepResult;
 use crate::fault::{refused, text_of};

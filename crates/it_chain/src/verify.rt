@@ -3,9 +3,9 @@ ghost use Rattle.std.specs.Prelude.{◌≡◌, ◌≤◌, ℕ, IfOk, IfErr, map}
 ghost use Rattle.std.specs.List.{sum_by};
 ghost use Rattle.it_dsse.specs.Meter.{RaisedBy};
 ghost use Rattle.it_chain.specs.Chain.{Chain as Chain_of};
-ghost use Rattle.it_chain.specs.Cost.{Costs};
-ghost use Rattle.it_chain.specs.Fewest.{Fewest};
-ghost use Rattle.it_chain.specs.First.{First};
+ghost use Rattle.it_chain.specs.Cost.{ChainCosts};
+ghost use Rattle.it_chain.specs.Fewest.{ChainFewest};
+ghost use Rattle.it_chain.specs.First.{FirstChainFailure};
 ghost use Rattle.it_chain.specs.declared.refusal.ChainError.TheVariants.{Refused};
 ghost use Rattle.it_chain.specs.declared.refusal.ChainRefusal.{ChainRefusal as Refusal};
 ghost use Rattle.it_dsse.specs.Panel.{panel_of};
@@ -46,14 +46,14 @@ pub fn verify_chain(
         Chain_of (record { panel = panel_of (map meaning panel.now); moment = moment })
         depth layout.now links.now chain.steps) }
     ensures bad { IfErr result (λ e. (r : Refusal) → e ≡ Refused r
-        → First (record { panel = panel_of (map meaning panel.now); moment = moment })
+        → FirstChainFailure (record { panel = panel_of (map meaning panel.now); moment = moment })
         depth layout.now links.now r) }
     ensures at_most { (n : ℕ)
-        → Costs (record { panel = panel_of (map meaning panel.now); moment = moment })
+        → ChainCosts (record { panel = panel_of (map meaning panel.now); moment = moment })
         depth layout.now links.now n
         → RaisedBy (λ m. m ≤ n) meter.old meter.new }
     ensures at_least { IfOk result (λ chain. (n : ℕ)
-        → Fewest (record { panel = panel_of (map meaning panel.now); moment = moment })
+        → ChainFewest (record { panel = panel_of (map meaning panel.now); moment = moment })
         depth layout.now links.now n
         → RaisedBy (λ m. n ≤ m) meter.old meter.new) }
     ensures at_least_keys { IfOk result (λ chain.

@@ -6,11 +6,14 @@ use Rattle.it_chain.proofs.agreement.agreed.Goals as goal
 
 pub returns-then-not-is_same : goal.returns-then-not-is_same
 returns-then-not-is_same c =
-    let name : c.in_ok-text_of.field-0 ≡ c.args.step.now.name = c.in_ok-text_of.ensures ∙ c.as_str.ensures in
-    let id : c.in_ok-text_of-2.field-0 ≡ c.other-item.result.id = c.in_ok-text_of-2.ensures ∙ c.as_str-then-not-is_same.ensures in
+    let name : c.in_ok-text_of.field-0 ≡ c.args.step.now.name = c.in_ok-text_of.ensures
+    ∙ c.as_str.ensures in
+    let id : c.in_ok-text_of-2.field-0 ≡ c.other-item.result.id = c.in_ok-text_of-2.ensures
+    ∙ c.as_str-then-not-is_same.ensures in
     rw c.refused.ensures (
       c.other-item.result.id,
-      first_other c.args.first.now c.args.others.now c.loop-other.other-index c.other-item.result c.loop-other-test.true c.loop-other.invariant c.other-item.is
+      first_other c.args.first.now c.args.others.now c.loop-other.other-index c.other-item.result
+          c.loop-other-test.true c.loop-other.invariant c.other-item.is
           (λ same. let is : c.is_same.result ≡ true = c.is_same.ensures.1 same in cc),
       λ k. here (Disagree (name k) (id k)),
     )

@@ -4,4 +4,5 @@ use Rattle.it_chain.proofs.agreement.agreed.Given as goal
 
 -- the others so far are the same as the first
 abbrev pub invariant-loop-other : goal.invariant-loop-other
-invariant-loop-other l = AllByRecursion (λ r. r.recorded ≡ l.first.recorded) (take l.other-index l.others)
+invariant-loop-other l = AllByRecursion (λ r. r.recorded ≡ l.first.recorded)
+    (take l.other-index l.others)

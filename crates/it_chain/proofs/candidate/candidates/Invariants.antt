@@ -1,8 +1,9 @@
 use Rattle.std.proofs.Common.{take}
-use Rattle.it_chain.specs.Claims.{files_at}
-use Rattle.it_chain.specs.Walk.{AreRead}
+use Rattle.it_chain.specs.inside.ClaimedFiles.{files_at}
+use Rattle.it_chain.specs.inside.Candidates.{AreRead}
 use Rattle.it_chain.proofs.candidate.candidates.Given as goal
 
 -- the candidates among the files at the places so far
 abbrev pub invariant-loop-place : goal.invariant-loop-place
-invariant-loop-place l = AreRead l.step (files_at l.files (take l.place-index l.places)) l.found.items
+invariant-loop-place l = AreRead l.step (files_at l.files (take l.place-index l.places))
+    l.found.items

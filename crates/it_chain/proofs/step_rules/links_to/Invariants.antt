@@ -1,6 +1,6 @@
 use Rattle.std.proofs.Common.{◌≡◌, take}
 use Rattle.it_rules.specs.Item.{links_of}
-use Rattle.it_chain.specs.Level.{links_in}
+use Rattle.it_chain.specs.StepRules.{links_in}
 use Rattle.it_chain.proofs.step_rules.links_to.Given as goal
 
 -- the links to the records so far

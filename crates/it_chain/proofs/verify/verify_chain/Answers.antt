@@ -6,18 +6,27 @@ use Rattle.it_chain.proofs.Walks.{ok_of, bad_of}
 use Rattle.it_chain.proofs.verify.verify_chain.Goals as goal
 
 pub returns-clause-ok : goal.returns-clause-ok
-returns-clause-ok g c = rw (to_z-of_z w64 c.args.moment (search rules)) at (ok_of _ c.args.depth c.args.layout.now c.args.links.now c.verify_level.result c.verify_level.ensures.answer)
+returns-clause-ok g c = rw (to_z-of_z w64 c.args.moment (search rules)) at
+    (ok_of _ c.args.depth c.args.layout.now c.args.links.now c.verify_level.result
+    c.verify_level.ensures.answer)
 
 pub returns-clause-bad : goal.returns-clause-bad
-returns-clause-bad g c = rw (to_z-of_z w64 c.args.moment (search rules)) at (bad_of _ c.args.depth c.args.layout.now c.args.links.now c.verify_level.result c.verify_level.ensures.answer)
+returns-clause-bad g c = rw (to_z-of_z w64 c.args.moment (search rules)) at
+    (bad_of _ c.args.depth c.args.layout.now c.args.links.now c.verify_level.result
+    c.verify_level.ensures.answer)
 
 pub returns-clause-at_most : goal.returns-clause-at_most
 returns-clause-at_most g c =
-    rw (to_z-of_z w64 c.args.moment (search rules)) at (chain_at_most _ c.args.depth c.args.layout.now c.args.links.now c.args.meter.now c.verify_level.new.meter c.verify_level.result c.verify_level.ensures.asked)
+    rw (to_z-of_z w64 c.args.moment (search rules)) at
+    (chain_at_most _ c.args.depth c.args.layout.now c.args.links.now c.args.meter.now
+    c.verify_level.new.meter c.verify_level.result c.verify_level.ensures.asked)
 
 pub returns-clause-at_least : goal.returns-clause-at_least
 returns-clause-at_least g c =
-    rw (to_z-of_z w64 c.args.moment (search rules)) at (chain_takes _ c.args.layout.now c.args.links.now c.args.meter.now c.verify_level.new.meter c.args.depth c.verify_level.result c.verify_level.ensures.fewest)
+    rw (to_z-of_z w64 c.args.moment (search rules)) at
+    (chain_takes _ c.args.layout.now c.args.links.now c.args.meter.now c.verify_level.new.meter
+    c.args.depth c.verify_level.result c.verify_level.ensures.fewest)
 
 pub returns-clause-at_least_keys : goal.returns-clause-at_least_keys
-returns-clause-at_least_keys g c = chain_at_least _ c.args.depth c.args.layout.now c.args.links.now c.args.meter.now c.verify_level.new.meter c.verify_level.result c.verify_level.ensures.asked
+returns-clause-at_least_keys g c = chain_at_least _ c.args.depth c.args.layout.now c.args.links.now
+    c.args.meter.now c.verify_level.new.meter c.verify_level.result c.verify_level.ensures.asked

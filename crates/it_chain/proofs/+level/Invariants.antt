@@ -1,0 +1,68 @@
+use Rattle.std.proofs.Common.{◌+◌, ◌*◌, length, take, flat_map}
+use Rattle.std.specs.List.{AllZip}
+use Rattle.it_base.specs.Places.{NoneAt}
+use Rattle.it_chain.specs.inside.Asked.{RaisedAtLeast, RaisedWithin, RecordsFewest, fewest_below}
+use Rattle.it_chain.specs.inside.Asked.{key_total}
+use Rattle.it_chain.specs.First.{step_places}
+use Rattle.it_chain.specs.Level.{StepHolds}
+use Rattle.it_chain.specs.inside.Below.{StandsAt, holds_below}
+use Rattle.it_chain.proofs.LevelAsking.{LevelSum, SignersSum}
+use Rattle.it_chain.proofs.LevelFewest.{FewestSum}
+use Rattle.it_chain.proofs.SignerWalks.{AreWalked}
+use Rattle.it_chain.proofs.+level.Given as goal
+
+abbrev pub decreases-sublayouts::verify_sublayout : goal.decreases-sublayouts::verify_sublayout
+decreases-sublayouts::verify_sublayout g l = 7 * l.level.now.depth
+
+abbrev pub decreases-sublayouts::verify_body : goal.decreases-sublayouts::verify_body
+decreases-sublayouts::verify_body g l = 7 * l.level.now.depth + 1
+
+abbrev pub decreases-id_records::verify_id : goal.decreases-id_records::verify_id
+decreases-id_records::verify_id g l = 7 * l.level.now.depth + 2
+
+abbrev pub decreases-id_records::verify_ids : goal.decreases-id_records::verify_ids
+decreases-id_records::verify_ids g l = 7 * l.level.now.depth + 3
+
+abbrev pub decreases-level::verify_step : goal.decreases-level::verify_step
+decreases-level::verify_step g l = 7 * l.level.now.depth + 4
+
+abbrev pub decreases-level::verify_steps : goal.decreases-level::verify_steps
+decreases-level::verify_steps g l = 7 * l.level.now.depth + 5
+
+abbrev pub decreases-level::verify_level : goal.decreases-level::verify_level
+decreases-level::verify_level g l = 7 * l.level.now.depth + 6
+
+-- nothing stands at the steps so far, which hold with the results, no more was asked than
+-- they cost, and no less than they take
+abbrev pub invariant-level::verify_steps-loop-step : goal.invariant-level::verify_steps-loop-step
+invariant-level::verify_steps-loop-step g l =
+    let setting = g.C.Checking.setting l.checking in
+    let layout = l.level.layout.now in
+    let bundle = l.level.links.now in
+    record {
+      none : NoneAt (StandsAt setting l.level.depth layout bundle)
+          (flat_map (step_places layout) (take l.step-index l.step-items));
+      hold : AllZip (StepHolds (holds_below setting l.level.depth) setting layout bundle)
+          (take l.step-index l.step-items) l.results.items;
+      asked : RaisedWithin (key_total l.results.items) (LevelSum setting l.level.depth layout bundle
+          (take l.step-index l.step-items)) l.fn.meter l.meter;
+      fewest : RaisedAtLeast (FewestSum setting l.level.depth layout bundle
+          (take l.step-index l.step-items)) l.fn.meter l.meter;
+    }
+
+-- nothing stands at the ids of the signers so far, of which these are the records, no more was
+-- asked than they cost, and no less than the records take
+abbrev pub invariant-id_records::verify_ids-loop-signer : goal.invariant-id_records::verify_ids-loop-signer
+invariant-id_records::verify_ids-loop-signer g l =
+    let setting = g.C.Checking.setting l.checking in
+    let layout = l.level.layout.now in
+    let bundle = l.level.links.now in
+    record {
+      walked : AreWalked setting l.level.depth layout bundle l.step (take l.signer-index l.signers)
+          l.records.items;
+      asked : RaisedWithin (length l.records.items)
+          (SignersSum setting l.level.depth layout bundle l.step l.found
+          (take l.signer-index l.signers)) l.fn.meter l.meter;
+      fewest : RaisedAtLeast (RecordsFewest (fewest_below setting l.level.depth) setting layout
+          bundle l.step l.records.items) l.fn.meter l.meter;
+    }

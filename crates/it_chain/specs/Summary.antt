@@ -1,0 +1,21 @@
+-- What a sublayout stands for in the step that it was signed for (in-toto 1.0 section 4.3,
+-- sublayouts).
+use Rattle.std.specs.Prelude.{List, [], ◌∷◌}
+use Rattle.std.specs.FinMap.{empty}
+use Rattle.it_digest.specs.Artifacts.{ArtifactMap}
+use Rattle.it_rules.specs.Item.{Recorded}
+use Rattle.it_chain.specs.declared.chain.StepResult.{StepResult}
+
+-- what a sublayout stands for: the materials of its first step and the products of its last, and
+-- nothing where it has no steps
+abbrev pub first_materials : List StepResult → ArtifactMap
+first_materials [] = empty
+first_materials (result ∷ results) = result.materials
+
+abbrev pub last_products : ArtifactMap → List StepResult → ArtifactMap
+last_products before [] = before
+last_products before (result ∷ results) = last_products result.products results
+
+abbrev pub summary : List StepResult → Recorded
+summary results =
+    record { materials = first_materials results; products = last_products empty results }

@@ -1,0 +1,14 @@
+pub mod Agreement
+pub mod Asked
+pub mod Below
+pub mod Candidates
+pub mod ClaimedFiles
+pub mod CountedBodies
+pub mod IdRecords
+pub mod RecordCode
+pub mod Scope
+pub mod Signers
+pub mod StepRules
+pub mod Sublayouts
+pub mod Threshold
+pub mod Walks

@@ -1,0 +1,110 @@
+-- How far the functions that verify a level raise the meter that they are lent. Nothing that is
+-- trusted stands here.
+use Rattle.std.specs.Prelude.{◌≡◌, ℕ, zero, suc, ◌+◌, ◌≤◌, List, length, Option, None, Some, Result}
+use Rattle.std.specs.Prelude.{Ok, Err, ⊤}
+use Rattle.std.specs.List.{sum_by}
+use Rattle.it_base.specs.Sum.{CostsIfFound, IsSum}
+use Rattle.it_dsse.specs.Meter.{RaisedBy}
+use Rattle.it_dsse.specs.declared.meter.Meter.{Meter}
+use Rattle.it_docs.specs.Layout.{LayoutOf}
+use Rattle.it_docs.specs.declared.layout.Layout.{Layout}
+use Rattle.it_docs.specs.declared.step.Step.{Step}
+use Rattle.it_chain.specs.Contents.{Contents}
+use Rattle.it_chain.specs.Cost.{Costing, ChainCosts, no_cost}
+use Rattle.it_chain.specs.CountedBodies.{Setting, Body, of_link, of_layout, Counted}
+use Rattle.it_chain.specs.Fewest.{ChainFewest}
+use Rattle.it_chain.specs.Sublayouts.{folder_of}
+use Rattle.it_chain.specs.declared.candidate.Candidate.{Candidate}
+use Rattle.it_chain.specs.declared.chain.StepResult.{StepResult}
+use Rattle.it_chain.specs.declared.counted_bodies.Counting.{Counting}
+use Rattle.it_chain.specs.declared.counted_bodies.Counting.TheVariants.{Nothing, One, Several}
+use Rattle.it_chain.specs.declared.record.IdRecord.{IdRecord}
+
+-- a meter was raised by no less than a number, and by no more than each of which Most holds
+abbrev pub RaisedWithin : ℕ → (ℕ → Type 0) → Meter → Meter → Type 0
+RaisedWithin least Most = RaisedBy (λ k. (least ≤ k) × ((n : ℕ) → Most n → k ≤ n))
+
+-- the same of a call that may fail, and that asks at least so often for a value
+abbrev pub Asks : {A E : Type 0} → (A → ℕ) → (ℕ → Type 0) → Meter → Meter → Result A E → Type 0
+Asks least Most old new (Ok x) = RaisedWithin (least x) Most old new
+Asks least Most old new (Err e) = RaisedWithin 0 Most old new
+
+-- the signatures of candidates, added up
+abbrev pub SignaturesIn : List Candidate → ℕ → Type 0
+SignaturesIn = IsSum (λ candidate n. n ≡ length candidate.envelope.signatures)
+
+-- how many signatures candidates have
+abbrev pub signature_count : List Candidate → ℕ
+signature_count candidates = sum_by (λ candidate. length candidate.envelope.signatures) candidates
+
+-- where something counts for an id, a signature was asked for
+abbrev pub least_counted : Counting → ℕ
+least_counted Nothing = 0
+least_counted (One key body) = 1
+least_counted Several = 0
+
+abbrev pub least_given : Option IdRecord → ℕ
+least_given None = 0
+least_given (Some r) = 1
+
+-- how many keys signed for steps, added up
+abbrev pub key_total : List StepResult → ℕ
+key_total results = sum_by (λ result. result.keys) results
+
+-- what the sublayouts of a level cost
+abbrev pub cost_below : Setting → ℕ → Costing
+cost_below setting zero = no_cost
+cost_below setting (suc depth) = ChainCosts setting depth
+
+-- a key id costs the signatures of its candidates, and what bounds each of its sublayouts
+pub record IdCosts (sub : Costing) (setting : Setting) (layout : Layout) (bundle : Contents)
+    (step : Step) (signatures : ℕ) (id : List ℕ) (n : ℕ) : Type 0 where
+  pub sublayouts : ℕ
+  pub within : (payload : List ℕ) (sublayout : Layout)
+      → Counted setting layout bundle step id payload → LayoutOf payload sublayout → (m : ℕ)
+      × sub sublayout (folder_of step.name id bundle) m × (m ≤ sublayouts)
+  pub sum : n ≡ signatures + sublayouts
+
+-- a body costs what it does as a sublayout
+abbrev pub BodyCosts : Costing → Contents → List ℕ → List ℕ → Body → ℕ → Type 0
+BodyCosts sub bundle step id (of_link link) n = ⊤
+BodyCosts sub bundle step id (of_layout layout) n =
+    (m : ℕ) × sub layout (folder_of step id bundle) m × (m ≤ n)
+
+-- ---- the least that is asked for a value
+-- a meter was raised by no less than each of which Least holds
+abbrev pub RaisedAtLeast : (ℕ → Type 0) → Meter → Meter → Type 0
+RaisedAtLeast Least old new = (n : ℕ) → Least n → RaisedBy (λ m. n ≤ m) old new
+
+-- what the sublayouts of a level take at the least
+abbrev pub fewest_below : Setting → ℕ → Costing
+fewest_below setting zero = no_cost
+fewest_below setting (suc depth) = ChainFewest setting depth
+
+-- a body takes what it does as a sublayout
+abbrev pub BodyFewest : Costing → Contents → List ℕ → List ℕ → Body → ℕ → Type 0
+BodyFewest sub bundle step id (of_link link) n = n ≡ 0
+BodyFewest sub bundle step id (of_layout layout) n = sub layout (folder_of step id bundle) n
+
+module _ (sub : Costing) (setting : Setting) (layout : Layout) (bundle : Contents)
+    (step : Step) where
+  -- a sublayout counts for a key id
+  abbrev pub CountsFor : List ℕ → Layout → Type 0
+  CountsFor id sublayout =
+      (payload : List ℕ) × Counted setting layout bundle step id payload
+      × LayoutOf payload sublayout
+
+  abbrev pub SublayoutFewest : List ℕ → ℕ → Type 0
+  SublayoutFewest id =
+      CostsIfFound (CountsFor id) (λ sublayout. sub sublayout (folder_of step.name id bundle))
+
+  -- a key id that counts takes one panel, and what its sublayout takes, if it has one
+  abbrev pub IdFewest : List ℕ → ℕ → Type 0
+  IdFewest id n = (m : ℕ) × SublayoutFewest id m × (n ≡ m + 1)
+
+  abbrev pub GivenFewest : Option IdRecord → ℕ → Type 0
+  GivenFewest None n = n ≡ 0
+  GivenFewest (Some r) n = IdFewest r.id n
+
+  abbrev pub RecordsFewest : List IdRecord → ℕ → Type 0
+  RecordsFewest = IsSum (λ r. IdFewest r.id)

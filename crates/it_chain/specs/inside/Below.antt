@@ -1,0 +1,23 @@
+-- What the sublayouts of a level come to. Nothing that is trusted stands here.
+use Rattle.std.specs.Prelude.{ℕ, zero, suc}
+use Rattle.it_docs.specs.declared.layout.Layout.{Layout}
+use Rattle.it_chain.specs.Chain.{Chain, none_holds}
+use Rattle.it_chain.specs.Contents.{Contents}
+use Rattle.it_chain.specs.CountedBodies.{Setting}
+use Rattle.it_chain.specs.First.{Failing, FirstChainFailure, ChainPlace, StandsInChain, too_deep}
+use Rattle.it_chain.specs.First.{uninspected}
+use Rattle.it_chain.specs.Level.{Holding}
+use Rattle.it_chain.specs.declared.refusal.ChainRefusal.{ChainRefusal}
+
+abbrev pub holds_below : Setting → ℕ → Holding
+holds_below setting zero = none_holds
+holds_below setting (suc depth) = Chain setting depth
+
+abbrev pub fails_below : Setting → ℕ → Failing
+fails_below setting zero = too_deep
+fails_below setting (suc depth) = uninspected (FirstChainFailure setting depth)
+
+-- what stands at the places of a level
+abbrev pub StandsAt : Setting → ℕ → Layout → Contents → ChainPlace → ChainRefusal → Type 0
+StandsAt setting depth =
+    StandsInChain (holds_below setting depth) (fails_below setting depth) setting

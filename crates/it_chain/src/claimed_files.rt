@@ -1,0 +1,61 @@
+//! Which files of a bundle are claimed for which steps (in-toto 1.0 section 4.4, names of link
+//! files).
+ghost use Rattle.std.specs.Prelude.{◌≡◌, List, ℕ, IfOk, OnOk, MatchOption, string_bytes};
+ghost use Rattle.it_chain.specs.inside.ClaimedFiles.{ClaimsIn, IsAdded, places_under};
+ghost use Rattle.it_chain.specs.ClaimedFiles.{IsClaimed};
+
+use crate::bundle::File;
+use std::alloc::{AllocError, Global};
+use std::collections::BTreeMap;
+
+/// The places of files in a bundle, by the names of the steps that the files are claimed for.
+#[derive(Drop)]
+pub(crate) struct Claims {
+    by_step: BTreeMap<String, Vec<usize>>,
+}
+
+impl Claims {
+    /// The places of those of these files that are claimed for some step.
+    pub fn of(alloc: Global, files: &[File]) -> Result<Claims, AllocError>
+        ensures { IfOk result (ClaimsIn files.now) }
+    {
+        let mut by_step = BTreeMap::new(alloc);
+        for (place, file) in files.iter().enumerate() {
+            if let Some(step) = claimed_step(file.name.as_str()) {
+                add(&mut by_step, String::from_str(alloc, step)?, place)?;
+            }
+        }
+        Ok(Claims { by_step })
+    }
+
+    /// The places of the files that are claimed for a step, in their order.
+    pub fn places(&self, step: &str) -> &[usize]
+        ensures { result.now ≡ places_under self.now.by_step step.now }
+    {
+        match self.by_step.get(step) {
+            Some(places) => places.as_slice(),
+            None => &[],
+        }
+    }
+}
+
+fn add(
+    by_step: &mut BTreeMap<String, Vec<usize>>,
+    step: String,
+    place: usize,
+) -> Result<(), AllocError>
+    ensures { OnOk result (IsAdded (string_bytes step) place by_step.old by_step.new) }
+{
+    by_step.entry(step)?.or_default().push(place)?;
+    Ok(())
+}
+
+/// The name of the step that a file's name claims the file for.
+fn claimed_step(name: &str) -> Option<&str>
+    ensures { MatchOption result ((step : List ℕ) → ¬ IsClaimed step name.now)
+        (λ step. IsClaimed step.now name.now) }
+{
+    let front = name.strip_suffix(".link")?;
+    let (step, middle) = front.rsplit_once('.')?;
+    if middle.is_empty() { None } else { Some(step) }
+}

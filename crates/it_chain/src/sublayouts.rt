@@ -1,0 +1,115 @@
+//! Sublayouts: how deep they may lie, what they may not ask for, and where their files are.
+ghost use Rattle.std.specs.Prelude.{◌≡◌, ◌≤◌, ◌↔◌, IfOk, IsTrue, string_bytes};
+ghost use Rattle.it_chain.specs.Sublayouts.{first_characters, folder_name as folder_name_of};
+ghost use Rattle.it_chain.specs.inside.Asked.{Asks};
+ghost use Rattle.it_chain.specs.inside.Scope.{BodyAnswers, BodyCost, BodyTakes, scope_of};
+ghost use Rattle.it_chain.specs.inside.Scope.{SublayoutAnswers, SublayoutCost, SublayoutTakes};
+
+use crate::bundle::Bundle;
+use crate::candidate::Body;
+use crate::chain::Chain;
+use crate::checking::Checking;
+use crate::fault::{refused, under};
+use crate::level::{Level, verify_level};
+use crate::record::Recorded;
+use crate::refusal::{ChainError, ChainFault};
+use crate::summary::summary_of;
+use it_docs::layout::Layout;
+use it_dsse::meter::Meter;
+use std::alloc::{AllocError, Global};
+
+/// The artifacts that the body of a key id comes to.
+#[cycle(level)]
+pub(crate) fn verify_body<C: Checking>(
+    alloc: Global,
+    checking: &C,
+    level: &Level,
+    step: &str,
+    id: &str,
+    body: &Body,
+    meter: &mut Meter,
+) -> Result<Recorded, ChainError>
+    requires shallow { level.now.depth ≤ 8 }
+    ensures answer { BodyAnswers (scope_of (C.setting checking.now) level.now)
+        step.now id.now body.now result }
+    ensures asked { Asks (λ _. 0) (BodyCost (scope_of (C.setting checking.now) level.now)
+        step.now id.now body.now) meter.old meter.new result }
+    ensures fewest { IfOk result (λ _. BodyTakes (scope_of (C.setting checking.now) level.now)
+        step.now id.now body.now meter.old meter.new) }
+{
+    match body {
+        Body::Link(link) => Ok(Recorded {
+            materials: link.materials.copy(alloc)?,
+            products: link.products.copy(alloc)?,
+        }),
+        Body::Layout(sublayout) => {
+            match verify_sublayout(alloc, checking, level, step, id, sublayout, meter) {
+                Ok(chain) => Ok(summary_of(alloc, chain.steps.as_slice())?),
+                Err(error) => Err(under(alloc, step, id, error)),
+            }
+        }
+    }
+}
+
+/// The records of a sublayout over its own folder.
+#[cycle(level)]
+fn verify_sublayout<C: Checking>(
+    alloc: Global,
+    checking: &C,
+    level: &Level,
+    step: &str,
+    id: &str,
+    sublayout: &Layout,
+    meter: &mut Meter,
+) -> Result<Chain, ChainError>
+    requires shallow { level.now.depth ≤ 8 }
+    ensures answer { SublayoutAnswers (scope_of (C.setting checking.now) level.now)
+        step.now id.now sublayout.now result }
+    ensures asked { Asks (λ _. 0) (SublayoutCost (scope_of (C.setting checking.now) level.now)
+        step.now id.now sublayout.now) meter.old meter.new result }
+    ensures fewest { IfOk result (λ _. SublayoutTakes
+        (scope_of (C.setting checking.now) level.now) step.now id.now sublayout.now
+        meter.old meter.new) }
+{
+    if level.is_deepest() {
+        return Err(refused(alloc, ChainFault::TooDeep));
+    }
+    if !sublayout.inspections.as_slice().is_empty() {
+        return Err(refused(alloc, ChainFault::InspectionInSublayout));
+    }
+    let name = folder_name(alloc, step, id)?;
+    let none = Bundle::new(alloc);
+    let below = Level {
+        layout: sublayout,
+        links: level.links.dir(name.as_str()).unwrap_or(&none),
+        depth: level.depth - 1,
+    };
+    verify_level(alloc, checking, &below, meter)
+}
+
+impl<'a> Level<'a> {
+    /// Whether no sublayout may lie below.
+    fn is_deepest(&self) -> bool
+        ensures { IsTrue result ↔ (self.now.depth ≡ 0) }
+    {
+        self.depth == 0
+    }
+}
+
+/// The name of the folder that a sublayout's files are in.
+fn folder_name(alloc: Global, step: &str, id: &str) -> Result<String, AllocError>
+    ensures { IfOk result (λ name. string_bytes name ≡ folder_name_of step.now id.now) }
+{
+    let mut name = String::from_str(alloc, step)?;
+    name.push('.')?;
+    let first = first_eight(alloc, id)?;
+    name.push_str(first.as_str())?;
+    Ok(name)
+}
+
+/// The first 8 characters of a text.
+fn first_eight(alloc: Global, text: &str) -> Result<String, AllocError>
+    ensures { IfOk result (λ first. string_bytes first ≡ first_characters 8 text.now) }
+{
+    text.chars().take(8).collect(alloc)
+}

@@ -1,4 +1,5 @@
-pub mod Digesting
-pub mod Matching
-pub mod Signed
-pub mod Signing
+pub mod DigestOutput
+pub mod MatchOutput
+pub mod SignOutput
+pub mod SignedOutput
+pub mod inside

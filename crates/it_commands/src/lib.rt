@@ -1,16 +1,16 @@
-//! The commands of `itv` over bytes and a writer that look at no delivery: what each one writes, and how
-//! it ends.
+//! The commands of `itv` over bytes and a writer that look at no delivery: what each one writes,
+//! and how it ends.
 #![tactic(auto)]
 
-mod digesting;
-mod encoding;
-mod matching;
+mod digest_output;
+mod match_output;
 pub mod output;
-mod signed;
-mod signing;
+mod pae_output;
+mod sign_output;
+mod signed_output;
 
-pub use digesting::{check_name, run_digest};
-pub use encoding::run_pae;
-pub use matching::run_match;
-pub use signed::run_signed;
-pub use signing::run_sign;
+pub use digest_output::{check_name, run_digest};
+pub use match_output::run_match;
+pub use pae_output::run_pae;
+pub use sign_output::run_sign;
+pub use signed_output::run_signed;

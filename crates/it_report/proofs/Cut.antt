@@ -1,5 +1,6 @@
 -- Lists that are cut at an element that they lack.
-use Rattle.std.proofs.Common.{◌≡◌, ◌≢◌, ◌<◌, ◌^◌, ℕ, zero, suc, ◌+◌, ◌%◌, ◌==◌, true, not, List, [], ◌∷◌, ◌++◌, refl, arith}
+use Rattle.std.proofs.Common.{◌≡◌, ◌≢◌, ◌<◌, ◌^◌, ℕ, zero, suc, ◌+◌, ◌%◌, ◌==◌, true, not, List, []}
+use Rattle.std.proofs.Common.{◌∷◌, ◌++◌, refl, arith}
 use Rattle.std.specs.Prelude.{Contains, decimal}
 use Rattle.std.specs.List.{list_all}
 use Rattle.std.proofs.lemmas.Fmt.{decimal_by_steps}
@@ -11,7 +12,8 @@ Lacks c [] = Unit {0}
 Lacks c (x ∷ xs) = (x ≢ c) × Lacks c xs
 
 -- two lists that lack what stands behind them are where they are cut
-pub cut : (c : ℕ) (xs ys ps qs : List ℕ) → Lacks c xs → Lacks c ys → xs ++ c ∷ ps ≡ ys ++ c ∷ qs → (xs ≡ ys) × (ps ≡ qs)
+pub cut : (c : ℕ) (xs ys ps qs : List ℕ) → Lacks c xs → Lacks c ys → xs ++ c ∷ ps ≡ ys ++ c ∷ qs
+    → (xs ≡ ys) × (ps ≡ qs)
 cut c [] [] ps qs none also_none same = (refl, cc)
 cut c [] (y ∷ ys) ps qs none others same = let here : y ≡ c = cc in absurd (others.0 here)
 cut c (x ∷ xs) [] ps qs others none same = let here : x ≡ c = cc in absurd (others.0 here)

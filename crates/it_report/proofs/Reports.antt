@@ -1,5 +1,6 @@
 -- What the first line of a report tells, and what stands behind it.
-use Rattle.std.proofs.Common.{◌≡◌, ◌==◌, Bool, true, false, get_or, ◌<◌, ◌^◌, ℕ, List, ◌∷◌, ◌++◌, codes, refl, sym, ap, ◌∙◌, append_assoc, lit<}
+use Rattle.std.proofs.Common.{◌≡◌, ◌==◌, Bool, true, false, get_or, ◌<◌, ◌^◌, ℕ, List, ◌∷◌, ◌++◌}
+use Rattle.std.proofs.Common.{codes, refl, sym, ap, ◌∙◌, append_assoc, lit<}
 use Rattle.std.specs.Prelude.{decimal}
 use Rattle.std.proofs.lemmas.Fmt.{decimal_injective}
 use Rattle.it_report.proofs.Cut.{Lacks, Lacks-append, Lacks-decimal, Lacks-test, cut}
@@ -7,7 +8,14 @@ use Rattle.it_report.specs.Fault.{name_of, number_of}
 use Rattle.it_report.specs.ReportLaws.{FirstLinesTell}
 use Rattle.it_report.specs.Report.{first_line, further_lines, report_of}
 use Rattle.it_report.specs.declared.refusal.Fault.{Fault}
-use Rattle.it_report.specs.declared.refusal.Fault.TheVariants.{BadPolicy, BadSums, BadMoment, NoFiles, BadEnvelope, WrongPayloadType, OwnerMissing, BadLayout, Expired, TwoPayloads, TooDeep, Threshold, Disagree, InspectionInSublayout, RuleFailed, RecordMissing, BadRecord, NoExpectation, NoProvenance}
+use Rattle.it_report.specs.declared.refusal.Fault.TheVariants.{BadPolicy, BadSums, BadMoment}
+use Rattle.it_report.specs.declared.refusal.Fault.TheVariants.{NoFiles, BadEnvelope}
+use Rattle.it_report.specs.declared.refusal.Fault.TheVariants.{WrongPayloadType, OwnerMissing}
+use Rattle.it_report.specs.declared.refusal.Fault.TheVariants.{BadLayout, Expired, TwoPayloads}
+use Rattle.it_report.specs.declared.refusal.Fault.TheVariants.{TooDeep, Threshold, Disagree}
+use Rattle.it_report.specs.declared.refusal.Fault.TheVariants.{InspectionInSublayout, RuleFailed}
+use Rattle.it_report.specs.declared.refusal.Fault.TheVariants.{RecordMissing, BadRecord}
+use Rattle.it_report.specs.declared.refusal.Fault.TheVariants.{NoExpectation, NoProvenance}
 use Rattle.it_report.specs.declared.refusal.Refusal.{Refusal}
 use Rattle.it_report.specs.declared.verdict.Verdict.{Verdict}
 use Rattle.it_report.specs.declared.verdict.Verdict.TheVariants.{Accepted, Refused}
@@ -57,25 +65,31 @@ name_is_line (NoProvenance path best) = Lacks-test 10 (codes "NoProvenance") ref
 -- the first line without its line feed
 abbrev words : Verdict → List ℕ
 words (Accepted steps files) = codes "accepted"
-words (Refused refusal) = codes "refused " ++ (decimal (number_of refusal.fault) ++ codes " " ++ name_of refusal.fault)
+words (Refused refusal) = codes "refused " ++ (decimal (number_of refusal.fault) ++ codes " "
+    ++ name_of refusal.fault)
 
 words-lack : (verdict : Verdict) → Lacks 10 (words verdict)
 words-lack (Accepted steps files) = Lacks-test 10 (codes "accepted") refl
 words-lack (Refused refusal) =
     let number = decimal (number_of refusal.fault) in
-    Lacks-append 10 (codes "refused ") (number ++ codes " " ++ name_of refusal.fault) (Lacks-test 10 (codes "refused ") refl)
+    Lacks-append 10 (codes "refused ") (number ++ codes " " ++ name_of refusal.fault)
+    (Lacks-test 10 (codes "refused ") refl)
     (Lacks-append 10 (number ++ codes " ") (name_of refusal.fault)
-    (Lacks-append 10 number (codes " ") (Lacks-decimal 10 (number_of refusal.fault) (lit< tt) (number_is_small refusal.fault)) (Lacks-test 10 (codes " ") refl))
+    (Lacks-append 10 number (codes " ") (Lacks-decimal 10 (number_of refusal.fault) (lit< tt)
+    (number_is_small refusal.fault)) (Lacks-test 10 (codes " ") refl))
     (name_is_line refusal.fault))
 
 -- a report is these words, a line feed and the other lines
 report-is : (verdict : Verdict) → report_of verdict ≡ words verdict ++ 10 ∷ further_lines verdict
 report-is (Accepted steps files) = refl
-report-is (Refused refusal) = append_assoc (words (Refused refusal)) (codes "\n") (further_lines (Refused refusal))
+report-is (Refused refusal) = append_assoc (words (Refused refusal)) (codes "\n")
+    (further_lines (Refused refusal))
 
 -- equal reports have equal words and equal other lines
-parts_same : (a b : Verdict) → report_of a ≡ report_of b → (words a ≡ words b) × (further_lines a ≡ further_lines b)
-parts_same a b same = cut 10 (words a) (words b) (further_lines a) (further_lines b) (words-lack a) (words-lack b) (sym (report-is a) ∙ same ∙ report-is b)
+parts_same : (a b : Verdict) → report_of a ≡ report_of b → (words a ≡ words b)
+    × (further_lines a ≡ further_lines b)
+parts_same a b same = cut 10 (words a) (words b) (further_lines a) (further_lines b) (words-lack a)
+    (words-lack b) (sym (report-is a) ∙ same ∙ report-is b)
 
 same_words : (a b : Verdict) → report_of a ≡ report_of b → words a ≡ words b
 same_words a b same = (parts_same a b same).0
@@ -88,26 +102,33 @@ first-is (Accepted steps files) = refl
 first-is (Refused refusal) = refl
 
 pub first_lines_tell : FirstLinesTell
-first_lines_tell a b differ same = differ (first-is a ∙ ap (λ text. text ++ codes "\n") (same_words a b same) ∙ sym (first-is b))
+first_lines_tell a b differ same =
+    differ (first-is a ∙ ap (λ text. text ++ codes "\n") (same_words a b same) ∙ sym (first-is b))
 
 -- the first letter is an a
 abbrev begins_accepted : List ℕ → Bool
 begins_accepted text = get_or text 0 0 == 97
 
 -- the report of what is accepted is none of what is refused
-pub accepts_or_refuses : (steps : List (List ℕ × ℕ)) (files : List (List ℕ)) (refusal : Refusal) → ¬ (report_of (Accepted steps files) ≡ report_of (Refused refusal))
+pub accepts_or_refuses : (steps : List (List ℕ × ℕ)) (files : List (List ℕ)) (refusal : Refusal)
+    → ¬ (report_of (Accepted steps files) ≡ report_of (Refused refusal))
 accepts_or_refuses steps files refusal same =
-    let apart : true ≡ false = ap begins_accepted (same_words (Accepted steps files) (Refused refusal) same) in cc
+    let apart : true ≡ false =
+    ap begins_accepted (same_words (Accepted steps files) (Refused refusal) same) in cc
 
 -- the number of a refusal's fault
-pub same_number : (a b : Refusal) → report_of (Refused a) ≡ report_of (Refused b) → number_of a.fault ≡ number_of b.fault
+pub same_number : (a b : Refusal) → report_of (Refused a) ≡ report_of (Refused b)
+    → number_of a.fault ≡ number_of b.fault
 same_number a b same =
     let number = number_of a.fault in
     let other = number_of b.fault in
     let small = number_is_small a.fault in
     let other_small = number_is_small b.fault in
     let words_same = same_words (Refused a) (Refused b) same in
-    let after_word : decimal number ++ codes " " ++ name_of a.fault ≡ decimal other ++ codes " " ++ name_of b.fault = cc in
-    let parts = cut 32 (decimal number) (decimal other) (name_of a.fault) (name_of b.fault) (Lacks-decimal 32 number (lit< tt) small) (Lacks-decimal 32 other (lit< tt) other_small)
-    (sym (append_assoc (decimal number) (codes " ") (name_of a.fault)) ∙ after_word ∙ append_assoc (decimal other) (codes " ") (name_of b.fault)) in
+    let after_word : decimal number ++ codes " " ++ name_of a.fault ≡ decimal other ++ codes " "
+    ++ name_of b.fault = cc in
+    let parts = cut 32 (decimal number) (decimal other) (name_of a.fault) (name_of b.fault)
+    (Lacks-decimal 32 number (lit< tt) small) (Lacks-decimal 32 other (lit< tt) other_small)
+    (sym (append_assoc (decimal number) (codes " ") (name_of a.fault)) ∙ after_word
+    ∙ append_assoc (decimal other) (codes " ") (name_of b.fault)) in
     decimal_injective number other small other_small parts.0

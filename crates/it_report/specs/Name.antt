@@ -1,5 +1,6 @@
 -- How a report writes a name, an id or a path (this profile's choice).
-use Rattle.std.specs.Prelude.{ℕ, ◌+◌, ◌-◌, ◌/◌, ◌%◌, List, [], ◌∷◌, ◌++◌, Bool, ◌&&◌, not, ◌==◌, nat_le, nat_lt, if◌then◌else◌, codes}
+use Rattle.std.specs.Prelude.{ℕ, ◌+◌, ◌-◌, ◌/◌, ◌%◌, List, [], ◌∷◌, ◌++◌, Bool, ◌&&◌, not, ◌==◌}
+use Rattle.std.specs.Prelude.{nat_le, nat_lt, if◌then◌else◌, codes}
 use Rattle.std.specs.List.{flat_map}
 
 -- a byte that stands for itself: a character of ASCII that is seen, but no backslash
@@ -12,7 +13,9 @@ digit_form n = if nat_lt n 10 then 48 + n else 97 + (n - 10)
 
 -- a byte as itself, or as \x and two digits
 abbrev pub byte_form : ℕ → List ℕ
-byte_form byte = if is_plain byte then byte ∷ [] else codes "\\x" ++ digit_form (byte / 16) ∷ digit_form (byte % 16) ∷ []
+byte_form byte =
+    if is_plain byte then byte ∷ [] else codes "\\x" ++ digit_form (byte / 16)
+    ∷ digit_form (byte % 16) ∷ []
 
 -- a name byte by byte, an empty one as \e
 unfoldable pub name_form : List ℕ → List ℕ

@@ -2,17 +2,31 @@
 use Rattle.std.specs.Prelude.{ℕ, List, [], ◌∷◌, ◌++◌, Option, Some, None, codes, decimal}
 use Rattle.std.specs.List.{flat_map}
 use Rattle.it_chain.specs.declared.refusal.RuleItem.{RuleItem}
-use Rattle.it_chain.specs.declared.refusal.RuleItem.TheVariants.{Step as of_step, Inspection, Deliver as of_delivery}
+use Rattle.it_chain.specs.declared.refusal.RuleItem.TheVariants.{Step as of_step, Inspection}
+use Rattle.it_chain.specs.declared.refusal.RuleItem.TheVariants.{Deliver as of_delivery}
 use Rattle.it_docs.specs.declared.layout_fault.LayoutPart.{LayoutPart}
-use Rattle.it_docs.specs.declared.layout_fault.LayoutPart.TheVariants.{Json as layout_json, WrongType, Expires, Keys, Steps, Step as step_at, Inspects, Inspect, DuplicateName}
+use Rattle.it_docs.specs.declared.layout_fault.LayoutPart.TheVariants.{Json as layout_json}
+use Rattle.it_docs.specs.declared.layout_fault.LayoutPart.TheVariants.{WrongType, Expires, Keys}
+use Rattle.it_docs.specs.declared.layout_fault.LayoutPart.TheVariants.{Steps, Step as step_at}
+use Rattle.it_docs.specs.declared.layout_fault.LayoutPart.TheVariants.{Inspects, Inspect}
+use Rattle.it_docs.specs.declared.layout_fault.LayoutPart.TheVariants.{DuplicateName}
 use Rattle.it_docs.specs.declared.policy_fault.PolicyPart.{PolicyPart}
-use Rattle.it_docs.specs.declared.policy_fault.PolicyPart.TheVariants.{Json as policy_json, Owners, Deliver, Expectations, Expectation}
+use Rattle.it_docs.specs.declared.policy_fault.PolicyPart.TheVariants.{Json as policy_json, Owners}
+use Rattle.it_docs.specs.declared.policy_fault.PolicyPart.TheVariants.{Deliver, Expectations}
+use Rattle.it_docs.specs.declared.policy_fault.PolicyPart.TheVariants.{Expectation}
 use Rattle.it_docs.specs.declared.rule.Side.{Side}
 use Rattle.it_docs.specs.declared.rule.Side.TheVariants.{Materials, Products}
 use Rattle.it_report.specs.Fault.{name_of, number_of}
 use Rattle.it_report.specs.Name.{inner_form, name_form}
 use Rattle.it_report.specs.declared.refusal.Fault.{Fault}
-use Rattle.it_report.specs.declared.refusal.Fault.TheVariants.{BadPolicy, BadSums, BadMoment, NoFiles, BadEnvelope, WrongPayloadType, OwnerMissing, BadLayout, Expired, TwoPayloads, TooDeep, Threshold, Disagree, InspectionInSublayout, RuleFailed, RecordMissing, BadRecord, NoExpectation, NoProvenance}
+use Rattle.it_report.specs.declared.refusal.Fault.TheVariants.{BadPolicy, BadSums, BadMoment}
+use Rattle.it_report.specs.declared.refusal.Fault.TheVariants.{NoFiles, BadEnvelope}
+use Rattle.it_report.specs.declared.refusal.Fault.TheVariants.{WrongPayloadType, OwnerMissing}
+use Rattle.it_report.specs.declared.refusal.Fault.TheVariants.{BadLayout, Expired, TwoPayloads}
+use Rattle.it_report.specs.declared.refusal.Fault.TheVariants.{TooDeep, Threshold, Disagree}
+use Rattle.it_report.specs.declared.refusal.Fault.TheVariants.{InspectionInSublayout, RuleFailed}
+use Rattle.it_report.specs.declared.refusal.Fault.TheVariants.{RecordMissing, BadRecord}
+use Rattle.it_report.specs.declared.refusal.Fault.TheVariants.{NoExpectation, NoProvenance}
 use Rattle.it_report.specs.declared.verdict.Verdict.{Verdict}
 use Rattle.it_report.specs.declared.verdict.Verdict.TheVariants.{Accepted, Refused}
 
@@ -35,7 +49,8 @@ pair_form pair = inner_form pair.0 ++ codes "/" ++ inner_form pair.1
 -- the sublayouts from the outermost down, parted by /, and none as -
 abbrev pub place_form : List (List ℕ × List ℕ) → List ℕ
 place_form [] = codes "-"
-place_form (pair ∷ pairs) = pair_form pair ++ flat_map (λ further. codes "/" ++ pair_form further) pairs
+place_form (pair ∷ pairs) =
+    pair_form pair ++ flat_map (λ further. codes "/" ++ pair_form further) pairs
 
 abbrev pub policy_part_form : PolicyPart → List ℕ
 policy_part_form policy_json = codes "json"
@@ -80,13 +95,18 @@ fault_lines WrongPayloadType = []
 fault_lines (OwnerMissing id) = line (codes "key") (name_form id)
 fault_lines (BadLayout part) = line (codes "part") (layout_part_form part)
 fault_lines Expired = []
-fault_lines (TwoPayloads step id) = line (codes "step") (name_form step) ++ line (codes "key") (name_form id)
+fault_lines (TwoPayloads step id) =
+    line (codes "step") (name_form step) ++ line (codes "key") (name_form id)
 fault_lines TooDeep = []
-fault_lines (Threshold step found needed) = line (codes "step") (name_form step) ++ line (codes "found") (decimal found) ++ line (codes "needed") (decimal needed)
-fault_lines (Disagree step id) = line (codes "step") (name_form step) ++ line (codes "key") (name_form id)
+fault_lines (Threshold step found needed) =
+    line (codes "step") (name_form step) ++ line (codes "found") (decimal found)
+    ++ line (codes "needed") (decimal needed)
+fault_lines (Disagree step id) =
+    line (codes "step") (name_form step) ++ line (codes "key") (name_form id)
 fault_lines InspectionInSublayout = []
 fault_lines (RuleFailed item side index path) =
-    line (codes "item") (item_form item) ++ line (codes "side") (side_form side) ++ line (codes "rule") (decimal index) ++ line (codes "path") (name_form path)
+    line (codes "item") (item_form item) ++ line (codes "side") (side_form side)
+    ++ line (codes "rule") (decimal index) ++ line (codes "path") (name_form path)
 fault_lines (RecordMissing name) = line (codes "name") (name_form name)
 fault_lines (BadRecord name) = line (codes "name") (name_form name)
 fault_lines (NoExpectation path) = line (codes "path") (name_form path)
@@ -95,12 +115,14 @@ fault_lines (NoProvenance path best) = line (codes "path") (name_form path) ++ b
 -- the first line: accepted, or refused with the number and the name of the fault
 abbrev pub first_line : Verdict → List ℕ
 first_line (Accepted steps files) = codes "accepted\n"
-first_line (Refused refusal) = line (codes "refused") (decimal (number_of refusal.fault) ++ codes " " ++ name_of refusal.fault)
+first_line (Refused refusal) =
+    line (codes "refused") (decimal (number_of refusal.fault) ++ codes " " ++ name_of refusal.fault)
 
 -- the other lines: what was accepted, or where the refusal comes from and what is told of its fault
 abbrev pub further_lines : Verdict → List ℕ
 further_lines (Accepted steps files) = flat_map step_line steps ++ flat_map file_line files
-further_lines (Refused refusal) = line (codes "at") (place_form refusal.at) ++ fault_lines refusal.fault
+further_lines (Refused refusal) =
+    line (codes "at") (place_form refusal.at) ++ fault_lines refusal.fault
 
 -- the report of a verdict
 abbrev pub report_of : Verdict → List ℕ

@@ -7,7 +7,8 @@ use Rattle.it_docs.specs.declared.policy_fault.PolicyPart.TheVariants.{Expectati
 use Rattle.it_report.specs.Name.{name_form}
 use Rattle.it_report.specs.Report.{first_line, report_of}
 use Rattle.it_report.specs.declared.refusal.Fault.{Fault}
-use Rattle.it_report.specs.declared.refusal.Fault.TheVariants.{BadPolicy, BadSums, BadLayout, Threshold, RuleFailed, NoProvenance}
+use Rattle.it_report.specs.declared.refusal.Fault.TheVariants.{BadPolicy, BadSums, BadLayout}
+use Rattle.it_report.specs.declared.refusal.Fault.TheVariants.{Threshold, RuleFailed, NoProvenance}
 use Rattle.it_report.specs.declared.verdict.Verdict.{Verdict}
 use Rattle.it_report.specs.declared.verdict.Verdict.TheVariants.{Accepted, Refused}
 
@@ -49,7 +50,7 @@ ReportTells = (a b : Verdict) → NumbersFit a → NumbersFit b → report_of a 
 abbrev pub FormsTell : Type 0
 FormsTell = (a b : List ℕ) → name_form a ≡ name_form b → a ≡ b
 
--- a name that is written is one word of one line: it has no space, no line feed, and nothing else that
--- comes before 0x21
+-- a name that is written is one word of one line: it has no space, no line feed, and nothing else
+-- that comes before 0x21
 abbrev pub FormsAreWords : Type 0
 FormsAreWords = (name : List ℕ) (byte : ℕ) → byte ≤ 0x20 → ¬ Contains (name_form name) byte

@@ -1,5 +1,5 @@
-//! Laws about reports: functions that do nothing, and whose contracts say what is true of every verdict
-//! and every name.
+//! Laws about reports: functions that do nothing, and whose contracts say what is true of every
+//! verdict and every name.
 ghost use Rattle.it_report.specs.ReportLaws.{FirstLinesTell, FormsAreWords, FormsTell, ReportTells};
 
 /// Where the first lines of two verdicts differ, their reports do.
@@ -17,8 +17,8 @@ pub fn forms_tell()
     ensures { FormsTell }
 {}
 
-/// A name that is written has no space, no line feed and no other byte up to 0x20, so it stays one word
-/// of its line.
+/// A name that is written has no space, no line feed and no other byte up to 0x20, so it stays one
+/// word of its line.
 pub fn forms_are_words()
     ensures { FormsAreWords }
 {}

@@ -2,8 +2,11 @@
 //! their faults.
 #![tactic(auto)]
 
+mod fault_lines;
 pub mod laws;
+mod lines;
 pub mod name;
+mod place;
 pub mod refusal;
 mod reporting;
 pub mod verdict;

@@ -83,9 +83,9 @@ pub enum Fault {
 /// Why a delivery is refused, and where.
 #[derive(Drop)]
 pub struct Refusal {
-    /// The sublayouts down to the layout of which the fault speaks, the outermost first: each by the
-    /// name of its step and the key id that signed it. Empty for the outermost layout, and for a
-    /// fault that speaks of no layout.
+    /// The sublayouts down to the layout of which the fault speaks, the outermost first: each by
+    /// the name of its step and the key id that signed it. Empty for the outermost layout, and for
+    /// a fault that speaks of no layout.
     pub at: Sequence<(Text, Text)>,
     /// What is wrong.
     pub fault: Fault,
@@ -148,8 +148,8 @@ impl Fault {
 }
 
 impl Refusal {
-    /// The number of the fault: the first of the two words of a report that say what is wrong. Takes
-    /// no memory.
+    /// The number of the fault: the first of the two words of a report that say what is wrong.
+    /// Takes no memory.
     pub fn number(&self) -> u8
         ensures { result ≡ number_of self.now.fault }
     {

@@ -8,8 +8,8 @@ use it_base::text::Text;
 pub enum Verdict {
     /// Everything that was asked of the delivery holds.
     Accepted {
-        /// The steps of the outermost layout, in its order: the name of each, and how many different
-        /// keys signed a body that counts for it.
+        /// The steps of the outermost layout, in its order: the name of each, and how many
+        /// different keys signed a body that counts for it.
         steps: Sequence<(Text, u64)>,
         /// The paths of the delivered files, in the order of their bytes.
         files: Sequence<Text>,

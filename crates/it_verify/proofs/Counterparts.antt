@@ -1,6 +1,7 @@
--- What other inputs read as, and what stands at their places, where all is the same but the links, the
--- provenance and the signatures of the layout.
-use Rattle.std.proofs.Common.{◌≡◌, ◌↔◌, ℕ, List, Contains, Some, inl, inr, refl, sym, ap, subst, ◌∙◌, ⊎_elim}
+-- What other inputs read as, and what stands at their places, where all is the same but the links,
+-- the provenance and the signatures of the layout.
+use Rattle.std.proofs.Common.{◌≡◌, ◌↔◌, ℕ, List, Contains, Some, inl, inr, refl, sym, ap, subst}
+use Rattle.std.proofs.Common.{◌∙◌, ⊎_elim}
 use Rattle.std.specs.Prelude.{⊤}
 use Rattle.std.specs.FinMap.{empty, entries, get}
 use Rattle.it_base.proofs.Firsts.{first_alike}
@@ -19,13 +20,17 @@ use Rattle.it_docs.specs.declared.link.Link.{Link}
 use Rattle.it_docs.specs.declared.policy.Policy.{Policy}
 use Rattle.it_docs.specs.declared.step.Inspection.{Inspection}
 use Rattle.it_chain.specs.Alike.{Comparing, any_two}
-use Rattle.it_chain.specs.Counted.{Setting}
+use Rattle.it_chain.specs.CountedBodies.{Setting}
 use Rattle.it_chain.proofs.Documents.{envelope_same}
 use Rattle.it_chain.proofs.Entries.{entry_known}
-use Rattle.it_verify.specs.Alike.{Compare, SameSigned}
+use Rattle.it_verify.specs.InputsAlike.{Compare, SameSigned}
 use Rattle.it_verify.specs.Documents.{Documents, ReadAs}
-use Rattle.it_verify.specs.First.{Place, at_policy, at_sums, at_moment, at_files, at_envelope, at_payload_type, at_owners, at_layout, at_links, at_records, at_inspections, at_deliver, at_provenance, OwnerLacks, RecordFails, Stands}
-use Rattle.it_verify.specs.Made.{HasRecorded}
+use Rattle.it_verify.specs.Inspections.{RecordFails}
+use Rattle.it_verify.specs.Owners.{OwnerLacks}
+use Rattle.it_verify.specs.RefusedFor.{Stage, at_policy, at_sums, at_moment, at_files, at_envelope}
+use Rattle.it_verify.specs.RefusedFor.{at_payload_type, at_owners, at_layout, at_links, at_records}
+use Rattle.it_verify.specs.RefusedFor.{at_inspections, at_deliver, at_provenance, FailsAt}
+use Rattle.it_verify.specs.Inspections.{HasRecorded}
 use Rattle.it_verify.specs.declared.inputs.Inputs.{Inputs}
 use Rattle.it_report.specs.declared.refusal.Refusal.{Refusal}
 
@@ -33,7 +38,8 @@ use Rattle.it_report.specs.declared.refusal.Refusal.{Refusal}
 abbrev pub Share : Panel → Inputs → Inputs → Type 0
 Share = Compare (λ setting depth. any_two) (λ here there. ⊤)
 
-pub share_of : (Bundles : Setting → ℕ → Comparing) (Compares : Type 0 → Type 0 → Type 0) (panel : Panel) (a b : Inputs) → Compare Bundles Compares panel a b → Share panel a b
+pub share_of : (Bundles : Setting → ℕ → Comparing) (Compares : Type 0 → Type 0 → Type 0)
+    (panel : Panel) (a b : Inputs) → Compare Bundles Compares panel a b → Share panel a b
 share_of Bundles Compares panel a b h = record {
   policy = h.policy;
   sums = h.sums;
@@ -45,7 +51,8 @@ share_of Bundles Compares panel a b h = record {
   provenance = λ documents id payload object read key. tt;
 }
 
-signed_back : (panel : Panel) (a b : Inputs) → a.policy ≡ b.policy → SameSigned panel a b → SameSigned panel b a
+signed_back : (panel : Panel) (a b : Inputs) → a.policy ≡ b.policy → SameSigned panel a b
+    → SameSigned panel b a
 signed_back panel a b policy s = record {
   envelope = s.another;
   another = s.envelope;
@@ -53,7 +60,9 @@ signed_back panel a b policy s = record {
   second = s.first;
   payload_type = sym s.payload_type;
   payload = sym s.payload;
-  owners = λ p id object is known. let signs = s.owners p id object (subst (λ bytes. PolicyOf bytes p) (sym policy) is) known in (signs.1, signs.0);
+  owners = λ p id object is known. let signs =
+      s.owners p id object (subst (λ bytes. PolicyOf bytes p) (sym policy) is) known in
+      (signs.1, signs.0);
 }
 
 pub share_back : (panel : Panel) (a b : Inputs) → Share panel a b → Share panel b a
@@ -69,15 +78,19 @@ share_back panel a b h = record {
 }
 
 -- ---- the documents
--- an envelope that the other layout reads as: of the same type and payload, which the same owners signed
+-- an envelope that the other layout reads as: of the same type and payload, which the same owners
+-- signed
 record Counterpart (panel : Panel) (a b : Inputs) (envelope : Envelope) : Type 0 where
   other : Envelope
   reads : EnvelopeOf b.layout other
   payload_type : envelope.payload_type ≡ other.payload_type
   payload : envelope.payload ≡ other.payload
-  owners : (policy : Policy) (id : List ℕ) (object : KeyObject) → PolicyOf a.policy policy → get policy.owners id ≡ Some object → IsSigner panel envelope object id ↔ IsSigner panel other object id
+  owners : (policy : Policy) (id : List ℕ) (object : KeyObject) → PolicyOf a.policy policy
+      → get policy.owners id ≡ Some object → IsSigner panel envelope object id
+      ↔ IsSigner panel other object id
 
-same_counterpart : (panel : Panel) (a b : Inputs) (envelope : Envelope) → EnvelopeOf a.layout envelope → a.layout ≡ b.layout → Counterpart panel a b envelope
+same_counterpart : (panel : Panel) (a b : Inputs) (envelope : Envelope)
+    → EnvelopeOf a.layout envelope → a.layout ≡ b.layout → Counterpart panel a b envelope
 same_counterpart panel a b envelope is same = record {
   other = envelope;
   reads = subst (λ bytes. EnvelopeOf bytes envelope) same is;
@@ -86,7 +99,8 @@ same_counterpart panel a b envelope is same = record {
   owners = λ policy id object p known. (λ x. x, λ x. x);
 }
 
-signed_counterpart : (panel : Panel) (a b : Inputs) (envelope : Envelope) → EnvelopeOf a.layout envelope → SameSigned panel a b → Counterpart panel a b envelope
+signed_counterpart : (panel : Panel) (a b : Inputs) (envelope : Envelope)
+    → EnvelopeOf a.layout envelope → SameSigned panel a b → Counterpart panel a b envelope
 signed_counterpart panel a b envelope is s =
     let same : s.envelope ≡ envelope = envelope_same a.layout s.envelope envelope s.first is in
     record {
@@ -94,7 +108,8 @@ signed_counterpart panel a b envelope is s =
       reads = s.second;
       payload_type = ap (λ (e : Envelope). e.payload_type) (sym same) ∙ s.payload_type;
       payload = ap (λ (e : Envelope). e.payload) (sym same) ∙ s.payload;
-      owners = λ policy id object p known. subst (λ e. IsSigner panel e object id ↔ IsSigner panel s.another object id) same (s.owners policy id object p known);
+      owners = λ policy id object p known. subst (λ e. IsSigner panel e object id
+          ↔ IsSigner panel s.another object id) same (s.owners policy id object p known);
     }
 
 -- the documents with another envelope of the layout
@@ -105,11 +120,14 @@ with_envelope documents envelope = record documents { envelope = envelope }
 pub record Reread (panel : Panel) (inputs : Inputs) (documents : Documents) : Type 0 where
   pub other : Envelope
   pub read : ReadAs inputs (with_envelope documents other)
-  pub owners : (id : List ℕ) (object : KeyObject) → get documents.policy.owners id ≡ Some object → IsSigner panel documents.envelope object id ↔ IsSigner panel other object id
+  pub owners : (id : List ℕ) (object : KeyObject) → get documents.policy.owners id ≡ Some object
+      → IsSigner panel documents.envelope object id ↔ IsSigner panel other object id
 
 module _ (panel : Panel) (a b : Inputs) (h : Share panel a b) where
-  counterpart : (envelope : Envelope) → EnvelopeOf a.layout envelope → Counterpart panel a b envelope
-  counterpart envelope is = ⊎_elim (same_counterpart panel a b envelope is) (signed_counterpart panel a b envelope is) h.layout
+  counterpart : (envelope : Envelope) → EnvelopeOf a.layout envelope
+      → Counterpart panel a b envelope
+  counterpart envelope is = ⊎_elim (same_counterpart panel a b envelope is)
+      (signed_counterpart panel a b envelope is) h.layout
 
   pub reread : (documents : Documents) → ReadAs a documents → Reread panel b documents
   reread documents read =
@@ -127,19 +145,32 @@ module _ (panel : Panel) (a b : Inputs) (h : Share panel a b) where
         owners = λ id object known. part.owners documents.policy id object read.policy known;
       }
 
-  pub recorded_there : (inspection : Inspection) (link : Link) → HasRecorded a inspection link → HasRecorded b inspection link
-  recorded_there inspection link x = record { bytes = x.bytes; is_first = sym (h.records inspection.name) ∙ x.is_first; reads = x.reads; name_is = x.name_is }
+  pub recorded_there : (inspection : Inspection) (link : Link) → HasRecorded a inspection link
+      → HasRecorded b inspection link
+  recorded_there inspection link x = record {
+    bytes = x.bytes;
+    is_first = sym (h.records inspection.name) ∙ x.is_first;
+    reads =
+        x.reads;
+    name_is = x.name_is;
+  }
 
 -- ---- the places that speak of neither links nor provenance
 module _ (panel : Panel) (a b : Inputs) (h : Share panel a b) where
-  record_fails_there : (inspection : Inspection) (refusal : Refusal) → RecordFails a inspection refusal → RecordFails b inspection refusal
+  record_fails_there : (inspection : Inspection) (refusal : Refusal)
+      → RecordFails a inspection refusal → RecordFails b inspection refusal
   record_fails_there inspection refusal =
       ⊎_elim (λ x. inl (sym (h.records inspection.name) ∙ x.0, x.1))
-      (λ x. inr (λ none. x.0 (h.records inspection.name ∙ none), λ link y. x.1 link (recorded_there panel b a (share_back panel a b h) inspection link y), x.2))
+      (λ x. inr (
+        λ none. x.0 (h.records inspection.name ∙ none),
+        λ link y. x.1 link (recorded_there panel b a (share_back panel a b h) inspection link y),
+        x.2,
+      ))
 
 -- what stands at a place of inputs does so in others
-abbrev pub Carried : Panel → Inputs → Inputs → Place → Type 0
-Carried panel a b place = (refusal : Refusal) → Stands panel a place refusal → Stands panel b place refusal
+abbrev pub Carried : Panel → Inputs → Inputs → Stage → Type 0
+Carried panel a b place = (refusal : Refusal) → FailsAt panel a place refusal
+    → FailsAt panel b place refusal
 
 module _ (panel : Panel) (a b : Inputs) (h : Share panel a b) where
   back : Share panel b a
@@ -148,12 +179,14 @@ module _ (panel : Panel) (a b : Inputs) (h : Share panel a b) where
   owners_there : Carried panel a b at_owners
   owners_there refusal x =
       let part = counterpart panel a b h x.1 x.3 in
-      let sign = λ (owner : List ℕ × KeyObject) (c : Contains (entries x.0.owners) owner). part.owners x.0 owner.0 owner.1 x.2 (entry_known x.0.owners owner c) in (
+      let sign = λ (owner : List ℕ × KeyObject) (c : Contains (entries x.0.owners) owner).
+      part.owners x.0 owner.0 owner.1 x.2 (entry_known x.0.owners owner c) in (
         x.0,
         part.other,
         subst (λ bytes. PolicyOf bytes x.0) h.policy x.2,
         part.reads,
-        first_alike (OwnerLacks panel x.1) (OwnerLacks panel part.other) (entries x.0.owners) (λ owner c r lacks. (λ signs. lacks.0 ((sign owner c).1 signs), lacks.1))
+        first_alike (OwnerLacks panel x.1) (OwnerLacks panel part.other) (entries x.0.owners)
+            (λ owner c r lacks. (λ signs. lacks.0 ((sign owner c).1 signs), lacks.1))
             (λ owner c r lacks. (λ signs. lacks.0 ((sign owner c).0 signs), lacks.1)) refusal x.4,
       )
 
@@ -162,7 +195,9 @@ module _ (panel : Panel) (a b : Inputs) (h : Share panel a b) where
       let again = reread panel a b h x.0 x.1 in (
         with_envelope x.0 again.other,
         again.read,
-        first_alike (RecordFails a) (RecordFails b) x.0.layout.inspections (λ inspection c. record_fails_there panel a b h inspection) (λ inspection c. record_fails_there panel b a back inspection) refusal x.2,
+        first_alike (RecordFails a) (RecordFails b) x.0.layout.inspections
+            (λ inspection c. record_fails_there panel a b h inspection)
+            (λ inspection c. record_fails_there panel b a back inspection) refusal x.2,
       )
 
   layout_part_there : Carried panel a b at_layout
@@ -176,17 +211,42 @@ module _ (panel : Panel) (a b : Inputs) (h : Share panel a b) where
       (part.other, part.reads, λ same. x.2 (part.payload_type ∙ same), x.3)
 
   no_envelope_there : Carried panel a b at_envelope
-  no_envelope_there refusal x = (λ envelope is. let part = counterpart panel b a back envelope is in x.0 part.other part.reads, x.1)
+  no_envelope_there refusal x = (
+    λ envelope is. let part = counterpart panel b a back envelope is in
+        x.0 part.other part.reads,
+    x.1,
+  )
 
-  -- what is so of each place of which that is so, and of the places that speak of links or provenance
-  module _ (F : Place → Type 0) (carried : (place : Place) → Carried panel a b place → F place) where
-    pub at_each : F at_links → F at_inspections → F at_deliver → F at_provenance → (place : Place) → F place
-    at_each links inspections deliver provenance at_policy = carried at_policy (λ refusal x. (x.0, subst (λ bytes. PolicyPartOf bytes x.0) h.policy x.1, x.2))
-    at_each links inspections deliver provenance at_sums = carried at_sums (λ refusal x. (x.0, subst (λ bytes. IsFirstBadLine bytes x.0) h.sums x.1, x.2))
-    at_each links inspections deliver provenance at_moment = carried at_moment (λ refusal x. (λ moment is. x.0 moment (subst (λ text. MomentOf text moment) (sym h.moment) is), x.1))
-    at_each links inspections deliver provenance at_files = carried at_files (λ refusal x. (subst (λ bytes. SumsOf bytes empty) h.sums x.0, x.1))
+  -- what is so of each place of which that is so, and of the places that speak of links or
+  -- provenance
+  module _ (F : Stage → Type 0) (carried : (place : Stage) → Carried panel a b place
+      → F place) where
+    pub at_each : F at_links → F at_inspections → F at_deliver → F at_provenance → (place : Stage)
+        → F place
+    at_each links inspections deliver provenance at_policy =
+        carried at_policy (λ refusal x. (
+          x.0,
+          subst (λ bytes. PolicyPartOf bytes x.0) h.policy x.1,
+          x.2,
+        ))
+    at_each links inspections deliver provenance at_sums =
+        carried at_sums (λ refusal x. (
+          x.0,
+          subst (λ bytes. IsFirstBadLine bytes x.0) h.sums x.1,
+          x.2,
+        ))
+    at_each links inspections deliver provenance at_moment =
+        carried at_moment
+        (λ refusal x. (
+          λ moment is. x.0 moment
+              (subst (λ text. MomentOf text moment) (sym h.moment) is),
+          x.1,
+        ))
+    at_each links inspections deliver provenance at_files =
+        carried at_files (λ refusal x. (subst (λ bytes. SumsOf bytes empty) h.sums x.0, x.1))
     at_each links inspections deliver provenance at_envelope = carried at_envelope no_envelope_there
-    at_each links inspections deliver provenance at_payload_type = carried at_payload_type type_there
+    at_each links inspections deliver provenance at_payload_type =
+        carried at_payload_type type_there
     at_each links inspections deliver provenance at_owners = carried at_owners owners_there
     at_each links inspections deliver provenance at_layout = carried at_layout layout_part_there
     at_each links inspections deliver provenance at_links = links

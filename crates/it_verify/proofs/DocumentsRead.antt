@@ -1,5 +1,5 @@
--- Where the documents read, some file is delivered and the owners signed, nothing stands at the places
--- that speak of the documents alone.
+-- Where the documents read, some file is delivered and the owners signed, nothing stands at the
+-- places that speak of the documents alone.
 use Rattle.std.proofs.Common.{◌≡◌, ◌≢◌, ℕ, ℤ, List, [], ◌∷◌, Contains, sym, subst}
 use Rattle.std.specs.FinMap.{empty, entries}
 use Rattle.it_base.proofs.Members.{in_head, in_tail}
@@ -24,19 +24,28 @@ use Rattle.it_docs.proofs.Same.{policy_same}
 use Rattle.it_chain.proofs.Documents.{envelope_same}
 use Rattle.it_chain.proofs.Entries.{entry_known}
 use Rattle.it_verify.specs.Documents.{Documents}
-use Rattle.it_verify.specs.First.{Place, at_policy, at_sums, at_moment, at_files, at_envelope, at_payload_type, at_owners, at_layout, OwnerLacks, Stands}
-use Rattle.it_verify.specs.Walk.{DocumentsHold, OwnersSign, document_places}
+use Rattle.it_verify.specs.Owners.{OwnerLacks}
+use Rattle.it_verify.specs.RefusedFor.{Stage, at_policy, at_sums, at_moment, at_files, at_envelope}
+use Rattle.it_verify.specs.RefusedFor.{at_payload_type, at_owners, at_layout, FailsAt}
+use Rattle.it_verify.specs.Owners.{OwnersSign}
+use Rattle.it_verify.specs.inside.DocumentsHold.{DocumentsHold, document_stages}
 use Rattle.it_verify.specs.declared.inputs.Inputs.{Inputs}
 use Rattle.it_report.specs.declared.refusal.Refusal.{Refusal}
 
-none_lacks : (panel : Panel) (envelope : Envelope) (owners : List (List ℕ × KeyObject)) → ((owner : List ℕ × KeyObject) → Contains owners owner → IsSigner panel envelope owner.1 owner.0) → NoneAt (OwnerLacks panel envelope) owners
+none_lacks : (panel : Panel) (envelope : Envelope) (owners : List (List ℕ × KeyObject))
+    → ((owner : List ℕ × KeyObject) → Contains owners owner
+    → IsSigner panel envelope owner.1 owner.0) → NoneAt (OwnerLacks panel envelope) owners
 none_lacks panel envelope [] sign = tt
-none_lacks panel envelope (o ∷ os) sign = (λ refusal x. x.0 (sign o (in_head o os)), none_lacks panel envelope os (λ owner c. sign owner (in_tail o os owner c)))
+none_lacks panel envelope (o ∷ os) sign = (
+  λ refusal x. x.0 (sign o (in_head o os)),
+  none_lacks panel envelope os
+      (λ owner c. sign owner (in_tail o os owner c)),
+)
 
 module _ (panel : Panel) (inputs : Inputs) where
   -- nothing stands at a place
-  abbrev pub Clear : Place → Type 0
-  Clear place = (refusal : Refusal) → ¬ Stands panel inputs place refusal
+  abbrev pub Clear : Stage → Type 0
+  Clear place = (refusal : Refusal) → ¬ FailsAt panel inputs place refusal
 
   pub clear_policy : (policy : Policy) → PolicyOf inputs.policy policy → Clear at_policy
   clear_policy policy h refusal x = no_policy inputs.policy x.0 x.1 policy h
@@ -47,7 +56,8 @@ module _ (panel : Panel) (inputs : Inputs) where
   pub clear_moment : (moment : ℤ) → MomentOf inputs.moment moment → Clear at_moment
   clear_moment moment h refusal x = x.0 moment h
 
-  pub clear_files : (delivered : ArtifactMap) → SumsOf inputs.sums delivered → delivered ≢ empty → Clear at_files
+  pub clear_files : (delivered : ArtifactMap) → SumsOf inputs.sums delivered → delivered ≢ empty
+      → Clear at_files
   clear_files delivered h some refusal x = some (SumsOf_same inputs.sums empty delivered x.0 h)
 
   module _ (envelope : Envelope) (is_envelope : EnvelopeOf inputs.layout envelope) where
@@ -58,18 +68,26 @@ module _ (panel : Panel) (inputs : Inputs) where
     clear_envelope refusal x = x.0 envelope is_envelope
 
     pub clear_type : envelope.payload_type ≡ in_toto_type → Clear at_payload_type
-    clear_type same refusal x = x.2 (subst (λ (e : Envelope). e.payload_type ≡ in_toto_type) (same_envelope x.0 x.1) same)
+    clear_type same refusal x =
+        x.2 (subst (λ (e : Envelope). e.payload_type ≡ in_toto_type) (same_envelope x.0 x.1) same)
 
-    pub clear_owners : (policy : Policy) → PolicyOf inputs.policy policy → OwnersSign panel envelope policy.owners → Clear at_owners
+    pub clear_owners : (policy : Policy) → PolicyOf inputs.policy policy
+        → OwnersSign panel envelope policy.owners → Clear at_owners
     clear_owners policy is_policy sign refusal x =
-        none_first (OwnerLacks panel envelope) (entries policy.owners) refusal (none_lacks panel envelope (entries policy.owners) (λ owner c. sign owner.0 owner.1 (entry_known policy.owners owner c)))
-        (subst (λ e. IsFirst (OwnerLacks panel e) (entries policy.owners) refusal) (sym (same_envelope x.1 x.3))
-        (subst (λ (p : Policy). IsFirst (OwnerLacks panel x.1) (entries p.owners) refusal) (policy_same inputs.policy x.0 policy x.2 is_policy) x.4))
+        none_first (OwnerLacks panel envelope) (entries policy.owners) refusal
+        (none_lacks panel envelope (entries policy.owners)
+        (λ owner c. sign owner.0 owner.1 (entry_known policy.owners owner c)))
+        (subst (λ e. IsFirst (OwnerLacks panel e) (entries policy.owners) refusal)
+        (sym (same_envelope x.1 x.3))
+        (subst (λ (p : Policy). IsFirst (OwnerLacks panel x.1) (entries p.owners) refusal)
+        (policy_same inputs.policy x.0 policy x.2 is_policy) x.4))
 
     pub clear_layout : (layout : Layout) → LayoutOf envelope.payload layout → Clear at_layout
-    clear_layout layout h refusal x = no_layout x.0.payload x.1 x.3 layout (subst (λ (e : Envelope). LayoutOf e.payload layout) (same_envelope x.0 x.2) h)
+    clear_layout layout h refusal x = no_layout x.0.payload x.1 x.3 layout
+        (subst (λ (e : Envelope). LayoutOf e.payload layout) (same_envelope x.0 x.2) h)
 
-  pub documents_stand : (documents : Documents) → DocumentsHold panel inputs documents → NoneAt (Stands panel inputs) document_places
+  pub documents_stand : (documents : Documents) → DocumentsHold panel inputs documents
+      → NoneAt (FailsAt panel inputs) document_stages
   documents_stand documents hold =
       let read = hold.read in
       let envelope = documents.envelope in (
@@ -84,7 +102,10 @@ module _ (panel : Panel) (inputs : Inputs) where
                 clear_envelope envelope read.envelope,
                 (
                   clear_type envelope read.envelope read.payload_type,
-                  (clear_owners envelope read.envelope documents.policy read.policy hold.owners, (clear_layout envelope read.envelope documents.layout read.layout, tt)),
+                  (
+                    clear_owners envelope read.envelope documents.policy read.policy hold.owners,
+                    (clear_layout envelope read.envelope documents.layout read.layout, tt),
+                  ),
                 ),
               ),
             ),

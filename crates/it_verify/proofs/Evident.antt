@@ -1,5 +1,7 @@
--- The layout holds of the links, and each inspection has its record, or their places have something.
-use Rattle.std.proofs.Common.{◌≡◌, ◌≢◌, ◌⊎◌, ℕ, List, [], ◌∷◌, All, Option, Some, None, inl, inr, refl, sym, subst, ◌∙◌, ⊎_elim}
+-- The layout holds of the links, and each inspection has its record, or their places have
+-- something.
+use Rattle.std.proofs.Common.{◌≡◌, ◌≢◌, ◌⊎◌, ℕ, List, [], ◌∷◌, All, Option, Some, None, inl, inr}
+use Rattle.std.proofs.Common.{refl, sym, subst, ◌∙◌, ⊎_elim}
 use Rattle.std.specs.List.{AllZip}
 use Rattle.std.specs.Str.{bytes_eq}
 use Rattle.std.proofs.lemmas.List.Elements.{All-head, All-tail}
@@ -17,9 +19,11 @@ use Rattle.it_docs.proofs.Same.{link_same}
 use Rattle.it_chain.specs.Chain.{Chain}
 use Rattle.it_chain.specs.declared.chain.StepResult.{StepResult}
 use Rattle.it_chain.proofs.Deciding.{holds_or_fails}
-use Rattle.it_verify.specs.Documents.{Documents, ReadAs, record_at, setting_of}
-use Rattle.it_verify.specs.First.{at_links, at_records, RecordFails, refusal_of, whole}
-use Rattle.it_verify.specs.Made.{HasRecorded}
+use Rattle.it_verify.specs.Documents.{Documents, ReadAs, setting_of}
+use Rattle.it_verify.specs.Inspections.{record_at, RecordFails}
+use Rattle.it_verify.specs.Refusals.{refusal_of, whole}
+use Rattle.it_verify.specs.RefusedFor.{at_links, at_records}
+use Rattle.it_verify.specs.Inspections.{HasRecorded}
 use Rattle.it_verify.specs.declared.inputs.Inputs.{Inputs}
 use Rattle.it_report.specs.declared.refusal.Fault.TheVariants.{RecordMissing, BadRecord}
 use Rattle.it_report.specs.declared.refusal.Refusal.{Refusal}
@@ -39,17 +43,36 @@ module _ (inputs : Inputs) (inspection : Inspection) where
     some_record e = let none : ◌≡◌ {A = Option (List ℕ)} (Some bytes) None = sym is_first ∙ e in cc
 
     pub reads_it : (link : Link) → HasRecorded inputs inspection link → LinkOf bytes link
-    reads_it link h = subst (λ b. LinkOf b link) (same_Some h.bytes bytes (sym h.is_first ∙ is_first)) h.reads
+    reads_it link h = subst (λ b. LinkOf b link)
+        (same_Some h.bytes bytes (sym h.is_first ∙ is_first)) h.reads
 
     of_link : (found : Option Link) → Finds (LinkOf bytes) found → RecordedOr
-    of_link None h = inl (whole (BadRecord inspection.name), inr (some_record, λ link given. h link (reads_it link given), refl))
-    of_link (Some link) h = elim (settled_by (bytes_eq link.name inspection.name) (bytes_eq-Decides link.name inspection.name)) [
-      | inl same ↦ inr (link, record { bytes = bytes; is_first = is_first; reads = h; name_is = same })
-      | inr other ↦ inl (
-        whole (BadRecord inspection.name),
-        inr (some_record, λ given k. other (subst (λ (l : Link). l.name ≡ inspection.name) (link_same bytes given link (reads_it given k) h) k.name_is), refl),
-      )
-    ]
+    of_link None h = inl (
+      whole (BadRecord inspection.name),
+      inr (some_record, λ link given. h link (reads_it link given), refl),
+    )
+    of_link (Some link) h =
+        elim (settled_by (bytes_eq link.name inspection.name)
+        (bytes_eq-Decides link.name inspection.name)) [
+          | inl same ↦ inr (
+            link,
+            record {
+              bytes = bytes;
+              is_first = is_first;
+              reads = h;
+              name_is = same;
+            },
+          )
+          | inr other ↦ inl (
+            whole (BadRecord inspection.name),
+            inr (
+              some_record,
+              λ given k. other (subst (λ (l : Link). l.name ≡ inspection.name)
+                  (link_same bytes given link (reads_it given k) h) k.name_is),
+              refl,
+            ),
+          )
+        ]
 
   of_record : (found : Option (List ℕ)) → record_at inspection.name inputs ≡ found → RecordedOr
   of_record None e = inl (whole (RecordMissing inspection.name), inl (e, refl))
@@ -62,7 +85,8 @@ module _ (inputs : Inputs) (inspection : Inspection) where
   recorded_apart h refusal =
       ⊎_elim (λ x. absurd (some_record h.1.bytes h.1.is_first x.0)) (λ x. x.1 h.0 h.1)
 
-records_of : (inputs : Inputs) (inspections : List Inspection) → All (Recorded inputs) inspections → (links : List Link) × AllZip (HasRecorded inputs) inspections links
+records_of : (inputs : Inputs) (inspections : List Inspection) → All (Recorded inputs) inspections
+    → (links : List Link) × AllZip (HasRecorded inputs) inspections links
 records_of inputs [] all = ([], tt)
 records_of inputs (i ∷ is) all =
     let first = All-head (Recorded inputs) i is all in
@@ -70,17 +94,22 @@ records_of inputs (i ∷ is) all =
     (first.0 ∷ rest.0, (first.1, rest.1))
 
 -- ---- the places
-module _ (panel : Panel) (inputs : Inputs) (documents : Documents) (read : ReadAs inputs documents) where
-  pub links_or : StandsOr panel inputs at_links ((m : List StepResult) × Chain (setting_of panel documents) inputs.depth documents.layout inputs.links m)
-  links_or = elim (holds_or_fails (setting_of panel documents) inputs.depth documents.layout inputs.links) [
-    | inl holds ↦ inr (holds, clear_links panel inputs documents read holds.0 holds.1)
-    | inr fails ↦ inl (refusal_of fails.0, (documents, fails.0, read, fails.1, refl))
-  ]
+module _ (panel : Panel) (inputs : Inputs) (documents : Documents)
+    (read : ReadAs inputs documents) where
+  pub links_or : StandsOr panel inputs at_links ((m : List StepResult)
+      × Chain (setting_of panel documents) inputs.depth documents.layout inputs.links m)
+  links_or = elim (holds_or_fails (setting_of panel documents) inputs.depth documents.layout
+      inputs.links) [
+        | inl holds ↦ inr (holds, clear_links panel inputs documents read holds.0 holds.1)
+        | inr fails ↦ inl (refusal_of fails.0, (documents, fails.0, read, fails.1, refl))
+      ]
 
-  pub records_or : StandsOr panel inputs at_records ((links : List Link) × AllZip (HasRecorded inputs) documents.layout.inspections links)
-  records_or = elim (first_or_all (RecordFails inputs) (Recorded inputs) (recorded_apart inputs) (recorded_or_fails inputs) documents.layout.inspections) [
-    | inl found ↦ inl (found.0, (documents, read, found.1))
-    | inr goods ↦
-        let records = records_of inputs documents.layout.inspections goods in
-        inr (records, clear_records panel inputs documents read records.0 records.1)
-  ]
+  pub records_or : StandsOr panel inputs at_records ((links : List Link)
+      × AllZip (HasRecorded inputs) documents.layout.inspections links)
+  records_or = elim (first_or_all (RecordFails inputs) (Recorded inputs) (recorded_apart inputs)
+      (recorded_or_fails inputs) documents.layout.inspections) [
+        | inl found ↦ inl (found.0, (documents, read, found.1))
+        | inr goods ↦
+            let records = records_of inputs documents.layout.inspections goods in
+            inr (records, clear_records panel inputs documents read records.0 records.1)
+      ]

@@ -1,5 +1,6 @@
 -- Provenance of delivered files among the envelopes that lines read as.
-use Rattle.std.proofs.Common.{◌≡◌, ℕ, List, [], ◌∷◌, ◌++◌, Contains, Option, Some, inl, inr, ⊎_elim, sym, ap, subst}
+use Rattle.std.proofs.Common.{◌≡◌, ℕ, List, [], ◌∷◌, ◌++◌, Contains, Option, Some, inl, inr, ⊎_elim}
+use Rattle.std.proofs.Common.{sym, ap, subst}
 use Rattle.std.specs.FinMap.{entries, get}
 use Rattle.std.specs.List.{AllByRecursion}
 use Rattle.std.proofs.lemmas.List.Elements.{All-contains, All-from_recursion}
@@ -21,12 +22,12 @@ use Rattle.it_prov.specs.Finding.{IsMissing}
 use Rattle.it_prov.specs.Meets.{Meets}
 use Rattle.it_prov.proofs.Greatest.{greatest_alike}
 use Rattle.it_prov.proofs.OneFit.{fits_one}
-use Rattle.it_verify.specs.Documents.{IsProvenanceLine}
-use Rattle.it_verify.specs.First.{FileFails, whole}
-use Rattle.it_verify.specs.Fewest.{FileTakes}
-use Rattle.it_verify.specs.Gathering.{AreRead, FileAsks, FileLacks, FileProven}
-use Rattle.it_verify.specs.Made.{HasProvenance}
-use Rattle.it_verify.specs.Walk.{RefusedAs}
+use Rattle.it_verify.specs.Provenance.{IsProvenanceLine, FileFails}
+use Rattle.it_verify.specs.Refusals.{whole}
+use Rattle.it_verify.specs.VerificationTakes.{FileTakes}
+use Rattle.it_verify.specs.inside.Provenance.{AreRead, FileAsks, FileLacks, FileProven}
+use Rattle.it_verify.specs.Provenance.{HasProvenance}
+use Rattle.it_verify.specs.inside.Failures.{RefusedAs}
 use Rattle.it_verify.specs.declared.failure.Failure.{Failure}
 use Rattle.it_verify.specs.declared.failure.Failure.TheVariants.{Refused}
 use Rattle.it_verify.specs.declared.inputs.Inputs.{Inputs}
@@ -42,79 +43,129 @@ module _ (panel : Panel) (expectations : List Expectation) (envelopes : List Env
   abbrev Lacks : List ℕ × DigestSet → Refusal → Type 0
   Lacks = FileLacks panel expectations envelopes
 
-  proven_apart : (file : List ℕ × DigestSet) → Proven file → (refusal : Refusal) → ¬ Lacks file refusal
+  proven_apart : (file : List ℕ × DigestSet) → Proven file → (refusal : Refusal)
+      → ¬ Lacks file refusal
   proven_apart file h refusal =
       let found = h.1 in
       let first = found.first in
       ⊎_elim (λ x. x.0 found.expectation found.fits)
-      (λ x. x.1.none_meets first.envelope (Contains-from_place envelopes h.0 first.envelope first.stands)
-      (subst (λ e. Meets panel e file.1 first.envelope) (fits_one expectations file.0 found.expectation x.1.expectation found.fits x.1.fits) first.meets))
+      (λ x. x.1.none_meets first.envelope
+      (Contains-from_place envelopes h.0 first.envelope first.stands)
+      (subst (λ e. Meets panel e file.1 first.envelope)
+      (fits_one expectations file.0 found.expectation x.1.expectation found.fits x.1.fits)
+      first.meets))
 
   -- a refusal that names a file, and the best level of what does not meet its expectation
-  pub none_proven : (file : List ℕ × DigestSet) (path : List ℕ) (best : Option ℕ) (e : Failure) → e ≡ Refused (whole (NoProvenance path best))
-      → (path ≡ file.0) × IsMissing panel expectations file.0 file.1 envelopes best → RefusedAs (Lacks file) e
-  none_proven file path best e is missing = subst (RefusedAs (Lacks file)) (sym is) (inr (best, missing.1, ap (λ named. whole (NoProvenance named best)) missing.0))
+  pub none_proven : (file : List ℕ × DigestSet) (path : List ℕ) (best : Option ℕ) (e : Failure)
+      → e ≡ Refused (whole (NoProvenance path best))
+      → (path ≡ file.0) × IsMissing panel expectations file.0 file.1 envelopes best
+      → RefusedAs (Lacks file) e
+  none_proven file path best e is missing = subst (RefusedAs (Lacks file)) (sym is)
+      (inr (best, missing.1, ap (λ named. whole (NoProvenance named best)) missing.0))
 
-  none_lacks : (files : List (List ℕ × DigestSet)) → AllByRecursion Proven files → NoneAt Lacks files
+  none_lacks : (files : List (List ℕ × DigestSet)) → AllByRecursion Proven files
+      → NoneAt Lacks files
   none_lacks [] h = tt
   none_lacks (f ∷ files) h = (proven_apart f h.0, none_lacks files h.1)
 
-  pub proven_more : (done : List (List ℕ × DigestSet)) (file : List ℕ × DigestSet) → AllByRecursion Proven done → Proven file → AllByRecursion Proven (done ++ file ∷ [])
+  pub proven_more : (done : List (List ℕ × DigestSet)) (file : List ℕ × DigestSet)
+      → AllByRecursion Proven done → Proven file → AllByRecursion Proven (done ++ file ∷ [])
   proven_more [] file h last = (last, tt)
   proven_more (d ∷ done) file h last = (h.0, proven_more done file h.1 last)
 
   -- the first file that lacks provenance
-  pub first_lacks : (files done : List (List ℕ × DigestSet)) (file : List ℕ × DigestSet) (rest : List (List ℕ × DigestSet)) (e : Failure) → files ≡ done ++ file ∷ rest → AllByRecursion Proven done
+  pub first_lacks : (files done : List (List ℕ × DigestSet)) (file : List ℕ × DigestSet)
+      (rest : List (List ℕ × DigestSet)) (e : Failure) → files ≡ done ++ file ∷ rest
+      → AllByRecursion Proven done
       → RefusedAs (Lacks file) e → RefusedAs (IsFirst Lacks files) e
-  first_lacks files done file rest e all proven lacks = subst (λ fs. RefusedAs (IsFirst Lacks fs) e) (sym all) (fails_at Lacks done file rest e (none_lacks done proven) lacks)
+  first_lacks files done file rest e all proven lacks = subst (λ fs. RefusedAs (IsFirst Lacks fs) e)
+      (sym all) (fails_at Lacks done file rest e (none_lacks done proven) lacks)
 
 -- ---- envelopes and lines
 -- a line that reads as an envelope among those that are read
-line_of : (lines : List (List ℕ)) (envelopes : List Envelope) → AreRead lines envelopes → (envelope : Envelope) → Contains envelopes envelope → (line : List ℕ) × Contains lines line × EnvelopeOf line envelope
-line_of [] envelopes are envelope c = absurd (in_none envelope (subst (λ es. Contains es envelope) are c))
+line_of : (lines : List (List ℕ)) (envelopes : List Envelope) → AreRead lines envelopes
+    → (envelope : Envelope) → Contains envelopes envelope → (line : List ℕ) × Contains lines line
+    × EnvelopeOf line envelope
+line_of [] envelopes are envelope c =
+    absurd (in_none envelope (subst (λ es. Contains es envelope) are c))
 line_of (line ∷ lines) envelopes are envelope c =
-    let later : (rest : List Envelope) → AreRead lines rest → Contains rest envelope → (l : List ℕ) × Contains (line ∷ lines) l × EnvelopeOf l envelope =
-    λ rest some d. let found = line_of lines rest some envelope d in (found.0, in_tail line lines found.0 found.1, found.2) in
-    ⊎_elim (λ x. ⊎_elim (λ same. (line, in_head line lines, subst (EnvelopeOf line) same x.2)) (later x.1 x.4) (in_cases x.0 x.1 envelope (subst (λ es. Contains es envelope) x.3 c)))
+    let later : (rest : List Envelope) → AreRead lines rest → Contains rest envelope → (l : List ℕ)
+    × Contains (line ∷ lines) l × EnvelopeOf l envelope =
+    λ rest some d. let found = line_of lines rest some envelope d in
+    (found.0, in_tail line lines found.0 found.1, found.2) in
+    ⊎_elim (λ x. ⊎_elim (λ same. (line, in_head line lines, subst (EnvelopeOf line) same x.2))
+    (later x.1 x.4) (in_cases x.0 x.1 envelope (subst (λ es. Contains es envelope) x.3 c)))
     (λ x. later envelopes x.1 c) are
 
 -- the envelope that a line reads as is among those that are read
-read_of : (lines : List (List ℕ)) (envelopes : List Envelope) → AreRead lines envelopes → (envelope : Envelope) (line : List ℕ) → Contains lines line → EnvelopeOf line envelope → Contains envelopes envelope
+read_of : (lines : List (List ℕ)) (envelopes : List Envelope) → AreRead lines envelopes
+    → (envelope : Envelope) (line : List ℕ) → Contains lines line → EnvelopeOf line envelope
+    → Contains envelopes envelope
 read_of [] envelopes are envelope line c reads = absurd (in_none line c)
 read_of (first ∷ lines) envelopes are envelope line c reads =
-    let later : (rest : List Envelope) → AreRead lines rest → Contains lines line → Contains rest envelope = λ rest some d. read_of lines rest some envelope line d reads in
+    let later : (rest : List Envelope) → AreRead lines rest → Contains lines line
+    → Contains rest envelope = λ rest some d. read_of lines rest some envelope line d reads in
     ⊎_elim (λ x. subst (λ es. Contains es envelope) (sym x.3)
-    (⊎_elim (λ same. subst (Contains (x.0 ∷ x.1)) (envelope_same line x.0 envelope (subst (λ l. EnvelopeOf l x.0) same x.2) reads) (in_head x.0 x.1)) (λ d. in_tail x.0 x.1 envelope (later x.1 x.4 d)) (in_cases first lines line c)))
-    (λ x. ⊎_elim (λ same. absurd (x.0 envelope (subst (λ l. EnvelopeOf l envelope) (sym same) reads))) (later envelopes x.1) (in_cases first lines line c)) are
+    (⊎_elim (λ same. subst (Contains (x.0 ∷ x.1))
+    (envelope_same line x.0 envelope (subst (λ l. EnvelopeOf l x.0) same x.2) reads)
+    (in_head x.0 x.1)) (λ d. in_tail x.0 x.1 envelope (later x.1 x.4 d))
+    (in_cases first lines line c)))
+    (λ x. ⊎_elim (λ same. absurd
+    (x.0 envelope (subst (λ l. EnvelopeOf l envelope) (sym same) reads))) (later envelopes x.1)
+    (in_cases first lines line c)) are
 
-module _ (panel : Panel) (inputs : Inputs) (expectations : List Expectation) (envelopes : List Envelope) (are : AreRead (lines_of inputs.provenance) envelopes) where
+module _ (panel : Panel) (inputs : Inputs) (expectations : List Expectation)
+    (envelopes : List Envelope) (are : AreRead (lines_of inputs.provenance) envelopes) where
   is_line : (envelope : Envelope) → Contains envelopes envelope → IsProvenanceLine inputs envelope
-  is_line envelope c = let found = line_of (lines_of inputs.provenance) envelopes are envelope c in record { line = found.0; stands = found.1; reads = found.2 }
+  is_line envelope c = let found = line_of (lines_of inputs.provenance) envelopes are envelope c in
+      record { line = found.0; stands = found.1; reads = found.2 }
 
-  has_provenance : (file : List ℕ × DigestSet) → FileProven panel expectations envelopes file → HasProvenance panel inputs expectations file.0 file.1
+  has_provenance : (file : List ℕ × DigestSet) → FileProven panel expectations envelopes file
+      → HasProvenance panel inputs expectations file.0 file.1
   has_provenance file h =
       let first = h.1.first in
-      record { expectation = h.1.expectation; envelope = first.envelope; fits = h.1.fits; is_line = is_line first.envelope (Contains-from_place envelopes h.0 first.envelope first.stands); meets = first.meets }
+      record {
+        expectation = h.1.expectation;
+        envelope = first.envelope;
+        fits = h.1.fits;
+        is_line = is_line first.envelope
+            (Contains-from_place envelopes h.0 first.envelope first.stands);
+        meets = first.meets;
+      }
 
   -- a file takes what is asked among the envelopes
-  pub file_takes : (file : List ℕ × DigestSet) (n : ℕ) → FileAsks panel expectations envelopes file n → FileTakes panel inputs expectations file n
+  pub file_takes : (file : List ℕ × DigestSet) (n : ℕ)
+      → FileAsks panel expectations envelopes file n → FileTakes panel inputs expectations file n
   file_takes file n h =
       let at = h.1.asked in
-      record { expectation = h.1.expectation; envelope = at.envelope; fits = h.1.fits; is_line = is_line at.envelope (Contains-from_place envelopes h.0 at.envelope at.stands); asked = at.asked }
+      record {
+        expectation = h.1.expectation;
+        envelope = at.envelope;
+        fits = h.1.fits;
+        is_line = is_line at.envelope (Contains-from_place envelopes h.0 at.envelope at.stands);
+        asked = at.asked;
+      }
 
   -- an envelope is among those that are read just where it is a line
   is_read : (envelope : Envelope) → IsProvenanceLine inputs envelope → Contains envelopes envelope
-  is_read envelope is = read_of (lines_of inputs.provenance) envelopes are envelope is.line is.stands is.reads
+  is_read envelope is = read_of (lines_of inputs.provenance) envelopes are envelope is.line
+      is.stands is.reads
 
   abbrev HasLevel : (Envelope → Type 0) → Expectation → DigestSet → ℕ → Type 0
-  HasLevel P expectation digests level = (envelope : Envelope) × P envelope × MeetsAtLevel panel expectation digests envelope level
+  HasLevel P expectation digests level = (envelope : Envelope) × P envelope
+      × MeetsAtLevel panel expectation digests envelope level
 
-  best_alike : (P Q : Envelope → Type 0) → ((envelope : Envelope) → P envelope → Q envelope) → ((envelope : Envelope) → Q envelope → P envelope)
-      → (expectation : Expectation) (digests : DigestSet) (best : Option ℕ) → IsBest panel expectation digests P best → IsBest panel expectation digests Q best
+  best_alike : (P Q : Envelope → Type 0) → ((envelope : Envelope) → P envelope → Q envelope)
+      → ((envelope : Envelope) → Q envelope → P envelope)
+      → (expectation : Expectation) (digests : DigestSet) (best : Option ℕ)
+      → IsBest panel expectation digests P best → IsBest panel expectation digests Q best
   best_alike P Q to from expectation digests =
-      greatest_alike (HasLevel P expectation digests) (HasLevel Q expectation digests) (λ level h. (h.0, to h.0 h.1, h.2)) (λ level h. (h.0, from h.0 h.1, h.2))
+      greatest_alike (HasLevel P expectation digests) (HasLevel Q expectation digests)
+      (λ level h. (h.0, to h.0 h.1, h.2)) (λ level h. (h.0, from h.0 h.1, h.2))
 
-  lacks_fails : (file : List ℕ × DigestSet) (refusal : Refusal) → FileLacks panel expectations envelopes file refusal → FileFails panel inputs expectations file refusal
+  lacks_fails : (file : List ℕ × DigestSet) (refusal : Refusal)
+      → FileLacks panel expectations envelopes file refusal
+      → FileFails panel inputs expectations file refusal
   lacks_fails file refusal =
       ⊎_elim inl
       (λ x. inr (
@@ -122,11 +173,14 @@ module _ (panel : Panel) (inputs : Inputs) (expectations : List Expectation) (en
         x.0,
         x.1.fits,
         λ envelope is. x.1.none_meets envelope (is_read envelope is),
-        best_alike (Contains envelopes) (IsProvenanceLine inputs) is_line is_read x.1.expectation file.1 x.0 x.1.best_is,
+        best_alike (Contains envelopes) (IsProvenanceLine inputs) is_line is_read x.1.expectation
+            file.1 x.0 x.1.best_is,
         x.2,
       ))
 
-  fails_lacks : (file : List ℕ × DigestSet) (refusal : Refusal) → FileFails panel inputs expectations file refusal → FileLacks panel expectations envelopes file refusal
+  fails_lacks : (file : List ℕ × DigestSet) (refusal : Refusal)
+      → FileFails panel inputs expectations file refusal
+      → FileLacks panel expectations envelopes file refusal
   fails_lacks file refusal =
       ⊎_elim inl
       (λ x. inr (
@@ -135,18 +189,27 @@ module _ (panel : Panel) (inputs : Inputs) (expectations : List Expectation) (en
           expectation = x.0;
           fits = x.2;
           none_meets = λ envelope c. x.3 envelope (is_line envelope c);
-          best_is = best_alike (IsProvenanceLine inputs) (Contains envelopes) is_read is_line x.0 file.1 x.1 x.4;
+          best_is = best_alike (IsProvenanceLine inputs) (Contains envelopes) is_read is_line x.0
+              file.1 x.1 x.4;
         },
         x.5,
       ))
 
   -- each delivered file has provenance
-  pub all_proven : (delivered : ArtifactMap) → AllByRecursion (FileProven panel expectations envelopes) (entries delivered)
-      → (path : List ℕ) (digests : DigestSet) → get delivered path ≡ Some digests → HasProvenance panel inputs expectations path digests
+  pub all_proven : (delivered : ArtifactMap)
+      → AllByRecursion (FileProven panel expectations envelopes) (entries delivered)
+      → (path : List ℕ) (digests : DigestSet) → get delivered path ≡ Some digests
+      → HasProvenance panel inputs expectations path digests
   all_proven delivered h path digests known =
       has_provenance (path, digests)
-      (All-contains (FileProven panel expectations envelopes) (entries delivered) (path, digests) (All-from_recursion (FileProven panel expectations envelopes) (entries delivered) h) (known_entry delivered path digests known))
+      (All-contains (FileProven panel expectations envelopes) (entries delivered) (path, digests)
+      (All-from_recursion (FileProven panel expectations envelopes) (entries delivered) h)
+      (known_entry delivered path digests known))
 
   -- the first that has none
-  pub first_unproven : (delivered : ArtifactMap) (refusal : Refusal) → IsFirst (FileLacks panel expectations envelopes) (entries delivered) refusal → IsFirst (FileFails panel inputs expectations) (entries delivered) refusal
-  first_unproven delivered refusal = first_alike (FileLacks panel expectations envelopes) (FileFails panel inputs expectations) (entries delivered) (λ file c. lacks_fails file) (λ file c. fails_lacks file) refusal
+  pub first_unproven : (delivered : ArtifactMap) (refusal : Refusal)
+      → IsFirst (FileLacks panel expectations envelopes) (entries delivered) refusal
+      → IsFirst (FileFails panel inputs expectations) (entries delivered) refusal
+  first_unproven delivered refusal = first_alike (FileLacks panel expectations envelopes)
+      (FileFails panel inputs expectations) (entries delivered) (λ file c. lacks_fails file)
+      (λ file c. fails_lacks file) refusal

@@ -1,21 +1,18 @@
 -- What the inputs of a verification read as.
-use Rattle.std.specs.Prelude.{◌≡◌, ℕ, List, Contains, Option, option_map}
-use Rattle.std.specs.List.{find}
-use Rattle.std.specs.Str.{bytes_eq}
-use Rattle.it_digest.specs.Sums.{SumsOf, lines_of}
-use Rattle.it_dsse.specs.Panel.{Panel}
+use Rattle.std.specs.Prelude.{◌≡◌}
+use Rattle.it_digest.specs.Sums.{SumsOf}
 use Rattle.it_dsse.specs.Envelope.{EnvelopeOf}
-use Rattle.it_dsse.specs.declared.envelope.Envelope.{Envelope}
+use Rattle.it_dsse.specs.Panel.{Panel}
 use Rattle.it_docs.specs.Layout.{LayoutOf}
 use Rattle.it_docs.specs.Moment.{MomentOf}
 use Rattle.it_docs.specs.PayloadType.{in_toto_type}
 use Rattle.it_docs.specs.Policy.{PolicyOf}
-use Rattle.it_chain.specs.Counted.{Setting}
-pub use Rattle.it_verify.specs.declared.documents.Documents.{Documents}
+use Rattle.it_chain.specs.CountedBodies.{Setting}
 use Rattle.it_verify.specs.declared.inputs.Inputs.{Inputs}
+pub use Rattle.it_verify.specs.declared.documents.Documents.{Documents}
 
--- the inputs read as these documents: a policy, the delivered files, a moment, and an envelope of the
--- in-toto type (DSSE v1.0) whose payload is a layout (in-toto 1.0 section 4.3)
+-- the inputs read as these documents: a policy, the delivered files, a moment, and an envelope of
+-- the in-toto type (DSSE v1.0) whose payload is a layout (in-toto 1.0 section 4.3)
 pub record ReadAs (inputs : Inputs) (documents : Documents) : Type 0 where
   pub policy : PolicyOf inputs.policy documents.policy
   pub delivered : SumsOf inputs.sums documents.delivered
@@ -27,13 +24,3 @@ pub record ReadAs (inputs : Inputs) (documents : Documents) : Type 0 where
 -- what the layout and its sublayouts are checked with
 abbrev pub setting_of : Panel → Documents → Setting
 setting_of panel documents = record { panel = panel; moment = documents.moment }
-
--- the first record of a name (this profile's choice)
-abbrev pub record_at : List ℕ → Inputs → Option (List ℕ)
-record_at name inputs = option_map (λ found. found.1) (find (λ given. bytes_eq given.0 name) inputs.records)
-
--- a line of the provenance is this envelope (one envelope a line is this profile's choice)
-pub record IsProvenanceLine (inputs : Inputs) (envelope : Envelope) : Type 0 where
-  pub line : List ℕ
-  pub stands : Contains (lines_of inputs.provenance) line
-  pub reads : EnvelopeOf line envelope

@@ -1,7 +1,7 @@
 //! Why a layout does not hold of its links, as a refusal of the whole.
 ghost use Rattle.std.specs.Prelude.{◌≡◌};
-ghost use Rattle.it_verify.specs.First.{fault_of, refusal_of};
-ghost use Rattle.it_verify.specs.Gathering.{failure_of};
+ghost use Rattle.it_verify.specs.Refusals.{fault_of, refusal_of};
+ghost use Rattle.it_verify.specs.inside.Failures.{failure_of};
 
 use crate::failure::Failure;
 use it_chain::refusal::{ChainError, ChainFault, ChainRefusal};

@@ -1,6 +1,5 @@
 //! The documents of a verification: their reading, and who must have signed the layout.
 ghost use Rattle.std.specs.Prelude.{◌≡◌, ◌≢◌, ◌≤◌, IfOk, MatchResult, ℕ, ℤ, map};
-ghost use Rattle.std.specs.FinMap.{empty};
 ghost use Rattle.it_digest.specs.Sums.{IsFirstBadLine, SumsOf};
 ghost use Rattle.it_dsse.specs.Meter.{RaisedBy, raised};
 ghost use Rattle.it_docs.specs.Layout.{LayoutOf};
@@ -13,11 +12,14 @@ ghost use Rattle.it_docs.specs.declared.layout_fault.LayoutPart.{LayoutPart};
 ghost use Rattle.it_docs.specs.declared.policy_fault.PolicyPart.{PolicyPart};
 ghost use Rattle.it_dsse.specs.Envelope.{EnvelopeOf};
 ghost use Rattle.it_dsse.specs.Panel.{panel_of};
-ghost use Rattle.it_verify.specs.Cost.{OwnersCost};
-ghost use Rattle.it_verify.specs.Fewest.{owner_tries};
-ghost use Rattle.it_verify.specs.First.{First, whole};
-ghost use Rattle.it_verify.specs.Walk.{DocumentsHold, RefusedAs};
+ghost use Rattle.it_verify.specs.VerificationCost.{OwnersCost};
+ghost use Rattle.it_verify.specs.VerificationTakes.{owner_tries};
+ghost use Rattle.it_verify.specs.Refusals.{whole};
+ghost use Rattle.it_verify.specs.RefusedFor.{RefusedFor};
+ghost use Rattle.it_verify.specs.inside.DocumentsHold.{DocumentsHold};
+ghost use Rattle.it_verify.specs.inside.Failures.{RefusedAs};
 
+use crate::delivered::check_some_file;
 use crate::failure::{Failure, refused};
 use crate::inputs::Inputs;
 use crate::owners::check_owners;
@@ -33,11 +35,9 @@ use it_docs::policy_reading::read_policy;
 use it_dsse::check::SignatureCheck;
 use it_dsse::envelope::{Envelope, EnvelopeFault};
 use it_dsse::meter::Meter;
+use it_dsse::payload_type::IN_TOTO;
 use it_report::refusal::Fault;
 use std::alloc::Global;
-
-/// The payload type of layouts.
-const IN_TOTO: &str = "application/vnd.in-toto+json";
 
 /// What the inputs of a verification read as.
 #[derive(Drop)]
@@ -54,14 +54,14 @@ pub(crate) struct Documents {
     pub layout: Layout,
 }
 
-/// Reads the documents, and asks the `panel` whether every owner of the policy signed the layout, which
-/// `meter` counts.
+/// Reads the documents, and asks the `panel` whether every owner of the policy signed the layout,
+/// which `meter` counts.
 ///
 /// # Errors
 ///
-/// `Refused` with what does not hold first, in the order of the policy, the digest list, the moment,
-/// that some file is delivered, the layout's envelope, its payload type, its owners and the layout.
-/// `OutOfMemory` where memory was refused.
+/// `Refused` with what does not hold first, in the order of the policy, the digest list, the
+/// moment, that some file is delivered, the layout's envelope, its payload type, its owners and
+/// the layout. `OutOfMemory` where memory was refused.
 pub(crate) fn read_documents(
     alloc: Global,
     inputs: &Inputs,
@@ -70,7 +70,7 @@ pub(crate) fn read_documents(
 ) -> Result<Documents, Failure>
     ensures documents { MatchResult result (DocumentsHold (panel_of (map meaning panel.now))
         inputs.now)
-        (RefusedAs (First (panel_of (map meaning panel.now)) inputs.now)) }
+        (RefusedAs (RefusedFor (panel_of (map meaning panel.now)) inputs.now)) }
     ensures at_most { (most : ℕ) → OwnersCost inputs.now most
         → RaisedBy (λ n. n ≤ most) meter.old meter.new }
     ensures counted { IfOk result (λ documents. meter.new ≡ raised meter.old
@@ -125,16 +125,6 @@ fn moment_in(alloc: Global, text: &str) -> Result<i64, Failure>
         Ok(moment) => Ok(moment),
         Err(_) => Err(refused(alloc, Fault::BadMoment)),
     }
-}
-
-fn check_some_file(alloc: Global, delivered: &Artifacts) -> Result<(), Failure>
-    ensures some_file { MatchResult result (λ _. delivered.now ≢ empty) (RefusedAs (λ refusal.
-        (delivered.now ≡ empty) × (refusal ≡ whole Fault.NoFiles))) }
-{
-    if delivered.is_empty() {
-        return Err(refused(alloc, Fault::NoFiles));
-    }
-    Ok(())
 }
 
 fn envelope_in(alloc: Global, bytes: &[u8]) -> Result<Envelope, Failure>

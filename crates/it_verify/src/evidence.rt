@@ -3,16 +3,17 @@ ghost use Rattle.std.specs.Prelude.{◌≤◌, IfOk, MatchResult, OnOk, ℕ, map
 ghost use Rattle.std.specs.List.{sum_by};
 ghost use Rattle.it_dsse.specs.Meter.{RaisedBy};
 ghost use Rattle.it_dsse.specs.Panel.{panel_of};
-ghost use Rattle.it_verify.specs.Cost.{LinksCost};
-ghost use Rattle.it_verify.specs.Fewest.{LinksTake};
-ghost use Rattle.it_verify.specs.First.{First};
-ghost use Rattle.it_verify.specs.Made.{IsEvidence};
-ghost use Rattle.it_verify.specs.Walk.{DocumentsHold, RefusedAs};
+ghost use Rattle.it_verify.specs.VerificationCost.{LinksCost};
+ghost use Rattle.it_verify.specs.VerificationTakes.{LinksTake};
+ghost use Rattle.it_verify.specs.RefusedFor.{RefusedFor};
+ghost use Rattle.it_verify.specs.Evidence.{IsEvidence};
+ghost use Rattle.it_verify.specs.inside.DocumentsHold.{DocumentsHold};
+ghost use Rattle.it_verify.specs.inside.Failures.{RefusedAs};
 
 use crate::documents::Documents;
 use crate::failure::Failure;
 use crate::inputs::Inputs;
-use crate::records::recorded_links;
+use crate::inspections::recorded_links;
 use it_base::sequence::Sequence;
 use it_chain::chain::StepResult;
 use it_chain::verify_chain;
@@ -48,7 +49,7 @@ pub(crate) fn gather(
     requires documents { DocumentsHold (panel_of (map meaning panel.now)) inputs.now documents.now }
     ensures evidence { MatchResult result
         (IsEvidence (panel_of (map meaning panel.now)) inputs.now documents.now)
-        (RefusedAs (First (panel_of (map meaning panel.now)) inputs.now)) }
+        (RefusedAs (RefusedFor (panel_of (map meaning panel.now)) inputs.now)) }
     ensures at_most { (most : ℕ) → LinksCost (panel_of (map meaning panel.now)) inputs.now
         documents.now most
         → RaisedBy (λ n. n ≤ most) meter.old meter.new }

@@ -1,11 +1,14 @@
 //! Why a verification stops before it accepts.
 ghost use Rattle.std.specs.Prelude.{◌≡◌, IfOk};
-ghost use Rattle.it_verify.specs.First.{whole};
+ghost use Rattle.it_verify.specs.Refusals.{whole};
 ghost use Rattle.it_verify.specs.declared.failure.Failure.TheVariants.{OutOfMemory, Refused};
 
 use it_base::sequence::Sequence;
 use it_base::text::Text;
+use it_chain::refusal::RuleItem;
+use it_docs::rule::Side;
 use it_report::refusal::{Fault, Refusal};
+use it_rules::rules::RuleFault;
 use std::alloc::{AllocError, AllocFailed, Global};
 
 /// Why a verification stops before it accepts.
@@ -41,6 +44,21 @@ pub(crate) fn refused(alloc: Global, fault: Fault) -> Failure
         at: Sequence::from(Vec::new(alloc)),
         fault,
     })
+}
+
+/// The failure for a rule that fails on a side of an item.
+pub(crate) fn rule_failed(alloc: Global, whose: RuleItem, side: Side, fault: RuleFault) -> Failure
+    ensures { result ≡ Refused (whole (Fault.RuleFailed whose side fault.index fault.path)) }
+{
+    refused(
+        alloc,
+        Fault::RuleFailed {
+            item: whose,
+            side,
+            index: fault.index,
+            path: fault.path,
+        },
+    )
 }
 
 /// The text, copied.

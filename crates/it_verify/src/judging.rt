@@ -3,26 +3,29 @@ ghost use Rattle.std.specs.Prelude.{◌≤◌, MatchResult, OnOk, ℕ, map};
 ghost use Rattle.it_dsse.specs.Meter.{RaisedBy};
 ghost use Rattle.it_dsse.specs.Panel.{panel_of};
 ghost use Rattle.it_prov.specs.Asked.{AtLeast};
-ghost use Rattle.it_verify.specs.Cost.{FilesCost, LinesHave};
-ghost use Rattle.it_verify.specs.Fewest.{FilesTake};
-ghost use Rattle.it_verify.specs.First.{First};
-ghost use Rattle.it_verify.specs.Made.{IsEvidence, IsMadeBy};
-ghost use Rattle.it_verify.specs.Walk.{DocumentsHold, RefusedAs};
+ghost use Rattle.it_verify.specs.VerificationCost.{FilesCost, LinesHave};
+ghost use Rattle.it_verify.specs.VerificationTakes.{FilesTake};
+ghost use Rattle.it_verify.specs.RefusedFor.{RefusedFor};
+ghost use Rattle.it_verify.specs.Evidence.{IsEvidence};
+ghost use Rattle.it_verify.specs.Made.{IsMadeBy};
+ghost use Rattle.it_verify.specs.inside.DocumentsHold.{DocumentsHold};
+ghost use Rattle.it_verify.specs.inside.Failures.{RefusedAs};
 
+use crate::delivered::run_deliver_rules;
 use crate::documents::Documents;
 use crate::evidence::Evidence;
 use crate::failure::Failure;
 use crate::inputs::Inputs;
+use crate::inspections::run_inspection_rules;
 use crate::links::named_links;
 use crate::provenance::{envelopes_in, find_each};
-use crate::rules::{run_deliver_rules, run_inspection_rules};
 use it_dsse::check::SignatureCheck;
 use it_dsse::meter::Meter;
 use std::alloc::Global;
 
-/// Judges the rules of the inspections and those on what is delivered over the evidence, and looks for
-/// the provenance of each delivered file. Each signature is checked by the `panel`, which counts in
-/// `meter`.
+/// Judges the rules of the inspections and those on what is delivered over the evidence, and looks
+/// for the provenance of each delivered file. Each signature is checked by the `panel`, which
+/// counts in `meter`.
 ///
 /// # Errors
 ///
@@ -41,7 +44,7 @@ pub(crate) fn judge(
         evidence.now }
     ensures made { MatchResult result
         (λ _. IsMadeBy (panel_of (map meaning panel.now)) inputs.now documents.now evidence.now)
-        (RefusedAs (First (panel_of (map meaning panel.now)) inputs.now)) }
+        (RefusedAs (RefusedFor (panel_of (map meaning panel.now)) inputs.now)) }
     ensures at_most { (signatures most : ℕ) → LinesHave inputs.now signatures
         → FilesCost documents.now signatures most → RaisedBy (λ n. n ≤ most) meter.old meter.new }
     ensures at_least { OnOk result (RaisedBy

@@ -1,7 +1,16 @@
-//! Laws about a verification as a whole and what it costs: functions that do nothing, and whose contracts
-//! say what is true of all inputs and every panel of checks. Those of the report are public here too.
+//! Laws about a verification as a whole and what it costs: functions that do nothing, and whose
+//! contracts say what is true of all inputs and every panel of checks. Those of the report are
+//! public here too.
 ghost use Rattle.it_verify.specs.CostLaws.{InputsHaveCost, InputsHaveOneCost};
-ghost use Rattle.it_verify.specs.WholeLaws.{AlikeInputs, MadeNotRefused, MadeOrFirst, MadeOrRefused, RefusalIsOne, VerdictIsOne, WithheldInputs};
+ghost use Rattle.it_verify.specs.VerificationLaws.{
+  AlikeInputs,
+  MadeNotRefused,
+  MadeOrFirst,
+  MadeOrRefused,
+  RefusalIsOne,
+  VerdictIsOne,
+  WithheldInputs,
+};
 
 pub use it_report::laws::{first_lines_tell, forms_are_words, forms_tell, report_tells};
 
@@ -10,14 +19,14 @@ pub fn made_not_refused()
     ensures { MadeNotRefused }
 {}
 
-/// What is delivered was made as the owners laid down, or is refused: with `made_not_refused`, always
-/// just one of the two.
+/// What is delivered was made as the owners laid down, or is refused: with `made_not_refused`,
+/// always just one of the two.
 pub fn made_or_refused()
     ensures { MadeOrRefused }
 {}
 
-/// What is delivered was made as the owners laid down exactly where no place of a verification has
-/// anything to refuse.
+/// What is delivered was made as the owners laid down exactly where no stage of a verification
+/// fails.
 pub fn made_or_first()
     ensures { MadeOrFirst }
 {}
@@ -44,7 +53,8 @@ pub fn withheld_inputs()
     ensures { WithheldInputs }
 {}
 
-/// A verification of inputs costs some number of checks: with `inputs_have_one_cost`, always just one.
+/// A verification of inputs costs some number of checks: with `inputs_have_one_cost`, always just
+/// one.
 pub fn inputs_have_cost()
     ensures { InputsHaveCost }
 {}

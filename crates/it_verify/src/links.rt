@@ -1,8 +1,8 @@
 //! What the `MATCH` rules of inspections and of the delivery look at.
 ghost use Rattle.std.specs.Prelude.{◌≡◌, ◌++◌, IfOk, map};
 ghost use Rattle.it_rules.specs.Item.{links_of, recorded_of};
-ghost use Rattle.it_chain.specs.Level.{links_in, recorded_in as recorded_by};
-ghost use Rattle.it_verify.specs.Made.{recorded_in};
+ghost use Rattle.it_chain.specs.StepRules.{links_in, recorded_in as recorded_by};
+ghost use Rattle.it_verify.specs.Inspections.{recorded_in};
 
 use it_chain::chain::StepResult;
 use it_docs::link::Link;

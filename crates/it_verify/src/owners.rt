@@ -5,9 +5,9 @@ ghost use Rattle.it_base.specs.Places.{IsFirst};
 ghost use Rattle.it_dsse.specs.Meter.{RaisedBy, raised};
 ghost use Rattle.it_dsse.specs.Panel.{panel_of};
 ghost use Rattle.it_dsse.specs.Signed.{IsSigner, tries};
-ghost use Rattle.it_verify.specs.Fewest.{owner_tries};
-ghost use Rattle.it_verify.specs.First.{OwnerLacks};
-ghost use Rattle.it_verify.specs.Walk.{OwnersSign, RefusedAs};
+ghost use Rattle.it_verify.specs.VerificationTakes.{owner_tries};
+ghost use Rattle.it_verify.specs.Owners.{OwnerLacks, OwnersSign};
+ghost use Rattle.it_verify.specs.inside.Failures.{RefusedAs};
 
 use crate::failure::{Failure, refused, text_of};
 use it_docs::table::Table;
@@ -19,8 +19,8 @@ use it_dsse::signed_by;
 use it_report::refusal::Fault;
 use std::alloc::Global;
 
-/// Asks of each owner, in the order of the ids' bytes, whether the key signed the envelope, and stops
-/// at the first that did not.
+/// Asks of each owner, in the order of the ids' bytes, whether the key signed the envelope, and
+/// stops at the first that did not.
 pub(crate) fn check_owners(
     alloc: Global,
     owners: &Table<KeyObject>,

@@ -10,9 +10,9 @@ ghost use Rattle.it_dsse.specs.Panel.{panel_of};
 ghost use Rattle.it_prov.specs.Asked.{AtLeast};
 ghost use Rattle.it_prov.specs.Cost.{signature_count};
 ghost use Rattle.it_prov.specs.Held.{AreHeld};
-ghost use Rattle.it_verify.specs.Cost.{FileCosts};
-ghost use Rattle.it_verify.specs.Gathering.{AreRead, FileAsks, FileLacks, FileProven};
-ghost use Rattle.it_verify.specs.Walk.{RefusedAs};
+ghost use Rattle.it_verify.specs.VerificationCost.{FileCosts};
+ghost use Rattle.it_verify.specs.inside.Provenance.{AreRead, FileAsks, FileLacks, FileProven};
+ghost use Rattle.it_verify.specs.inside.Failures.{RefusedAs};
 
 use crate::failure::{Failure, refused};
 use it_digest::artifacts::Artifacts;
@@ -34,7 +34,8 @@ use std::alloc::{AllocError, Global};
 ///
 /// `AllocError` where memory was refused.
 pub(crate) fn envelopes_in(alloc: Global, provenance: &[u8]) -> Result<Vec<Envelope>, AllocError>
-    ensures envelopes { IfOk result (λ envelopes. AreRead (lines_of provenance.now) envelopes.items) }
+    ensures envelopes { IfOk result (λ envelopes.
+        AreRead (lines_of provenance.now) envelopes.items) }
 {
     let mut envelopes = Vec::new(alloc);
     let mut rest = provenance;
@@ -50,14 +51,14 @@ pub(crate) fn envelopes_in(alloc: Global, provenance: &[u8]) -> Result<Vec<Envel
     Ok(envelopes)
 }
 
-/// Looks for provenance of each delivered file among the envelopes, in the order of the paths' bytes.
-/// Each signature is checked by the `panel`, which counts in `meter`.
+/// Looks for provenance of each delivered file among the envelopes, in the order of the paths'
+/// bytes. Each signature is checked by the `panel`, which counts in `meter`.
 ///
 /// # Errors
 ///
-/// `Refused` with the first file of which no expectation speaks, or that has no provenance, and then
-/// with the best level of the provenance that there is.
-/// `OutOfMemory` where memory was refused.
+/// `Refused` with the first file of which no expectation speaks, or that has no provenance, and
+/// then with the best level of the provenance that there is. `OutOfMemory` where memory was
+/// refused.
 pub(crate) fn find_each(
     alloc: Global,
     expectations: &[Expectation],
@@ -72,7 +73,8 @@ pub(crate) fn find_each(
         (RefusedAs (IsFirst (FileLacks (panel_of (map meaning panel.now)) expectations.now
         envelopes.now) (entries delivered.now))) }
     ensures at_most { (most : ℕ)
-        → IsSum (FileCosts expectations.now (signature_count envelopes.now)) (keys delivered.now) most
+        → IsSum (FileCosts expectations.now (signature_count envelopes.now))
+        (keys delivered.now) most
         → RaisedBy (λ n. n ≤ most) meter.old meter.new }
     ensures at_least { OnOk result (RaisedBy (AtLeast (IsSum
         (FileAsks (panel_of (map meaning panel.now)) expectations.now envelopes.now) (entries
@@ -99,7 +101,8 @@ fn find_each_among(
         (RefusedAs (IsFirst (FileLacks (panel_of (map meaning panel.now)) expectations.now
         attestations.now.envelopes.now) (entries delivered.now))) }
     ensures at_most { (most : ℕ)
-        → IsSum (FileCosts expectations.now (signature_count attestations.now.envelopes.now)) (keys delivered.now) most
+        → IsSum (FileCosts expectations.now (signature_count attestations.now.envelopes.now))
+        (keys delivered.now) most
         → RaisedBy (λ n. n ≤ most) meter.old meter.new }
     ensures at_least { OnOk result (RaisedBy (AtLeast (IsSum
         (FileAsks (panel_of (map meaning panel.now)) expectations.now

@@ -3,7 +3,13 @@ use Rattle.std.specs.Prelude.{ℕ, Result, Ok, Err}
 use Rattle.it_words.specs.declared.outcome.Status.{Status}
 use Rattle.it_words.specs.declared.outcome.Status.TheVariants.{Good, Refused}
 use Rattle.it_words.specs.declared.outcome.RunFault.{RunFault}
-use Rattle.it_words.specs.declared.outcome.RunFault.TheVariants.{Write, OutOfMemory, UnknownKey, BadName, Digest}
+use Rattle.it_words.specs.declared.outcome.RunFault.TheVariants.{
+  Write,
+  OutOfMemory,
+  UnknownKey,
+  BadName,
+  Digest,
+}
 
 -- the exit status of the program
 abbrev pub exit_status : Result Status RunFault → ℕ

@@ -1,18 +1,52 @@
 -- The words of the command line, in the parser's own terms (this profile's choice).
-use Rattle.std.specs.Prelude.{◌≡◌, ◌≤◌, ℕ, List, [], ◌∷◌, length, true, Option, Some, MatchOption, codes, pos}
+use Rattle.std.specs.Prelude.{
+  ◌≡◌,
+  ◌≤◌,
+  ℕ,
+  List,
+  [],
+  ◌∷◌,
+  length,
+  true,
+  Option,
+  Some,
+  MatchOption,
+  codes,
+  pos,
+}
 use Rattle.std.specs.Str.Parse.{IsNumeral, digits_value, without_leading_plus}
 use Rattle.clap.specs.declared.builder.action.ArgAction.TheVariants.{Append}
 use Rattle.clap.specs.declared.builder.value_parser.ValueParser.TheVariants as parser
 use Rattle.clap.specs.Walk.{all_of}
-use Rattle.clap.specs.Words.{App, Row, Rule, Text, first_of, one_of, fault_of, new_app, new_rule, subcommand_of, with_rule, with_subcommand}
-use Rattle.it_words.specs.declared.words.digesting.DigestWords.{DigestWords}
-use Rattle.it_words.specs.declared.words.encoding.PaeWords.{PaeWords}
-use Rattle.it_words.specs.declared.words.matching.MatchWords.{MatchWords}
-use Rattle.it_words.specs.declared.words.signed.SignedWords.{SignedWords}
-use Rattle.it_words.specs.declared.words.signing.SignWords.{SignWords}
-use Rattle.it_words.specs.declared.words.verifying.VerifyWords.{VerifyWords}
+use Rattle.clap.specs.Words.{
+  App,
+  Row,
+  Rule,
+  Text,
+  first_of,
+  one_of,
+  fault_of,
+  new_app,
+  new_rule,
+  subcommand_of,
+  with_rule,
+  with_subcommand,
+}
+use Rattle.it_words.specs.declared.words.digest_words.DigestWords.{DigestWords}
+use Rattle.it_words.specs.declared.words.pae_words.PaeWords.{PaeWords}
+use Rattle.it_words.specs.declared.words.match_words.MatchWords.{MatchWords}
+use Rattle.it_words.specs.declared.words.signed_words.SignedWords.{SignedWords}
+use Rattle.it_words.specs.declared.words.sign_words.SignWords.{SignWords}
+use Rattle.it_words.specs.declared.words.verify_words.VerifyWords.{VerifyWords}
 use Rattle.it_words.specs.declared.words.Words.{Words}
-use Rattle.it_words.specs.declared.words.Words.TheVariants.{Signed, Match, Pae, Sign, Digest, Verify}
+use Rattle.it_words.specs.declared.words.Words.TheVariants.{
+  Signed,
+  Match,
+  Pae,
+  Sign,
+  Digest,
+  Verify,
+}
 
 -- a word that has to be given, in its place
 abbrev pub needed_word : Text → Rule
@@ -36,51 +70,69 @@ needed_options name = record (needed_option name) { action = Some Append }
 
 -- how deep sublayouts may lie: from 0 to 8, and 4 where it is not said
 abbrev pub depth_option : Rule
-depth_option = record (plain_option (codes "depth")) { defaults = codes "4" ∷ []; parser = Some (parser.Signed (pos 0) (pos 8)) }
+depth_option = record (plain_option (codes "depth")) {
+  defaults = codes "4" ∷ [];
+  parser = Some (parser.Signed (pos 0) (pos 8));
+}
 
 -- signed ENVELOPE --ring F
 abbrev pub signed_command : App
-signed_command = with_rule (with_rule (new_app (codes "signed")) (needed_word (codes "envelope"))) (needed_option (codes "ring"))
+signed_command =
+    with_rule (with_rule (new_app (codes "signed")) (needed_word (codes "envelope")))
+    (needed_option (codes "ring"))
 
 -- match PATTERN PATH
 abbrev pub match_command : App
-match_command = with_rule (with_rule (new_app (codes "match")) (needed_word (codes "pattern"))) (needed_word (codes "path"))
+match_command =
+    with_rule (with_rule (new_app (codes "match")) (needed_word (codes "pattern")))
+    (needed_word (codes "path"))
 
 -- pae BODY --type TYPE
 abbrev pub pae_command : App
-pae_command = with_rule (with_rule (new_app (codes "pae")) (needed_word (codes "body"))) (needed_option (codes "type"))
+pae_command =
+    with_rule (with_rule (new_app (codes "pae")) (needed_word (codes "body")))
+    (needed_option (codes "type"))
 
 -- sign BODY --ring F --key ID --type TYPE
 abbrev pub sign_command : App
 sign_command =
-    with_rule (with_rule (with_rule (with_rule (new_app (codes "sign")) (needed_word (codes "body")))
-    (needed_option (codes "ring"))) (needed_option (codes "key"))) (needed_option (codes "type"))
+    with_rule (with_rule (with_rule (with_rule (new_app (codes "sign"))
+    (needed_word (codes "body"))) (needed_option (codes "ring")))
+    (needed_option (codes "key"))) (needed_option (codes "type"))
 
 -- digest FILE..
 abbrev pub digest_command : App
 digest_command = with_rule (new_app (codes "digest")) (needed_words (codes "file"))
 
--- verify --policy F --layout F --links DIR --sums F --at MOMENT --ring F.., and what may be left out:
--- --provenance F --records DIR --depth N
+-- verify --policy F --layout F --links DIR --sums F --at MOMENT --ring F.., and what may be left
+-- out: --provenance F --records DIR --depth N
 abbrev pub needed_of_verify : App
 needed_of_verify =
-    with_rule (with_rule (with_rule (with_rule (with_rule (with_rule (new_app (codes "verify")) (needed_option (codes "policy")))
-    (needed_option (codes "layout"))) (needed_option (codes "links"))) (needed_option (codes "sums"))) (needed_option (codes "at")))
-    (needed_options (codes "ring"))
+    with_rule (with_rule (with_rule (with_rule (with_rule (with_rule (new_app (codes "verify"))
+    (needed_option (codes "policy"))) (needed_option (codes "layout")))
+    (needed_option (codes "links"))) (needed_option (codes "sums")))
+    (needed_option (codes "at"))) (needed_options (codes "ring"))
 
 abbrev pub verify_command : App
-verify_command = with_rule (with_rule (with_rule needed_of_verify (plain_option (codes "provenance"))) (plain_option (codes "records"))) depth_option
+verify_command =
+    with_rule (with_rule (with_rule needed_of_verify (plain_option (codes "provenance")))
+    (plain_option (codes "records"))) depth_option
 
 -- the program: a command has to be named, and no word asks for help
 abbrev pub without_command : App
 without_command = record (new_app (codes "itv")) {
-  top = record (new_app (codes "itv")).top { disable_help_flag = true; disable_help_subcommand = true; subcommand_required = true };
+  top = record (new_app (codes "itv")).top {
+    disable_help_flag = true;
+    disable_help_subcommand = true;
+    subcommand_required = true;
+  };
 }
 
 unfoldable pub program : App
 program =
-    with_subcommand (with_subcommand (with_subcommand (with_subcommand (with_subcommand (with_subcommand without_command
-    signed_command.top) match_command.top) pae_command.top) sign_command.top) digest_command.top) verify_command.top
+    with_subcommand (with_subcommand (with_subcommand (with_subcommand (with_subcommand
+    (with_subcommand without_command signed_command.top) match_command.top) pae_command.top)
+    sign_command.top) digest_command.top) verify_command.top
 
 -- the values of the command signed
 pub record IsSigned (values : List Row) (words : SignedWords) : Type 0 where

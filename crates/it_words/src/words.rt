@@ -1,29 +1,34 @@
 //! The words of the command line.
 ghost use Rattle.std.specs.Prelude.{◌≡◌, [], false, IfOk, IfErr, map, string_bytes};
-ghost use Rattle.clap.specs.Words.{app_of, fault_of, subcommand_of, subcommand_rows_of, with_subcommand};
+ghost use Rattle.clap.specs.Words.{app_of, fault_of, subcommand_of, subcommand_rows_of};
+ghost use Rattle.clap.specs.Words.{with_subcommand};
 ghost use Rattle.clap.specs.declared.builder.command.Command.TheViews.{out-Command};
 ghost use Rattle.it_base.specs.Finds.{Finds};
 ghost use Rattle.it_words.specs.Words.{AreWordsOf, GoesNoDeeper, NamesCommand, program};
 ghost use Rattle.it_words.specs.declared.words.WordsFault.TheVariants.{OutOfMemory};
 
 mod arguments;
-pub mod digesting;
-pub mod encoding;
-pub mod matching;
+pub mod digest_words;
+pub mod match_words;
 mod note;
-pub mod signed;
-pub mod signing;
-pub mod verifying;
+pub mod pae_words;
+pub mod sign_words;
+pub mod signed_words;
+pub mod verify_words;
 
+pub use self::{
+    digest_words as digesting, match_words as matching, pae_words as encoding,
+    sign_words as signing, signed_words as signed, verify_words as verifying,
+};
 use clap::{ArgMatches, Command};
-use digesting::DigestWords;
-use encoding::PaeWords;
-use matching::MatchWords;
-use signed::SignedWords;
-use signing::SignWords;
+use digest_words::DigestWords;
+use match_words::MatchWords;
+use pae_words::PaeWords;
+use sign_words::SignWords;
+use signed_words::SignedWords;
 use std::alloc::{AllocError, Global};
 use thiserror::Error;
-use verifying::VerifyWords;
+use verify_words::VerifyWords;
 
 /// A command with its values.
 #[derive(Drop)]
@@ -38,8 +43,8 @@ pub enum Words {
     Sign(SignWords),
     /// `itv digest FILE..`: the SHA-256 of each file.
     Digest(DigestWords),
-    /// `itv verify --policy F --layout F --links DIR --sums F --at MOMENT --ring F.. [--provenance F]
-    /// [--records DIR] [--depth N]`: whether delivered files were made as the owners laid down.
+    /// `itv verify --policy F --layout F --links DIR --sums F --at MOMENT --ring F.. [--provenance
+    /// F] [--records DIR] [--depth N]`: whether delivered files were made as the owners laid down.
     Verify(VerifyWords),
 }
 
@@ -103,12 +108,12 @@ fn command<'a>(alloc: Global) -> Result<Command<'a>, AllocError>
         .disable_help_flag(true)
         .disable_help_subcommand(true)
         .subcommand_required(true);
-    let program = with_command(program, signed::command(alloc)?)?;
-    let program = with_command(program, matching::command(alloc)?)?;
-    let program = with_command(program, encoding::command(alloc)?)?;
-    let program = with_command(program, signing::command(alloc)?)?;
-    let program = with_command(program, digesting::command(alloc)?)?;
-    with_command(program, verifying::command(alloc)?)
+    let program = with_command(program, signed_words::command(alloc)?)?;
+    let program = with_command(program, match_words::command(alloc)?)?;
+    let program = with_command(program, pae_words::command(alloc)?)?;
+    let program = with_command(program, sign_words::command(alloc)?)?;
+    let program = with_command(program, digest_words::command(alloc)?)?;
+    with_command(program, verify_words::command(alloc)?)
 }
 
 fn with_command<'a>(program: Command<'a>, command: Command<'a>) -> Result<Command<'a>, AllocError>
@@ -123,12 +128,12 @@ fn named(alloc: Global, matches: &ArgMatches<'_>) -> Result<Option<Words>, Alloc
     ensures { IfOk result (Finds (NamesCommand (subcommand_rows_of matches.now))) }
 {
     match matches.subcommand() {
-        Some(("signed", values)) => Ok(signed::read(alloc, values)?.map(Words::Signed)),
-        Some(("match", values)) => Ok(matching::read(alloc, values)?.map(Words::Match)),
-        Some(("pae", values)) => Ok(encoding::read(alloc, values)?.map(Words::Pae)),
-        Some(("sign", values)) => Ok(signing::read(alloc, values)?.map(Words::Sign)),
-        Some(("digest", values)) => Ok(digesting::read(alloc, values)?.map(Words::Digest)),
-        Some(("verify", values)) => Ok(verifying::read(alloc, values)?.map(Words::Verify)),
+        Some(("signed", values)) => Ok(signed_words::read(alloc, values)?.map(Words::Signed)),
+        Some(("match", values)) => Ok(match_words::read(alloc, values)?.map(Words::Match)),
+        Some(("pae", values)) => Ok(pae_words::read(alloc, values)?.map(Words::Pae)),
+        Some(("sign", values)) => Ok(sign_words::read(alloc, values)?.map(Words::Sign)),
+        Some(("digest", values)) => Ok(digest_words::read(alloc, values)?.map(Words::Digest)),
+        Some(("verify", values)) => Ok(verify_words::read(alloc, values)?.map(Words::Verify)),
         _ => Ok(None),
     }
 }

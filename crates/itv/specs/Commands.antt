@@ -8,24 +8,27 @@ use Rattle.it_dsse.specs.Pae.{pae_of}
 use Rattle.it_dsse.specs.Panel.{panel_of}
 use Rattle.it_dsse.specs.Ring.{ids_of, ring_check}
 use Rattle.it_dsse.specs.declared.ring_entry.RingEntry.{RingEntry}
-use Rattle.it_commands.specs.Digesting.{IsDigestLine}
-use Rattle.it_commands.specs.Matching.{IsMatchOutput}
-use Rattle.it_commands.specs.Signed.{IsSignedOutput}
-use Rattle.it_commands.specs.Signing.{IsSignOutput}
-use Rattle.it_verify.specs.Verifying.{IsVerifyOutput}
+use Rattle.it_commands.specs.DigestOutput.{IsDigestLine}
+use Rattle.it_commands.specs.MatchOutput.{IsMatchOutput}
+use Rattle.it_commands.specs.SignedOutput.{IsSignedOutput}
+use Rattle.it_commands.specs.SignOutput.{IsSignOutput}
+use Rattle.it_verify.specs.VerifyOutput.{IsVerifyOutput}
 use Rattle.it_verify.specs.declared.inputs.Inputs.{Inputs}
 use Rattle.it_words.specs.declared.outcome.Status.{Status}
 use Rattle.it_words.specs.declared.outcome.Status.TheVariants.{Good}
 use Rattle.it_words.specs.declared.words.Words.{Words}
-use Rattle.it_words.specs.declared.words.Words.TheVariants.{Signed, Match, Pae, Sign, Digest, Verify}
-use Rattle.it_words.specs.declared.words.encoding.PaeWords.{PaeWords}
-use Rattle.it_words.specs.declared.words.signed.SignedWords.{SignedWords}
-use Rattle.it_words.specs.declared.words.signing.SignWords.{SignWords}
-use Rattle.it_words.specs.declared.words.verifying.VerifyWords.{VerifyWords}
+use Rattle.it_words.specs.declared.words.Words.TheVariants.{Signed, Match, Pae, Sign, Digest}
+use Rattle.it_words.specs.declared.words.Words.TheVariants.{Verify}
+use Rattle.it_words.specs.declared.words.pae_words.PaeWords.{PaeWords}
+use Rattle.it_words.specs.declared.words.signed_words.SignedWords.{SignedWords}
+use Rattle.it_words.specs.declared.words.sign_words.SignWords.{SignWords}
+use Rattle.it_words.specs.declared.words.verify_words.VerifyWords.{VerifyWords}
 use Rattle.itv.specs.Reading.{Holdings, AreInputs, HoldsRing}
 
--- verify: the output of a verification of the inputs, checked by the rings in the order of the words
-pub record Verifies (disk : Holdings) (words : VerifyWords) (text : List ℕ) (status : Status) : Type 0 where
+-- verify: the output of a verification of the inputs, checked by the rings in the order of the
+-- words
+pub record Verifies (disk : Holdings) (words : VerifyWords) (text : List ℕ)
+    (status : Status) : Type 0 where
   pub inputs : Inputs
   pub are_inputs : AreInputs disk words inputs
   pub rings : List (List RingEntry)
@@ -33,7 +36,8 @@ pub record Verifies (disk : Holdings) (words : VerifyWords) (text : List ℕ) (s
   pub is_output : IsVerifyOutput (panel_of (map ring_check rings)) inputs text status
 
 -- signed: which ids of the ring, in the order of their bytes, signed the envelope
-pub record ShowsSigners (disk : Holdings) (words : SignedWords) (text : List ℕ) (status : Status) : Type 0 where
+pub record ShowsSigners (disk : Holdings) (words : SignedWords) (text : List ℕ)
+    (status : Status) : Type 0 where
   pub envelope : List ℕ
   pub holds_envelope : disk.file words.envelope envelope
   pub ring : List RingEntry
@@ -44,7 +48,8 @@ pub record ShowsSigners (disk : Holdings) (words : SignedWords) (text : List ℕ
   pub is_output : IsSignedOutput (panel_of (ring_check ring ∷ [])) ids envelope text status
 
 -- sign: the body's envelope under the key of the ring
-pub record Signs (disk : Holdings) (words : SignWords) (text : List ℕ) (status : Status) : Type 0 where
+pub record Signs (disk : Holdings) (words : SignWords) (text : List ℕ)
+    (status : Status) : Type 0 where
   pub body : List ℕ
   pub holds_body : disk.file words.body body
   pub ring : List RingEntry
@@ -53,7 +58,8 @@ pub record Signs (disk : Holdings) (words : SignWords) (text : List ℕ) (status
   pub status_is : status ≡ Good
 
 -- pae: what is signed for the body
-pub record Encodes (disk : Holdings) (words : PaeWords) (text : List ℕ) (status : Status) : Type 0 where
+pub record Encodes (disk : Holdings) (words : PaeWords) (text : List ℕ)
+    (status : Status) : Type 0 where
   pub body : List ℕ
   pub holds_body : disk.file words.body body
   pub text_is : text ≡ pae_of words.kind body
@@ -69,7 +75,8 @@ pub record IsLineOf (disk : Holdings) (path line : List ℕ) : Type 0 where
 -- digest: the lines of the files, in their order
 pub data ListsDigests (disk : Holdings) : List (List ℕ) → List ℕ → Type 0 where
   no_line : ListsDigests disk [] []
-  one_more : {paths : List (List ℕ)} {text path line : List ℕ} → ListsDigests disk paths text → IsLineOf disk path line
+  one_more : {paths : List (List ℕ)} {text path line : List ℕ} → ListsDigests disk paths text
+      → IsLineOf disk path line
       → ListsDigests disk (paths ++ path ∷ []) (text ++ line)
 
 -- what a command writes and finds

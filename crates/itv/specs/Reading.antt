@@ -4,7 +4,7 @@ use Rattle.it_chain.specs.Contents.{Contents}
 use Rattle.it_dsse.specs.Ring.{RingOf}
 use Rattle.it_dsse.specs.declared.ring_entry.RingEntry.{RingEntry}
 use Rattle.it_verify.specs.declared.inputs.Inputs.{Inputs}
-use Rattle.it_words.specs.declared.words.verifying.VerifyWords.{VerifyWords}
+use Rattle.it_words.specs.declared.words.verify_words.VerifyWords.{VerifyWords}
 
 -- what stands at a path. No definition knows it, so what is said of a command is said for all of
 -- these relations: of a path and what is read there.
@@ -28,7 +28,8 @@ anything = record {
 }
 
 -- what stands at the path, or nothing where no path is given
-abbrev pub HoldsIfGiven : {A : Type 0} → (List ℕ → List A → Type 0) → Option (List ℕ) → List A → Type 0
+abbrev pub HoldsIfGiven : {A : Type 0} → (List ℕ → List A → Type 0) → Option (List ℕ) → List A
+    → Type 0
 HoldsIfGiven holds None items = items ≡ []
 HoldsIfGiven holds (Some path) items = holds path items
 

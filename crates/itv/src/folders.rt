@@ -95,8 +95,8 @@ pub(crate) fn read_records<R: Files + AllocGlobal>(
     Ok(records)
 }
 
-/// What is read of a folder, in the order of the names' bytes. Folders are read where `depth` is not
-/// 0.
+/// What is read of a folder, in the order of the names' bytes. Folders are read where `depth` is
+/// not 0.
 fn entries<R: Files + AllocGlobal>(rt: &R, folder: &str, depth: u8) -> Result<Vec<Entry>, Fault> {
     let alloc = rt.alloc();
     let mut entries = Vec::new(alloc);
@@ -143,8 +143,9 @@ fn may_be_read(name: &str, depth: u8) -> bool {
     name.ends_with(ENDING) || depth > 0 && name.contains('.')
 }
 
-/// What an entry is read as that may be read, or `None` where it is passed over: a folder too deep, a
-/// file whose name ends otherwise, and what is neither. A symbolic link is what it leads to.
+/// What an entry is read as that may be read, or `None` where it is passed over: a folder too
+/// deep, a file whose name ends otherwise, and what is neither. A symbolic link is what it leads
+/// to.
 fn kind_of<R: Files + AllocGlobal>(
     rt: &R,
     name: &str,

@@ -3,21 +3,21 @@
 //! Reads the words, the files and the rings, and hands them to the command of `it_verify`.
 #![tactic(auto)]
 
-mod digesting;
+mod digest_command;
 mod disk;
-mod encoding;
 #[cfg(test)]
 mod fake_files;
 mod fault;
 mod files;
 mod folders;
-mod matching;
+mod match_command;
+mod pae_command;
 mod running;
-mod signed;
-mod signing;
+mod sign_command;
+mod signed_command;
 #[cfg(test)]
 mod tests;
-mod verifying;
+mod verify_command;
 
 use disk::Disk;
 use fault::{Fault, exit_status};

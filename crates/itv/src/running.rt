@@ -6,7 +6,9 @@ ghost use Rattle.itv.specs.Commands.{IsOutputOf};
 
 use crate::disk::Disk;
 use crate::fault::Fault;
-use crate::{digesting, encoding, matching, signed, signing, verifying};
+use crate::{
+    digest_command, match_command, pae_command, sign_command, signed_command, verify_command,
+};
 use it_verify::outcome::Status;
 use it_verify::words::{Words, read_words};
 use std::io::Write;
@@ -39,11 +41,11 @@ fn run_command<R: Disk + AllocGlobal, W: Write>(
         × Appends (W.contents out.old) (W.contents out.new) text) }
 {
     match command {
-        Words::Signed(words) => signed::run(rt, words, out),
-        Words::Match(words) => matching::run(rt.alloc(), words, out),
-        Words::Pae(words) => encoding::run(rt, words, out),
-        Words::Sign(words) => signing::run(rt, words, out),
-        Words::Digest(words) => digesting::run(rt, words, out),
-        Words::Verify(words) => verifying::run(rt, words, out),
+        Words::Signed(words) => signed_command::run(rt, words, out),
+        Words::Match(words) => match_command::run(rt.alloc(), words, out),
+        Words::Pae(words) => pae_command::run(rt, words, out),
+        Words::Sign(words) => sign_command::run(rt, words, out),
+        Words::Digest(words) => digest_command::run(rt, words, out),
+        Words::Verify(words) => verify_command::run(rt, words, out),
     }
 }

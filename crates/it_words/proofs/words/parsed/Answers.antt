@@ -1,5 +1,7 @@
-use Rattle.std.proofs.Common.{rules, ap, sym, true, refl, ◌≡◌, ◌∙◌, [], ◌∷◌, map, string_bytes, inl, inr}
-use Rattle.clap.specs.Words.{HasKind, Kinds, app_of, fault_of, is_simple, is_simple_and_free, kind_of, subcommand_of}
+use Rattle.std.proofs.Common.{rules, ap, sym, true, refl, ◌≡◌, ◌∙◌, [], ◌∷◌, map, string_bytes, inl}
+use Rattle.std.proofs.Common.{inr}
+use Rattle.clap.specs.Words.{HasKind, Kinds, app_of, fault_of, is_simple, is_simple_and_free}
+use Rattle.clap.specs.Words.{kind_of, subcommand_of}
 use Rattle.clap.specs.declared.error.Error.{Error}
 use Rattle.clap.specs.declared.error.kind.ErrorKind.TheVariants as ErrorKind
 use Rattle.it_words.specs.Words.{program}
@@ -14,7 +16,8 @@ unfolding program
 is_free = refl
 
 -- an error that has one of no kinds is for want of memory
-kind_of_none : (kinds : Kinds) (error : Error) → HasKind kinds error → kinds ≡ [] → kind_of error ≡ ErrorKind.OutOfMemory
+kind_of_none : (kinds : Kinds) (error : Error) → HasKind kinds error → kinds ≡ []
+    → kind_of error ≡ ErrorKind.OutOfMemory
 kind_of_none [] error (inl memory) none = memory
 kind_of_none [] error (inr among) none = absurd among
 kind_of_none (kind ∷ kinds) error has none = cc
@@ -34,5 +37,6 @@ returns-in-Ok-clause-rows c =
 pub returns-in-Err-clause-err : goal.returns-in-Err-clause-err
 returns-in-Err-clause-err c = λ none.
     let same : app_of c.in_ok-command.field-0 ≡ program = search rules in
-    c.fault_of.ensures (kind_of_none _ c.in-Err.error (c.in-Err.ensures.kinds (ap is_simple_and_free same ∙ is_free))
+    c.fault_of.ensures (kind_of_none _ c.in-Err.error
+    (c.in-Err.ensures.kinds (ap is_simple_and_free same ∙ is_free))
     (ap (λ app. fault_of app (map string_bytes c.args.words.now)) same ∙ none))

@@ -1,0 +1,164 @@
+//! `itv signed`: who signed an envelope.
+ghost use Rattle.std.specs.Prelude.{◌≡◌, ◌≢◌, ◌↔◌, [], IfErr, IfOk, IsErrOf, map, string_bytes};
+ghost use Rattle.std.specs.Io.KnownBytes.{Appends};
+ghost use Rattle.it_base.specs.Writing.{AppendsBeginning};
+ghost use Rattle.it_dsse.specs.Panel.{panel_of};
+ghost use Rattle.it_dsse.specs.Signed.{AreThose, IsSigner};
+ghost use Rattle.it_words.specs.Outcome.{IsOutputFault};
+ghost use Rattle.it_report.specs.Report.{report_of};
+ghost use Rattle.it_commands.specs.SignedOutput.{
+  IsSignedOutput,
+  NamesSigners,
+  names_text,
+  no_envelope,
+  ring_object,
+};
+ghost use Rattle.it_commands.specs.inside.SignerNames.{ListsNames};
+
+use crate::output::{Output, put};
+use it_base::sequence::Sequence;
+use it_base::text::Text;
+use it_dsse::check::SignatureCheck;
+use it_dsse::envelope::{Envelope, EnvelopeFault};
+use it_dsse::key_object::KeyObject;
+use it_dsse::signed_ids;
+use it_report::name::push_name;
+use it_report::refusal::{Fault, Refusal};
+use it_report::refused_report;
+use it_report::verdict::Verdict;
+use it_words::outcome::{RunFault, Status};
+use std::alloc::{AllocError, Global};
+use std::io::Write;
+
+/// Writes those of `ids` that signed the envelope, in the order given, each as a report writes a
+/// name and on a line of its own. The `panel` is asked with the key object `hmac`, `hmac-sha256`
+/// and an empty public part (DSSE v1.0, "Protocol").
+///
+/// The answer is `Good` where some id signed, and `Refused` elsewhere. Where the bytes are no
+/// envelope, the report of that refusal is written.
+///
+/// # Errors
+///
+/// `Write` where the output could not be written; a beginning of it went out. `OutOfMemory` where
+/// memory was refused; nothing went out.
+pub fn run_signed<W: Write>(
+    alloc: Global,
+    envelope: &[u8],
+    ids: &[String],
+    panel: &[Box<dyn SignatureCheck>],
+    out: &mut W,
+) -> Result<Status, RunFault>
+    ensures ok { IfOk result (λ status. (text : _)
+        × IsSignedOutput (panel_of (map meaning panel.now)) (map string_bytes ids.now)
+        envelope.now text status
+        × Appends (W.contents out.old) (W.contents out.new) text) }
+    ensures write { IsErrOf result RunFault.Write → (text : _) × (status : _)
+        × IsSignedOutput (panel_of (map meaning panel.now)) (map string_bytes ids.now)
+        envelope.now text status
+        × AppendsBeginning (W.contents out.old) (W.contents out.new) text }
+    ensures memory { IsErrOf result RunFault.OutOfMemory → out.new ≡ out.old }
+    ensures faults { IfErr result IsOutputFault }
+{
+    let output = signed_output(alloc, envelope, ids, panel)?;
+    put(out, &output)
+}
+
+fn signed_output(
+    alloc: Global,
+    bytes: &[u8],
+    ids: &[String],
+    panel: &[Box<dyn SignatureCheck>],
+) -> Result<Output, AllocError>
+    ensures { IfOk result (λ output. IsSignedOutput (panel_of (map meaning panel.now)) (map
+        string_bytes ids.now)
+        bytes.now output.text.items output.status) }
+{
+    match Envelope::read(alloc, bytes) {
+        Ok(envelope) => signers_output(alloc, &envelope, ids, panel),
+        Err(EnvelopeFault::BadEnvelope) => no_envelope_output(alloc),
+        Err(EnvelopeFault::OutOfMemory) => Err(AllocError),
+    }
+}
+
+fn no_envelope_output(alloc: Global) -> Result<Output, AllocError>
+    ensures { IfOk result (λ output. (output.text.items ≡ report_of (Verdict.Refused no_envelope))
+        × (output.status ≡ Status.Refused)) }
+{
+    let refusal = Refusal {
+        at: Sequence::from(Vec::new(alloc)),
+        fault: Fault::BadEnvelope,
+    };
+    Ok(Output {
+        text: refused_report(alloc, &refusal)?,
+        status: Status::Refused,
+    })
+}
+
+fn signers_output(
+    alloc: Global,
+    envelope: &Envelope,
+    ids: &[String],
+    panel: &[Box<dyn SignatureCheck>],
+) -> Result<Output, AllocError>
+    ensures { IfOk result (λ output. NamesSigners (panel_of (map meaning panel.now)) (map
+        string_bytes ids.now)
+        envelope.now output.text.items output.status) }
+{
+    let signers = signers(alloc, envelope, ids, panel)?;
+    names_output(alloc, signers.as_slice())
+}
+
+fn signers(
+    alloc: Global,
+    envelope: &Envelope,
+    ids: &[String],
+    panel: &[Box<dyn SignatureCheck>],
+) -> Result<Vec<String>, AllocError>
+    ensures { IfOk result (λ signers. AreThose
+        (IsSigner (panel_of (map meaning panel.now)) envelope.now ring_object)
+        (map string_bytes ids.now) (map string_bytes signers.items)) }
+{
+    let object = ring_object(alloc)?;
+    signed_ids(alloc, envelope, ids, &object, panel)
+}
+
+fn ring_object(alloc: Global) -> Result<KeyObject, AllocError>
+    ensures { IfOk result (λ object. object ≡ ring_object) }
+{
+    Ok(KeyObject {
+        keytype: Text::from(String::from_str(alloc, "hmac")?),
+        scheme: Text::from(String::from_str(alloc, "hmac-sha256")?),
+        public: Text::from(String::new(alloc)),
+    })
+}
+
+fn names_output(alloc: Global, names: &[String]) -> Result<Output, AllocError>
+    ensures { IfOk result (λ output. ListsNames (map string_bytes names.now)
+        output.text.items output.status) }
+{
+    Ok(Output {
+        text: names_text(alloc, names)?,
+        status: status_of(names),
+    })
+}
+
+fn status_of(names: &[String]) -> Status
+    ensures { (result ≡ Status.Good) ↔ (map string_bytes names.now ≢ []) }
+{
+    if names.is_empty() {
+        Status::Refused
+    } else {
+        Status::Good
+    }
+}
+
+fn names_text(alloc: Global, names: &[String]) -> Result<Vec<u8>, AllocError>
+    ensures { IfOk result (λ text. text.items ≡ names_text (map string_bytes names.now)) }
+{
+    let mut text = Vec::new(alloc);
+    for name in names {
+        push_name(&mut text, name.as_bytes())?;
+        text.push(b'\n')?;
+    }
+    Ok(text)
+}

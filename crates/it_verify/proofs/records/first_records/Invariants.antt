@@ -1,7 +1,0 @@
-use Rattle.std.proofs.Common.{take}
-use Rattle.it_verify.specs.Gathering.{AreFirsts}
-use Rattle.it_verify.proofs.records.first_records.Given as goal
-
--- the first records among those so far
-abbrev pub invariant-loop-name : goal.invariant-loop-name
-invariant-loop-name l = AreFirsts (take l.name-index l.records) l.firsts

@@ -1,0 +1,25 @@
+use Rattle.std.proofs.Common.{◌≡◌, ◌∙◌, ◌+◌, ◌++◌, List, [], ◌∷◌, take, ap, sym}
+use Rattle.std.proofs.lemmas.List.{take_more}
+use Rattle.std.specs.List.{AllZip}
+use Rattle.itv.specs.Reading.{HoldsRing}
+use Rattle.itv.proofs.verify_command.read_rings.Goals as goal
+
+-- one more at the end of both lists
+with_last : {A B : Type 0} (R : A → B → Type 0) (xs : List A) (ys : List B) (x : A) (y : B)
+    → AllZip R xs ys → R x y → AllZip R (xs ++ x ∷ []) (ys ++ y ∷ [])
+with_last R [] [] x y each last = (last, tt)
+with_last R [] (b ∷ ys) x y each last = absurd each
+with_last R (a ∷ xs) [] x y each last = absurd each
+with_last R (a ∷ xs) (b ∷ ys) x y each last = (each.0, with_last R xs ys x y each.1 last)
+
+pub loop-path-preserved : goal.loop-path-preserved
+loop-path-preserved g c =
+    let paths = c.args.paths.now in
+    let i = c.loop-path.path-index in
+    let held = rw c.as_str.ensures at c.in_ok-read_ring.ensures in
+    let more : take (i + 1) paths ≡ take i paths ++ c.path-item.result ∷ [] =
+    take_more paths i c.path-item.result c.loop-path-test.true ∙ ap (λ x. take i paths ++ x ∷ [])
+    (sym c.path-item.is) in
+    rw (c.in_ok-push.ensures.items, more)
+    (with_last (HoldsRing g.R.Disk.holdings) (take i paths) c.loop-path.rings.items
+    c.path-item.result c.in_ok-read_ring.field-0 c.loop-path.invariant held)

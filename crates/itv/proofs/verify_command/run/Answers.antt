@@ -1,0 +1,16 @@
+use Rattle.std.proofs.Common.{rules}
+use Rattle.itv.proofs.verify_command.run.Goals as goal
+
+pub returns-clause-ok : goal.returns-clause-ok
+returns-clause-ok g c =
+    let told = c.in_ok-verify_by.ensures.ok in (
+      told.0,
+      record {
+        inputs = c.in_ok-inputs.inputs;
+        are_inputs = c.in_ok-inputs.ensures;
+        rings = c.in_ok-rings.rings.items;
+        holds_rings = search rules;
+        is_output = told.1;
+      },
+      told.2,
+    )

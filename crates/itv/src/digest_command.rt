@@ -1,0 +1,58 @@
+//! `itv digest FILE..`.
+ghost use Rattle.std.specs.Prelude.{◌≡◌, IfOk};
+ghost use Rattle.std.specs.Io.KnownBytes.{Appends};
+ghost use Rattle.itv.specs.Commands.{IsLineOf, ListsDigests};
+
+use crate::disk::Disk;
+use crate::fault::Fault;
+use it_base::text::Text;
+use it_digest::reader::DigestFault;
+use it_verify::outcome::{RunFault, Status};
+use it_verify::words::digest_words::DigestWords;
+use it_verify::{check_name, run_digest};
+use std::io::Write;
+
+/// How many bytes a file may have.
+const MOST_BYTES: u64 = 1_099_511_627_776;
+
+/// Writes the line of each file, file by file. The lines before a file that fails stand.
+pub(crate) fn run<R: Disk + AllocGlobal, W: Write>(
+    rt: &R,
+    words: &DigestWords,
+    out: &mut W,
+) -> Result<Status, Fault>
+    ensures { IfOk result (λ status. (status ≡ Status.Good) × (text : _)
+        × ListsDigests R.holdings words.now.files text
+        × Appends (W.contents out.old) (W.contents out.new) text) }
+{
+    let files = words.files.as_slice();
+    for file in files {
+        digest_file(rt, file, out)?;
+    }
+    Ok(Status::Good)
+}
+
+fn digest_file<R: Disk + AllocGlobal, W: Write>(
+    rt: &R,
+    file: &Text,
+    out: &mut W,
+) -> Result<(), Fault>
+    ensures { IfOk result (λ _. (line : _) × IsLineOf R.holdings file.now line
+        × Appends (W.contents out.old) (W.contents out.new) line) }
+{
+    let alloc = rt.alloc();
+    let path = file.as_str();
+    check_name(path)?;
+    let mut input = rt.open(path)?;
+    match run_digest(alloc, path, &mut input, MOST_BYTES, out) {
+        Ok(_) => Ok(()),
+        Err(RunFault::Digest(DigestFault::Read)) => Err(Fault::Unread {
+            path: String::from_str(alloc, path)?,
+        }),
+        Err(RunFault::Digest(DigestFault::TooLarge)) => Err(Fault::TooLarge {
+            path: String::from_str(alloc, path)?,
+            limit: MOST_BYTES,
+        }),
+        Err(fault) => Err(Fault::Run(fault)),
+    }
+}

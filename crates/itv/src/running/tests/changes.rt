@@ -1,0 +1,150 @@
+use super::ran;
+use std::test::Fail;
+
+const VERIFY: &str = "itv verify --policy policy --layout layout --links links --sums sums \
+    --provenance provenance --records records --ring ring --at 2030-01-01T00:00:00Z --depth 1";
+
+const ACCEPTED: &str = "accepted\nstep build 2\nfile app\n";
+
+// A part of the words above, what stands in its place, and then what a verification comes to, as in
+// a row.
+struct Change {
+    from: &'static str,
+    to: &'static str,
+    text: &'static str,
+    status: u8,
+}
+
+static CHANGES: [Change; 20] = [
+    Change {
+        from: "--depth 1",
+        to: "--depth 1",
+        text: ACCEPTED,
+        status: 0,
+    },
+    Change {
+        from: " --depth 1",
+        to: "",
+        text: ACCEPTED,
+        status: 0,
+    },
+    Change {
+        from: "--depth 1",
+        to: "--depth 0",
+        text: "refused 32 TooDeep\nat build/bob\n",
+        status: 1,
+    },
+    Change {
+        from: "00:00:00Z",
+        to: "00:00:01Z",
+        text: "refused 30 Expired\nat -\n",
+        status: 1,
+    },
+    Change {
+        from: "--policy policy",
+        to: "--policy layout",
+        text: "refused 10 BadPolicy\nat -\npart owners\n",
+        status: 1,
+    },
+    Change {
+        from: "--layout layout",
+        to: "--layout policy",
+        text: "refused 20 BadEnvelope\nat -\n",
+        status: 1,
+    },
+    Change {
+        from: "--links links",
+        to: "--links records",
+        text: "refused 33 Threshold\nat -\nstep build\nfound 0\nneeded 2\n",
+        status: 1,
+    },
+    Change {
+        from: "--links links",
+        to: "--links gone",
+        text: "cannot read gone: entity not found",
+        status: 2,
+    },
+    Change {
+        from: "--sums sums",
+        to: "--sums policy",
+        text: "refused 12 BadSums\nat -\nline 1\n",
+        status: 1,
+    },
+    Change {
+        from: "--provenance provenance",
+        to: "--provenance sums",
+        text: "refused 61 NoProvenance\nat -\npath app\n",
+        status: 1,
+    },
+    Change {
+        from: "--provenance provenance",
+        to: "--provenance gone",
+        text: "cannot read gone: entity not found",
+        status: 2,
+    },
+    Change {
+        from: " --provenance provenance",
+        to: "",
+        text: "refused 61 NoProvenance\nat -\npath app\n",
+        status: 1,
+    },
+    Change {
+        from: "--records records",
+        to: "--records links",
+        text: "refused 50 RecordMissing\nat -\nname look\n",
+        status: 1,
+    },
+    Change {
+        from: "--records records",
+        to: "--records gone",
+        text: "cannot read gone: entity not found",
+        status: 2,
+    },
+    Change {
+        from: " --records records",
+        to: "",
+        text: "refused 50 RecordMissing\nat -\nname look\n",
+        status: 1,
+    },
+    Change {
+        from: "--ring ring",
+        to: "--ring other",
+        text: "refused 33 Threshold\nat -\nstep build\nfound 1\nneeded 2\n",
+        status: 1,
+    },
+    Change {
+        from: "--ring ring",
+        to: "--ring policy",
+        text: "policy is no ring of secrets",
+        status: 2,
+    },
+    Change {
+        from: "--ring ring",
+        to: "--ring ring --ring other",
+        text: ACCEPTED,
+        status: 0,
+    },
+    Change {
+        from: "--ring ring",
+        to: "--ring other --ring ring",
+        text: "refused 33 Threshold\nat -\nstep build\nfound 1\nneeded 2\n",
+        status: 1,
+    },
+    Change {
+        from: "--ring ring",
+        to: "--ring ring --ring policy",
+        text: "policy is no ring of secrets",
+        status: 2,
+    },
+];
+
+#[test]
+fn verifies_what_stands_at_each_path(rt: HostRuntime) -> Result<(), Fail> {
+    for change in CHANGES.as_slice() {
+        let words = VERIFY.replace(rt.alloc(), change.from, change.to)?;
+        let (text, status) = ran(rt.alloc(), words.as_str())?;
+        assert_eq!(rt; text.as_str(), change.text, "{words}");
+        assert_eq!(rt; status, change.status, "{words}");
+    }
+    Ok(())
+}

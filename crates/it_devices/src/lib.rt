@@ -28,6 +28,15 @@ pub fn strings(alloc: Global, words: &[&str]) -> Result<Vec<String>, AllocError>
     Ok(strings)
 }
 
+/// The words of a line, each two with a space between them.
+pub fn words(alloc: Global, line: &str) -> Result<Vec<String>, AllocError> {
+    let mut words = Vec::new(alloc);
+    for word in line.split(' ') {
+        words.push(String::from_str(alloc, word)?)?;
+    }
+    Ok(words)
+}
+
 /// The text of so many lists, each inside the one before.
 pub fn nested(alloc: Global, levels: usize) -> Result<String, AllocError> {
     let mut text = String::new(alloc);
@@ -40,8 +49,8 @@ pub fn nested(alloc: Global, levels: usize) -> Result<String, AllocError> {
     Ok(text)
 }
 
-/// The text of an envelope with the first byte of its first signature changed; without a signature, as
-/// it is.
+/// The text of an envelope with the first byte of its first signature changed; without a signature,
+/// as it is.
 pub fn with_changed_code(alloc: Global, envelope: &str) -> Result<String, AllocError> {
     let Some((front, code)) = envelope.split_once("\"sig\":\"") else {
         return String::from_str(alloc, envelope);

@@ -1,6 +1,6 @@
 use it_base::document::read_document;
 use it_base::parts::FromDocument;
-use it_devices::{ABC, NOTHING, strings};
+use it_devices::{ABC, NOTHING, words};
 use it_docs::layout_fault::{LayoutFault, LayoutPart};
 use it_docs::layout_reading::read_layout;
 use it_docs::link::read_link;
@@ -45,8 +45,8 @@ fn rule_text(alloc: Global, rule: &Rule) -> Result<String, AllocError> {
     }
 }
 
-fn read_words(alloc: Global, words: &[&str]) -> Result<String, AllocError> {
-    match read_rule(alloc, &strings(alloc, words)?)? {
+fn read_line(alloc: Global, line: &str) -> Result<String, AllocError> {
+    match read_rule(alloc, words(alloc, line)?.as_slice())? {
         None => String::from_str(alloc, "none"),
         Some(rule) => rule_text(alloc, &rule),
     }
@@ -78,38 +78,36 @@ fn reads_moments_that_exist_and_no_leap_second(rt: HostRuntime) {
 #[test]
 fn reads_rules(rt: HostRuntime) -> Result<(), Fail> {
     let alloc = rt.alloc();
-    let rows: [(&[&str], &str); 14] = [
+    let rows = [
         (
-            &["match", "IN", "with", "products", "from", "IN"],
+            "match IN with products from IN",
             "match IN [] products [] IN",
         ),
         (
-            &["MATCH", "p", "in", "a", "WITH", "MATERIALS", "FROM", "s"],
+            "MATCH p in a WITH MATERIALS FROM s",
             "match p [a] materials [] s",
         ),
         (
-            &["MATCH", "p", "WITH", "materials", "IN", "b", "From", "s"],
+            "MATCH p WITH materials IN b From s",
             "match p [] materials [b] s",
         ),
         (
-            &[
-                "MATCH", "p", "IN", "a", "WITH", "Products", "IN", "b", "FROM", "s",
-            ],
+            "MATCH p IN a WITH Products IN b FROM s",
             "match p [a] products [b] s",
         ),
-        (&["CREATE", "a*"], "create a*"),
-        (&["delete", "a"], "delete a"),
-        (&["Modify", ""], "modify "),
-        (&["ALLOW", "*"], "allow *"),
-        (&["DISALLOW", "*"], "disallow *"),
-        (&["require", "*"], "require *"),
-        (&["MATCH", "a", "IN", "b", "FROM", "c"], "none"),
-        (&["ALLOW"], "none"),
-        (&["ALLOW", "a", "b"], "none"),
-        (&["DI\u{17f}ALLOW", "a"], "none"),
+        ("CREATE a*", "create a*"),
+        ("delete a", "delete a"),
+        ("Modify ", "modify "),
+        ("ALLOW *", "allow *"),
+        ("DISALLOW *", "disallow *"),
+        ("require *", "require *"),
+        ("MATCH a IN b FROM c", "none"),
+        ("ALLOW", "none"),
+        ("ALLOW a b", "none"),
+        ("DI\u{17f}ALLOW a", "none"),
     ];
-    for (words, want) in rows {
-        assert_eq!(rt; read_words(alloc, words)?.as_str(), want);
+    for (line, want) in rows {
+        assert_eq!(rt; read_line(alloc, line)?.as_str(), want);
     }
     Ok(())
 }
@@ -141,6 +139,11 @@ fn compares_trees(rt: HostRuntime) -> Result<(), Fail> {
         ("{\"a\":null}", "{}", false),
         ("{\"a\":[1.5]}", "{\"a\":[1.5]}", false),
         ("[1,2]", "[1]", false),
+        ("[1,2]", "[2,1]", false),
+        ("[]", "[]", true),
+        ("{}", "{}", true),
+        ("{\"a\":1}", "{\"b\":1}", false),
+        ("{\"a\":1}", "{\"a\":2}", false),
     ];
     for (a, b, want) in rows {
         assert_eq!(rt;
@@ -167,24 +170,6 @@ fn layout_text(alloc: Global, front: &str, steps: &str, rest: &str) -> Result<St
 }
 
 const FRONT: &str = "\"_type\":\"layout\",\"expires\":\"2030-01-01T00:00:00Z\",";
-
-fn layout_part(alloc: Global, text: &str) -> Result<String, AllocError> {
-    match read_layout(alloc, text.as_bytes()) {
-        Ok(_) => String::from_str(alloc, "none"),
-        Err(LayoutFault::OutOfMemory) => Err(AllocError),
-        Err(LayoutFault::BadLayout(part)) => match part {
-            LayoutPart::Json => String::from_str(alloc, "json"),
-            LayoutPart::WrongType => String::from_str(alloc, "type"),
-            LayoutPart::Expires => String::from_str(alloc, "expires"),
-            LayoutPart::Keys => String::from_str(alloc, "keys"),
-            LayoutPart::Steps => String::from_str(alloc, "steps"),
-            LayoutPart::Step(n) => format!(in alloc; "step {n}"),
-            LayoutPart::Inspects => String::from_str(alloc, "inspects"),
-            LayoutPart::Inspect(n) => format!(in alloc; "inspect {n}"),
-            LayoutPart::DuplicateName(name) => format!(in alloc; "duplicate {}", name.as_str()),
-        },
-    }
-}
 
 #[test]
 fn reads_a_layout_with_a_missing_threshold_as_one(rt: HostRuntime) -> Result<(), Fail> {
@@ -225,58 +210,13 @@ fn reads_a_layout_with_a_missing_threshold_as_one(rt: HostRuntime) -> Result<(),
 }
 
 #[test]
-fn names_the_first_bad_part_of_a_layout(rt: HostRuntime) -> Result<(), Fail> {
+fn names_a_bad_part_of_a_layout(rt: HostRuntime) -> Result<(), Fail> {
     let alloc = rt.alloc();
-    let good = step_text(alloc, "build", "1")?;
-    let one = format!(in alloc; "[{}]", good.as_str())?;
-    let twice = format!(in alloc; "[{},{}]", good.as_str(), good.as_str())?;
-    let zero = format!(in alloc; "[{}]", step_text(alloc, "build", "0")?.as_str())?;
-    let float = format!(in alloc; "[{}]", step_text(alloc, "build", "1.0")?.as_str())?;
-    let word = format!(in alloc; "[{}]", step_text(alloc, "build", "\"1\"")?.as_str())?;
-    let most = format!(in alloc;
-        "[{}]",
-        step_text(alloc, "a", "18446744073709551615")?.as_str()
-    )?;
-    let rows = [
-        (FRONT, one.as_str(), "", "none"),
-        (FRONT, most.as_str(), "", "none"),
-        (FRONT, zero.as_str(), "", "step 0"),
-        (FRONT, float.as_str(), "", "step 0"),
-        (FRONT, word.as_str(), "", "step 0"),
-        (FRONT, "[null]", "", "step 0"),
-        (FRONT, "7", "", "steps"),
-        (FRONT, "null", ",\"inspect\":7", "inspects"),
-        (FRONT, zero.as_str(), ",\"inspect\":7", "step 0"),
-        (
-            FRONT,
-            "[]",
-            ",\"inspect\":[{\"name\":\"a\"},{}]",
-            "inspect 1",
-        ),
-        (FRONT, "[]", ",\"keys\":[]", "keys"),
-        (FRONT, "[]", ",\"keys\":{\"a\":7}", "keys"),
-        (
-            "\"_type\":\"layout\",\"expires\":\"2030\",",
-            zero.as_str(),
-            "",
-            "expires",
-        ),
-        ("\"expires\":\"2030\",", one.as_str(), "", "type"),
-        (FRONT, twice.as_str(), "", "duplicate build"),
-        (
-            FRONT,
-            "[{\"name\":\"a\"},{\"name\":\"b\"}]",
-            ",\"inspect\":[{\"name\":\"b\"},{\"name\":\"a\"}]",
-            "duplicate b",
-        ),
-    ];
-    for (front, steps, rest, want) in rows {
-        let text = layout_text(alloc, front, steps, rest)?;
-        assert_eq!(rt; layout_part(alloc, text.as_str())?.as_str(), want);
-    }
-    for text in ["", "[]", "{", "7"] {
-        assert_eq!(rt; layout_part(alloc, text)?.as_str(), "json", "{text}");
-    }
+    let step = step_text(alloc, "build", "0")?;
+    let steps = format!(in alloc; "[{}]", step.as_str())?;
+    let text = layout_text(alloc, FRONT, steps.as_str(), ",\"inspect\":7")?;
+    let read = read_layout(alloc, text.as_bytes());
+    assert!(rt; matches!(read, Err(LayoutFault::BadLayout(LayoutPart::Step(0)))));
     Ok(())
 }
 
@@ -388,28 +328,14 @@ fn reads_statements(rt: HostRuntime) -> Result<(), Fail> {
     Ok(())
 }
 
-fn policy_part(alloc: Global, text: &str) -> Result<String, AllocError> {
-    match read_policy(alloc, text.as_bytes()) {
-        Ok(_) => String::from_str(alloc, "none"),
-        Err(PolicyFault::OutOfMemory) => Err(AllocError),
-        Err(PolicyFault::BadPolicy(part)) => match part {
-            PolicyPart::Json => String::from_str(alloc, "json"),
-            PolicyPart::Owners => String::from_str(alloc, "owners"),
-            PolicyPart::Deliver => String::from_str(alloc, "deliver"),
-            PolicyPart::Expectations => String::from_str(alloc, "expectations"),
-            PolicyPart::Expectation(n) => format!(in alloc; "expectation {n}"),
-        },
-    }
-}
-
 #[test]
 fn reads_a_policy(rt: HostRuntime) -> Result<(), Fail> {
     let alloc = rt.alloc();
     let text = format!(in alloc;
         "{{\"owners\":{{\"owner\":{K}}},
         \"deliver\":[[\"MATCH\",\"*\",\"WITH\",\"PRODUCTS\",\"FROM\",\"build\"]],
-        \"expectations\":[{{\"files\":\"*\",
-        \"builders\":[{{\"id\":\"https://ci.example/1\",\"keys\":{{\"builder\":{K}}}}}],
+        \"expectations\":[{{\"files\":\"*\",\"level\":3,
+        \"builders\":[{{\"id\":\"https://ci.example/1\",\"level\":null,\"keys\":{{\"builder\":{K}}}}}],
         \"buildType\":\"https://ci.example/make\",\"parameters\":{{\"ref\":\"v1\"}},\"ignore\":[\"note\"]}}]}}"
     )?;
     let Ok(policy) = read_policy(alloc, text.as_bytes()) else {
@@ -423,9 +349,11 @@ fn reads_a_policy(rt: HostRuntime) -> Result<(), Fail> {
     );
     let expectation = policy.expectations.as_slice().first().ok_or("none")?;
     assert_eq!(rt; expectation.files.text(), "*");
+    assert_eq!(rt; expectation.level, 3);
     assert_eq!(rt; expectation.build_type.as_str(), "https://ci.example/make");
     let builder = expectation.builders.as_slice().first().ok_or("no builder")?;
     assert_eq!(rt; builder.id.as_str(), "https://ci.example/1");
+    assert_eq!(rt; builder.level, 0);
     assert!(rt; builder.keys.get("builder").is_some());
     let expected = tree(alloc, "\"v1\"")?;
     assert!(rt;
@@ -441,103 +369,10 @@ fn reads_a_policy(rt: HostRuntime) -> Result<(), Fail> {
 }
 
 #[test]
-fn names_the_first_bad_part_of_a_policy(rt: HostRuntime) -> Result<(), Fail> {
-    let alloc = rt.alloc();
-    let rows = [
-        ("{}", "", "owners"),
-        ("{\"a\":null}", "", "owners"),
-        ("{\"a\":{}}", "", "none"),
-        ("{\"a\":{}}", ",\"deliver\":[[\"ALLOW\"]]", "deliver"),
-        (
-            "{\"a\":{}}",
-            ",\"deliver\":null,\"expectations\":7",
-            "expectations",
-        ),
-        (
-            "{\"a\":{}}",
-            ",\"expectations\":[{\"files\":\"*\"}]",
-            "expectation 0",
-        ),
-        (
-            "{\"a\":{}}",
-            ",\"expectations\":[{\"files\":\"*\",\"buildType\":\"\"}]",
-            "none",
-        ),
-    ];
-    for (owners, rest, want) in rows {
-        let text = format!(in alloc; "{{\"owners\":{owners}{rest}}}")?;
-        assert_eq!(rt;
-            policy_part(alloc, text.as_str())?.as_str(),
-            want,
-            "{owners}{rest}"
-        );
-    }
-    assert_eq!(rt; policy_part(alloc, "[]")?.as_str(), "json");
-    Ok(())
-}
-
-// A policy of two expectations, with more members in the second and in its builder.
-fn policy_of_levels(alloc: Global, more: &str, of_builder: &str) -> Result<String, AllocError> {
-    format!(in alloc;
-        "{{\"owners\":{{\"a\":{{}}}},\"expectations\":[{{\"files\":\"*\",\"buildType\":\"\"}},
-        {{\"files\":\"*\",\"buildType\":\"\",\"builders\":[{{\"id\":\"b\",\"keys\":{{}}{of_builder}}}]{more}}}]}}"
-    )
-}
-
-// The levels of the second expectation and of its builder.
-fn levels_of(alloc: Global, more: &str, of_builder: &str) -> Result<(u8, u8), Fail> {
-    let text = policy_of_levels(alloc, more, of_builder)?;
-    let policy = read_policy(alloc, text.as_bytes()).ok().ok_or("no policy")?;
-    let expectation = policy.expectations.as_slice().last().ok_or("none")?;
-    let builder = expectation.builders.as_slice().first().ok_or("no builder")?;
-    Ok((expectation.level, builder.level))
-}
-
-// A level is a whole number from 0 to 3, and 0 where it is missing or null.
-#[test]
-fn reads_the_levels_of_a_policy(rt: HostRuntime) -> Result<(), Fail> {
-    let alloc = rt.alloc();
-    let rows = [
-        ("", 0),
-        (",\"level\":null", 0),
-        (",\"level\":1", 1),
-        (",\"level\":3", 3),
-        (",\"level\":4,\"level\":1", 1),
-    ];
-    for (member, level) in rows {
-        let (wanted, reached) = levels_of(alloc, member, ",\"level\":2")?;
-        assert_eq!(rt; wanted, level);
-        assert_eq!(rt; reached, 2);
-        let (wanted, reached) = levels_of(alloc, ",\"level\":2", member)?;
-        assert_eq!(rt; wanted, 2);
-        assert_eq!(rt; reached, level);
-    }
-    Ok(())
-}
-
-#[test]
-fn refuses_an_expectation_for_a_bad_level(rt: HostRuntime) -> Result<(), Fail> {
-    let alloc = rt.alloc();
-    let bad = [
-        "4",
-        "-1",
-        "2.0",
-        "\"2\"",
-        "true",
-        "[]",
-        "{}",
-        "256",
-        "18446744073709551616",
-    ];
-    for value in bad {
-        let level = format!(in alloc; ",\"level\":{value}")?;
-        let level = level.as_str();
-        let of_expectation = policy_of_levels(alloc, level, "")?;
-        let part = policy_part(alloc, of_expectation.as_str())?;
-        assert_eq!(rt; part.as_str(), "expectation 1", "{value}");
-        let of_builder = policy_of_levels(alloc, "", level)?;
-        let part = policy_part(alloc, of_builder.as_str())?;
-        assert_eq!(rt; part.as_str(), "expectation 1", "{value}");
-    }
+fn names_a_bad_part_of_a_policy(rt: HostRuntime) -> Result<(), Fail> {
+    let text = r#"{"owners":{"a":{}},"deliver":null,"expectations":[{"files":"*"}]}"#;
+    let read = read_policy(rt.alloc(), text.as_bytes());
+    let part = PolicyPart::Expectation(0);
+    assert_eq!(rt; read.err(), Some(PolicyFault::BadPolicy(part)));
     Ok(())
 }

@@ -16,7 +16,8 @@ use std::test::Fail;
 #[test]
 fn encodes_type_and_body_with_their_lengths_in_bytes(rt: HostRuntime) -> Result<(), Fail> {
     let alloc = rt.alloc();
-    // The example of the DSSE specification, an empty body, and a type of more bytes than characters.
+    // The example of the DSSE specification, an empty body, and a type of more bytes than
+    // characters.
     let rows = [
         (
             "http://example.com/HelloWorld",
@@ -380,50 +381,64 @@ fn envelope(alloc: Global, signers: &[(&str, &str)]) -> Result<Envelope, AllocEr
     })
 }
 
+// Which key of a panel signed for an id, of these secrets and hints, and how many signatures were
+// tried.
+fn signer(
+    alloc: Global,
+    signers: &[(&str, &str)],
+    id: &str,
+    panel: &[Box<dyn SignatureCheck>],
+) -> Result<(Option<(usize, u32)>, u64), AllocError> {
+    let mut meter = Meter { asked: 0 };
+    let envelope = envelope(alloc, signers)?;
+    let found = signed_by(&envelope, id, &object(alloc)?, panel, &mut meter);
+    Ok((found, meter.asked))
+}
+
 #[test]
 fn finds_signers(rt: HostRuntime) -> Result<(), Fail> {
     let alloc = rt.alloc();
     let panel: [Box<dyn SignatureCheck>; 1] = [Box::new(alloc, ring(alloc)?)?];
-    let object = object(alloc)?;
-    let rows: [(&[(&str, &str)], &str, Option<(usize, u32)>, u64); 9] = [
-        (&[("bob", "")], "alice", None, 8),
-        (&[("bob", "")], "bob", Some((0, 2)), 8),
-        (&[("bob", "")], "bobz", Some((0, 2)), 8),
-        (&[("bob", "bob")], "bob", Some((0, 2)), 8),
-        (&[("bob", "bob")], "bobz", None, 7),
-        (&[("bob", "alice")], "bob", None, 7),
-        (&[("bob", "")], "dave", None, 7),
-        (
-            &[
-                ("x", ""),
-                ("alice", "bob"),
-                ("y", "alice"),
-                ("alice", ""),
-                ("alice", ""),
-            ],
-            "alice",
-            Some((0, 1)),
-            10,
-        ),
-        (&[], "alice", None, 7),
+    let rows = [
+        ("", "alice", None, 1),
+        ("", "bob", Some((0, 2)), 1),
+        ("", "bobz", Some((0, 2)), 1),
+        ("bob", "bob", Some((0, 2)), 1),
+        ("bob", "bobz", None, 0),
+        ("alice", "bob", None, 0),
+        ("", "dave", None, 0),
     ];
-    for (signers, id, want, asked) in rows {
-        let mut meter = Meter { asked: 7 };
-        let envelope = envelope(alloc, signers)?;
-        let found = signed_by(&envelope, id, &object, &panel, &mut meter);
-        assert_eq!(rt; found, want, "{id}");
-        assert_eq!(rt; meter.asked, asked, "{id}");
+    for (hint, id, want, asked) in rows {
+        let found = signer(alloc, &[("bob", hint)], id, &panel)?;
+        assert_eq!(rt; found, (want, asked), "{id} under {hint}");
     }
     Ok(())
 }
 
+// A key that is not the ring's, a hint for another id, another key under the hint, and the key
+// twice.
+#[test]
+fn stops_at_the_first_valid_signature(rt: HostRuntime) -> Result<(), Fail> {
+    let alloc = rt.alloc();
+    let panel: [Box<dyn SignatureCheck>; 1] = [Box::new(alloc, ring(alloc)?)?];
+    let signers = [
+        ("x", ""),
+        ("alice", "bob"),
+        ("y", "alice"),
+        ("alice", ""),
+        ("alice", ""),
+    ];
+    let found = signer(alloc, &signers, "alice", &panel)?;
+    assert_eq!(rt; found, (Some((0, 1)), 3));
+    Ok(())
+}
+
 const CAROL_AND_ANOTHER_ALICE: &str =
-    "[{\"id\":\"carol\",\"secret\":\"6361726f6c\"},{\"id\":\"alice\",\"secret\":\"626f62\"}]";
+    r#"[{"id":"carol","secret":"6361726f6c"},{"id":"alice","secret":"626f62"}]"#;
 
 #[test]
 fn finds_signers_by_a_panel(rt: HostRuntime) -> Result<(), Fail> {
     let alloc = rt.alloc();
-    let object = object(alloc)?;
     let first = ring_of(alloc, CAROL_AND_ANOTHER_ALICE)?;
     let panel: [Box<dyn SignatureCheck>; 2] = [
         Box::new(alloc, first)?,
@@ -438,23 +453,16 @@ fn finds_signers_by_a_panel(rt: HostRuntime) -> Result<(), Fail> {
         ("bob", "dave", None, 0),
     ];
     for (secret, id, want, asked) in rows {
-        let mut meter = Meter { asked: 0 };
-        let envelope = envelope(alloc, &[(secret, "")])?;
-        let found = signed_by(&envelope, id, &object, &panel, &mut meter);
-        assert_eq!(rt; found, want, "{id} signed with {secret}");
-        assert_eq!(rt; meter.asked, asked, "{id} signed with {secret}");
+        let found = signer(alloc, &[(secret, "")], id, &panel)?;
+        assert_eq!(rt; found, (want, asked), "{id} signed with {secret}");
     }
     Ok(())
 }
 
 #[test]
 fn finds_nobody_by_an_empty_panel(rt: HostRuntime) -> Result<(), Fail> {
-    let alloc = rt.alloc();
-    let mut meter = Meter { asked: 0 };
-    let envelope = envelope(alloc, &[("alice", "")])?;
-    let found = signed_by(&envelope, "alice", &object(alloc)?, &[], &mut meter);
-    assert_eq!(rt; found, None);
-    assert_eq!(rt; meter.asked, 0);
+    let found = signer(rt.alloc(), &[("alice", "")], "alice", &[])?;
+    assert_eq!(rt; found, (None, 0));
     Ok(())
 }
 

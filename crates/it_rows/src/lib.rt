@@ -1,5 +1,5 @@
-//! The tests of the libraries below the whole verification, from outside: worked rows, tables of good
-//! and bad inputs, and devices that fail. Each calls public functions alone.
+//! The tests of the libraries below the whole verification, from outside: worked rows, tables of
+//! good and bad inputs, and devices that fail. Each calls public functions alone.
 #![tactic(auto)]
 
 #[cfg(test)]

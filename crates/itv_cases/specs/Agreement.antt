@@ -13,9 +13,11 @@ Agrees run = run.given ≡ run.wanted
 
 -- the same, as a truth value
 abbrev pub agrees : Run → Bool
-agrees run = (run.given.status == run.wanted.status) && pointwise nat_eq run.given.report run.wanted.report
+agrees run = (run.given.status == run.wanted.status)
+    && pointwise nat_eq run.given.report run.wanted.report
 
--- the run of a case: what the case wants, and what the verification of its inputs by its rings comes to
+-- the run of a case: what the case wants, and what the verification of its inputs by its rings
+-- comes to
 pub record IsRunOf (case : Case) (run : Run) : Type 0 where
   pub name : run.name ≡ case.name
   pub wanted : run.wanted ≡ case.wanted

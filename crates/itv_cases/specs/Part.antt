@@ -7,7 +7,8 @@ use Rattle.it_base.specs.Parts.{IsPart}
 
 -- the part is a text with these bytes, or an object whose member `hex` stands for them
 abbrev pub IsBytes : Data → List ℕ → Type 0
-IsBytes d bytes = MatchOption (as_str d) (IsPart IsHexadecimal (codes "hex") d bytes) (λ text. text ≡ bytes)
+IsBytes d bytes = MatchOption (as_str d) (IsPart IsHexadecimal (codes "hex") d bytes)
+    (λ text. text ≡ bytes)
 
 -- the part is this number
 abbrev pub IsNumber : Data → ℕ → Type 0

@@ -76,8 +76,8 @@ impl Case {
     ///
     /// # Errors
     ///
-    /// `NoDocument` where the line is no JSON document, `BadMember` with the name of the first member
-    /// that is missing or malformed, `OutOfMemory` where memory was refused.
+    /// `NoDocument` where the line is no JSON document, `BadMember` with the name of the first
+    /// member that is missing or malformed, `OutOfMemory` where memory was refused.
     pub(crate) fn read(alloc: Global, line: &[u8]) -> Result<Case, CaseFault>
         ensures { IfOk result (CaseOf line.now) }
     {

@@ -103,8 +103,8 @@ fn unreadable(alloc: Global, path: &str, error: &io::Error) -> Result<Fault, All
     })
 }
 
-/// The status that the program ends with: 0 where all cases agree, 1 where one differs, 3 for want of
-/// memory, and 2 for every other fault.
+/// The status that the program ends with: 0 where all cases agree, 1 where one differs, 3 for want
+/// of memory, and 2 for every other fault.
 pub(crate) fn exit_status(outcome: &Result<bool, Fault>) -> u8
     ensures { result ≡ program_status outcome.now }
 {

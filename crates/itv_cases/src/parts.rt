@@ -53,8 +53,8 @@ pub(crate) fn bytes_part(
     bytes_of(alloc, needed(case, name)?)?.ok_or(CaseFault::BadMember(name))
 }
 
-/// The bytes that a value is: those of a text, or what the member `hex` of an object stands for. `None`
-/// where it is neither.
+/// The bytes that a value is: those of a text, or what the member `hex` of an object stands for.
+/// `None` where it is neither.
 pub(crate) fn bytes_of(alloc: Global, value: &Value) -> Result<Option<Sequence<u8>>, AllocError>
     ensures { IfOk result (Finds (IsBytes (view value.now))) }
 {

@@ -1,5 +1,5 @@
-//! A small delivery that is accepted, from which the rows of the whole verification start: one step,
-//! one functionary, one file.
+//! A small delivery that is accepted, from which the rows of the whole verification start: one
+//! step, one functionary, one file.
 use it_base::sequence::Sequence;
 use it_base::text::Text;
 use it_chain::bundle::Bundle;
@@ -21,7 +21,8 @@ pub(crate) const RING: &str =
     {"id":"bob","secret":"626f62"},{"id":"bobz","secret":"626f6200"},
     {"id":"carol","secret":"6361726f6c"},{"id":"builder","secret":"6275696c646572"}]"#;
 
-// In the documents K stands for a key object, "A" for the SHA-256 of `abc` and "B" for that of no bytes.
+// In the documents K stands for a key object, "A" for the SHA-256 of `abc` and "B" for that of no
+// bytes.
 const KEY: &str = r#"{"keytype":"hmac","scheme":"hmac-sha256","keyval":{"public":""}}"#;
 
 pub(crate) const LAYOUT: &str = r#"{"_type":"layout","expires":"2030-01-01T00:00:00Z","readme":"",

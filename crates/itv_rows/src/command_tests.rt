@@ -1,10 +1,8 @@
-use it_devices::{Source, strings};
+use it_devices::Source;
 use it_digest::reader::DigestFault;
 use it_dsse::ring::HmacRing;
 use it_verify::outcome::{RunFault, Status};
-use it_verify::words::{Words, WordsFault, read_words};
 use it_verify::{run_digest, run_match, run_pae, run_sign};
-use std::alloc::{AllocError, Global};
 use std::test::Fail;
 
 const KIND: &str = "application/vnd.in-toto+json";
@@ -88,78 +86,5 @@ fn refuses_names_with_a_line_feed_and_files_that_do_not_read(rt: HostRuntime) ->
     let outcome = run_digest(alloc, "a", &mut broken, 2, &mut out);
     assert_eq!(rt; outcome, Err(RunFault::Digest(DigestFault::Read)));
     assert!(rt; out.is_empty());
-    Ok(())
-}
-
-fn shown(alloc: Global, words: &Words) -> Result<String, AllocError> {
-    match words {
-        Words::Signed(_) => String::from_str(alloc, "signed"),
-        Words::Match(words) => {
-            format!(in alloc; "match {} {}", words.pattern.as_str(), words.path.as_str())
-        }
-        Words::Pae(words) => {
-            format!(in alloc; "pae {} {}", words.body.as_str(), words.kind.as_str())
-        }
-        Words::Sign(words) => {
-            let body = words.body.as_str();
-            let ring = words.ring.as_str();
-            let key = words.key.as_str();
-            let kind = words.kind.as_str();
-            format!(in alloc; "sign {body} {ring} {key} {kind}")
-        }
-        Words::Digest(words) => {
-            let mut all = String::from_str(alloc, "digest")?;
-            for file in words.files.as_slice() {
-                all.push(' ')?;
-                all.push_str(file.as_str())?;
-            }
-            Ok(all)
-        }
-        Words::Verify(_) => String::from_str(alloc, "verify"),
-    }
-}
-
-#[test]
-fn reads_the_words_of_each_command(rt: HostRuntime) -> Result<(), Fail> {
-    let alloc = rt.alloc();
-    let rows: [(&[&str], &str); 7] = [
-        (&["itv", "match", "a*b", "axbxb"], "match a*b axbxb"),
-        (&["itv", "match", "--", "-a", "-a"], "match -a -a"),
-        (&["itv", "match", "", ""], "match  "),
-        (&["itv", "pae", "b", "--type", "t"], "pae b t"),
-        (
-            &["itv", "sign", "--key", "k", "--ring=r", "b", "--type", "t"],
-            "sign b r k t",
-        ),
-        (&["itv", "digest", "a"], "digest a"),
-        (&["itv", "digest", "a", "b", "--", "-c"], "digest a b -c"),
-    ];
-    for (words, want) in rows {
-        let read = read_words(alloc, strings(alloc, words)?.as_slice())?;
-        let text = shown(alloc, &read)?;
-        assert_eq!(rt; text.as_str(), want, "{words:?}");
-    }
-    Ok(())
-}
-
-#[test]
-fn refuses_the_words_of_no_command(rt: HostRuntime) -> Result<(), Fail> {
-    let alloc = rt.alloc();
-    let rows: [&[&str]; 8] = [
-        &["itv", "match", "a"],
-        &["itv", "match", "a", "b", "c"],
-        &["itv", "match", "-a", "-a"],
-        &["itv", "pae", "b"],
-        &["itv", "sign", "b", "--ring", "r", "--key", "k"],
-        &[
-            "itv", "sign", "b", "--ring", "r", "--ring", "r", "--key", "k", "--type", "t",
-        ],
-        &["itv", "digest"],
-        &["itv", "verify"],
-    ];
-    for words in rows {
-        let read = read_words(alloc, strings(alloc, words)?.as_slice());
-        assert!(rt; matches!(read, Err(WordsFault::Unread(_))), "{words:?}");
-    }
     Ok(())
 }

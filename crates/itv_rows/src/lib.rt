@@ -1,5 +1,5 @@
-//! The tests of the whole verification and of the commands over bytes and writers, from outside. Each
-//! calls public functions alone.
+//! The tests of the whole verification and of the commands over bytes and writers, from outside.
+//! Each calls public functions alone.
 #![tactic(auto)]
 
 #[cfg(test)]

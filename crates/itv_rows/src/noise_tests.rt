@@ -1,18 +1,18 @@
-//! Files, signatures and lines that count for nobody leave the report as it is, byte for byte, and so
-//! does another order, a copy or another name; a file or line that is missing only takes away.
+//! Files, signatures and lines that count for nobody leave the report as it is, byte for byte, and
+//! so does another order, a copy or another name; a file or line that is missing only takes away.
 use crate::base_case::{
-    ACCEPTED, IN_TOTO, LAYOUT, LINK, STATEMENT, add, add_folder, base, filled, layout, reported,
-    signed, signed_text, sublayout, without_links,
+    ACCEPTED, IN_TOTO, LINK, STATEMENT, add, add_folder, base, filled, reported, signed,
+    signed_text, sublayout, without_links,
 };
 use it_base::sequence::Sequence;
 use it_chain::bundle::Bundle;
-use it_devices::{text, with_changed_code};
+use it_devices::with_changed_code;
 use it_verify::inputs::Inputs;
 use std::alloc::Global;
 use std::test::Fail;
 
-/// How something stands among what counts for nobody: whether that stands before it, how many copies
-/// there are of it, and whether that stands behind it.
+/// How something stands among what counts for nobody: whether that stands before it, how many
+/// copies there are of it, and whether that stands behind it.
 type Stands = (bool, u64, bool);
 
 const ALONE: Stands = (false, 1, false);
@@ -26,8 +26,8 @@ const AMONG_NOISE: [Stands; 4] = [
 
 const WITHHELD: [Stands; 2] = [(false, 0, false), (true, 0, false)];
 
-// Bytes that count for nobody: they are empty, no JSON, not signed, signed with a changed code, signed
-// as another type, or signed by somebody who is not asked.
+// Bytes that count for nobody: they are empty, no JSON, not signed, signed with a changed code,
+// signed as another type, or signed by somebody who is not asked.
 fn stray(alloc: Global, id: &str, body: &str, kind: u64) -> Result<Vec<u8>, Fail> {
     let whole = signed_text(alloc, id, body)?;
     let (front, _) = whole.split_once("\"signatures\":").ok_or("no signatures")?;
@@ -75,26 +75,8 @@ fn folder(alloc: Global, step: &str, id: &str, body: &str, stands: Stands) -> Re
     Ok(folder)
 }
 
-// The layout, which carol signed too: before the owner, or after.
-fn countersigned(alloc: Global, carol_first: bool) -> Result<Sequence<u8>, Fail> {
-    let body = filled(alloc, LAYOUT, &[])?;
-    let (first, second) = if carol_first {
-        ("carol", "owner")
-    } else {
-        ("owner", "carol")
-    };
-    let by_first = signed_text(alloc, first, body.as_str())?;
-    let by_second = signed_text(alloc, second, body.as_str())?;
-    let front = by_first.strip_suffix("]}").ok_or("no envelope")?;
-    let (_, code) = by_second
-        .split_once("\"signatures\":[")
-        .ok_or("no signatures")?;
-    let both = format!(in alloc; "{front},{code}")?;
-    Ok(Sequence::from(both.into_bytes()))
-}
-
-// The step of the base case recorded by a layout, whose step is recorded by a layout again; and how the
-// record of each of the three stands, from outside.
+// The step of the base case recorded by a layout, whose step is recorded by a layout again; and how
+// the record of each of the three stands, from outside.
 fn in_sublayouts(alloc: Global, stands: [Stands; 3]) -> Result<Inputs, Fail> {
     let [of_build, of_inner, of_core] = stands;
     let later = "2030-01-01T00:00:00Z";
@@ -145,83 +127,6 @@ fn misses_files_that_are_withheld(rt: HostRuntime) -> Result<(), Fail> {
             )?;
             assert_eq!(rt; report.as_str(), want.as_str());
         }
-    }
-    Ok(())
-}
-
-// Alice, bob and carol are asked for two, and carol's link has another product.
-#[test]
-fn names_who_disagrees_in_any_order(rt: HostRuntime) -> Result<(), Fail> {
-    let alloc = rt.alloc();
-    let link = filled(alloc, LINK, &[])?;
-    let other = filled(alloc, LINK, &[("\"A\"", "\"B\"")])?;
-    let mut inputs = without_links(alloc)?;
-    inputs.layout = layout(
-        alloc,
-        &[
-            ("\"threshold\":1", "\"threshold\":2"),
-            ("[\"alice\"]", "[\"alice\",\"bob\",\"carol\"]"),
-        ],
-    )?;
-    for order in [
-        ["alice", "bob", "carol"],
-        ["carol", "bob", "alice"],
-        ["bob", "carol", "alice"],
-    ] {
-        inputs.links = Bundle::new(alloc);
-        for id in order {
-            let body = if id == "carol" {
-                other.as_str()
-            } else {
-                link.as_str()
-            };
-            add(alloc, &mut inputs.links, "build.x.link", id, body)?;
-            add_strays(alloc, &mut inputs.links, "build", id)?;
-        }
-        let (_, report) = reported(alloc, &inputs)?;
-        assert_eq!(rt;
-            report.as_str(),
-            "refused 34 Disagree\nat -\nstep build\nkey carol\n",
-            "{order:?}"
-        );
-    }
-    Ok(())
-}
-
-// Of two who signed where one is enough, either may be missing.
-#[test]
-fn accepts_without_what_is_not_needed(rt: HostRuntime) -> Result<(), Fail> {
-    let alloc = rt.alloc();
-    let link = filled(alloc, LINK, &[])?;
-    let mut inputs = without_links(alloc)?;
-    inputs.layout = layout(alloc, &[("[\"alice\"]", "[\"alice\",\"bob\"]")])?;
-    let rows: [(&[&str], &str); 3] = [
-        (&["alice", "bob"], "accepted\nstep build 2\nfile app\n"),
-        (&["alice"], ACCEPTED),
-        (&["bob"], ACCEPTED),
-    ];
-    for (ids, want) in rows {
-        inputs.links = Bundle::new(alloc);
-        for id in ids {
-            add(alloc, &mut inputs.links, "build.x.link", id, link.as_str())?;
-        }
-        let (_, report) = reported(alloc, &inputs)?;
-        assert_eq!(rt; report.as_str(), want, "{ids:?}");
-    }
-    Ok(())
-}
-
-#[test]
-fn takes_a_further_signature_on_the_layout(rt: HostRuntime) -> Result<(), Fail> {
-    let alloc = rt.alloc();
-    for carol_first in [true, false] {
-        let mut inputs = base(alloc)?;
-        inputs.layout = countersigned(alloc, carol_first)?;
-        let (_, report) = reported(alloc, &inputs)?;
-        assert_eq!(rt; report.as_str(), ACCEPTED);
-        inputs.moment = text(alloc, "2030-01-01T00:00:01Z")?;
-        let (_, report) = reported(alloc, &inputs)?;
-        assert_eq!(rt; report.as_str(), "refused 30 Expired\nat -\n");
     }
     Ok(())
 }

@@ -83,15 +83,3 @@ fn asks_the_first_check_that_knows_a_key(rt: HostRuntime) -> Result<(), Fail> {
     assert_eq!(rt; exit, 1);
     Ok(())
 }
-
-#[test]
-fn finds_no_owner_by_no_check(rt: HostRuntime) -> Result<(), Fail> {
-    let alloc = rt.alloc();
-    let (exit, report) = reported_by(alloc, &base(alloc)?, &[])?;
-    assert_eq!(rt;
-        report.as_str(),
-        "refused 22 OwnerMissing\nat -\nkey owner\n"
-    );
-    assert_eq!(rt; exit, 1);
-    Ok(())
-}

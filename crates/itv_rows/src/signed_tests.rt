@@ -1,11 +1,10 @@
 use crate::base_case::RING;
-use it_devices::{Full, Pipe, strings};
+use it_devices::{Full, Pipe};
 use it_digest::reader::DigestFault;
 use it_dsse::check::SignatureCheck;
 use it_dsse::ring::HmacRing;
 use it_verify::outcome::{RunFault, Status, exit_of};
 use it_verify::run_signed;
-use it_verify::words::{Words, WordsFault, read_words};
 use std::alloc::Global;
 use std::io::Write;
 use std::test::Fail;
@@ -134,68 +133,4 @@ fn ends_with_a_status(rt: HostRuntime) {
     assert_eq!(rt; exit_of(&Err(RunFault::BadName)), 2);
     assert_eq!(rt; exit_of(&Err(RunFault::Digest(DigestFault::Read))), 2);
     assert_eq!(rt; exit_of(&Err(RunFault::Digest(DigestFault::TooLarge))), 2);
-}
-
-#[test]
-fn reads_words(rt: HostRuntime) -> Result<(), Fail> {
-    let alloc = rt.alloc();
-    let rows: [(&[&str], &str, &str); 8] = [
-        (&["itv", "signed", "a", "--ring", "b"], "a", "b"),
-        (&["itv", "signed", "--ring", "b", "a"], "a", "b"),
-        (&["itv", "signed", "--ring=b", "a"], "a", "b"),
-        (&["itv", "signed", "--ring=-b", "a"], "a", "-b"),
-        (&["itv", "signed", "--ring", "b", "--", "-a"], "-a", "b"),
-        (
-            &["itv", "signed", "--ring", "b", "--", "--help"],
-            "--help",
-            "b",
-        ),
-        (&["itv", "signed", "", "--ring", ""], "", ""),
-        (&["/bin/x", "signed", "-", "--ring=a=b"], "-", "a=b"),
-    ];
-    for (words, envelope, ring) in rows {
-        match read_words(alloc, strings(alloc, words)?.as_slice())? {
-            Words::Signed(read) => {
-                assert_eq!(rt; read.envelope.as_str(), envelope, "{words:?}");
-                assert_eq!(rt; read.ring.as_str(), ring, "{words:?}");
-            }
-            _ => panic!(rt; "{words:?}"),
-        }
-    }
-    Ok(())
-}
-
-#[test]
-fn refuses_words(rt: HostRuntime) -> Result<(), Fail> {
-    let alloc = rt.alloc();
-    let rows: [(&[&str], &str); 15] = [
-        (&[], "subcommand"),
-        (&["itv"], "subcommand"),
-        (&["itv", "--help"], "'--help'"),
-        (&["itv", "-h"], "'-h'"),
-        (&["itv", "help"], "'help'"),
-        (&["itv", "--version"], "'--version'"),
-        (&["itv", "signs", "a", "--ring", "b"], "'signs'"),
-        (&["itv", "signed", "--ring", "b"], "<ENVELOPE>"),
-        (&["itv", "signed", "a"], "--ring <F>"),
-        (&["itv", "signed", "a", "--ring"], "'--ring <F>'"),
-        (&["itv", "signed", "a", "b", "--ring", "c"], "'b'"),
-        (
-            &["itv", "signed", "a", "--ring", "b", "--ring", "b"],
-            "'--ring <F>'",
-        ),
-        (&["itv", "signed", "-a", "--ring", "b"], "'-a'"),
-        (&["itv", "signed", "a", "--ring", "-b"], "'-b'"),
-        (&["itv", "signed", "a", "--ring", "b", "--help"], "'--help'"),
-    ];
-    for (words, named) in rows {
-        match read_words(alloc, strings(alloc, words)?.as_slice()) {
-            Err(WordsFault::Unread(note)) => {
-                assert!(rt; note.as_str().contains(named), "{words:?}: {note}");
-                assert!(rt; !note.as_str().contains("\n"), "{note}");
-            }
-            _ => panic!(rt; "{words:?}"),
-        }
-    }
-    Ok(())
 }

@@ -1,11 +1,11 @@
 //! How often signatures are tried, and what is written where the output fails. What a verification
 //! comes to is in the cases that `itv_cases` runs.
 use crate::base_case::{
-    ACCEPTED, add, add_folder, add_link, asked, base, policy, reported, run, sublayout, sums,
-    without_links,
+    ACCEPTED, LINK, add, add_folder, add_link, asked, base, filled, layout, policy, reported, run,
+    signed_text, sublayout, sums, without_links,
 };
 use it_chain::bundle::Bundle;
-use it_devices::{Full, Pipe, text};
+use it_devices::{Full, Pipe, text, with_changed_code};
 use it_verify::inputs::Inputs;
 use it_verify::outcome::{RunFault, Status};
 use std::alloc::Global;
@@ -22,6 +22,37 @@ fn counts_the_signatures_tried_for_what_is_accepted(rt: HostRuntime) -> Result<(
     assert_eq!(rt; asked(alloc, &inputs)?, 3);
     add_link(alloc, &mut inputs.links, "build.copy.link", "alice", &[])?;
     assert_eq!(rt; asked(alloc, &inputs)?, 4);
+    Ok(())
+}
+
+// For the owner, for each of the files, and for the builder where two keys signed.
+#[test]
+fn counts_the_signatures_tried_for_two_keys(rt: HostRuntime) -> Result<(), Fail> {
+    let alloc = rt.alloc();
+    let mut inputs = base(alloc)?;
+    inputs.layout = layout(
+        alloc,
+        &[
+            ("\"threshold\":1", "\"threshold\":2"),
+            ("[\"alice\"]", "[\"alice\",\"bob\"]"),
+        ],
+    )?;
+    let link = filled(alloc, LINK, &[])?;
+    let by_bob = signed_text(alloc, "bob", link.as_str())?;
+    let changed = with_changed_code(alloc, by_bob.as_str())?;
+    let links = &mut inputs.links;
+    add_link(alloc, links, "build.copy.link", "alice", &[])?;
+    links.add_file(
+        String::from_str(alloc, "build.bob.link")?,
+        changed.into_bytes(),
+    )?;
+    assert_eq!(rt; asked(alloc, &inputs)?, 4);
+    let links = &mut inputs.links;
+    links.add_file(
+        String::from_str(alloc, "build.true.link")?,
+        by_bob.into_bytes(),
+    )?;
+    assert_eq!(rt; asked(alloc, &inputs)?, 6);
     Ok(())
 }
 
@@ -56,8 +87,8 @@ fn counts_the_signatures_tried_in_sublayouts(rt: HostRuntime) -> Result<(), Fail
     Ok(())
 }
 
-// Of the layout no signature is tried for carol, whose id comes before the owner's and under whose hint
-// there is none; where the rules fail, the owner's and alice's were.
+// Of the layout no signature is tried for carol, whose id comes before the owner's and under whose
+// hint there is none; where the rules fail, the owner's and alice's were.
 #[test]
 fn counts_the_signatures_tried_until_it_refuses(rt: HostRuntime) -> Result<(), Fail> {
     let alloc = rt.alloc();

@@ -1,31 +1,12 @@
+//! What the words of each command are read as, and which words are those of no command.
 use it_base::text::Text;
+use it_devices::words;
 use it_verify::words::verifying::VerifyWords;
 use it_verify::words::{Words, WordsFault, read_words};
 use std::alloc::{AllocError, Global};
 use std::test::Fail;
 
-const NEEDED: [&str; 14] = [
-    "itv", "verify", "--policy", "p", "--layout", "l", "--links", "d", "--sums", "s", "--at", "m",
-    "--ring", "r",
-];
-
-fn texts(alloc: Global, words: &[&str], further: &[&str]) -> Result<Vec<String>, AllocError> {
-    let mut texts = Vec::new(alloc);
-    for word in words {
-        texts.push(String::from_str(alloc, word)?)?;
-    }
-    for word in further {
-        texts.push(String::from_str(alloc, word)?)?;
-    }
-    Ok(texts)
-}
-
-fn read(alloc: Global, words: &[String]) -> Result<Option<VerifyWords>, WordsFault> {
-    match read_words(alloc, words)? {
-        Words::Verify(words) => Ok(Some(words)),
-        _ => Ok(None),
-    }
-}
+const NEEDED: &str = "itv verify --policy p --layout l --links d --sums s --at m --ring r";
 
 fn joined(alloc: Global, texts: &[Text]) -> Result<String, AllocError> {
     let mut joined = String::new(alloc);
@@ -38,7 +19,7 @@ fn joined(alloc: Global, texts: &[Text]) -> Result<String, AllocError> {
     Ok(joined)
 }
 
-fn shown(alloc: Global, words: &VerifyWords) -> Result<String, AllocError> {
+fn shown_verify(alloc: Global, words: &VerifyWords) -> Result<String, AllocError> {
     let policy = words.policy.as_str();
     let layout = words.layout.as_str();
     let links = words.links.as_str();
@@ -52,122 +33,192 @@ fn shown(alloc: Global, words: &VerifyWords) -> Result<String, AllocError> {
     let records = words.records.as_ref().map_or("none", |path| path.as_str());
     let depth = words.depth;
     format!(in alloc;
-        "{policy} {layout} {links} {sums} {at} {rings} {provenance} {records} {depth}"
+        "verify {policy} {layout} {links} {sums} {at} {rings} {provenance} {records} {depth}"
     )
+}
+
+fn shown(alloc: Global, words: &Words) -> Result<String, AllocError> {
+    match words {
+        Words::Signed(words) => {
+            format!(in alloc;
+                "signed {} {}",
+                words.envelope.as_str(),
+                words.ring.as_str()
+            )
+        }
+        Words::Match(words) => {
+            format!(in alloc; "match {} {}", words.pattern.as_str(), words.path.as_str())
+        }
+        Words::Pae(words) => {
+            format!(in alloc; "pae {} {}", words.body.as_str(), words.kind.as_str())
+        }
+        Words::Sign(words) => {
+            let body = words.body.as_str();
+            let ring = words.ring.as_str();
+            let key = words.key.as_str();
+            let kind = words.kind.as_str();
+            format!(in alloc; "sign {body} {ring} {key} {kind}")
+        }
+        Words::Digest(words) => {
+            let files = joined(alloc, words.files.as_slice())?;
+            format!(in alloc; "digest {}", files.as_str())
+        }
+        Words::Verify(words) => shown_verify(alloc, words),
+    }
+}
+
+/// What a line of words is read as.
+fn read(alloc: Global, line: &str) -> Result<String, Fail> {
+    let words = words(alloc, line)?;
+    match read_words(alloc, words.as_slice()) {
+        Ok(words) => Ok(shown(alloc, &words)?),
+        Err(_) => Err(Fail::from("words of no command")),
+    }
+}
+
+// Two spaces, and a space at the end, have an empty word between or behind them.
+#[test]
+fn reads_the_words_of_each_command(rt: HostRuntime) -> Result<(), Fail> {
+    let alloc = rt.alloc();
+    let rows = [
+        ("itv signed a --ring b", "signed a b"),
+        ("itv signed --ring b a", "signed a b"),
+        ("itv signed --ring=-b a", "signed a -b"),
+        ("itv signed --ring b -- -a", "signed -a b"),
+        ("itv signed --ring b -- --help", "signed --help b"),
+        ("itv signed  --ring ", "signed  "),
+        ("/bin/x signed - --ring=a=b", "signed - a=b"),
+        ("itv match a*b axbxb", "match a*b axbxb"),
+        ("itv match -- -a -a", "match -a -a"),
+        ("itv match  ", "match  "),
+        ("itv pae b --type t", "pae b t"),
+        ("itv sign --key k --ring=r b --type t", "sign b r k t"),
+        ("itv digest a", "digest a"),
+        ("itv digest a b -- -c", "digest a+b+-c"),
+    ];
+    for (line, want) in rows {
+        assert_eq!(rt; read(alloc, line)?.as_str(), want, "{line}");
+    }
+    Ok(())
 }
 
 #[test]
 fn reads_the_words_of_a_verification(rt: HostRuntime) -> Result<(), Fail> {
     let alloc = rt.alloc();
-    let rows: [(&[&str], &str); 7] = [
-        (&[], "p l d s m r none none 4"),
+    let rows = [
+        ("", "p l d s m r none none 4"),
+        (" --provenance v --records i --depth 0", "p l d s m r v i 0"),
+        (" --depth=8 --records=-i", "p l d s m r none -i 8"),
+        (" --depth 04", "p l d s m r none none 4"),
+        (" --depth +3", "p l d s m r none none 3"),
+        (" --depth=0000007", "p l d s m r none none 7"),
+        (" --provenance=", "p l d s m r  none 4"),
         (
-            &["--provenance", "v", "--records", "i", "--depth", "0"],
-            "p l d s m r v i 0",
+            " --ring=2 --ring 3 --ring=4 --ring=3 --ring=6 --ring= --ring=8",
+            "p l d s m r+2+3+4+3+6++8 none none 4",
         ),
-        (&["--depth=8", "--records=-i"], "p l d s m r none -i 8"),
-        (&["--depth", "04"], "p l d s m r none none 4"),
-        (&["--depth", "+3"], "p l d s m r none none 3"),
-        (&["--depth=0000007"], "p l d s m r none none 7"),
-        (&["--provenance="], "p l d s m r  none 4"),
     ];
-    for (further, want) in rows {
-        let words = texts(alloc, NEEDED.as_slice(), further)?;
-        let Some(read) = read(alloc, words.as_slice())? else {
-            panic!(rt; "{further:?}");
-        };
-        assert_eq!(rt; shown(alloc, &read)?.as_str(), want, "{further:?}");
+    for (further, shown) in rows {
+        let line = format!(in alloc; "{NEEDED}{further}")?;
+        let want = format!(in alloc; "verify {shown}")?;
+        assert_eq!(rt; read(alloc, line.as_str())?.as_str(), want.as_str());
+    }
+    let line = "itv verify --at=-x --ring= --sums=a=b --links=. --layout=\t --policy=é";
+    let want = "verify é \t . a=b -x  none none 4";
+    assert_eq!(rt; read(alloc, line)?.as_str(), want);
+    Ok(())
+}
+
+/// The note on words that are those of no command.
+fn note(alloc: Global, line: &str) -> Result<Option<String>, Fail> {
+    let words = words(alloc, line)?;
+    match read_words(alloc, words.as_slice()) {
+        Err(WordsFault::Unread(note)) => Ok(Some(note)),
+        _ => Ok(None),
+    }
+}
+
+#[test]
+fn names_what_is_wrong_with_words(rt: HostRuntime) -> Result<(), Fail> {
+    let alloc = rt.alloc();
+    let rows = [
+        ("itv", "subcommand"),
+        ("itv --help", "'--help'"),
+        ("itv -h", "'-h'"),
+        ("itv help", "'help'"),
+        ("itv --version", "'--version'"),
+        ("itv signs a --ring b", "'signs'"),
+        ("itv signed --ring b", "<ENVELOPE>"),
+        ("itv signed a", "--ring <F>"),
+        ("itv signed a --ring", "'--ring <F>'"),
+        ("itv signed a b --ring c", "'b'"),
+        ("itv signed a --ring b --ring b", "'--ring <F>'"),
+        ("itv signed -a --ring b", "'-a'"),
+        ("itv signed a --ring -b", "'-b'"),
+        ("itv signed a --ring b --help", "'--help'"),
+    ];
+    for (line, named) in rows {
+        let note = note(alloc, line)?.ok_or("words of a command")?;
+        assert!(rt; note.as_str().contains(named), "{line}: {note}");
+        assert!(rt; !note.as_str().contains("\n"), "{note}");
+    }
+    let none = read_words(alloc, &[]);
+    assert!(rt; matches!(none, Err(WordsFault::Unread(_))));
+    Ok(())
+}
+
+// A line for each, so that a missing word shows as well.
+const NO_COMMANDS: &str = "itv match a
+itv match a b c
+itv match -a -a
+itv pae b
+itv sign b --ring r --key k
+itv sign b --ring r --ring r --key k --type t
+itv digest
+itv verify
+itv verify --layout=l --links=d --sums=s --at=m --ring=r
+itv verify --policy=p --links=d --sums=s --at=m --ring=r
+itv verify --policy=p --layout=l --sums=s --at=m --ring=r
+itv verify --policy=p --layout=l --links=d --at=m --ring=r
+itv verify --policy=p --layout=l --links=d --sums=s --ring=r
+itv verify --policy=p --layout=l --links=d --sums=s --at=m";
+
+#[test]
+fn refuses_the_words_of_no_command(rt: HostRuntime) -> Result<(), Fail> {
+    let alloc = rt.alloc();
+    for line in NO_COMMANDS.split('\n') {
+        assert!(rt; note(alloc, line)?.is_some(), "{line}");
     }
     Ok(())
 }
 
-#[test]
-fn reads_eight_rings_and_no_ninth(rt: HostRuntime) -> Result<(), Fail> {
-    let alloc = rt.alloc();
-    let further = [
-        "--ring=2", "--ring", "3", "--ring=4", "--ring=3", "--ring=6", "--ring=", "--ring=8",
-    ];
-    let mut words = texts(alloc, NEEDED.as_slice(), further.as_slice())?;
-    let Some(read) = read(alloc, words.as_slice())? else {
-        panic!(rt; "eight rings");
-    };
-    let want = "p l d s m r+2+3+4+3+6++8 none none 4";
-    assert_eq!(rt; shown(alloc, &read)?.as_str(), want);
-    words.push(String::from_str(alloc, "--ring=9")?)?;
-    let read = read_words(alloc, words.as_slice());
-    assert!(rt; matches!(read, Err(WordsFault::Unread(_))));
-    Ok(())
-}
-
-#[test]
-fn reads_values_as_they_stand(rt: HostRuntime) -> Result<(), Fail> {
-    let alloc = rt.alloc();
-    let words: [&str; 8] = [
-        "itv",
-        "verify",
-        "--at=-x",
-        "--ring=",
-        "--sums=a=b",
-        "--links=.",
-        "--layout= ",
-        "--policy=é",
-    ];
-    let words = texts(alloc, words.as_slice(), &[])?;
-    let Some(read) = read(alloc, words.as_slice())? else {
-        panic!(rt; "{words:?}");
-    };
-    assert_eq!(rt; shown(alloc, &read)?.as_str(), "é   . a=b -x  none none 4");
-    Ok(())
-}
+// Words behind those that a verification needs.
+const TOO_MUCH: &str = "--depth 9
+--depth=-1
+--depth -1
+--depth=\t1
+--depth 1.0
+--depth 0x1
+--depth=
+--depth
+--depth 260
+--depth 18446744073709551617
+--depth 4 --depth 4
+--at m
+--provenance v --provenance v
+--records
+--records -i
+--help
+x
+--deep 4
+--ring=2 --ring=3 --ring=4 --ring=5 --ring=6 --ring=7 --ring=8 --ring=9";
 
 #[test]
 fn refuses_a_depth_beyond_eight_and_other_further_words(rt: HostRuntime) -> Result<(), Fail> {
     let alloc = rt.alloc();
-    let rows: [&[&str]; 18] = [
-        &["--depth", "9"],
-        &["--depth=-1"],
-        &["--depth", "-1"],
-        &["--depth", " 1"],
-        &["--depth", "1.0"],
-        &["--depth", "0x1"],
-        &["--depth="],
-        &["--depth"],
-        &["--depth", "260"],
-        &["--depth", "18446744073709551617"],
-        &["--depth", "4", "--depth", "4"],
-        &["--at", "m"],
-        &["--provenance", "v", "--provenance", "v"],
-        &["--records"],
-        &["--records", "-i"],
-        &["--help"],
-        &["x"],
-        &["--deep", "4"],
-    ];
-    for further in rows {
-        let words = texts(alloc, NEEDED.as_slice(), further)?;
-        let read = read_words(alloc, words.as_slice());
-        assert!(rt; matches!(read, Err(WordsFault::Unread(_))), "{further:?}");
-    }
-    Ok(())
-}
-
-#[test]
-fn refuses_a_verification_without_what_it_needs(rt: HostRuntime) -> Result<(), Fail> {
-    let alloc = rt.alloc();
-    let options = [
-        "--policy=p",
-        "--layout=l",
-        "--links=d",
-        "--sums=s",
-        "--at=m",
-        "--ring=r",
-    ];
-    for missing in options {
-        let mut words = texts(alloc, &["itv", "verify"], options.as_slice())?;
-        assert!(rt; read(alloc, words.as_slice())?.is_some());
-        words.retain(|word| word.as_str() != missing);
-        let read = read_words(alloc, words.as_slice());
-        assert!(rt; matches!(read, Err(WordsFault::Unread(_))), "{missing}");
+    for further in TOO_MUCH.split('\n') {
+        let line = format!(in alloc; "{NEEDED} {further}")?;
+        assert!(rt; note(alloc, line.as_str())?.is_some(), "{further}");
     }
     Ok(())
 }

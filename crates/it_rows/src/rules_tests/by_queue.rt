@@ -1,6 +1,6 @@
-//! The run of artifact rules by a queue: each rule that consumes makes a new queue of the paths that
-//! are left, and looks at each of them. What a rule consumes is told here anew, from what became of a
-//! path between the materials and the products.
+//! The run of artifact rules by a queue: each rule that consumes makes a new queue of the paths
+//! that are left, and looks at each of them. What a rule consumes is told here anew, from what
+//! became of a path between the materials and the products.
 use it_digest::artifacts::Artifacts;
 use it_digest::compare::{Compare, DigestSet};
 use it_docs::rule::{Rule, Side};

@@ -12,9 +12,12 @@ loop-ring-preserved c =
     let at = c.loop-ring in
     let ring = c.in-Some.ring in
     let boxed = c.into_dyn_box in
-    let steps : into_iter_items at.ring-iterator ≡ ring ∷ into_iter_items c.next.new.self = c.in-Some.ensures.steps.0 in
-    let read : (own-1.entry boxed.result.vtable).1.meaning boxed.result.value ≡ ring_check c.in_ok-new.field-0.value =
-    read_made own-1 (own-1.entry at-1-1) at-1-1 refl Check (λ j y. j.1.meaning y) boxed.result.vtable boxed.result.value c.in_ok-new.field-0.value boxed.ensures.1 in
+    let steps : into_iter_items at.ring-iterator ≡ ring ∷ into_iter_items c.next.new.self =
+    c.in-Some.ensures.steps.0 in
+    let read : (own-1.entry boxed.result.vtable).1.meaning boxed.result.value
+    ≡ ring_check c.in_ok-new.field-0.value =
+    read_made own-1 (own-1.entry at-1-1) at-1-1 refl Check (λ j y. j.1.meaning y)
+    boxed.result.vtable boxed.result.value c.in_ok-new.field-0.value boxed.ensures.1 in
     let means = read ∙ ap ring_check c.in_ok-new.ensures.ok in (
       append_assoc at.yielded (ring ∷ []) _ ∙ rw (← steps) at.invariant.0,
       rw (c.in_ok-push.ensures.items, map-append, map-append, at.invariant.1, means) refl,

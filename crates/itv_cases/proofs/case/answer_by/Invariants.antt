@@ -6,4 +6,5 @@ use Rattle.itv_cases.proofs.case.answer_by.Given as goal
 
 abbrev pub invariant-loop-ring : goal.invariant-loop-ring
 invariant-loop-ring l = (l.yielded ++ into_iter_items l.ring-iterator ≡ l.fn.rings.items)
-    × (map (λ check. (own-1.entry check.vtable).1.meaning check.value) l.panel.items ≡ map ring_check l.yielded)
+    × (map (λ check. (own-1.entry check.vtable).1.meaning check.value) l.panel.items
+    ≡ map ring_check l.yielded)

@@ -8,4 +8,5 @@ loop-item-preserved c =
     let below = rw c.deref-item-items.ensures.value at c.loop-item-test.true in
     rw c.in_ok-push.ensures.items
     (each_more IsNamed c.args.items.now.items c.loop-item.item-index c.item-item.result
-    c.loop-item.named.items c.in-Some.pair below here c.loop-item.invariant (rw c.in-Some.is at c.in_ok-pair.ensures))
+    c.loop-item.named.items c.in-Some.pair below here c.loop-item.invariant
+    (rw c.in-Some.is at c.in_ok-pair.ensures))

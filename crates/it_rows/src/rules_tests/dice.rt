@@ -1,0 +1,95 @@
+//! Artifacts and rules that look thrown.
+ghost use Rattle.std.specs.Prelude.{◌<◌};
+
+use super::{both, empty, long, one, other};
+use it_devices::text;
+use it_digest::artifacts::Artifacts;
+use it_digest::compare::DigestSet;
+use it_docs::rule::{Rule, Side};
+use it_glob::Pattern;
+use std::alloc::{AllocError, Global};
+
+/// Numbers that look thrown, the same in each run.
+#[derive(Drop)]
+pub(super) struct Dice {
+    pub(super) state: u64,
+}
+
+impl Dice {
+    fn throw(&mut self) -> u64 {
+        let next = self.state.wrapping_mul(6_364_136_223_846_793_005);
+        self.state = next.wrapping_add(1_442_695_040_888_963_407);
+        self.state >> 33
+    }
+
+    fn below(&mut self, sides: u64) -> u64
+        requires { 0 < sides }
+    {
+        self.throw() % sides
+    }
+
+    /// One of eight texts.
+    fn pick<'a>(&mut self, texts: &[&'a str; 8]) -> &'a str {
+        let at = self.below(8) as usize;
+        texts.get(at).copied().unwrap_or("")
+    }
+
+    pub(super) fn side(&mut self) -> Side {
+        if self.below(2) == 0 {
+            Side::Materials
+        } else {
+            Side::Products
+        }
+    }
+
+    /// One of five digest sets, or none.
+    fn digests(&mut self) -> Option<DigestSet> {
+        match self.below(8) {
+            0 | 1 => Some(one()),
+            2 => Some(other()),
+            3 => Some(long()),
+            4 => Some(both()),
+            5 => Some(empty()),
+            _ => None,
+        }
+    }
+
+    pub(super) fn artifacts(&mut self, alloc: Global) -> Result<Artifacts, AllocError> {
+        let mut map = Artifacts::new(alloc);
+        for path in PATHS {
+            if let Some(digests) = self.digests() {
+                map.insert(String::from_str(alloc, path)?, digests)?;
+            }
+        }
+        Ok(map)
+    }
+
+    pub(super) fn rule(&mut self, alloc: Global) -> Result<Rule, AllocError> {
+        let pattern = Pattern::read(alloc, self.pick(&PATTERNS))?;
+        Ok(match self.below(10) {
+            0 => Rule::Create(pattern),
+            1 => Rule::Delete(pattern),
+            2 => Rule::Modify(pattern),
+            3 => Rule::Allow(pattern),
+            4 | 5 => Rule::Disallow(pattern),
+            6 => Rule::Require(text(alloc, self.pick(&PATHS))?),
+            _ => Rule::Match {
+                pattern,
+                source_prefix: text(alloc, self.pick(&PREFIXES))?,
+                side: self.side(),
+                target_prefix: text(alloc, self.pick(&PREFIXES))?,
+                from: text(alloc, self.pick(&NAMES))?,
+            },
+        })
+    }
+}
+
+const PATHS: [&str; 8] = ["a", "b", "src", "src/", "src/a", "srcs/a", "out/a", "é"];
+
+const PATTERNS: [&str; 8] = ["*", "*", "a", "s*", "src/*", "[ab]", "?", ""];
+
+const PREFIXES: [&str; 8] = ["", "", "src", "src/", "out", "out/", "srcs", "s"];
+
+const NAMES: [&str; 8] = [
+    "build", "build", "build", "test", "test", "test", "gone", "",
+];

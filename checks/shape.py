@@ -1,0 +1,88 @@
+#!/usr/bin/env python3
+"""Fails where a product file, a line or the body of a function is too long.
+
+    shape.py           files, lines and bodies of src/ and specs/
+    shape.py --proofs  the lines of proofs/ too, but for those that name a goal and its answer
+"""
+
+import re
+import sys
+
+import tree
+
+MOST_LINES = 250
+MOST_COLUMNS = 100
+MOST_BODY_LINES = 35
+# A line of a proof that has two names alone, both of which the check gives.
+ANSWER = re.compile(r"\s*(abbrev )?(pub )?\S+ : goal\.\S+$")
+FUNCTION = re.compile(r"( *)(?:pub(?:\([a-z]+\))? )?(?:unsafe )?(?:const )?fn (\w+)")
+
+
+def product_files(crate):
+    """The files of src/ and specs/, but for those of tests."""
+    files = tree.folder_files(crate, "src", ".rt") + tree.folder_files(crate, "specs", ".antt")
+    return [path for path in files if not tree.is_test(path)]
+
+
+def long_file(path, lines):
+    """The fault of a file that has too many lines."""
+    if len(lines) > MOST_LINES:
+        yield f"{tree.name_of(path)}: {len(lines)} lines, more than {MOST_LINES}"
+
+
+def long_lines(path, lines):
+    """The lines that have too many columns."""
+    for number, line in enumerate(lines, 1):
+        if len(line) > MOST_COLUMNS and not ANSWER.match(line):
+            yield f"{tree.name_of(path)}:{number}: {len(line)} columns, more than {MOST_COLUMNS}"
+
+
+def body_of(lines, start, indent):
+    """The places of the first and the last line of a body, which begins at or after a line."""
+    first = start
+    while not lines[first].endswith("{") or re.search(r"\b(requires|ensures)\b", lines[first]):
+        if lines[first].rstrip().endswith((";", "{}")):
+            return first, first
+        first += 1
+    last = first
+    while lines[last] != indent + "}":
+        last += 1
+    return first + 1, last
+
+
+def long_bodies(path, lines):
+    """The functions whose bodies have too many lines, in the layout of rt fmt."""
+    for number, line in enumerate(lines):
+        found = FUNCTION.match(line)
+        if found:
+            first, last = body_of(lines, number, found[1])
+            if last - first > MOST_BODY_LINES:
+                told = f"{found[2]} has {last - first} lines, more than {MOST_BODY_LINES}"
+                yield f"{tree.name_of(path)}:{number + 1}: {told}"
+
+
+def file_faults(path):
+    """All that is too long in a file."""
+    lines = path.read_text().splitlines()
+    yield from long_file(path, lines)
+    yield from long_lines(path, lines)
+    if path.suffix == ".rt":
+        yield from long_bodies(path, lines)
+
+
+def main():
+    """Does what the words say."""
+    words = tree.words_of(__doc__)
+    words.add_argument("--proofs", action="store_true")
+    chosen = words.parse_args()
+    faults = []
+    for crate in tree.crate_names():
+        for path in product_files(crate):
+            faults += file_faults(path)
+        for path in tree.folder_files(crate, "proofs", ".antt") if chosen.proofs else []:
+            faults += long_lines(path, path.read_text().splitlines())
+    return tree.report(faults)
+
+
+if __name__ == "__main__":
+    sys.exit(main())

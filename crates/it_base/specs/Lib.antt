@@ -16,3 +16,4 @@ pub mod Table
 pub mod Text
 pub mod TreeOf
 pub mod Writing
+pub mod inside

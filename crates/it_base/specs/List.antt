@@ -29,11 +29,6 @@ pub record IsFirstBad {X : Type 0} (P : Data → X → Type 0) (items : Items) (
   pub bad : ¬ ItemReads P items n
   pub before : (m : ℕ) → m < n → ItemReads P items m
 
-abbrev pub IsItemFault : {X : Type 0} → (Data → X → Type 0) → Items → ListFault → Type 0
-IsItemFault P items NoList = ⊥
-IsItemFault P items (NoItem n) = IsFirstBad P items n
-IsItemFault P items OutOfMemory = Unit {0}
-
 -- why the member of this name is no list of values
 abbrev pub IsListFault : {X : Type 0} → (Data → X → Type 0) → List ℕ → Data → ListFault → Type 0
 IsListFault P name d NoList = ¬ IsListOrMissing name d

@@ -5,7 +5,8 @@ ghost use Rattle.it_base.specs.Finds.{Finds};
 ghost use Rattle.it_base.specs.Parts.{IsPartOr};
 ghost use Rattle.it_base.specs.Sequence.{AreEach, IsList};
 ghost use Rattle.it_base.specs.declared.list.ListFault.TheVariants.{OutOfMemory};
-ghost use Rattle.it_base.specs.List.{IsItemFault, IsListFault};
+ghost use Rattle.it_base.specs.List.{IsListFault};
+ghost use Rattle.it_base.specs.inside.ItemFaults.{IsItemFault};
 
 use crate::document::member;
 use crate::parts::{FromDocument, part_or};

@@ -16,7 +16,7 @@ pub const NOTHING: &str = "e3b0c44298fc1c149afbf4c8996fb92427ae41e4649b934ca4959
 
 /// The text, as a `Text`.
 pub fn text(alloc: Global, text: &str) -> Result<Text, AllocError> {
-    Ok(Text::from(String::from_str(alloc, text)?))
+    Text::copy(alloc, text)
 }
 
 /// Copies of the words.

@@ -14,7 +14,8 @@ use Rattle.it_base.proofs.Decided.{or_fault, or_fault-is}
 use Rattle.it_digest.specs.Artifacts.{ArtifactMap}
 use Rattle.it_digest.specs.DigestSet.{only_sha256}
 use Rattle.it_digest.specs.declared.compare.DigestSet.{DigestSet}
-use Rattle.it_digest.specs.Sums.{AddsNothing, AddsSum, IsFirstBadLine, IsMarkedPath, IsSum, SumsOf}
+use Rattle.it_digest.specs.Sums.{IsFirstBadLine, IsMarkedPath, IsSum, SumsOf}
+use Rattle.it_digest.specs.inside.SumLines.{AddsNothing, AddsSum}
 use Rattle.it_digest.specs.Sums.{lines_of}
 use Rattle.it_digest.proofs.SumsLemmas.{Entry, HasRead, HasRead-all, HasRead-bad, HasRead-more}
 use Rattle.it_digest.proofs.SumsLemmas.{HasRead-none, IsSum-read, no_digest, no_path, path_of}

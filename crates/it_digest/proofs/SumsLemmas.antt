@@ -18,7 +18,8 @@ use Rattle.it_base.specs.HexadecimalText.{hexadecimal_decoded}
 use Rattle.it_digest.specs.declared.compare.DigestSet.{DigestSet}
 use Rattle.it_digest.specs.Artifacts.{ArtifactMap}
 use Rattle.it_digest.specs.DigestSet.{only_sha256}
-use Rattle.it_digest.specs.Sums.{AddsNothing, AddsSum, AreSums, IsFirstBadLine, IsMarkedPath, IsSum}
+use Rattle.it_digest.specs.Sums.{AreSums, IsFirstBadLine, IsMarkedPath, IsSum}
+use Rattle.it_digest.specs.inside.SumLines.{AddsNothing, AddsSum}
 use Rattle.it_digest.specs.Sums.{SumsOf, lines_of}
 use Rattle.it_digest.proofs.ArtifactsLemmas.{path_cmp}
 

@@ -4,3 +4,4 @@ pub mod Digest
 pub mod DigestSet
 pub mod Reader
 pub mod Sums
+pub mod inside

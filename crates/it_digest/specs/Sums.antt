@@ -2,10 +2,10 @@
 -- hexadecimal digits, a space, a space (text) or a star (binary), and the file's path. This
 -- profile's choices: digits of either case, paths in UTF-8, no escaped paths, no path twice.
 use Rattle.std.specs.Prelude.{◌≡◌, ◌≢◌, ◌⊎◌, ℕ, ◌-◌, ◌==◌, if◌then◌else◌, List, [], ◌∷◌, ◌++◌}
-use Rattle.std.specs.Prelude.{length, take, codes, Some, None, AllPairs}
+use Rattle.std.specs.Prelude.{length, take, codes, Some, AllPairs}
 use Rattle.std.specs.List.{AllZip, onto_first}
 use Rattle.std.specs.Str.{IsUtf8}
-use Rattle.std.specs.FinMap.{from_entries, get, insert}
+use Rattle.std.specs.FinMap.{from_entries}
 use Rattle.it_base.specs.HexadecimalText.{hexadecimal_decoded}
 use Rattle.it_digest.specs.declared.compare.DigestSet.{DigestSet}
 use Rattle.it_digest.specs.Artifacts.{ArtifactMap}
@@ -49,14 +49,3 @@ pub record IsFirstBadLine (bytes : List ℕ) (number : ℕ) : Type 0 where
   pub entries : List (List ℕ × DigestSet)
   pub good_before : AreSums (take (number - 1) (lines_of bytes)) entries
   pub bad : (more : List (List ℕ × DigestSet)) → ¬ AreSums (take number (lines_of bytes)) more
-
--- a line adds its entry to a map in which its path does not stand
-pub record AddsSum (line : List ℕ) (old new : ArtifactMap) : Type 0 where
-  pub entry : List ℕ × DigestSet
-  pub is_sum : IsSum line entry
-  pub is_new : get old entry.0 ≡ None
-  pub added : new ≡ insert old entry.0 entry.1
-
--- a line has no entry whose path does not stand in the map
-abbrev pub AddsNothing : List ℕ → ArtifactMap → Type 0
-AddsNothing line sums = (entry : List ℕ × DigestSet) → IsSum line entry → get sums entry.0 ≢ None

@@ -5,7 +5,8 @@ ghost use Rattle.std.specs.List.{position};
 ghost use Rattle.it_base.specs.Finds.{FindsAs};
 ghost use Rattle.it_base.specs.HexadecimalText.{hexadecimal_decoded};
 ghost use Rattle.it_digest.specs.Artifacts.{ArtifactMap};
-ghost use Rattle.it_digest.specs.Sums.{AddsNothing, AddsSum, IsFirstBadLine, IsMarkedPath, IsSum};
+ghost use Rattle.it_digest.specs.Sums.{IsFirstBadLine, IsMarkedPath, IsSum};
+ghost use Rattle.it_digest.specs.inside.SumLines.{AddsNothing, AddsSum};
 ghost use Rattle.it_digest.specs.Sums.{SumsOf, lines_of};
 ghost use Rattle.it_digest.specs.declared.sums.SumsFault.TheVariants as fault;
 

@@ -2,7 +2,7 @@
 use Rattle.std.proofs.Common.{◌≡◌, ℕ, ◌<◌, ◌≤◌, ℤ, List, [], ◌∷◌, ◌++◌, Bool, true, false, cond}
 use Rattle.std.proofs.Common.{codes, Option, Some, None, MatchOption, is_some, Result, Ok, Err}
 use Rattle.std.proofs.Common.{MatchResult, Decides, arith, lit<, refl, true≢false, sym, subst, ◌∙◌}
-use Rattle.std.proofs.Common.{append-nil, append_assoc}
+use Rattle.std.proofs.Common.{append-nil, append_assoc, inl, inr}
 use Rattle.std.specs.FinMap.{empty}
 use Rattle.std.specs.List.{IsDistinct, list_any}
 use Rattle.std.specs.Result.{result_ok}
@@ -22,7 +22,8 @@ use Rattle.it_dsse.specs.KeyObject.{IsKeyObject}
 use Rattle.it_dsse.specs.declared.key_object.KeyObject.{KeyObject}
 use Rattle.it_dsse.proofs.Decided.{key_object_of, key_object_reads}
 use Rattle.it_docs.specs.Layout.{IsLayout, LayoutOf}
-use Rattle.it_docs.specs.LayoutPart.{IsLayoutFault, LayoutPartOf, PartReads, place}
+use Rattle.it_docs.specs.LayoutPart.{LayoutPartOf, PartReads, place}
+use Rattle.it_docs.specs.inside.LayoutFaults.{IsLayoutFault}
 use Rattle.it_base.specs.List.{IsFirstBad, IsListOrMissing, items_at}
 use Rattle.it_docs.specs.Moment.{IsMoment}
 use Rattle.it_docs.specs.Repeats.{IsFirstRepeat}
@@ -191,9 +192,9 @@ module _ (d : Data) where
           (λ items. IsFirstBad IsInspection items n))
           (numbered_of inspection_of (codes "inspect") d) Inspects Inspect _
           (numbered_of-is IsInspection inspection_of inspection_reads (codes "inspect") d)
-          (inspections_fault d head steps is_steps (BadLayout Inspects))
+          (λ h. inspections_fault d head steps is_steps (BadLayout Inspects) (inl (refl, h)))
           (λ n h. inspections_fault d head steps is_steps (BadLayout (Inspect n))
-          (item_fault IsInspection (codes "inspect") d n h))
+          (inr (n, refl, item_fault IsInspection (codes "inspect") d n h)))
           (λ inspections is. last_is inspections is (first_repeat (names_of steps inspections))
           (first_repeat-is (names_of steps inspections)))
 
@@ -204,8 +205,9 @@ module _ (d : Data) where
         (λ items. IsFirstBad IsStep items n)) (numbered_of step_of (codes "steps") d) Steps Step
         _
         (numbered_of-is IsStep step_of step_reads (codes "steps") d)
-        (steps_fault d head (BadLayout Steps))
-        (λ n h. steps_fault d head (BadLayout (Step n)) (item_fault IsStep (codes "steps") d n h))
+        (λ h. steps_fault d head (BadLayout Steps) (inl (refl, h)))
+        (λ n h. steps_fault d head (BadLayout (Step n))
+        (inr (n, refl, item_fault IsStep (codes "steps") d n h)))
         inspections_are
 
   module _ (json : PartReads d Json) where

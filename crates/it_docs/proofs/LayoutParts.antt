@@ -6,11 +6,11 @@ use Rattle.it_base.specs.Document.{IsDocument}
 use Rattle.it_base.specs.Parts.{IsPartOr}
 use Rattle.it_base.specs.Sequence.{IsList}
 use Rattle.it_base.proofs.Documents.{same_document}
-use Rattle.std.proofs.Common.{subst}
-use Rattle.it_docs.specs.FirstPart.{Precedes}
+use Rattle.std.proofs.Common.{subst, sym}
+use Rattle.it_docs.specs.FirstPart.{IsFirstPart, Precedes}
 use Rattle.it_docs.specs.Layout.{IsLayout}
-use Rattle.it_docs.specs.LayoutPart.{place, PartReads, LayoutPartOf, IsLayoutFault, IsStepsFault}
-use Rattle.it_docs.specs.LayoutPart.{IsInspectionsFault}
+use Rattle.it_docs.specs.LayoutPart.{place, PartReads, LayoutPartOf}
+use Rattle.it_docs.specs.inside.LayoutFaults.{IsInspectionsFault, IsLayoutFault, IsStepsFault}
 use Rattle.it_docs.specs.Repeats.{IsFirstRepeat}
 use Rattle.it_docs.specs.Step.{IsInspection, IsStep, names_of}
 use Rattle.it_docs.specs.declared.layout.Layout.{Layout}
@@ -104,54 +104,42 @@ either f g (inl a) = f a
 either f g (inr b) = g b
 
 pub steps_fault : (d : Data) → IsHead d → (e : LayoutFault) → IsStepsFault d e → IsLayoutFault d e
-steps_fault d head (BadLayout Json) h = absurd h
-steps_fault d head (BadLayout WrongType) h = absurd h
-steps_fault d head (BadLayout Expires) h = absurd h
-steps_fault d head (BadLayout Keys) h = absurd h
-steps_fault d head (BadLayout Steps) h = record {
-  fails = h;
-  before = alone (PartReads d) 4 (lit< tt) (head_below d 4 head (λ h. absurd (omega arith))
-      (λ h. absurd (omega arith)) (λ h. absurd (omega arith)) (λ h. absurd (omega arith)));
-}
-steps_fault d head (BadLayout (Step n)) h = record {
-  fails = h.1;
-  before = λ other less. either
-      (below_reads (PartReads d) 5 (lit< tt)
-      (head_below d 5 head (λ g. h.0) (λ h. absurd (omega arith)) (λ h. absurd (omega arith))
-      (λ h. absurd (omega arith))) other)
-      (λ g. steps_before (PartReads d) n h.2 other g.0 g.1) less;
-}
-steps_fault d head (BadLayout Inspects) h = absurd h
-steps_fault d head (BadLayout (Inspect n)) h = absurd h
-steps_fault d head (BadLayout (DuplicateName name)) h = absurd h
+steps_fault d head (BadLayout part) (inl h) =
+    subst (IsFirstPart place (PartReads d)) (sym h.0) (record {
+      fails = h.1;
+      before = alone (PartReads d) 4 (lit< tt) (head_below d 4 head (λ h. absurd (omega arith))
+          (λ h. absurd (omega arith)) (λ h. absurd (omega arith)) (λ h. absurd (omega arith)));
+    })
+steps_fault d head (BadLayout part) (inr h) =
+    subst (IsFirstPart place (PartReads d)) (sym h.1) (record {
+      fails = h.2.1;
+      before = λ other less. either
+          (below_reads (PartReads d) 5 (lit< tt)
+          (head_below d 5 head (λ g. h.2.0) (λ h. absurd (omega arith)) (λ h. absurd (omega arith))
+          (λ h. absurd (omega arith))) other)
+          (λ g. steps_before (PartReads d) h.0 h.2.2 other g.0 g.1) less;
+    })
 steps_fault d head OutOfMemory h = tt
 
 pub inspections_fault : (d : Data) → IsHead d → (steps : List LayoutStep)
     → IsPartOr (IsList IsStep) [] (codes "steps") d steps → (e : LayoutFault)
     → IsInspectionsFault d e → IsLayoutFault d e
-inspections_fault d head steps is (BadLayout Json) h = absurd h
-inspections_fault d head steps is (BadLayout WrongType) h = absurd h
-inspections_fault d head steps is (BadLayout Expires) h = absurd h
-inspections_fault d head steps is (BadLayout Keys) h = absurd h
-inspections_fault d head steps is (BadLayout Steps) h = absurd h
-inspections_fault d head steps is (BadLayout (Step n)) h = absurd h
-inspections_fault d head steps is (BadLayout Inspects) h =
+inspections_fault d head steps is (BadLayout part) (inl h) =
     let read = list_reads IsStep (codes "steps") d steps is in
-    record {
-      fails = h;
+    subst (IsFirstPart place (PartReads d)) (sym h.0) (record {
+      fails = h.1;
       before = alone (PartReads d) 6 (lit< tt) (head_below d 6 head (λ g. read.0) (λ g. read.1)
           (λ h. absurd (omega arith)) (λ h. absurd (omega arith)));
-    }
-inspections_fault d head steps is (BadLayout (Inspect n)) h =
+    })
+inspections_fault d head steps is (BadLayout part) (inr h) =
     let read = list_reads IsStep (codes "steps") d steps is in
-    record {
-      fails = h.1;
+    subst (IsFirstPart place (PartReads d)) (sym h.1) (record {
+      fails = h.2.1;
       before = λ other less. either
           (below_reads (PartReads d) 7 (lit< tt) (head_below d 7 head (λ g. read.0) (λ g. read.1)
-          (λ g. h.0) (λ h. absurd (omega arith))) other)
-          (λ g. inspections_before (PartReads d) n h.2 other g.0 g.1) less;
-    }
-inspections_fault d head steps is (BadLayout (DuplicateName name)) h = absurd h
+          (λ g. h.2.0) (λ h. absurd (omega arith))) other)
+          (λ g. inspections_before (PartReads d) h.0 h.2.2 other g.0 g.1) less;
+    })
 inspections_fault d head steps is OutOfMemory h = tt
 
 pub duplicate_fault : (d : Data) → IsHead d

@@ -2,7 +2,7 @@
 use Rattle.std.proofs.Common.{◌≡◌, ◌≢◌, ℕ, zero, suc, ◌≤◌, List, [], Bool, true, false, cond, eqb}
 use Rattle.std.proofs.Common.{eqb-true, eq-eqb, codes, Option, Some, None, MatchOption, option_map}
 use Rattle.std.proofs.Common.{option_and_then, is_some, Result, Ok, Err, MatchResult, Decides}
-use Rattle.std.proofs.Common.{arith, refl, true≢false, sym, ap, ◌∙◌}
+use Rattle.std.proofs.Common.{arith, refl, true≢false, sym, ap, ◌∙◌, inl, inr}
 use Rattle.std.specs.FinMap.{empty, empty_of_len, len, len-empty}
 use Rattle.std.proofs.lemmas.Option.{same_Some}
 use Rattle.serde_json.specs.Data.{Data}
@@ -22,7 +22,8 @@ use Rattle.it_base.specs.Json.{Fields, no_fields}
 use Rattle.it_docs.specs.Level.{IsLevel, IsLevelPart}
 use Rattle.it_base.specs.List.{IsFirstBad, IsListOrMissing, items_at}
 use Rattle.it_docs.specs.Policy.{IsBuilderOf, IsExpectation, IsPolicy, PolicyOf}
-use Rattle.it_docs.specs.PolicyPart.{IsPolicyFault, PartReads, PolicyPartOf, place}
+use Rattle.it_docs.specs.PolicyPart.{PartReads, PolicyPartOf, place}
+use Rattle.it_docs.specs.inside.PolicyFaults.{IsPolicyFault}
 use Rattle.it_docs.specs.Rule.{IsRule}
 use Rattle.it_base.specs.Table.{IsTable, Named}
 use Rattle.it_base.specs.TreeOf.{IsMembers}
@@ -258,9 +259,9 @@ module _ (d : Data) where
       (λ items. IsFirstBad IsExpectation items n))
       (numbered_of expectation_of (codes "expectations") d) Expectations NoExpectation _
       (numbered_of-is IsExpectation expectation_of expectation_reads (codes "expectations") d)
-      (expectations_fault d head (BadPolicy Expectations))
+      (λ h. expectations_fault d head (BadPolicy Expectations) (inl (refl, h)))
       (λ n h. expectations_fault d head (BadPolicy (NoExpectation n))
-      (item_fault IsExpectation (codes "expectations") d n h))
+      (inr (n, refl, item_fault IsExpectation (codes "expectations") d n h)))
       (λ expectations is. record { owners = is_owners; deliver = is_deliver; expectations = is })
 
   owners_are : PartReads d Json → IsAnswer owners_next

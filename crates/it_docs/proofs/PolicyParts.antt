@@ -1,13 +1,13 @@
 -- The first part of a policy that fails.
 use Rattle.std.proofs.Common.{◌≡◌, inl, inr, ℕ, ◌<◌, List, Result, Ok, Err, MatchResult, IfErr}
-use Rattle.std.proofs.Common.{subst, arith}
+use Rattle.std.proofs.Common.{subst, sym, arith}
 use Rattle.serde_json.specs.Data.{Data}
 use Rattle.it_base.specs.Document.{IsDocument}
 use Rattle.it_base.proofs.Documents.{same_document}
-use Rattle.it_docs.specs.FirstPart.{Precedes}
+use Rattle.it_docs.specs.FirstPart.{IsFirstPart, Precedes}
 use Rattle.it_docs.specs.Policy.{IsPolicy}
-use Rattle.it_docs.specs.PolicyPart.{place, PartReads, PolicyPartOf, IsPolicyFault}
-use Rattle.it_docs.specs.PolicyPart.{IsExpectationsFault}
+use Rattle.it_docs.specs.PolicyPart.{place, PartReads, PolicyPartOf}
+use Rattle.it_docs.specs.inside.PolicyFaults.{IsExpectationsFault, IsPolicyFault}
 use Rattle.it_docs.specs.declared.policy.Policy.{Policy}
 use Rattle.it_docs.specs.declared.policy_fault.PolicyFault.{PolicyFault}
 use Rattle.it_docs.specs.declared.policy_fault.PolicyFault.TheVariants.{BadPolicy, OutOfMemory}
@@ -72,17 +72,12 @@ before_item d head list n before (Expectation m) (inr h) = before m h.1
 
 pub expectations_fault : (d : Data) → IsHead d → (e : PolicyFault) → IsExpectationsFault d e
     → IsPolicyFault d e
-expectations_fault d head (BadPolicy Json) h = absurd h
-expectations_fault d head (BadPolicy Owners) h = absurd h
-expectations_fault d head (BadPolicy Deliver) h = absurd h
-expectations_fault d head (BadPolicy Expectations) h = record {
-  fails = h;
-  before = row_before (head_reads d head);
-}
-expectations_fault d head (BadPolicy (Expectation n)) h = record {
-  fails = h.1;
-  before = before_item d head h.0 n h.2;
-}
+expectations_fault d head (BadPolicy part) (inl h) =
+    subst (IsFirstPart place (PartReads d)) (sym h.0)
+    (record { fails = h.1; before = row_before (head_reads d head) })
+expectations_fault d head (BadPolicy part) (inr h) =
+    subst (IsFirstPart place (PartReads d)) (sym h.1)
+    (record { fails = h.2.1; before = before_item d head h.2.0 h.0 h.2.2 })
 expectations_fault d head OutOfMemory h = tt
 
 -- what fails first in the document, fails first in the bytes

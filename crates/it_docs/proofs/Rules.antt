@@ -1,7 +1,7 @@
 -- The rule that a list of texts is, as a relation and as an answer.
-use Rattle.std.proofs.Common.{subst, ◌≡◌, ◌≢◌, ℕ, List, [], ◌∷◌, length, ◌&&◌, Bool, true, false}
+use Rattle.std.proofs.Common.{subst, ◌≡◌, ◌≢◌, ℕ, List, [], ◌∷◌, ◌++◌, length, ◌&&◌, Bool, true}
 use Rattle.std.proofs.Common.{codes, cond, Option, Some, None, option_map, refl, sym, ap, ◌∙◌, ◌⊎◌}
-use Rattle.std.proofs.Common.{inl, inr}
+use Rattle.std.proofs.Common.{false, inl, inr}
 use Rattle.std.specs.Str.{str_to_ascii_lowercase, bytes_eq}
 use Rattle.std.proofs.lemmas.Slice.Eq.{bytes_eq-Decides}
 use Rattle.std.proofs.lemmas.Option.{same_Some}
@@ -10,8 +10,10 @@ use Rattle.it_base.specs.Finds.{Finds}
 use Rattle.it_base.specs.Sequence.{IsList}
 use Rattle.it_base.specs.Text.{IsText}
 use Rattle.it_base.proofs.Items.{list_same}
-use Rattle.it_docs.specs.Rule.{is_keyword, IsKeyword, IsSide, IsShort, IsRule, RuleOf}
-use Rattle.it_docs.specs.RuleAnswer.{side_of, short_of, is_match, match_of, prefixed_of, rule_of}
+use Rattle.it_docs.specs.Rule.{is_keyword, IsKeyword, IsSide, IsShort, IsPrefix, MatchOf, IsRule}
+use Rattle.it_docs.specs.Rule.{RuleOf}
+use Rattle.it_docs.specs.inside.RuleAnswer.{side_of, short_of, is_match, match_of, prefixed_of}
+use Rattle.it_docs.specs.inside.RuleAnswer.{rule_of}
 use Rattle.it_docs.specs.declared.rule.Rule.{Rule}
 use Rattle.it_docs.specs.declared.rule.Rule.TheVariants.{Match, Create, Delete, Modify, Allow}
 use Rattle.it_docs.specs.declared.rule.Rule.TheVariants.{Disallow, Require}
@@ -110,6 +112,31 @@ match_of-is pattern source side target step rule e =
     let found = map_some (λ s. Match pattern source s target step) (side_of side) rule e in
     (found.0, IsSide-side_of found.0 side found.1, found.2)
 
+-- the texts of a MATCH, with the words of its prefixes, are the rule that is answered for them
+made_match : (m p : List ℕ) (ss : List (List ℕ)) (w d : List ℕ) (ts : List (List ℕ))
+    (f s a b : List ℕ) (rule : Rule) → IsPrefix ss a → IsPrefix ts b → is_match m w f ≡ true
+    → match_of p a d b s ≡ Some rule → RuleOf (m ∷ p ∷ ss ++ w ∷ d ∷ ts ++ f ∷ s ∷ []) rule
+made_match m p ss w d ts f s a b rule is_source is_target e answered =
+    let words = match_words m w f e in
+    let found = match_of-is p a d b s rule answered in
+    let texts = m ∷ p ∷ ss ++ w ∷ d ∷ ts ++ f ∷ s ∷ [] in
+    let is : MatchOf texts p a found.0 b s = record {
+      match = m;
+      in_source = ss;
+      with = w;
+      side_word = d;
+      in_target = ts;
+      from = f;
+      texts_are = refl;
+      is_match = words.0;
+      is_source = is_source;
+      is_with = words.1.0;
+      is_side = found.1;
+      is_target = is_target;
+      is_from = words.1.1;
+    } in
+    subst (λ r. RuleOf texts r) found.2 is
+
 -- what is answered is the rule
 pub rule_of-is : (texts : List (List ℕ)) (rule : Rule) → rule_of texts ≡ Some rule
     → RuleOf texts rule
@@ -122,77 +149,18 @@ rule_of-is (a ∷ b ∷ c ∷ d ∷ []) r e = absurd (cc)
 rule_of-is (a ∷ b ∷ c ∷ d ∷ f ∷ []) r e = absurd (cc)
 rule_of-is (m ∷ p ∷ w ∷ d ∷ f ∷ s ∷ []) r e =
     let q = if_some (is_match m w f) _ r e in
-    let words = match_words m w f q.0 in
-    let found = match_of-is p [] d [] s r q.1 in
-    subst (λ r. RuleOf (m ∷ p ∷ w ∷ d ∷ f ∷ s ∷ []) r) found.2
-    (inl (
-      refl,
-      refl,
-      record {
-        match = m;
-        with = w;
-        side_word = d;
-        from = f;
-        texts_are = refl;
-        is_match =
-            words.0;
-        is_with = words.1.0;
-        is_side = found.1;
-        is_from = words.1.1;
-      },
-    ))
+    made_match m p [] w d [] f s [] [] r refl refl q.0 q.1
 rule_of-is (a ∷ b ∷ c ∷ d ∷ f ∷ g ∷ h ∷ []) r e = absurd (cc)
 rule_of-is (m ∷ p ∷ a ∷ b ∷ c ∷ d ∷ f ∷ s ∷ []) r e =
-    let P : Rule → Type 0 = λ r. RuleOf (m ∷ p ∷ a ∷ b ∷ c ∷ d ∷ f ∷ s ∷ []) r in
     elim (either_or (is_keyword (codes "IN") a && is_match m c f) (match_of p b d [] s) _ r e) [
       | inl q ↦
           let first = both (is_keyword (codes "IN") a) (is_match m c f) q.0 in
-          let words = match_words m c f first.1 in
-          let found = match_of-is p b d [] s r q.1 in
-          subst P found.2
-          (inr (inl (
-            refl,
-            record {
-              match = m;
-              within = a;
-              with = c;
-              side_word = d;
-              from = f;
-              texts_are = refl;
-              is_match =
-                  words.0;
-              is_within = first.0;
-              is_with = words.1.0;
-              is_side = found.1;
-              is_from =
-                  words.1.1;
-            },
-          )))
+          made_match m p (a ∷ b ∷ []) c d [] f s b [] r (first.0, refl) refl first.1 q.1
       | inr q ↦
           let holds = if_some (is_keyword (codes "IN") c && is_match m a f) (match_of p [] b d s) r
           q in
           let first = both (is_keyword (codes "IN") c) (is_match m a f) holds.0 in
-          let words = match_words m a f first.1 in
-          let found = match_of-is p [] b d s r holds.1 in
-          subst P found.2
-          (inr (inr (inl (
-            refl,
-            record {
-              match = m;
-              with = a;
-              side_word = b;
-              within = c;
-              from = f;
-              texts_are = refl;
-              is_match =
-                  words.0;
-              is_with = words.1.0;
-              is_side = found.1;
-              is_within = first.0;
-              is_from =
-                  words.1.1;
-            },
-          ))))
+          made_match m p [] a b (c ∷ d ∷ []) f s [] d r refl (first.0, refl) first.1 holds.1
     ]
 rule_of-is (a ∷ b ∷ c ∷ d ∷ f ∷ g ∷ h ∷ i ∷ j ∷ []) r e = absurd (cc)
 rule_of-is (m ∷ p ∷ i ∷ a ∷ w ∷ d ∷ j ∷ b ∷ f ∷ s ∷ []) r e =
@@ -201,26 +169,8 @@ rule_of-is (m ∷ p ∷ i ∷ a ∷ w ∷ d ∷ j ∷ b ∷ f ∷ s ∷ []) r e 
     let first = both (is_keyword (codes "IN") i && is_keyword (codes "IN") j)
     (is_match m w f) q.0 in
     let within = both (is_keyword (codes "IN") i) (is_keyword (codes "IN") j) first.0 in
-    let words = match_words m w f first.1 in
-    let found = match_of-is p a d b s r q.1 in
-    subst (λ r. RuleOf (m ∷ p ∷ i ∷ a ∷ w ∷ d ∷ j ∷ b ∷ f ∷ s ∷ []) r) found.2
-    (inr (inr (inr (record {
-      match = m;
-      within = i;
-      with = w;
-      side_word = d;
-      within_target = j;
-      from = f;
-      texts_are =
-          refl;
-      is_match = words.0;
-      is_within = within.0;
-      is_with = words.1.0;
-      is_side =
-          found.1;
-      is_within_target = within.1;
-      is_from = words.1.1;
-    }))))
+    made_match m p (i ∷ a ∷ []) w d (j ∷ b ∷ []) f s a b r (within.0, refl) (within.1, refl)
+    first.1 q.1
 rule_of-is (a ∷ b ∷ c ∷ d ∷ f ∷ g ∷ h ∷ i ∷ j ∷ k ∷ l ∷ rest) r e = absurd (cc)
 
 -- lists of other lengths are no MATCH with a prefix
@@ -239,6 +189,23 @@ no_prefixed (m ∷ p ∷ a ∷ b ∷ c ∷ d ∷ f ∷ s ∷ []) h8 h10 = absurd
 no_prefixed (a ∷ b ∷ c ∷ d ∷ f ∷ g ∷ h ∷ i ∷ j ∷ []) h8 h10 = refl
 no_prefixed (m ∷ p ∷ i ∷ a ∷ w ∷ d ∷ j ∷ b ∷ f ∷ s ∷ []) h8 h10 = absurd (h10 refl)
 no_prefixed (a ∷ b ∷ c ∷ d ∷ f ∷ g ∷ h ∷ i ∷ j ∷ k ∷ l ∷ rest) h8 h10 = refl
+
+-- a MATCH is answered, with and without prefixes
+answered_match : (m p : List ℕ) (ss : List (List ℕ)) (w d : List ℕ) (ts : List (List ℕ))
+    (f s a b : List ℕ) (side : Side) → IsPrefix ss a → IsPrefix ts b
+    → IsKeyword (codes "MATCH") m → IsKeyword (codes "WITH") w → IsSide side d
+    → IsKeyword (codes "FROM") f
+    → rule_of (m ∷ p ∷ ss ++ w ∷ d ∷ ts ++ f ∷ s ∷ []) ≡ Some (Match p a side b s)
+unfolding rule_of prefixed_of match_of
+answered_match m p [] w d [] f s a b side ha hb hm hw hd hf =
+    rw (hm, hw, hf, side_of-IsSide side d hd, ha, hb) refl
+answered_match m p (i ∷ within) w d [] f s a b side ha hb hm hw hd hf =
+    rw (ha.1, hm, ha.0, hw, hf, side_of-IsSide side d hd, hb) refl
+answered_match m p [] w d (j ∷ within) f s a b side ha hb hm hw hd hf =
+    let no_source = other_keyword (codes "WITH") (codes "IN") w refl hw in
+    rw (hb.1, no_source, hm, hb.0, hw, hf, side_of-IsSide side d hd, ha) refl
+answered_match m p (i ∷ within) w d (j ∷ further) f s a b side ha hb hm hw hd hf =
+    rw (ha.1, hb.1, hm, ha.0, hb.0, hw, hf, side_of-IsSide side d hd) refl
 
 -- each rule is answered
 pub RuleOf-answer : (texts : List (List ℕ)) (rule : Rule) → RuleOf texts rule
@@ -293,49 +260,9 @@ RuleOf-answer texts (Require x) is =
       is.is_first,
     ) refl
 RuleOf-answer texts (Match p a side b s) is =
-    elim is [
-      | inl h ↦ let m = h.2 in
-          rw (
-            m.texts_are,
-            m.is_match,
-            m.is_with,
-            m.is_from,
-            side_of-IsSide side m.side_word m.is_side,
-            h.0,
-            h.1,
-          ) refl
-      | inr (inl h) ↦ let m = h.1 in rw (
-        m.texts_are,
-        m.is_match,
-        m.is_within,
-        m.is_with,
-        m.is_from,
-        side_of-IsSide side m.side_word m.is_side,
-        h.0,
-      ) refl
-      | inr (inr (inl h)) ↦
-          let m = h.1 in
-          let no_source = other_keyword (codes "WITH") (codes "IN") m.with refl m.is_with in
-          rw (
-            m.texts_are,
-            no_source,
-            m.is_match,
-            m.is_within,
-            m.is_with,
-            m.is_from,
-            side_of-IsSide side m.side_word m.is_side,
-            h.0,
-          ) refl
-      | inr (inr (inr m)) ↦ rw (
-        m.texts_are,
-        m.is_match,
-        m.is_within,
-        m.is_within_target,
-        m.is_with,
-        m.is_from,
-        side_of-IsSide side m.side_word m.is_side,
-      ) refl
-    ]
+    rw (is.texts_are)
+    (answered_match is.match p is.in_source is.with is.side_word is.in_target is.from s a b side
+    is.is_source is.is_target is.is_match is.is_with is.is_side is.is_from)
 
 -- what is answered is what is found
 pub found-rule_of : (texts : List (List ℕ)) (found : Option Rule) → found ≡ rule_of texts

@@ -11,7 +11,7 @@ use Rattle.it_base.specs.Text.{IsText}
 use Rattle.it_base.proofs.Decided.{Reads, both_of, finds_both, finds_like, list_of, list_reads}
 use Rattle.it_base.proofs.Decided.{part_of, part_or_of, part_or_reads, part_reads, text_reads}
 use Rattle.it_docs.specs.Rule.{IsRule}
-use Rattle.it_docs.specs.RuleAnswer.{rule_of}
+use Rattle.it_docs.specs.inside.RuleAnswer.{rule_of}
 use Rattle.it_docs.specs.Step.{IsInspection, IsStep}
 use Rattle.it_docs.specs.Threshold.{IsThreshold, IsThresholdPart}
 use Rattle.it_docs.specs.declared.rule.Rule.{Rule}

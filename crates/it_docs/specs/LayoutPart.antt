@@ -1,5 +1,5 @@
 -- The first part of a layout that fails, in the order of the parts.
-use Rattle.std.specs.Prelude.{ℕ, ◌<◌, ℤ, List, [], IsTrue, is_some, codes}
+use Rattle.std.specs.Prelude.{ℕ, ℤ, List, [], IsTrue, is_some, codes}
 use Rattle.std.specs.FinMap.{empty}
 use Rattle.serde_json.specs.Data.{Data}
 use Rattle.serde_json.specs.Find.{as_object}
@@ -15,8 +15,6 @@ use Rattle.it_docs.specs.Moment.{IsMoment}
 use Rattle.it_docs.specs.Repeats.{IsFirstRepeat}
 use Rattle.it_docs.specs.Step.{IsInspection, IsStep, names_of}
 use Rattle.it_base.specs.Table.{IsTable, Named}
-use Rattle.it_docs.specs.declared.layout_fault.LayoutFault.{LayoutFault}
-use Rattle.it_docs.specs.declared.layout_fault.LayoutFault.TheVariants.{BadLayout, OutOfMemory}
 use Rattle.it_docs.specs.declared.layout_fault.LayoutPart.{LayoutPart}
 use Rattle.it_docs.specs.declared.layout_fault.LayoutPart.TheVariants.{Json, WrongType, Expires}
 use Rattle.it_docs.specs.declared.layout_fault.LayoutPart.TheVariants.{Keys, Steps, Step, Inspects}
@@ -60,25 +58,3 @@ Reads bytes part = (d : Data) × IsDocument bytes d × PartReads d part
 -- the first part of the bytes that fails
 abbrev pub LayoutPartOf : List ℕ → LayoutPart → Type 0
 LayoutPartOf bytes = IsFirstPart place (Reads bytes)
-
--- why a document is no layout
-abbrev pub IsLayoutFault : Data → LayoutFault → Type 0
-IsLayoutFault d (BadLayout part) = IsFirstPart place (PartReads d) part
-IsLayoutFault d OutOfMemory = Unit {0}
-
--- why the steps of a document do not read
-abbrev pub IsStepsFault : Data → LayoutFault → Type 0
-IsStepsFault d (BadLayout Steps) = ¬ PartReads d Steps
-IsStepsFault d (BadLayout (Step n)) =
-    PartReads d Steps × (¬ PartReads d (Step n)) × ((m : ℕ) → m < n → PartReads d (Step m))
-IsStepsFault d (BadLayout part) = ⊥
-IsStepsFault d OutOfMemory = Unit {0}
-
--- why the inspections of a document do not read
-abbrev pub IsInspectionsFault : Data → LayoutFault → Type 0
-IsInspectionsFault d (BadLayout Inspects) = ¬ PartReads d Inspects
-IsInspectionsFault d (BadLayout (Inspect n)) =
-    PartReads d Inspects × (¬ PartReads d (Inspect n))
-    × ((m : ℕ) → m < n → PartReads d (Inspect m))
-IsInspectionsFault d (BadLayout part) = ⊥
-IsInspectionsFault d OutOfMemory = Unit {0}

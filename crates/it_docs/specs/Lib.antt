@@ -10,7 +10,7 @@ pub mod Policy
 pub mod PolicyPart
 pub mod Repeats
 pub mod Rule
-pub mod RuleAnswer
 pub mod Statement
 pub mod Step
 pub mod Threshold
+pub mod inside

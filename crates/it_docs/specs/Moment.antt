@@ -11,10 +11,6 @@ use Rattle.jiff.specs.Words.{epoch_day}
 abbrev pub two_digits_of : ℕ → List ℕ
 two_digits_of n = (48 + n / 10) ∷ (48 + n % 10) ∷ []
 
--- these two bytes are the number
-abbrev pub AreTwoDigits : ℕ → ℕ → ℕ → Type 0
-AreTwoDigits tens ones n = (n < 100) × (tens ≡ 48 + n / 10) × (ones ≡ 48 + n % 10)
-
 -- `YYYY-MM-DDThh:mm:ssZ`
 abbrev pub moment_text : ℕ → ℕ → ℕ → ℕ → ℕ → ℕ → List ℕ
 moment_text year month day hour minute second =

@@ -1,5 +1,5 @@
 -- The first part of a policy that fails, in the order of the parts.
-use Rattle.std.specs.Prelude.{ℕ, ◌<◌, List, [], IsTrue, is_some, codes}
+use Rattle.std.specs.Prelude.{ℕ, List, [], IsTrue, is_some, codes}
 use Rattle.serde_json.specs.Data.{Data}
 use Rattle.serde_json.specs.Find.{as_object}
 use Rattle.it_base.specs.Document.{IsDocument}
@@ -11,8 +11,6 @@ use Rattle.it_base.specs.List.{IsListOrMissing, PartItemReads}
 use Rattle.it_docs.specs.Policy.{HasOwners, IsExpectation}
 use Rattle.it_docs.specs.Rule.{IsRule}
 use Rattle.it_base.specs.Table.{Named}
-use Rattle.it_docs.specs.declared.policy_fault.PolicyFault.{PolicyFault}
-use Rattle.it_docs.specs.declared.policy_fault.PolicyFault.TheVariants.{BadPolicy, OutOfMemory}
 use Rattle.it_docs.specs.declared.policy_fault.PolicyPart.{PolicyPart}
 use Rattle.it_docs.specs.declared.policy_fault.PolicyPart.TheVariants.{Json, Owners, Deliver}
 use Rattle.it_docs.specs.declared.policy_fault.PolicyPart.TheVariants.{Expectations, Expectation}
@@ -41,17 +39,3 @@ Reads bytes part = (d : Data) × IsDocument bytes d × PartReads d part
 -- the first part of the bytes that fails
 abbrev pub PolicyPartOf : List ℕ → PolicyPart → Type 0
 PolicyPartOf bytes = IsFirstPart place (Reads bytes)
-
--- why a document is no policy
-abbrev pub IsPolicyFault : Data → PolicyFault → Type 0
-IsPolicyFault d (BadPolicy part) = IsFirstPart place (PartReads d) part
-IsPolicyFault d OutOfMemory = Unit {0}
-
--- why the expectations of a document do not read
-abbrev pub IsExpectationsFault : Data → PolicyFault → Type 0
-IsExpectationsFault d (BadPolicy Expectations) = ¬ PartReads d Expectations
-IsExpectationsFault d (BadPolicy (Expectation n)) =
-    PartReads d Expectations × (¬ PartReads d (Expectation n))
-    × ((m : ℕ) → m < n → PartReads d (Expectation m))
-IsExpectationsFault d (BadPolicy part) = ⊥
-IsExpectationsFault d OutOfMemory = Unit {0}

@@ -1,6 +1,6 @@
 -- Artifact rules as lists of texts (in-toto 1.0, section 4.3.3, artifact rules). Keywords, the
 -- words of the side among them, go without regard to ASCII case (this profile's choice).
-use Rattle.std.specs.Prelude.{◌≡◌, ◌⊎◌, ℕ, List, [], ◌∷◌, Bool, true, codes}
+use Rattle.std.specs.Prelude.{◌≡◌, ℕ, List, [], ◌∷◌, ◌++◌, Bool, true, codes}
 use Rattle.std.specs.Str.{str_eq_ignore_ascii_case}
 use Rattle.serde_json.specs.Data.{Data}
 use Rattle.it_base.specs.Sequence.{IsList}
@@ -29,75 +29,28 @@ pub record IsShort (texts : List (List ℕ)) (keyword operand : List ℕ) : Type
   pub texts_are : texts ≡ first ∷ operand ∷ []
   pub is_first : IsKeyword keyword first
 
--- MATCH pattern WITH side FROM step
-pub record IsPlainMatch (texts : List (List ℕ)) (pattern : List ℕ) (side : Side) (step : List ℕ)
-    : Type 0 where
-  pub match : List ℕ
-  pub with : List ℕ
-  pub side_word : List ℕ
-  pub from : List ℕ
-  pub texts_are : texts ≡ match ∷ pattern ∷ with ∷ side_word ∷ from ∷ step ∷ []
-  pub is_match : IsKeyword (codes "MATCH") match
-  pub is_with : IsKeyword (codes "WITH") with
-  pub is_side : IsSide side side_word
-  pub is_from : IsKeyword (codes "FROM") from
+-- the words of a prefix are IN and the prefix; one that is missing has none, and is empty
+abbrev pub IsPrefix : List (List ℕ) → List ℕ → Type 0
+IsPrefix [] prefix = prefix ≡ []
+IsPrefix (within ∷ rest) prefix = IsKeyword (codes "IN") within × (rest ≡ prefix ∷ [])
 
--- MATCH pattern IN source WITH side FROM step
-pub record IsSourceMatch (texts : List (List ℕ)) (pattern source : List ℕ)
-    (side : Side) (step : List ℕ) : Type 0 where
+-- the texts are MATCH pattern [IN source] WITH side [IN target] FROM step
+pub record MatchOf (texts : List (List ℕ)) (pattern source : List ℕ) (side : Side)
+    (target step : List ℕ) : Type 0 where
   pub match : List ℕ
-  pub within : List ℕ
+  pub in_source : List (List ℕ)
   pub with : List ℕ
   pub side_word : List ℕ
-  pub from : List ℕ
-  pub texts_are : texts ≡ match ∷ pattern ∷ within ∷ source ∷ with ∷ side_word ∷ from ∷ step ∷ []
-  pub is_match : IsKeyword (codes "MATCH") match
-  pub is_within : IsKeyword (codes "IN") within
-  pub is_with : IsKeyword (codes "WITH") with
-  pub is_side : IsSide side side_word
-  pub is_from : IsKeyword (codes "FROM") from
-
--- MATCH pattern WITH side IN target FROM step
-pub record IsTargetMatch (texts : List (List ℕ)) (pattern : List ℕ)
-    (side : Side) (target step : List ℕ) : Type 0 where
-  pub match : List ℕ
-  pub with : List ℕ
-  pub side_word : List ℕ
-  pub within : List ℕ
-  pub from : List ℕ
-  pub texts_are : texts ≡ match ∷ pattern ∷ with ∷ side_word ∷ within ∷ target ∷ from ∷ step ∷ []
-  pub is_match : IsKeyword (codes "MATCH") match
-  pub is_with : IsKeyword (codes "WITH") with
-  pub is_side : IsSide side side_word
-  pub is_within : IsKeyword (codes "IN") within
-  pub is_from : IsKeyword (codes "FROM") from
-
--- MATCH pattern IN source WITH side IN target FROM step
-pub record IsFullMatch (texts : List (List ℕ)) (pattern source : List ℕ)
-    (side : Side) (target step : List ℕ) : Type 0 where
-  pub match : List ℕ
-  pub within : List ℕ
-  pub with : List ℕ
-  pub side_word : List ℕ
-  pub within_target : List ℕ
+  pub in_target : List (List ℕ)
   pub from : List ℕ
   pub texts_are : texts
-      ≡ match ∷ pattern ∷ within ∷ source ∷ with ∷ side_word
-      ∷ within_target ∷ target ∷ from ∷ step ∷ []
+      ≡ match ∷ pattern ∷ in_source ++ with ∷ side_word ∷ in_target ++ from ∷ step ∷ []
   pub is_match : IsKeyword (codes "MATCH") match
-  pub is_within : IsKeyword (codes "IN") within
+  pub is_source : IsPrefix in_source source
   pub is_with : IsKeyword (codes "WITH") with
   pub is_side : IsSide side side_word
-  pub is_within_target : IsKeyword (codes "IN") within_target
+  pub is_target : IsPrefix in_target target
   pub is_from : IsKeyword (codes "FROM") from
-
--- the texts are a MATCH; a prefix that is missing is empty
-abbrev pub MatchOf : List (List ℕ) → List ℕ → List ℕ → Side → List ℕ → List ℕ → Type 0
-MatchOf texts pattern source side target step =
-    ((source ≡ []) × (target ≡ []) × IsPlainMatch texts pattern side step)
-    ⊎ ((target ≡ []) × IsSourceMatch texts pattern source side step)
-    ⊎ ((source ≡ []) × IsTargetMatch texts pattern side target step)
-    ⊎ IsFullMatch texts pattern source side target step
 
 -- the texts are this rule
 abbrev pub RuleOf : List (List ℕ) → Rule → Type 0

@@ -9,8 +9,9 @@ ghost use Rattle.it_docs.specs.Layout.{IsLayout, LayoutOf};
 ghost use Rattle.it_docs.specs.Repeats.{IsFirstRepeat};
 ghost use Rattle.it_docs.specs.Step.{IsInspection, IsStep, names_of};
 ghost use Rattle.it_docs.specs.declared.layout_fault.LayoutPart.{LayoutPart as Part};
-ghost use Rattle.it_docs.specs.LayoutPart.{IsInspectionsFault, IsLayoutFault, IsStepsFault};
 ghost use Rattle.it_docs.specs.LayoutPart.{LayoutPartOf};
+ghost use Rattle.it_docs.specs.inside.LayoutFaults.{IsInspectionsFault, IsLayoutFault};
+ghost use Rattle.it_docs.specs.inside.LayoutFaults.{IsStepsFault};
 
 use crate::layout::Layout;
 use crate::layout_fault::{LayoutFault, LayoutPart};

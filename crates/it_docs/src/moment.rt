@@ -5,7 +5,8 @@ ghost use Rattle.jiff.specs.Words.{IsEpochDay, IsYmd, epoch_day};
 ghost use Rattle.serde_json.specs.View.{view};
 ghost use Rattle.it_base.specs.Finds.{Finds};
 ghost use Rattle.it_base.specs.Parts.{IsPart};
-ghost use Rattle.it_docs.specs.Moment.{AreTwoDigits, IsMoment, MomentOf};
+ghost use Rattle.it_docs.specs.Moment.{IsMoment, MomentOf};
+ghost use Rattle.it_docs.specs.inside.Digits.{AreTwoDigits};
 
 use it_base::document::member;
 use jiff::civil::Date;

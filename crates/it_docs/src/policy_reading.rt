@@ -5,7 +5,8 @@ ghost use Rattle.it_base.specs.Finds.{Finds};
 ghost use Rattle.it_base.specs.Parts.{IsPartOr};
 ghost use Rattle.it_base.specs.Sequence.{IsList};
 ghost use Rattle.it_docs.specs.Policy.{HasOwners, IsExpectation, IsPolicy, PolicyOf};
-ghost use Rattle.it_docs.specs.PolicyPart.{IsExpectationsFault, IsPolicyFault, PolicyPartOf};
+ghost use Rattle.it_docs.specs.PolicyPart.{PolicyPartOf};
+ghost use Rattle.it_docs.specs.inside.PolicyFaults.{IsExpectationsFault, IsPolicyFault};
 ghost use Rattle.it_docs.specs.declared.policy_fault.PolicyPart.{PolicyPart as Part};
 
 use crate::policy::{Expectation, Policy};

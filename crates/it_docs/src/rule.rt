@@ -3,8 +3,9 @@ ghost use Rattle.std.specs.Prelude.{◌≡◌, ◌∷◌, [], IfOk, map, string_
 ghost use Rattle.serde_json.specs.View.{view};
 ghost use Rattle.it_base.specs.Finds.{Finds};
 ghost use Rattle.it_docs.specs.Rule.{IsRule, RuleOf, is_keyword as is_this_keyword};
-ghost use Rattle.it_docs.specs.RuleAnswer.{is_match as is_match_of, match_of, prefixed_of, rule_of};
-ghost use Rattle.it_docs.specs.RuleAnswer.{short_of, side_of as side_at};
+ghost use Rattle.it_docs.specs.inside.RuleAnswer.{is_match as is_match_of, match_of};
+ghost use Rattle.it_docs.specs.inside.RuleAnswer.{prefixed_of, rule_of};
+ghost use Rattle.it_docs.specs.inside.RuleAnswer.{short_of, side_of as side_at};
 
 use it_base::parts::FromDocument;
 use it_base::sequence::Sequence;
@@ -100,7 +101,7 @@ fn found_rule(alloc: Global, texts: &[Text]) -> Result<Option<Rule>, AllocError>
     rule_from(alloc, texts)
 }
 
-#[tactic(auto, unfolding(crate::specs::RuleAnswer::rule_of))]
+#[tactic(auto, unfolding(crate::specs::inside::RuleAnswer::rule_of))]
 fn rule_from(alloc: Global, texts: &[Text]) -> Result<Option<Rule>, AllocError>
     ensures { IfOk result (λ found. found ≡ rule_of texts.now) }
 {
@@ -117,7 +118,7 @@ fn rule_from(alloc: Global, texts: &[Text]) -> Result<Option<Rule>, AllocError>
 }
 
 /// The `MATCH` with one prefix or both that the texts are, or `None`.
-#[tactic(auto, unfolding(crate::specs::RuleAnswer::prefixed_of))]
+#[tactic(auto, unfolding(crate::specs::inside::RuleAnswer::prefixed_of))]
 fn prefixed_match(alloc: Global, texts: &[Text]) -> Result<Option<Rule>, AllocError>
     ensures { IfOk result (λ found. found ≡ prefixed_of texts.now) }
 {
@@ -165,7 +166,7 @@ fn is_match(word: &Text, with: &Text, from: &Text) -> bool
     is_keyword(word, "MATCH") && is_keyword(with, "WITH") && is_keyword(from, "FROM")
 }
 
-#[tactic(auto, unfolding(crate::specs::RuleAnswer::side_of))]
+#[tactic(auto, unfolding(crate::specs::inside::RuleAnswer::side_of))]
 fn side_of(word: &Text) -> Option<Side>
     ensures { result ≡ side_at word.now }
 {
@@ -178,7 +179,7 @@ fn side_of(word: &Text) -> Option<Side>
     }
 }
 
-#[tactic(auto, unfolding(crate::specs::RuleAnswer::match_of))]
+#[tactic(auto, unfolding(crate::specs::inside::RuleAnswer::match_of))]
 fn match_rule(
     alloc: Global,
     pattern: &Text,
@@ -202,7 +203,7 @@ fn match_rule(
     }))
 }
 
-#[tactic(auto, unfolding(crate::specs::RuleAnswer::short_of))]
+#[tactic(auto, unfolding(crate::specs::inside::RuleAnswer::short_of))]
 fn short_rule(alloc: Global, word: &Text, operand: &Text) -> Result<Option<Rule>, AllocError>
     ensures { IfOk result (λ found. found ≡ short_of word.now operand.now) }
 {

@@ -49,7 +49,7 @@ pub fn run_rules(
     let mut marks = vec![in alloc; false; paths.len()]?;
     for (index, rule) in rules.iter().enumerate() {
         if let Some(path) = failing_path(rule, &paths, &marks) {
-            let path = Text::from(String::from_str(alloc, path)?);
+            let path = Text::copy(alloc, path)?;
             return Ok(Some(RuleFault { index, path }));
         }
         consume(alloc, &paths, &mut marks, rule, side, item, links)?;

@@ -23,7 +23,7 @@ returns-in-Some-clause-fails c =
     c.loop-index-test.true c.index-rules-index.is in
     let fails = rw (c.deref.ensures.value, c.deref-in-loop-index.ensures.value) at
     c.in-Some.ensures in
-    rw (c.from-path.ensures, c.in_ok-from_str.ensures.ok)
+    rw c.in_ok-path.ensures
     (fault_of _ _ _ _ _ c.loop-index.index c.index-rules-index.result c.in-Some.path.now
     c.loop-index.invariant.running here fails.0 fails.1)
 

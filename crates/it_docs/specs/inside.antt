@@ -1,0 +1,5 @@
+pub mod Digits
+pub mod LayoutFaults
+pub mod Numbered
+pub mod PolicyFaults
+pub mod RuleAnswer

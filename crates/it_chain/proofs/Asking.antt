@@ -13,7 +13,7 @@ use Rattle.it_dsse.specs.declared.meter.Meter.{Meter}
 use Rattle.it_dsse.proofs.Tries.{signed_tries, tries_at_most}
 use Rattle.it_dsse.proofs.Trying.{raised-zero, raised_more}
 use Rattle.it_chain.specs.inside.Asked.{RaisedAtLeast, RaisedWithin, SignaturesIn}
-use Rattle.it_chain.specs.declared.candidate.Candidate.{Candidate}
+use Rattle.it_dsse.specs.declared.envelope.Envelope.{Envelope}
 
 pub within_none : (Most : ℕ → Type 0) (old new : Meter) → new ≡ old → RaisedWithin 0 Most old new
 within_none Most old new same = (0, (omega arith, λ n h. omega arith), same ∙ sym (raised-zero old))
@@ -143,48 +143,48 @@ sum_of f [] = refl
 sum_of f (x ∷ xs) = (f x, sum_by f xs, refl, sum_of f xs, sum_by-cons f x xs)
 
 -- ---- one key and one envelope after another
-module _ (panel : Panel) (id : List ℕ) (object : KeyObject) (all : List Candidate) (i : ℕ)
-    (new : Candidate) (below : i < length all) (here : new ≡ get_or all i new)
+module _ (panel : Panel) (id : List ℕ) (object : KeyObject) (all : List Envelope) (i : ℕ)
+    (new : Envelope) (below : i < length all) (here : new ≡ get_or all i new)
     (old now next : Meter)
     (least : ℕ) (before : RaisedWithin least (SignaturesIn (take i all)) old now) where
   abbrev OfNew : ℕ → Type 0
-  OfNew n = n ≡ length new.envelope.signatures
+  OfNew n = n ≡ length new.signatures
 
-  module _ (counted : next ≡ raised now (tries panel new.envelope id object)) where
+  module _ (counted : next ≡ raised now (tries panel new id object)) where
     of_new : RaisedWithin 0 OfNew now next
     of_new = (
-      tries panel new.envelope id object,
+      tries panel new id object,
       (
         omega arith,
-        λ n is. let most = tries_at_most panel new.envelope id object in
+        λ n is. let most = tries_at_most panel new id object in
             omega (arith, most, is),
       ),
       counted,
     )
 
-    of_signed : (key : KeyNumber) → Signed panel new.envelope id object key
+    of_signed : (key : KeyNumber) → Signed panel new id object key
         → RaisedWithin 1 OfNew now next
     of_signed key signed = (
-      tries panel new.envelope id object,
+      tries panel new id object,
       (
-        signed_tries panel new.envelope id object key signed,
-        λ n is. let most = tries_at_most panel new.envelope id object in omega (arith, most, is),
+        signed_tries panel new id object key signed,
+        λ n is. let most = tries_at_most panel new id object in omega (arith, most, is),
       ),
       counted,
     )
 
     -- the next is passed over, or signed too
     pub asked_more : RaisedWithin least (SignaturesIn (take (i + 1) all)) old next
-    asked_more = within_more (λ (c : Candidate) n. n ≡ length c.envelope.signatures) all i new below
+    asked_more = within_more (λ (e : Envelope) n. n ≡ length e.signatures) all i new below
         here least 0 old now next before of_new least (omega arith)
 
     -- the next is the first that is signed
-    pub asked_first : (key : KeyNumber) → Signed panel new.envelope id object key
+    pub asked_first : (key : KeyNumber) → Signed panel new id object key
         → RaisedWithin 1 (SignaturesIn (take (i + 1) all)) old next
-    asked_first key signed = within_more (λ (c : Candidate) n. n ≡ length c.envelope.signatures) all
+    asked_first key signed = within_more (λ (e : Envelope) n. n ≡ length e.signatures) all
         i new below here least 1 old now next before (of_signed key signed) 1 (omega arith)
 
     -- no further one is asked about
     pub asked_last : RaisedWithin 0 (SignaturesIn all) old next
-    asked_last = within_part (λ (c : Candidate) n. n ≡ length c.envelope.signatures) all i new below
+    asked_last = within_part (λ (e : Envelope) n. n ≡ length e.signatures) all i new below
         here least 0 old now next before of_new 0 (omega arith)

@@ -28,7 +28,7 @@ use Rattle.it_chain.specs.Sublayouts.{folder_of}
 use Rattle.it_chain.specs.inside.Signers.{entry_of}
 use Rattle.it_chain.specs.inside.Candidates.{AreCandidates}
 use Rattle.it_chain.specs.declared.bundle.File.{File}
-use Rattle.it_chain.specs.declared.candidate.Candidate.{Candidate}
+use Rattle.it_dsse.specs.declared.envelope.Envelope.{Envelope}
 use Rattle.it_chain.specs.declared.signers.Signer.{Signer}
 use Rattle.it_chain.proofs.Members.{in_cases, in_head, in_none, in_tail, of_filter}
 use Rattle.it_chain.proofs.Orders.{one_before}
@@ -210,7 +210,7 @@ claimed_sum step (file ∷ files) claimed n are h = ⊎_elim
 
 -- ---- the signers of a step
 module _ (sub : Costing) (setting : Setting) (layout : Layout) (bundle : Contents) (step : Step)
-    (candidates : List Candidate) (are : AreCandidates step.name (files_of bundle) candidates)
+    (candidates : List Envelope) (are : AreCandidates step.name (files_of bundle) candidates)
     (n : ℕ) (cost : StepCosts sub setting layout bundle step n) where
   part : List ℕ → ℕ
   part id = share sub setting layout bundle step id cost.of_sublayouts.bodies cost.sublayouts

@@ -24,7 +24,7 @@ use Rattle.it_chain.specs.inside.Signers.{entry_of}
 use Rattle.it_chain.specs.inside.Candidates.{AreCandidates}
 use Rattle.it_chain.specs.inside.Threshold.{IsJudged, keys_of}
 use Rattle.it_chain.specs.inside.IdRecords.{IsRecordOf}
-use Rattle.it_chain.specs.declared.candidate.Candidate.{Candidate}
+use Rattle.it_dsse.specs.declared.envelope.Envelope.{Envelope}
 use Rattle.it_chain.specs.declared.chain.StepResult.{StepResult}
 use Rattle.it_chain.specs.declared.chain.Chain.{Chain as ChainOf}
 use Rattle.it_chain.specs.declared.record.IdRecord.{IdRecord}
@@ -80,12 +80,12 @@ abbrev pub LevelSum : Setting → ℕ → Layout → Contents → List Step → 
 LevelSum setting depth layout bundle =
     IsSum (StepCosts (cost_below setting depth) setting layout bundle)
 
-abbrev pub IdSum : Setting → ℕ → Layout → Contents → Step → List Candidate → Signer → ℕ → Type 0
+abbrev pub IdSum : Setting → ℕ → Layout → Contents → Step → List Envelope → Signer → ℕ → Type 0
 IdSum setting depth layout bundle step found signer =
     IdCosts (cost_below setting depth) setting layout bundle step (signature_count found)
     signer.id.now
 
-abbrev pub SignersSum : Setting → ℕ → Layout → Contents → Step → List Candidate → List Signer → ℕ
+abbrev pub SignersSum : Setting → ℕ → Layout → Contents → Step → List Envelope → List Signer → ℕ
     → Type 0
 SignersSum setting depth layout bundle step found =
     IsSum (IdSum setting depth layout bundle step found)
@@ -114,7 +114,7 @@ module _ (setting : Setting) (depth : ℕ) (layout : Layout) (bundle : Contents)
       within_part (StepCosts (cost_below setting depth) setting layout bundle) steps i step below
       here least of_step old now new before next 0 (omega arith)
 
-  module _ (step : Step) (found : List Candidate) (signers : List Signer) (signer : Signer)
+  module _ (step : Step) (found : List Envelope) (signers : List Signer) (signer : Signer)
       (records : List IdRecord) (below : i < length signers)
       (here : signer ≡ get_or signers i signer)
       (before : RaisedWithin (length records) (SignersSum setting depth layout bundle step found
@@ -141,7 +141,7 @@ module _ (setting : Setting) (depth : ℕ) (layout : Layout) (bundle : Contents)
 
 -- ---- a step
 module _ (setting : Setting) (depth : ℕ) (layout : Layout) (bundle : Contents) (step : Step)
-    (found : List Candidate) (are : AreCandidates step.name (files_of bundle) found)
+    (found : List Envelope) (are : AreCandidates step.name (files_of bundle) found)
     (signers_are : List Signer)
     (same : map entry_of signers_are ≡ signers layout step) (old new : Meter) where
   -- its ids ask no more than it costs
@@ -177,7 +177,7 @@ module _ (setting : Setting) (depth : ℕ) (layout : Layout) (bundle : Contents)
 
 -- ---- an id
 module _ (setting : Setting) (depth : ℕ) (layout : Layout) (bundle : Contents) (step : Step)
-    (found : List Candidate) (id : List ℕ) where
+    (found : List Envelope) (id : List ℕ) where
   abbrev pub OfId : ℕ → Type 0
   OfId = IdCosts (cost_below setting depth) setting layout bundle step (signature_count found) id
 
@@ -188,7 +188,7 @@ module _ (setting : Setting) (depth : ℕ) (layout : Layout) (bundle : Contents)
       within_weaker least least (SignaturesIn found) OfId old new (omega arith)
       (λ n cost. (
         signature_count found,
-        sum_of (λ (c : Candidate). length c.envelope.signatures) found,
+        sum_of (λ (e : Envelope). length e.signatures) found,
         omega (arith, cost.sum),
       ))
 
@@ -212,7 +212,7 @@ module _ (setting : Setting) (depth : ℕ) (layout : Layout) (bundle : Contents)
       (λ n cost. (
         signature_count found,
         cost.sublayouts,
-        sum_of (λ (c : Candidate). length c.envelope.signatures) found,
+        sum_of (λ (e : Envelope). length e.signatures) found,
         body_cost sub key body one n cost,
         omega (arith, cost.sum),
       ))

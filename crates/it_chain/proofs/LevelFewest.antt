@@ -30,7 +30,7 @@ use Rattle.it_chain.specs.Level.{Holding}
 use Rattle.it_chain.specs.Sublayouts.{folder_of}
 use Rattle.it_chain.specs.inside.IdRecords.{AreRecords, IsGiven, IsRecordOf}
 use Rattle.it_chain.specs.inside.Threshold.{keys_of}
-use Rattle.it_chain.specs.declared.candidate.Candidate.{Candidate}
+use Rattle.it_dsse.specs.declared.envelope.Envelope.{Envelope}
 use Rattle.it_chain.specs.declared.chain.Chain.{Chain as ChainOf}
 use Rattle.it_chain.specs.declared.chain.StepResult.{StepResult}
 use Rattle.it_chain.specs.declared.record.IdRecord.{IdRecord}
@@ -120,7 +120,7 @@ module _ (costs : Costing) (one : (layout : Layout) → IsOne (costs layout))
   -- a panel for its key, and what its body takes
   id_takes : (id : List ℕ) (key : KeyNumber) (body : Body)
       → OneBody sub setting layout bundle step id key body
-      → (found : List Candidate) (old now new : Meter) → RaisedWithin 1 (SignaturesIn found) old now
+      → (found : List Envelope) (old now new : Meter) → RaisedWithin 1 (SignaturesIn found) old now
       → RaisedAtLeast (BodyFewest costs bundle step.name id body) now new
       → RaisedAtLeast (IdFewest costs setting layout bundle step id) old new
   id_takes id key body h found old now new first next =
@@ -137,7 +137,7 @@ module _ (costs : Costing) (one : (layout : Layout) → IsOne (costs layout))
   -- the record of that body takes as much
   pub record_takes : (id : List ℕ) (key : KeyNumber) (body : Body)
       → OneBody sub setting layout bundle step id key body
-      → (found : List Candidate) (old now new : Meter) → RaisedWithin 1 (SignaturesIn found) old now
+      → (found : List Envelope) (old now new : Meter) → RaisedWithin 1 (SignaturesIn found) old now
       → (recorded : Result Recorded ChainError) (given : Result (Option IdRecord) ChainError)
       → IsRecordOf id key recorded given
       → IfOk recorded (λ _. RaisedAtLeast (BodyFewest costs bundle step.name id body) now new)

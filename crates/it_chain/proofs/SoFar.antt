@@ -1,121 +1,129 @@
--- What counts for a key id among the candidates so far.
+-- What counts for a key id among the envelopes so far.
 use Rattle.std.proofs.Common.{◌≡◌, ◌≢◌, ℕ, List, [], ◌∷◌, ◌++◌, Option, Some, None, Bor, ⊎_elim}
 use Rattle.std.proofs.Common.{Contains, refl, sym, ap, subst, ◌∙◌}
 use Rattle.std.proofs.lemmas.List.Elements.{Contains-append_left, Contains-append_right}
 use Rattle.std.proofs.lemmas.List.Elements.{Contains-append_cases}
+use Rattle.it_base.specs.Finds.{Finds}
 use Rattle.it_dsse.specs.Panel.{KeyNumber, Panel}
-use Rattle.it_dsse.specs.Signed.{Signed}
+use Rattle.it_dsse.specs.declared.envelope.Envelope.{Envelope}
 use Rattle.it_dsse.specs.declared.key_object.KeyObject.{KeyObject}
-use Rattle.it_chain.specs.inside.CountedBodies.{IsSigned, CountsOne, CountTwo}
-use Rattle.it_chain.specs.declared.candidate.Candidate.{Candidate}
+use Rattle.it_chain.specs.inside.CountedBodies.{IsSigned, IsSignedBody, CountsOne, CountTwo}
+use Rattle.it_chain.specs.declared.candidate.Body.{Body as Held}
+use Rattle.it_chain.specs.declared.counted_bodies.FoundBody.{FoundBody}
 use Rattle.it_chain.proofs.Members.{in_head, in_cases, in_none}
 
 -- where one is signed, a signature was asked for
-abbrev pub least_first : Option (KeyNumber × Bor Candidate) → ℕ
+abbrev pub least_first : Option FoundBody → ℕ
 least_first None = 0
 least_first (Some first) = 1
 
-module _ (panel : Panel) (id : List ℕ) (object : KeyObject) where
-  -- a candidate that is signed, and none with another payload
-  pub record IsFirstSigned (candidates : List Candidate) (key : KeyNumber)
-      (first : Candidate) : Type 0 where
-    pub is : IsSigned panel id object candidates first key
-    pub alone : (other : Candidate) (k : KeyNumber) → IsSigned panel id object candidates other k
-        → first.envelope.payload ≡ other.envelope.payload
+module _ (panel : Panel) (step id : List ℕ) (object : KeyObject) where
+  -- an envelope that counts, and none with another payload
+  pub record IsFirst (envelopes : List Envelope) (first : FoundBody) : Type 0 where
+    pub is : IsSigned panel step id object envelopes first.envelope.now first.key first.body
+    pub alone : (other : Envelope) (k : KeyNumber) (b : Held)
+        → IsSigned panel step id object envelopes other k b
+        → first.envelope.now.payload ≡ other.payload
 
-  abbrev pub SoFar : List Candidate → Option (KeyNumber × Bor Candidate) → Type 0
-  SoFar candidates None = (candidate : Candidate) (key : KeyNumber)
-      → ¬ IsSigned panel id object candidates candidate key
-  SoFar candidates (Some first) = IsFirstSigned candidates first.0 first.1.now
-
-  abbrev Signs : Candidate → KeyNumber → Type 0
-  Signs candidate key = Signed panel candidate.envelope id object key
+  abbrev pub SoFar : List Envelope → Option FoundBody → Type 0
+  SoFar envelopes None = (envelope : Envelope) (key : KeyNumber) (body : Held)
+      → ¬ IsSigned panel step id object envelopes envelope key body
+  SoFar envelopes (Some first) = IsFirst envelopes first
 
   pub none_so_far : SoFar [] None
-  none_so_far candidate key h = in_none candidate h.stands
+  none_so_far envelope key body h = in_none envelope h.stands
 
-  module _ (candidates : List Candidate) (new : Candidate) where
-    signed_cases : (other : Candidate) (k : KeyNumber)
-        → IsSigned panel id object (candidates ++ new ∷ []) other k → (P : Type 0)
-        → (IsSigned panel id object candidates other k → P) → (new ≡ other → P) → P
-    signed_cases other k h P before last =
+  module _ (envelopes : List Envelope) (new : Envelope) where
+    signed_cases : (other : Envelope) (k : KeyNumber) (b : Held)
+        → IsSigned panel step id object (envelopes ++ new ∷ []) other k b → (P : Type 0)
+        → (IsSigned panel step id object envelopes other k b → P) → (new ≡ other → P) → P
+    signed_cases other k b h P before last =
         ⊎_elim (λ among. before (record { stands = among; signed = h.signed }))
         (λ at_last. ⊎_elim last (λ later. absurd (in_none other later))
         (in_cases new [] other at_last))
-        (Contains-append_cases candidates (new ∷ []) other h.stands)
+        (Contains-append_cases envelopes (new ∷ []) other h.stands)
 
-    pub earlier : (other : Candidate) (k : KeyNumber) → IsSigned panel id object candidates other k
-        → IsSigned panel id object (candidates ++ new ∷ []) other k
-    earlier other k h = record {
-      stands = Contains-append_left candidates (new ∷ []) other h.stands;
+    earlier : (other : Envelope) (k : KeyNumber) (b : Held)
+        → IsSigned panel step id object envelopes other k b
+        → IsSigned panel step id object (envelopes ++ new ∷ []) other k b
+    earlier other k b h = record {
+      stands = Contains-append_left envelopes (new ∷ []) other h.stands;
       signed = h.signed;
     }
 
-    pub the_last : (k : KeyNumber) → Signs new k → IsSigned panel id object (candidates ++ new ∷ [])
-        new k
-    the_last k h = record {
-      stands = Contains-append_right candidates (new ∷ []) new (in_head new []);
+    the_last : (k : KeyNumber) (b : Held) → IsSignedBody panel step id object new (k, b)
+        → IsSigned panel step id object (envelopes ++ new ∷ []) new k b
+    the_last k b h = record {
+      stands = Contains-append_right envelopes (new ∷ []) new (in_head new []);
       signed = h;
     }
 
-    not_last : ((k : KeyNumber) → ¬ Signs new k) → (other : Candidate) (k : KeyNumber) → new ≡ other
-        → IsSigned panel id object (candidates ++ new ∷ []) other k → ⊥
-    not_last unsigned other k same h =
-        unsigned k (subst (λ (c : Candidate). Signs c k) (sym same) h.signed)
+    not_last : Finds (IsSignedBody panel step id object new) None → (other : Envelope)
+        (k : KeyNumber) (b : Held) → new ≡ other
+        → IsSigned panel step id object (envelopes ++ new ∷ []) other k b → ⊥
+    not_last unsigned other k b same h = unsigned (k, b)
+        (subst (λ e. IsSignedBody panel step id object e (k, b)) (sym same) h.signed)
 
-    -- a candidate that is not signed
-    pub passed_by : (first : Option (KeyNumber × Bor Candidate)) → ((k : KeyNumber) → ¬ Signs new k)
-        → SoFar candidates first → SoFar (candidates ++ new ∷ []) first
-    passed_by None unsigned h = λ other k is. signed_cases other k is ⊥ (h other k)
-        (λ same. not_last unsigned other k same is)
+    -- an envelope that does not count
+    pub passed_by : (first : Option FoundBody) → Finds (IsSignedBody panel step id object new) None
+        → SoFar envelopes first → SoFar (envelopes ++ new ∷ []) first
+    passed_by None unsigned h = λ other k b is. signed_cases other k b is ⊥ (h other k b)
+        (λ same. not_last unsigned other k b same is)
     passed_by (Some first) unsigned h = record {
-      is = earlier first.1.now first.0 h.is;
-      alone = λ other k is. signed_cases other k is
-          (first.1.now.envelope.payload ≡ other.envelope.payload) (h.alone other k)
-          (λ same. absurd (not_last unsigned other k same is));
+      is = earlier first.envelope.now first.key first.body h.is;
+      alone = λ other k b is. signed_cases other k b is
+          (first.envelope.now.payload ≡ other.payload) (h.alone other k b)
+          (λ same. absurd (not_last unsigned other k b same is));
     }
 
-    -- the first that is signed
-    pub begun : (key : KeyNumber) → Signs new key → SoFar candidates None
-        → IsFirstSigned (candidates ++ new ∷ []) key new
-    begun key signs h = record {
-      is = the_last key signs;
-      alone = λ other k is. signed_cases other k is (new.envelope.payload ≡ other.envelope.payload)
-          (λ before. absurd (h other k before))
-          (λ same. ap (λ (c : Candidate). c.envelope.payload) same);
+    -- the first that counts
+    pub begun : (lent : Bor Envelope) (key : KeyNumber) (body : Held) → lent.now ≡ new
+        → IsSignedBody panel step id object new (key, body) → SoFar envelopes None
+        → SoFar (envelopes ++ new ∷ []) (Some (record {
+          key = key;
+          envelope = lent;
+          body = body;
+        }))
+    begun lent key body same signs h = record {
+      is = subst (λ e. IsSigned panel step id object (envelopes ++ new ∷ []) e key body) (sym same)
+          (the_last key body signs);
+      alone = λ other k b is. signed_cases other k b is (lent.now.payload ≡ other.payload)
+          (λ before. absurd (h other k b before))
+          (λ last. ap (λ (e : Envelope). e.payload) (same ∙ last));
     }
 
     -- one more with the same payload
-    pub repeated : (key : KeyNumber) (lent : Bor Candidate) → lent.now.envelope.payload
-        ≡ new.envelope.payload → SoFar candidates (Some (key, lent))
-        → SoFar (candidates ++ new ∷ []) (Some (key, lent))
-    repeated key lent same h = record {
-      is = earlier lent.now key h.is;
-      alone = λ other k is. signed_cases other k is
-          (lent.now.envelope.payload ≡ other.envelope.payload) (h.alone other k) (λ last. same
-          ∙ ap (λ (c : Candidate). c.envelope.payload) last);
+    pub repeated : (first : FoundBody) → first.envelope.now.payload ≡ new.payload
+        → SoFar envelopes (Some first) → SoFar (envelopes ++ new ∷ []) (Some first)
+    repeated first same h = record {
+      is = earlier first.envelope.now first.key first.body h.is;
+      alone = λ other k b is. signed_cases other k b is
+          (first.envelope.now.payload ≡ other.payload) (h.alone other k b) (λ last. same
+          ∙ ap (λ (e : Envelope). e.payload) last);
     }
 
   -- two that differ
-  pub two_of : (candidates : List Candidate) (key other_key : KeyNumber) (first other : Candidate)
-      → Contains candidates first → Contains candidates other → Signs first key
-      → Signs other other_key
-      → first.envelope.payload ≢ other.envelope.payload → CountTwo panel id object candidates
-  two_of candidates key other_key first other a b signs other_signs differ = record {
-    one = first;
+  pub two_of : (envelopes : List Envelope) (first : FoundBody) (other : Envelope)
+      (key : KeyNumber) (body : Held)
+      → IsSigned panel step id object envelopes first.envelope.now first.key first.body
+      → IsSigned panel step id object envelopes other key body
+      → first.envelope.now.payload ≢ other.payload → CountTwo panel step id object envelopes
+  two_of envelopes first other key body first_is other_is differ = record {
+    one = first.envelope.now;
     other = other;
-    one_key = key;
-    other_key = other_key;
-    one_is = record { stands = a; signed = signs };
-    other_is = record { stands = b; signed = other_signs };
+    one_key = first.key;
+    other_key = key;
+    one_body = first.body;
+    other_body = body;
+    one_is = first_is;
+    other_is = other_is;
     differ = differ;
   }
 
-  pub one_of : (candidates : List Candidate) (key : KeyNumber) (lent : Bor Candidate)
-      → SoFar candidates (Some (key, lent)) → CountsOne panel id object candidates key lent.now.body
-  one_of candidates key lent h = record {
-    candidate = lent.now;
+  pub one_of : (envelopes : List Envelope) (first : FoundBody) → SoFar envelopes (Some first)
+      → CountsOne panel step id object envelopes first.key first.body
+  one_of envelopes first h = record {
+    envelope = first.envelope.now;
     is = h.is;
-    body_is = refl;
     alone = h.alone;
   }

@@ -27,7 +27,7 @@ use Rattle.it_chain.specs.First.{places}
 use Rattle.it_chain.specs.Level.{Holding, LevelHolds, Records}
 use Rattle.it_chain.specs.ClaimedFiles.{IsClaimed}
 use Rattle.it_chain.specs.Sublayouts.{folder_of}
-use Rattle.it_chain.specs.inside.Candidates.{AreCandidates, IsRead, as_body}
+use Rattle.it_chain.specs.inside.Candidates.{AreCandidates, as_body}
 use Rattle.it_chain.specs.inside.Sublayouts.{BodyComes, BodyFails, IsUnder, SublayoutComes}
 use Rattle.it_chain.specs.inside.CountedBodies.{CountTwo, CountsOne, IsSigned}
 use Rattle.it_chain.specs.inside.Walks.{FailsAt, Walks}
@@ -37,7 +37,6 @@ use Rattle.it_chain.specs.declared.bundle.File.{File}
 use Rattle.it_chain.specs.declared.candidate.Body.{Body as Held}
 use Rattle.it_chain.specs.declared.candidate.Body.TheVariants.{Link as held_link}
 use Rattle.it_chain.specs.declared.candidate.Body.TheVariants.{Layout as held_layout}
-use Rattle.it_chain.specs.declared.candidate.Candidate.{Candidate}
 use Rattle.it_chain.specs.declared.chain.Chain.{Chain as ChainOf}
 use Rattle.it_chain.specs.declared.chain.StepResult.{StepResult}
 use Rattle.it_chain.specs.declared.record.IdRecord.{IdRecord}
@@ -243,22 +242,22 @@ held_back (of_link link) = refl
 held_back (of_layout layout) = refl
 
 module _ (sub : Holding) (fails : Failing) (setting : Setting) (layout : Layout) (bundle : Contents)
-    (step : Step) (id : List ℕ) (object : KeyObject) (candidates : List Candidate)
+    (step : Step) (id : List ℕ) (object : KeyObject) (candidates : List Envelope)
     (are : AreCandidates step.name (files_of bundle) candidates) (listed : Contains step.pubkeys id)
     (known : get layout.keys id ≡ Some object) where
-  counted_of : (candidate : Candidate) (key : KeyNumber)
-      → IsSigned setting.panel id object candidates candidate key
-      → Counted setting layout bundle step id candidate.envelope.payload
-  counted_of candidate key h =
-      let file = are.2.each candidate h.stands in
+  counted_of : (envelope : Envelope) (key : KeyNumber) (body : Held)
+      → IsSigned setting.panel step.name id object candidates envelope key body
+      → Counted setting layout bundle step id envelope.payload
+  counted_of envelope key body h =
+      let file = are.2.each envelope h.stands in
       let from = of_those (λ (f : File). IsClaimed step.name f.name) (files_of bundle) are.0 are.1
       file.0 file.1 in
       record {
         file = file.0;
-        envelope = candidate.envelope;
+        envelope = envelope;
         object = object;
         key = key;
-        body = as_body candidate.body;
+        body = as_body body;
         stands = from.0;
         claimed = from.1;
         is_envelope = file.2.is_envelope;
@@ -266,68 +265,54 @@ module _ (sub : Holding) (fails : Failing) (setting : Setting) (layout : Layout)
         payload_is = refl;
         listed = listed;
         known = known;
-        signed = h.signed;
-        reads = file.2.reads;
+        signed = h.signed.0;
+        reads = h.signed.1;
       }
 
   candidate_of : (payload : List ℕ) (c : Counted setting layout bundle step id payload)
-      → (candidate : Candidate) × IsSigned setting.panel id object candidates candidate c.key
-      × (candidate.envelope.payload ≡ payload)
+      → IsSigned setting.panel step.name id object candidates c.envelope c.key (as_held c.body)
   candidate_of payload c =
       let same : c.object ≡ object = same_Some c.object object (sym c.known ∙ known) in
       let reads : BodyOf step.name c.envelope.payload (as_body (as_held c.body)) =
       subst (BodyOf step.name c.envelope.payload) (held_back c.body)
       (subst (λ p. BodyOf step.name p c.body) (sym c.payload_is) c.reads) in
-      let is : IsRead step.name c.file.bytes (record {
-        envelope = c.envelope;
-        body = as_held c.body;
-      }) = record {
-        is_envelope = c.is_envelope;
-        type_is = c.type_is;
-        reads = reads;
-      } in
-      let found = are.2.all c.file (record { envelope = c.envelope; body = as_held c.body })
-      (in_those (λ (f : File). IsClaimed step.name f.name) (files_of bundle) are.0 are.1 c.file
-      c.stands c.claimed) is in
-      let signed : Signed setting.panel found.0.envelope id object c.key =
-      subst (λ e. Signed setting.panel e id object c.key) (sym found.2)
-      (subst (λ o. Signed setting.panel c.envelope id o c.key) same c.signed) in (
-        found.0,
-        record {
-          stands = found.1;
-          signed = signed;
-        },
-        ap (λ (e : Envelope). e.payload) found.2
-            ∙ c.payload_is,
-      )
+      record {
+        stands = are.2.all c.file c.envelope
+            (in_those (λ (f : File). IsClaimed step.name f.name) (files_of bundle) are.0 are.1
+            c.file c.stands c.claimed)
+            (record { is_envelope = c.is_envelope; type_is = c.type_is });
+        signed = (
+          subst (λ o. Signed setting.panel c.envelope id o c.key) same c.signed,
+          reads,
+        );
+      }
 
-  pub none_counts : ((candidate : Candidate) (key : KeyNumber)
-      → ¬ IsSigned setting.panel id object candidates candidate key) → (payload : List ℕ)
-      → ¬ Counted setting layout bundle step id payload
-  none_counts none payload c = let found = candidate_of payload c in none found.0 c.key found.1
+  pub none_counts : ((envelope : Envelope) (key : KeyNumber) (body : Held)
+      → ¬ IsSigned setting.panel step.name id object candidates envelope key body)
+      → (payload : List ℕ) → ¬ Counted setting layout bundle step id payload
+  none_counts none payload c = none c.envelope c.key (as_held c.body) (candidate_of payload c)
 
-  pub two_count : CountTwo setting.panel id object candidates
+  pub two_count : CountTwo setting.panel step.name id object candidates
       → HasTwo sub fails setting layout bundle step id
   two_count two = record {
-    payload = two.one.envelope.payload;
-    other = two.other.envelope.payload;
-    first = counted_of two.one two.one_key two.one_is;
-    second = counted_of two.other two.other_key two.other_is;
+    payload = two.one.payload;
+    other = two.other.payload;
+    first = counted_of two.one two.one_key two.one_body two.one_is;
+    second = counted_of two.other two.other_key two.other_body two.other_is;
     differ = two.differ;
   }
 
   pub one_counts : (key : KeyNumber) (body : Held)
-      → CountsOne setting.panel id object candidates key body
+      → CountsOne setting.panel step.name id object candidates key body
       → OneBody sub setting layout bundle step id key (as_body body)
   unfolding counted_of
   one_counts key body one = record {
-    payload = one.candidate.envelope.payload;
-    counted = counted_of one.candidate key one.is;
+    payload = one.envelope.payload;
+    counted = counted_of one.envelope key body one.is;
     key_is = refl;
-    reads = subst (λ (b : Held). BodyOf step.name one.candidate.envelope.payload (as_body b))
-        (sym one.body_is) ((are.2.each one.candidate one.is.stands).2.reads);
-    alone = λ other c. let found = candidate_of other c in one.alone found.0 c.key found.1
-        ∙ found.2;
+    reads = one.is.signed.1;
+    alone = λ other c. one.alone c.envelope c.key (as_held c.body) (candidate_of other c)
+        ∙ c.payload_is;
   }
 
 module _ (setting : Setting) (depth : ℕ) (layout : Layout) (bundle : Contents) (step : Step)

@@ -27,34 +27,24 @@ pub(crate) enum Body {
     Layout(Layout),
 }
 
-/// An envelope that counts for a step under each key id that signed it.
-#[derive(Drop)]
-pub(crate) struct Candidate {
-    /// The envelope.
-    pub envelope: Envelope,
-    /// What its payload is.
-    pub body: Body,
-}
-
-/// The envelopes of the files at some places, where their payloads are bodies for a step.
+/// The envelopes of the files at some places, where they may hold a body for a step. Their payloads
+/// are not read: anybody can send a file, and nobody has been asked yet who signed it.
 pub(crate) fn candidates(
     alloc: Global,
-    step: &str,
     files: &[File],
     places: &[usize],
-) -> Result<Vec<Candidate>, AllocError>
-    ensures { IfOk result
-        (λ found. AreRead step.now (files_at files.now places.now) found.items) }
+) -> Result<Vec<Envelope>, AllocError>
+    ensures { IfOk result (λ found. AreRead (files_at files.now places.now) found.items) }
 {
     let mut found = Vec::new(alloc);
     for place in places {
-        keep(&mut found, candidate_at(alloc, step, files, *place)?)?;
+        keep(&mut found, candidate_at(alloc, files, *place)?)?;
     }
     Ok(found)
 }
 
 /// Keeps a candidate behind the others, where there is one.
-fn keep(found: &mut Vec<Candidate>, candidate: Option<Candidate>) -> Result<(), AllocError>
+fn keep(found: &mut Vec<Envelope>, candidate: Option<Envelope>) -> Result<(), AllocError>
     ensures { IfOk result (λ _. found.new.items ≡ found.old.items ++ cons_option candidate []) }
 {
     if let Some(candidate) = candidate {
@@ -63,22 +53,17 @@ fn keep(found: &mut Vec<Candidate>, candidate: Option<Candidate>) -> Result<(), 
     Ok(())
 }
 
-fn candidate_at(
-    alloc: Global,
-    step: &str,
-    files: &[File],
-    place: usize,
-) -> Result<Option<Candidate>, AllocError>
-    ensures { IfOk result (Finds (IsReadAt step.now files.now place)) }
+fn candidate_at(alloc: Global, files: &[File], place: usize) -> Result<Option<Envelope>, AllocError>
+    ensures { IfOk result (Finds (IsReadAt files.now place)) }
 {
     match files.get(place) {
-        Some(file) => candidate_in(alloc, step, file.bytes.as_slice()),
+        Some(file) => candidate_in(alloc, file.bytes.as_slice()),
         None => Ok(None),
     }
 }
 
-fn candidate_in(alloc: Global, step: &str, bytes: &[u8]) -> Result<Option<Candidate>, AllocError>
-    ensures { IfOk result (Finds (IsRead step.now bytes.now)) }
+fn candidate_in(alloc: Global, bytes: &[u8]) -> Result<Option<Envelope>, AllocError>
+    ensures { IfOk result (Finds (IsRead bytes.now)) }
 {
     let Some(envelope) = envelope_in(alloc, bytes)? else {
         return Ok(None);
@@ -86,10 +71,7 @@ fn candidate_in(alloc: Global, step: &str, bytes: &[u8]) -> Result<Option<Candid
     if envelope.payload_type.as_str() != IN_TOTO {
         return Ok(None);
     }
-    let Some(body) = body_in(alloc, step, envelope.payload.as_slice())? else {
-        return Ok(None);
-    };
-    Ok(Some(Candidate { envelope, body }))
+    Ok(Some(envelope))
 }
 
 fn envelope_in(alloc: Global, bytes: &[u8]) -> Result<Option<Envelope>, AllocError>
@@ -103,7 +85,7 @@ fn envelope_in(alloc: Global, bytes: &[u8]) -> Result<Option<Envelope>, AllocErr
 }
 
 /// What a payload is for a step.
-fn body_in(alloc: Global, step: &str, payload: &[u8]) -> Result<Option<Body>, AllocError>
+pub(crate) fn body_in(alloc: Global, step: &str, payload: &[u8]) -> Result<Option<Body>, AllocError>
     ensures { IfOk result (Finds (IsBody step.now payload.now)) }
 {
     match link_in(alloc, payload)? {

@@ -11,7 +11,6 @@ ghost use Rattle.it_chain.specs.inside.Scope.{IdAnswers, IdCost, IdTakes, scope_
 ghost use Rattle.it_chain.specs.inside.Scope.{RecordsAnswer, RecordsTake};
 ghost use Rattle.it_chain.specs.inside.Signers.{entry_of};
 
-use crate::candidate::Candidate;
 use crate::checking::Checking;
 use crate::counted_bodies::{Counting, counted};
 use crate::fault::{refused, text_of};
@@ -21,6 +20,7 @@ use crate::refusal::{ChainError, ChainFault};
 use crate::signers::Signer;
 use crate::sublayouts::verify_body;
 use it_docs::step::Step;
+use it_dsse::envelope::Envelope;
 use it_dsse::meter::Meter;
 use std::alloc::Global;
 
@@ -32,7 +32,7 @@ pub(crate) fn verify_ids<C: Checking>(
     level: &Level,
     step: &Step,
     signers: &[Signer],
-    found: &[Candidate],
+    found: &[Envelope],
     meter: &mut Meter,
 ) -> Result<Vec<IdRecord>, ChainError>
     requires shallow { level.now.depth ≤ 8 }
@@ -64,7 +64,7 @@ fn verify_id<C: Checking>(
     level: &Level,
     step: &Step,
     signer: &Signer,
-    found: &[Candidate],
+    found: &[Envelope],
     meter: &mut Meter,
 ) -> Result<Option<IdRecord>, ChainError>
     requires shallow { level.now.depth ≤ 8 }
@@ -79,18 +79,18 @@ fn verify_id<C: Checking>(
         step.now given meter.old meter.new) }
 {
     let id = signer.id;
-    match counted(checking, id, signer.object, found, meter) {
+    let name = step.name.as_str();
+    match counted(alloc, checking, name, signer, found, meter)? {
         Counting::Nothing => Ok(None),
         Counting::Several => Err(refused(
             alloc,
             ChainFault::TwoPayloads {
-                step: text_of(alloc, step.name.as_str())?,
+                step: text_of(alloc, name)?,
                 id: text_of(alloc, id)?,
             },
         )),
         Counting::One(key, body) => {
-            let name = step.name.as_str();
-            let recorded = verify_body(alloc, checking, level, name, id, body, meter);
+            let recorded = verify_body(alloc, checking, level, name, id, &body, meter);
             record_of(alloc, id, key, recorded)
         }
     }

@@ -104,7 +104,7 @@ fn verify_step<C: Checking>(
         step.now meter.old meter.new) }
 {
     let name = step.name.as_str();
-    let found = candidates(alloc, name, level.links.files(), claims.places(name))?;
+    let found = candidates(alloc, level.links.files(), claims.places(name))?;
     let signers = signers(alloc, level.layout, step)?;
     let signers = signers.as_slice();
     let records = verify_ids(

@@ -50,9 +50,10 @@ id_records::verify_id-returns-in-One-clause-answer g t c =
     let one = one_counts (holds_below s l.depth) (fails_below s l.depth) s l.layout.now l.links.now
     c.args.step.now c.args.signer.now.id.now c.args.signer.now.object.now c.args.found.now
     c.requires.candidates c.requires.listed c.requires.known
-    c.in-One.key c.in-One.body.now c.in-One.ensures.answer in
+    c.in-One.key c.in-One.body
+    (rw (c.in-One.is, c.as_str-name.ensures) at c.in_ok-counted.ensures.answer) in
     walks_record s l.depth l.layout.now l.links.now c.args.step.now c.args.signer.now.id.now
-    c.in-One.key (as_body c.in-One.body.now) one c.verify_body-recorded.result
+    c.in-One.key (as_body c.in-One.body) one c.verify_body-recorded.result
     c.record_of.result
     (rw c.as_str-name.ensures at c.verify_body-recorded.ensures.answer) c.record_of.ensures
 
@@ -64,14 +65,14 @@ id_records::verify_id-returns-in-Nothing-clause-answer g t c =
     (none_counts (holds_below s l.depth) (fails_below s l.depth) s l.layout.now l.links.now
     c.args.step.now c.args.signer.now.id.now c.args.signer.now.object.now c.args.found.now
     c.requires.candidates c.requires.listed c.requires.known
-    c.in-Nothing.ensures.answer)
+    (rw (c.in-Nothing.is, c.as_str-name.ensures) at c.in_ok-counted.ensures.answer))
 
 pub id_records::verify_id-returns-in_ok-text_of-in-Several-2-clause-answer : goal.id_records::verify_id-returns-in_ok-text_of-in-Several-2-clause-answer
 id_records::verify_id-returns-in_ok-text_of-in-Several-2-clause-answer g t c =
     let s = g.C.Checking.setting c.args.checking.now in
     let l = c.args.level.now in
     let name : c.in_ok-text_of-in-Several.field-0 ≡ c.args.step.now.name =
-    c.in_ok-text_of-in-Several.ensures ∙ c.as_str.ensures in
+    c.in_ok-text_of-in-Several.ensures ∙ c.as_str-name.ensures in
     let id : c.in_ok-text_of-in-Several-2.field-0 ≡ c.args.signer.now.id.now =
     c.in_ok-text_of-in-Several-2.ensures in
     walks_two s l.depth l.layout.now l.links.now c.args.step.now c.args.signer.now.id.now
@@ -79,7 +80,7 @@ id_records::verify_id-returns-in_ok-text_of-in-Several-2-clause-answer g t c =
     (two_count (holds_below s l.depth) (fails_below s l.depth) s l.layout.now l.links.now
     c.args.step.now c.args.signer.now.id.now c.args.signer.now.object.now c.args.found.now
     c.requires.candidates c.requires.listed c.requires.known
-    c.in-Several.ensures.answer)
+    (rw (c.in-Several.is, c.as_str-name.ensures) at c.in_ok-counted.ensures.answer))
     (c.refused.ensures ∙ (λ k. Refused (here (TwoPayloads (name k) (id k)))))
 
 pub id_records::verify_ids-returns-in_err-record-clause-answer : goal.id_records::verify_ids-returns-in_err-record-clause-answer
@@ -547,13 +548,23 @@ sublayouts::verify_sublayout-returns-clause-asked g t c =
     c.args.meter.now c.verify_level.new.meter c.verify_level.result) folder
     c.verify_level.ensures.asked)
 
-pub id_records::verify_id-returns-in_err-text_of-in-Several-clause-asked : goal.id_records::verify_id-returns-in_err-text_of-in-Several-clause-asked
-id_records::verify_id-returns-in_err-text_of-in-Several-clause-asked g t c =
+pub id_records::verify_id-returns-in_err-counted-clause-asked : goal.id_records::verify_id-returns-in_err-counted-clause-asked
+id_records::verify_id-returns-in_err-counted-clause-asked g t c =
     let s = g.C.Checking.setting c.args.checking.now in
     let l = c.args.level.now in
     let p = err_from_is_err_and c.from_residual.result c.from_residual.ensures.1 in
     rw p.1 (candidates_raise s l.depth l.layout.now l.links.now c.args.step.now c.args.found.now
-    c.args.signer.now.id.now 0 c.args.meter.now c.counted.new.meter c.in-Several.ensures.asked)
+    c.args.signer.now.id.now 0 c.args.meter.now c.counted.new.meter c.in_err-counted.ensures.asked)
+
+pub id_records::verify_id-returns-in_err-text_of-in-Several-clause-asked : goal.id_records::verify_id-returns-in_err-text_of-in-Several-clause-asked
+id_records::verify_id-returns-in_err-text_of-in-Several-clause-asked g t c =
+    let s = g.C.Checking.setting c.args.checking.now in
+    let l = c.args.level.now in
+    let p = err_from_is_err_and c.from_residual-in_err-text_of-in-Several.result
+    c.from_residual-in_err-text_of-in-Several.ensures.1 in
+    rw p.1 (candidates_raise s l.depth l.layout.now l.links.now c.args.step.now c.args.found.now
+    c.args.signer.now.id.now 0 c.args.meter.now c.counted.new.meter
+    (rw c.in-Several.is at c.in_ok-counted.ensures.asked))
 
 pub id_records::verify_id-returns-in_err-text_of-in-Several-2-clause-asked : goal.id_records::verify_id-returns-in_err-text_of-in-Several-2-clause-asked
 id_records::verify_id-returns-in_err-text_of-in-Several-2-clause-asked g t c =
@@ -562,21 +573,24 @@ id_records::verify_id-returns-in_err-text_of-in-Several-2-clause-asked g t c =
     let p = err_from_is_err_and c.from_residual-in_err-text_of-in-Several-2.result
     c.from_residual-in_err-text_of-in-Several-2.ensures.1 in
     rw p.1 (candidates_raise s l.depth l.layout.now l.links.now c.args.step.now c.args.found.now
-    c.args.signer.now.id.now 0 c.args.meter.now c.counted.new.meter c.in-Several.ensures.asked)
+    c.args.signer.now.id.now 0 c.args.meter.now c.counted.new.meter
+    (rw c.in-Several.is at c.in_ok-counted.ensures.asked))
 
 pub id_records::verify_id-returns-in_ok-text_of-in-Several-2-clause-asked : goal.id_records::verify_id-returns-in_ok-text_of-in-Several-2-clause-asked
 id_records::verify_id-returns-in_ok-text_of-in-Several-2-clause-asked g t c =
     let s = g.C.Checking.setting c.args.checking.now in
     let l = c.args.level.now in
     candidates_raise s l.depth l.layout.now l.links.now c.args.step.now c.args.found.now
-    c.args.signer.now.id.now 0 c.args.meter.now c.counted.new.meter c.in-Several.ensures.asked
+    c.args.signer.now.id.now 0 c.args.meter.now c.counted.new.meter
+    (rw c.in-Several.is at c.in_ok-counted.ensures.asked)
 
 pub id_records::verify_id-returns-in-Nothing-clause-asked : goal.id_records::verify_id-returns-in-Nothing-clause-asked
 id_records::verify_id-returns-in-Nothing-clause-asked g t c =
     let s = g.C.Checking.setting c.args.checking.now in
     let l = c.args.level.now in
     candidates_raise s l.depth l.layout.now l.links.now c.args.step.now c.args.found.now
-    c.args.signer.now.id.now 0 c.args.meter.now c.counted.new.meter c.in-Nothing.ensures.asked
+    c.args.signer.now.id.now 0 c.args.meter.now c.counted.new.meter
+    (rw c.in-Nothing.is at c.in_ok-counted.ensures.asked)
 
 pub id_records::verify_id-returns-in-One-clause-asked : goal.id_records::verify_id-returns-in-One-clause-asked
 id_records::verify_id-returns-in-One-clause-asked g t c =
@@ -585,11 +599,13 @@ id_records::verify_id-returns-in-One-clause-asked g t c =
     let one = one_counts (holds_below s l.depth) (fails_below s l.depth) s l.layout.now l.links.now
     c.args.step.now c.args.signer.now.id.now c.args.signer.now.object.now c.args.found.now
     c.requires.candidates c.requires.listed c.requires.known
-    c.in-One.key c.in-One.body.now c.in-One.ensures.answer in
+    c.in-One.key c.in-One.body
+    (rw (c.in-One.is, c.as_str-name.ensures) at c.in_ok-counted.ensures.answer) in
     record_asks s l.depth l.layout.now l.links.now c.args.step.now c.args.found.now
-    c.args.signer.now.id.now (holds_below s l.depth) c.in-One.key (as_body c.in-One.body.now)
+    c.args.signer.now.id.now (holds_below s l.depth) c.in-One.key (as_body c.in-One.body)
     one c.args.meter.now c.counted.new.meter c.verify_body-recorded.new.meter
-    c.in-One.ensures.asked c.verify_body-recorded.result c.record_of.result c.record_of.ensures
+    (rw c.in-One.is at c.in_ok-counted.ensures.asked) c.verify_body-recorded.result
+    c.record_of.result c.record_of.ensures
     (rw c.as_str-name.ensures at c.verify_body-recorded.ensures.asked)
 
 -- ---- the least that is asked
@@ -645,7 +661,7 @@ sublayouts::verify_sublayout-returns-clause-fewest g t c =
 pub id_records::verify_id-returns-in-Nothing-clause-fewest : goal.id_records::verify_id-returns-in-Nothing-clause-fewest
 id_records::verify_id-returns-in-Nothing-clause-fewest g t c =
     least_of 0 (SignaturesIn c.args.found.now) c.args.meter.now c.counted.new.meter
-    c.in-Nothing.ensures.asked
+    (rw c.in-Nothing.is at c.in_ok-counted.ensures.asked)
 
 pub id_records::verify_id-returns-in-One-clause-fewest : goal.id_records::verify_id-returns-in-One-clause-fewest
 id_records::verify_id-returns-in-One-clause-fewest g t c =
@@ -654,10 +670,12 @@ id_records::verify_id-returns-in-One-clause-fewest g t c =
     let one = one_counts (holds_below s l.depth) (fails_below s l.depth) s l.layout.now l.links.now
     c.args.step.now c.args.signer.now.id.now c.args.signer.now.object.now c.args.found.now
     c.requires.candidates c.requires.listed c.requires.known
-    c.in-One.key c.in-One.body.now c.in-One.ensures.answer in
+    c.in-One.key c.in-One.body
+    (rw (c.in-One.is, c.as_str-name.ensures) at c.in_ok-counted.ensures.answer) in
     record_takes (fewest_below s l.depth) (one_fewest_below s l.depth) (some_fewest_below s l.depth)
     (holds_below s l.depth) s l.layout.now l.links.now c.args.step.now c.args.signer.now.id.now
-    c.in-One.key (as_body c.in-One.body.now) one
+    c.in-One.key (as_body c.in-One.body) one
     c.args.found.now c.args.meter.now c.counted.new.meter c.verify_body-recorded.new.meter
-    c.in-One.ensures.asked c.verify_body-recorded.result c.record_of.result c.record_of.ensures
+    (rw c.in-One.is at c.in_ok-counted.ensures.asked) c.verify_body-recorded.result
+    c.record_of.result c.record_of.ensures
     (rw c.as_str-name.ensures at c.verify_body-recorded.ensures.fewest)

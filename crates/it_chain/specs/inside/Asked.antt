@@ -5,6 +5,7 @@ use Rattle.std.specs.Prelude.{Ok, Err, ⊤}
 use Rattle.std.specs.List.{sum_by}
 use Rattle.it_base.specs.Sum.{CostsIfFound, IsSum}
 use Rattle.it_dsse.specs.Meter.{RaisedBy}
+use Rattle.it_dsse.specs.declared.envelope.Envelope.{Envelope}
 use Rattle.it_dsse.specs.declared.meter.Meter.{Meter}
 use Rattle.it_docs.specs.Layout.{LayoutOf}
 use Rattle.it_docs.specs.declared.layout.Layout.{Layout}
@@ -14,7 +15,6 @@ use Rattle.it_chain.specs.Cost.{Costing, ChainCosts, no_cost}
 use Rattle.it_chain.specs.CountedBodies.{Setting, Body, of_link, of_layout, Counted}
 use Rattle.it_chain.specs.Fewest.{ChainFewest}
 use Rattle.it_chain.specs.Sublayouts.{folder_of}
-use Rattle.it_chain.specs.declared.candidate.Candidate.{Candidate}
 use Rattle.it_chain.specs.declared.chain.StepResult.{StepResult}
 use Rattle.it_chain.specs.declared.counted_bodies.Counting.{Counting}
 use Rattle.it_chain.specs.declared.counted_bodies.Counting.TheVariants.{Nothing, One, Several}
@@ -29,13 +29,13 @@ abbrev pub Asks : {A E : Type 0} → (A → ℕ) → (ℕ → Type 0) → Meter 
 Asks least Most old new (Ok x) = RaisedWithin (least x) Most old new
 Asks least Most old new (Err e) = RaisedWithin 0 Most old new
 
--- the signatures of candidates, added up
-abbrev pub SignaturesIn : List Candidate → ℕ → Type 0
-SignaturesIn = IsSum (λ candidate n. n ≡ length candidate.envelope.signatures)
+-- the signatures of envelopes, added up
+abbrev pub SignaturesIn : List Envelope → ℕ → Type 0
+SignaturesIn = IsSum (λ envelope n. n ≡ length envelope.signatures)
 
--- how many signatures candidates have
-abbrev pub signature_count : List Candidate → ℕ
-signature_count candidates = sum_by (λ candidate. length candidate.envelope.signatures) candidates
+-- how many signatures envelopes have
+abbrev pub signature_count : List Envelope → ℕ
+signature_count envelopes = sum_by (λ envelope. length envelope.signatures) envelopes
 
 -- where something counts for an id, a signature was asked for
 abbrev pub least_counted : Counting → ℕ

@@ -3,13 +3,13 @@
 use Rattle.std.specs.Prelude.{◌≡◌, ◌≤◌, ℕ, List, Some, slice_get, Contains}
 use Rattle.it_base.specs.Sum.{CostsIfFound, IsSum}
 use Rattle.it_dsse.specs.Envelope.{EnvelopeOf}
+use Rattle.it_dsse.specs.declared.envelope.Envelope.{Envelope}
 use Rattle.it_docs.specs.PayloadType.{in_toto_type}
 use Rattle.it_chain.specs.inside.Asked.{signature_count}
 use Rattle.it_chain.specs.inside.ClaimedFiles.{AreClaimed}
 use Rattle.it_chain.specs.Cost.{HasSignatures}
 use Rattle.it_chain.specs.CountedBodies.{Body, of_link, of_layout, BodyOf}
 use Rattle.it_chain.specs.declared.bundle.File.{File}
-use Rattle.it_chain.specs.declared.candidate.Candidate.{Candidate}
 use Rattle.it_chain.specs.declared.candidate.Body.{Body as Held}
 use Rattle.it_chain.specs.declared.candidate.Body.TheVariants.{Link as held_link}
 use Rattle.it_chain.specs.declared.candidate.Body.TheVariants.{Layout as held_layout}
@@ -22,28 +22,26 @@ as_body (held_layout layout) = of_layout layout
 abbrev pub IsBody : List ℕ → List ℕ → Held → Type 0
 IsBody step payload body = BodyOf step payload (as_body body)
 
--- the bytes are this envelope of a body for a step
-pub record IsRead (step bytes : List ℕ) (candidate : Candidate) : Type 0 where
-  pub is_envelope : EnvelopeOf bytes candidate.envelope
-  pub type_is : candidate.envelope.payload_type ≡ in_toto_type
-  pub reads : IsBody step candidate.envelope.payload candidate.body
+-- the bytes are this envelope, of the type that bodies have
+pub record IsRead (bytes : List ℕ) (envelope : Envelope) : Type 0 where
+  pub is_envelope : EnvelopeOf bytes envelope
+  pub type_is : envelope.payload_type ≡ in_toto_type
 
 -- a file stands at a place, and its bytes are such an envelope
-abbrev pub IsReadAt : List ℕ → List File → ℕ → Candidate → Type 0
-IsReadAt step files place candidate =
-    (file : File) × (slice_get files place ≡ Some file) × IsRead step file.bytes candidate
+abbrev pub IsReadAt : List File → ℕ → Envelope → Type 0
+IsReadAt files place envelope =
+    (file : File) × (slice_get files place ≡ Some file) × IsRead file.bytes envelope
 
 -- the envelopes of the files that are such, and no others
-pub record AreRead (step : List ℕ) (files : List File) (candidates : List Candidate) : Type 0 where
-  pub each : (candidate : Candidate) → Contains candidates candidate → (file : File)
-      × Contains files file × IsRead step file.bytes candidate
-  pub all : (file : File) (candidate : Candidate) → Contains files file
-      → IsRead step file.bytes candidate → (found : Candidate) × Contains candidates found
-      × (found.envelope ≡ candidate.envelope)
+pub record AreRead (files : List File) (envelopes : List Envelope) : Type 0 where
+  pub each : (envelope : Envelope) → Contains envelopes envelope → (file : File)
+      × Contains files file × IsRead file.bytes envelope
+  pub all : (file : File) (envelope : Envelope) → Contains files file → IsRead file.bytes envelope
+      → Contains envelopes envelope
   pub most : (n : ℕ) → IsSum (λ file. CostsIfFound (EnvelopeOf file.bytes) HasSignatures) files n
-      → signature_count candidates ≤ n
+      → signature_count envelopes ≤ n
 
 -- the same of the files that are claimed for a step
-abbrev pub AreCandidates : List ℕ → List File → List Candidate → Type 0
-AreCandidates step files candidates =
-    (claimed : List File) × AreClaimed step files claimed × AreRead step claimed candidates
+abbrev pub AreCandidates : List ℕ → List File → List Envelope → Type 0
+AreCandidates step files envelopes =
+    (claimed : List File) × AreClaimed step files claimed × AreRead claimed envelopes

@@ -2,37 +2,46 @@
 use Rattle.std.specs.Prelude.{◌≡◌, ◌≢◌, ℕ, List, Contains}
 use Rattle.it_dsse.specs.Panel.{KeyNumber, Panel}
 use Rattle.it_dsse.specs.Signed.{Signed}
+use Rattle.it_dsse.specs.declared.envelope.Envelope.{Envelope}
 use Rattle.it_dsse.specs.declared.key_object.KeyObject.{KeyObject}
-use Rattle.it_chain.specs.declared.candidate.Candidate.{Candidate}
+use Rattle.it_chain.specs.inside.Candidates.{IsBody}
 use Rattle.it_chain.specs.declared.candidate.Body.{Body as Held}
 use Rattle.it_chain.specs.declared.counted_bodies.Counting.{Counting}
 use Rattle.it_chain.specs.declared.counted_bodies.Counting.TheVariants.{Nothing, One, Several}
 
-module _ (panel : Panel) (id : List ℕ) (object : KeyObject) (candidates : List Candidate) where
-  -- a candidate that the key signed
-  pub record IsSigned (candidate : Candidate) (key : KeyNumber) : Type 0 where
-    pub stands : Contains candidates candidate
-    pub signed : Signed panel candidate.envelope id object key
+module _ (panel : Panel) (step id : List ℕ) (object : KeyObject) where
+  -- the key signed the envelope, whose payload is the body for the step
+  abbrev pub IsSignedBody : Envelope → KeyNumber × Held → Type 0
+  IsSignedBody envelope found =
+      Signed panel envelope id object found.0 × IsBody step envelope.payload found.1
 
-  -- one body alone
-  pub record CountsOne (key : KeyNumber) (body : Held) : Type 0 where
-    pub candidate : Candidate
-    pub is : IsSigned candidate key
-    pub body_is : body ≡ candidate.body
-    pub alone : (other : Candidate) (k : KeyNumber) → IsSigned other k
-        → candidate.envelope.payload ≡ other.envelope.payload
+  module _ (envelopes : List Envelope) where
+    -- one of the envelopes is such
+    pub record IsSigned (envelope : Envelope) (key : KeyNumber) (body : Held) : Type 0 where
+      pub stands : Contains envelopes envelope
+      pub signed : IsSignedBody envelope (key, body)
 
-  -- two that differ
-  pub record CountTwo : Type 0 where
-    pub one : Candidate
-    pub other : Candidate
-    pub one_key : KeyNumber
-    pub other_key : KeyNumber
-    pub one_is : IsSigned one one_key
-    pub other_is : IsSigned other other_key
-    pub differ : one.envelope.payload ≢ other.envelope.payload
+    -- one body alone
+    pub record CountsOne (key : KeyNumber) (body : Held) : Type 0 where
+      pub envelope : Envelope
+      pub is : IsSigned envelope key body
+      pub alone : (other : Envelope) (k : KeyNumber) (b : Held) → IsSigned other k b
+          → envelope.payload ≡ other.payload
 
-  abbrev pub Counts : Counting → Type 0
-  Counts Nothing = (candidate : Candidate) (key : KeyNumber) → ¬ IsSigned candidate key
-  Counts (One key body) = CountsOne key body.now
-  Counts Several = CountTwo
+    -- two that differ
+    pub record CountTwo : Type 0 where
+      pub one : Envelope
+      pub other : Envelope
+      pub one_key : KeyNumber
+      pub other_key : KeyNumber
+      pub one_body : Held
+      pub other_body : Held
+      pub one_is : IsSigned one one_key one_body
+      pub other_is : IsSigned other other_key other_body
+      pub differ : one.payload ≢ other.payload
+
+    abbrev pub Counts : Counting → Type 0
+    Counts Nothing = (envelope : Envelope) (key : KeyNumber) (body : Held)
+        → ¬ IsSigned envelope key body
+    Counts (One key body) = CountsOne key body
+    Counts Several = CountTwo

@@ -5,6 +5,7 @@ use Rattle.std.specs.FinMap.{keys}
 use Rattle.std.specs.List.{AllZip}
 use Rattle.std.specs.declared.alloc.Global.{Global}
 use Rattle.std.specs.declared.vec.Vec.{Vec}
+use Rattle.it_dsse.specs.declared.envelope.Envelope.{Envelope}
 use Rattle.it_dsse.specs.declared.meter.Meter.{Meter}
 use Rattle.it_docs.specs.declared.layout.Layout.{Layout}
 use Rattle.it_docs.specs.declared.step.Step.{Step}
@@ -25,7 +26,6 @@ use Rattle.it_chain.specs.inside.IdRecords.{AreRecords, Gives}
 use Rattle.it_chain.specs.inside.Sublayouts.{BodyComes, SublayoutComes}
 use Rattle.it_chain.specs.inside.Walks.{Walks}
 use Rattle.it_chain.specs.declared.candidate.Body.{Body as Held}
-use Rattle.it_chain.specs.declared.candidate.Candidate.{Candidate}
 use Rattle.it_chain.specs.declared.chain.Chain.{Chain as ChainOf}
 use Rattle.it_chain.specs.declared.chain.StepResult.{StepResult}
 use Rattle.it_chain.specs.declared.level.Level.{Level}
@@ -113,7 +113,7 @@ module _ (scope : Scope) where
       (λ records. AreRecords below_holds scope.setting scope.layout scope.bundle step records.items)
       result
 
-  abbrev pub IdCost : Step → List Candidate → List ℕ → ℕ → Type 0
+  abbrev pub IdCost : Step → List Envelope → List ℕ → ℕ → Type 0
   IdCost step found =
       IdCosts below_costs scope.setting scope.layout scope.bundle step (signature_count found)
 

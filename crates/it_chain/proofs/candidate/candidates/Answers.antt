@@ -11,5 +11,5 @@ loop-place-preserved c =
       take_more c.args.places.now c.loop-place.place-index 0
           c.loop-place-test.true,
     )
-    (kept_at c.args.step.now c.args.files.now so_far _ c.loop-place.found.items
+    (kept_at c.args.files.now so_far _ c.loop-place.found.items
     c.loop-place.invariant c.in_ok-candidate_at.field-0 c.in_ok-candidate_at.ensures)

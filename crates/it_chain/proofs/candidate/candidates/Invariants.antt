@@ -5,5 +5,5 @@ use Rattle.it_chain.proofs.candidate.candidates.Given as goal
 
 -- the candidates among the files at the places so far
 abbrev pub invariant-loop-place : goal.invariant-loop-place
-invariant-loop-place l = AreRead l.step (files_at l.files (take l.place-index l.places))
+invariant-loop-place l = AreRead (files_at l.files (take l.place-index l.places))
     l.found.items

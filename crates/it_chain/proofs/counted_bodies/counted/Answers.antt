@@ -2,123 +2,145 @@ use Rattle.std.proofs.Common.{◌≡◌, ◌∙◌, ◌+◌, ◌++◌, ◌∷◌
 use Rattle.std.proofs.Common.{true, refl, sym, ap, subst, arith}
 use Rattle.std.proofs.lemmas.List.{take_more, take-append-drop}
 use Rattle.std.proofs.lemmas.List.Elements.{Contains-append_left, Contains-get_or}
+use Rattle.std.proofs.lemmas.Result.{err_from_is_err_and}
 use Rattle.it_chain.specs.inside.Asked.{SignaturesIn}
-use Rattle.it_chain.specs.declared.candidate.Candidate.{Candidate}
+use Rattle.it_dsse.specs.declared.envelope.Envelope.{Envelope}
 use Rattle.it_chain.proofs.Asking.{asked_first, asked_last, asked_more, within_none}
 use Rattle.it_chain.proofs.SoFar.{begun, least_first, none_so_far, one_of, passed_by, repeated}
 use Rattle.it_chain.proofs.SoFar.{two_of}
 use Rattle.it_chain.proofs.counted_bodies.counted.Goals as goal
 use Rattle.it_chain.proofs.counted_bodies.counted.Goals.{in-Some+in-None}
 use Rattle.it_chain.proofs.counted_bodies.counted.Goals.{
-  in-Some+in-Some-first+else-not-is_same_payload,
+  in-Some+in-Some-first+else-not-is_same_payload+in-Link-1,
+}
+use Rattle.it_chain.proofs.counted_bodies.counted.Goals.{
+  in-Some+in-Some-first+else-not-is_same_payload+in-Layout-1,
 }
 use Rattle.it_chain.proofs.counted_bodies.counted.Goals.{in_default}
+
+pub returns-in_err-signed-clause-asked : goal.returns-in_err-signed-clause-asked
+returns-in_err-signed-clause-asked g c =
+    let panel = (g.C.Checking.setting c.args.checking.now).panel in
+    let p = err_from_is_err_and c.from_residual.result c.from_residual.ensures.1 in
+    rw p.1 (asked_last panel c.args.signer.now.id.now c.args.signer.now.object.now
+    c.args.envelopes.now c.loop-envelope.envelope-index c.envelope-item.result
+    c.loop-envelope-test.true c.envelope-item.is c.args.meter.now c.loop-envelope.meter
+    c.signed_body.new.meter (least_first c.loop-envelope.first) c.loop-envelope.invariant.asked
+    c.signed_body.ensures.asked)
 
 pub returns-then-not-is_same_payload-clause-answer : goal.returns-then-not-is_same_payload-clause-answer
 returns-then-not-is_same_payload-clause-answer g c =
     let panel = (g.C.Checking.setting c.args.checking.now).panel in
-    let i = c.loop-candidate.candidate-index in
-    let all = c.args.candidates.now in
-    let new = c.candidate-item.result in
-    let first = rw c.in-Some-first.is at c.loop-candidate.invariant.so_far in
-    let signs = c.in-Some.ensures.answer in
-    let before : Contains all c.in-Some-first.found.now =
-    subst (λ (xs : List Candidate). Contains xs c.in-Some-first.found.now) (take-append-drop i all)
-    (Contains-append_left (take i all) (drop i all) c.in-Some-first.found.now
-    first.is.stands) in
-    let there : Contains all new = subst (Contains all) (sym c.candidate-item.is)
-    (Contains-get_or all i new c.loop-candidate-test.true) in
-    two_of panel c.args.id.now c.args.object.now all c.in-Some-first.field-0-0 c.in-Some.key
-    c.in-Some-first.found.now new before there first.is.signed signs
+    let i = c.loop-envelope.envelope-index in
+    let all = c.args.envelopes.now in
+    let new = c.envelope-item.result in
+    let found = c.in-Some-first.found in
+    let first = rw c.in-Some-first.is at c.loop-envelope.invariant.so_far in
+    let signs = rw c.in-Some.is at c.in_ok-signed.ensures.answer in
+    let before : Contains all found.envelope.now =
+    subst (λ (xs : List Envelope). Contains xs found.envelope.now) (take-append-drop i all)
+    (Contains-append_left (take i all) (drop i all) found.envelope.now first.is.stands) in
+    let there : Contains all new = subst (Contains all) (sym c.envelope-item.is)
+    (Contains-get_or all i new c.loop-envelope-test.true) in
+    two_of panel c.args.step.now c.args.signer.now.id.now c.args.signer.now.object.now all found new
+    c.in-Some.key c.in-Some.body
+    (record { stands = before; signed = first.is.signed })
+    (record { stands = there; signed = signs })
     (λ same. let is : c.is_same_payload.result ≡ true = c.is_same_payload.ensures.1 same in cc)
 
-pub loop-candidate-preserved : goal.loop-candidate-preserved
-loop-candidate-preserved g c =
+pub loop-envelope-preserved : goal.loop-envelope-preserved
+loop-envelope-preserved g c =
     let panel = (g.C.Checking.setting c.args.checking.now).panel in
-    let id = c.args.id.now in
-    let object = c.args.object.now in
-    let i = c.loop-candidate.candidate-index in
-    let all = c.args.candidates.now in
-    let new = c.candidate-item.result in
+    let step = c.args.step.now in
+    let id = c.args.signer.now.id.now in
+    let object = c.args.signer.now.object.now in
+    let i = c.loop-envelope.envelope-index in
+    let all = c.args.envelopes.now in
+    let new = c.envelope-item.result in
     let old = c.args.meter.now in
-    let now = c.loop-candidate.meter in
-    let next = c.signed_by.new.meter in
+    let now = c.loop-envelope.meter in
+    let next = c.signed_body.new.meter in
     let more : take (i + 1) all ≡ take i all ++ new ∷ [] =
-    take_more all i new c.loop-candidate-test.true ∙ ap (λ x. take i all ++ x ∷ [])
-    (sym c.candidate-item.is) in
-    elim c.match-signed_by.branch [
+    take_more all i new c.loop-envelope-test.true ∙ ap (λ x. take i all ++ x ∷ [])
+    (sym c.envelope-item.is) in
+    let one_more = asked_more panel id object all i new c.loop-envelope-test.true
+    c.envelope-item.is old now next (least_first c.loop-envelope.first)
+    c.loop-envelope.invariant.asked c.signed_body.ensures.asked in
+    elim c.match-signed.branch [
       | in-Some+in-None w ↦
-          let signs = w.in-Some.ensures.answer in
+          let signs = rw w.in-Some.is at c.in_ok-signed.ensures.answer in
           rw w.first-is
           (record {
-            so_far = rw more (begun panel id object (take i all) new w.in-Some.key signs
-                (rw w.in-None.is at c.loop-candidate.invariant.so_far));
-            asked = asked_first panel id object all i new c.loop-candidate-test.true
-                c.candidate-item.is old now next (least_first c.loop-candidate.first)
-                c.loop-candidate.invariant.asked c.signed_by.ensures.counted w.in-Some.key signs;
+            so_far = rw more (begun panel step id object (take i all) new _ w.in-Some.key
+                w.in-Some.body refl signs (rw w.in-None.is at c.loop-envelope.invariant.so_far));
+            asked = asked_first panel id object all i new c.loop-envelope-test.true
+                c.envelope-item.is old now next (least_first c.loop-envelope.first)
+                c.loop-envelope.invariant.asked c.signed_body.ensures.asked w.in-Some.key signs.0;
           })
-      | in-Some+in-Some-first+else-not-is_same_payload w ↦
+      | in-Some+in-Some-first+else-not-is_same_payload+in-Link-1 w ↦
           let same = w.is_same_payload.ensures.0 w.if-not-is_same_payload.false in
           rw (w.first-is, w.in-Some-first.is)
           (record {
-            so_far = rw more (repeated panel id object (take i all) new w.in-Some-first.field-0-0
-                w.in-Some-first.found same
-                (rw w.in-Some-first.is at c.loop-candidate.invariant.so_far));
-            asked = asked_more panel id object all i new c.loop-candidate-test.true
-                c.candidate-item.is old now next 1
-                (rw w.in-Some-first.is at c.loop-candidate.invariant.asked)
-                c.signed_by.ensures.counted;
+            so_far = rw more (repeated panel step id object (take i all) new w.in-Some-first.found
+                same (rw w.in-Some-first.is at c.loop-envelope.invariant.so_far));
+            asked = rw w.in-Some-first.is at one_more;
+          })
+      | in-Some+in-Some-first+else-not-is_same_payload+in-Layout-1 w ↦
+          let same = w.is_same_payload.ensures.0 w.if-not-is_same_payload.false in
+          rw (w.first-is, w.in-Some-first.is)
+          (record {
+            so_far = rw more (repeated panel step id object (take i all) new w.in-Some-first.found
+                same (rw w.in-Some-first.is at c.loop-envelope.invariant.so_far));
+            asked = rw w.in-Some-first.is at one_more;
           })
       | in_default w ↦
           rw w.first-is
           (record {
-            so_far = rw more (passed_by panel id object (take i all) new c.loop-candidate.first
-                (rw w.in_default.is at c.signed_by.ensures.answer)
-                c.loop-candidate.invariant.so_far);
-            asked = asked_more panel id object all i new c.loop-candidate-test.true
-                c.candidate-item.is old now next (least_first c.loop-candidate.first)
-                c.loop-candidate.invariant.asked c.signed_by.ensures.counted;
+            so_far = rw more (passed_by panel step id object (take i all) new c.loop-envelope.first
+                (rw w.in_default.is at c.in_ok-signed.ensures.answer)
+                c.loop-envelope.invariant.so_far);
+            asked = one_more;
           })
     ]
 
 pub returns-in-None-first-clause-answer : goal.returns-in-None-first-clause-answer
 returns-in-None-first-clause-answer g c =
-    let all : take c.loop-candidate.candidate-index c.args.candidates.now ≡ c.args.candidates.now =
-    take_all c.loop-candidate.candidate-index c.args.candidates.now (omega arith) in
-    rw (c.in-None-first.is, all) at c.loop-candidate.invariant.so_far
+    let all : take c.loop-envelope.envelope-index c.args.envelopes.now ≡ c.args.envelopes.now =
+    take_all c.loop-envelope.envelope-index c.args.envelopes.now (omega arith) in
+    rw (c.in-None-first.is, all) at c.loop-envelope.invariant.so_far
 
 pub returns-in-Some-first-2-clause-answer : goal.returns-in-Some-first-2-clause-answer
 returns-in-Some-first-2-clause-answer g c =
-    let all : take c.loop-candidate.candidate-index c.args.candidates.now ≡ c.args.candidates.now =
-    take_all c.loop-candidate.candidate-index c.args.candidates.now (omega arith) in
-    one_of (g.C.Checking.setting c.args.checking.now).panel c.args.id.now c.args.object.now
-    c.args.candidates.now c.in-Some-first-2.key c.in-Some-first-2.found
-    (rw (c.in-Some-first-2.is, all) at c.loop-candidate.invariant.so_far)
+    let all : take c.loop-envelope.envelope-index c.args.envelopes.now ≡ c.args.envelopes.now =
+    take_all c.loop-envelope.envelope-index c.args.envelopes.now (omega arith) in
+    one_of (g.C.Checking.setting c.args.checking.now).panel c.args.step.now
+    c.args.signer.now.id.now c.args.signer.now.object.now c.args.envelopes.now
+    c.in-Some-first-2.found (rw (c.in-Some-first-2.is, all) at c.loop-envelope.invariant.so_far)
 
-pub loop-candidate-init : goal.loop-candidate-init
-loop-candidate-init g c = record {
-  so_far = none_so_far (g.C.Checking.setting c.args.checking.now).panel c.args.id.now
-      c.args.object.now;
+pub loop-envelope-init : goal.loop-envelope-init
+loop-envelope-init g c = record {
+  so_far = none_so_far (g.C.Checking.setting c.args.checking.now).panel c.args.step.now
+      c.args.signer.now.id.now c.args.signer.now.object.now;
   asked = within_none (SignaturesIn []) c.args.meter.now c.args.meter.now refl;
 }
 
 pub returns-then-not-is_same_payload-clause-asked : goal.returns-then-not-is_same_payload-clause-asked
 returns-then-not-is_same_payload-clause-asked g c =
     let panel = (g.C.Checking.setting c.args.checking.now).panel in
-    asked_last panel c.args.id.now c.args.object.now c.args.candidates.now
-    c.loop-candidate.candidate-index c.candidate-item.result c.loop-candidate-test.true
-    c.candidate-item.is c.args.meter.now c.loop-candidate.meter c.signed_by.new.meter
-    (least_first c.loop-candidate.first) c.loop-candidate.invariant.asked
-    c.signed_by.ensures.counted
+    asked_last panel c.args.signer.now.id.now c.args.signer.now.object.now c.args.envelopes.now
+    c.loop-envelope.envelope-index c.envelope-item.result c.loop-envelope-test.true
+    c.envelope-item.is c.args.meter.now c.loop-envelope.meter c.signed_body.new.meter
+    (least_first c.loop-envelope.first) c.loop-envelope.invariant.asked
+    c.signed_body.ensures.asked
 
 pub returns-in-None-first-clause-asked : goal.returns-in-None-first-clause-asked
 returns-in-None-first-clause-asked g c =
-    let all : take c.loop-candidate.candidate-index c.args.candidates.now ≡ c.args.candidates.now =
-    take_all c.loop-candidate.candidate-index c.args.candidates.now (omega arith) in
-    rw (c.in-None-first.is, all) at c.loop-candidate.invariant.asked
+    let all : take c.loop-envelope.envelope-index c.args.envelopes.now ≡ c.args.envelopes.now =
+    take_all c.loop-envelope.envelope-index c.args.envelopes.now (omega arith) in
+    rw (c.in-None-first.is, all) at c.loop-envelope.invariant.asked
 
 pub returns-in-Some-first-2-clause-asked : goal.returns-in-Some-first-2-clause-asked
 returns-in-Some-first-2-clause-asked g c =
-    let all : take c.loop-candidate.candidate-index c.args.candidates.now ≡ c.args.candidates.now =
-    take_all c.loop-candidate.candidate-index c.args.candidates.now (omega arith) in
-    rw (c.in-Some-first-2.is, all) at c.loop-candidate.invariant.asked
+    let all : take c.loop-envelope.envelope-index c.args.envelopes.now ≡ c.args.envelopes.now =
+    take_all c.loop-envelope.envelope-index c.args.envelopes.now (omega arith) in
+    rw (c.in-Some-first-2.is, all) at c.loop-envelope.invariant.asked

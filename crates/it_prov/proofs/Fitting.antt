@@ -1,16 +1,18 @@
 -- Some expectation fits a path, or none does.
 use Rattle.std.proofs.Common.{◌≡◌, ◌⊎◌, ◌+◌, ◌<◌, ℕ, List, [], ◌∷◌, ◌++◌, length, get_or, take}
-use Rattle.std.proofs.Common.{drop, Option, Some, None, MatchOption, Bor, inl, inr, Contains, refl}
+use Rattle.std.proofs.Common.{drop, Option, Some, None, MatchOption, inl, inr, Contains, refl}
 use Rattle.std.proofs.Common.{sym, ap, subst, arith, ◌∙◌}
 use Rattle.std.specs.List.{AllWithin, HoldsAt}
 use Rattle.std.proofs.lemmas.List.{drop_more, get_or-take, length-take, take-append-drop}
 use Rattle.std.proofs.lemmas.List.Elements.{Contains-append_right}
+use Rattle.std.proofs.lemmas.Option.{get_or_from_slice_get, slice_get_cases}
 use Rattle.it_base.proofs.Members.{in_head, in_cases, in_none}
 use Rattle.it_base.proofs.Settled.{Settled, settled_by}
 use Rattle.it_glob.proofs.Decided.{is_match, is_match-Decides}
 use Rattle.it_docs.specs.declared.policy.Expectation.{Expectation}
 use Rattle.it_prov.specs.Finding.{NoneFits}
 use Rattle.it_prov.specs.Fits.{SpeaksOf, Fits}
+use Rattle.it_prov.specs.inside.Judged.{FitsAt}
 
 module _ (path : List ℕ) where
   speaks_or_not : (expectation : Expectation) → Settled (SpeaksOf path expectation)
@@ -93,15 +95,27 @@ module _ (path : List ℕ) where
         (before c.0 other (omega arith) within);
   }
 
-  -- what a search for the first that speaks of the path comes to
-  pub fits_found : (expectations : List Expectation) (found : Option (Bor Expectation))
+  -- what a search for the place of the first that speaks of the path comes to
+  pub fits_found : (expectations : List Expectation) (found : Option ℕ)
       → MatchOption found (AllWithin (λ other. ¬ SpeaksOf path other) expectations 0
       (length expectations))
-      (λ x. SpeaksOf path x.now × (i : ℕ) × (i < length expectations)
-      × HoldsAt (λ y. y ≡ x.now) expectations i
+      (λ i. (i < length expectations) × HoldsAt (SpeaksOf path) expectations i
       × AllWithin (λ other. ¬ SpeaksOf path other) expectations 0 i)
-      → MatchOption found (NoneFits expectations path) (λ x. Fits expectations path x.now)
+      → MatchOption found (NoneFits expectations path) (FitsAt expectations path)
   fits_found expectations None silent =
       silent_fits_none expectations (λ other c. subst (λ x. ¬ SpeaksOf path x) c.2
       (silent c.0 other (omega arith) c.1))
-  fits_found expectations (Some x) h = fits_at expectations x.now h.1 h.2 (h.3 x.now) h.0 h.4
+  fits_found expectations (Some i) h = elim (slice_get_cases expectations i).1 [
+    | inl at ↦ record {
+      expectation = at.0;
+      stands = at.2;
+      fits = fits_at expectations at.0 i h.0 at.3 (subst (SpeaksOf path) at.3 (h.1 at.0)) h.2;
+    }
+    | inr past ↦ absurd (omega (arith, past.0, h.0))
+  ]
+
+  -- the expectation at the place of the one that fits fits
+  pub fits_there : (expectations : List Expectation) (place : ℕ) (default : Expectation)
+      → FitsAt expectations path place → Fits expectations path (get_or expectations place default)
+  fits_there expectations place default at = subst (Fits expectations path)
+      (sym (get_or_from_slice_get expectations place at.expectation default at.stands)) at.fits

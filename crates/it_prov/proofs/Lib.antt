@@ -1,3 +1,4 @@
+pub mod Answering
 pub mod AskedOnce
 pub mod Asking
 pub mod Attesting

@@ -11,7 +11,7 @@ use Rattle.it_dsse.specs.declared.envelope.Envelope.{Envelope}
 use Rattle.it_dsse.specs.declared.key_object.KeyObject.{KeyObject}
 use Rattle.it_dsse.proofs.SignerSettled.{signer_or_not}
 use Rattle.it_docs.specs.declared.policy.Builder.{Builder}
-use Rattle.it_prov.specs.inside.Judged.{IsAskedOfBuilder}
+use Rattle.it_prov.specs.Answered.{IsAskedOfBuilder}
 use Rattle.it_prov.specs.Meets.{SignedByBuilder}
 use Rattle.it_prov.proofs.Entries.{entry_known, known_entry}
 

@@ -1,23 +1,47 @@
--- The Statements that envelopes hold (in-toto Attestation Statement v1).
-use Rattle.std.specs.Prelude.{◌≡◌, List, Option}
+-- What envelopes attest to those who trust the builders of some expectations (in-toto Attestation
+-- Statement v1). That what none of them signed is not read is this profile's choice.
+use Rattle.std.specs.Prelude.{◌≡◌, List, Option, MatchOption, Contains}
 use Rattle.std.specs.List.{AllZip}
-use Rattle.it_base.specs.Finds.{Finds}
+use Rattle.it_dsse.specs.Panel.{Panel}
 use Rattle.it_dsse.specs.declared.envelope.Envelope.{Envelope}
 use Rattle.it_docs.specs.PayloadType.{in_toto_type}
 use Rattle.it_docs.specs.Statement.{StatementOf}
+use Rattle.it_docs.specs.declared.policy.Builder.{Builder}
+use Rattle.it_docs.specs.declared.policy.Expectation.{Expectation}
 use Rattle.it_docs.specs.declared.statement.Statement.{Statement}
-use Rattle.it_prov.specs.declared.attestations.Attestations.{Attestations}
+use Rattle.it_prov.specs.Answered.{AreAllAnswers}
+use Rattle.it_prov.specs.Meets.{SignedByBuilder}
+use Rattle.it_prov.specs.declared.attestations.Attestation.{Attestation}
 
--- an envelope is of the in-toto type, and its payload is this Statement
-pub record IsHeld (envelope : Envelope) (statement : Statement) : Type 0 where
+-- a builder of one of the expectations signed the envelope
+pub record SignedForOne (panel : Panel) (expectations : List Expectation) (envelope : Envelope)
+    : Type 0 where
+  pub expectation : Expectation
+  pub builder : Builder
+  pub is_expectation : Contains expectations expectation
+  pub is_builder : Contains expectation.builders builder
+  pub signed : SignedByBuilder panel envelope builder
+
+-- an envelope of the in-toto type, which a builder of one of the expectations signed, has this
+-- Statement as its payload
+pub record IsHeld (panel : Panel) (expectations : List Expectation) (envelope : Envelope)
+    (statement : Statement) : Type 0 where
   pub type_is : envelope.payload_type ≡ in_toto_type
+  pub signed : SignedForOne panel expectations envelope
   pub reads : StatementOf envelope.payload statement
 
--- in their order, the Statement that each envelope holds, or none where it holds none
-abbrev pub AreHeld : List Envelope → List (Option Statement) → Type 0
-AreHeld = AllZip (λ envelope found. Finds (IsHeld envelope) found)
+-- what an envelope attests: its Statement, and which builders signed it
+pub record IsAttested (panel : Panel) (expectations : List Expectation) (envelope : Envelope)
+    (attestation : Attestation) : Type 0 where
+  pub held : IsHeld panel expectations envelope attestation.statement
+  pub answers : AreAllAnswers panel envelope expectations attestation.answers
 
--- these are the attestations of the envelopes
-pub record AreOf (envelopes : List Envelope) (attestations : Attestations) : Type 0 where
-  pub same : attestations.envelopes.now ≡ envelopes
-  pub held : AreHeld envelopes attestations.statements.items
+-- what an envelope attests, or none where it holds no such Statement
+abbrev pub HoldsOrNone : Panel → List Expectation → Envelope → Option Attestation → Type 0
+HoldsOrNone panel expectations envelope found =
+    MatchOption found ((statement : Statement) → ¬ IsHeld panel expectations envelope statement)
+    (IsAttested panel expectations envelope)
+
+-- in their order, what each envelope attests
+abbrev pub AreHeld : Panel → List Expectation → List Envelope → List (Option Attestation) → Type 0
+AreHeld panel expectations = AllZip (HoldsOrNone panel expectations)

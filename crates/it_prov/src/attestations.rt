@@ -1,63 +1,108 @@
-//! The Statements that envelopes hold.
-ghost use Rattle.std.specs.Prelude.{IfOk};
-ghost use Rattle.it_base.specs.Finds.{Finds};
-ghost use Rattle.it_prov.specs.Held.{AreHeld, AreOf, IsHeld};
+//! What envelopes attest, and who signed them.
+ghost use Rattle.std.specs.Prelude.{◌≡◌, IfOk, map};
+ghost use Rattle.it_dsse.specs.Panel.{panel_of};
+ghost use Rattle.it_prov.specs.Held.{AreHeld, HoldsOrNone};
 
+use crate::answers::{Answer, answers_of, some_signed};
+use it_base::sequence::Sequence;
 use it_docs::fault::DocumentFault;
+use it_docs::policy::Expectation;
 use it_docs::statement::{Statement, read_statement};
+use it_dsse::check::SignatureCheck;
 use it_dsse::envelope::Envelope;
 use it_dsse::payload_type::IN_TOTO;
 use std::alloc::{AllocError, Global};
 
-/// Envelopes, and the Statements that they hold: each is read once, for as many searches as there
-/// are files.
+/// What envelopes attest to those who trust the builders of some expectations: it is found out
+/// once, for as many searches as there are files.
 #[derive(Drop)]
 pub struct Attestations<'a> {
     /// The envelopes.
     pub envelopes: &'a [Envelope],
-    /// For each envelope the Statement that it holds, if it holds one.
-    pub statements: Vec<Option<Statement>>,
+    /// The expectations, whose builders were asked for.
+    pub expectations: &'a [Expectation],
+    /// The checks of signatures, which were asked.
+    pub panel: &'a [Box<dyn SignatureCheck>],
+    /// For each envelope what it attests, if one of the builders signed it.
+    pub held: Vec<Option<Attestation>>,
+}
+
+/// What an envelope attests, and who signed it.
+#[derive(Drop)]
+pub struct Attestation {
+    /// The Statement that it holds.
+    pub statement: Statement,
+    /// For each expectation, and each builder of it, whether the builder signed.
+    pub answers: Sequence<Sequence<Answer>>,
 }
 
 impl<'a> Attestations<'a> {
-    /// Reads what each of the envelopes holds. An envelope that is not of the in-toto type, or
-    /// whose payload is no Statement, holds none.
+    /// Asks the `panel` which builders of the expectations signed each of the envelopes, and reads
+    /// what is signed. An envelope that none of them signed is not read, and like one that is not
+    /// of the in-toto type, or whose payload is no Statement, it attests nothing.
     ///
     /// # Errors
     ///
     /// `AllocError` where memory was refused.
-    pub fn of(alloc: Global, envelopes: &'a [Envelope]) -> Result<Attestations<'a>, AllocError>
-        ensures { IfOk result (AreOf envelopes.now) }
+    pub fn of(
+        alloc: Global,
+        envelopes: &'a [Envelope],
+        expectations: &'a [Expectation],
+        panel: &'a [Box<dyn SignatureCheck>],
+    ) -> Result<Attestations<'a>, AllocError>
+        ensures envelopes { IfOk result (λ a. a.envelopes.now ≡ envelopes.now) }
+        ensures expectations { IfOk result (λ a. a.expectations.now ≡ expectations.now) }
+        ensures panel { IfOk result (λ a. a.panel.now ≡ panel.now) }
+        ensures held { IfOk result (λ a. AreHeld (panel_of (map meaning panel.now))
+            expectations.now envelopes.now a.held.items) }
     {
         Ok(Attestations {
             envelopes,
-            statements: statements_in(alloc, envelopes)?,
+            expectations,
+            panel,
+            held: held_in(alloc, envelopes, expectations, panel)?,
         })
     }
 }
 
-fn statements_in(
+fn held_in(
     alloc: Global,
     envelopes: &[Envelope],
-) -> Result<Vec<Option<Statement>>, AllocError>
-    ensures { IfOk result (λ statements. AreHeld envelopes.now statements.items) }
+    expectations: &[Expectation],
+    panel: &[Box<dyn SignatureCheck>],
+) -> Result<Vec<Option<Attestation>>, AllocError>
+    ensures { IfOk result (λ held. AreHeld (panel_of (map meaning panel.now)) expectations.now
+        envelopes.now held.items) }
 {
-    let mut statements = Vec::with_capacity(alloc, envelopes.len())?;
+    let mut held = Vec::with_capacity(alloc, envelopes.len())?;
     for envelope in envelopes {
-        statements.push(held(alloc, envelope)?)?;
+        held.push(attested(alloc, envelope, expectations, panel)?)?;
     }
-    Ok(statements)
+    Ok(held)
 }
 
-/// The Statement that an envelope holds.
-fn held(alloc: Global, envelope: &Envelope) -> Result<Option<Statement>, AllocError>
-    ensures { IfOk result (Finds (IsHeld envelope.now)) }
+/// What an envelope attests. Its payload is read last.
+fn attested(
+    alloc: Global,
+    envelope: &Envelope,
+    expectations: &[Expectation],
+    panel: &[Box<dyn SignatureCheck>],
+) -> Result<Option<Attestation>, AllocError>
+    ensures { IfOk result (HoldsOrNone (panel_of (map meaning panel.now)) expectations.now
+        envelope.now) }
 {
     if envelope.payload_type.as_str() != IN_TOTO {
         return Ok(None);
     }
+    let answers = answers_of(alloc, envelope, expectations, panel)?;
+    if !some_signed(answers.as_slice()) {
+        return Ok(None);
+    }
     match read_statement(alloc, envelope.payload.as_slice()) {
-        Ok(statement) => Ok(Some(statement)),
+        Ok(statement) => Ok(Some(Attestation {
+            statement,
+            answers: Sequence::from(answers),
+        })),
         Err(DocumentFault::BadDocument) => Ok(None),
         Err(DocumentFault::OutOfMemory) => Err(AllocError),
     }

@@ -18,7 +18,7 @@ use it_docs::policy::Expectation;
 use it_dsse::check::SignatureCheck;
 use it_dsse::envelope::Envelope;
 use it_dsse::meter::Meter;
-use std::alloc::{AllocError, Global};
+use std::alloc::Global;
 
 /// The index of the first envelope that is provenance of a delivered file (SLSA v1.0, verifying
 /// artifacts).
@@ -28,9 +28,10 @@ use std::alloc::{AllocError, Global};
 /// builders, of at least the expected level, signed the envelope, and the payload is a Statement
 /// with provenance that names this builder, with the build type and the parameters that are
 /// expected, and a subject of which agrees with the digests. Signatures are checked by the `panel`,
-/// which counts in `meter`: at most once for each key of the expected builders and each signature,
-/// and at least once for each signature that is tried with the key of the builder that signed the
-/// envelope found, up to the first valid one.
+/// once for each builder of the `expectations`, and the answers are remembered. The `meter` counts
+/// the answers that the search asks for, remembered ones too, by the signatures that were tried for
+/// them: at most each once for each key of the expected builders, and at least those that are tried
+/// with the key of the builder that signed the envelope found, up to the first valid one.
 ///
 /// # Errors
 ///
@@ -64,20 +65,13 @@ pub fn find_provenance(
         (panel_of (map meaning panel.now))
         expectations.now path.now digests envelopes.now index)) meter.old meter.new) }
 {
-    let attestations = Attestations::of(alloc, envelopes)?;
-    find_among(
-        alloc,
-        path,
-        digests,
-        expectations,
-        &attestations,
-        panel,
-        meter,
-    )
+    let attestations = Attestations::of(alloc, envelopes, expectations, panel)?;
+    find_among(alloc, path, digests, &attestations, meter)
 }
 
 /// The index of the first envelope that is provenance of a delivered file, as `find_provenance`
-/// answers it, among envelopes whose Statements were read before.
+/// answers it, among envelopes of which it was found out before what they attest. The meter rises
+/// as if the keys were asked again: it counts remembered answers too.
 ///
 /// # Errors
 ///
@@ -86,46 +80,39 @@ pub fn find_among(
     alloc: Global,
     path: &str,
     digests: DigestSet,
-    expectations: &[Expectation],
     attestations: &Attestations,
-    panel: &[Box<dyn SignatureCheck>],
     meter: &mut Meter,
 ) -> Result<usize, ProvError>
-    requires { AreHeld attestations.now.envelopes.now attestations.now.statements.items }
-    ensures found { IfOk result (IsFound (panel_of (map meaning panel.now)) expectations.now
-        path.now digests
-        attestations.now.envelopes.now) }
+    requires { AreHeld (panel_of (map meaning attestations.now.panel.now))
+        attestations.now.expectations.now attestations.now.envelopes.now
+        attestations.now.held.items }
+    ensures found { IfOk result (IsFound (panel_of (map meaning attestations.now.panel.now))
+        attestations.now.expectations.now path.now digests attestations.now.envelopes.now) }
     ensures no_expectation { IfErr result (λ e. (named : _) → e ≡ ProvError.NoExpectation named
-        → (named ≡ path.now) × NoneFits expectations.now path.now) }
+        → (named ≡ path.now) × NoneFits attestations.now.expectations.now path.now) }
     ensures no_provenance { IfErr result (λ e. (named : _) (best : _)
         → e ≡ ProvError.NoProvenance named best → (named ≡ path.now)
-        × IsMissing (panel_of (map meaning panel.now)) expectations.now path.now digests
-        attestations.now.envelopes.now best) }
-    ensures at_most { (expectation : _) → Fits expectations.now path.now expectation
+        × IsMissing (panel_of (map meaning attestations.now.panel.now))
+        attestations.now.expectations.now path.now digests attestations.now.envelopes.now best) }
+    ensures at_most { (expectation : _)
+        → Fits attestations.now.expectations.now path.now expectation
         → RaisedBy (λ n. n
         ≤ key_count expectation.builders * signature_count attestations.now.envelopes.now)
         meter.old meter.new }
-    ensures unasked { NoneFits expectations.now path.now → meter.new ≡ meter.old }
+    ensures unasked { NoneFits attestations.now.expectations.now path.now → meter.new ≡ meter.old }
     ensures at_least { IfOk result (λ index. RaisedBy (AtLeast (IsAsked
-        (panel_of (map meaning panel.now))
-        expectations.now path.now digests attestations.now.envelopes.now index)) meter.old
-        meter.new) }
+        (panel_of (map meaning attestations.now.panel.now)) attestations.now.expectations.now
+        path.now digests attestations.now.envelopes.now index)) meter.old meter.new) }
 {
-    let Some(expectation) = fitting(expectations, path) else {
-        return Err(ProvError::NoExpectation(text_of(alloc, path)?));
+    let Some(place) = fitting(attestations.expectations, path) else {
+        return Err(ProvError::NoExpectation(Text::copy(alloc, path)?));
     };
-    match first_to_meet(alloc, expectation, &digests, attestations, panel, meter) {
+    let expectation = &attestations.expectations[place];
+    match first_to_meet(alloc, expectation, place, &digests, attestations, meter) {
         Ok(index) => Ok(index),
         Err(MeetingFault::NoneMeets(best)) => {
-            Err(ProvError::NoProvenance(text_of(alloc, path)?, best))
+            Err(ProvError::NoProvenance(Text::copy(alloc, path)?, best))
         }
         Err(MeetingFault::OutOfMemory) => Err(ProvError::OutOfMemory),
     }
-}
-
-/// The text, copied.
-fn text_of(alloc: Global, text: &str) -> Result<Text, AllocError>
-    ensures { IfOk result (λ t. t ≡ text.now) }
-{
-    Ok(Text::from(String::from_str(alloc, text)?))
 }

@@ -1,16 +1,16 @@
 //! Which expectation speaks of a file.
 ghost use Rattle.std.specs.Prelude.{MatchOption};
 ghost use Rattle.it_prov.specs.Finding.{NoneFits};
-ghost use Rattle.it_prov.specs.Fits.{Fits};
+ghost use Rattle.it_prov.specs.inside.Judged.{FitsAt};
 
 use it_docs::policy::Expectation;
 
-/// The first expectation whose pattern matches a path.
-pub(crate) fn fitting<'a>(expectations: &'a [Expectation], path: &str) -> Option<&'a Expectation>
+/// The place of the first expectation whose pattern matches a path.
+pub(crate) fn fitting(expectations: &[Expectation], path: &str) -> Option<usize>
     ensures { MatchOption result (NoneFits expectations.now path.now)
-        (λ expectation. Fits expectations.now path.now expectation.now) }
+        (FitsAt expectations.now path.now) }
 {
     expectations
         .iter()
-        .find(|expectation| expectation.files.matches(path))
+        .position(|expectation| expectation.files.matches(path))
 }

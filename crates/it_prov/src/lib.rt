@@ -2,6 +2,7 @@
 //! file, and which envelopes meet it.
 #![tactic(auto)]
 
+pub mod answers;
 pub mod attestations;
 mod builders;
 pub mod fault;

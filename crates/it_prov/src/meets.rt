@@ -1,19 +1,20 @@
 //! Which envelopes meet an expectation.
-ghost use Rattle.std.specs.Prelude.{◌≡◌, ◌↔◌, ◌*◌, ◌≤◌, Any, Contains, IfErr, IfOk, IfSome};
-ghost use Rattle.std.specs.Prelude.{IsTrue, MatchOption, length, map};
+ghost use Rattle.std.specs.Prelude.{◌≡◌, ◌↔◌, ◌*◌, ◌≤◌, List, Some, Any, Contains, IfErr, IfOk};
+ghost use Rattle.std.specs.Prelude.{IfSome, IsTrue, MatchOption, map, slice_get};
 ghost use Rattle.it_digest.specs.Compare.{Agree};
 ghost use Rattle.it_dsse.specs.Meter.{RaisedBy};
-ghost use Rattle.it_dsse.specs.Panel.{panel_of};
+ghost use Rattle.it_dsse.specs.Panel.{Panel, panel_of};
+ghost use Rattle.it_dsse.specs.declared.envelope.Envelope.{Envelope};
+ghost use Rattle.it_docs.specs.declared.policy.Expectation.{Expectation};
 ghost use Rattle.it_prov.specs.Asked.{AtLeast, IsAskedAt};
 ghost use Rattle.it_prov.specs.Best.{IsBest};
 ghost use Rattle.it_prov.specs.Cost.{key_count, signature_count};
 ghost use Rattle.it_prov.specs.Finding.{IsFirstToMeet, NoneMeets};
-ghost use Rattle.it_prov.specs.Held.{AreHeld};
-ghost use Rattle.it_prov.specs.inside.Judged.{HasNames, IsAskedOfBuild, IsBuilt};
-ghost use Rattle.it_prov.specs.inside.Judged.{IsEnoughOrGreatest};
-ghost use Rattle.it_prov.specs.inside.Judged.{IsExpected, SaysExpected};
+ghost use Rattle.it_prov.specs.Held.{AreHeld, HoldsOrNone};
+ghost use Rattle.it_prov.specs.inside.Judged.{HasAnswers, HasNames, IsExpected, IsReached};
+ghost use Rattle.it_prov.specs.inside.Judged.{SaysExpected};
 
-use crate::attestations::Attestations;
+use crate::attestations::{Attestation, Attestations};
 use crate::builders::level_of_builders;
 use crate::fault::MeetingFault;
 use crate::levels::greater;
@@ -21,14 +22,12 @@ use crate::parameters::{parameters_meet, set_of};
 use it_digest::compare::{Compare, DigestSet};
 use it_docs::policy::Expectation;
 use it_docs::statement::{Provenance, Statement};
-use it_dsse::check::SignatureCheck;
-use it_dsse::envelope::Envelope;
 use it_dsse::meter::Meter;
 use std::alloc::Global;
 use std::collections::BTreeSet;
 
-/// The index of the first envelope that meets an expectation for a file with these digests. Keys
-/// are asked last.
+/// The index of the first envelope that meets the expectation at a place, for a file with these
+/// digests. Whether a builder signed is recalled last.
 ///
 /// # Errors
 ///
@@ -36,34 +35,35 @@ use std::collections::BTreeSet;
 pub(crate) fn first_to_meet(
     alloc: Global,
     expectation: &Expectation,
+    place: usize,
     digests: &DigestSet,
     attestations: &Attestations,
-    panel: &[Box<dyn SignatureCheck>],
     meter: &mut Meter,
 ) -> Result<usize, MeetingFault>
-    requires { AreHeld attestations.now.envelopes.now attestations.now.statements.items }
+    requires held { AreHeld (panel_of (map meaning attestations.now.panel.now))
+        attestations.now.expectations.now attestations.now.envelopes.now
+        attestations.now.held.items }
+    requires stands { slice_get attestations.now.expectations.now place ≡ Some expectation.now }
     ensures found { IfOk result (IsFirstToMeet
-        (panel_of (map meaning panel.now)) expectation.now digests.now
+        (panel_of (map meaning attestations.now.panel.now)) expectation.now digests.now
         attestations.now.envelopes.now) }
     ensures missing { IfErr result (λ e. (best : _) → e ≡ MeetingFault.NoneMeets best
-        → NoneMeets (panel_of (map meaning panel.now)) expectation.now digests.now
+        → NoneMeets (panel_of (map meaning attestations.now.panel.now)) expectation.now digests.now
         attestations.now.envelopes.now
-        × IsBest (panel_of (map meaning panel.now)) expectation.now digests.now
+        × IsBest (panel_of (map meaning attestations.now.panel.now)) expectation.now digests.now
         (Contains attestations.now.envelopes.now) best) }
     ensures at_most { RaisedBy (λ n. n
         ≤ key_count expectation.now.builders * signature_count attestations.now.envelopes.now)
         meter.old meter.new }
     ensures at_least { IfOk result (λ index. RaisedBy (AtLeast (IsAskedAt
-        (panel_of (map meaning panel.now)) expectation.now digests.now
+        (panel_of (map meaning attestations.now.panel.now)) expectation.now digests.now
         attestations.now.envelopes.now index))
         meter.old meter.new) }
 {
     let ignored = set_of(alloc, expectation.ignore.as_slice())?;
     let mut best = None;
-    for (index, envelope) in attestations.envelopes.iter().enumerate() {
-        let statement = &attestations.statements[index];
-        let provenance = expected_in(expectation, &ignored, digests, statement);
-        let level = level_of_build(expectation, provenance, envelope, panel, meter);
+    for (index, held) in attestations.held.iter().enumerate() {
+        let level = level_reached(expectation, place, &ignored, digests, held, meter);
         match level {
             Some(reached) if reached >= expectation.level => return Ok(index),
             _ => best = greater(best, level),
@@ -72,21 +72,50 @@ pub(crate) fn first_to_meet(
     Err(MeetingFault::NoneMeets(best))
 }
 
+/// The level of a builder with which an envelope meets the expectation at a place in all but the
+/// level, by what it attests: one that is enough, or else the greatest.
+fn level_reached(
+    expectation: &Expectation,
+    place: usize,
+    ignored: &BTreeSet<&str>,
+    digests: &DigestSet,
+    held: &Option<Attestation>,
+    meter: &mut Meter,
+) -> Option<u8>
+    requires names { HasNames expectation.now.ignore ignored.now }
+    requires answers { IfSome held.now (HasAnswers place expectation.now.builders) }
+    ensures { (panel : Panel) (expectations : List Expectation) (envelope : Envelope)
+        → slice_get expectations place ≡ Some expectation.now
+        → HoldsOrNone panel expectations envelope held.now
+        → IsReached panel expectation.now digests.now envelope meter.old meter.new result }
+{
+    let Some(attestation) = held else {
+        return None;
+    };
+    let Some(provenance) = expected_in(expectation, ignored, digests, &attestation.statement) else {
+        return None;
+    };
+    level_of_builders(
+        expectation.builders.as_slice(),
+        attestation.answers.as_slice()[place].as_slice(),
+        provenance.builder.as_str(),
+        expectation.level,
+        meter,
+    )
+}
+
 /// The provenance in a Statement, where a subject has the digests and the provenance is expected.
 fn expected_in<'a>(
     expectation: &Expectation,
     ignored: &BTreeSet<&str>,
     digests: &DigestSet,
-    statement: &'a Option<Statement>,
+    statement: &'a Statement,
 ) -> Option<&'a Provenance>
     requires { HasNames expectation.now.ignore ignored.now }
     ensures { MatchOption result
         ((provenance : _) → ¬ SaysExpected expectation.now digests.now statement.now provenance)
         (λ provenance. SaysExpected expectation.now digests.now statement.now provenance.now) }
 {
-    let Some(statement) = statement else {
-        return None;
-    };
     let Some(provenance) = &statement.provenance else {
         return None;
     };
@@ -115,34 +144,4 @@ fn is_expected(expectation: &Expectation, ignored: &BTreeSet<&str>, provenance: 
 {
     provenance.build_type.as_str() == expectation.build_type.as_str()
         && parameters_meet(expectation, ignored, &provenance.parameters)
-}
-
-/// The level of a builder that a provenance names and that signed the envelope, as
-/// `level_of_builders` answers it.
-fn level_of_build(
-    expectation: &Expectation,
-    provenance: Option<&Provenance>,
-    envelope: &Envelope,
-    panel: &[Box<dyn SignatureCheck>],
-    meter: &mut Meter,
-) -> Option<u8>
-    ensures answer { IsEnoughOrGreatest expectation.now.level
-        (IsBuilt (panel_of (map meaning panel.now)) envelope.now expectation.now.builders
-        provenance.entry) result }
-    ensures at_most { RaisedBy (λ n. n
-        ≤ key_count expectation.now.builders * length envelope.now.signatures)
-        meter.old meter.new }
-    ensures at_least { IfSome result (λ level. expectation.now.level ≤ level → RaisedBy (AtLeast
-        (IsAskedOfBuild (panel_of (map meaning panel.now)) envelope.now expectation.now.builders
-        provenance.entry
-        expectation.now.level)) meter.old meter.new) }
-{
-    match provenance {
-        Some(provenance) => {
-            let builders = expectation.builders.as_slice();
-            let id = provenance.builder.as_str();
-            level_of_builders(builders, id, expectation.level, envelope, panel, meter)
-        }
-        None => None,
-    }
 }

@@ -125,16 +125,10 @@ pub use Rattle.it_docs.specs.Rule.{IsRule}
 pub use Rattle.it_docs.specs.Rule.{RuleOf}
 -- a keyword and what follows it
 pub use Rattle.it_docs.specs.Rule.{IsShort}
--- the texts are a MATCH; a prefix that is missing is empty
+-- the texts are MATCH pattern [IN source] WITH side [IN target] FROM step
 pub use Rattle.it_docs.specs.Rule.{MatchOf}
--- MATCH pattern WITH side FROM step
-pub use Rattle.it_docs.specs.Rule.{IsPlainMatch}
--- MATCH pattern IN source WITH side FROM step
-pub use Rattle.it_docs.specs.Rule.{IsSourceMatch}
--- MATCH pattern WITH side IN target FROM step
-pub use Rattle.it_docs.specs.Rule.{IsTargetMatch}
--- MATCH pattern IN source WITH side IN target FROM step
-pub use Rattle.it_docs.specs.Rule.{IsFullMatch}
+-- the words of a prefix are IN and the prefix; one that is missing has none, and is empty
+pub use Rattle.it_docs.specs.Rule.{IsPrefix}
 -- the text is the word of this side
 pub use Rattle.it_docs.specs.Rule.{IsSide}
 -- the text is this keyword

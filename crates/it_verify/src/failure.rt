@@ -1,10 +1,9 @@
 //! Why a verification stops before it accepts.
-ghost use Rattle.std.specs.Prelude.{◌≡◌, IfOk};
+ghost use Rattle.std.specs.Prelude.{◌≡◌};
 ghost use Rattle.it_verify.specs.Refusals.{whole};
 ghost use Rattle.it_verify.specs.declared.failure.Failure.TheVariants.{OutOfMemory, Refused};
 
 use it_base::sequence::Sequence;
-use it_base::text::Text;
 use it_chain::refusal::RuleItem;
 use it_docs::rule::Side;
 use it_report::refusal::{Fault, Refusal};
@@ -59,11 +58,4 @@ pub(crate) fn rule_failed(alloc: Global, whose: RuleItem, side: Side, fault: Rul
             path: fault.path,
         },
     )
-}
-
-/// The text, copied.
-pub(crate) fn text_of(alloc: Global, text: &str) -> Result<Text, AllocError>
-    ensures { IfOk result (λ t. t ≡ text.now) }
-{
-    Ok(Text::from(String::from_str(alloc, text)?))
 }

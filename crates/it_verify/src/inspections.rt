@@ -10,7 +10,7 @@ ghost use Rattle.it_verify.specs.Inspections.{RecordFails, recorded_in, sides_of
 ghost use Rattle.it_verify.specs.inside.Failures.{RefusedAs};
 ghost use Rattle.it_verify.specs.inside.Inspections.{AreFirsts, IsLinkNamed, IsRecord, SideFails};
 
-use crate::failure::{Failure, refused, rule_failed, text_of};
+use crate::failure::{Failure, refused, rule_failed};
 use crate::inputs::Inputs;
 use it_base::sequence::Sequence;
 use it_base::text::Text;
@@ -72,11 +72,11 @@ fn recorded_link(alloc: Global, name: &str, bytes: Option<&[u8]>) -> Result<Link
     ensures link { IsRecord name.now (option_map (λ b. b.now) bytes.entry) result }
 {
     let Some(bytes) = bytes else {
-        return Err(refused(alloc, Fault::RecordMissing(text_of(alloc, name)?)));
+        return Err(refused(alloc, Fault::RecordMissing(Text::copy(alloc, name)?)));
     };
     match link_named(alloc, name, bytes)? {
         Some(link) => Ok(link),
-        None => Err(refused(alloc, Fault::BadRecord(text_of(alloc, name)?))),
+        None => Err(refused(alloc, Fault::BadRecord(Text::copy(alloc, name)?))),
     }
 }
 
@@ -142,7 +142,7 @@ fn run_side(
     match run_rules(alloc, side, rules, &item, links)? {
         None => Ok(()),
         Some(fault) => {
-            let whose = RuleItem::Inspection(text_of(alloc, name)?);
+            let whose = RuleItem::Inspection(Text::copy(alloc, name)?);
             Err(rule_failed(alloc, whose, side, fault))
         }
     }

@@ -9,7 +9,8 @@ ghost use Rattle.it_verify.specs.VerificationTakes.{owner_tries};
 ghost use Rattle.it_verify.specs.Owners.{OwnerLacks, OwnersSign};
 ghost use Rattle.it_verify.specs.inside.Failures.{RefusedAs};
 
-use crate::failure::{Failure, refused, text_of};
+use crate::failure::{Failure, refused};
+use it_base::text::Text;
 use it_docs::table::Table;
 use it_dsse::check::SignatureCheck;
 use it_dsse::envelope::Envelope;
@@ -65,7 +66,7 @@ fn check_owner(
 {
     let key = signed_by(envelope, id, object, panel, meter);
     if key.is_none() {
-        return Err(refused(alloc, Fault::OwnerMissing(text_of(alloc, id)?)));
+        return Err(refused(alloc, Fault::OwnerMissing(Text::copy(alloc, id)?)));
     }
     Ok(())
 }

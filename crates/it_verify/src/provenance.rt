@@ -81,44 +81,48 @@ pub(crate) fn find_each(
         delivered.now)))
         meter.old meter.new) }
 {
-    let attestations = Attestations::of(alloc, envelopes)?;
-    find_each_among(alloc, expectations, delivered, &attestations, panel, meter)
+    let attestations = Attestations::of(alloc, envelopes, expectations, panel)?;
+    find_each_among(alloc, delivered, &attestations, meter)
 }
 
-/// Looks for provenance of each delivered file among envelopes whose Statements were read.
+/// Looks for provenance of each delivered file among what envelopes attest, which was found
+/// out before.
 fn find_each_among(
     alloc: Global,
-    expectations: &[Expectation],
     delivered: &Artifacts,
     attestations: &Attestations,
-    panel: &[Box<dyn SignatureCheck>],
     meter: &mut Meter,
 ) -> Result<(), Failure>
-    requires { AreHeld attestations.now.envelopes.now attestations.now.statements.items }
+    requires { AreHeld (panel_of (map
+        (λ check. (⟦<dyn SignatureCheck as SignatureCheck>⟧ check.vtable).meaning check.value)
+        attestations.now.panel.now)) attestations.now.expectations.now
+        attestations.now.envelopes.now attestations.now.held.items }
     ensures provenance { MatchResult result
-        (λ _. AllByRecursion (FileProven (panel_of (map meaning panel.now)) expectations.now
+        (λ _. AllByRecursion (FileProven
+        (panel_of (map
+        (λ check. (⟦<dyn SignatureCheck as SignatureCheck>⟧ check.vtable).meaning check.value)
+        attestations.now.panel.now)) attestations.now.expectations.now
         attestations.now.envelopes.now) (entries delivered.now))
-        (RefusedAs (IsFirst (FileLacks (panel_of (map meaning panel.now)) expectations.now
+        (RefusedAs (IsFirst (FileLacks
+        (panel_of (map
+        (λ check. (⟦<dyn SignatureCheck as SignatureCheck>⟧ check.vtable).meaning check.value)
+        attestations.now.panel.now)) attestations.now.expectations.now
         attestations.now.envelopes.now) (entries delivered.now))) }
     ensures at_most { (most : ℕ)
-        → IsSum (FileCosts expectations.now (signature_count attestations.now.envelopes.now))
+        → IsSum (FileCosts
+        attestations.now.expectations.now (signature_count attestations.now.envelopes.now))
         (keys delivered.now) most
         → RaisedBy (λ n. n ≤ most) meter.old meter.new }
     ensures at_least { OnOk result (RaisedBy (AtLeast (IsSum
-        (FileAsks (panel_of (map meaning panel.now)) expectations.now
+        (FileAsks
+        (panel_of (map
+        (λ check. (⟦<dyn SignatureCheck as SignatureCheck>⟧ check.vtable).meaning check.value)
+        attestations.now.panel.now)) attestations.now.expectations.now
         attestations.now.envelopes.now)
         (entries delivered.now))) meter.old meter.new) }
 {
     for (path, digests) in delivered.iter() {
-        find_one(
-            alloc,
-            path.as_str(),
-            *digests,
-            expectations,
-            attestations,
-            panel,
-            meter,
-        )?;
+        find_one(alloc, path.as_str(), *digests, attestations, meter)?;
     }
     Ok(())
 }
@@ -128,33 +132,37 @@ fn find_one(
     alloc: Global,
     path: &str,
     digests: DigestSet,
-    expectations: &[Expectation],
     attestations: &Attestations,
-    panel: &[Box<dyn SignatureCheck>],
     meter: &mut Meter,
 ) -> Result<(), Failure>
-    requires { AreHeld attestations.now.envelopes.now attestations.now.statements.items }
+    requires { AreHeld (panel_of (map
+        (λ check. (⟦<dyn SignatureCheck as SignatureCheck>⟧ check.vtable).meaning check.value)
+        attestations.now.panel.now)) attestations.now.expectations.now
+        attestations.now.envelopes.now attestations.now.held.items }
     ensures provenance { MatchResult result
-        (λ _. FileProven (panel_of (map meaning panel.now)) expectations.now
+        (λ _. FileProven
+        (panel_of (map
+        (λ check. (⟦<dyn SignatureCheck as SignatureCheck>⟧ check.vtable).meaning check.value)
+        attestations.now.panel.now)) attestations.now.expectations.now
         attestations.now.envelopes.now (path.now, digests))
-        (RefusedAs (FileLacks (panel_of (map meaning panel.now)) expectations.now
+        (RefusedAs (FileLacks
+        (panel_of (map
+        (λ check. (⟦<dyn SignatureCheck as SignatureCheck>⟧ check.vtable).meaning check.value)
+        attestations.now.panel.now)) attestations.now.expectations.now
         attestations.now.envelopes.now (path.now, digests))) }
     ensures at_most { (most : ℕ)
-        → FileCosts expectations.now (signature_count attestations.now.envelopes.now) path.now most
+        → FileCosts
+        attestations.now.expectations.now
+        (signature_count attestations.now.envelopes.now) path.now most
         → RaisedBy (λ n. n ≤ most) meter.old meter.new }
-    ensures at_least { OnOk result (RaisedBy (AtLeast (FileAsks (panel_of (map meaning panel.now))
-        expectations.now attestations.now.envelopes.now (path.now, digests)))
+    ensures at_least { OnOk result (RaisedBy (AtLeast (FileAsks
+        (panel_of (map
+        (λ check. (⟦<dyn SignatureCheck as SignatureCheck>⟧ check.vtable).meaning check.value)
+        attestations.now.panel.now))
+        attestations.now.expectations.now attestations.now.envelopes.now (path.now, digests)))
         meter.old meter.new) }
 {
-    match find_among(
-        alloc,
-        path,
-        digests,
-        expectations,
-        attestations,
-        panel,
-        meter,
-    ) {
+    match find_among(alloc, path, digests, attestations, meter) {
         Ok(_) => Ok(()),
         Err(ProvError::NoExpectation(path)) => Err(refused(alloc, Fault::NoExpectation(path))),
         Err(ProvError::NoProvenance(path, best)) => {

@@ -40,7 +40,9 @@ use std::alloc::{AllocError, Global};
 /// provenance. Where the verdict is `Accepted`, one was asked for at least for each signature that
 /// is tried with an owner's key, for each different key that signed what counts for a step, and so
 /// in sublayouts, and for each signature that is tried with the key by which a delivered file's
-/// provenance meets its expectation.
+/// provenance meets its expectation. What counts is an answer that is asked for: who signed an
+/// envelope of the provenance is found out once for all files, and counts anew for each file that
+/// asks.
 ///
 /// # Errors
 ///
@@ -144,7 +146,7 @@ fn paths_of(alloc: Global, delivered: &Artifacts) -> Result<Vec<Text>, AllocErro
 {
     let mut paths = Vec::new(alloc);
     for path in delivered.paths() {
-        paths.push(Text::from(String::from_str(alloc, path.as_str())?))?;
+        paths.push(Text::copy(alloc, path.as_str())?)?;
     }
     Ok(paths)
 }

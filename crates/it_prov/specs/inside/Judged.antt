@@ -1,7 +1,7 @@
 -- What the functions that judge an envelope come to, in the words of the definitions. Nothing
 -- that is trusted stands here.
-use Rattle.std.specs.Prelude.{◌≡◌, ◌↔◌, ◌<◌, ◌≤◌, ℕ, List, Bool, Option, Some, None, Contains}
-use Rattle.std.specs.Prelude.{IfSome, IsTrue}
+use Rattle.std.specs.Prelude.{◌≡◌, ◌↔◌, ◌*◌, ◌<◌, ◌≤◌, ℕ, List, Bool, Option, Some, None, Contains}
+use Rattle.std.specs.Prelude.{IfSome, IsTrue, length, slice_get}
 use Rattle.std.specs.Borrow.{Bor}
 use Rattle.std.specs.BTreeMap.{is_at}
 use Rattle.std.specs.BTreeSet.{BTreeSet}
@@ -10,15 +10,23 @@ use Rattle.std.specs.List.{list_any}
 use Rattle.std.specs.Ordering.{nat_cmp}
 use Rattle.it_digest.specs.Compare.{Agree}
 use Rattle.it_digest.specs.declared.compare.DigestSet.{DigestSet}
+use Rattle.it_dsse.specs.Meter.{RaisedBy}
 use Rattle.it_dsse.specs.Panel.{Panel}
 use Rattle.it_dsse.specs.Signed.{tries}
 use Rattle.it_dsse.specs.declared.envelope.Envelope.{Envelope}
+use Rattle.it_dsse.specs.declared.meter.Meter.{Meter}
 use Rattle.it_base.specs.Json.{Json, Fields}
 use Rattle.it_base.specs.TreeOf.{field_at}
 use Rattle.it_docs.specs.declared.policy.Builder.{Builder}
 use Rattle.it_docs.specs.declared.policy.Expectation.{Expectation}
 use Rattle.it_docs.specs.declared.statement.Provenance.{Provenance}
 use Rattle.it_docs.specs.declared.statement.Statement.{Statement}
+use Rattle.it_prov.specs.Asked.{AtLeast, IsAskedFor}
+use Rattle.it_prov.specs.Best.{MeetsAtLevel}
+use Rattle.it_prov.specs.Cost.{key_count}
+use Rattle.it_prov.specs.Fits.{Fits}
+use Rattle.it_prov.specs.declared.answers.Answer.{Answer}
+use Rattle.it_prov.specs.declared.attestations.Attestation.{Attestation}
 use Rattle.it_prov.specs.Meets.{ParametersMeet, SignedByBuilder, StandsEqual}
 
 -- whether a name is one of these lent ones
@@ -69,12 +77,6 @@ pub record IsBuiltBy (panel : Panel) (envelope : Envelope) (id : List ℕ) (buil
   pub level_is : level ≡ builder.level
   pub signed : SignedByBuilder panel envelope builder
 
--- a builder signed the envelope, and n signatures are tried with the key that signed
-pub record IsAskedOfBuilder (panel : Panel) (envelope : Envelope) (builder : Builder) (n : ℕ)
-    : Type 0 where
-  pub signed : SignedByBuilder panel envelope builder
-  pub tried : n ≡ tries panel envelope signed.id signed.object
-
 -- one of the builders has this id and at least the wanted level and signed the envelope, and n
 -- signatures are tried with its key
 pub record IsAskedOfBuilders (panel : Panel) (envelope : Envelope) (builders : List Builder)
@@ -85,27 +87,35 @@ pub record IsAskedOfBuilders (panel : Panel) (envelope : Envelope) (builders : L
   pub is_enough : wanted ≤ builder.level
   pub tried : n ≡ tries panel envelope built.signed.id built.signed.object
 
--- there is a Statement, a subject of which has the digests, with this provenance, which is expected
+-- a subject of the Statement has the digests, and it has this provenance, which is expected
 pub record SaysExpected (expectation : Expectation) (digests : DigestSet)
-    (found : Option Statement) (provenance : Provenance) : Type 0 where
-  pub statement : Statement
+    (statement : Statement) (provenance : Provenance) : Type 0 where
   pub subject : DigestSet
-  pub found_is : found ≡ Some statement
   pub provenance_is : statement.provenance ≡ Some provenance
   pub is_subject : Contains statement.subjects subject
   pub digests_agree : Agree subject digests
   pub expected : IsExpected expectation provenance
 
--- there is a provenance, and a builder of this level that it names signed the envelope
-abbrev pub IsBuilt : Panel → Envelope → List Builder → Option (Bor Provenance) → ℕ → Type 0
-IsBuilt panel envelope builders None level = ⊥
-IsBuilt panel envelope builders (Some provenance) level =
-    OfSome (IsBuiltBy panel envelope provenance.now.builder) builders level
+-- the expectation at a place is the one that fits a path
+pub record FitsAt (expectations : List Expectation) (path : List ℕ) (place : ℕ) : Type 0 where
+  pub expectation : Expectation
+  pub stands : slice_get expectations place ≡ Some expectation
+  pub fits : Fits expectations path expectation
 
--- there is a provenance, a builder of at least the wanted level that it names signed the
--- envelope, and n signatures are tried with its key
-abbrev pub IsAskedOfBuild :
-    Panel → Envelope → List Builder → Option (Bor Provenance) → ℕ → ℕ → Type 0
-IsAskedOfBuild panel envelope builders None wanted n = ⊥
-IsAskedOfBuild panel envelope builders (Some provenance) wanted n =
-    IsAskedOfBuilders panel envelope builders provenance.now.builder wanted n
+-- at a place there is an answer for each of the builders
+pub record HasAnswers (place : ℕ) (builders : List Builder) (attestation : Attestation) : Type 0
+  where
+    pub answers : List Answer
+    pub stands : slice_get attestation.answers place ≡ Some answers
+    pub as_many : length answers ≡ length builders
+
+-- the level of a builder with which an envelope meets an expectation in all but the level, one that
+-- is enough or else the greatest, and how far the meter was raised for it
+pub record IsReached (panel : Panel) (expectation : Expectation) (digests : DigestSet)
+    (envelope : Envelope) (old : Meter) (new : Meter) (reached : Option ℕ) : Type 0 where
+  pub answer : IsEnoughOrGreatest expectation.level
+      (MeetsAtLevel panel expectation digests envelope) reached
+  pub at_most : RaisedBy
+      (λ n. n ≤ key_count expectation.builders * length envelope.signatures) old new
+  pub at_least : IfSome reached (λ level. expectation.level ≤ level
+      → RaisedBy (AtLeast (IsAskedFor panel expectation digests envelope)) old new)

@@ -1,49 +1,132 @@
-use Rattle.std.proofs.Common.{◌≡◌, ◌∙◌, ◌*◌, ◌≤◌, sym}
+use Rattle.std.proofs.Common.{◌≡◌, ◌∙◌, ◌*◌, ◌≤◌, get_or, map, sym}
 use Rattle.it_dsse.specs.Meter.{RaisedBy}
+use Rattle.it_dsse.specs.Panel.{panel_of}
+use Rattle.it_prov.specs.Asked.{IsAsked, IsAskedAt}
 use Rattle.it_prov.specs.Cost.{key_count, signature_count}
+use Rattle.it_prov.proofs.Asking.{raised_as}
+use Rattle.it_prov.proofs.Fitting.{fits_there}
 use Rattle.it_prov.proofs.OneFit.{of_each_fit}
 use Rattle.it_prov.proofs.finding.find_among.Goals as goal
 
 pub returns-in-Ok-clause-at_most : goal.returns-in-Ok-clause-at_most
 returns-in-Ok-clause-at_most g c =
+    let expectations = c.args.attestations.now.expectations.now in
+    let expectation = get_or expectations c.in-Some.place c.index-attestations-place.result in
+    let fits = fits_there c.args.path.now expectations c.in-Some.place
+    c.index-attestations-place.result c.in-Some.ensures in
     of_each_fit (λ e. RaisedBy
     (λ n. n ≤ key_count e.builders * signature_count c.args.attestations.now.envelopes.now)
-    c.args.meter.now c.first_to_meet.new.meter) c.args.expectations.now c.args.path.now
-    c.in-Some.expectation.now c.in-Some.ensures c.first_to_meet.ensures.at_most
+    c.args.meter.now c.first_to_meet.new.meter) expectations c.args.path.now expectation fits
+    c.first_to_meet.ensures.at_most
 
-pub returns-in_err-text_of-in-Err-NoneMeets-clause-at_most : goal.returns-in_err-text_of-in-Err-NoneMeets-clause-at_most
-returns-in_err-text_of-in-Err-NoneMeets-clause-at_most g c =
-    of_each_fit (λ e. RaisedBy
-    (λ n. n ≤ key_count e.builders * signature_count c.args.attestations.now.envelopes.now)
-    c.args.meter.now c.first_to_meet.new.meter) c.args.expectations.now c.args.path.now
-    c.in-Some.expectation.now c.in-Some.ensures c.first_to_meet.ensures.at_most
+pub returns-in-Ok-clause-unasked : goal.returns-in-Ok-clause-unasked
+returns-in-Ok-clause-unasked g c =
+    let expectations = c.args.attestations.now.expectations.now in
+    let expectation = get_or expectations c.in-Some.place c.index-attestations-place.result in
+    let fits = fits_there c.args.path.now expectations c.in-Some.place
+    c.index-attestations-place.result c.in-Some.ensures in
+    λ none. absurd (none expectation fits)
 
-pub returns-in_ok-text_of-in-Err-NoneMeets-clause-at_most : goal.returns-in_ok-text_of-in-Err-NoneMeets-clause-at_most
-returns-in_ok-text_of-in-Err-NoneMeets-clause-at_most g c =
+pub returns-in_err-copy-in-Err-NoneMeets-clause-at_most :
+    goal.returns-in_err-copy-in-Err-NoneMeets-clause-at_most
+returns-in_err-copy-in-Err-NoneMeets-clause-at_most g c =
+    let expectations = c.args.attestations.now.expectations.now in
+    let expectation = get_or expectations c.in-Some.place c.index-attestations-place.result in
+    let fits = fits_there c.args.path.now expectations c.in-Some.place
+    c.index-attestations-place.result c.in-Some.ensures in
     of_each_fit (λ e. RaisedBy
     (λ n. n ≤ key_count e.builders * signature_count c.args.attestations.now.envelopes.now)
-    c.args.meter.now c.first_to_meet.new.meter) c.args.expectations.now c.args.path.now
-    c.in-Some.expectation.now c.in-Some.ensures c.first_to_meet.ensures.at_most
+    c.args.meter.now c.first_to_meet.new.meter) expectations c.args.path.now expectation fits
+    c.first_to_meet.ensures.at_most
+
+pub returns-in_err-copy-in-Err-NoneMeets-clause-unasked :
+    goal.returns-in_err-copy-in-Err-NoneMeets-clause-unasked
+returns-in_err-copy-in-Err-NoneMeets-clause-unasked g c =
+    let expectations = c.args.attestations.now.expectations.now in
+    let expectation = get_or expectations c.in-Some.place c.index-attestations-place.result in
+    let fits = fits_there c.args.path.now expectations c.in-Some.place
+    c.index-attestations-place.result c.in-Some.ensures in
+    λ none. absurd (none expectation fits)
+
+pub returns-in_ok-copy-in-Err-NoneMeets-clause-at_most :
+    goal.returns-in_ok-copy-in-Err-NoneMeets-clause-at_most
+returns-in_ok-copy-in-Err-NoneMeets-clause-at_most g c =
+    let expectations = c.args.attestations.now.expectations.now in
+    let expectation = get_or expectations c.in-Some.place c.index-attestations-place.result in
+    let fits = fits_there c.args.path.now expectations c.in-Some.place
+    c.index-attestations-place.result c.in-Some.ensures in
+    of_each_fit (λ e. RaisedBy
+    (λ n. n ≤ key_count e.builders * signature_count c.args.attestations.now.envelopes.now)
+    c.args.meter.now c.first_to_meet.new.meter) expectations c.args.path.now expectation fits
+    c.first_to_meet.ensures.at_most
+
+pub returns-in_ok-copy-in-Err-NoneMeets-clause-unasked :
+    goal.returns-in_ok-copy-in-Err-NoneMeets-clause-unasked
+returns-in_ok-copy-in-Err-NoneMeets-clause-unasked g c =
+    let expectations = c.args.attestations.now.expectations.now in
+    let expectation = get_or expectations c.in-Some.place c.index-attestations-place.result in
+    let fits = fits_there c.args.path.now expectations c.in-Some.place
+    c.index-attestations-place.result c.in-Some.ensures in
+    λ none. absurd (none expectation fits)
 
 pub returns-in-Err-OutOfMemory-clause-at_most : goal.returns-in-Err-OutOfMemory-clause-at_most
 returns-in-Err-OutOfMemory-clause-at_most g c =
+    let expectations = c.args.attestations.now.expectations.now in
+    let expectation = get_or expectations c.in-Some.place c.index-attestations-place.result in
+    let fits = fits_there c.args.path.now expectations c.in-Some.place
+    c.index-attestations-place.result c.in-Some.ensures in
     of_each_fit (λ e. RaisedBy
     (λ n. n ≤ key_count e.builders * signature_count c.args.attestations.now.envelopes.now)
-    c.args.meter.now c.first_to_meet.new.meter) c.args.expectations.now c.args.path.now
-    c.in-Some.expectation.now c.in-Some.ensures c.first_to_meet.ensures.at_most
+    c.args.meter.now c.first_to_meet.new.meter) expectations c.args.path.now expectation fits
+    c.first_to_meet.ensures.at_most
 
-pub returns-in_ok-text_of-in-Err-NoneMeets-clause-no_provenance : goal.returns-in_ok-text_of-in-Err-NoneMeets-clause-no_provenance
-returns-in_ok-text_of-in-Err-NoneMeets-clause-no_provenance g c =
+pub returns-in-Err-OutOfMemory-clause-unasked : goal.returns-in-Err-OutOfMemory-clause-unasked
+returns-in-Err-OutOfMemory-clause-unasked g c =
+    let expectations = c.args.attestations.now.expectations.now in
+    let expectation = get_or expectations c.in-Some.place c.index-attestations-place.result in
+    let fits = fits_there c.args.path.now expectations c.in-Some.place
+    c.index-attestations-place.result c.in-Some.ensures in
+    λ none. absurd (none expectation fits)
+
+pub returns-in-Ok-clause-found : goal.returns-in-Ok-clause-found
+returns-in-Ok-clause-found g c =
+    let expectations = c.args.attestations.now.expectations.now in
+    let expectation = get_or expectations c.in-Some.place c.index-attestations-place.result in
+    let fits = fits_there c.args.path.now expectations c.in-Some.place
+    c.index-attestations-place.result c.in-Some.ensures in
+    record { expectation = expectation; fits = fits; first = c.in-Ok.ensures.found }
+
+pub returns-in-Ok-clause-at_least : goal.returns-in-Ok-clause-at_least
+returns-in-Ok-clause-at_least g c =
+    let panel = panel_of
+    (map (λ check. (goal.SignatureCheck-dyn g (check.vtable, check.value)).meaning check.value)
+    c.args.attestations.now.panel.now) in
+    let expectations = c.args.attestations.now.expectations.now in
+    let expectation = get_or expectations c.in-Some.place c.index-attestations-place.result in
+    let fits = fits_there c.args.path.now expectations c.in-Some.place
+    c.index-attestations-place.result c.in-Some.ensures in
+    let envelopes = c.args.attestations.now.envelopes.now in
+    raised_as (IsAskedAt panel expectation c.args.digests envelopes c.in-Ok.index)
+    (IsAsked panel expectations c.args.path.now c.args.digests envelopes c.in-Ok.index)
+    (λ n a. record { expectation = expectation; fits = fits; asked = a })
+    c.args.meter.now c.first_to_meet.new.meter c.in-Ok.ensures.at_least
+
+pub returns-in_ok-copy-in-Err-NoneMeets-clause-no_provenance :
+    goal.returns-in_ok-copy-in-Err-NoneMeets-clause-no_provenance
+returns-in_ok-copy-in-Err-NoneMeets-clause-no_provenance g c =
+    let expectations = c.args.attestations.now.expectations.now in
+    let expectation = get_or expectations c.in-Some.place c.index-attestations-place.result in
+    let fits = fits_there c.args.path.now expectations c.in-Some.place
+    c.index-attestations-place.result c.in-Some.ensures in
     let missing = c.in-Err-NoneMeets.ensures.missing c.in-Err-NoneMeets.best
     c.in-Err-NoneMeets.field-0-is in
-    let path = c.in_ok-text_of-in-Err-NoneMeets.field-0 in
     λ named best same.
-    let path_is : path ≡ named = cc in
+    let path_is : c.in_ok-copy-in-Err-NoneMeets.field-0 ≡ named = cc in
     let best_is : c.in-Err-NoneMeets.best ≡ best = cc in (
-      sym path_is ∙ c.in_ok-text_of-in-Err-NoneMeets.ensures,
+      sym path_is ∙ c.in_ok-copy-in-Err-NoneMeets.ensures,
       record {
-        expectation = c.in-Some.expectation.now;
-        fits = c.in-Some.ensures;
+        expectation = expectation;
+        fits = fits;
         none_meets =
             missing.0;
         best_is = rw (← best_is) missing.1;

@@ -1,20 +1,19 @@
-use Rattle.std.proofs.Common.{◌≡◌, ◌∙◌, ◌+◌, ◌*◌, ◌≤◌, drop, take, refl, sym, arith, map}
+use Rattle.std.proofs.Common.{◌≡◌, ◌∙◌, ◌+◌, ◌*◌, ◌≤◌, drop, length, take, refl, sym, map}
 use Rattle.std.proofs.lemmas.Option.{slice_get_read}
-use Rattle.it_base.specs.Finds.{Finds}
 use Rattle.it_dsse.specs.Meter.{RaisedBy}
 use Rattle.it_dsse.specs.Panel.{panel_of}
-use Rattle.it_prov.specs.Asked.{AtLeast, IsAskedAt}
+use Rattle.it_prov.specs.Asked.{AtLeast, IsAskedAt, IsAskedFor}
 use Rattle.it_prov.specs.Best.{MeetsAtLevel}
 use Rattle.it_prov.specs.Cost.{key_count, signature_count}
-use Rattle.it_prov.specs.Held.{IsHeld}
-use Rattle.it_prov.specs.inside.Judged.{IsAskedOfBuild, IsBuilt, IsEnoughOrGreatest, IsShort}
+use Rattle.it_prov.specs.Held.{HoldsOrNone}
+use Rattle.it_prov.specs.inside.Judged.{IsShort}
+use Rattle.it_prov.proofs.Answering.{has_answers}
 use Rattle.it_prov.proofs.Asking.{leaves_all, leaves_at_most, leaves_envelope, raised_as}
 use Rattle.it_prov.proofs.Asking.{raised_still}
-use Rattle.it_prov.proofs.Greatest.{Step, enough_alike, greatest_of_short, none_enough, so_far_all}
+use Rattle.it_prov.proofs.Greatest.{Step, greatest_of_short, none_enough, so_far_all}
 use Rattle.it_prov.proofs.Greatest.{so_far_more, so_far_none}
-use Rattle.it_prov.proofs.Holding.{zip_length, zip_read}
+use Rattle.it_prov.proofs.Holding.{zip_found, zip_length}
 use Rattle.it_prov.proofs.Meeting.{level_of, meets_at}
-use Rattle.it_prov.proofs.Saying.{built_asked, built_meets}
 use Rattle.it_prov.proofs.meets.first_to_meet.Goals as goal
 use Rattle.it_prov.proofs.meets.first_to_meet.Goals.{
   in_default-via-in-Some+else-reached-expectation,
@@ -25,7 +24,7 @@ pub loop-index-init : goal.loop-index-init
 loop-index-init g c =
     let panel = panel_of
     (map (λ check. (goal.SignatureCheck-dyn g (check.vtable, check.value)).meaning check.value)
-    c.args.panel.now) in
+    c.args.attestations.now.panel.now) in
     record {
       so_far = so_far_none c.args.expectation.now.level
           (MeetsAtLevel panel c.args.expectation.now c.args.digests.now);
@@ -34,35 +33,44 @@ loop-index-init g c =
           c.args.attestations.now.envelopes.now) c.args.meter.now refl;
     }
 
-pub index-statement-requires : goal.index-statement-requires
-index-statement-requires g c = let same =
-    zip_length _ c.args.attestations.now.envelopes.now c.args.attestations.now.statements.items
-    c.requires in omega (arith, same, c.loop-index-test.true)
+pub level_reached-level-requires-clause-answers : goal.level_reached-level-requires-clause-answers
+level_reached-level-requires-clause-answers g c =
+    let panel = panel_of
+    (map (λ check. (goal.SignatureCheck-dyn g (check.vtable, check.value)).meaning check.value)
+    c.args.attestations.now.panel.now) in
+    let expectation = c.args.expectation.now in
+    let expectations = c.args.attestations.now.expectations.now in
+    let envelopes = c.args.attestations.now.envelopes.now in
+    let index = c.loop-index.index in
+    let at = zip_found (HoldsOrNone panel expectations) envelopes
+    c.args.attestations.now.held.items index c.held-item.result c.requires.held
+    (rw (← c.deref-held-items.ensures.value) c.loop-index-test.true)
+    (rw (← c.deref-held-items.ensures.value) c.held-item.is) in
+    has_answers panel at.0 expectations c.args.place expectation c.held-item.result at.3
+    c.requires.stands
 
 pub returns-in-Some-clause-found : goal.returns-in-Some-clause-found
 returns-in-Some-clause-found g c =
     let panel = panel_of
     (map (λ check. (goal.SignatureCheck-dyn g (check.vtable, check.value)).meaning check.value)
-    c.args.panel.now) in
+    c.args.attestations.now.panel.now) in
     let expectation = c.args.expectation.now in
-    let digests = c.args.digests.now in
+    let expectations = c.args.attestations.now.expectations.now in
     let envelopes = c.args.attestations.now.envelopes.now in
     let index = c.loop-index.index in
-    let envelope = c.envelope-item.result in
-    let found = c.index-statement.result.now in
-    let held = zip_read (λ e f. Finds (IsHeld e) f) envelopes
-    c.args.attestations.now.statements.items index envelope found c.requires
-    c.loop-index-test.true c.envelope-item.is c.index-statement.ensures in
-    let said = c.expected_in-provenance.result in
+    let at = zip_found (HoldsOrNone panel expectations) envelopes
+    c.args.attestations.now.held.items index c.held-item.result c.requires.held
+    (rw (← c.deref-held-items.ensures.value) c.loop-index-test.true)
+    (rw (← c.deref-held-items.ensures.value) c.held-item.is) in
+    let envelope = at.0 in
+    let digests = c.args.digests.now in
+    let told = c.level_reached-level.ensures panel expectations envelope c.requires.stands at.3 in
     let level = c.in-Some.reached in
-    let built : IsBuilt panel envelope expectation.builders said level =
-    (rw c.in-Some.is at c.level_of_build-level.ensures.answer).0 in
-    let met = (built_meets panel expectation digests envelope found held said
-    c.expected_in-provenance.ensures level).0 built in
+    let met : MeetsAtLevel panel expectation digests envelope level =
+    (rw c.in-Some.is at told.answer).0 in
     record {
       envelope = envelope;
-      stands = slice_get_read envelopes _ index envelope refl c.loop-index-test.true
-          c.envelope-item.is;
+      stands = slice_get_read envelopes _ index envelope refl at.1 at.2;
       meets = meets_at panel expectation digests envelope level met c.if-reached-expectation.true;
       none_before = λ other stands m.
           none_enough expectation.level (MeetsAtLevel panel expectation digests)
@@ -73,71 +81,74 @@ returns-in-Some-clause-found g c =
 
 pub returns-in-Some-clause-at_most : goal.returns-in-Some-clause-at_most
 returns-in-Some-clause-at_most g c =
-    let k = key_count c.args.expectation.now.builders in
-    let i = c.loop-index.index in
+    let panel = panel_of
+    (map (λ check. (goal.SignatureCheck-dyn g (check.vtable, check.value)).meaning check.value)
+    c.args.attestations.now.panel.now) in
+    let expectation = c.args.expectation.now in
+    let expectations = c.args.attestations.now.expectations.now in
     let envelopes = c.args.attestations.now.envelopes.now in
-    leaves_at_most (k * signature_count (drop (i + 1) envelopes)) (k * signature_count envelopes)
-    c.args.meter.now c.level_of_build-level.new.meter
-    (leaves_envelope c.args.meter.now c.loop-index.meter c.level_of_build-level.new.meter i k
-    envelopes c.envelope-item.result c.loop-index-test.true c.envelope-item.is
-    c.loop-index.invariant.asked c.level_of_build-level.ensures.at_most)
+    let index = c.loop-index.index in
+    let at = zip_found (HoldsOrNone panel expectations) envelopes
+    c.args.attestations.now.held.items index c.held-item.result c.requires.held
+    (rw (← c.deref-held-items.ensures.value) c.loop-index-test.true)
+    (rw (← c.deref-held-items.ensures.value) c.held-item.is) in
+    let envelope = at.0 in
+    let digests = c.args.digests.now in
+    let told = c.level_reached-level.ensures panel expectations envelope c.requires.stands at.3 in
+    let k = key_count expectation.builders in
+    leaves_at_most (k * signature_count (drop (index + 1) envelopes)) (k * signature_count
+    envelopes)
+    c.args.meter.now c.level_reached-level.new.meter
+    (leaves_envelope c.args.meter.now c.loop-index.meter c.level_reached-level.new.meter index k
+    envelopes envelope at.1 at.2 c.loop-index.invariant.asked told.at_most)
 
 pub returns-in-Some-clause-at_least : goal.returns-in-Some-clause-at_least
 returns-in-Some-clause-at_least g c =
     let panel = panel_of
     (map (λ check. (goal.SignatureCheck-dyn g (check.vtable, check.value)).meaning check.value)
-    c.args.panel.now) in
+    c.args.attestations.now.panel.now) in
     let expectation = c.args.expectation.now in
-    let digests = c.args.digests.now in
+    let expectations = c.args.attestations.now.expectations.now in
     let envelopes = c.args.attestations.now.envelopes.now in
     let index = c.loop-index.index in
-    let envelope = c.envelope-item.result in
-    let found = c.index-statement.result.now in
-    let held = zip_read (λ e f. Finds (IsHeld e) f) envelopes
-    c.args.attestations.now.statements.items index envelope found c.requires
-    c.loop-index-test.true c.envelope-item.is c.index-statement.ensures in
-    let stands = slice_get_read envelopes _ index envelope refl c.loop-index-test.true
-    c.envelope-item.is in
-    let said = c.expected_in-provenance.result in
-    let here = IsAskedOfBuild panel envelope expectation.builders said expectation.level in
+    let at = zip_found (HoldsOrNone panel expectations) envelopes
+    c.args.attestations.now.held.items index c.held-item.result c.requires.held
+    (rw (← c.deref-held-items.ensures.value) c.loop-index-test.true)
+    (rw (← c.deref-held-items.ensures.value) c.held-item.is) in
+    let envelope = at.0 in
+    let digests = c.args.digests.now in
+    let told = c.level_reached-level.ensures panel expectations envelope c.requires.stands at.3 in
+    let here = IsAskedFor panel expectation digests envelope in
     let there = IsAskedAt panel expectation digests envelopes index in
     let asked : expectation.level ≤ c.in-Some.reached
-    → RaisedBy (AtLeast here) c.loop-index.meter c.level_of_build-level.new.meter =
-    rw c.in-Some.is at c.level_of_build-level.ensures.at_least in
-    raised_still _ there c.args.meter.now c.loop-index.meter c.level_of_build-level.new.meter
+    → RaisedBy (AtLeast here) c.loop-index.meter c.level_reached-level.new.meter =
+    rw c.in-Some.is at told.at_least in
+    raised_still _ there c.args.meter.now c.loop-index.meter c.level_reached-level.new.meter
     c.loop-index.invariant.asked
     (raised_as here there (λ n a. record {
       envelope = envelope;
-      stands = stands;
-      asked =
-          built_asked panel expectation digests envelope found held said
-          c.expected_in-provenance.ensures n a;
+      stands = slice_get_read envelopes _ index envelope refl at.1 at.2;
+      asked = a;
     })
-    c.loop-index.meter c.level_of_build-level.new.meter (asked c.if-reached-expectation.true))
+    c.loop-index.meter c.level_reached-level.new.meter (asked c.if-reached-expectation.true))
 
 pub loop-index-preserved : goal.loop-index-preserved
 loop-index-preserved g c =
     let panel = panel_of
     (map (λ check. (goal.SignatureCheck-dyn g (check.vtable, check.value)).meaning check.value)
-    c.args.panel.now) in
+    c.args.attestations.now.panel.now) in
     let expectation = c.args.expectation.now in
-    let digests = c.args.digests.now in
+    let expectations = c.args.attestations.now.expectations.now in
     let envelopes = c.args.attestations.now.envelopes.now in
     let index = c.loop-index.index in
-    let envelope = c.envelope-item.result in
-    let found = c.index-statement.result.now in
-    let held = zip_read (λ e f. Finds (IsHeld e) f) envelopes
-    c.args.attestations.now.statements.items index envelope found c.requires
-    c.loop-index-test.true c.envelope-item.is c.index-statement.ensures in
-    let said = c.expected_in-provenance.result in
-    let level = c.level_of_build-level.result in
-    let met = built_meets panel expectation digests envelope found held said
-    c.expected_in-provenance.ensures in
-    let reached : IsEnoughOrGreatest expectation.level
-    (MeetsAtLevel panel expectation digests envelope) level =
-    enough_alike expectation.level (IsBuilt panel envelope expectation.builders said)
-    (MeetsAtLevel panel expectation digests envelope) met level
-    c.level_of_build-level.ensures.answer in
+    let at = zip_found (HoldsOrNone panel expectations) envelopes
+    c.args.attestations.now.held.items index c.held-item.result c.requires.held
+    (rw (← c.deref-held-items.ensures.value) c.loop-index-test.true)
+    (rw (← c.deref-held-items.ensures.value) c.held-item.is) in
+    let envelope = at.0 in
+    let digests = c.args.digests.now in
+    let told = c.level_reached-level.ensures panel expectations envelope c.requires.stands at.3 in
+    let level = c.level_reached-level.result in
     let short : IsShort expectation.level level =
     elim c.in_default.branch [
       | in_default-via-in-Some+else-reached-expectation w ↦ rw w.in-Some.is
@@ -155,31 +166,34 @@ loop-index-preserved g c =
     record {
       more = level;
       greatest = greatest_of_short expectation.level
-          (MeetsAtLevel panel expectation digests envelope) level reached short;
+          (MeetsAtLevel panel expectation digests envelope) level told.answer short;
       short = short;
       both =
           rw (← same) c.greater-best.ensures;
     } in
     record {
       so_far = so_far_more expectation.level (MeetsAtLevel panel expectation digests) envelopes
-          index envelope c.loop-index-test.true c.envelope-item.is c.loop-index.best
-          c.greater-best.result c.loop-index.invariant.so_far step;
-      asked = leaves_envelope c.args.meter.now c.loop-index.meter c.level_of_build-level.new.meter
-          index (key_count expectation.builders) envelopes envelope c.loop-index-test.true
-          c.envelope-item.is c.loop-index.invariant.asked c.level_of_build-level.ensures.at_most;
+          index envelope at.1 at.2 c.loop-index.best c.greater-best.result
+          c.loop-index.invariant.so_far step;
+      asked = leaves_envelope c.args.meter.now c.loop-index.meter c.level_reached-level.new.meter
+          index (key_count expectation.builders) envelopes envelope at.1 at.2
+          c.loop-index.invariant.asked told.at_most;
     }
 
 pub returns-clause-missing : goal.returns-clause-missing
 returns-clause-missing g c =
     let panel = panel_of
     (map (λ check. (goal.SignatureCheck-dyn g (check.vtable, check.value)).meaning check.value)
-    c.args.panel.now) in
+    c.args.attestations.now.panel.now) in
     let expectation = c.args.expectation.now in
     let digests = c.args.digests.now in
     let envelopes = c.args.attestations.now.envelopes.now in
+    let as_many = zip_length (HoldsOrNone panel c.args.attestations.now.expectations.now) envelopes
+    c.args.attestations.now.held.items c.requires.held in
+    let past : length envelopes ≤ c.loop-index.index =
+    rw (← as_many, ← c.deref-held-items.ensures.value) c.loop-index-test.false in
     let all = so_far_all expectation.level (MeetsAtLevel panel expectation digests) envelopes
-    c.loop-index.index c.loop-index.best c.loop-index-test.false
-    c.loop-index.invariant.so_far in
+    c.loop-index.index c.loop-index.best past c.loop-index.invariant.so_far in
     λ best same. (
       λ envelope stands m.
           none_enough expectation.level (MeetsAtLevel panel expectation digests) envelopes

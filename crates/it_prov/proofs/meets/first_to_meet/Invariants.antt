@@ -13,7 +13,8 @@ invariant-loop-index g l = record {
   so_far : SoFar l.expectation.level
       (MeetsAtLevel (panel_of
       (map (λ check. (goal.SignatureCheck-dyn g (check.vtable, check.value)).meaning check.value)
-      l.panel)) l.expectation l.digests) (take l.index l.attestations.envelopes.now) l.best;
+      l.attestations.panel.now)) l.expectation l.digests) (take l.index
+      l.attestations.envelopes.now) l.best;
   asked : Leaves (key_count l.expectation.builders * signature_count
       (drop l.index l.attestations.envelopes.now))
       (key_count l.expectation.builders * signature_count l.attestations.envelopes.now) l.fn.meter

@@ -8,12 +8,23 @@ returns-in_err-attestations-clause-at_most g c =
 
 pub returns-clause-provenance : goal.returns-clause-provenance
 returns-clause-provenance g c =
-    rw (← c.in_ok-attestations.ensures.same) c.find_each_among.ensures.provenance
+    rw (
+      ← c.in_ok-attestations.ensures.envelopes,
+      ← c.in_ok-attestations.ensures.expectations,
+      ← c.in_ok-attestations.ensures.panel,
+    ) c.find_each_among.ensures.provenance
 
 pub returns-clause-at_most : goal.returns-clause-at_most
 returns-clause-at_most g c =
-    rw (← c.in_ok-attestations.ensures.same) c.find_each_among.ensures.at_most
+    rw (
+      ← c.in_ok-attestations.ensures.envelopes,
+      ← c.in_ok-attestations.ensures.expectations,
+    ) c.find_each_among.ensures.at_most
 
 pub returns-clause-at_least : goal.returns-clause-at_least
 returns-clause-at_least g c =
-    rw (← c.in_ok-attestations.ensures.same) c.find_each_among.ensures.at_least
+    rw (
+      ← c.in_ok-attestations.ensures.envelopes,
+      ← c.in_ok-attestations.ensures.expectations,
+      ← c.in_ok-attestations.ensures.panel,
+    ) c.find_each_among.ensures.at_least

@@ -11,21 +11,24 @@ pub loop-path-init : goal.loop-path-init
 loop-path-init g c =
     let panel = panel_of
     (map (λ check. (goal.SignatureCheck-dyn g (check.vtable, check.value)).meaning check.value)
-    c.args.panel.now) in
+    c.args.attestations.now.panel.now) in
     let all = ap path_entries c.into_iter-path-iterator.ensures.into_iter_gives
     ∙ c.iter-path-items.ensures in
-    subst (Searched panel c.args.expectations.now c.args.attestations.now.envelopes.now
+    subst (Searched panel c.args.attestations.now.expectations.now
+    c.args.attestations.now.envelopes.now
     c.args.delivered.now c.args.meter.now c.args.meter.now) (sym all)
-    (none_searched panel c.args.expectations.now c.args.attestations.now.envelopes.now
+    (none_searched panel c.args.attestations.now.expectations.now
+    c.args.attestations.now.envelopes.now
     c.args.delivered.now c.args.meter.now)
 
 pub loop-path-preserved : goal.loop-path-preserved
 loop-path-preserved g c =
     let panel = panel_of
     (map (λ check. (goal.SignatureCheck-dyn g (check.vtable, check.value)).meaning check.value)
-    c.args.panel.now) in
+    c.args.attestations.now.panel.now) in
     let file : List ℕ × DigestSet = (string_bytes c.in-Some.path.now, c.in-Some.digests.now) in
-    one_searched panel c.args.expectations.now c.args.attestations.now.envelopes.now
+    one_searched panel c.args.attestations.now.expectations.now
+    c.args.attestations.now.envelopes.now
     c.args.delivered.now c.args.meter.now c.loop-path.meter c.find_one.new.meter file
     (path_entries c.next.new.self)
     (rw c.in-Some.ensures.steps at c.loop-path.invariant)
@@ -37,10 +40,11 @@ pub returns-in_err-find_one-clause-provenance : goal.returns-in_err-find_one-cla
 returns-in_err-find_one-clause-provenance g c =
     let panel = panel_of
     (map (λ check. (goal.SignatureCheck-dyn g (check.vtable, check.value)).meaning check.value)
-    c.args.panel.now) in
+    c.args.attestations.now.panel.now) in
     let file : List ℕ × DigestSet = (string_bytes c.in-Some.path.now, c.in-Some.digests.now) in
     let p = err_from_is_err_and c.from_residual.result c.from_residual.ensures.1 in
-    rw (p.1, p.2) (one_lacks panel c.args.expectations.now c.args.attestations.now.envelopes.now
+    rw (p.1, p.2) (one_lacks panel c.args.attestations.now.expectations.now
+    c.args.attestations.now.envelopes.now
     c.args.delivered.now c.args.meter.now c.loop-path.meter c.find_one.new.meter file
     (path_entries c.next.new.self)
     (rw c.in-Some.ensures.steps at c.loop-path.invariant) c.in_err-find_one.field-0.0
@@ -50,9 +54,9 @@ pub returns-in_err-find_one-clause-at_most : goal.returns-in_err-find_one-clause
 returns-in_err-find_one-clause-at_most g c =
     let panel = panel_of
     (map (λ check. (goal.SignatureCheck-dyn g (check.vtable, check.value)).meaning check.value)
-    c.args.panel.now) in
+    c.args.attestations.now.panel.now) in
     let file : List ℕ × DigestSet = (string_bytes c.in-Some.path.now, c.in-Some.digests.now) in
-    up_to_one panel c.args.expectations.now c.args.attestations.now.envelopes.now
+    up_to_one panel c.args.attestations.now.expectations.now c.args.attestations.now.envelopes.now
     c.args.delivered.now c.args.meter.now c.loop-path.meter c.find_one.new.meter file
     (path_entries c.next.new.self)
     (rw c.in-Some.ensures.steps at c.loop-path.invariant)
@@ -62,8 +66,9 @@ pub returns-clause-provenance : goal.returns-clause-provenance
 returns-clause-provenance g c =
     let panel = panel_of
     (map (λ check. (goal.SignatureCheck-dyn g (check.vtable, check.value)).meaning check.value)
-    c.args.panel.now) in
-    all_searched panel c.args.expectations.now c.args.attestations.now.envelopes.now
+    c.args.attestations.now.panel.now) in
+    all_searched panel c.args.attestations.now.expectations.now
+    c.args.attestations.now.envelopes.now
     c.args.delivered.now c.args.meter.now c.loop-path.meter
     (rw c.in-None.ensures.steps.0 at c.loop-path.invariant)
 
@@ -71,8 +76,8 @@ pub returns-clause-at_most : goal.returns-clause-at_most
 returns-clause-at_most g c =
     let panel = panel_of
     (map (λ check. (goal.SignatureCheck-dyn g (check.vtable, check.value)).meaning check.value)
-    c.args.panel.now) in
-    all_at_most panel c.args.expectations.now c.args.attestations.now.envelopes.now
+    c.args.attestations.now.panel.now) in
+    all_at_most panel c.args.attestations.now.expectations.now c.args.attestations.now.envelopes.now
     c.args.delivered.now c.args.meter.now c.loop-path.meter
     (rw c.in-None.ensures.steps.0 at c.loop-path.invariant)
 
@@ -80,7 +85,8 @@ pub returns-clause-at_least : goal.returns-clause-at_least
 returns-clause-at_least g c =
     let panel = panel_of
     (map (λ check. (goal.SignatureCheck-dyn g (check.vtable, check.value)).meaning check.value)
-    c.args.panel.now) in
-    all_at_least panel c.args.expectations.now c.args.attestations.now.envelopes.now
+    c.args.attestations.now.panel.now) in
+    all_at_least panel c.args.attestations.now.expectations.now
+    c.args.attestations.now.envelopes.now
     c.args.delivered.now c.args.meter.now c.loop-path.meter
     (rw c.in-None.ensures.steps.0 at c.loop-path.invariant)

@@ -8,6 +8,7 @@ use Rattle.std.proofs.Common.{map}
 abbrev pub invariant-loop-path : goal.invariant-loop-path
 invariant-loop-path g l =
     Searched (panel_of (map
-    (λ check. (goal.SignatureCheck-dyn g (check.vtable, check.value)).meaning check.value) l.panel))
-    l.expectations l.attestations.envelopes.now l.delivered l.fn.meter l.meter
+    (λ check. (goal.SignatureCheck-dyn g (check.vtable, check.value)).meaning check.value)
+    l.attestations.panel.now))
+    l.attestations.expectations.now l.attestations.envelopes.now l.delivered l.fn.meter l.meter
     (path_entries l.path-iterator)

@@ -4,7 +4,7 @@ use Rattle.it_base.specs.Table.{named_entries}
 use Rattle.it_dsse.specs.Panel.{panel_of}
 use Rattle.it_prov.proofs.Asking.{Leaves}
 use Rattle.it_prov.proofs.Signing.{Searched}
-use Rattle.it_prov.proofs.builders.has_signed.Given as goal
+use Rattle.it_prov.proofs.answers.has_signed.Given as goal
 
 -- no key so far signed, and the rest leave each signature to be tried once
 abbrev pub invariant-loop-id : goal.invariant-loop-id

@@ -4,12 +4,12 @@ use Rattle.std.specs.FinMap.{entries, len, len-entries}
 use Rattle.it_dsse.specs.declared.key_object.KeyObject.{KeyObject}
 use Rattle.it_base.specs.Table.{named_entries}
 use Rattle.it_dsse.specs.Panel.{panel_of}
-use Rattle.it_prov.specs.inside.Judged.{IsAskedOfBuilder}
+use Rattle.it_prov.specs.Answered.{IsAskedOfBuilder}
 use Rattle.it_prov.proofs.Asking.{leaves_all, leaves_at_most, leaves_key, raised_at_least}
 use Rattle.it_prov.proofs.Asking.{raised_at_most, raised_still}
 use Rattle.it_prov.proofs.Signing.{EntrySigned, searched_all, searched_asked, searched_found}
 use Rattle.it_prov.proofs.Signing.{searched_more, searched_none}
-use Rattle.it_prov.proofs.builders.has_signed.Goals as goal
+use Rattle.it_prov.proofs.answers.has_signed.Goals as goal
 
 pub loop-id-init : goal.loop-id-init
 loop-id-init g c =

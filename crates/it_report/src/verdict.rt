@@ -23,8 +23,9 @@ pub enum Verdict {
 pub struct Answer {
     /// Whether the delivery is accepted.
     pub verdict: Verdict,
-    /// How often a check was asked whether a signature is valid: for the owners of the policy, for
-    /// the links and sublayouts at every depth, and for the provenance, one count for all of them.
-    /// The greatest number that this holds stands for every greater one.
+    /// How many answers of checks were asked for, on whether a signature is valid: for the owners
+    /// of the policy, for the links and sublayouts at every depth, and for the provenance, one
+    /// count for all of them. An answer on provenance that is remembered counts for each delivered
+    /// file that asks for it. The greatest number that this holds stands for every greater one.
     pub asked: u64,
 }

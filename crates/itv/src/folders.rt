@@ -86,10 +86,7 @@ pub(crate) fn read_records<R: Files + AllocGlobal>(
         let name = entry.name.as_str();
         let inspection = name.strip_suffix(ENDING).unwrap_or(name);
         let bytes = read_file(rt, entry.path.as_str())?;
-        let record = (
-            Text::from(String::from_str(alloc, inspection)?),
-            Sequence::from(bytes),
-        );
+        let record = (Text::copy(alloc, inspection)?, Sequence::from(bytes));
         records.push(record)?;
     }
     Ok(records)

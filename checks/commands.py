@@ -1,0 +1,76 @@
+#!/usr/bin/env python3
+"""Runs the commands that a page shows, and fails where they write what it does not show.
+
+The blocks `sh` of a page run in sequence, in one shell, with the built program as `itv`: those of a
+page of docs/ in an empty folder, those of an example in its folder. A block `text` right after one
+is what that one writes to standard output; one without writes nothing. Needs the built program
+(./build at the top), jq and openssl.
+
+    commands.py         runs the guide, the page on other signatures, and the examples
+    commands.py PAGE..  runs these pages
+"""
+
+import os
+import re
+import subprocess
+import sys
+import tempfile
+
+import tree
+
+PROGRAM = tree.TOP / "crates" / "itv" / "out"
+DOCS = ["docs/guide.md", "docs/interop.md"]
+BLOCK = re.compile(r"^```sh\n(?P<run>.*?)^```\n(?:```text\n(?P<shown>.*?)^```\n)?", re.DOTALL | re.M)
+END = "end of a block"
+
+
+def script_of(blocks):
+    """The commands of all blocks, with a line after each."""
+    return "".join(f"{block['run']}echo '{END}'\n" for block in blocks)
+
+
+def written(script, folder):
+    """What the script writes to standard output, block by block, and what to standard error."""
+    path = f"{PROGRAM}:{os.environ['PATH']}"
+    done = subprocess.run(["bash", "-c", script], cwd=folder, env={**os.environ, "PATH": path},
+                          capture_output=True, text=True, check=False)
+    return done.stdout.split(END + "\n"), done.stderr
+
+
+def run(page, script):
+    """What the script of a page writes, in the folder in which it is to run."""
+    if page not in DOCS:
+        return written(script, (tree.TOP / page).parent)
+    with tempfile.TemporaryDirectory() as folder:
+        return written(script, folder)
+
+
+def faults_of(page):
+    """The blocks of a page that write something else."""
+    text = (tree.TOP / page).read_text()
+    blocks = list(BLOCK.finditer(text))
+    outputs, notes = run(page, script_of(blocks))
+    if notes:
+        yield f"{page}: {notes.strip()}"
+    for number, block in enumerate(blocks):
+        output = outputs[number] if number < len(outputs) else ""
+        if output != (block["shown"] or ""):
+            line = text.count("\n", 0, block.start()) + 1
+            yield f"{page}:{line}: writes\n{output}"
+
+
+def all_pages():
+    """The pages whose commands are run."""
+    return DOCS + sorted(tree.name_of(path) for path in tree.TOP.glob("examples/*/README.md"))
+
+
+def main():
+    """Does what the words say."""
+    words = tree.words_of(__doc__)
+    words.add_argument("pages", nargs="*", default=all_pages())
+    pages = words.parse_args().pages
+    return tree.report([fault for page in pages for fault in faults_of(page)])
+
+
+if __name__ == "__main__":
+    sys.exit(main())

@@ -1,0 +1,184 @@
+#!/usr/bin/env python3
+"""Keeps docs/itv.1, the man page, and completions/itv.bash as the list docs/commands.json has it.
+
+Fails where one of the two is not what the list gives, and where README.md does not show the words
+of a command as the list has them.
+
+    manual.py          checks
+    manual.py --write  writes the two files
+"""
+
+import json
+import sys
+
+import tree
+
+LIST = tree.TOP / "docs" / "commands.json"
+PAGE = tree.TOP / "docs" / "itv.1"
+COMPLETIONS = tree.TOP / "completions" / "itv.bash"
+TYPE = "application/vnd.in-toto+json"
+# What bash offers for a value, by its kind.
+OFFERS = {
+    "file": "compgen -f -- \"$word\"",
+    "folder": "compgen -d -- \"$word\"",
+    "depth": "compgen -W '0 1 2 3 4 5 6 7 8' -- \"$word\"",
+    "type": f"compgen -W {TYPE} -- \"$word\"",
+}
+SCRIPT = """\
+# Bash completions for {program}. Made by checks/manual.py from docs/commands.json.
+
+_{program}_values() {{
+    case $1 in
+{values}
+    esac
+}}
+
+_{program}() {{
+    local word=${{COMP_WORDS[COMP_CWORD]}} before=${{COMP_WORDS[COMP_CWORD - 1]}}
+    local command=${{COMP_WORDS[1]}} offered
+    # Of --option=value bash makes three words.
+    if [ "$word" = = ]; then
+        word=
+    elif [ "$before" = = ]; then
+        before=${{COMP_WORDS[COMP_CWORD - 2]}}
+    fi
+    if [ "$COMP_CWORD" = 1 ]; then
+        offered=$(compgen -W '{commands}' -- "$word")
+    elif [[ $before == --* ]]; then
+        offered=$(_{program}_values "$command$before")
+    else
+        case $command in
+{options}
+        esac
+    fi
+    mapfile -t COMPREPLY < <(printf '%s' "${{offered:+$offered$'\\n'}}")
+}}
+
+complete -o filenames -F _{program} {program}
+"""
+
+
+def text_of(words):
+    """A text as roff has it."""
+    plain = words.replace("\\", "\\e").replace("-", "\\-")
+    return "\\&" + plain if plain.startswith((".", "'")) else plain
+
+
+def option_of(option):
+    """An option with its value."""
+    return f"\\-\\-{option['name']} \\fI{option['value']}\\fR"
+
+
+def words_of(command):
+    """The words after the name of a command, as a synopsis has them."""
+    forms = {"needed": "--{} {}", "repeated": "--{} {}..", "free": "[--{} {}]"}
+    words = [argument["value"] for argument in command["arguments"]]
+    words += [forms[option["use"]].format(option["name"], option["value"])
+              for option in command["options"]]
+    return " ".join(words)
+
+
+def command_lines(program, command):
+    """What the page says of a command."""
+    yield f".SS \"{program} {command['name']}\""
+    yield text_of(command["text"])
+    for option in command["options"]:
+        yield f".TP\n{option_of(option)}"
+        yield text_of(option["text"])
+
+
+def status_lines(listed):
+    """The table of statuses."""
+    found = {0: "good", 1: "bad"}
+    for number, name in found.items():
+        told = [f"{command['name']}: {command[name]}" for command in listed["commands"]
+                if command[name]]
+        yield f".TP\n{number}\n{text_of('; '.join(told))}."
+    for status in listed["statuses"]:
+        yield f".TP\n{status['number']}\n{text_of(status['text'])}"
+
+
+def page_lines(listed):
+    """The lines of the man page."""
+    program = listed["program"]
+    yield '.\\" Made by checks/manual.py from docs/commands.json.'
+    yield f'.TH {program.upper()} 1 "" "" "User Commands"'
+    yield f".SH NAME\n{program} \\- {text_of(listed['summary'])}"
+    yield ".SH SYNOPSIS\n.nh\n.ad l"
+    for command in listed["commands"]:
+        yield f".HP 4\n\\fB{program} {command['name']}\\fR {text_of(words_of(command))}"
+    yield ".ad\n.hy\n.SH DESCRIPTION"
+    yield "\n.PP\n".join(text_of(words) for words in listed["description"])
+    yield ".SH COMMANDS"
+    for command in listed["commands"]:
+        yield from command_lines(program, command)
+    yield ".SH EXIT STATUS"
+    yield from status_lines(listed)
+    yield ".SH EXAMPLE\n.nf"
+    yield "\n".join(text_of(line) for line in listed["example"])
+    yield f".fi\n.SH SEE ALSO\n{text_of(listed['see'])}"
+
+
+def value_lines(listed):
+    """What is offered for the value of each option, but for values that nothing is known of."""
+    for command in listed["commands"]:
+        for option in command["options"]:
+            if option["kind"] in OFFERS:
+                yield f"        {command['name']}--{option['name']}) {OFFERS[option['kind']]} ;;"
+
+
+def word_lines(listed):
+    """What is offered for a word of each command: its options, and files where it takes files."""
+    for command in listed["commands"]:
+        names = " ".join(f"--{option['name']}" for option in command["options"])
+        takes_files = any(argument["kind"] == "file" for argument in command["arguments"])
+        offers = [f"compgen -W '{names}' -- \"$word\""] if names else []
+        offers += [OFFERS["file"]] if takes_files else []
+        if offers:
+            yield f"            {command['name']}) offered=$({'; '.join(offers)}) ;;"
+
+
+def completions(listed):
+    """The text of the completions."""
+    return SCRIPT.format(
+        program=listed["program"],
+        commands=" ".join(command["name"] for command in listed["commands"]),
+        values="\n".join(value_lines(listed)),
+        options="\n".join(word_lines(listed)),
+    )
+
+
+def made(listed):
+    """The text of each file that is made, by its path."""
+    page = "\n".join(page_lines(listed)) + "\n"
+    return {PAGE: page, COMPLETIONS: completions(listed)}
+
+
+def faults(listed):
+    """What is not as the list has it."""
+    told = f"is not what {tree.name_of(LIST)} gives"
+    for path, text in made(listed).items():
+        if not path.exists() or path.read_text() != text:
+            yield f"{tree.name_of(path)}: {told}"
+    shown = (tree.TOP / "README.md").read_text()
+    for command in listed["commands"]:
+        words = f"`{listed['program']} {command['name']} {words_of(command)}`"
+        if words not in shown:
+            yield f"README.md: does not show {words}"
+
+
+def main():
+    """Does what the words say."""
+    words = tree.words_of(__doc__)
+    words.add_argument("--write", action="store_true")
+    is_written = words.parse_args().write
+    listed = json.loads(LIST.read_text())
+    if is_written:
+        for path, text in made(listed).items():
+            path.parent.mkdir(exist_ok=True)
+            path.write_text(text)
+    return tree.report(list(faults(listed)))
+
+
+if __name__ == "__main__":
+    sys.exit(main())

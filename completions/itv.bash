@@ -1,0 +1,45 @@
+# Bash completions for itv. Made by checks/manual.py from docs/commands.json.
+
+_itv_values() {
+    case $1 in
+        verify--policy) compgen -f -- "$word" ;;
+        verify--layout) compgen -f -- "$word" ;;
+        verify--links) compgen -d -- "$word" ;;
+        verify--sums) compgen -f -- "$word" ;;
+        verify--ring) compgen -f -- "$word" ;;
+        verify--provenance) compgen -f -- "$word" ;;
+        verify--records) compgen -d -- "$word" ;;
+        verify--depth) compgen -W '0 1 2 3 4 5 6 7 8' -- "$word" ;;
+        signed--ring) compgen -f -- "$word" ;;
+        sign--ring) compgen -f -- "$word" ;;
+        sign--type) compgen -W application/vnd.in-toto+json -- "$word" ;;
+        pae--type) compgen -W application/vnd.in-toto+json -- "$word" ;;
+    esac
+}
+
+_itv() {
+    local word=${COMP_WORDS[COMP_CWORD]} before=${COMP_WORDS[COMP_CWORD - 1]}
+    local command=${COMP_WORDS[1]} offered
+    # Of --option=value bash makes three words.
+    if [ "$word" = = ]; then
+        word=
+    elif [ "$before" = = ]; then
+        before=${COMP_WORDS[COMP_CWORD - 2]}
+    fi
+    if [ "$COMP_CWORD" = 1 ]; then
+        offered=$(compgen -W 'verify signed sign pae digest match' -- "$word")
+    elif [[ $before == --* ]]; then
+        offered=$(_itv_values "$command$before")
+    else
+        case $command in
+            verify) offered=$(compgen -W '--policy --layout --links --sums --at --ring --provenance --records --depth' -- "$word") ;;
+            signed) offered=$(compgen -W '--ring' -- "$word"; compgen -f -- "$word") ;;
+            sign) offered=$(compgen -W '--ring --key --type' -- "$word"; compgen -f -- "$word") ;;
+            pae) offered=$(compgen -W '--type' -- "$word"; compgen -f -- "$word") ;;
+            digest) offered=$(compgen -f -- "$word") ;;
+        esac
+    fi
+    mapfile -t COMPREPLY < <(printf '%s' "${offered:+$offered$'\n'}")
+}
+
+complete -o filenames -F _itv itv

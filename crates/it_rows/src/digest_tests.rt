@@ -43,67 +43,83 @@ fn all_with(alloc: Global, paths: &[&str], digests: DigestSet) -> Result<Artifac
     Ok(map)
 }
 
-#[test]
-fn differs_if_one_algorithm_does_and_agrees_if_one_does(rt: HostRuntime) -> Result<(), Fail> {
-    let none = DigestSet {
-        sha256: None,
-        sha384: None,
-        sha512: None,
-    };
-    let abc = sha256(ABC)?;
-    let nothing = sha256(NOTHING)?;
-    let abc_twice = with_sha512(abc)?;
-    let long_alone = DigestSet {
-        sha256: None,
-        sha384: None,
-        sha512: abc_twice.sha512,
-    };
-    let mixed = with_sha512(nothing)?;
-    let rows = [
-        (abc, abc_twice, Compare::Agree),
-        (abc_twice, mixed, Compare::Differ),
-        (none, none, Compare::Apart),
-        (abc, abc, Compare::Agree),
-        (abc, nothing, Compare::Differ),
-        (abc, long_alone, Compare::Apart),
-        (abc, none, Compare::Apart),
-        (mixed, long_alone, Compare::Agree),
-    ];
-    for (a, b, want) in rows {
-        assert_eq!(rt; a.compare(&b), want, "{a:?} with {b:?}");
-        assert_eq!(rt; b.compare(&a), want, "{b:?} with {a:?}");
+/// What two sets come to, whichever is asked.
+fn compared(one: DigestSet, other: DigestSet) -> Option<Compare> {
+    let found = one.compare(&other);
+    if other.compare(&one) == found {
+        Some(found)
+    } else {
+        None
     }
+}
+
+const NONE: DigestSet = DigestSet {
+    sha256: None,
+    sha384: None,
+    sha512: None,
+};
+
+#[test]
+fn agrees_if_one_algorithm_does_and_none_differs(rt: HostRuntime) -> Result<(), Fail> {
+    let abc = sha256(ABC)?;
+    let both = with_sha512(abc)?;
+    assert_eq!(rt; compared(abc, abc), Some(Compare::Agree));
+    assert_eq!(rt; compared(abc, both), Some(Compare::Agree));
+    let nothing = sha256(NOTHING)?;
+    let mixed = with_sha512(nothing)?;
+    assert_eq!(rt; compared(abc, nothing), Some(Compare::Differ));
+    assert_eq!(rt; compared(both, mixed), Some(Compare::Differ));
     Ok(())
 }
 
 #[test]
-fn maps_paths(rt: HostRuntime) -> Result<(), Fail> {
+fn is_apart_where_no_algorithm_is_in_both(rt: HostRuntime) -> Result<(), Fail> {
+    let abc = sha256(ABC)?;
+    let long = with_sha512(NONE)?;
+    assert_eq!(rt; compared(NONE, NONE), Some(Compare::Apart));
+    assert_eq!(rt; compared(abc, NONE), Some(Compare::Apart));
+    assert_eq!(rt; compared(abc, long), Some(Compare::Apart));
+    let mixed = with_sha512(sha256(NOTHING)?)?;
+    assert_eq!(rt; compared(mixed, long), Some(Compare::Agree));
+    Ok(())
+}
+
+fn told_paths(alloc: Global, map: &Artifacts) -> Result<String, AllocError> {
+    let mut told = String::new(alloc);
+    for path in map.paths() {
+        told.push_str(path.as_str())?;
+        told.push(' ')?;
+    }
+    Ok(told)
+}
+
+#[test]
+fn lists_paths_in_byte_order(rt: HostRuntime) -> Result<(), Fail> {
     let alloc = rt.alloc();
     let abc = sha256(ABC)?;
-    let nothing = sha256(NOTHING)?;
-    let mut map = Artifacts::new(alloc);
-    assert!(rt; map.is_empty());
-    assert_eq!(rt; map.insert(String::from_str(alloc, "é")?, abc)?, None);
-    assert_eq!(rt; map.insert(String::from_str(alloc, "a")?, nothing)?, None);
-    assert_eq!(rt; map.insert(String::from_str(alloc, "B")?, abc)?, None);
-    assert_eq!(rt;
-        map.insert(String::from_str(alloc, "a")?, abc)?,
-        Some(nothing)
-    );
-    assert!(rt; !map.is_empty());
-    assert_eq!(rt; map.get("a"), Some(abc));
-    assert_eq!(rt; map.get("b"), None);
-    let mut paths = map.paths();
-    let mut entries = map.iter();
-    for want in ["B", "a", "é"] {
-        let path = paths.next().ok_or("a path is missing")?;
-        assert_eq!(rt; path.as_str(), want);
-        let (path, digests) = entries.next().ok_or("an entry is missing")?;
-        assert_eq!(rt; path.as_str(), want);
-        assert_eq!(rt; *digests, abc);
+    let map = map_of(
+        alloc,
+        &[("é", abc), ("a", sha256(NOTHING)?), ("B", abc), ("a", abc)],
+    )?;
+    assert_eq!(rt; told_paths(alloc, &map)?.as_str(), "B a é ");
+    for (path, digests) in map.iter() {
+        assert_eq!(rt; *digests, abc, "{path}");
+        assert_eq!(rt; map.get(path.as_str()), Some(abc));
     }
-    assert!(rt; paths.next().is_none());
-    assert!(rt; entries.next().is_none());
+    assert_eq!(rt; map.get("b"), None);
+    Ok(())
+}
+
+#[test]
+fn hands_back_the_digests_that_stood_under_a_path(rt: HostRuntime) -> Result<(), Fail> {
+    let nothing = sha256(NOTHING)?;
+    let mut map = Artifacts::new(rt.alloc());
+    assert!(rt; map.is_empty());
+    let path = String::from_str(rt.alloc(), "a")?;
+    assert_eq!(rt; map.insert(path, nothing)?, None);
+    assert!(rt; !map.is_empty());
+    let path = String::from_str(rt.alloc(), "a")?;
+    assert_eq!(rt; map.insert(path, sha256(ABC)?)?, Some(nothing));
     Ok(())
 }
 
@@ -115,33 +131,28 @@ fn same_maps_are_equal(rt: HostRuntime) -> Result<(), Fail> {
     assert!(rt; map.same_as(&map_of(alloc, &[("b", abc), ("a", abc)])?));
     assert!(rt; !map.same_as(&map_of(alloc, &[("a", abc)])?));
     assert!(rt; !map.same_as(&map_of(alloc, &[("a", abc), ("c", abc)])?));
-    assert!(rt; !map.same_as(&map_of(alloc, &[("a", abc), ("b", sha256(NOTHING)?)])?));
-    assert!(rt; !map.same_as(&map_of(alloc, &[("a", abc), ("b", with_sha512(abc)?)])?));
+    for other in [sha256(NOTHING)?, with_sha512(abc)?] {
+        assert!(rt; !map.same_as(&map_of(alloc, &[("a", abc), ("b", other)])?));
+    }
     Ok(())
+}
+
+/// What the bytes come to within a limit.
+fn digested(bytes: &[u8], limit: u64) -> Result<[u8; 32], DigestFault> {
+    let mut reader = bytes;
+    sha256_of_reader(&mut reader, limit)
 }
 
 #[test]
 fn digests_what_a_reader_gives_up_to_a_limit(rt: HostRuntime) -> Result<(), Fail> {
-    let mut abc: &[u8] = b"abc";
-    assert_eq!(rt; sha256_of_reader(&mut abc, 3), Ok(digest(ABC)?));
-    let mut abc: &[u8] = b"abc";
-    assert_eq!(rt; sha256_of_reader(&mut abc, 2), Err(DigestFault::TooLarge));
-    let mut abc: &[u8] = b"abc";
-    assert_eq!(rt; sha256_of_reader(&mut abc, u64::MAX), Ok(digest(ABC)?));
-    let mut nothing: &[u8] = b"";
-    assert_eq!(rt; sha256_of_reader(&mut nothing, 0), Ok(digest(NOTHING)?));
-
+    assert_eq!(rt; digested(b"abc", 3), Ok(digest(ABC)?));
+    assert_eq!(rt; digested(b"abc", 2), Err(DigestFault::TooLarge));
+    assert_eq!(rt; digested(b"abc", u64::MAX), Ok(digest(ABC)?));
+    assert_eq!(rt; digested(b"", 0), Ok(digest(NOTHING)?));
     let million = vec![in rt.alloc(); b'a'; 1_000_000]?;
-    let mut reader = million.as_slice();
-    assert_eq!(rt;
-        sha256_of_reader(&mut reader, 1_000_000),
-        Ok(digest(MILLION)?)
-    );
-    let mut reader = million.as_slice();
-    assert_eq!(rt;
-        sha256_of_reader(&mut reader, 999_999),
-        Err(DigestFault::TooLarge)
-    );
+    let million = million.as_slice();
+    assert_eq!(rt; digested(million, 1_000_000), Ok(digest(MILLION)?));
+    assert_eq!(rt; digested(million, 999_999), Err(DigestFault::TooLarge));
     Ok(())
 }
 
@@ -168,73 +179,81 @@ fn stops_at_a_fault_of_the_reader(rt: HostRuntime) {
     assert_eq!(rt; endless.reads, 4);
 }
 
-fn list(alloc: Global, parts: &[&[u8]]) -> Result<Vec<u8>, AllocError> {
-    let mut bytes = Vec::new(alloc);
-    for part in parts {
-        bytes.extend_from_slice(part)?;
-    }
-    Ok(bytes)
+// A digest list, in which A stands for the SHA-256 of `abc` and a bar ends a line, and its paths.
+const LISTS: &[(&str, &[&str])] = &[
+    ("", &[]),
+    ("A  app|", &["app"]),
+    ("A *app", &["app"]),
+    ("A   app|", &[" app"]),
+    ("A  app\r|", &["app\r"]),
+    ("A  a\0b\\c  d*|", &["a\0b\\c  d*"]),
+    ("A  b|A * |A  a", &["b", " ", "a"]),
+    ("A  é|", &["é"]),
+];
+
+fn list(alloc: Global, text: &str) -> Result<String, AllocError> {
+    text.replace(alloc, "A", ABC)?.replace(alloc, "|", "\n")
 }
 
 #[test]
 fn reads_lists_of_text_and_binary_lines(rt: HostRuntime) -> Result<(), Fail> {
     let alloc = rt.alloc();
-    let abc = ABC.as_bytes();
-    let upper = UPPER_CASE_ABC.as_bytes();
-    let rows: [(&[&[u8]], &[&str]); 9] = [
-        (&[], &[]),
-        (&[abc, b"  app\n"], &["app"]),
-        (&[abc, b" *app"], &["app"]),
-        (&[upper, b" *app"], &["app"]),
-        (&[abc, b"   app\n"], &[" app"]),
-        (&[abc, b"  app\r\n"], &["app\r"]),
-        (&[abc, b"  a\0b\\c  d*\n"], &["a\0b\\c  d*"]),
-        (
-            &[abc, b"  b\n", abc, b" * \n", abc, b"  a"],
-            &["b", " ", "a"],
-        ),
-        (&[abc, b"  \xc3\xa9\n"], &["é"]),
-    ];
     let digests = sha256(ABC)?;
-    for (parts, paths) in rows {
-        let bytes = list(alloc, parts)?;
-        let want = all_with(alloc, paths, digests)?;
-        let sums = read_sums(alloc, &bytes)?;
-        assert!(rt; sums.same_as(&want), "{bytes:?}");
+    for (text, paths) in LISTS {
+        let sums = read_sums(alloc, list(alloc, text)?.as_bytes())?;
+        assert!(rt; sums.same_as(&all_with(alloc, paths, digests)?), "{text}");
     }
     Ok(())
 }
 
 #[test]
-fn names_the_first_bad_line_of_a_list(rt: HostRuntime) -> Result<(), Fail> {
-    let alloc = rt.alloc();
-    let abc = ABC.as_bytes();
-    let short = &abc[..63];
-    let rows: [(&[&[u8]], u64); 17] = [
-        (&[b"\n"], 1),
-        (&[short, b"  app"], 1),
-        (&[b"0", abc, b"  app"], 1),
-        (&[short, b"g  app"], 1),
-        (&[b"\\", abc, b"  app"], 1),
-        (&[abc], 1),
-        (&[abc, b"  "], 1),
-        (&[abc, b" *\n"], 1),
-        (&[abc, b" app\n"], 1),
-        (&[abc, b"* app\n"], 1),
-        (&[abc, b"\t app\n"], 1),
-        (&[abc, b"  \xff\n"], 1),
-        (&[abc, b"  app\n\n"], 2),
-        (&[abc, b"  a\n", abc, b"  a\n"], 2),
-        (&[abc, b"  a\n", abc, b"  b\n", abc, b" *a\n"], 3),
-        (&[abc, b"  a\n\n", abc, b"  a\n"], 2),
-        (&[b"a\n", abc, b"  b\n", abc, b"  \xff\n"], 1),
-    ];
-    for (parts, line) in rows {
-        let bytes = list(alloc, parts)?;
-        match read_sums(alloc, &bytes) {
-            Ok(_) => assert!(rt; false, "{bytes:?}"),
-            Err(fault) => assert_eq!(rt; fault, SumsFault::BadSums(line), "{bytes:?}"),
+fn reads_digits_in_upper_case(rt: HostRuntime) -> Result<(), Fail> {
+    let line = format!(in rt.alloc(); "{UPPER_CASE_ABC} *app")?;
+    let sums = read_sums(rt.alloc(), line.as_bytes())?;
+    assert_eq!(rt; sums.get("app"), Some(sha256(ABC)?));
+    Ok(())
+}
+
+// A digest list, in which S stands for a digit less and U for a byte that is no UTF-8 too, and its
+// first bad line.
+const BAD_LISTS: &[(&str, u64)] = &[
+    ("|", 1),
+    ("S  app", 1),
+    ("0A  app", 1),
+    ("Sg  app", 1),
+    ("\\A  app", 1),
+    ("A", 1),
+    ("A  ", 1),
+    ("A *|", 1),
+    ("A app|", 1),
+    ("A* app|", 1),
+    ("A\t app|", 1),
+    ("A  U|", 1),
+    ("A  app||", 2),
+    ("A  a|A  a|", 2),
+    ("A  a|A  b|A *a|", 3),
+    ("A  a||A  a|", 2),
+    ("a|A  b|A  U|", 1),
+];
+
+fn bad_list(alloc: Global, text: &str) -> Result<Vec<u8>, Fail> {
+    let short = ABC.get(..63).ok_or("no digits")?;
+    let text = list(alloc, text)?.replace(alloc, "S", short)?;
+    let mut bytes = text.into_bytes();
+    for byte in bytes.as_mut_slice() {
+        if *byte == b'U' {
+            *byte = 0xff;
         }
+    }
+    Ok(bytes)
+}
+
+#[test]
+fn names_the_first_bad_line_of_a_list(rt: HostRuntime) -> Result<(), Fail> {
+    for (text, line) in BAD_LISTS {
+        let bytes = bad_list(rt.alloc(), text)?;
+        let fault = read_sums(rt.alloc(), bytes.as_slice()).err();
+        assert_eq!(rt; fault, Some(SumsFault::BadSums(*line)), "{text}");
     }
     Ok(())
 }

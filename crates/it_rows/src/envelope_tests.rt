@@ -1,3 +1,4 @@
+use crate::table::pair;
 use it_base::parts::from_bytes;
 use it_base::sequence::Sequence;
 use it_devices::{Full, Pipe, strings, text};
@@ -13,25 +14,25 @@ use sha2::{Digest, Sha256};
 use std::alloc::{AllocError, Global};
 use std::test::Fail;
 
+// The example of the DSSE specification, an empty body, and a type of more bytes than characters.
+const ENCODINGS: &[(&str, &str, &str)] = &[
+    (
+        "http://example.com/HelloWorld",
+        "hello world",
+        "DSSEv1 29 http://example.com/HelloWorld 11 hello world",
+    ),
+    (
+        "application/vnd.in-toto+json",
+        "",
+        "DSSEv1 28 application/vnd.in-toto+json 0 ",
+    ),
+    ("größe", "ok", "DSSEv1 7 größe 2 ok"),
+];
+
 #[test]
 fn encodes_type_and_body_with_their_lengths_in_bytes(rt: HostRuntime) -> Result<(), Fail> {
     let alloc = rt.alloc();
-    // The example of the DSSE specification, an empty body, and a type of more bytes than
-    // characters.
-    let rows = [
-        (
-            "http://example.com/HelloWorld",
-            "hello world",
-            "DSSEv1 29 http://example.com/HelloWorld 11 hello world",
-        ),
-        (
-            "application/vnd.in-toto+json",
-            "",
-            "DSSEv1 28 application/vnd.in-toto+json 0 ",
-        ),
-        ("größe", "ok", "DSSEv1 7 größe 2 ok"),
-    ];
-    for (kind, body, want) in rows {
+    for (kind, body, want) in ENCODINGS {
         let bytes = pae(alloc, kind, body.as_bytes())?;
         assert_eq!(rt; bytes.as_slice(), want.as_bytes(), "{kind}");
     }
@@ -138,33 +139,25 @@ fn joined(alloc: Global, texts: &[String]) -> Result<String, AllocError> {
     Ok(all)
 }
 
+/// The envelope with a payload and one signature, which has no hint.
+fn with_payload(alloc: Global, payload: &str) -> Result<Result<Envelope, EnvelopeFault>, Fail> {
+    let text = format!(in alloc;
+        "{{\"payload\":\"{payload}\",\"payloadType\":\"t\",\"signatures\":[{{\"sig\":\"Zg==\"}}]}}"
+    )?;
+    Ok(Envelope::read(alloc, text.as_bytes()))
+}
+
+// Of the last three one is of both alphabets, one without padding, and one with bits left over.
 #[test]
 fn reads_payloads_in_either_alphabet_of_base64(rt: HostRuntime) -> Result<(), Fail> {
-    let alloc = rt.alloc();
     for payload in ["-_8=", "+/8="] {
-        let bytes = format!(in alloc;
-            "{{\"payload\":\"{payload}\",\"payloadType\":\"t\",\"other\":7,\"signatures\":[{{\"sig\":\"Zg==\"}},{{\"sig\":\"\",\"keyid\":\"a\"}}]}}"
-        )?;
-        match Envelope::read(alloc, bytes.as_bytes()) {
-            Ok(envelope) => {
-                assert_eq!(rt; envelope.payload.as_slice(), [0xfb, 0xff].as_slice());
-                assert_eq!(rt; envelope.payload_type.as_str(), "t");
-                let signatures = envelope.signatures.as_slice();
-                assert_eq!(rt; signatures.len(), 2);
-                assert_eq!(rt; signatures[0].keyid.as_str(), "");
-                assert_eq!(rt; signatures[0].sig.as_slice(), b"f".as_slice());
-                assert_eq!(rt; signatures[1].keyid.as_str(), "a");
-                assert_eq!(rt; signatures[1].sig.as_slice(), b"".as_slice());
-            }
-            Err(_) => panic!(rt; "{payload}"),
-        }
+        let envelope = with_payload(rt.alloc(), payload)?
+            .ok()
+            .ok_or("no envelope")?;
+        assert_eq!(rt; envelope.payload.as_slice(), b"\xfb\xff".as_slice());
     }
-    // Of both alphabets, without padding, and with bits left over.
     for payload in ["-/8=", "+/8", "e31="] {
-        let bytes = format!(in alloc;
-            "{{\"payload\":\"{payload}\",\"payloadType\":\"t\",\"signatures\":[]}}"
-        )?;
-        let read = Envelope::read(alloc, bytes.as_bytes());
+        let read = with_payload(rt.alloc(), payload)?;
         assert!(rt;
             matches!(read, Err(EnvelopeFault::BadEnvelope)),
             "{payload}"
@@ -173,59 +166,68 @@ fn reads_payloads_in_either_alphabet_of_base64(rt: HostRuntime) -> Result<(), Fa
     Ok(())
 }
 
+const TWO_SIGNATURES: &str = r#"{"payload":"","payloadType":"t","other":7,
+    "signatures":[{"sig":"Zg=="},{"sig":"","keyid":"a"}]}"#;
+
 #[test]
-fn refuses_bytes_that_are_no_envelope(rt: HostRuntime) -> Result<(), Fail> {
-    let alloc = rt.alloc();
-    let texts = [
-        "",
-        "[]",
-        "{}",
-        "{\"payload\":\"\",\"payloadType\":\"t\"}",
-        "{\"payload\":\"\",\"payloadType\":\"t\",\"signatures\":null}",
-        "{\"payload\":\"\",\"payloadType\":7,\"signatures\":[]}",
-        "{\"payloadType\":\"t\",\"signatures\":[]}",
-        "{\"payload\":\"\",\"payloadType\":\"t\",\"signatures\":[{}]}",
-        "{\"payload\":\"\",\"payloadType\":\"t\",\"signatures\":[{\"sig\":\"\",\"keyid\":7}]}",
-        "{\"payload\":\"\",\"payloadType\":\"t\",\"signatures\":[{\"sig\":\"\"},{\"sig\":\"e31=\"}]}",
-    ];
-    for text in texts {
-        match Envelope::read(alloc, text.as_bytes()) {
-            Ok(_) => panic!(rt; "{text}"),
-            Err(e) => assert!(rt; e == EnvelopeFault::BadEnvelope, "{text}"),
+fn reads_signatures_with_and_without_a_hint(rt: HostRuntime) -> Result<(), Fail> {
+    let envelope = read(rt.alloc(), TWO_SIGNATURES)?;
+    assert_eq!(rt; envelope.payload_type.as_str(), "t");
+    let signatures = envelope.signatures.as_slice();
+    assert_eq!(rt; signatures.len(), 2);
+    assert_eq!(rt; signatures[0].keyid.as_str(), "");
+    assert_eq!(rt; signatures[0].sig.as_slice(), b"f".as_slice());
+    assert_eq!(rt; signatures[1].keyid.as_str(), "a");
+    assert_eq!(rt; signatures[1].sig.as_slice(), b"".as_slice());
+    Ok(())
+}
+
+const NO_ENVELOPES: &str = r#"
+[]
+{}
+{"payload":"","payloadType":"t"}
+{"payload":"","payloadType":"t","signatures":null}
+{"payload":"","payloadType":7,"signatures":[]}
+{"payloadType":"t","signatures":[]}
+{"payload":"","payloadType":"t","signatures":[{}]}
+{"payload":"","payloadType":"t","signatures":[{"sig":"","keyid":7}]}
+{"payload":"","payloadType":"t","signatures":[{"sig":""},{"sig":"e31="}]}"#;
+
+#[test]
+fn refuses_bytes_that_are_no_envelope(rt: HostRuntime) {
+    for text in NO_ENVELOPES.split('\n') {
+        let fault = Envelope::read(rt.alloc(), text.as_bytes()).err();
+        assert!(rt; fault == Some(EnvelopeFault::BadEnvelope), "{text}");
+    }
+    let no_hint = r#"{"payload":"","payloadType":"t","signatures":[{"sig":"","keyid":null}]}"#;
+    assert!(rt; Envelope::read(rt.alloc(), no_hint.as_bytes()).is_ok());
+}
+
+// A document, and the type, the scheme and the public part of the key object that it is.
+const KEY_OBJECTS: &str =
+    r#"{"keytype":"hmac","scheme":"s","keyval":{"public":"p"},"keyid":7}|hmac s p
+{}                                                |
+{"keytype":7,"scheme":null,"keyval":["p"]}        |
+[]                                                | none
+"hmac"                                            | none"#;
+
+fn told_key(alloc: Global, document: &str) -> Result<String, AllocError> {
+    match from_bytes::<KeyObject>(alloc, document.as_bytes())? {
+        None => String::from_str(alloc, "none"),
+        Some(key) => {
+            let (kind, scheme) = (key.keytype.as_str(), key.scheme.as_str());
+            let public = key.public.as_str();
+            format!(in alloc; "{kind} {scheme} {public}")
         }
     }
-    let no_hint =
-        "{\"payload\":\"\",\"payloadType\":\"t\",\"signatures\":[{\"sig\":\"\",\"keyid\":null}]}";
-    assert!(rt; Envelope::read(alloc, no_hint.as_bytes()).is_ok());
-    Ok(())
 }
 
 #[test]
 fn reads_key_objects(rt: HostRuntime) -> Result<(), Fail> {
-    let alloc = rt.alloc();
-    let rows = [
-        (
-            "{\"keytype\":\"hmac\",\"scheme\":\"s\",\"keyval\":{\"public\":\"p\"},\"keyid\":7}",
-            Some(("hmac", "s", "p")),
-        ),
-        ("{}", Some(("", "", ""))),
-        (
-            "{\"keytype\":7,\"scheme\":null,\"keyval\":[\"p\"]}",
-            Some(("", "", "")),
-        ),
-        ("[]", None),
-        ("\"hmac\"", None),
-    ];
-    for (document, want) in rows {
-        match (from_bytes::<KeyObject>(alloc, document.as_bytes())?, want) {
-            (Some(object), Some((keytype, scheme, public))) => {
-                assert_eq!(rt; object.keytype.as_str(), keytype, "{document}");
-                assert_eq!(rt; object.scheme.as_str(), scheme, "{document}");
-                assert_eq!(rt; object.public.as_str(), public, "{document}");
-            }
-            (None, None) => {}
-            (_, _) => panic!(rt; "{document}"),
-        }
+    for line in KEY_OBJECTS.split('\n') {
+        let (document, want) = pair(line)?;
+        let told = told_key(rt.alloc(), document)?;
+        assert_eq!(rt; told.as_str().trim(), want, "{document}");
     }
     Ok(())
 }
@@ -245,28 +247,23 @@ fn ring_of(alloc: Global, text: &str) -> Result<HmacRing, Fail> {
     )
 }
 
+const NO_RINGS: &str = r#"
+{}
+[{}]
+[{"id":"a"}]
+[{"secret":"00"}]
+[{"id":"a","secret":"0"}]
+[{"id":"a","secret":"0g"}]
+[{"id":7,"secret":"00"}]
+[{"id":"a","secret":"00"},{"id":"b","secret":""},{"id":"a","secret":"11"}]"#;
+
 #[test]
-fn refuses_bytes_that_are_no_ring(rt: HostRuntime) -> Result<(), Fail> {
-    let alloc = rt.alloc();
-    let texts = [
-        "",
-        "{}",
-        "[{}]",
-        "[{\"id\":\"a\"}]",
-        "[{\"secret\":\"00\"}]",
-        "[{\"id\":\"a\",\"secret\":\"0\"}]",
-        "[{\"id\":\"a\",\"secret\":\"0g\"}]",
-        "[{\"id\":7,\"secret\":\"00\"}]",
-        "[{\"id\":\"a\",\"secret\":\"00\"},{\"id\":\"b\",\"secret\":\"\"},{\"id\":\"a\",\"secret\":\"11\"}]",
-    ];
-    for text in texts {
-        match HmacRing::read(alloc, text.as_bytes()) {
-            Ok(_) => panic!(rt; "{text}"),
-            Err(e) => assert!(rt; e == RingFault::BadRing, "{text}"),
-        }
+fn refuses_bytes_that_are_no_ring(rt: HostRuntime) {
+    for text in NO_RINGS.split('\n') {
+        let fault = HmacRing::read(rt.alloc(), text.as_bytes()).err();
+        assert!(rt; fault == Some(RingFault::BadRing), "{text}");
     }
-    assert!(rt; HmacRing::read(alloc, b"[]").is_ok());
-    Ok(())
+    assert!(rt; HmacRing::read(rt.alloc(), b"[]").is_ok());
 }
 
 fn ring_text(alloc: Global, entries: usize) -> Result<String, AllocError> {
@@ -283,19 +280,18 @@ fn ring_text(alloc: Global, entries: usize) -> Result<String, AllocError> {
 
 #[test]
 fn reads_a_full_ring(rt: HostRuntime) -> Result<(), Fail> {
-    let alloc = rt.alloc();
-    let full = ring_text(alloc, 65536)?;
-    let ring = HmacRing::read(alloc, full.as_bytes())
-        .ok()
-        .ok_or("no ring")?;
-    assert_eq!(rt; ring.ids(alloc)?.len(), 65536);
-    let object = object(alloc)?;
+    let ring = ring_of(rt.alloc(), ring_text(rt.alloc(), 65536)?.as_str())?;
+    assert_eq!(rt; ring.ids(rt.alloc())?.len(), 65536);
+    let object = object(rt.alloc())?;
     assert_eq!(rt; ring.key("65535", &object), Some(0));
-    let over = ring_text(alloc, 65537)?;
-    match HmacRing::read(alloc, over.as_bytes()) {
-        Ok(_) => panic!(rt; "read"),
-        Err(e) => assert!(rt; e == RingFault::BadRing),
-    }
+    Ok(())
+}
+
+#[test]
+fn refuses_a_ring_of_too_many_keys(rt: HostRuntime) -> Result<(), Fail> {
+    let text = ring_text(rt.alloc(), 65537)?;
+    let fault = HmacRing::read(rt.alloc(), text.as_bytes()).err();
+    assert!(rt; fault == Some(RingFault::BadRing));
     Ok(())
 }
 
@@ -308,53 +304,65 @@ fn object(alloc: Global) -> Result<KeyObject, AllocError> {
 }
 
 #[test]
-fn knows_the_keys_of_a_ring(rt: HostRuntime) -> Result<(), Fail> {
-    let alloc = rt.alloc();
-    let ring = ring(alloc)?;
-    let ids = ring.ids(alloc)?;
-    let ids = joined(alloc, ids.as_slice())?;
+fn lists_the_ids_of_a_ring(rt: HostRuntime) -> Result<(), Fail> {
+    let ids = ring(rt.alloc())?.ids(rt.alloc())?;
+    let ids = joined(rt.alloc(), ids.as_slice())?;
     assert_eq!(rt; ids.as_str(), "alice bob bobz carol owner ");
-    let object = object(alloc)?;
-    // `bob` and `bobz` have one key: a secret is filled with zero bytes to a block.
-    let rows = [
-        ("owner", Some(0)),
-        ("alice", Some(1)),
-        ("bobz", Some(2)),
-        ("bob", Some(2)),
-        ("carol", Some(4)),
-        ("dave", None),
-        ("", None),
-    ];
-    for (id, want) in rows {
-        assert_eq!(rt; ring.key(id, &object), want, "{id}");
+    Ok(())
+}
+
+// `bob` and `bobz` have one key: a secret is filled with zero bytes to a block.
+const KEYS: &[(&str, Option<u32>)] = &[
+    ("owner", Some(0)),
+    ("alice", Some(1)),
+    ("bobz", Some(2)),
+    ("bob", Some(2)),
+    ("carol", Some(4)),
+    ("dave", None),
+    ("", None),
+];
+
+#[test]
+fn knows_the_keys_of_a_ring(rt: HostRuntime) -> Result<(), Fail> {
+    let ring = ring(rt.alloc())?;
+    let object = object(rt.alloc())?;
+    for (id, want) in KEYS {
+        assert_eq!(rt; ring.key(id, &object), *want, "{id}");
     }
-    let other = KeyObject {
-        scheme: text(alloc, "ed25519")?,
-        ..object
-    };
-    assert_eq!(rt; ring.key("alice", &other), None);
     Ok(())
 }
 
 #[test]
+fn knows_no_keys_of_another_scheme(rt: HostRuntime) -> Result<(), Fail> {
+    let ring = ring(rt.alloc())?;
+    let mut object = object(rt.alloc())?;
+    object.scheme = text(rt.alloc(), "ed25519")?;
+    assert_eq!(rt; ring.key("alice", &object), None);
+    Ok(())
+}
+
+// A key of the ring, a message in parts, how many bytes there are of the code of `message` under
+// alice's key, and whether the code is valid.
+const CODES: &[(u32, &[&[u8]], usize, bool)] = &[
+    (1, &[b"message"], 32, true),
+    (1, &[b"mess", b"", b"age"], 32, true),
+    (1, &[b"age", b"mess"], 32, false),
+    (1, &[b"messagf"], 32, false),
+    (0, &[b"message"], 32, false),
+    (1, &[b"message"], 31, false),
+    (5, &[b"message"], 32, false),
+];
+
+#[test]
 fn checks_signatures_by_a_ring(rt: HostRuntime) -> Result<(), Fail> {
-    let alloc = rt.alloc();
-    let ring = ring(alloc)?;
+    let ring = ring(rt.alloc())?;
     let code = hmac_sha256(b"alice", b"message");
-    let rows: [(u32, &[&[u8]], &[u8], bool); 7] = [
-        (1, &[b"message"], &code, true),
-        (1, &[b"mess", b"", b"age"], &code, true),
-        (1, &[b"age", b"mess"], &code, false),
-        (1, &[b"messagf"], &code, false),
-        (0, &[b"message"], &code, false),
-        (1, &[b"message"], &code[..31], false),
-        (5, &[b"message"], &code, false),
-    ];
     let mut meter = Meter {
         asked: u64::MAX - 2,
     };
-    for (key, message, sig, want) in rows {
-        assert_eq!(rt; ring.valid(key, message, sig, &mut meter), want, "{key}");
+    for (key, message, kept, want) in CODES {
+        let code = code.get(..*kept).ok_or("no such beginning")?;
+        assert_eq!(rt; ring.valid(*key, message, code, &mut meter), *want);
     }
     assert_eq!(rt; meter.asked, u64::MAX);
     Ok(())
@@ -395,40 +403,47 @@ fn signer(
     Ok((found, meter.asked))
 }
 
+// Of a signature with bob's secret the hint, an id, the key that signed for it and how many
+// signatures are tried.
+type Found = (Option<(usize, u32)>, u64);
+
+const BY_BOB: &[(&str, &str, Found)] = &[
+    ("", "alice", (None, 1)),
+    ("", "bob", (Some((0, 2)), 1)),
+    ("", "bobz", (Some((0, 2)), 1)),
+    ("bob", "bob", (Some((0, 2)), 1)),
+    ("bob", "bobz", (None, 0)),
+    ("alice", "bob", (None, 0)),
+    ("", "dave", (None, 0)),
+];
+
+fn panel(alloc: Global) -> Result<[Box<dyn SignatureCheck>; 1], Fail> {
+    Ok([Box::new(alloc, ring(alloc)?)?])
+}
+
 #[test]
 fn finds_signers(rt: HostRuntime) -> Result<(), Fail> {
-    let alloc = rt.alloc();
-    let panel: [Box<dyn SignatureCheck>; 1] = [Box::new(alloc, ring(alloc)?)?];
-    let rows = [
-        ("", "alice", None, 1),
-        ("", "bob", Some((0, 2)), 1),
-        ("", "bobz", Some((0, 2)), 1),
-        ("bob", "bob", Some((0, 2)), 1),
-        ("bob", "bobz", None, 0),
-        ("alice", "bob", None, 0),
-        ("", "dave", None, 0),
-    ];
-    for (hint, id, want, asked) in rows {
-        let found = signer(alloc, &[("bob", hint)], id, &panel)?;
-        assert_eq!(rt; found, (want, asked), "{id} under {hint}");
+    let panel = panel(rt.alloc())?;
+    for (hint, id, want) in BY_BOB {
+        let found = signer(rt.alloc(), &[("bob", *hint)], id, &panel)?;
+        assert_eq!(rt; found, *want, "{id} under {hint}");
     }
     Ok(())
 }
 
 // A key that is not the ring's, a hint for another id, another key under the hint, and the key
 // twice.
+const SIGNERS: &[(&str, &str)] = &[
+    ("x", ""),
+    ("alice", "bob"),
+    ("y", "alice"),
+    ("alice", ""),
+    ("alice", ""),
+];
+
 #[test]
 fn stops_at_the_first_valid_signature(rt: HostRuntime) -> Result<(), Fail> {
-    let alloc = rt.alloc();
-    let panel: [Box<dyn SignatureCheck>; 1] = [Box::new(alloc, ring(alloc)?)?];
-    let signers = [
-        ("x", ""),
-        ("alice", "bob"),
-        ("y", "alice"),
-        ("alice", ""),
-        ("alice", ""),
-    ];
-    let found = signer(alloc, &signers, "alice", &panel)?;
+    let found = signer(rt.alloc(), SIGNERS, "alice", &panel(rt.alloc())?)?;
     assert_eq!(rt; found, (Some((0, 1)), 3));
     Ok(())
 }
@@ -436,25 +451,28 @@ fn stops_at_the_first_valid_signature(rt: HostRuntime) -> Result<(), Fail> {
 const CAROL_AND_ANOTHER_ALICE: &str =
     r#"[{"id":"carol","secret":"6361726f6c"},{"id":"alice","secret":"626f62"}]"#;
 
+// A secret, an id, the key that signed for it and how many signatures are tried.
+const BY_A_PANEL: &[(&str, &str, Found)] = &[
+    ("bob", "alice", (Some((0, 1)), 1)),
+    ("alice", "alice", (None, 1)),
+    ("carol", "carol", (Some((0, 0)), 1)),
+    ("owner", "owner", (Some((1, 0)), 1)),
+    ("bob", "bob", (Some((1, 2)), 1)),
+    ("bob", "dave", (None, 0)),
+];
+
+fn panel_of_two(alloc: Global) -> Result<[Box<dyn SignatureCheck>; 2], Fail> {
+    let first = ring_of(alloc, CAROL_AND_ANOTHER_ALICE)?;
+    let second = ring(alloc)?;
+    Ok([Box::new(alloc, first)?, Box::new(alloc, second)?])
+}
+
 #[test]
 fn finds_signers_by_a_panel(rt: HostRuntime) -> Result<(), Fail> {
-    let alloc = rt.alloc();
-    let first = ring_of(alloc, CAROL_AND_ANOTHER_ALICE)?;
-    let panel: [Box<dyn SignatureCheck>; 2] = [
-        Box::new(alloc, first)?,
-        Box::new(alloc, ring(alloc)?)?,
-    ];
-    let rows = [
-        ("bob", "alice", Some((0, 1)), 1),
-        ("alice", "alice", None, 1),
-        ("carol", "carol", Some((0, 0)), 1),
-        ("owner", "owner", Some((1, 0)), 1),
-        ("bob", "bob", Some((1, 2)), 1),
-        ("bob", "dave", None, 0),
-    ];
-    for (secret, id, want, asked) in rows {
-        let found = signer(alloc, &[(secret, "")], id, &panel)?;
-        assert_eq!(rt; found, (want, asked), "{id} signed with {secret}");
+    let panel = panel_of_two(rt.alloc())?;
+    for (secret, id, want) in BY_A_PANEL {
+        let found = signer(rt.alloc(), &[(*secret, "")], id, &panel)?;
+        assert_eq!(rt; found, *want, "{id} signed with {secret}");
     }
     Ok(())
 }
@@ -466,19 +484,26 @@ fn finds_nobody_by_an_empty_panel(rt: HostRuntime) -> Result<(), Fail> {
     Ok(())
 }
 
+/// The ids of a list that signed an envelope.
+fn listed(alloc: Global, signers: &[(&str, &str)], ids: &[&str]) -> Result<String, Fail> {
+    let envelope = envelope(alloc, signers)?;
+    let ids = strings(alloc, ids)?;
+    let signed = signed_ids(
+        alloc,
+        &envelope,
+        ids.as_slice(),
+        &object(alloc)?,
+        &panel(alloc)?,
+    )?;
+    Ok(joined(alloc, signed.as_slice())?)
+}
+
 #[test]
 fn lists_signers(rt: HostRuntime) -> Result<(), Fail> {
-    let alloc = rt.alloc();
-    let panel: [Box<dyn SignatureCheck>; 1] = [Box::new(alloc, ring(alloc)?)?];
-    let object = object(alloc)?;
-    let envelope = envelope(
-        alloc,
-        &[("bob", ""), ("alice", "alice"), ("owner", "carol")],
-    )?;
-    let ids = strings(alloc, &["carol", "bobz", "alice", "owner", "bob", "alice"])?;
-    let signers = signed_ids(alloc, &envelope, ids.as_slice(), &object, &panel)?;
-    let signers = joined(alloc, signers.as_slice())?;
-    assert_eq!(rt; signers.as_str(), "bobz alice bob alice ");
+    let signers = [("bob", ""), ("alice", "alice"), ("owner", "carol")];
+    let ids = ["carol", "bobz", "alice", "owner", "bob", "alice"];
+    let listed = listed(rt.alloc(), &signers, &ids)?;
+    assert_eq!(rt; listed.as_str(), "bobz alice bob alice ");
     Ok(())
 }
 
@@ -511,25 +536,26 @@ fn written(alloc: Global, envelope: &Envelope) -> Result<String, Fail> {
     Ok(String::from_utf8(out).ok().ok_or("no text")?)
 }
 
+// No signatures; no hint, texts that JSON escapes, and the marks of the standard alphabet.
+const WRITTEN: &str = r#"{"payload":"","payloadType":"","signatures":[]}
+{"payload":"+/8=","payloadType":"\"größe\n","signatures":[{"keyid":"","sig":"Zg=="},{"keyid":"a","sig":""}]}"#;
+
 #[test]
 fn writes_what_reads_back(rt: HostRuntime) -> Result<(), Fail> {
-    let alloc = rt.alloc();
-    // No signatures; no hint, texts that JSON escapes, and the marks of the standard alphabet.
-    let texts = [
-        "{\"payload\":\"\",\"payloadType\":\"\",\"signatures\":[]}",
-        "{\"payload\":\"+/8=\",\"payloadType\":\"\\\"größe\\n\",\"signatures\":[{\"keyid\":\"\",\"sig\":\"Zg==\"},{\"keyid\":\"a\",\"sig\":\"\"}]}",
-    ];
-    for text in texts {
-        let found = read(alloc, text)?;
-        assert_eq!(rt; written(alloc, &found)?.as_str(), text);
+    for text in WRITTEN.split('\n') {
+        let found = read(rt.alloc(), text)?;
+        assert_eq!(rt; written(rt.alloc(), &found)?.as_str(), text);
     }
-    let back = read(alloc, written(alloc, &signed(alloc)?)?.as_str())?;
+    Ok(())
+}
+
+#[test]
+fn writes_what_was_signed(rt: HostRuntime) -> Result<(), Fail> {
+    let text = written(rt.alloc(), &signed(rt.alloc())?)?;
+    assert_eq!(rt; text.as_str(), SIGNED);
+    let back = read(rt.alloc(), SIGNED)?;
     assert_eq!(rt; back.payload.as_slice(), b"{}".as_slice());
     assert_eq!(rt; back.payload_type.as_str(), KIND);
-    let signatures = back.signatures.as_slice();
-    assert_eq!(rt; signatures.len(), 1);
-    assert_eq!(rt; signatures[0].keyid.as_str(), "alice");
-    assert_eq!(rt; signatures[0].sig.as_slice().len(), 32);
     Ok(())
 }
 
@@ -547,22 +573,31 @@ fn writes_one_spelling(rt: HostRuntime) -> Result<(), Fail> {
     Ok(())
 }
 
+/// What writing an envelope to a pipe comes to that takes a byte at a write.
+fn fault_at(
+    alloc: Global,
+    envelope: &Envelope,
+    room: usize,
+    full: Full,
+) -> (Result<(), WriteFault>, Vec<u8>) {
+    let mut pipe = Pipe {
+        taken: Vec::new(alloc),
+        room,
+        most: 1,
+        full,
+    };
+    let answer = envelope.write(alloc, &mut pipe);
+    (answer, pipe.taken)
+}
+
 #[test]
 fn stops_at_a_failed_write(rt: HostRuntime) -> Result<(), Fail> {
-    let alloc = rt.alloc();
-    let envelope = signed(alloc)?;
-    let text = SIGNED.as_bytes();
+    let envelope = signed(rt.alloc())?;
     for full in [Full::AnswersAnError, Full::TakesNothing] {
-        for (room, _) in text.iter().enumerate() {
-            let mut pipe = Pipe {
-                taken: Vec::new(alloc),
-                room,
-                most: 1,
-                full,
-            };
-            let answer = envelope.write(alloc, &mut pipe);
+        for room in 0..SIGNED.len() {
+            let (answer, taken) = fault_at(rt.alloc(), &envelope, room, full);
             assert_eq!(rt; answer, Err(WriteFault::Write), "{full:?} at {room}");
-            assert_eq!(rt; pipe.taken.as_slice(), &text[..room], "{full:?} at {room}");
+            assert_eq!(rt; Some(taken.as_slice()), SIGNED.as_bytes().get(..room));
         }
     }
     Ok(())

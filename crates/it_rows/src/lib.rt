@@ -23,4 +23,6 @@ mod rules_tests;
 #[cfg(test)]
 mod sha384_tests;
 #[cfg(test)]
+mod table;
+#[cfg(test)]
 mod trees_tests;

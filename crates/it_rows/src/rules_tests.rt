@@ -6,7 +6,7 @@ mod rows;
 
 use by_definition::first_fault;
 use by_queue::first_fault as first_fault_by_queue;
-use dice::Dice;
+use dice::{Dice, Thrown};
 use it_digest::compare::DigestSet;
 use it_rules::item::{Item, Named};
 use it_rules::ranges::front_range;
@@ -84,56 +84,63 @@ fn is_as_wanted(found: &Option<RuleFault>, want: &Option<(usize, String)>) -> bo
     }
 }
 
+/// Whether the definitions and the run by a queue come to what was found.
+fn is_found_by_all(
+    alloc: Global,
+    case: &Thrown,
+    item: &Item,
+    links: &[Named],
+    found: &Option<RuleFault>,
+) -> Result<bool, AllocError> {
+    let rules = case.rules.as_slice();
+    let want = first_fault(alloc, case.side, rules, item, links)?;
+    let queued = first_fault_by_queue(alloc, case.side, rules, item, links)?;
+    Ok(is_as_wanted(found, &want) && is_as_wanted(found, &queued))
+}
+
 /// Whether the run, the definitions and the run by a queue answer alike on one generated case. The
 /// first number counts faults, the second cases without one.
-fn answers_alike(alloc: Global, seed: u64, counts: &mut (u64, u64)) -> Result<bool, AllocError> {
-    let mut dice = Dice { state: seed };
-    let materials = dice.artifacts(alloc)?;
-    let products = dice.artifacts(alloc)?;
-    let built = dice.artifacts(alloc)?;
-    let tested = dice.artifacts(alloc)?;
-    let mut rules = Vec::new(alloc);
-    for _ in 0..5 {
-        rules.push(dice.rule(alloc)?)?;
-    }
-    let side = dice.side();
+fn answers_alike(
+    alloc: Global,
+    case: &Thrown,
+    counts: &mut (u64, u64),
+) -> Result<bool, AllocError> {
     let item = Item {
-        materials: &materials,
-        products: &products,
+        materials: &case.materials,
+        products: &case.products,
     };
-    let build = Named {
-        name: "build",
-        item: Item {
-            materials: &materials,
-            products: &built,
+    let build = Item {
+        materials: &case.materials,
+        products: &case.built,
+    };
+    let test = Item {
+        materials: &case.tested,
+        products: &case.built,
+    };
+    let links = [
+        Named {
+            name: "build",
+            item: build,
         },
-    };
-    let test = Named {
-        name: "test",
-        item: Item {
-            materials: &tested,
-            products: &built,
+        Named {
+            name: "test",
+            item: test,
         },
-    };
-    let links = [build, test];
-    let found = run_rules(alloc, side, rules.as_slice(), &item, &links)?;
-    let want = first_fault(alloc, side, rules.as_slice(), &item, &links)?;
-    match &want {
+    ];
+    let found = run_rules(alloc, case.side, case.rules.as_slice(), &item, &links)?;
+    match &found {
         Some(_) => counts.0 = counts.0.saturating_add(1),
         None => counts.1 = counts.1.saturating_add(1),
     }
-    let queued = first_fault_by_queue(alloc, side, rules.as_slice(), &item, &links)?;
-    Ok(is_as_wanted(&found, &want) && is_as_wanted(&found, &queued))
+    is_found_by_all(alloc, case, &item, &links, &found)
 }
 
 #[test]
 fn answers_as_the_definitions_and_the_run_by_a_queue(rt: HostRuntime) -> Result<(), Fail> {
     let mut counts = (0, 0);
     for seed in 0..600 {
-        assert!(rt;
-            answers_alike(rt.alloc(), seed, &mut counts)?,
-            "case {seed}"
-        );
+        let case = Dice { state: seed }.case(rt.alloc())?;
+        assert!(rt; answers_alike(rt.alloc(), &case, &mut counts)?, "{seed}");
     }
     assert!(rt; counts.0 > 100 && counts.1 > 100, "{counts:?}");
     Ok(())

@@ -76,67 +76,64 @@ fn digits(alloc: Global, bytes: usize) -> Result<String, Fail> {
     Ok(text)
 }
 
-fn link_text(alloc: Global, sha384: &str) -> Result<String, Fail> {
-    Ok(format!(in alloc;
+/// What a link records of its product `app`, which has the value as its SHA-384.
+fn in_a_link(alloc: Global, sha384: &str) -> Result<Option<DigestSet>, Fail> {
+    let text = format!(in alloc;
         "{{\"_type\":\"link\",\"name\":\"build\",\"products\":{{\"app\":{{\"sha384\":{sha384}}}}}}}"
-    )?)
+    )?;
+    Ok(match read_link(alloc, text.as_bytes()) {
+        Ok(link) => link.products.get("app"),
+        Err(_) => None,
+    })
 }
 
-fn statement_text(alloc: Global, sha384: &str) -> Result<String, Fail> {
-    Ok(format!(in alloc;
+/// The digests of the one subject of a Statement, which has the value as its SHA-384.
+fn in_a_statement(alloc: Global, sha384: &str) -> Result<Option<DigestSet>, Fail> {
+    let text = format!(in alloc;
         "{{\"_type\":\"https://in-toto.io/Statement/v1\",\"predicateType\":\"\",
         \"subject\":[{{\"digest\":{{\"sha384\":{sha384}}}}}]}}"
-    )?)
+    )?;
+    Ok(match read_statement(alloc, text.as_bytes()) {
+        Ok(statement) => statement.subjects.as_slice().first().copied(),
+        Err(_) => None,
+    })
 }
 
 #[test]
 fn reads_a_sha384_of_96_digits(rt: HostRuntime) -> Result<(), Fail> {
-    let alloc = rt.alloc();
-    let digest = format!(in alloc; "\"{}\"", digits(alloc, 48)?)?;
-    let text = link_text(alloc, digest.as_str())?;
-    let link = read_link(alloc, text.as_bytes()).ok().ok_or("no link")?;
-    let app = link.products.get("app").ok_or("no app")?;
-    assert_eq!(rt; app.sha384, Some([0x0f; 48]));
-    assert_eq!(rt; app.sha256, None);
-    let text = statement_text(alloc, digest.as_str())?;
-    let statement = read_statement(alloc, text.as_bytes())
-        .ok()
-        .ok_or("no statement")?;
-    let subject = statement.subjects.as_slice().first().ok_or("none")?;
-    assert_eq!(rt; subject.sha384, Some([0x0f; 48]));
+    let digest = format!(in rt.alloc(); "\"{}\"", digits(rt.alloc(), 48)?)?;
+    let want = DigestSet {
+        sha256: None,
+        sha384: Some([0x0f; 48]),
+        sha512: None,
+    };
+    assert_eq!(rt; in_a_link(rt.alloc(), digest.as_str())?, Some(want));
+    assert_eq!(rt; in_a_statement(rt.alloc(), digest.as_str())?, Some(want));
+    assert_eq!(rt; in_a_link(rt.alloc(), "null")?, Some(set(0, 0)));
+    assert_eq!(rt; in_a_statement(rt.alloc(), "null")?, Some(set(0, 0)));
     Ok(())
 }
 
 #[test]
-fn another_sha384_makes_a_document_malformed(rt: HostRuntime) -> Result<(), Fail> {
-    let alloc = rt.alloc();
-    let of_a_sha256 = format!(in alloc; "\"{}\"", digits(alloc, 32)?)?;
-    let too_long = format!(in alloc; "\"{}\"", digits(alloc, 49)?)?;
-    let one_less = format!(in alloc; "\"{}0\"", digits(alloc, 47)?)?;
-    let no_digit = format!(in alloc; "\"{}0g\"", digits(alloc, 47)?)?;
-    let rows = [
-        ("null", true),
-        ("\"00\"", false),
-        ("\"\"", false),
-        ("7", false),
-        ("{}", false),
-        (of_a_sha256.as_str(), false),
-        (too_long.as_str(), false),
-        (one_less.as_str(), false),
-        (no_digit.as_str(), false),
-    ];
-    for (sha384, reads) in rows {
-        let text = link_text(alloc, sha384)?;
+fn a_sha384_of_another_form_makes_a_document_malformed(rt: HostRuntime) -> Result<(), Fail> {
+    for value in ["\"00\"", "\"\"", "7", "{}"] {
+        assert_eq!(rt; in_a_link(rt.alloc(), value)?, None, "{value}");
+        assert_eq!(rt; in_a_statement(rt.alloc(), value)?, None, "{value}");
+    }
+    Ok(())
+}
+
+// How many bytes are written as digits, and what stands behind them: a SHA-256, a byte too many,
+// a digit less, and one that is none.
+#[test]
+fn a_sha384_of_other_digits_makes_a_document_malformed(rt: HostRuntime) -> Result<(), Fail> {
+    for (bytes, end) in [(32, ""), (49, ""), (47, "0"), (47, "0g")] {
+        let value = format!(in rt.alloc(); "\"{}{end}\"", digits(rt.alloc(), bytes)?)?;
+        assert_eq!(rt; in_a_link(rt.alloc(), value.as_str())?, None, "{value}");
         assert_eq!(rt;
-            read_link(alloc, text.as_bytes()).is_ok(),
-            reads,
-            "{sha384}"
-        );
-        let text = statement_text(alloc, sha384)?;
-        assert_eq!(rt;
-            read_statement(alloc, text.as_bytes()).is_ok(),
-            reads,
-            "{sha384}"
+            in_a_statement(rt.alloc(), value.as_str())?,
+            None,
+            "{value}"
         );
     }
     Ok(())

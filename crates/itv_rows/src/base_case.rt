@@ -21,9 +21,22 @@ pub(crate) const RING: &str =
     {"id":"bob","secret":"626f62"},{"id":"bobz","secret":"626f6200"},
     {"id":"carol","secret":"6361726f6c"},{"id":"builder","secret":"6275696c646572"}]"#;
 
-// In the documents K stands for a key object, "A" for the SHA-256 of `abc` and "B" for that of no
-// bytes.
-const KEY: &str = r#"{"keytype":"hmac","scheme":"hmac-sha256","keyval":{"public":""}}"#;
+// What the documents stand for: a key object for K, the SHA-256 of `abc` for "A" and that of no
+// bytes for "B".
+const LETTERS: &[(&str, &str)] = &[
+    (
+        ":K",
+        r#":{"keytype":"hmac","scheme":"hmac-sha256","keyval":{"public":""}}"#,
+    ),
+    (
+        "\"A\"",
+        "\"ba7816bf8f01cfea414140de5dae2223b00361a396177a9cb410ff61f20015ad\"",
+    ),
+    (
+        "\"B\"",
+        "\"e3b0c44298fc1c149afbf4c8996fb92427ae41e4649b934ca495991b7852b855\"",
+    ),
+];
 
 pub(crate) const LAYOUT: &str = r#"{"_type":"layout","expires":"2030-01-01T00:00:00Z","readme":"",
     "keys":{"alice":K,"bob":K,"bobz":K,"carol":K},
@@ -51,26 +64,22 @@ pub(crate) const MOMENT: &str = "2029-12-31T00:00:00Z";
 
 pub(crate) const ACCEPTED: &str = "accepted\nstep build 1\nfile app\n";
 
+/// A text with these changes made in turn.
+fn changed(alloc: Global, text: &str, changes: &[(&str, &str)]) -> Result<String, AllocError> {
+    let mut changed = String::from_str(alloc, text)?;
+    for (from, to) in changes {
+        changed = changed.replace(alloc, *from, to)?;
+    }
+    Ok(changed)
+}
+
 /// A text with these changes made in turn, and then with what its letters stand for.
 pub(crate) fn filled(
     alloc: Global,
     text: &str,
     changes: &[(&str, &str)],
 ) -> Result<String, AllocError> {
-    let mut filled = String::from_str(alloc, text)?;
-    for (from, to) in changes {
-        filled = filled.replace(alloc, *from, to)?;
-    }
-    let keys = format!(in alloc; ":{KEY}")?;
-    let digests = [
-        ("\"A\"", format!(in alloc; "\"{A}\"")?),
-        ("\"B\"", format!(in alloc; "\"{B}\"")?),
-    ];
-    filled = filled.replace(alloc, ":K", keys.as_str())?;
-    for (letter, digest) in digests {
-        filled = filled.replace(alloc, letter, digest.as_str())?;
-    }
-    Ok(filled)
+    changed(alloc, changed(alloc, text, changes)?.as_str(), LETTERS)
 }
 
 /// A digest list: one of the lines `A  path` or `B  path` for each file.
@@ -78,8 +87,7 @@ pub(crate) fn sums(alloc: Global, lines: &[(&str, &str)]) -> Result<Sequence<u8>
     let mut list = String::new(alloc);
     for (letter, path) in lines {
         let digest = if *letter == "A" { A } else { B };
-        let line = format!(in alloc; "{digest}  {path}\n")?;
-        list.push_str(line.as_str())?;
+        write!(list, "{digest}  {path}\n")?;
     }
     Ok(Sequence::from(list.into_bytes()))
 }
@@ -87,6 +95,12 @@ pub(crate) fn sums(alloc: Global, lines: &[(&str, &str)]) -> Result<Sequence<u8>
 /// The ring whose ids sign the base case.
 pub(crate) fn ring(alloc: Global) -> Result<HmacRing, Fail> {
     Ok(HmacRing::read(alloc, RING.as_bytes())?)
+}
+
+/// The ring as a panel.
+pub(crate) fn panel(alloc: Global) -> Result<[Box<dyn SignatureCheck>; 1], Fail> {
+    let ring = ring(alloc)?;
+    Ok([Box::new(alloc, ring)?])
 }
 
 /// The envelope of a body, signed by an id of the ring.
@@ -201,23 +215,22 @@ pub(crate) fn base(alloc: Global) -> Result<Inputs, Fail> {
     Ok(inputs)
 }
 
-/// What `run_verify` answers over the ring.
+/// What `run_verify` answers over a panel.
 pub(crate) fn run<W: Write>(
     alloc: Global,
     inputs: &Inputs,
+    panel: &[Box<dyn SignatureCheck>],
     out: &mut W,
 ) -> Result<Result<Status, RunFault>, Fail> {
     if inputs.depth > 8 {
         return Err(Fail::from("too deep"));
     }
-    let panel: [Box<dyn SignatureCheck>; 1] = [Box::new(alloc, ring(alloc)?)?];
-    Ok(run_verify(alloc, inputs, &panel, out))
+    Ok(run_verify(alloc, inputs, panel, out))
 }
 
 /// The exit status and the report, over the ring.
 pub(crate) fn reported(alloc: Global, inputs: &Inputs) -> Result<(u8, String), Fail> {
-    let panel: [Box<dyn SignatureCheck>; 1] = [Box::new(alloc, ring(alloc)?)?];
-    reported_by(alloc, inputs, &panel)
+    reported_by(alloc, inputs, &panel(alloc)?)
 }
 
 /// The exit status and the report, over a panel of checks.
@@ -226,15 +239,9 @@ pub(crate) fn reported_by(
     inputs: &Inputs,
     panel: &[Box<dyn SignatureCheck>],
 ) -> Result<(u8, String), Fail> {
-    if inputs.depth > 8 {
-        return Err(Fail::from("too deep"));
-    }
     let mut out = Vec::new(alloc);
-    let status = run_verify(alloc, inputs, panel, &mut out);
-    let report = String::from_utf8(out)
-        .ok()
-        .ok_or("a report that is no text")?;
-    Ok((exit_of(&status), report))
+    let status = exit_of(&run(alloc, inputs, panel, &mut out)?);
+    Ok((status, String::from_utf8(out).ok().ok_or("no text")?))
 }
 
 /// How often it is asked whether a signature is valid.
@@ -242,6 +249,5 @@ pub(crate) fn asked(alloc: Global, inputs: &Inputs) -> Result<u64, Fail> {
     if inputs.depth > 8 {
         return Err(Fail::from("too deep"));
     }
-    let panel: [Box<dyn SignatureCheck>; 1] = [Box::new(alloc, ring(alloc)?)?];
-    Ok(verify(alloc, inputs, &panel)?.asked)
+    Ok(verify(alloc, inputs, &panel(alloc)?)?.asked)
 }

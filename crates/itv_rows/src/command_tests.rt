@@ -11,21 +11,23 @@ const KIND: &str = "application/vnd.in-toto+json";
 const SIGNED: &str =
     "{\"payload\":\"e30=\",\"payloadType\":\"application/vnd.in-toto+json\",\"signatures\":[{\"keyid\":\"alice\",\"sig\":\"GYvlMgoDSh7aimmYQa+mVXbtzb6hq2TIJDLz8mP3+D0=\"}]}\n";
 
+// A pattern, a text, and what is written and answered.
+const MATCHES: &[(&str, &str, &str, Status)] = &[
+    ("", "", "yes\n", Status::Good),
+    ("*", "a/b", "yes\n", Status::Good),
+    ("a*b", "axbxb", "yes\n", Status::Good),
+    ("?", "é", "yes\n", Status::Good),
+    ("[!a]", "", "no\n", Status::Refused),
+    ("A", "a", "no\n", Status::Refused),
+];
+
 #[test]
 fn says_whether_a_pattern_matches(rt: HostRuntime) -> Result<(), Fail> {
     let alloc = rt.alloc();
-    let rows = [
-        ("", "", "yes\n", Status::Good),
-        ("*", "a/b", "yes\n", Status::Good),
-        ("a*b", "axbxb", "yes\n", Status::Good),
-        ("?", "é", "yes\n", Status::Good),
-        ("[!a]", "", "no\n", Status::Refused),
-        ("A", "a", "no\n", Status::Refused),
-    ];
-    for (pattern, path, want, status) in rows {
+    for (pattern, path, want, status) in MATCHES {
         let mut out = Vec::new(alloc);
         let outcome = run_match(alloc, pattern, path, &mut out);
-        assert_eq!(rt; outcome, Ok(status), "{pattern} {path}");
+        assert_eq!(rt; outcome, Ok(*status), "{pattern} {path}");
         assert_eq!(rt; out.as_slice(), want.as_bytes(), "{pattern} {path}");
     }
     Ok(())
@@ -42,13 +44,20 @@ fn writes_what_is_signed_for_a_type_and_a_body(rt: HostRuntime) -> Result<(), Fa
 }
 
 #[test]
-fn signs_a_body_under_a_key_of_the_ring_alone(rt: HostRuntime) -> Result<(), Fail> {
+fn signs_a_body_under_a_key_of_the_ring(rt: HostRuntime) -> Result<(), Fail> {
     let alloc = rt.alloc();
     let ring = HmacRing::read(alloc, br#"[{"id":"alice","secret":"616c696365"}]"#)?;
     let mut out = Vec::new(alloc);
     let outcome = run_sign(alloc, &ring, "alice", KIND, b"{}", &mut out);
     assert_eq!(rt; outcome, Ok(Status::Good));
     assert_eq!(rt; out.as_slice(), SIGNED.as_bytes());
+    Ok(())
+}
+
+#[test]
+fn signs_nothing_under_a_key_that_is_not_in_the_ring(rt: HostRuntime) -> Result<(), Fail> {
+    let alloc = rt.alloc();
+    let ring = HmacRing::read(alloc, br#"[{"id":"alice","secret":"616c696365"}]"#)?;
     let mut out = Vec::new(alloc);
     let outcome = run_sign(alloc, &ring, "dave", KIND, b"{}", &mut out);
     assert_eq!(rt; outcome, Err(RunFault::UnknownKey));

@@ -75,17 +75,24 @@ fn folder(alloc: Global, step: &str, id: &str, body: &str, stands: Stands) -> Re
     Ok(folder)
 }
 
-// The step of the base case recorded by a layout, whose step is recorded by a layout again; and how
-// the record of each of the three stands, from outside.
-fn in_sublayouts(alloc: Global, stands: [Stands; 3]) -> Result<Inputs, Fail> {
-    let [of_build, of_inner, of_core] = stands;
-    let later = "2030-01-01T00:00:00Z";
+// The folder of alice's layout, whose step is recorded by a layout again; and how the record of each
+// of the two steps stands, from outside.
+fn of_alice(alloc: Global, of_inner: Stands, of_core: Stands) -> Result<Bundle, Fail> {
     let link = filled(alloc, LINK, &[("\"build\"", "\"core\"")])?;
-    let by_bob = sublayout(alloc, "core", "carol", later)?;
-    let by_alice = sublayout(alloc, "inner", "bob", later)?;
     let core = folder(alloc, "core", "carol", link.as_str(), of_core)?;
+    let by_bob = sublayout(alloc, "core", "carol", LATER)?;
     let mut inner = folder(alloc, "inner", "bob", by_bob.as_str(), of_inner)?;
     add_folder(alloc, &mut inner, "inner.bob", core)?;
+    Ok(inner)
+}
+
+const LATER: &str = "2030-01-01T00:00:00Z";
+
+// The step of the base case recorded by alice's layout.
+fn in_sublayouts(alloc: Global, stands: [Stands; 3]) -> Result<Inputs, Fail> {
+    let [of_build, of_inner, of_core] = stands;
+    let inner = of_alice(alloc, of_inner, of_core)?;
+    let by_alice = sublayout(alloc, "inner", "bob", LATER)?;
     let mut inputs = without_links(alloc)?;
     inputs.links = folder(alloc, "build", "alice", by_alice.as_str(), of_build)?;
     add_folder(alloc, &mut inputs.links, "build.alice", inner)?;

@@ -1,5 +1,5 @@
 //! Verifications by panels that are not of one ring alone.
-use crate::base_case::{LINK, base, filled, layout, reported_by, ring, signed_text};
+use crate::base_case::{LINK, base, filled, layout, panel, reported_by, signed_text};
 use it_dsse::check::SignatureCheck;
 use it_dsse::key_object::KeyObject;
 use it_dsse::meter::Meter;
@@ -50,17 +50,16 @@ fn by_alice_and_dave(alloc: Global) -> Result<Inputs, Fail> {
     Ok(inputs)
 }
 
+/// A check that knows each id by the number that alice's key has in the ring.
+fn trusting_check(alloc: Global) -> Result<Box<dyn SignatureCheck>, Fail> {
+    Ok(Box::new(alloc, Trusting { key: 1 })?)
+}
+
 #[test]
 fn counts_keys_of_a_check_beside_a_ring(rt: HostRuntime) -> Result<(), Fail> {
-    let alloc = rt.alloc();
-    let inputs = by_alice_and_dave(alloc)?;
-    // Alice's key has this number in the ring.
-    let trusting = Trusting { key: 1 };
-    let panel: [Box<dyn SignatureCheck>; 2] = [
-        Box::new(alloc, ring(alloc)?)?,
-        Box::new(alloc, trusting)?,
-    ];
-    let (exit, report) = reported_by(alloc, &inputs, &panel)?;
+    let inputs = by_alice_and_dave(rt.alloc())?;
+    let [ring] = panel(rt.alloc())?;
+    let (exit, report) = reported_by(rt.alloc(), &inputs, &[ring, trusting_check(rt.alloc())?])?;
     assert_eq!(rt; report.as_str(), "accepted\nstep build 2\nfile app\n");
     assert_eq!(rt; exit, 0);
     Ok(())
@@ -68,14 +67,9 @@ fn counts_keys_of_a_check_beside_a_ring(rt: HostRuntime) -> Result<(), Fail> {
 
 #[test]
 fn asks_the_first_check_that_knows_a_key(rt: HostRuntime) -> Result<(), Fail> {
-    let alloc = rt.alloc();
-    let inputs = by_alice_and_dave(alloc)?;
-    let trusting = Trusting { key: 1 };
-    let panel: [Box<dyn SignatureCheck>; 2] = [
-        Box::new(alloc, trusting)?,
-        Box::new(alloc, ring(alloc)?)?,
-    ];
-    let (exit, report) = reported_by(alloc, &inputs, &panel)?;
+    let inputs = by_alice_and_dave(rt.alloc())?;
+    let [ring] = panel(rt.alloc())?;
+    let (exit, report) = reported_by(rt.alloc(), &inputs, &[trusting_check(rt.alloc())?, ring])?;
     assert_eq!(rt;
         report.as_str(),
         "refused 33 Threshold\nat -\nstep build\nfound 1\nneeded 2\n"

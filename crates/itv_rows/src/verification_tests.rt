@@ -1,8 +1,8 @@
 //! How often signatures are tried, and what is written where the output fails. What a verification
 //! comes to is in the cases that `itv_cases` runs.
 use crate::base_case::{
-    ACCEPTED, LINK, add, add_folder, add_link, asked, base, filled, layout, policy, reported, run,
-    signed_text, sublayout, sums, without_links,
+    ACCEPTED, LINK, add, add_folder, add_link, asked, base, filled, layout, panel, policy,
+    reported, run, signed_text, sublayout, sums, without_links,
 };
 use it_chain::bundle::Bundle;
 use it_devices::{Full, Pipe, text, with_changed_code};
@@ -25,41 +25,38 @@ fn counts_the_signatures_tried_for_what_is_accepted(rt: HostRuntime) -> Result<(
     Ok(())
 }
 
+// The base case with a threshold of two, for alice and for bob.
+const OF_TWO: &[(&str, &str)] = &[
+    ("\"threshold\":1", "\"threshold\":2"),
+    ("[\"alice\"]", "[\"alice\",\"bob\"]"),
+];
+
+fn add_text(alloc: Global, bundle: &mut Bundle, name: &str, envelope: String) -> Result<(), Fail> {
+    bundle.add_file(String::from_str(alloc, name)?, envelope.into_bytes())?;
+    Ok(())
+}
+
 // For the owner, for each of the files, and for the builder where two keys signed.
 #[test]
 fn counts_the_signatures_tried_for_two_keys(rt: HostRuntime) -> Result<(), Fail> {
     let alloc = rt.alloc();
     let mut inputs = base(alloc)?;
-    inputs.layout = layout(
-        alloc,
-        &[
-            ("\"threshold\":1", "\"threshold\":2"),
-            ("[\"alice\"]", "[\"alice\",\"bob\"]"),
-        ],
-    )?;
-    let link = filled(alloc, LINK, &[])?;
-    let by_bob = signed_text(alloc, "bob", link.as_str())?;
-    let changed = with_changed_code(alloc, by_bob.as_str())?;
+    inputs.layout = layout(alloc, OF_TWO)?;
     let links = &mut inputs.links;
     add_link(alloc, links, "build.copy.link", "alice", &[])?;
-    links.add_file(
-        String::from_str(alloc, "build.bob.link")?,
-        changed.into_bytes(),
-    )?;
+    let by_bob = signed_text(alloc, "bob", filled(alloc, LINK, &[])?.as_str())?;
+    let changed = with_changed_code(alloc, by_bob.as_str())?;
+    add_text(alloc, links, "build.bob.link", changed)?;
     assert_eq!(rt; asked(alloc, &inputs)?, 4);
-    let links = &mut inputs.links;
-    links.add_file(
-        String::from_str(alloc, "build.true.link")?,
-        by_bob.into_bytes(),
-    )?;
+    add_text(alloc, &mut inputs.links, "build.true.link", by_bob)?;
     assert_eq!(rt; asked(alloc, &inputs)?, 6);
     Ok(())
 }
 
 const LATER: &str = "2030-01-01T00:00:00Z";
 
-// The record of the step is a layout, whose record is a layout again.
-fn in_sublayouts(alloc: Global) -> Result<Inputs, Fail> {
+// The folder of alice's layout, whose record is a layout of bob's.
+fn of_alice(alloc: Global) -> Result<Bundle, Fail> {
     let mut innermost = Bundle::new(alloc);
     let core = ("\"build\"", "\"core\"");
     add_link(alloc, &mut innermost, "core.carol.link", "carol", &[core])?;
@@ -67,11 +64,16 @@ fn in_sublayouts(alloc: Global) -> Result<Inputs, Fail> {
     let by_bob = sublayout(alloc, "core", "carol", LATER)?;
     add(alloc, &mut inner, "inner.bob.link", "bob", by_bob.as_str())?;
     add_folder(alloc, &mut inner, "inner.bob", innermost)?;
+    Ok(inner)
+}
+
+// The record of the step is a layout, whose record is a layout again.
+fn in_sublayouts(alloc: Global) -> Result<Inputs, Fail> {
     let mut inputs = without_links(alloc)?;
     let by_alice = sublayout(alloc, "inner", "bob", LATER)?;
     let links = &mut inputs.links;
     add(alloc, links, "build.alice.link", "alice", by_alice.as_str())?;
-    add_folder(alloc, links, "build.alice", inner)?;
+    add_folder(alloc, links, "build.alice", of_alice(alloc)?)?;
     Ok(inputs)
 }
 
@@ -104,38 +106,36 @@ fn counts_the_signatures_tried_until_it_refuses(rt: HostRuntime) -> Result<(), F
     Ok(())
 }
 
-// A writer that takes a byte a call, and fails at each call of a report of 31 bytes in turn.
-#[test]
-fn writes_a_beginning_where_the_output_fails(rt: HostRuntime) -> Result<(), Fail> {
-    let alloc = rt.alloc();
-    let inputs = base(alloc)?;
-    for room in 0..31_usize {
-        for full in [Full::AnswersAnError, Full::TakesNothing] {
-            let mut pipe = Pipe {
-                taken: Vec::new(alloc),
-                room,
-                most: 1,
-                full,
-            };
-            assert_eq!(rt;
-                run(alloc, &inputs, &mut pipe)?,
-                Err(RunFault::Write),
-                "{room}"
-            );
-            assert_eq!(rt;
-                Some(pipe.taken.as_slice()),
-                ACCEPTED.as_bytes().get(..room),
-                "{room}"
-            );
-        }
-    }
+// What a writer with room for so many bytes, which takes a byte a call, is written for the base case.
+fn written(
+    alloc: Global,
+    inputs: &Inputs,
+    room: usize,
+    full: Full,
+) -> Result<(Result<Status, RunFault>, Vec<u8>), Fail> {
     let mut pipe = Pipe {
         taken: Vec::new(alloc),
-        room: 31,
+        room,
         most: 1,
-        full: Full::AnswersAnError,
+        full,
     };
-    assert_eq!(rt; run(alloc, &inputs, &mut pipe)?, Ok(Status::Good));
-    assert_eq!(rt; pipe.taken.as_slice(), ACCEPTED.as_bytes());
+    let status = run(alloc, inputs, &panel(alloc)?, &mut pipe)?;
+    Ok((status, pipe.taken))
+}
+
+// A writer fails at each byte of a report of 31 bytes in turn.
+#[test]
+fn writes_a_beginning_where_the_output_fails(rt: HostRuntime) -> Result<(), Fail> {
+    let inputs = base(rt.alloc())?;
+    for full in [Full::AnswersAnError, Full::TakesNothing] {
+        for room in 0..31_usize {
+            let (status, taken) = written(rt.alloc(), &inputs, room, full)?;
+            assert_eq!(rt; status, Err(RunFault::Write), "{room}");
+            assert_eq!(rt; Some(taken.as_slice()), ACCEPTED.as_bytes().get(..room));
+        }
+        let (status, taken) = written(rt.alloc(), &inputs, 31, full)?;
+        assert_eq!(rt; status, Ok(Status::Good));
+        assert_eq!(rt; taken.as_slice(), ACCEPTED.as_bytes());
+    }
     Ok(())
 }

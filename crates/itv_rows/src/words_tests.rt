@@ -77,55 +77,63 @@ fn read(alloc: Global, line: &str) -> Result<String, Fail> {
 }
 
 // Two spaces, and a space at the end, have an empty word between or behind them.
+const COMMANDS: &[(&str, &str)] = &[
+    ("itv signed a --ring b", "signed a b"),
+    ("itv signed --ring b a", "signed a b"),
+    ("itv signed --ring=-b a", "signed a -b"),
+    ("itv signed --ring b -- -a", "signed -a b"),
+    ("itv signed --ring b -- --help", "signed --help b"),
+    ("itv signed  --ring ", "signed  "),
+    ("/bin/x signed - --ring=a=b", "signed - a=b"),
+    ("itv match a*b axbxb", "match a*b axbxb"),
+    ("itv match -- -a -a", "match -a -a"),
+    ("itv match  ", "match  "),
+    ("itv pae b --type t", "pae b t"),
+    ("itv sign --key k --ring=r b --type t", "sign b r k t"),
+    ("itv digest a", "digest a"),
+    ("itv digest a b -- -c", "digest a+b+-c"),
+];
+
 #[test]
 fn reads_the_words_of_each_command(rt: HostRuntime) -> Result<(), Fail> {
     let alloc = rt.alloc();
-    let rows = [
-        ("itv signed a --ring b", "signed a b"),
-        ("itv signed --ring b a", "signed a b"),
-        ("itv signed --ring=-b a", "signed a -b"),
-        ("itv signed --ring b -- -a", "signed -a b"),
-        ("itv signed --ring b -- --help", "signed --help b"),
-        ("itv signed  --ring ", "signed  "),
-        ("/bin/x signed - --ring=a=b", "signed - a=b"),
-        ("itv match a*b axbxb", "match a*b axbxb"),
-        ("itv match -- -a -a", "match -a -a"),
-        ("itv match  ", "match  "),
-        ("itv pae b --type t", "pae b t"),
-        ("itv sign --key k --ring=r b --type t", "sign b r k t"),
-        ("itv digest a", "digest a"),
-        ("itv digest a b -- -c", "digest a+b+-c"),
-    ];
-    for (line, want) in rows {
-        assert_eq!(rt; read(alloc, line)?.as_str(), want, "{line}");
+    for (line, want) in COMMANDS {
+        assert_eq!(rt; read(alloc, line)?.as_str(), *want, "{line}");
+    }
+    Ok(())
+}
+
+// Words behind those that a verification needs, and what they are all read as.
+const FURTHER: &[(&str, &str)] = &[
+    ("", "p l d s m r none none 4"),
+    (" --provenance v --records i --depth 0", "p l d s m r v i 0"),
+    (" --depth=8 --records=-i", "p l d s m r none -i 8"),
+    (" --depth 04", "p l d s m r none none 4"),
+    (" --depth +3", "p l d s m r none none 3"),
+    (" --depth=0000007", "p l d s m r none none 7"),
+    (" --provenance=", "p l d s m r  none 4"),
+    (
+        " --ring=2 --ring 3 --ring=4 --ring=3 --ring=6 --ring= --ring=8",
+        "p l d s m r+2+3+4+3+6++8 none none 4",
+    ),
+];
+
+#[test]
+fn reads_the_words_of_a_verification(rt: HostRuntime) -> Result<(), Fail> {
+    let alloc = rt.alloc();
+    for (further, shown) in FURTHER {
+        let line = format!(in alloc; "{NEEDED}{further}")?;
+        let want = format!(in alloc; "verify {shown}")?;
+        assert_eq!(rt; read(alloc, line.as_str())?.as_str(), want.as_str());
     }
     Ok(())
 }
 
 #[test]
-fn reads_the_words_of_a_verification(rt: HostRuntime) -> Result<(), Fail> {
-    let alloc = rt.alloc();
-    let rows = [
-        ("", "p l d s m r none none 4"),
-        (" --provenance v --records i --depth 0", "p l d s m r v i 0"),
-        (" --depth=8 --records=-i", "p l d s m r none -i 8"),
-        (" --depth 04", "p l d s m r none none 4"),
-        (" --depth +3", "p l d s m r none none 3"),
-        (" --depth=0000007", "p l d s m r none none 7"),
-        (" --provenance=", "p l d s m r  none 4"),
-        (
-            " --ring=2 --ring 3 --ring=4 --ring=3 --ring=6 --ring= --ring=8",
-            "p l d s m r+2+3+4+3+6++8 none none 4",
-        ),
-    ];
-    for (further, shown) in rows {
-        let line = format!(in alloc; "{NEEDED}{further}")?;
-        let want = format!(in alloc; "verify {shown}")?;
-        assert_eq!(rt; read(alloc, line.as_str())?.as_str(), want.as_str());
-    }
+fn reads_values_as_they_stand(rt: HostRuntime) -> Result<(), Fail> {
     let line = "itv verify --at=-x --ring= --sums=a=b --links=. --layout=\t --policy=é";
     let want = "verify é \t . a=b -x  none none 4";
-    assert_eq!(rt; read(alloc, line)?.as_str(), want);
+    assert_eq!(rt; read(rt.alloc(), line)?.as_str(), want);
     Ok(())
 }
 
@@ -138,33 +146,39 @@ fn note(alloc: Global, line: &str) -> Result<Option<String>, Fail> {
     }
 }
 
+// Words of no command, and what the note on them names.
+const NAMED: &[(&str, &str)] = &[
+    ("itv", "subcommand"),
+    ("itv --help", "'--help'"),
+    ("itv -h", "'-h'"),
+    ("itv help", "'help'"),
+    ("itv --version", "'--version'"),
+    ("itv signs a --ring b", "'signs'"),
+    ("itv signed --ring b", "<ENVELOPE>"),
+    ("itv signed a", "--ring <F>"),
+    ("itv signed a --ring", "'--ring <F>'"),
+    ("itv signed a b --ring c", "'b'"),
+    ("itv signed a --ring b --ring b", "'--ring <F>'"),
+    ("itv signed -a --ring b", "'-a'"),
+    ("itv signed a --ring -b", "'-b'"),
+    ("itv signed a --ring b --help", "'--help'"),
+];
+
 #[test]
 fn names_what_is_wrong_with_words(rt: HostRuntime) -> Result<(), Fail> {
     let alloc = rt.alloc();
-    let rows = [
-        ("itv", "subcommand"),
-        ("itv --help", "'--help'"),
-        ("itv -h", "'-h'"),
-        ("itv help", "'help'"),
-        ("itv --version", "'--version'"),
-        ("itv signs a --ring b", "'signs'"),
-        ("itv signed --ring b", "<ENVELOPE>"),
-        ("itv signed a", "--ring <F>"),
-        ("itv signed a --ring", "'--ring <F>'"),
-        ("itv signed a b --ring c", "'b'"),
-        ("itv signed a --ring b --ring b", "'--ring <F>'"),
-        ("itv signed -a --ring b", "'-a'"),
-        ("itv signed a --ring -b", "'-b'"),
-        ("itv signed a --ring b --help", "'--help'"),
-    ];
-    for (line, named) in rows {
+    for (line, named) in NAMED {
         let note = note(alloc, line)?.ok_or("words of a command")?;
-        assert!(rt; note.as_str().contains(named), "{line}: {note}");
+        assert!(rt; note.as_str().contains(*named), "{line}: {note}");
         assert!(rt; !note.as_str().contains("\n"), "{note}");
     }
-    let none = read_words(alloc, &[]);
-    assert!(rt; matches!(none, Err(WordsFault::Unread(_))));
     Ok(())
+}
+
+#[test]
+fn refuses_no_words(rt: HostRuntime) {
+    let none = read_words(rt.alloc(), &[]);
+    assert!(rt; matches!(none, Err(WordsFault::Unread(_))));
 }
 
 // A line for each, so that a missing word shows as well.
@@ -220,5 +234,15 @@ fn refuses_a_depth_beyond_eight_and_other_further_words(rt: HostRuntime) -> Resu
         let line = format!(in alloc; "{NEEDED} {further}")?;
         assert!(rt; note(alloc, line.as_str())?.is_some(), "{further}");
     }
+    Ok(())
+}
+
+#[test]
+fn refuses_a_depth_with_a_space_before_it(rt: HostRuntime) -> Result<(), Fail> {
+    let mut words = words(rt.alloc(), NEEDED)?;
+    words.push(String::from_str(rt.alloc(), "--depth")?)?;
+    words.push(String::from_str(rt.alloc(), " 1")?)?;
+    let read = read_words(rt.alloc(), words.as_slice());
+    assert!(rt; matches!(read, Err(WordsFault::Unread(_))));
     Ok(())
 }

@@ -9,6 +9,17 @@ use it_docs::rule::{Rule, Side};
 use it_glob::Pattern;
 use std::alloc::{AllocError, Global};
 
+/// A case that was thrown: rules on an item, and what the links `build` and `test` hold beside it.
+#[derive(Drop)]
+pub(super) struct Thrown {
+    pub(super) materials: Artifacts,
+    pub(super) products: Artifacts,
+    pub(super) built: Artifacts,
+    pub(super) tested: Artifacts,
+    pub(super) rules: Vec<Rule>,
+    pub(super) side: Side,
+}
+
 /// Numbers that look thrown, the same in each run.
 #[derive(Drop)]
 pub(super) struct Dice {
@@ -34,7 +45,7 @@ impl Dice {
         texts.get(at).copied().unwrap_or("")
     }
 
-    pub(super) fn side(&mut self) -> Side {
+    fn side(&mut self) -> Side {
         if self.below(2) == 0 {
             Side::Materials
         } else {
@@ -54,7 +65,7 @@ impl Dice {
         }
     }
 
-    pub(super) fn artifacts(&mut self, alloc: Global) -> Result<Artifacts, AllocError> {
+    fn artifacts(&mut self, alloc: Global) -> Result<Artifacts, AllocError> {
         let mut map = Artifacts::new(alloc);
         for path in PATHS {
             if let Some(digests) = self.digests() {
@@ -64,7 +75,7 @@ impl Dice {
         Ok(map)
     }
 
-    pub(super) fn rule(&mut self, alloc: Global) -> Result<Rule, AllocError> {
+    fn rule(&mut self, alloc: Global) -> Result<Rule, AllocError> {
         let pattern = Pattern::read(alloc, self.pick(&PATTERNS))?;
         Ok(match self.below(10) {
             0 => Rule::Create(pattern),
@@ -80,6 +91,25 @@ impl Dice {
                 target_prefix: text(alloc, self.pick(&PREFIXES))?,
                 from: text(alloc, self.pick(&NAMES))?,
             },
+        })
+    }
+
+    fn rules(&mut self, alloc: Global) -> Result<Vec<Rule>, AllocError> {
+        let mut rules = Vec::new(alloc);
+        for _ in 0..5 {
+            rules.push(self.rule(alloc)?)?;
+        }
+        Ok(rules)
+    }
+
+    pub(super) fn case(&mut self, alloc: Global) -> Result<Thrown, AllocError> {
+        Ok(Thrown {
+            materials: self.artifacts(alloc)?,
+            products: self.artifacts(alloc)?,
+            built: self.artifacts(alloc)?,
+            tested: self.artifacts(alloc)?,
+            rules: self.rules(alloc)?,
+            side: self.side(),
         })
     }
 }

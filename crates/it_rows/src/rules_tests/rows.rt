@@ -5,7 +5,7 @@ use it_digest::compare::DigestSet;
 use it_docs::rule::{Rule, Side, read_rule};
 use it_rules::item::{Item, Named};
 use it_rules::rules::{RuleFault, run_rules};
-use std::alloc::Global;
+use std::alloc::{AllocError, Global};
 use std::test::Fail;
 
 /// The digests that a word of a row stands for: A and B differ in their SHA-256, S has a SHA-512
@@ -75,46 +75,67 @@ fn row_of(line: &str) -> Option<Row> {
     })
 }
 
-/// What the rules of a row come to on one side.
-fn found(alloc: Global, side: Side, row: &Row) -> Result<Option<RuleFault>, Fail> {
-    let none = Artifacts::new(alloc);
-    let materials = artifacts(alloc, row.materials)?;
-    let products = artifacts(alloc, row.products)?;
-    let linked = artifacts(alloc, row.linked)?;
+/// What a row is judged over.
+#[derive(Drop)]
+struct Judged {
+    materials: Artifacts,
+    products: Artifacts,
+    /// The products of the link `build`.
+    linked: Artifacts,
+    /// Its materials, which are none.
+    none: Artifacts,
+}
+
+fn read_judged(alloc: Global, row: &Row) -> Result<Judged, Fail> {
+    Ok(Judged {
+        materials: artifacts(alloc, row.materials)?,
+        products: artifacts(alloc, row.products)?,
+        linked: artifacts(alloc, row.linked)?,
+        none: Artifacts::new(alloc),
+    })
+}
+
+/// What rules come to on one side.
+fn found(
+    alloc: Global,
+    side: Side,
+    rules: &[Rule],
+    judged: &Judged,
+) -> Result<Option<RuleFault>, AllocError> {
     let item = Item {
-        materials: &materials,
-        products: &products,
+        materials: &judged.materials,
+        products: &judged.products,
     };
     let build = Named {
         name: "build",
         item: Item {
-            materials: &none,
-            products: &linked,
+            materials: &judged.none,
+            products: &judged.linked,
         },
     };
-    let rules = rules(alloc, row.rules)?;
-    Ok(run_rules(alloc, side, rules.as_slice(), &item, &[build])?)
+    run_rules(alloc, side, rules, &item, &[build])
 }
 
-/// The same in words.
+/// What the rules of a row come to on one side, in words.
 fn told(alloc: Global, side: Side, row: &Row) -> Result<String, Fail> {
-    let Some(fault) = found(alloc, side, row)? else {
-        return Ok(String::from_str(alloc, "none")?);
-    };
-    let (index, path) = (fault.index, fault.path.as_str());
-    Ok(format!(in alloc; "{index} {path}")?)
+    let judged = read_judged(alloc, row)?;
+    let rules = rules(alloc, row.rules)?;
+    match found(alloc, side, rules.as_slice(), &judged)? {
+        None => Ok(String::from_str(alloc, "none")?),
+        Some(fault) => Ok(format!(in alloc; "{} {}", fault.index, fault.path.as_str())?),
+    }
 }
 
 // Materials, products, products of the link `build`, rules on products, and the rule that fails.
-const ROWS: &str = r"
+const ROWS: &str = "
 | a=A           |            | ALLOW a; REQUIRE a                                   | 1 a
 | a=A           |            | REQUIRE a; ALLOW a                                   | none
 | a=A b=A       |            | DISALLOW b; REQUIRE c                                | 0 b
 | a=A           |            | REQUIRE a; DISALLOW b; REQUIRE a                     | none
 | a=A           |            | REQUIRE *                                            | 0 *
 | *=A           |            | REQUIRE *                                            | none
-| 𐀀=A ～=A é=A |         | DISALLOW *                                           | 0 é
-| 𐀀=A ～=A é=A |         | DISALLOW [!é]                                        | 0 ～
+| 𐀀=A \u{ffff}=A é=A |  | DISALLOW *                                             | 0 é
+| 𐀀=A \u{ffff}=A é=A |  | DISALLOW [!é]                                          | 0 \u{ffff}
 | a=A b=A       |            | CREATE *; DISALLOW *                                 | none
 | b=A a=A       |            | DELETE *; MODIFY *; DISALLOW *                       | 2 a
 | a=A           | a=A        | MATCH * WITH PRODUCTS FROM build; DISALLOW *         | none

@@ -1,6 +1,7 @@
 -- How many signatures are tried.
-use Rattle.std.proofs.Common.{◌≡◌, ℕ, suc, ◌+◌, ◌≤◌, List, [], ◌∷◌, Bool, true, false, ◌&&◌, cond}
+use Rattle.std.proofs.Common.{◌≡◌, ℕ, suc, ◌+◌, ◌≤◌, List, [], ◌∷◌, Bool, true, false, ◌&&◌, ◌||◌, cond}
 use Rattle.std.proofs.Common.{length, filter, None, Some, inl, inr, Contains, refl, ap, arith, ◌∙◌}
+use Rattle.std.specs.List.{list_any}
 use Rattle.it_base.proofs.Members.{in_cases, in_none}
 use Rattle.it_dsse.specs.Panel.{KeyNumber, Panel}
 use Rattle.it_dsse.specs.Signed.{Signed, first_place, is_admitted, message_of, tries}
@@ -23,6 +24,10 @@ step_admitted true true n e = omega arith
 step_admitted true false n e = omega arith
 step_admitted false b n e = cc
 
+neither : (a b : Bool) → false ≡ (a || b) → (a ≡ false) × (false ≡ b)
+neither true b e = cc
+neither false b e = (refl, e)
+
 module _ {X : Type 0} (p q : X → Bool) where
   tried_at_most : (xs : List X) → first_place q (filter p xs) ≤ length xs
   unfolding first_place
@@ -40,6 +45,13 @@ module _ {X : Type 0} (p q : X → Bool) where
         (tried_at_least ys x later passes)
   ])
 
+  tried_none : (xs : List X) → false ≡ list_any p xs → first_place q (filter p xs) ≡ 0
+  unfolding first_place
+  tried_none [] none = refl
+  tried_none (x ∷ xs) none =
+      let refused = neither (p x) (list_any p xs) none in
+      rw (first_place_step p q x xs, refused.0, tried_none xs refused.1) refl
+
 module _ (panel : Panel) (envelope : Envelope) (id : List ℕ) (object : KeyObject) where
   -- no more signatures are tried than there are
   pub tries_at_most : tries panel envelope id object ≤ length envelope.signatures
@@ -49,6 +61,16 @@ module _ (panel : Panel) (envelope : Envelope) (id : List ℕ) (object : KeyObje
         | Some n ↦ λ e. rw e
             (tried_at_most (is_admitted id) (λ s. panel.is_valid n (message_of envelope) s.sig)
             envelope.signatures)
+      ] refl
+
+  -- where no signature is admitted, none is tried
+  pub none_is_tried : false ≡ list_any (is_admitted id) envelope.signatures
+      → tries panel envelope id object ≡ 0
+  none_is_tried none = elim (panel.key_of id object) as (λ o. panel.key_of id object ≡ o
+      → tries panel envelope id object ≡ 0) [
+        | None ↦ λ e. rw e refl
+        | Some n ↦ λ e. rw e (tried_none (is_admitted id)
+            (λ s. panel.is_valid n (message_of envelope) s.sig) envelope.signatures none)
       ] refl
 
   -- where the key signed, a signature is tried

@@ -3,7 +3,9 @@ ghost use Rattle.std.specs.Prelude.{◌≡◌};
 ghost use Rattle.it_dsse.specs.Check.{Check};
 ghost use Rattle.it_dsse.specs.Joined.{joined};
 ghost use Rattle.it_dsse.specs.Meter.{raised};
+ghost use Rattle.it_dsse.specs.Vouched.{is_vouched_by, tries_by};
 
+use crate::envelope::Signature;
 use crate::key_object::KeyObject;
 use crate::meter::Meter;
 
@@ -26,4 +28,30 @@ pub trait SignatureCheck: Drop {
     fn valid(&self, key: u32, message: &[&[u8]], sig: &[u8], meter: &mut Meter) -> bool
         ensures answer { result ≡ (meaning self.now).is_valid key (joined message.now) sig.now }
         ensures counted { meter.new ≡ raised meter.old 1 };
+
+    /// Whether one of the signatures is admitted for `id` and is valid, by the key of this number,
+    /// of the message that the parts make. The meter rises by the number of the admitted signatures
+    /// up to the first valid one. A check that can try many signatures for the price of one has a
+    /// body of its own.
+    fn any_valid(
+        &self,
+        key: u32,
+        message: &[&[u8]],
+        signatures: &[Signature],
+        id: &str,
+        meter: &mut Meter,
+    ) -> bool
+        ensures answer { result ≡ is_vouched_by (meaning self.now) id.now key (joined message.now)
+            signatures.now }
+        ensures counted { meter.new ≡ raised meter.old (tries_by (meaning self.now) id.now key
+            (joined message.now) signatures.now) }
+    {
+        for signature in signatures {
+            let sig = signature.sig.as_slice();
+            if signature.is_admitted(id) && self.valid(key, message, sig, meter) {
+                return true;
+            }
+        }
+        false
+    }
 }

@@ -4,6 +4,7 @@ ghost use Rattle.serde_json.specs.View.{view};
 ghost use Rattle.it_base.specs.Finds.{Finds};
 ghost use Rattle.it_dsse.specs.declared.envelope.EnvelopeFault.TheVariants.{OutOfMemory};
 ghost use Rattle.it_dsse.specs.Envelope.{EnvelopeOf, IsEnvelope, IsSignature};
+ghost use Rattle.it_dsse.specs.Signed.{is_admitted};
 
 use it_base::base64_text::base64_part;
 use it_base::parts::{FromDocument, from_bytes, part, part_or};
@@ -19,6 +20,16 @@ pub struct Signature {
     pub keyid: Text,
     /// The bytes of the signature.
     pub sig: Sequence<u8>,
+}
+
+impl Signature {
+    /// Whether the signature is tried for an id: its hint is empty, or the id. Takes no memory.
+    pub fn is_admitted(&self, id: &str) -> bool
+        ensures { result ≡ is_admitted id.now self.now }
+    {
+        let hint = self.keyid.as_str();
+        hint.is_empty() || hint == id
+    }
 }
 
 /// A payload of some type with its signatures (DSSE v1.0, "Envelope").

@@ -45,5 +45,5 @@ fn text_or_empty(alloc: Global, value: Option<&Value>, name: &str) -> Result<Tex
     let text = value
         .and_then(|object| member(object, name))
         .and_then(Value::as_str);
-    Ok(Text::from(String::from_str(alloc, text.unwrap_or(""))?))
+    Text::copy(alloc, text.unwrap_or(""))
 }

@@ -2,6 +2,7 @@
 #![tactic(auto)]
 
 pub mod check;
+mod code_check;
 mod decimal;
 pub mod envelope;
 pub mod key_object;

@@ -3,8 +3,11 @@ ghost use Rattle.std.specs.Prelude.{◌≡◌, ◌<◌, IfSome, length, map};
 ghost use Rattle.it_dsse.specs.Joined.{joined};
 ghost use Rattle.it_dsse.specs.Meter.{raised};
 ghost use Rattle.it_dsse.specs.Panel.{panel_of};
+ghost use Rattle.it_dsse.specs.Signed.{tries_for};
+ghost use Rattle.it_dsse.specs.Vouched.{is_vouched, is_vouched_by, tries_by};
 
 use crate::check::SignatureCheck;
+use crate::envelope::Signature;
 use crate::key_object::KeyObject;
 use crate::meter::Meter;
 
@@ -26,23 +29,24 @@ pub(crate) fn key_in(
     None
 }
 
-/// Whether a signature of the message that the parts make is valid for a key, by the check at its
-/// place. The check counts itself in the meter.
-#[tactic(auto, using(crate::proofs::Panels::valid_at_place))]
-pub(crate) fn is_valid_in(
+/// Whether one of the signatures is admitted for an id and valid for a key, by the check at its
+/// place, of the message that the parts make. The check counts those that it tries in the meter.
+pub(crate) fn any_valid_in(
     panel: &[Box<dyn SignatureCheck>],
     key: (usize, u32),
     message: &[&[u8]],
-    sig: &[u8],
+    signatures: &[Signature],
+    id: &str,
     meter: &mut Meter,
 ) -> bool
     requires placed { key.0 < length panel.now }
-    ensures answer { result
-        ≡ (panel_of (map meaning panel.now)).is_valid key (joined message.now) sig.now }
-    ensures counted { meter.new ≡ raised meter.old 1 }
+    ensures answer { result ≡ is_vouched (panel_of (map meaning panel.now)) id.now key
+        (joined message.now) signatures.now }
+    ensures counted { meter.new ≡ raised meter.old (tries_for (panel_of (map meaning panel.now))
+        id.now key (joined message.now) signatures.now) }
 {
     let (place, number) = key;
-    is_valid(&panel[place], number, message, sig, meter)
+    any_valid(&panel[place], number, message, signatures, id, meter)
 }
 
 /// The number of a key, if the check knows it.
@@ -52,15 +56,18 @@ fn number_of(check: &Box<dyn SignatureCheck>, id: &str, object: &KeyObject) -> O
     check.key(id, object)
 }
 
-fn is_valid(
+fn any_valid(
     check: &Box<dyn SignatureCheck>,
     number: u32,
     message: &[&[u8]],
-    sig: &[u8],
+    signatures: &[Signature],
+    id: &str,
     meter: &mut Meter,
 ) -> bool
-    ensures answer { result ≡ (meaning check.now).is_valid number (joined message.now) sig.now }
-    ensures counted { meter.new ≡ raised meter.old 1 }
+    ensures answer { result ≡ is_vouched_by (meaning check.now) id.now number (joined message.now)
+        signatures.now }
+    ensures counted { meter.new ≡ raised meter.old (tries_by (meaning check.now) id.now number
+        (joined message.now) signatures.now) }
 {
-    check.valid(number, message, sig, meter)
+    check.any_valid(number, message, signatures, id, meter)
 }

@@ -1,16 +1,19 @@
 //! A ring of secrets, and the check that it is.
-ghost use Rattle.std.specs.Prelude.{◌≡◌, IfOk, IsErrOf, find, map, position, slice_get};
-ghost use Rattle.std.specs.Prelude.{string_bytes};
+ghost use Rattle.std.specs.Prelude.{◌≡◌, IfOk, IsErrOf, find, map, option_map, position};
+ghost use Rattle.std.specs.Prelude.{slice_get, string_bytes};
 ghost use Rattle.std.specs.Option.{option_copied};
 ghost use Rattle.std.specs.Cmp.Lexicographic.{slice_cmp};
 ghost use Rattle.std.specs.List.Sorted.{IsPermutation, IsSorted};
 ghost use Rattle.std.specs.Ordering.{nat_cmp};
 ghost use Rattle.it_base.specs.Finds.{Finds};
+ghost use Rattle.it_dsse.specs.Hmac.{hmac};
 ghost use Rattle.it_dsse.specs.Joined.{joined};
-ghost use Rattle.it_dsse.specs.Ring.{RingOf, has_id, has_key, ids_of, is_code_at, number_of};
+ghost use Rattle.it_dsse.specs.Ring.{RingOf, has_id, has_key, ids_of, number_of};
 ghost use Rattle.it_dsse.specs.declared.ring.RingFault.TheVariants.{OutOfMemory};
 
 use crate::check::SignatureCheck;
+use crate::code_check::CodeCheck;
+use crate::envelope::Signature;
 use crate::key_object::KeyObject;
 use crate::mac::{block, hmac_sha256_parts};
 use crate::meter::Meter;
@@ -150,12 +153,14 @@ fn entry_at(entries: &[RingEntry], place: u32) -> Option<&RingEntry>
     entries.get(place as usize)
 }
 
-fn is_code(entries: &[RingEntry], place: u32, message: &[&[u8]], sig: &[u8]) -> bool
-    ensures { result ≡ is_code_at entries.now place (joined message.now) sig.now }
+/// The code of the message that the parts make, under the secret at a place.
+fn code_at(entries: &[RingEntry], place: u32, message: &[&[u8]]) -> Option<[u8; 32]>
+    ensures { result ≡ option_map (λ entry. hmac entry.secret (joined message.now))
+        (slice_get entries.now place) }
 {
     match entry_at(entries, place) {
-        Some(entry) => hmac_sha256_parts(entry.secret.as_slice(), message).as_slice() == sig,
-        None => false,
+        Some(entry) => Some(hmac_sha256_parts(entry.secret.as_slice(), message)),
+        None => None,
     }
 }
 
@@ -176,7 +181,20 @@ impl SignatureCheck for HmacRing {
 
     /// Whether `sig` is the HMAC-SHA-256 of the joined message under the secret at the place `key`.
     fn valid(&self, key: u32, message: &[&[u8]], sig: &[u8], meter: &mut Meter) -> bool {
-        meter.raise();
-        is_code(self.entries.as_slice(), key, message, sig)
+        let code = code_at(self.entries.as_slice(), key, message);
+        CodeCheck { code }.valid(key, message, sig, meter)
+    }
+
+    /// One code is computed for all the signatures.
+    fn any_valid(
+        &self,
+        key: u32,
+        message: &[&[u8]],
+        signatures: &[Signature],
+        id: &str,
+        meter: &mut Meter,
+    ) -> bool {
+        let code = code_at(self.entries.as_slice(), key, message);
+        CodeCheck { code }.any_valid(key, message, signatures, id, meter)
     }
 }

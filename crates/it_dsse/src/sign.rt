@@ -66,7 +66,7 @@ fn envelope_under(
     let signature = signature_under(alloc, secret, id, kind, body)?;
     Ok(Envelope {
         payload: Sequence::from(Vec::from_slice(alloc, body)?),
-        payload_type: Text::from(String::from_str(alloc, kind)?),
+        payload_type: Text::copy(alloc, kind)?,
         signatures: Sequence::from(Vec::from_array(alloc, [signature])?),
     })
 }
@@ -84,7 +84,7 @@ fn signature_under(
     let message = pae(alloc, kind, body)?;
     let code = hmac_sha256(secret, message.as_slice());
     Ok(Signature {
-        keyid: Text::from(String::from_str(alloc, id)?),
+        keyid: Text::copy(alloc, id)?,
         sig: Sequence::from(Vec::from_slice(alloc, &code)?),
     })
 }

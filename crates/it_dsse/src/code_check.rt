@@ -35,8 +35,8 @@ impl SignatureCheck for CodeCheck {
     }
 }
 
-/// Whether a signature is a code. Where it is as long as one, all its bytes are looked at, whichever
-/// differ.
+/// Whether a signature is a code. Where it is as long as one, all its bytes are looked at,
+/// whichever differ.
 fn is_same_code(code: &[u8; 32], sig: &[u8]) -> bool
     ensures { result ≡ bytes_eq code.now sig.now }
 {

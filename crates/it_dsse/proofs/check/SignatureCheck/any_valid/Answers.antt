@@ -14,9 +14,12 @@ use Rattle.it_dsse.proofs.check.SignatureCheck.any_valid.Goals.{
 pub returns-then-valid-clause-counted : goal.returns-then-valid-clause-counted
 returns-then-valid-clause-counted g c =
     let check : Check = g.Self.SignatureCheck.meaning c.args.self.now in
-    let valid : Signature → Bool = λ s. check.is_valid c.args.key (joined c.args.message.now) s.sig in
-    let admitted : true ≡ is_admitted c.args.id.now c.signature-item.result = c.if-is_admitted.ensures in
-    let good : true ≡ valid c.signature-item.result = rw c.as_slice-sig.ensures at c.if-valid.ensures.answer in
+    let valid : Signature → Bool =
+    λ s. check.is_valid c.args.key (joined c.args.message.now) s.sig in
+    let admitted : true ≡ is_admitted c.args.id.now c.signature-item.result =
+    c.if-is_admitted.ensures in
+    let good : true ≡ valid c.signature-item.result =
+    rw c.as_slice-sig.ensures at c.if-valid.ensures.answer in
     tried_last (is_admitted c.args.id.now) valid
     c.args.signatures.now c.loop-signature.signature-index c.signature-item.result
     c.loop-signature.meter c.valid.new.meter c.args.meter.now _ c.loop-signature-test.true
@@ -26,7 +29,8 @@ returns-then-valid-clause-counted g c =
 pub loop-signature-preserved : goal.loop-signature-preserved
 loop-signature-preserved g c =
     let check : Check = g.Self.SignatureCheck.meaning c.args.self.now in
-    let valid : Signature → Bool = λ s. check.is_valid c.args.key (joined c.args.message.now) s.sig in
+    let valid : Signature → Bool =
+    λ s. check.is_valid c.args.key (joined c.args.message.now) s.sig in
     let item = c.signature-item.result in
     let refused : false ≡ (is_admitted c.args.id.now item && valid item) =
     elim c.else-is_admitted.branch [
@@ -35,7 +39,8 @@ loop-signature-preserved g c =
           rw (← w.if-is_admitted.ensures, ← bad) refl
       | else-is_admitted-via-else-is_admitted w ↦ rw (← w.if-is_admitted.ensures) refl
     ] in
-    let tried : c.else-is_admitted.meter ≡ raised c.loop-signature.meter (cond (is_admitted c.args.id.now item) 1 0) =
+    let tried : c.else-is_admitted.meter
+    ≡ raised c.loop-signature.meter (cond (is_admitted c.args.id.now item) 1 0) =
     elim c.else-is_admitted.branch [
       | else-is_admitted-via-then-is_admitted+else-valid w ↦
           rw (w.meter-is, ← w.if-is_admitted.ensures) w.valid.ensures.counted
@@ -48,8 +53,9 @@ loop-signature-preserved g c =
           c.loop-signature-test.true c.signature-item.is refused c.loop-signature.invariant.found;
       counted = tried_more (is_admitted c.args.id.now) valid
           c.args.signatures.now c.loop-signature.signature-index item
-          c.loop-signature.meter c.else-is_admitted.meter c.args.meter.now _ c.loop-signature-test.true
-          c.signature-item.is refused tried c.loop-signature.invariant.counted;
+          c.loop-signature.meter c.else-is_admitted.meter c.args.meter.now _
+          c.loop-signature-test.true c.signature-item.is refused tried
+          c.loop-signature.invariant.counted;
     }
 
 pub returns-clause-counted : goal.returns-clause-counted

@@ -1,6 +1,7 @@
 pub mod Decided
 pub mod Documents
 pub mod Keeping
+pub mod Lengths
 pub mod Panels
 pub mod Places
 pub mod RingIds

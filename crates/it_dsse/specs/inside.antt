@@ -1,1 +1,2 @@
+pub mod CodeCheck
 pub mod RingIndex

@@ -1,5 +1,5 @@
 //! The check by one code.
-ghost use Rattle.std.specs.Prelude.{◌≡◌, None, false, option_map, unwrap_or};
+ghost use Rattle.std.specs.Prelude.{◌≡◌};
 ghost use Rattle.std.specs.Str.{bytes_eq};
 
 use crate::check::SignatureCheck;
@@ -14,11 +14,9 @@ pub(crate) struct CodeCheck {
 }
 
 impl SignatureCheck for CodeCheck {
-    ghost meaning = { λ check. record {
-      key_of = λ id object. None;
-      is_valid = λ key message sig.
-          unwrap_or (option_map (λ code. bytes_eq code sig) check.code) false;
-    } };
+    ghost use Rattle.it_dsse.specs.inside.CodeCheck.{code_check};
+
+    ghost meaning = { λ check. code_check check.code };
 
     /// No key, since the code is that of one key.
     fn key(&self, _id: &str, _object: &KeyObject) -> Option<u32> {

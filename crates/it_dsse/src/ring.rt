@@ -1,6 +1,7 @@
 //! A ring of secrets, and the check that it is.
 ghost use Rattle.std.specs.Prelude.{◌≡◌, IfOk, IsErrOf, find, map, option_map, position};
-ghost use Rattle.std.specs.Prelude.{slice_get, string_bytes};
+ghost use Rattle.std.specs.Prelude.{◌&&◌, length, nat_eq, slice_get, string_bytes};
+ghost use Rattle.std.specs.List.{list_any};
 ghost use Rattle.std.specs.Option.{option_copied};
 ghost use Rattle.std.specs.Cmp.Lexicographic.{slice_cmp};
 ghost use Rattle.std.specs.List.Sorted.{IsPermutation, IsSorted};
@@ -8,7 +9,10 @@ ghost use Rattle.std.specs.Ordering.{nat_cmp};
 ghost use Rattle.it_base.specs.Finds.{Finds};
 ghost use Rattle.it_dsse.specs.Hmac.{hmac};
 ghost use Rattle.it_dsse.specs.Joined.{joined};
-ghost use Rattle.it_dsse.specs.Ring.{RingOf, has_id, has_key, ids_of, number_of};
+ghost use Rattle.it_dsse.specs.Ring.{RingOf, has_id, has_key, ids_of, number_of, ring_check};
+ghost use Rattle.it_dsse.specs.Signed.{is_admitted};
+ghost use Rattle.it_dsse.specs.Vouched.{is_vouched_by, tries_by};
+ghost use Rattle.it_dsse.specs.inside.CodeCheck.{code_check};
 ghost use Rattle.it_dsse.specs.declared.ring.RingFault.TheVariants.{OutOfMemory};
 
 use crate::check::SignatureCheck;
@@ -164,9 +168,40 @@ fn code_at(entries: &[RingEntry], place: u32, message: &[&[u8]]) -> Option<[u8; 
     }
 }
 
-impl SignatureCheck for HmacRing {
-    ghost use Rattle.it_dsse.specs.Ring.{ring_check};
+/// Whether some signature that is admitted for an id is as long as a code.
+fn any_fits(signatures: &[Signature], id: &str) -> bool
+    ensures { result
+        ≡ list_any (λ s. is_admitted id.now s && nat_eq (length s.sig) 32) signatures.now }
+{
+    signatures
+        .iter()
+        .any(|signature| signature.is_admitted(id) && signature.sig.as_slice().len() == 32)
+}
 
+/// The code to try the signatures by that are admitted for an id. It is not computed where each of
+/// them is of another length.
+fn code_for(
+    entries: &[RingEntry],
+    place: u32,
+    message: &[&[u8]],
+    signatures: &[Signature],
+    id: &str,
+) -> Option<[u8; 32]>
+    ensures answer {
+        is_vouched_by (code_check result) id.now place (joined message.now) signatures.now
+        ≡ is_vouched_by (ring_check entries.now) id.now place (joined message.now) signatures.now }
+    ensures counted {
+        tries_by (code_check result) id.now place (joined message.now) signatures.now
+        ≡ tries_by (ring_check entries.now) id.now place (joined message.now) signatures.now }
+{
+    if any_fits(signatures, id) {
+        code_at(entries, place, message)
+    } else {
+        None
+    }
+}
+
+impl SignatureCheck for HmacRing {
     ghost meaning = { ring_check };
 
     /// The place of the first entry whose key is that of the entry with this id, where the scheme
@@ -185,7 +220,7 @@ impl SignatureCheck for HmacRing {
         CodeCheck { code }.valid(key, message, sig, meter)
     }
 
-    /// One code is computed for all the signatures.
+    /// One code is computed for all the signatures, and none where each is of another length.
     fn any_valid(
         &self,
         key: u32,
@@ -194,7 +229,7 @@ impl SignatureCheck for HmacRing {
         id: &str,
         meter: &mut Meter,
     ) -> bool {
-        let code = code_at(self.entries.as_slice(), key, message);
+        let code = code_for(self.entries.as_slice(), key, message, signatures, id);
         CodeCheck { code }.any_valid(key, message, signatures, id, meter)
     }
 }

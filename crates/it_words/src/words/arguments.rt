@@ -1,7 +1,8 @@
-//! The kinds of arguments that commands take.
-ghost use Rattle.std.specs.Prelude.{◌≡◌, false, IfOk, map, option_map};
-ghost use Rattle.clap.specs.Words.{found_of};
+//! Commands, and the kinds of arguments that they take.
+ghost use Rattle.std.specs.Prelude.{◌≡◌, All, false, fold, IfOk, map, option_map};
+ghost use Rattle.clap.specs.Words.{app_of, found_of, new_app, with_rule};
 ghost use Rattle.clap.specs.Walk.{all_of, first_of, rows_of, rule_of};
+ghost use Rattle.clap.specs.declared.builder.command.Command.TheViews.{out-Command};
 ghost use Rattle.it_words.specs.Words.{
   needed_option,
   needed_options,
@@ -10,10 +11,24 @@ ghost use Rattle.it_words.specs.Words.{
   plain_option,
 };
 
-use clap::{Arg, ArgAction, ArgMatches};
+use clap::{Arg, ArgAction, ArgMatches, Command};
 use it_base::sequence::Sequence;
 use it_base::text::Text;
 use std::alloc::{AllocError, Global};
+
+/// A command with these arguments, of which none may be global.
+pub(super) fn command_of<'a>(
+    alloc: Global,
+    name: &'a str,
+    arguments: Vec<Arg<'a>>,
+) -> Result<Command<'a>, AllocError>
+    requires { All (λ argument. argument.global ≡ false) arguments.items }
+    ensures app { IfOk result (λ command. app_of command
+        ≡ fold with_rule (new_app name.entry.now) (map rule_of arguments.entry.items)) }
+    ensures local { IfOk result (λ command. (out-Command command).has_globals ≡ false) }
+{
+    Command::new(alloc, name).args(arguments)
+}
 
 /// A word that has to be given, in its place.
 pub(super) fn needed_word<'a>(alloc: Global, name: &'a str, shown: &'a str) -> Arg<'a>
@@ -80,7 +95,7 @@ pub(super) fn texts(alloc: Global, words: &[&str]) -> Result<Sequence<Text>, All
 {
     let mut texts = Vec::with_capacity(alloc, words.len())?;
     for word in words {
-        texts.push(Text::from(String::from_str(alloc, word)?))?;
+        texts.push(Text::copy(alloc, word)?)?;
     }
     Ok(Sequence::from(texts))
 }

@@ -6,7 +6,7 @@ ghost use Rattle.clap.specs.declared.builder.command.Command.TheViews.{out-Comma
 ghost use Rattle.it_base.specs.Finds.{Finds};
 ghost use Rattle.it_words.specs.Words.{IsMatch, match_command};
 
-use super::arguments::{needed_word, value};
+use super::arguments::{command_of, needed_word, value};
 use clap::{ArgMatches, Command};
 use it_base::text::Text;
 use std::alloc::{AllocError, Global};
@@ -25,9 +25,11 @@ pub(super) fn command<'a>(alloc: Global) -> Result<Command<'a>, AllocError>
     ensures app { IfOk result (λ command. app_of command ≡ match_command) }
     ensures local { IfOk result (λ command. (out-Command command).has_globals ≡ false) }
 {
-    Command::new(alloc, "match")
-        .arg(needed_word(alloc, "pattern", "PATTERN"))?
-        .arg(needed_word(alloc, "path", "PATH"))
+    let arguments = vec![in alloc;
+        needed_word(alloc, "pattern", "PATTERN"),
+        needed_word(alloc, "path", "PATH"),
+    ]?;
+    command_of(alloc, "match", arguments)
 }
 
 /// The command's values, or `None` where one is missing.
@@ -41,7 +43,7 @@ pub(super) fn read(alloc: Global, values: &ArgMatches<'_>) -> Result<Option<Matc
         return Ok(None);
     };
     Ok(Some(MatchWords {
-        pattern: Text::from(String::from_str(alloc, pattern)?),
-        path: Text::from(String::from_str(alloc, path)?),
+        pattern: Text::copy(alloc, pattern)?,
+        path: Text::copy(alloc, path)?,
     }))
 }

@@ -6,7 +6,7 @@ ghost use Rattle.clap.specs.declared.builder.command.Command.TheViews.{out-Comma
 ghost use Rattle.it_base.specs.Finds.{Finds};
 ghost use Rattle.it_words.specs.Words.{IsPae, pae_command};
 
-use super::arguments::{needed_option, needed_word, value};
+use super::arguments::{command_of, needed_option, needed_word, value};
 use clap::{ArgMatches, Command};
 use it_base::text::Text;
 use std::alloc::{AllocError, Global};
@@ -25,9 +25,11 @@ pub(super) fn command<'a>(alloc: Global) -> Result<Command<'a>, AllocError>
     ensures app { IfOk result (λ command. app_of command ≡ pae_command) }
     ensures local { IfOk result (λ command. (out-Command command).has_globals ≡ false) }
 {
-    Command::new(alloc, "pae")
-        .arg(needed_word(alloc, "body", "BODY"))?
-        .arg(needed_option(alloc, "type", "TYPE"))
+    let arguments = vec![in alloc;
+        needed_word(alloc, "body", "BODY"),
+        needed_option(alloc, "type", "TYPE"),
+    ]?;
+    command_of(alloc, "pae", arguments)
 }
 
 /// The command's values, or `None` where one is missing.
@@ -41,7 +43,7 @@ pub(super) fn read(alloc: Global, values: &ArgMatches<'_>) -> Result<Option<PaeW
         return Ok(None);
     };
     Ok(Some(PaeWords {
-        body: Text::from(String::from_str(alloc, body)?),
-        kind: Text::from(String::from_str(alloc, kind)?),
+        body: Text::copy(alloc, body)?,
+        kind: Text::copy(alloc, kind)?,
     }))
 }

@@ -6,7 +6,7 @@ ghost use Rattle.clap.specs.declared.builder.command.Command.TheViews.{out-Comma
 ghost use Rattle.it_base.specs.Finds.{Finds};
 ghost use Rattle.it_words.specs.Words.{IsSign, sign_command};
 
-use super::arguments::{needed_option, needed_word, value};
+use super::arguments::{command_of, needed_option, needed_word, value};
 use clap::{ArgMatches, Command};
 use it_base::text::Text;
 use std::alloc::{AllocError, Global};
@@ -29,11 +29,13 @@ pub(super) fn command<'a>(alloc: Global) -> Result<Command<'a>, AllocError>
     ensures app { IfOk result (λ command. app_of command ≡ sign_command) }
     ensures local { IfOk result (λ command. (out-Command command).has_globals ≡ false) }
 {
-    Command::new(alloc, "sign")
-        .arg(needed_word(alloc, "body", "BODY"))?
-        .arg(needed_option(alloc, "ring", "F"))?
-        .arg(needed_option(alloc, "key", "ID"))?
-        .arg(needed_option(alloc, "type", "TYPE"))
+    let arguments = vec![in alloc;
+        needed_word(alloc, "body", "BODY"),
+        needed_option(alloc, "ring", "F"),
+        needed_option(alloc, "key", "ID"),
+        needed_option(alloc, "type", "TYPE"),
+    ]?;
+    command_of(alloc, "sign", arguments)
 }
 
 /// The command's values, or `None` where one is missing.
@@ -53,9 +55,9 @@ pub(super) fn read(alloc: Global, values: &ArgMatches<'_>) -> Result<Option<Sign
         return Ok(None);
     };
     Ok(Some(SignWords {
-        body: Text::from(String::from_str(alloc, body)?),
-        ring: Text::from(String::from_str(alloc, ring)?),
-        key: Text::from(String::from_str(alloc, key)?),
-        kind: Text::from(String::from_str(alloc, kind)?),
+        body: Text::copy(alloc, body)?,
+        ring: Text::copy(alloc, ring)?,
+        key: Text::copy(alloc, key)?,
+        kind: Text::copy(alloc, kind)?,
     }))
 }

@@ -6,7 +6,7 @@ ghost use Rattle.clap.specs.declared.builder.command.Command.TheViews.{out-Comma
 ghost use Rattle.it_base.specs.Finds.{Finds};
 ghost use Rattle.it_words.specs.Words.{IsSigned, signed_command};
 
-use super::arguments::{needed_option, needed_word, value};
+use super::arguments::{command_of, needed_option, needed_word, value};
 use clap::{ArgMatches, Command};
 use it_base::text::Text;
 use std::alloc::{AllocError, Global};
@@ -25,9 +25,11 @@ pub(super) fn command<'a>(alloc: Global) -> Result<Command<'a>, AllocError>
     ensures app { IfOk result (λ command. app_of command ≡ signed_command) }
     ensures local { IfOk result (λ command. (out-Command command).has_globals ≡ false) }
 {
-    Command::new(alloc, "signed")
-        .arg(needed_word(alloc, "envelope", "ENVELOPE"))?
-        .arg(needed_option(alloc, "ring", "F"))
+    let arguments = vec![in alloc;
+        needed_word(alloc, "envelope", "ENVELOPE"),
+        needed_option(alloc, "ring", "F"),
+    ]?;
+    command_of(alloc, "signed", arguments)
 }
 
 /// The command's values, or `None` where one is missing.
@@ -44,7 +46,7 @@ pub(super) fn read(
         return Ok(None);
     };
     Ok(Some(SignedWords {
-        envelope: Text::from(String::from_str(alloc, envelope)?),
-        ring: Text::from(String::from_str(alloc, ring)?),
+        envelope: Text::copy(alloc, envelope)?,
+        ring: Text::copy(alloc, ring)?,
     }))
 }

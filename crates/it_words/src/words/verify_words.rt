@@ -9,12 +9,11 @@ ghost use Rattle.it_words.specs.Words.{
   IsDepth,
   IsVerify,
   depth_option,
-  needed_of_verify,
   verify_command,
 };
 
 use super::arguments::{
-    needed_option, needed_options, plain_option, texts, value, values as values_of,
+    command_of, needed_option, needed_options, plain_option, texts, value, values as values_of,
 };
 use clap::{Arg, ArgMatches, Command, value_parser};
 use it_base::sequence::Sequence;
@@ -52,24 +51,18 @@ pub(super) fn command<'a>(alloc: Global) -> Result<Command<'a>, AllocError>
     ensures app { IfOk result (λ command. app_of command ≡ verify_command) }
     ensures local { IfOk result (λ command. (out-Command command).has_globals ≡ false) }
 {
-    needed(alloc)?
-        .arg(plain_option(alloc, "provenance", "F"))?
-        .arg(plain_option(alloc, "records", "DIR"))?
-        .arg(depth_option(alloc))
-}
-
-/// The command with the options that have to be given.
-fn needed<'a>(alloc: Global) -> Result<Command<'a>, AllocError>
-    ensures app { IfOk result (λ command. app_of command ≡ needed_of_verify) }
-    ensures local { IfOk result (λ command. (out-Command command).has_globals ≡ false) }
-{
-    Command::new(alloc, "verify")
-        .arg(needed_option(alloc, "policy", "F"))?
-        .arg(needed_option(alloc, "layout", "F"))?
-        .arg(needed_option(alloc, "links", "DIR"))?
-        .arg(needed_option(alloc, "sums", "F"))?
-        .arg(needed_option(alloc, "at", "MOMENT"))?
-        .arg(needed_options(alloc, "ring", "F"))
+    let arguments = vec![in alloc;
+        needed_option(alloc, "policy", "F"),
+        needed_option(alloc, "layout", "F"),
+        needed_option(alloc, "links", "DIR"),
+        needed_option(alloc, "sums", "F"),
+        needed_option(alloc, "at", "MOMENT"),
+        needed_options(alloc, "ring", "F"),
+        plain_option(alloc, "provenance", "F"),
+        plain_option(alloc, "records", "DIR"),
+        depth_option(alloc),
+    ]?;
+    command_of(alloc, "verify", arguments)
 }
 
 /// How deep sublayouts may lie: from 0 to 8, and 4 where it is not said.
@@ -111,11 +104,11 @@ pub(super) fn read(
         return Ok(None);
     };
     Ok(Some(VerifyWords {
-        policy: text(alloc, policy)?,
-        layout: text(alloc, layout)?,
-        links: text(alloc, links)?,
-        sums: text(alloc, sums)?,
-        at: text(alloc, at)?,
+        policy: Text::copy(alloc, policy)?,
+        layout: Text::copy(alloc, layout)?,
+        links: Text::copy(alloc, links)?,
+        sums: Text::copy(alloc, sums)?,
+        at: Text::copy(alloc, at)?,
         rings: texts(alloc, rings)?,
         provenance: text_if_given(alloc, value(values, "provenance"))?,
         records: text_if_given(alloc, value(values, "records"))?,
@@ -123,17 +116,11 @@ pub(super) fn read(
     }))
 }
 
-fn text(alloc: Global, word: &str) -> Result<Text, AllocError>
-    ensures { IfOk result (λ text. text ≡ word.now) }
-{
-    Ok(Text::from(String::from_str(alloc, word)?))
-}
-
 fn text_if_given(alloc: Global, word: Option<&str>) -> Result<Option<Text>, AllocError>
     ensures { IfOk result (λ text. text ≡ option_map (λ given. given.now) word.entry) }
 {
     match word {
-        Some(word) => Ok(Some(text(alloc, word)?)),
+        Some(word) => Ok(Some(Text::copy(alloc, word)?)),
         None => Ok(None),
     }
 }

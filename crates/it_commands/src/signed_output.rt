@@ -126,8 +126,8 @@ fn ring_object(alloc: Global) -> Result<KeyObject, AllocError>
     ensures { IfOk result (λ object. object ≡ ring_object) }
 {
     Ok(KeyObject {
-        keytype: Text::from(String::from_str(alloc, "hmac")?),
-        scheme: Text::from(String::from_str(alloc, "hmac-sha256")?),
+        keytype: Text::copy(alloc, "hmac")?,
+        scheme: Text::copy(alloc, "hmac-sha256")?,
         public: Text::from(String::new(alloc)),
     })
 }

@@ -34,15 +34,15 @@ use std::alloc::{AllocError, Global};
 /// recorded and of what is delivered, and each delivered file has signed provenance that meets its
 /// expectation. Otherwise it is `Refused`, with the first thing that does not hold.
 ///
-/// A check is asked for at most once for each owner and each signature of the layout, for each id
-/// of a step and each signature of a file that is claimed for it, and so in sublayouts, and for
-/// each key of the builders that are expected of a delivered file and each signature of the
-/// provenance. Where the verdict is `Accepted`, one was asked for at least for each signature that
-/// is tried with an owner's key, for each different key that signed what counts for a step, and so
-/// in sublayouts, and for each signature that is tried with the key by which a delivered file's
-/// provenance meets its expectation. What counts is an answer that is asked for: who signed an
-/// envelope of the provenance is found out once for all files, and counts anew for each file that
-/// asks.
+/// What is counted are answers of checks that are asked for: at most one for each owner and each
+/// signature of the layout, for each id of a step and each signature of a file that is claimed for
+/// it, and so in sublayouts, and for each key of the builders that are expected of a delivered file
+/// and each signature of the provenance. Where the verdict is `Accepted`, one was asked for at
+/// least for each signature that is tried with an owner's key, for each different key that signed
+/// what counts for a step, and so in sublayouts, and for each signature that is tried with the key
+/// by which a delivered file's provenance meets its expectation. Who signed an envelope of the
+/// provenance is found out once for all files, for the builders of every expectation, and counts
+/// anew for each file that asks; what no file asks for is not counted.
 ///
 /// # Errors
 ///

@@ -9,6 +9,13 @@ use Rattle.it_words.specs.declared.outcome.RunFault.TheVariants.{
   UnknownKey,
   BadName,
   Digest,
+  NoEnvelope,
+  OtherPayload,
+  OtherType,
+  BadMaterials,
+  BadProducts,
+  BadSubjects,
+  BadParameters,
 }
 
 -- the exit status of the program
@@ -20,6 +27,13 @@ exit_status (Err OutOfMemory) = 3
 exit_status (Err UnknownKey) = 2
 exit_status (Err BadName) = 2
 exit_status (Err (Digest fault)) = 2
+exit_status (Err NoEnvelope) = 2
+exit_status (Err OtherPayload) = 2
+exit_status (Err OtherType) = 2
+exit_status (Err (BadMaterials line)) = 2
+exit_status (Err (BadProducts line)) = 2
+exit_status (Err (BadSubjects line)) = 2
+exit_status (Err BadParameters) = 2
 
 -- a fault that every command may have: its output could not be written, or memory was refused
 abbrev pub IsOutputFault : RunFault → Type 0
@@ -28,3 +42,10 @@ IsOutputFault OutOfMemory = Unit {0}
 IsOutputFault UnknownKey = ⊥
 IsOutputFault BadName = ⊥
 IsOutputFault (Digest fault) = ⊥
+IsOutputFault NoEnvelope = ⊥
+IsOutputFault OtherPayload = ⊥
+IsOutputFault OtherType = ⊥
+IsOutputFault (BadMaterials line) = ⊥
+IsOutputFault (BadProducts line) = ⊥
+IsOutputFault (BadSubjects line) = ⊥
+IsOutputFault BadParameters = ⊥

@@ -34,6 +34,27 @@ pub enum RunFault {
     /// A file has no digest, for this reason.
     #[error("{}", digest_note(.0))]
     Digest(DigestFault),
+    /// What a signature is added to is no DSSE envelope.
+    #[error("there is no envelope to sign onto")]
+    NoEnvelope,
+    /// The envelope that a signature is added to has another payload than the body.
+    #[error("the envelope has another payload than the body")]
+    OtherPayload,
+    /// The envelope that a signature is added to has another payload type.
+    #[error("the envelope has another payload type")]
+    OtherType,
+    /// This line of the materials, counted from 1, is none of a digest list, or names a path again.
+    #[error("line {0} of the materials is no line of a digest list, or repeats a path")]
+    BadMaterials(u64),
+    /// This line of the products, counted from 1, is none of a digest list, or names a path again.
+    #[error("line {0} of the products is no line of a digest list, or repeats a path")]
+    BadProducts(u64),
+    /// This line of the subjects, counted from 1, is none of a digest list, or names a path again.
+    #[error("line {0} of the subjects is no line of a digest list, or repeats a path")]
+    BadSubjects(u64),
+    /// The external parameters are no JSON object.
+    #[error("the external parameters are no JSON object")]
+    BadParameters,
 }
 
 impl From<AllocError> for RunFault {

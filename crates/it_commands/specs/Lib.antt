@@ -1,5 +1,8 @@
 pub mod DigestOutput
 pub mod MatchOutput
+pub mod NoEnvelope
+pub mod PayloadOutput
+pub mod SignOntoOutput
 pub mod SignOutput
 pub mod SignedOutput
 pub mod inside

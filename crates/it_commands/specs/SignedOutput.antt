@@ -7,12 +7,9 @@ use Rattle.it_dsse.specs.Signed.{AreThose, IsSigner}
 use Rattle.it_dsse.specs.declared.envelope.Envelope.{Envelope}
 use Rattle.it_dsse.specs.declared.key_object.KeyObject.{KeyObject}
 use Rattle.it_report.specs.Name.{name_form}
-use Rattle.it_report.specs.Report.{report_of}
 use Rattle.it_words.specs.declared.outcome.Status.{Status}
-use Rattle.it_words.specs.declared.outcome.Status.TheVariants.{Good, Refused}
-use Rattle.it_report.specs.declared.refusal.Fault.TheVariants.{BadEnvelope}
-use Rattle.it_report.specs.declared.refusal.Refusal.{Refusal}
-use Rattle.it_report.specs.declared.verdict.Verdict.TheVariants.{Refused as refused_for}
+use Rattle.it_words.specs.declared.outcome.Status.TheVariants.{Good}
+use Rattle.it_commands.specs.NoEnvelope.{RefusesBytes}
 
 -- the key object that is asked with
 abbrev pub ring_object : KeyObject
@@ -22,10 +19,6 @@ ring_object = record { keytype = codes "hmac"; scheme = codes "hmac-sha256"; pub
 abbrev pub names_text : List (List ℕ) → List ℕ
 names_text names = flat_map (λ name. name_form name ++ codes "\n") names
 
--- the refusal of bytes that are no envelope
-abbrev pub no_envelope : Refusal
-no_envelope = record { at = []; fault = BadEnvelope }
-
 -- the text names those of the ids that signed the envelope, and the status says whether some did
 pub record NamesSigners (panel : Panel) (ids : List (List ℕ)) (envelope : Envelope) (text : List ℕ)
     (status : Status) : Type 0 where
@@ -33,12 +26,6 @@ pub record NamesSigners (panel : Panel) (ids : List (List ℕ)) (envelope : Enve
   pub are_those : AreThose (IsSigner panel envelope ring_object) ids signers
   pub text_is : text ≡ names_text signers
   pub good : (status ≡ Good) ↔ Any (IsSigner panel envelope ring_object) ids
-
--- the text refuses bytes that are no envelope
-pub record RefusesBytes (bytes text : List ℕ) (status : Status) : Type 0 where
-  pub none : (envelope : Envelope) → ¬ EnvelopeOf bytes envelope
-  pub text_is : text ≡ report_of (refused_for no_envelope)
-  pub status_is : status ≡ Refused
 
 -- what the command writes and finds
 abbrev pub IsSignedOutput : Panel → List (List ℕ) → List ℕ → List ℕ → Status → Type 0

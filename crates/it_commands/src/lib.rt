@@ -4,13 +4,20 @@
 
 mod digest_output;
 mod match_output;
+mod no_envelope;
 pub mod output;
 mod pae_output;
+mod payload_output;
+mod sign_onto_output;
 mod sign_output;
 mod signed_output;
+#[cfg(test)]
+mod tests;
 
 pub use digest_output::{check_name, run_digest};
 pub use match_output::run_match;
 pub use pae_output::run_pae;
+pub use payload_output::run_payload;
+pub use sign_onto_output::run_sign_onto;
 pub use sign_output::run_sign;
 pub use signed_output::run_signed;

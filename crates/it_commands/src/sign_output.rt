@@ -68,7 +68,12 @@ fn signed(
     }
 }
 
-fn put_line<W: Write>(alloc: Global, envelope: &Envelope, out: &mut W) -> Result<(), RunFault>
+/// Writes an envelope and a line feed.
+pub(crate) fn put_line<W: Write>(
+    alloc: Global,
+    envelope: &Envelope,
+    out: &mut W,
+) -> Result<(), RunFault>
     ensures ok { OnOk result (Appends (W.contents out.old) (W.contents out.new)
         (written_form envelope.now ++ codes "\n")) }
     ensures write { IsErrOf result RunFault.Write

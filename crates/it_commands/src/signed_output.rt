@@ -5,27 +5,22 @@ ghost use Rattle.it_base.specs.Writing.{AppendsBeginning};
 ghost use Rattle.it_dsse.specs.Panel.{panel_of};
 ghost use Rattle.it_dsse.specs.Signed.{AreThose, IsSigner};
 ghost use Rattle.it_words.specs.Outcome.{IsOutputFault};
-ghost use Rattle.it_report.specs.Report.{report_of};
 ghost use Rattle.it_commands.specs.SignedOutput.{
   IsSignedOutput,
   NamesSigners,
   names_text,
-  no_envelope,
   ring_object,
 };
 ghost use Rattle.it_commands.specs.inside.SignerNames.{ListsNames};
 
+use crate::no_envelope::no_envelope_output;
 use crate::output::{Output, put};
-use it_base::sequence::Sequence;
 use it_base::text::Text;
 use it_dsse::check::SignatureCheck;
 use it_dsse::envelope::{Envelope, EnvelopeFault};
 use it_dsse::key_object::KeyObject;
 use it_dsse::signed_ids;
 use it_report::name::push_name;
-use it_report::refusal::{Fault, Refusal};
-use it_report::refused_report;
-use it_report::verdict::Verdict;
 use it_words::outcome::{RunFault, Status};
 use std::alloc::{AllocError, Global};
 use std::io::Write;
@@ -78,20 +73,6 @@ fn signed_output(
         Err(EnvelopeFault::BadEnvelope) => no_envelope_output(alloc),
         Err(EnvelopeFault::OutOfMemory) => Err(AllocError),
     }
-}
-
-fn no_envelope_output(alloc: Global) -> Result<Output, AllocError>
-    ensures { IfOk result (λ output. (output.text.items ≡ report_of (Verdict.Refused no_envelope))
-        × (output.status ≡ Status.Refused)) }
-{
-    let refusal = Refusal {
-        at: Sequence::from(Vec::new(alloc)),
-        fault: Fault::BadEnvelope,
-    };
-    Ok(Output {
-        text: refused_report(alloc, &refusal)?,
-        status: Status::Refused,
-    })
 }
 
 fn signers_output(

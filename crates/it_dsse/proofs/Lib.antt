@@ -1,3 +1,4 @@
+pub mod AddedSignatures
 pub mod Decided
 pub mod Documents
 pub mod Keeping

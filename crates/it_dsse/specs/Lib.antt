@@ -1,4 +1,5 @@
 pub mod Check
+pub mod Countersigned
 pub mod Envelope
 pub mod Hmac
 pub mod Joined

@@ -3,6 +3,7 @@
 
 pub mod check;
 mod code_check;
+pub mod countersign;
 mod decimal;
 pub mod envelope;
 pub mod key_object;
@@ -28,5 +29,6 @@ pub use signers::{is_signer, signed_ids};
 
 /// The signing of a body, under the name that it has for callers.
 pub mod signing {
+    pub use crate::countersign::{CountersignFault, NewSignature, countersign};
     pub use crate::sign::{SignFault, sign};
 }

@@ -71,7 +71,8 @@ fn envelope_under(
     })
 }
 
-fn signature_under(
+/// The signature of a body under a secret, with the id as its hint.
+pub(crate) fn signature_under(
     alloc: Global,
     secret: &[u8],
     id: &str,

@@ -1,21 +1,26 @@
 #!/usr/bin/env python3
-"""Keeps docs/itv.1, the man page, and completions/itv.bash as the list docs/commands.json has it.
+"""Keeps what tells of the commands as the list docs/commands.json has it.
 
-Fails where one of the two is not what the list gives, and where README.md does not show the words
-of a command as the list has them.
+That is docs/itv.1, the man page, completions/itv.bash, and the usages that itv itself writes. Fails
+where one of the three is not what the list gives, and where README.md does not show the words of a
+command as the list has them.
 
     manual.py          checks
-    manual.py --write  writes the two files
+    manual.py --write  writes the three files
 """
 
 import json
 import sys
+import textwrap
 
 import tree
 
 LIST = tree.TOP / "docs" / "commands.json"
 PAGE = tree.TOP / "docs" / "itv.1"
 COMPLETIONS = tree.TOP / "completions" / "itv.bash"
+USAGES = tree.TOP / "crates" / "it_words" / "src" / "words" / "usages.rt"
+# How many columns a usage has.
+COLUMNS = 79
 TYPE = "application/vnd.in-toto+json"
 # What bash offers for a value, by its kind.
 OFFERS = {
@@ -55,6 +60,30 @@ _{program}() {{
 }}
 
 complete -o filenames -F _{program} {program}
+"""
+USAGE_SOURCE = """\
+//! The usages of the commands. Made by checks/manual.py from docs/commands.json.
+use super::usage::Usage;
+
+/// The program with its version.
+pub(super) const VERSION: &str = "{version}";
+
+/// What the program does.
+pub(super) const SUMMARY: &str =
+    "{summary}";
+
+/// The usages, in the order in which they are shown.
+pub(super) static USAGES: [Usage; {number}] = [
+{names}
+];
+{usages}"""
+USAGE = """
+/// The usage of `{program} {command}`.
+pub(super) const {constant}: Usage = Usage {{
+    name: "{command}",
+    line: "{line}",
+    text: "{text}",
+}};
 """
 
 
@@ -102,7 +131,7 @@ def page_lines(listed):
     """The lines of the man page."""
     program = listed["program"]
     yield '.\\" Made by checks/manual.py from docs/commands.json.'
-    yield f'.TH {program.upper()} 1 "" "" "User Commands"'
+    yield f'.TH {program.upper()} 1 "" "{program} {listed["version"]}" "User Commands"'
     yield f".SH NAME\n{program} \\- {text_of(listed['summary'])}"
     yield ".SH SYNOPSIS\n.nh\n.ad l"
     for command in listed["commands"]:
@@ -148,10 +177,52 @@ def completions(listed):
     )
 
 
+def literal_of(text):
+    """A text as a literal of the source has it between its quotes."""
+    return text.replace("\\", "\\\\").replace('"', '\\"')
+
+
+def wrapped(words, first, rest):
+    """A text in lines, of which the first begins with one text and the others with another."""
+    return textwrap.fill(words, COLUMNS, initial_indent=first, subsequent_indent=rest,
+                         break_long_words=False, break_on_hyphens=False)
+
+
+def usage_line(program, command):
+    """The words of a command as its usage has them: an option stays with its value."""
+    words = wrapped(words_of(command).replace(" --", "\n--").replace(" ", "\0").replace("\n", " "),
+                    f"{program} {command['name']} ", "    ")
+    return words.replace("\0", " ")
+
+
+def usage_text(command):
+    """What a command does, and a line on each option."""
+    shown = [f"--{option['name']} {option['value']}" for option in command["options"]]
+    width = max(map(len, shown), default=0)
+    lines = [wrapped(command["text"], "    ", "    ")]
+    lines += [wrapped(option["text"], f"      {words:{width}}  ", " " * (width + 8))
+              for words, option in zip(shown, command["options"])]
+    return "\n".join(lines)
+
+
+def usages(listed):
+    """The source of the usages."""
+    program = listed["program"]
+    names = [command["name"].upper() for command in listed["commands"]]
+    shown = [USAGE.format(program=program, command=command["name"], constant=name,
+                          line=literal_of(usage_line(program, command)),
+                          text=literal_of(usage_text(command)))
+             for name, command in zip(names, listed["commands"])]
+    return USAGE_SOURCE.format(version=f"{program} {listed['version']}", number=len(shown),
+                               summary=literal_of(listed["summary"]), usages="".join(shown),
+                               names=textwrap.fill(", ".join(names) + ",", 100, initial_indent="    ",
+                                                   subsequent_indent="    "))
+
+
 def made(listed):
     """The text of each file that is made, by its path."""
     page = "\n".join(page_lines(listed)) + "\n"
-    return {PAGE: page, COMPLETIONS: completions(listed)}
+    return {PAGE: page, COMPLETIONS: completions(listed), USAGES: usages(listed)}
 
 
 def faults(listed):

@@ -13,7 +13,12 @@ _itv_values() {
         signed--ring) compgen -f -- "$word" ;;
         sign--ring) compgen -f -- "$word" ;;
         sign--type) compgen -W application/vnd.in-toto+json -- "$word" ;;
+        sign--onto) compgen -f -- "$word" ;;
         pae--type) compgen -W application/vnd.in-toto+json -- "$word" ;;
+        link--materials) compgen -f -- "$word" ;;
+        link--products) compgen -f -- "$word" ;;
+        statement--sums) compgen -f -- "$word" ;;
+        statement--parameters) compgen -f -- "$word" ;;
     esac
 }
 
@@ -27,16 +32,19 @@ _itv() {
         before=${COMP_WORDS[COMP_CWORD - 2]}
     fi
     if [ "$COMP_CWORD" = 1 ]; then
-        offered=$(compgen -W 'verify signed sign pae digest match' -- "$word")
+        offered=$(compgen -W 'verify signed sign pae digest link statement payload match' -- "$word")
     elif [[ $before == --* ]]; then
         offered=$(_itv_values "$command$before")
     else
         case $command in
             verify) offered=$(compgen -W '--policy --layout --links --sums --at --ring --provenance --records --depth' -- "$word") ;;
             signed) offered=$(compgen -W '--ring' -- "$word"; compgen -f -- "$word") ;;
-            sign) offered=$(compgen -W '--ring --key --type' -- "$word"; compgen -f -- "$word") ;;
+            sign) offered=$(compgen -W '--ring --key --type --onto' -- "$word"; compgen -f -- "$word") ;;
             pae) offered=$(compgen -W '--type' -- "$word"; compgen -f -- "$word") ;;
             digest) offered=$(compgen -f -- "$word") ;;
+            link) offered=$(compgen -W '--name --materials --products' -- "$word") ;;
+            statement) offered=$(compgen -W '--sums --builder --build-type --parameters' -- "$word") ;;
+            payload) offered=$(compgen -f -- "$word") ;;
         esac
     fi
     mapfile -t COMPREPLY < <(printf '%s' "${offered:+$offered$'\n'}")

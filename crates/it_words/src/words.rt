@@ -1,31 +1,43 @@
 //! The words of the command line.
-ghost use Rattle.std.specs.Prelude.{◌≡◌, [], false, IfOk, IfErr, map, string_bytes};
-ghost use Rattle.clap.specs.Words.{app_of, fault_of, subcommand_of, subcommand_rows_of};
-ghost use Rattle.clap.specs.Words.{with_subcommand};
-ghost use Rattle.clap.specs.declared.builder.command.Command.TheViews.{out-Command};
-ghost use Rattle.it_base.specs.Finds.{Finds};
-ghost use Rattle.it_words.specs.Words.{AreWordsOf, GoesNoDeeper, NamesCommand, program};
+ghost use Rattle.std.specs.Prelude.{◌≡◌, [], IfOk, IfErr, map, string_bytes};
+ghost use Rattle.clap.specs.Words.{fault_of, subcommand_of, subcommand_rows_of};
+ghost use Rattle.it_words.specs.Commands.{program};
+ghost use Rattle.it_words.specs.Words.{AreWordsOf, GoesNoDeeper};
 ghost use Rattle.it_words.specs.declared.words.WordsFault.TheVariants.{OutOfMemory};
 
 mod arguments;
+mod dashes;
 pub mod digest_words;
+pub mod link_words;
 pub mod match_words;
+mod named;
 mod note;
 pub mod pae_words;
+pub mod payload_words;
+mod program;
 pub mod sign_words;
 pub mod signed_words;
+pub mod statement_words;
+#[cfg(test)]
+mod tests;
+mod usage;
+mod usages;
 pub mod verify_words;
 
 pub use self::{
-    digest_words as digesting, match_words as matching, pae_words as encoding,
-    sign_words as signing, signed_words as signed, verify_words as verifying,
+    digest_words as digesting, link_words as linking, match_words as matching,
+    pae_words as encoding, payload_words as unwrapping, sign_words as signing,
+    signed_words as signed, statement_words as stating, verify_words as verifying,
 };
-use clap::{ArgMatches, Command};
+use clap::ArgMatches;
 use digest_words::DigestWords;
+use link_words::LinkWords;
 use match_words::MatchWords;
 use pae_words::PaeWords;
+use payload_words::PayloadWords;
 use sign_words::SignWords;
 use signed_words::SignedWords;
+use statement_words::StatementWords;
 use std::alloc::{AllocError, Global};
 use thiserror::Error;
 use verify_words::VerifyWords;
@@ -39,10 +51,18 @@ pub enum Words {
     Match(MatchWords),
     /// `itv pae BODY --type TYPE`: the pre-authentication encoding of a body.
     Pae(PaeWords),
-    /// `itv sign BODY --ring F --key ID --type TYPE`: the envelope of a body, signed.
+    /// `itv sign BODY --ring F --key ID --type TYPE [--onto ENVELOPE]`: the envelope of a body,
+    /// signed, or an envelope with one signature more.
     Sign(SignWords),
     /// `itv digest FILE..`: the SHA-256 of each file.
     Digest(DigestWords),
+    /// `itv link --name NAME [--materials SUMS] [--products SUMS]`: the body of a step's link.
+    Link(LinkWords),
+    /// `itv statement --sums SUMS --builder ID --build-type TYPE [--parameters F]`: the body of a
+    /// Statement with the provenance of files.
+    Statement(StatementWords),
+    /// `itv payload ENVELOPE`: the payload of an envelope.
+    Payload(PayloadWords),
     /// `itv verify --policy F --layout F --links DIR --sums F --at MOMENT --ring F.. [--provenance
     /// F] [--records DIR] [--depth N]`: whether delivered files were made as the owners laid down.
     Verify(VerifyWords),
@@ -51,7 +71,8 @@ pub enum Words {
 /// Why the words are no command.
 #[derive(Debug, Drop, Error)]
 pub enum WordsFault {
-    /// The words do not parse. The text says why.
+    /// The words do not parse. The text says on its first line why, and then how the words of the
+    /// command are; where none is named, those of every command, with the program's version.
     #[error("{0}")]
     Unread(String),
     /// Memory was refused.
@@ -69,8 +90,8 @@ impl From<AllocError> for WordsFault {
 
 /// The command that the words name, with its values. The first word is the program's name.
 ///
-/// No word asks for help: `--help`, `-h`, `help` and `--version` are words that do not parse. The
-/// depth of a verification is at most 8, and it has 1 to 8 rings.
+/// No command asks for help: `--help`, `-h`, `help` and `--version` do not parse, and the fault's
+/// text shows what does. The depth of a verification is at most 8, and it has 1 to 8 rings.
 ///
 /// # Errors
 ///
@@ -82,7 +103,7 @@ pub fn read_words(alloc: Global, words: &[String]) -> Result<Words, WordsFault>
         → AreWordsOf (map string_bytes words.now) command → fault ≡ WordsFault.OutOfMemory) }
 {
     let matches = parsed(alloc, words)?;
-    match named(alloc, &matches)? {
+    match named::named(alloc, &matches)? {
         Some(command) => Ok(command),
         None => Err(note::too_many_rings(alloc)),
     }
@@ -95,45 +116,8 @@ fn parsed<'w>(alloc: Global, words: &'w [String]) -> Result<ArgMatches<'w>, Word
     ensures err { IfErr result (λ fault. fault_of program (map string_bytes words.entry.now) ≡ []
         → fault ≡ WordsFault.OutOfMemory) }
 {
-    match command(alloc)?.try_get_matches_from(words) {
+    match program::command(alloc)?.try_get_matches_from(words) {
         Ok(matches) => Ok(matches),
-        Err(error) => Err(note::fault_of(alloc, &error)),
-    }
-}
-
-fn command<'a>(alloc: Global) -> Result<Command<'a>, AllocError>
-    ensures { IfOk result (λ command. app_of command ≡ program) }
-{
-    let program = Command::new(alloc, "itv")
-        .disable_help_flag(true)
-        .disable_help_subcommand(true)
-        .subcommand_required(true);
-    let program = with_command(program, signed_words::command(alloc)?)?;
-    let program = with_command(program, match_words::command(alloc)?)?;
-    let program = with_command(program, pae_words::command(alloc)?)?;
-    let program = with_command(program, sign_words::command(alloc)?)?;
-    let program = with_command(program, digest_words::command(alloc)?)?;
-    with_command(program, verify_words::command(alloc)?)
-}
-
-fn with_command<'a>(program: Command<'a>, command: Command<'a>) -> Result<Command<'a>, AllocError>
-    requires { (out-Command command).has_globals ≡ false }
-    ensures { IfOk result (λ both. app_of both
-        ≡ with_subcommand (app_of program.entry) (app_of command.entry).top) }
-{
-    program.subcommand(command)
-}
-
-fn named(alloc: Global, matches: &ArgMatches<'_>) -> Result<Option<Words>, AllocError>
-    ensures { IfOk result (Finds (NamesCommand (subcommand_rows_of matches.now))) }
-{
-    match matches.subcommand() {
-        Some(("signed", values)) => Ok(signed_words::read(alloc, values)?.map(Words::Signed)),
-        Some(("match", values)) => Ok(match_words::read(alloc, values)?.map(Words::Match)),
-        Some(("pae", values)) => Ok(pae_words::read(alloc, values)?.map(Words::Pae)),
-        Some(("sign", values)) => Ok(sign_words::read(alloc, values)?.map(Words::Sign)),
-        Some(("digest", values)) => Ok(digest_words::read(alloc, values)?.map(Words::Digest)),
-        Some(("verify", values)) => Ok(verify_words::read(alloc, values)?.map(Words::Verify)),
-        _ => Ok(None),
+        Err(error) => Err(note::fault_of(alloc, words, &error)),
     }
 }

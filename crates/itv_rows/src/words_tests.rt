@@ -64,6 +64,9 @@ fn shown(alloc: Global, words: &Words) -> Result<String, AllocError> {
             format!(in alloc; "digest {}", files.as_str())
         }
         Words::Verify(words) => shown_verify(alloc, words),
+        Words::Link(_) | Words::Statement(_) | Words::Payload(_) => {
+            String::from_str(alloc, "a command that is tested with its crate")
+        }
     }
 }
 
@@ -142,12 +145,12 @@ fn note(alloc: Global, line: &str) -> Result<Option<String>, Fail> {
 fn names_what_is_wrong_with_words(rt: HostRuntime) -> Result<(), Fail> {
     let alloc = rt.alloc();
     let rows = [
-        ("itv", "subcommand"),
-        ("itv --help", "'--help'"),
-        ("itv -h", "'-h'"),
-        ("itv help", "'help'"),
-        ("itv --version", "'--version'"),
-        ("itv signs a --ring b", "'signs'"),
+        ("itv", "no command is given"),
+        ("itv --help", "help is asked for"),
+        ("itv -h", "help is asked for"),
+        ("itv help", "help is asked for"),
+        ("itv --version", "the version is asked for"),
+        ("itv signs a --ring b", "\"signs\" is no command"),
         ("itv signed --ring b", "<ENVELOPE>"),
         ("itv signed a", "--ring <F>"),
         ("itv signed a --ring", "'--ring <F>'"),
@@ -155,12 +158,12 @@ fn names_what_is_wrong_with_words(rt: HostRuntime) -> Result<(), Fail> {
         ("itv signed a --ring b --ring b", "'--ring <F>'"),
         ("itv signed -a --ring b", "'-a'"),
         ("itv signed a --ring -b", "'-b'"),
-        ("itv signed a --ring b --help", "'--help'"),
+        ("itv signed a --ring b --help", "help is asked for"),
     ];
     for (line, named) in rows {
         let note = note(alloc, line)?.ok_or("words of a command")?;
-        assert!(rt; note.as_str().contains(named), "{line}: {note}");
-        assert!(rt; !note.as_str().contains("\n"), "{note}");
+        let first = note.as_str().split_once("\n").ok_or("no usage")?.0;
+        assert!(rt; first.contains(named), "{line}: {note}");
     }
     let none = read_words(alloc, &[]);
     assert!(rt; matches!(none, Err(WordsFault::Unread(_))));

@@ -3,13 +3,15 @@ ghost use Rattle.std.specs.Prelude.{◌≡◌, All, false, fold, IfOk, map, opti
 ghost use Rattle.clap.specs.Words.{app_of, found_of, new_app, with_rule};
 ghost use Rattle.clap.specs.Walk.{all_of, first_of, rows_of, rule_of};
 ghost use Rattle.clap.specs.declared.builder.command.Command.TheViews.{out-Command};
-ghost use Rattle.it_words.specs.Words.{
+ghost use Rattle.it_base.specs.Finds.{Finds};
+ghost use Rattle.it_words.specs.Arguments.{
   needed_option,
   needed_options,
   needed_word,
   needed_words,
   plain_option,
 };
+ghost use Rattle.it_words.specs.inside.Twos.{AreTwo};
 
 use clap::{Arg, ArgAction, ArgMatches, Command};
 use it_base::sequence::Sequence;
@@ -87,6 +89,34 @@ pub(super) fn values<'v, 'a>(values: &'v ArgMatches<'a>, name: &str) -> Option<&
         ≡ all_of name.now (rows_of (found_of values.now)) }
 {
     values.get_strs(name)
+}
+
+/// The values that were given to two arguments, owned, or `None` where one was not given.
+pub(super) fn two_texts(
+    alloc: Global,
+    values: &ArgMatches<'_>,
+    first: &str,
+    second: &str,
+) -> Result<Option<(Text, Text)>, AllocError>
+    ensures { IfOk result (Finds (AreTwo first.now second.now (rows_of (found_of values.now)))) }
+{
+    let Some(left) = value(values, first) else {
+        return Ok(None);
+    };
+    let Some(right) = value(values, second) else {
+        return Ok(None);
+    };
+    Ok(Some((Text::copy(alloc, left)?, Text::copy(alloc, right)?)))
+}
+
+/// The word, owned, where it was given.
+pub(super) fn text_if_given(alloc: Global, word: Option<&str>) -> Result<Option<Text>, AllocError>
+    ensures { IfOk result (λ text. text ≡ option_map (λ given. given.now) word.entry) }
+{
+    match word {
+        Some(word) => Ok(Some(Text::copy(alloc, word)?)),
+        None => Ok(None),
+    }
 }
 
 /// The words, owned and in their order.

@@ -4,7 +4,8 @@ ghost use Rattle.clap.specs.Words.{app_of, found_of};
 ghost use Rattle.clap.specs.Walk.{rows_of};
 ghost use Rattle.clap.specs.declared.builder.command.Command.TheViews.{out-Command};
 ghost use Rattle.it_base.specs.Finds.{Finds};
-ghost use Rattle.it_words.specs.Words.{IsDigest, digest_command};
+ghost use Rattle.it_words.specs.Commands.{digest_command};
+ghost use Rattle.it_words.specs.Values.{IsDigest};
 
 use super::arguments::{needed_words, texts, values as values_of};
 use clap::{ArgMatches, Command};

@@ -4,7 +4,8 @@ ghost use Rattle.clap.specs.Words.{app_of, found_of};
 ghost use Rattle.clap.specs.Walk.{rows_of};
 ghost use Rattle.clap.specs.declared.builder.command.Command.TheViews.{out-Command};
 ghost use Rattle.it_base.specs.Finds.{Finds};
-ghost use Rattle.it_words.specs.Words.{IsMatch, match_command};
+ghost use Rattle.it_words.specs.Commands.{match_command};
+ghost use Rattle.it_words.specs.Values.{IsMatch};
 
 use super::arguments::{command_of, needed_word, value};
 use clap::{ArgMatches, Command};

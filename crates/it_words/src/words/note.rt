@@ -3,29 +3,82 @@ ghost use Rattle.std.specs.Prelude.{◌≡◌};
 ghost use Rattle.clap.specs.Words.{kind_of};
 
 use super::WordsFault;
+use super::dashes::{asks_help, has_dashed_value};
+use super::usage::{Usage, of_all, of_one, usage_of};
+use super::usages::VERIFY;
 use clap::Error;
 use clap::error::ErrorKind;
 use std::alloc::{AllocError, Global};
 
+/// What is said where a value begins with a dash.
+const HINT: &str =
+    "\n\nA value that begins with - stands after =, as in --option=-value. After --\n\
+    words are taken as they are.";
+
 /// The fault of words that the parser refused.
-pub(super) fn fault_of(alloc: Global, error: &Error) -> WordsFault
+pub(super) fn fault_of(alloc: Global, words: &[String], error: &Error) -> WordsFault
     ensures { kind_of error.now ≡ ErrorKind.OutOfMemory → result ≡ WordsFault.OutOfMemory }
 {
     if error.kind() == ErrorKind::OutOfMemory {
         return WordsFault::OutOfMemory;
     }
-    match sentence(alloc, error) {
+    unread(note(alloc, words, error))
+}
+
+/// The fault of words with more than 8 rings.
+pub(super) fn too_many_rings(alloc: Global) -> WordsFault {
+    let wrong = "the option '--ring <F>' is given more than 8 times";
+    unread(of_one(alloc, wrong, &VERIFY))
+}
+
+fn unread(note: Result<String, AllocError>) -> WordsFault {
+    match note {
         Ok(note) => WordsFault::Unread(note),
         Err(AllocError) => WordsFault::OutOfMemory,
     }
 }
 
-/// The fault of words with more than 8 rings.
-pub(super) fn too_many_rings(alloc: Global) -> WordsFault {
-    match String::from_str(alloc, "the option '--ring <F>' is given more than 8 times") {
-        Ok(note) => WordsFault::Unread(note),
-        Err(AllocError) => WordsFault::OutOfMemory,
+/// What was wrong and, where there is a command, its usage, else those of all.
+fn note(alloc: Global, words: &[String], error: &Error) -> Result<String, AllocError> {
+    match words {
+        [_, command, values @ ..] => match usage_of(command.as_str()) {
+            Some(usage) => note_on_values(alloc, usage, values, error),
+            None => note_on_command(alloc, command.as_str()),
+        },
+        _ => of_all(alloc, "no command is given"),
     }
+}
+
+/// What is said of a first word that names no command.
+fn note_on_command(alloc: Global, word: &str) -> Result<String, AllocError> {
+    match word {
+        "--help" | "-h" | "help" => of_all(alloc, "help is asked for, and no command is run"),
+        "--version" => of_all(alloc, "the version is asked for, and no command is run"),
+        _ => {
+            let wrong = format!(in alloc; "{word:?} is no command")?;
+            of_all(alloc, wrong.as_str())
+        }
+    }
+}
+
+/// What is said of words that a command does not take.
+fn note_on_values(
+    alloc: Global,
+    usage: &Usage,
+    values: &[String],
+    error: &Error,
+) -> Result<String, AllocError> {
+    if asks_help(values) {
+        let name = usage.name;
+        let wrong = format!(in alloc; "help is asked for, and {name} is not run")?;
+        return of_one(alloc, wrong.as_str(), usage);
+    }
+    let wrong = sentence(alloc, error)?;
+    let mut note = of_one(alloc, wrong.as_str(), usage)?;
+    if has_dashed_value(values, usage.line) {
+        note.push_str(HINT)?;
+    }
+    Ok(note)
 }
 
 /// The parser's own sentence, on one line.

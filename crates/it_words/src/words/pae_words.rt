@@ -4,7 +4,8 @@ ghost use Rattle.clap.specs.Words.{app_of, found_of};
 ghost use Rattle.clap.specs.Walk.{rows_of};
 ghost use Rattle.clap.specs.declared.builder.command.Command.TheViews.{out-Command};
 ghost use Rattle.it_base.specs.Finds.{Finds};
-ghost use Rattle.it_words.specs.Words.{IsPae, pae_command};
+ghost use Rattle.it_words.specs.Commands.{pae_command};
+ghost use Rattle.it_words.specs.Values.{IsPae};
 
 use super::arguments::{command_of, needed_option, needed_word, value};
 use clap::{ArgMatches, Command};

@@ -4,9 +4,12 @@ ghost use Rattle.clap.specs.Words.{app_of, found_of};
 ghost use Rattle.clap.specs.Walk.{rows_of};
 ghost use Rattle.clap.specs.declared.builder.command.Command.TheViews.{out-Command};
 ghost use Rattle.it_base.specs.Finds.{Finds};
-ghost use Rattle.it_words.specs.Words.{IsSign, sign_command};
+ghost use Rattle.it_words.specs.Commands.{sign_command};
+ghost use Rattle.it_words.specs.Values.{IsSign};
 
-use super::arguments::{command_of, needed_option, needed_word, value};
+use super::arguments::{
+    command_of, needed_option, needed_word, plain_option, text_if_given, two_texts, value,
+};
 use clap::{ArgMatches, Command};
 use it_base::text::Text;
 use std::alloc::{AllocError, Global};
@@ -22,6 +25,8 @@ pub struct SignWords {
     pub key: Text,
     /// The type of the body.
     pub kind: Text,
+    /// The path of the envelope's file that the signature is added to, where there is one.
+    pub onto: Option<Text>,
 }
 
 /// The command, as the parser takes it.
@@ -34,6 +39,7 @@ pub(super) fn command<'a>(alloc: Global) -> Result<Command<'a>, AllocError>
         needed_option(alloc, "ring", "F"),
         needed_option(alloc, "key", "ID"),
         needed_option(alloc, "type", "TYPE"),
+        plain_option(alloc, "onto", "ENVELOPE"),
     ]?;
     command_of(alloc, "sign", arguments)
 }
@@ -42,22 +48,17 @@ pub(super) fn command<'a>(alloc: Global) -> Result<Command<'a>, AllocError>
 pub(super) fn read(alloc: Global, values: &ArgMatches<'_>) -> Result<Option<SignWords>, AllocError>
     ensures { IfOk result (Finds (IsSign (rows_of (found_of values.now)))) }
 {
-    let Some(body) = value(values, "body") else {
+    let Some((body, ring)) = two_texts(alloc, values, "body", "ring")? else {
         return Ok(None);
     };
-    let Some(ring) = value(values, "ring") else {
-        return Ok(None);
-    };
-    let Some(key) = value(values, "key") else {
-        return Ok(None);
-    };
-    let Some(kind) = value(values, "type") else {
+    let Some((key, kind)) = two_texts(alloc, values, "key", "type")? else {
         return Ok(None);
     };
     Ok(Some(SignWords {
-        body: Text::copy(alloc, body)?,
-        ring: Text::copy(alloc, ring)?,
-        key: Text::copy(alloc, key)?,
-        kind: Text::copy(alloc, kind)?,
+        body,
+        ring,
+        key,
+        kind,
+        onto: text_if_given(alloc, value(values, "onto"))?,
     }))
 }

@@ -4,16 +4,14 @@ ghost use Rattle.clap.specs.Words.{all_of, app_of, found_of, one_of};
 ghost use Rattle.clap.specs.Walk.{rows_of, rule_of};
 ghost use Rattle.clap.specs.declared.builder.command.Command.TheViews.{out-Command};
 ghost use Rattle.it_base.specs.Finds.{Finds, FindsAs};
-ghost use Rattle.it_words.specs.Words.{
-  AreRings,
-  IsDepth,
-  IsVerify,
-  depth_option,
-  verify_command,
-};
+ghost use Rattle.it_words.specs.Arguments.{depth_option};
+ghost use Rattle.it_words.specs.Commands.{verify_command};
+ghost use Rattle.it_words.specs.Values.{AreRings, IsDepth, IsVerify};
+ghost use Rattle.it_words.specs.inside.VerifyParts.{AreInputs, AreSettings};
 
 use super::arguments::{
-    command_of, needed_option, needed_options, plain_option, texts, value, values as values_of,
+    command_of, needed_option, needed_options, plain_option, text_if_given, texts, two_texts,
+    value, values as values_of,
 };
 use clap::{Arg, ArgMatches, Command, value_parser};
 use it_base::sequence::Sequence;
@@ -44,6 +42,25 @@ pub struct VerifyWords {
     pub records: Option<Text>,
     /// How deep sublayouts may lie, at most 8.
     pub depth: u8,
+}
+
+/// The values that are given once.
+#[derive(Drop)]
+struct Inputs {
+    policy: Text,
+    layout: Text,
+    links: Text,
+    sums: Text,
+    at: Text,
+}
+
+/// The values that are given any number of times up to 8, or have a default, or may be left out.
+#[derive(Drop)]
+struct Settings {
+    rings: Sequence<Text>,
+    provenance: Option<Text>,
+    records: Option<Text>,
+    depth: u8,
 }
 
 /// The command, as the parser takes it.
@@ -82,47 +99,63 @@ pub(super) fn read(
 ) -> Result<Option<VerifyWords>, AllocError>
     ensures { IfOk result (Finds (IsVerify (rows_of (found_of values.now)))) }
 {
-    let Some(policy) = value(values, "policy") else {
+    let Some(inputs) = inputs_of(alloc, values)? else {
         return Ok(None);
     };
-    let Some(layout) = value(values, "layout") else {
+    let Some(settings) = settings_of(alloc, values)? else {
         return Ok(None);
     };
-    let Some(links) = value(values, "links") else {
+    Ok(Some(VerifyWords {
+        policy: inputs.policy,
+        layout: inputs.layout,
+        links: inputs.links,
+        sums: inputs.sums,
+        at: inputs.at,
+        rings: settings.rings,
+        provenance: settings.provenance,
+        records: settings.records,
+        depth: settings.depth,
+    }))
+}
+
+/// The values that are given once, or `None` where one is missing.
+fn inputs_of(alloc: Global, values: &ArgMatches<'_>) -> Result<Option<Inputs>, AllocError>
+    ensures { IfOk result (Finds (AreInputs (rows_of (found_of values.now)))) }
+{
+    let Some((policy, layout)) = two_texts(alloc, values, "policy", "layout")? else {
         return Ok(None);
     };
-    let Some(sums) = value(values, "sums") else {
+    let Some((links, sums)) = two_texts(alloc, values, "links", "sums")? else {
         return Ok(None);
     };
     let Some(at) = value(values, "at") else {
         return Ok(None);
     };
+    Ok(Some(Inputs {
+        policy,
+        layout,
+        links,
+        sums,
+        at: Text::copy(alloc, at)?,
+    }))
+}
+
+/// The other values, or `None` where there is no ring, or more than 8, or no depth.
+fn settings_of(alloc: Global, values: &ArgMatches<'_>) -> Result<Option<Settings>, AllocError>
+    ensures { IfOk result (Finds (AreSettings (rows_of (found_of values.now)))) }
+{
     let Some(rings) = rings(values) else {
         return Ok(None);
     };
     let Some(depth) = depth(values) else {
         return Ok(None);
     };
-    Ok(Some(VerifyWords {
-        policy: Text::copy(alloc, policy)?,
-        layout: Text::copy(alloc, layout)?,
-        links: Text::copy(alloc, links)?,
-        sums: Text::copy(alloc, sums)?,
-        at: Text::copy(alloc, at)?,
+    Ok(Some(Settings {
         rings: texts(alloc, rings)?,
         provenance: text_if_given(alloc, value(values, "provenance"))?,
         records: text_if_given(alloc, value(values, "records"))?,
         depth,
     }))
-}
-
-fn text_if_given(alloc: Global, word: Option<&str>) -> Result<Option<Text>, AllocError>
-    ensures { IfOk result (λ text. text ≡ option_map (λ given. given.now) word.entry) }
-{
-    match word {
-        Some(word) => Ok(Some(Text::copy(alloc, word)?)),
-        None => Ok(None),
-    }
 }
 
 /// The rings in the order of the words, or `None` where there are none or more than 8.

@@ -3,7 +3,7 @@ use Rattle.std.proofs.Common.{arith}
 use Rattle.std.specs.Str.Parse.{ExplainsUnsignedError, HasUnsignedDigitsIfOk, ParsesUnsigned}
 use Rattle.clap.specs.Words.{ReadsOne, Text, found_of}
 use Rattle.clap.proofs.WalkLemmas.{one_text-rows}
-use Rattle.it_words.specs.Words.{IsDepth}
+use Rattle.it_words.specs.Values.{IsDepth}
 use Rattle.it_words.proofs.words.verify_words.depth.Goals as goal
 
 -- the text was read as a byte is

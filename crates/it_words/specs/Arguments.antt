@@ -1,0 +1,32 @@
+-- The kinds of arguments that commands take, in the parser's own terms (this profile's choice).
+use Rattle.std.specs.Prelude.{[], ◌∷◌, true, Some, codes, pos}
+use Rattle.clap.specs.declared.builder.action.ArgAction.TheVariants.{Append}
+use Rattle.clap.specs.declared.builder.value_parser.ValueParser.TheVariants as parser
+use Rattle.clap.specs.Words.{Rule, Text, new_rule}
+
+-- a word that has to be given, in its place
+abbrev pub needed_word : Text → Rule
+needed_word name = record (new_rule name) { value_names = 1; required = true }
+
+-- words of which at least one has to be given, in their place
+abbrev pub needed_words : Text → Rule
+needed_words name = record (needed_word name) { action = Some Append }
+
+-- an option that may be left out, with one value
+abbrev pub plain_option : Text → Rule
+plain_option name = record (new_rule name) { long = Some name; value_names = 1 }
+
+-- an option that has to be given, with one value
+abbrev pub needed_option : Text → Rule
+needed_option name = record (plain_option name) { required = true }
+
+-- an option that has to be given at least once, with one value each time
+abbrev pub needed_options : Text → Rule
+needed_options name = record (needed_option name) { action = Some Append }
+
+-- how deep sublayouts may lie: from 0 to 8, and 4 where it is not said
+abbrev pub depth_option : Rule
+depth_option = record (plain_option (codes "depth")) {
+  defaults = codes "4" ∷ [];
+  parser = Some (parser.Signed (pos 0) (pos 8));
+}

@@ -1,0 +1,95 @@
+-- The commands and the program, in the parser's own terms (this profile's choice).
+use Rattle.std.specs.Prelude.{true, codes}
+use Rattle.clap.specs.Words.{App, new_app, with_rule, with_subcommand}
+use Rattle.it_words.specs.Arguments.{
+  depth_option,
+  needed_option,
+  needed_options,
+  needed_word,
+  needed_words,
+  plain_option,
+}
+
+-- signed ENVELOPE --ring F
+abbrev pub signed_command : App
+signed_command =
+    with_rule (with_rule (new_app (codes "signed")) (needed_word (codes "envelope")))
+    (needed_option (codes "ring"))
+
+-- match PATTERN PATH
+abbrev pub match_command : App
+match_command =
+    with_rule (with_rule (new_app (codes "match")) (needed_word (codes "pattern")))
+    (needed_word (codes "path"))
+
+-- pae BODY --type TYPE
+abbrev pub pae_command : App
+pae_command =
+    with_rule (with_rule (new_app (codes "pae")) (needed_word (codes "body")))
+    (needed_option (codes "type"))
+
+-- sign BODY --ring F --key ID --type TYPE, and what may be left out: --onto ENVELOPE
+abbrev pub sign_command : App
+sign_command =
+    with_rule (with_rule (with_rule (with_rule (with_rule (new_app (codes "sign"))
+    (needed_word (codes "body"))) (needed_option (codes "ring")))
+    (needed_option (codes "key"))) (needed_option (codes "type"))) (plain_option (codes "onto"))
+
+-- digest FILE..
+abbrev pub digest_command : App
+digest_command = with_rule (new_app (codes "digest")) (needed_words (codes "file"))
+
+-- link --name NAME, and what may be left out: --materials SUMS --products SUMS
+abbrev pub link_command : App
+link_command =
+    with_rule (with_rule (with_rule (new_app (codes "link"))
+    (needed_option (codes "name"))) (plain_option (codes "materials")))
+    (plain_option (codes "products"))
+
+-- statement --sums SUMS --builder ID --build-type TYPE, and what may be left out: --parameters F
+abbrev pub statement_command : App
+statement_command =
+    with_rule (with_rule (with_rule (with_rule (new_app (codes "statement"))
+    (needed_option (codes "sums"))) (needed_option (codes "builder")))
+    (needed_option (codes "build-type"))) (plain_option (codes "parameters"))
+
+-- payload ENVELOPE
+abbrev pub payload_command : App
+payload_command = with_rule (new_app (codes "payload")) (needed_word (codes "envelope"))
+
+-- verify --policy F --layout F --links DIR --sums F --at MOMENT --ring F.., and what may be left
+-- out: --provenance F --records DIR --depth N
+abbrev pub needed_of_verify : App
+needed_of_verify =
+    with_rule (with_rule (with_rule (with_rule (with_rule (with_rule (new_app (codes "verify"))
+    (needed_option (codes "policy"))) (needed_option (codes "layout")))
+    (needed_option (codes "links"))) (needed_option (codes "sums")))
+    (needed_option (codes "at"))) (needed_options (codes "ring"))
+
+abbrev pub verify_command : App
+verify_command =
+    with_rule (with_rule (with_rule needed_of_verify (plain_option (codes "provenance")))
+    (plain_option (codes "records"))) depth_option
+
+-- the program: a command has to be named, and no word asks for help
+abbrev pub without_command : App
+without_command = record (new_app (codes "itv")) {
+  top = record (new_app (codes "itv")).top {
+    disable_help_flag = true;
+    disable_help_subcommand = true;
+    subcommand_required = true;
+  };
+}
+
+-- the program with the commands that read one file or two words
+unfoldable pub reading_program : App
+reading_program =
+    with_subcommand (with_subcommand (with_subcommand (with_subcommand without_command
+    signed_command.top) match_command.top) pae_command.top) payload_command.top
+
+-- the program with all of its commands
+unfoldable pub program : App
+program =
+    with_subcommand (with_subcommand (with_subcommand (with_subcommand (with_subcommand
+    reading_program sign_command.top) digest_command.top) link_command.top) statement_command.top)
+    verify_command.top

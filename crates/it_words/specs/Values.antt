@@ -1,0 +1,95 @@
+-- The values of each command, as the parser found them (this profile's choice).
+use Rattle.std.specs.Prelude.{
+  ◌≡◌,
+  ◌≤◌,
+  ℕ,
+  List,
+  length,
+  Option,
+  Some,
+  MatchOption,
+  codes,
+}
+use Rattle.std.specs.Str.Parse.{IsNumeral, digits_value, without_leading_plus}
+use Rattle.clap.specs.Walk.{all_of}
+use Rattle.clap.specs.Words.{Row, Text, first_of, one_of}
+use Rattle.it_words.specs.declared.words.digest_words.DigestWords.{DigestWords}
+use Rattle.it_words.specs.declared.words.link_words.LinkWords.{LinkWords}
+use Rattle.it_words.specs.declared.words.match_words.MatchWords.{MatchWords}
+use Rattle.it_words.specs.declared.words.pae_words.PaeWords.{PaeWords}
+use Rattle.it_words.specs.declared.words.payload_words.PayloadWords.{PayloadWords}
+use Rattle.it_words.specs.declared.words.sign_words.SignWords.{SignWords}
+use Rattle.it_words.specs.declared.words.signed_words.SignedWords.{SignedWords}
+use Rattle.it_words.specs.declared.words.statement_words.StatementWords.{StatementWords}
+use Rattle.it_words.specs.declared.words.verify_words.VerifyWords.{VerifyWords}
+
+-- the values of the command signed
+pub record IsSigned (values : List Row) (words : SignedWords) : Type 0 where
+  pub envelope : first_of (codes "envelope") values ≡ Some words.envelope
+  pub ring : first_of (codes "ring") values ≡ Some words.ring
+
+-- the values of the command match
+pub record IsMatch (values : List Row) (words : MatchWords) : Type 0 where
+  pub pattern : first_of (codes "pattern") values ≡ Some words.pattern
+  pub path : first_of (codes "path") values ≡ Some words.path
+
+-- the values of the command pae
+pub record IsPae (values : List Row) (words : PaeWords) : Type 0 where
+  pub body : first_of (codes "body") values ≡ Some words.body
+  pub kind : first_of (codes "type") values ≡ Some words.kind
+
+-- the values of the command sign
+pub record IsSign (values : List Row) (words : SignWords) : Type 0 where
+  pub body : first_of (codes "body") values ≡ Some words.body
+  pub ring : first_of (codes "ring") values ≡ Some words.ring
+  pub key : first_of (codes "key") values ≡ Some words.key
+  pub kind : first_of (codes "type") values ≡ Some words.kind
+  pub onto : first_of (codes "onto") values ≡ words.onto
+
+-- the values of the command digest
+pub record IsDigest (values : List Row) (words : DigestWords) : Type 0 where
+  pub files : all_of (codes "file") values ≡ Some words.files
+
+-- the values of the command link
+pub record IsLink (values : List Row) (words : LinkWords) : Type 0 where
+  pub name : first_of (codes "name") values ≡ Some words.name
+  pub materials : first_of (codes "materials") values ≡ words.materials
+  pub products : first_of (codes "products") values ≡ words.products
+
+-- the values of the command statement
+pub record IsStatement (values : List Row) (words : StatementWords) : Type 0 where
+  pub sums : first_of (codes "sums") values ≡ Some words.sums
+  pub builder : first_of (codes "builder") values ≡ Some words.builder
+  pub build_type : first_of (codes "build-type") values ≡ Some words.build_type
+  pub parameters : first_of (codes "parameters") values ≡ words.parameters
+
+-- the values of the command payload
+pub record IsPayload (values : List Row) (words : PayloadWords) : Type 0 where
+  pub envelope : first_of (codes "envelope") values ≡ Some words.envelope
+
+-- the text writes this number in decimal, as a plus may stand first, and it is at most 8
+pub record WritesDepth (text : Text) (depth : ℕ) : Type 0 where
+  pub digits : IsNumeral 10 (without_leading_plus text)
+  pub number : depth ≡ digits_value 10 (without_leading_plus text)
+  pub most : depth ≤ 8
+
+-- the text is there, and writes this depth
+abbrev pub IsDepth : Option Text → ℕ → Type 0
+IsDepth given depth = MatchOption given ⊥ (λ text. WritesDepth text depth)
+
+-- these are the rings of the words, in their order, and there are 8 at most
+pub record AreRings (given : Option (List Text)) (rings : List Text) : Type 0 where
+  pub same : given ≡ Some rings
+  pub few : length rings ≤ 8
+
+-- the values of the command verify
+pub record IsVerify (values : List Row) (words : VerifyWords) : Type 0 where
+  pub policy : first_of (codes "policy") values ≡ Some words.policy
+  pub layout : first_of (codes "layout") values ≡ Some words.layout
+  pub links : first_of (codes "links") values ≡ Some words.links
+  pub sums : first_of (codes "sums") values ≡ Some words.sums
+  pub at : first_of (codes "at") values ≡ Some words.at
+  pub rings : AreRings (all_of (codes "ring") values) words.rings
+  pub provenance : first_of (codes "provenance") values ≡ words.provenance
+  pub records : first_of (codes "records") values ≡ words.records
+  pub depth : IsDepth (one_of (codes "depth") values) words.depth

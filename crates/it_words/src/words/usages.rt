@@ -1,0 +1,119 @@
+//! The usages of the commands. Made by checks/manual.py from docs/commands.json.
+use super::usage::Usage;
+
+/// The program with its version.
+pub(super) const VERSION: &str = "itv 1.0.0";
+
+/// What the program does.
+pub(super) const SUMMARY: &str =
+    "decides whether delivered files were made as their owners laid down";
+
+/// The usages, in the order in which they are shown.
+pub(super) static USAGES: [Usage; 9] = [
+    VERIFY, SIGNED, SIGN, PAE, DIGEST, LINK, STATEMENT, PAYLOAD, MATCH,
+];
+
+/// The usage of `itv verify`.
+pub(super) const VERIFY: Usage = Usage {
+    name: "verify",
+    line: "itv verify --policy F --layout F --links DIR --sums F --at MOMENT
+    --ring F.. [--provenance F] [--records DIR] [--depth N]",
+    text: "    Writes the report of the verification: the line accepted with each step and
+    each file, or the line refused with the first thing that does not hold.
+      --policy F      The policy: the owners of the layout, what may be
+                      delivered, and which provenance each file must have.
+      --layout F      The envelope of the layout.
+      --links DIR     The folder of the signed links, and of the folders of
+                      sublayouts.
+      --sums F        The digest list of the delivered files, as itv digest or
+                      sha256sum writes it.
+      --at MOMENT     The moment at which no layout may have expired, as
+                      2029-12-31T00:00:00Z.
+      --ring F        A ring of secrets. Given one to eight times; the first
+                      ring that has an id decides what its key is.
+      --provenance F  The provenance, one envelope a line.
+      --records DIR   The folder of the records of inspections, link bodies
+                      without envelopes.
+      --depth N       How deep sublayouts may lie, from 0 to 8; 4 where it is
+                      not given.",
+};
+
+/// The usage of `itv signed`.
+pub(super) const SIGNED: Usage = Usage {
+    name: "signed",
+    line: "itv signed ENVELOPE --ring F",
+    text: "    Writes the ids of the ring that signed the envelope, one a line, in byte
+    order.
+      --ring F  The ring of secrets.",
+};
+
+/// The usage of `itv sign`.
+pub(super) const SIGN: Usage = Usage {
+    name: "sign",
+    line: "itv sign BODY --ring F --key ID --type TYPE [--onto ENVELOPE]",
+    text: "    Writes the envelope of the body, signed under the id's secret, and a line
+    feed.
+      --ring F         The ring of secrets.
+      --key ID         The id whose secret signs.
+      --type TYPE      The payload type; that of layouts, links and Statements
+                       is application/vnd.in-toto+json.
+      --onto ENVELOPE  An envelope of the same body and type, to which the
+                       signature is added.",
+};
+
+/// The usage of `itv pae`.
+pub(super) const PAE: Usage = Usage {
+    name: "pae",
+    line: "itv pae BODY --type TYPE",
+    text: "    Writes what is signed for the body, its pre-authentication encoding, with
+    no line feed.
+      --type TYPE  The payload type.",
+};
+
+/// The usage of `itv digest`.
+pub(super) const DIGEST: Usage = Usage {
+    name: "digest",
+    line: "itv digest FILE..",
+    text: "    Writes a digest list: for each file the SHA-256 in hexadecimal, two spaces,
+    the name, a line feed. Where a file cannot be read the lines before it
+    stand, and the list is not whole.",
+};
+
+/// The usage of `itv link`.
+pub(super) const LINK: Usage = Usage {
+    name: "link",
+    line: "itv link --name NAME [--materials SUMS] [--products SUMS]",
+    text: "    Writes the body of the step's link, which itv sign signs. A digest list
+    that is not given is empty.
+      --name NAME       The name of the step.
+      --materials SUMS  The digest list of the files that the step took in.
+      --products SUMS   The digest list of the files that the step made.",
+};
+
+/// The usage of `itv statement`.
+pub(super) const STATEMENT: Usage = Usage {
+    name: "statement",
+    line: "itv statement --sums SUMS --builder ID --build-type TYPE [--parameters F]",
+    text: "    Writes the body of a Statement with the provenance of the files, which itv
+    sign signs.
+      --sums SUMS        The digest list of the files that the Statement is
+                         about.
+      --builder ID       The id of the builder.
+      --build-type TYPE  The type of the build.
+      --parameters F     The external parameters, a JSON object.",
+};
+
+/// The usage of `itv payload`.
+pub(super) const PAYLOAD: Usage = Usage {
+    name: "payload",
+    line: "itv payload ENVELOPE",
+    text: "    Writes the payload of the envelope. It looks at no signature.",
+};
+
+/// The usage of `itv match`.
+pub(super) const MATCH: Usage = Usage {
+    name: "match",
+    line: "itv match PATTERN PATH",
+    text: "    Writes whether the pattern of an artifact rule matches the whole path: yes
+    or no, and a line feed.",
+};

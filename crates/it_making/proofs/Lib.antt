@@ -1,0 +1,10 @@
+pub mod DigestsWritten
+pub mod LineFeeds
+pub mod LinkFaults
+pub mod LinkWritten
+pub mod Nestings
+pub mod ParametersGiven
+pub mod StatementFaults
+pub mod StatementWritten
+pub mod TablesWritten
+pub mod WordFeeds

@@ -1,0 +1,4 @@
+pub mod ArtifactDocuments
+pub mod LinkOutput
+pub mod StatementOutput
+pub mod inside

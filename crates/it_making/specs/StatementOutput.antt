@@ -1,0 +1,106 @@
+-- What `itv statement` writes: a Statement (in-toto Attestation, Statement v1) that carries
+-- provenance (SLSA Provenance v1).
+use Rattle.std.specs.Prelude.{◌≡◌, ℕ, ◌≤◌, List, ◌++◌, map, codes, false, Option, Some, None}
+use Rattle.std.specs.FinMap.{entries, values}
+use Rattle.serde_json.specs.Data.{Data, array, depth, member, no_members, object, string}
+use Rattle.serde_json.specs.View.{items_of}
+use Rattle.serde_json.specs.Written.{compact_text, has_float}
+use Rattle.it_base.specs.Document.{IsDocument}
+use Rattle.it_base.specs.Json.{Fields, no_fields}
+use Rattle.it_base.specs.TreeOf.{IsMembers}
+use Rattle.it_digest.specs.Artifacts.{ArtifactMap}
+use Rattle.it_digest.specs.Sums.{IsFirstBadLine, SumsOf}
+use Rattle.it_digest.specs.declared.compare.DigestSet.{DigestSet}
+use Rattle.it_docs.specs.Statement.{StatementOf}
+use Rattle.it_docs.specs.declared.statement.Statement.{Statement}
+use Rattle.it_words.specs.declared.outcome.RunFault.{RunFault}
+use Rattle.it_words.specs.declared.outcome.RunFault.TheVariants.{
+  Write,
+  OutOfMemory,
+  BadSubjects,
+  BadParameters,
+}
+use Rattle.it_making.specs.ArtifactDocuments.{digest_set_document}
+
+-- a subject as a JSON object: a file's path as name, and its digest set
+abbrev pub subject_document : List ℕ × DigestSet → Data
+subject_document e = object
+    (member (codes "digest") (digest_set_document e.1)
+    (member (codes "name") (string e.0)
+    no_members))
+
+-- the subjects as a JSON list, in the order of the paths' bytes (this profile's choice)
+abbrev pub subjects_document : ArtifactMap → Data
+subjects_document subjects = array (items_of (map subject_document (entries subjects)))
+
+-- the provenance as a JSON object; the parameters stand in it as they are
+abbrev pub provenance_document : (build_type builder : List ℕ) → (parameters : Data) → Data
+provenance_document build_type builder parameters = object
+    (member (codes "buildDefinition") (object
+    (member (codes "buildType") (string build_type)
+    (member (codes "externalParameters") parameters
+    no_members)))
+    (member (codes "runDetails") (object
+    (member (codes "builder") (object
+    (member (codes "id") (string builder)
+    no_members))
+    no_members))
+    no_members))
+
+-- the Statement as a JSON object, its members in the order of their bytes (this profile's choice)
+abbrev pub statement_document : ArtifactMap → (predicate : Data) → Data
+statement_document subjects predicate = object
+    (member (codes "_type") (string (codes "https://in-toto.io/Statement/v1"))
+    (member (codes "predicate") predicate
+    (member (codes "predicateType") (string (codes "https://slsa.dev/provenance/v1"))
+    (member (codes "subject") (subjects_document subjects)
+    no_members))))
+
+-- what is read of the Statement
+abbrev pub statement_of : ArtifactMap → (build_type builder : List ℕ) → Fields → Statement
+statement_of subjects build_type builder parameters = record {
+  subjects = values subjects;
+  predicate_type = codes "https://slsa.dev/provenance/v1";
+  provenance = Some (record {
+    build_type = build_type;
+    builder = builder;
+    parameters = parameters;
+  });
+}
+
+-- the external parameters: those of a JSON object, and none where nothing is given. The object
+-- nests at most 124 levels deep (this profile's choice), since the Statement takes three of the 127
+-- that a document may nest
+abbrev pub AreParameters : Option (List ℕ) → Data → Fields → Type 0
+AreParameters None d parameters = (d ≡ object no_members) × (parameters ≡ no_fields)
+AreParameters (Some bytes) d parameters =
+    IsDocument bytes d × IsMembers d parameters × (depth d ≤ 124)
+
+-- the text is a JSON text of the Statement of this digest list, builder, build type and parameters,
+-- and a line feed, and reads back as that Statement and no other; where no parameter is a number
+-- with a fraction or an exponent, or past 64 bits, it is the text with no space
+pub record IsStatementOutput (sums build_type builder : List ℕ) (given : Option (List ℕ))
+    (text : List ℕ) : Type 0 where
+  pub subjects : ArtifactMap
+  pub document : Data
+  pub parameters : Fields
+  pub subjects_are : SumsOf sums subjects
+  pub parameters_are : AreParameters given document parameters
+  pub reads : IsDocument text
+      (statement_document subjects (provenance_document build_type builder document))
+  pub text_is : has_float document ≡ false → text ≡ compact_text
+      (statement_document subjects (provenance_document build_type builder document)) ++ codes "\n"
+  pub reads_back : StatementOf text (statement_of subjects build_type builder parameters)
+  pub only : (other : Statement) → StatementOf text other
+      → other ≡ statement_of subjects build_type builder parameters
+
+-- why the command stops: a bad line of the subjects, else parameters that are none, or what every
+-- command may stop for
+abbrev pub IsStatementFault : (sums : List ℕ) → Option (List ℕ) → RunFault → Type 0
+IsStatementFault sums given Write = Unit {0}
+IsStatementFault sums given OutOfMemory = Unit {0}
+IsStatementFault sums given (BadSubjects line) = IsFirstBadLine sums line
+IsStatementFault sums given BadParameters =
+    ((subjects : ArtifactMap) × SumsOf sums subjects)
+    × ((d : Data) (parameters : Fields) → ¬ AreParameters given d parameters)
+IsStatementFault sums given other = ⊥

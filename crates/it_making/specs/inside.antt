@@ -1,0 +1,3 @@
+pub mod DigestMembers
+pub mod LinkParts
+pub mod StatementParts

@@ -1,0 +1,42 @@
+-- The parts of a Statement that is made.
+use Rattle.std.specs.Prelude.{◌≡◌, ℕ, ◌≤◌, List, ◌++◌, codes, false, Option, IsTrue, is_some}
+use Rattle.serde_json.specs.Data.{Data, depth}
+use Rattle.serde_json.specs.Find.{as_object}
+use Rattle.serde_json.specs.Read.{max_depth}
+use Rattle.serde_json.specs.Written.{compact_text, has_float}
+use Rattle.it_base.specs.Document.{IsDocument}
+use Rattle.it_base.specs.Json.{Fields}
+use Rattle.it_digest.specs.Sums.{IsFirstBadLine}
+use Rattle.it_words.specs.declared.outcome.RunFault.{RunFault}
+use Rattle.it_words.specs.declared.outcome.RunFault.TheVariants.{
+  OutOfMemory,
+  BadSubjects,
+  BadParameters,
+}
+use Rattle.it_making.specs.StatementOutput.{AreParameters}
+
+-- what is given are parameters, as this JSON
+abbrev pub GivesParameters : Option (List ℕ) → Data → Type 0
+GivesParameters given d = (parameters : Fields) × AreParameters given d parameters
+
+-- why subjects are not read
+abbrev pub IsSubjectsFault : List ℕ → RunFault → Type 0
+IsSubjectsFault bytes OutOfMemory = Unit {0}
+IsSubjectsFault bytes (BadSubjects line) = IsFirstBadLine bytes line
+IsSubjectsFault bytes other = ⊥
+
+-- why parameters are not read
+abbrev pub IsParametersFault : Option (List ℕ) → RunFault → Type 0
+IsParametersFault given OutOfMemory = Unit {0}
+IsParametersFault given BadParameters =
+    (d : Data) (parameters : Fields) → ¬ AreParameters given d parameters
+IsParametersFault given other = ⊥
+
+-- the text is written of this document, which reads back where it is not too deep
+pub record IsWritten (text : List ℕ) (d : Data) : Type 0 where
+  pub reads : depth d ≤ max_depth → IsDocument text d
+  pub text_is : has_float d ≡ false → text ≡ compact_text d ++ codes "\n"
+
+-- an object that is not too deep
+abbrev pub CanBeParameters : Data → Type 0
+CanBeParameters d = IsTrue (is_some (as_object d)) × (depth d ≤ 124)

@@ -1,0 +1,19 @@
+//! The bodies of envelopes, made from digest lists: links (in-toto specification
+//! 1.0) and Statements (in-toto Attestation, Statement v1) that carry provenance (SLSA v1.0).
+#![tactic(auto)]
+
+mod artifact_maps;
+mod digest_sets;
+mod link_output;
+mod members;
+mod nesting;
+mod output;
+mod parameters;
+mod statement_output;
+mod subjects;
+
+pub use link_output::run_link;
+pub use statement_output::{StatementParts, run_statement};
+
+#[cfg(test)]
+mod tests;

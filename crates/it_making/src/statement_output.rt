@@ -1,0 +1,143 @@
+//! `itv statement`: a Statement that carries provenance (in-toto Attestation, Statement v1; SLSA
+//! Provenance v1).
+ghost use Rattle.std.specs.Prelude.{◌≡◌, ◌≢◌, IfErr, IfOk, IsErrOf};
+ghost use Rattle.std.specs.FinMap.{values};
+ghost use Rattle.std.specs.Io.KnownBytes.{Appends};
+ghost use Rattle.std.specs.Option.{option_copied};
+ghost use Rattle.serde_json.specs.View.{view};
+ghost use Rattle.it_base.specs.Sequence.{IsList};
+ghost use Rattle.it_base.specs.Writing.{AppendsBeginning};
+ghost use Rattle.it_digest.specs.Sums.{SumsOf};
+ghost use Rattle.it_docs.specs.Statement.{IsSubject};
+ghost use Rattle.it_making.specs.StatementOutput.{IsStatementFault, IsStatementOutput};
+ghost use Rattle.it_making.specs.StatementOutput.{provenance_document, statement_document};
+ghost use Rattle.it_making.specs.StatementOutput.{subjects_document};
+ghost use Rattle.it_making.specs.inside.StatementParts.{IsSubjectsFault, IsWritten};
+
+use crate::output::put_text;
+use crate::parameters::parameters_of;
+use crate::subjects::subjects_value;
+use it_digest::artifacts::Artifacts;
+use it_digest::sums::{SumsFault, read_sums};
+use it_words::outcome::{RunFault, Status};
+use serde_json::{Value, json};
+use std::alloc::{AllocError, Global};
+use std::io::Write;
+
+/// What a Statement is made of.
+#[derive(Clone, Copy)]
+pub struct StatementParts<'a> {
+    /// The bytes of a digest list, with a line for each subject; no bytes are the empty list.
+    pub subjects: &'a [u8],
+    /// The kind of build.
+    pub build_type: &'a str,
+    /// The id of the builder.
+    pub builder: &'a str,
+    /// The bytes of a JSON object, the external parameters; where it is missing there are none.
+    pub parameters: Option<&'a [u8]>,
+}
+
+/// Writes a Statement that carries provenance (in-toto Attestation, Statement v1; SLSA Provenance
+/// v1) and a line feed: compact JSON with the members in the order of their bytes, the subjects in
+/// the order of their paths' bytes with SHA-256 in lower-case hexadecimal digits, and the external
+/// parameters as they were given. What is written reads back as just that Statement. The answer is
+/// `Good`.
+///
+/// # Errors
+///
+/// `BadSubjects` with the first bad line of the subjects, and, where they are good,
+/// `BadParameters` where the parameters are no JSON object, or one that nests deeper than 124
+/// levels; `OutOfMemory` where memory was refused. In these nothing went out. `Write` where the
+/// output could not be written; a beginning of it went out.
+pub fn run_statement<W: Write>(
+    alloc: Global,
+    parts: &StatementParts<'_>,
+    out: &mut W,
+) -> Result<Status, RunFault>
+    ensures ok { IfOk result (λ status. (status ≡ Status.Good) × (text : _)
+        × IsStatementOutput parts.now.subjects.now parts.now.build_type.now parts.now.builder.now
+        (option_copied parts.now.parameters) text
+        × Appends (W.contents out.old) (W.contents out.new) text) }
+    ensures write { IsErrOf result RunFault.Write → (text : _)
+        × IsStatementOutput parts.now.subjects.now parts.now.build_type.now parts.now.builder.now
+        (option_copied parts.now.parameters) text
+        × AppendsBeginning (W.contents out.old) (W.contents out.new) text }
+    ensures nothing { IfErr result (λ fault. fault ≢ RunFault.Write → out.new ≡ out.old) }
+    ensures faults { IfErr result
+        (IsStatementFault parts.now.subjects.now (option_copied parts.now.parameters)) }
+{
+    let text = statement_text(alloc, parts)?;
+    put_text(out, text.as_slice())
+}
+
+fn statement_text(alloc: Global, parts: &StatementParts<'_>) -> Result<Vec<u8>, RunFault>
+    ensures ok { IfOk result (λ text. IsStatementOutput parts.now.subjects.now
+        parts.now.build_type.now parts.now.builder.now (option_copied parts.now.parameters)
+        text.items) }
+    ensures err { IfErr result (λ fault. (fault ≢ RunFault.Write)
+        × IsStatementFault parts.now.subjects.now (option_copied parts.now.parameters) fault) }
+{
+    let subjects = subjects_of(alloc, parts.subjects)?;
+    let parameters = parameters_of(alloc, parts.parameters)?;
+    let predicate = provenance_value(alloc, parts.build_type, parts.builder, parameters)?;
+    let text = written(alloc, &subjects, predicate)?;
+    Ok(text)
+}
+
+fn subjects_of(alloc: Global, bytes: &[u8]) -> Result<Artifacts, RunFault>
+    ensures ok { IfOk result (SumsOf bytes.now) }
+    ensures err { IfErr result (IsSubjectsFault bytes.now) }
+{
+    match read_sums(alloc, bytes) {
+        Ok(sums) => Ok(sums),
+        Err(SumsFault::BadSums(line)) => Err(RunFault::BadSubjects(line)),
+        Err(SumsFault::OutOfMemory) => Err(RunFault::OutOfMemory),
+    }
+}
+
+/// The text of a Statement with this predicate, and a line feed.
+fn written(alloc: Global, subjects: &Artifacts, predicate: Value) -> Result<Vec<u8>, AllocError>
+    ensures reads { IfOk result
+        (λ text. IsWritten text.items (statement_document subjects.now (view predicate))) }
+    ensures reads_back { IfOk result
+        (λ _. IsList IsSubject (subjects_document subjects.now) (values subjects.now)) }
+{
+    let value = statement_value(alloc, subjects, predicate)?;
+    let mut text = value.to_vec(alloc)?;
+    text.push(b'\n')?;
+    Ok(text)
+}
+
+fn statement_value(
+    alloc: Global,
+    subjects: &Artifacts,
+    predicate: Value,
+) -> Result<Value, AllocError>
+    ensures document { IfOk result
+        (λ value. view value ≡ statement_document subjects.now (view predicate)) }
+    ensures reads_back { IfOk result
+        (λ _. IsList IsSubject (subjects_document subjects.now) (values subjects.now)) }
+{
+    let subjects = subjects_value(alloc, subjects)?;
+    json!(in alloc; {
+        "_type": "https://in-toto.io/Statement/v1",
+        "predicate": predicate,
+        "predicateType": "https://slsa.dev/provenance/v1",
+        "subject": subjects
+    })
+}
+
+fn provenance_value(
+    alloc: Global,
+    build_type: &str,
+    builder: &str,
+    parameters: Value,
+) -> Result<Value, AllocError>
+    ensures { IfOk result (λ value. view value
+        ≡ provenance_document build_type.now builder.now (view parameters)) }
+{
+    json!(in alloc; {
+        "buildDefinition": {"buildType": build_type, "externalParameters": parameters},
+        "runDetails": {"builder": {"id": builder}}
+    })
+}

@@ -3,9 +3,10 @@ ghost use Rattle.std.specs.Prelude.{◌≡◌, ◌↔◌, IsTrue};
 ghost use Rattle.it_chain.specs.inside.Agreement.{IsAgreed};
 
 use crate::chain::StepResult;
-use crate::fault::{refused, text_of};
+use crate::fault::refused;
 use crate::record::{IdRecord, Recorded};
 use crate::refusal::{ChainError, ChainFault};
+use it_base::text::Text;
 use it_docs::step::Step;
 use std::alloc::Global;
 
@@ -24,14 +25,14 @@ pub(crate) fn agreed(
             return Err(refused(
                 alloc,
                 ChainFault::Disagree {
-                    step: text_of(alloc, step.name.as_str())?,
-                    id: text_of(alloc, other.id.as_str())?,
+                    step: Text::copy(alloc, step.name.as_str())?,
+                    id: Text::copy(alloc, other.id.as_str())?,
                 },
             ));
         }
     }
     Ok(StepResult {
-        name: text_of(alloc, step.name.as_str())?,
+        name: Text::copy(alloc, step.name.as_str())?,
         materials: first.recorded.materials.copy(alloc)?,
         products: first.recorded.products.copy(alloc)?,
         keys: found,

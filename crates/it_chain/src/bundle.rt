@@ -112,7 +112,7 @@ impl Bundle {
     }
 
     /// The files, in the order in which they were added. Takes no memory.
-    pub(crate) fn files(&self) -> &[File]
+    pub fn files(&self) -> &[File]
         ensures { result.now ≡ files_of self.now }
     {
         &self.files

@@ -74,7 +74,13 @@ fn candidate_in(alloc: Global, bytes: &[u8]) -> Result<Option<Envelope>, AllocEr
     Ok(Some(envelope))
 }
 
-fn envelope_in(alloc: Global, bytes: &[u8]) -> Result<Option<Envelope>, AllocError>
+/// The envelope that the bytes of a file are (DSSE v1.0, "Envelope"), or `None` where they are no
+/// envelope.
+///
+/// # Errors
+///
+/// `AllocError` where memory was refused.
+pub fn envelope_in(alloc: Global, bytes: &[u8]) -> Result<Option<Envelope>, AllocError>
     ensures { IfOk result (Finds (EnvelopeOf bytes.now)) }
 {
     match Envelope::read(alloc, bytes) {
@@ -100,7 +106,12 @@ pub(crate) fn body_in(alloc: Global, step: &str, payload: &[u8]) -> Result<Optio
     }
 }
 
-fn link_in(alloc: Global, bytes: &[u8]) -> Result<Option<Link>, AllocError>
+/// The link that a payload is (in-toto 1.0 section 4.4), or `None` where it is no link.
+///
+/// # Errors
+///
+/// `AllocError` where memory was refused.
+pub fn link_in(alloc: Global, bytes: &[u8]) -> Result<Option<Link>, AllocError>
     ensures { IfOk result (Finds (LinkOf bytes.now)) }
 {
     match read_link(alloc, bytes) {
@@ -110,7 +121,12 @@ fn link_in(alloc: Global, bytes: &[u8]) -> Result<Option<Link>, AllocError>
     }
 }
 
-fn layout_in(alloc: Global, bytes: &[u8]) -> Result<Option<Layout>, AllocError>
+/// The layout that a payload is (in-toto 1.0 section 4.3), or `None` where it is no layout.
+///
+/// # Errors
+///
+/// `AllocError` where memory was refused.
+pub fn layout_in(alloc: Global, bytes: &[u8]) -> Result<Option<Layout>, AllocError>
     ensures { IfOk result (Finds (LayoutOf bytes.now)) }
 {
     match read_layout(alloc, bytes) {

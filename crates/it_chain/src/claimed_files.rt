@@ -50,8 +50,9 @@ fn add(
     Ok(())
 }
 
-/// The name of the step that a file's name claims the file for.
-fn claimed_step(name: &str) -> Option<&str>
+/// The name of the step that a file's name claims the file for (in-toto 1.0 section 4.4), or `None`
+/// where it claims it for none. Takes no memory.
+pub fn claimed_step(name: &str) -> Option<&str>
     ensures { MatchOption result ((step : List ℕ) → ¬ IsClaimed step name.now)
         (λ step. IsClaimed step.now name.now) }
 {

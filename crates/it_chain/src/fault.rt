@@ -9,13 +9,6 @@ use it_base::sequence::Sequence;
 use it_base::text::Text;
 use std::alloc::{AllocError, Global};
 
-/// The text, copied.
-pub(crate) fn text_of(alloc: Global, text: &str) -> Result<Text, AllocError>
-    ensures { IfOk result (λ t. t ≡ text.now) }
-{
-    Ok(Text::from(String::from_str(alloc, text)?))
-}
-
 /// A fault of the layout itself.
 pub(crate) fn refused(alloc: Global, fault: ChainFault) -> ChainError
     ensures { result ≡ Refused (here fault) }
@@ -49,7 +42,7 @@ fn put_under(
 {
     let ChainRefusal { at, fault } = refusal;
     let mut at = at.into_vec();
-    at.insert(0, (text_of(alloc, step)?, text_of(alloc, id)?))?;
+    at.insert(0, (Text::copy(alloc, step)?, Text::copy(alloc, id)?))?;
     Ok(ChainRefusal {
         at: Sequence::from(at),
         fault,

@@ -13,12 +13,13 @@ ghost use Rattle.it_chain.specs.inside.Signers.{entry_of};
 
 use crate::checking::Checking;
 use crate::counted_bodies::{Counting, counted};
-use crate::fault::{refused, text_of};
+use crate::fault::refused;
 use crate::level::Level;
 use crate::record::{IdRecord, Recorded};
 use crate::refusal::{ChainError, ChainFault};
 use crate::signers::Signer;
 use crate::sublayouts::verify_body;
+use it_base::text::Text;
 use it_docs::step::Step;
 use it_dsse::envelope::Envelope;
 use it_dsse::meter::Meter;
@@ -85,8 +86,8 @@ fn verify_id<C: Checking>(
         Counting::Several => Err(refused(
             alloc,
             ChainFault::TwoPayloads {
-                step: text_of(alloc, name)?,
-                id: text_of(alloc, id)?,
+                step: Text::copy(alloc, name)?,
+                id: Text::copy(alloc, id)?,
             },
         )),
         Counting::One(key, body) => {
@@ -107,7 +108,7 @@ fn record_of(
 {
     let recorded = recorded?;
     Ok(Some(IdRecord {
-        id: text_of(alloc, id)?,
+        id: Text::copy(alloc, id)?,
         key,
         recorded,
     }))

@@ -22,4 +22,7 @@ mod summary;
 mod threshold;
 mod verify;
 
+pub use candidate::{envelope_in, layout_in, link_in};
+pub use claimed_files::claimed_step;
+pub use sublayouts::folder_name;
 pub use verify::verify_chain;

@@ -6,8 +6,9 @@ ghost use Rattle.it_chain.specs.StepRules.{links_in, recorded_in};
 ghost use Rattle.it_chain.specs.inside.StepRules.{AreRuled, IsSideRuled};
 
 use crate::chain::StepResult;
-use crate::fault::{refused, text_of};
+use crate::fault::refused;
 use crate::refusal::{ChainError, ChainFault, RuleItem};
+use it_base::text::Text;
 use it_docs::rule::{Rule, Side};
 use it_docs::step::Step;
 use it_rules::item::{Item, Named};
@@ -86,7 +87,7 @@ fn run_side(
         Some(fault) => Err(refused(
             alloc,
             ChainFault::RuleFailed {
-                item: RuleItem::Step(text_of(alloc, step.name.as_str())?),
+                item: RuleItem::Step(Text::copy(alloc, step.name.as_str())?),
                 side,
                 index: fault.index,
                 path: fault.path,

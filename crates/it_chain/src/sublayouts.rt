@@ -96,8 +96,13 @@ impl<'a> Level<'a> {
     }
 }
 
-/// The name of the folder that a sublayout's files are in.
-fn folder_name(alloc: Global, step: &str, id: &str) -> Result<String, AllocError>
+/// The name of the folder that the files of a sublayout are in: the name of the step, a full stop,
+/// and the first 8 characters of the key id that signed the sublayout (in-toto 1.0 section 4.4).
+///
+/// # Errors
+///
+/// `AllocError` where memory was refused.
+pub fn folder_name(alloc: Global, step: &str, id: &str) -> Result<String, AllocError>
     ensures { IfOk result (λ name. string_bytes name ≡ folder_name_of step.now id.now) }
 {
     let mut name = String::from_str(alloc, step)?;

@@ -8,9 +8,10 @@ ghost use Rattle.it_chain.specs.inside.Threshold.{IsJudged};
 
 use crate::agreement::agreed;
 use crate::chain::StepResult;
-use crate::fault::{refused, text_of};
+use crate::fault::refused;
 use crate::record::IdRecord;
 use crate::refusal::{ChainError, ChainFault};
+use it_base::text::Text;
 use it_docs::step::Step;
 use std::alloc::{AllocError, Global};
 use std::collections::BTreeSet;
@@ -31,7 +32,7 @@ pub(crate) fn judged(
         _ => Err(refused(
             alloc,
             ChainFault::Threshold {
-                step: text_of(alloc, step.name.as_str())?,
+                step: Text::copy(alloc, step.name.as_str())?,
                 found,
                 needed: step.threshold,
             },

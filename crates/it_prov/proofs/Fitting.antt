@@ -11,8 +11,7 @@ use Rattle.it_base.proofs.Settled.{Settled, settled_by}
 use Rattle.it_glob.proofs.Decided.{is_match, is_match-Decides}
 use Rattle.it_docs.specs.declared.policy.Expectation.{Expectation}
 use Rattle.it_prov.specs.Finding.{NoneFits}
-use Rattle.it_prov.specs.Fits.{SpeaksOf, Fits}
-use Rattle.it_prov.specs.inside.Judged.{FitsAt}
+use Rattle.it_prov.specs.Fits.{SpeaksOf, Fits, FitsAt}
 
 module _ (path : List ℕ) where
   speaks_or_not : (expectation : Expectation) → Settled (SpeaksOf path expectation)

@@ -1,5 +1,6 @@
 -- Which expectation of a policy speaks of a file (this profile's choice).
-use Rattle.std.specs.Prelude.{◌≡◌, ℕ, List, ◌∷◌, ◌++◌, Contains}
+use Rattle.std.specs.Prelude.{◌≡◌, ℕ, List, ◌∷◌, ◌++◌, Some, Contains}
+use Rattle.std.specs.List.{slice_get}
 use Rattle.it_glob.specs.Pattern.{Matches, items_of}
 use Rattle.it_docs.specs.declared.policy.Expectation.{Expectation}
 
@@ -15,3 +16,9 @@ pub record Fits (expectations : List Expectation) (path : List ℕ) (expectation
   pub they_are : expectations ≡ front ++ expectation ∷ rest
   pub speaks : SpeaksOf path expectation
   pub none_before : (other : Expectation) → Contains front other → ¬ SpeaksOf path other
+
+-- the expectation at a place is the one that fits a path
+pub record FitsAt (expectations : List Expectation) (path : List ℕ) (place : ℕ) : Type 0 where
+  pub expectation : Expectation
+  pub stands : slice_get expectations place ≡ Some expectation
+  pub fits : Fits expectations path expectation

@@ -82,8 +82,9 @@ fn answer_for(builder: &Builder, envelope: &Envelope, panel: &[Box<dyn Signature
     Answer { signed, asked }
 }
 
-/// Whether some key of a builder signed the envelope.
-fn has_signed(
+/// Whether some key of a builder signed the envelope. The `meter` rises by at most each signature
+/// once for each of the builder's keys. Takes no memory.
+pub fn has_signed(
     builder: &Builder,
     envelope: &Envelope,
     panel: &[Box<dyn SignatureCheck>],

@@ -7,9 +7,10 @@ pub mod attestations;
 mod builders;
 pub mod fault;
 mod finding;
-mod fits;
+pub mod fits;
 mod levels;
 mod meets;
 mod parameters;
 
 pub use finding::{find_among, find_provenance};
+pub use meets::some_agrees;

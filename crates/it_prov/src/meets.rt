@@ -128,8 +128,8 @@ fn expected_in<'a>(
     }
 }
 
-/// Whether some subject has the digests.
-fn some_agrees(subjects: &[DigestSet], digests: &DigestSet) -> bool
+/// Whether some subject has the digests. Takes no memory.
+pub fn some_agrees(subjects: &[DigestSet], digests: &DigestSet) -> bool
     ensures { IsTrue result ↔ Any (λ subject. Agree subject digests.now) subjects.now }
 {
     subjects

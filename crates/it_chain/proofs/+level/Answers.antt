@@ -67,14 +67,14 @@ id_records::verify_id-returns-in-Nothing-clause-answer g t c =
     c.requires.candidates c.requires.listed c.requires.known
     (rw (c.in-Nothing.is, c.as_str-name.ensures) at c.in_ok-counted.ensures.answer))
 
-pub id_records::verify_id-returns-in_ok-text_of-in-Several-2-clause-answer : goal.id_records::verify_id-returns-in_ok-text_of-in-Several-2-clause-answer
-id_records::verify_id-returns-in_ok-text_of-in-Several-2-clause-answer g t c =
+pub id_records::verify_id-returns-in_ok-copy-in-Several-2-clause-answer : goal.id_records::verify_id-returns-in_ok-copy-in-Several-2-clause-answer
+id_records::verify_id-returns-in_ok-copy-in-Several-2-clause-answer g t c =
     let s = g.C.Checking.setting c.args.checking.now in
     let l = c.args.level.now in
-    let name : c.in_ok-text_of-in-Several.field-0 ≡ c.args.step.now.name =
-    c.in_ok-text_of-in-Several.ensures ∙ c.as_str-name.ensures in
-    let id : c.in_ok-text_of-in-Several-2.field-0 ≡ c.args.signer.now.id.now =
-    c.in_ok-text_of-in-Several-2.ensures in
+    let name : c.in_ok-copy-in-Several.field-0 ≡ c.args.step.now.name =
+    c.in_ok-copy-in-Several.ensures ∙ c.as_str-name.ensures in
+    let id : c.in_ok-copy-in-Several-2.field-0 ≡ c.args.signer.now.id.now =
+    c.in_ok-copy-in-Several-2.ensures in
     walks_two s l.depth l.layout.now l.links.now c.args.step.now c.args.signer.now.id.now
     c.refused.result
     (two_count (holds_below s l.depth) (fails_below s l.depth) s l.layout.now l.links.now
@@ -556,28 +556,28 @@ id_records::verify_id-returns-in_err-counted-clause-asked g t c =
     rw p.1 (candidates_raise s l.depth l.layout.now l.links.now c.args.step.now c.args.found.now
     c.args.signer.now.id.now 0 c.args.meter.now c.counted.new.meter c.in_err-counted.ensures.asked)
 
-pub id_records::verify_id-returns-in_err-text_of-in-Several-clause-asked : goal.id_records::verify_id-returns-in_err-text_of-in-Several-clause-asked
-id_records::verify_id-returns-in_err-text_of-in-Several-clause-asked g t c =
+pub id_records::verify_id-returns-in_err-copy-in-Several-clause-asked : goal.id_records::verify_id-returns-in_err-copy-in-Several-clause-asked
+id_records::verify_id-returns-in_err-copy-in-Several-clause-asked g t c =
     let s = g.C.Checking.setting c.args.checking.now in
     let l = c.args.level.now in
-    let p = err_from_is_err_and c.from_residual-in_err-text_of-in-Several.result
-    c.from_residual-in_err-text_of-in-Several.ensures.1 in
+    let p = err_from_is_err_and c.from_residual-in_err-copy-in-Several.result
+    c.from_residual-in_err-copy-in-Several.ensures.1 in
     rw p.1 (candidates_raise s l.depth l.layout.now l.links.now c.args.step.now c.args.found.now
     c.args.signer.now.id.now 0 c.args.meter.now c.counted.new.meter
     (rw c.in-Several.is at c.in_ok-counted.ensures.asked))
 
-pub id_records::verify_id-returns-in_err-text_of-in-Several-2-clause-asked : goal.id_records::verify_id-returns-in_err-text_of-in-Several-2-clause-asked
-id_records::verify_id-returns-in_err-text_of-in-Several-2-clause-asked g t c =
+pub id_records::verify_id-returns-in_err-copy-in-Several-2-clause-asked : goal.id_records::verify_id-returns-in_err-copy-in-Several-2-clause-asked
+id_records::verify_id-returns-in_err-copy-in-Several-2-clause-asked g t c =
     let s = g.C.Checking.setting c.args.checking.now in
     let l = c.args.level.now in
-    let p = err_from_is_err_and c.from_residual-in_err-text_of-in-Several-2.result
-    c.from_residual-in_err-text_of-in-Several-2.ensures.1 in
+    let p = err_from_is_err_and c.from_residual-in_err-copy-in-Several-2.result
+    c.from_residual-in_err-copy-in-Several-2.ensures.1 in
     rw p.1 (candidates_raise s l.depth l.layout.now l.links.now c.args.step.now c.args.found.now
     c.args.signer.now.id.now 0 c.args.meter.now c.counted.new.meter
     (rw c.in-Several.is at c.in_ok-counted.ensures.asked))
 
-pub id_records::verify_id-returns-in_ok-text_of-in-Several-2-clause-asked : goal.id_records::verify_id-returns-in_ok-text_of-in-Several-2-clause-asked
-id_records::verify_id-returns-in_ok-text_of-in-Several-2-clause-asked g t c =
+pub id_records::verify_id-returns-in_ok-copy-in-Several-2-clause-asked : goal.id_records::verify_id-returns-in_ok-copy-in-Several-2-clause-asked
+id_records::verify_id-returns-in_ok-copy-in-Several-2-clause-asked g t c =
     let s = g.C.Checking.setting c.args.checking.now in
     let l = c.args.level.now in
     candidates_raise s l.depth l.layout.now l.links.now c.args.step.now c.args.found.now

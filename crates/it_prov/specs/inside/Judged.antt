@@ -24,7 +24,6 @@ use Rattle.it_docs.specs.declared.statement.Statement.{Statement}
 use Rattle.it_prov.specs.Asked.{AtLeast, IsAskedFor}
 use Rattle.it_prov.specs.Best.{MeetsAtLevel}
 use Rattle.it_prov.specs.Cost.{key_count}
-use Rattle.it_prov.specs.Fits.{Fits}
 use Rattle.it_prov.specs.declared.answers.Answer.{Answer}
 use Rattle.it_prov.specs.declared.attestations.Attestation.{Attestation}
 use Rattle.it_prov.specs.Meets.{ParametersMeet, SignedByBuilder, StandsEqual}
@@ -95,12 +94,6 @@ pub record SaysExpected (expectation : Expectation) (digests : DigestSet)
   pub is_subject : Contains statement.subjects subject
   pub digests_agree : Agree subject digests
   pub expected : IsExpected expectation provenance
-
--- the expectation at a place is the one that fits a path
-pub record FitsAt (expectations : List Expectation) (path : List ℕ) (place : ℕ) : Type 0 where
-  pub expectation : Expectation
-  pub stands : slice_get expectations place ≡ Some expectation
-  pub fits : Fits expectations path expectation
 
 -- at a place there is an answer for each of the builders
 pub record HasAnswers (place : ℕ) (builders : List Builder) (attestation : Attestation) : Type 0

@@ -6,9 +6,9 @@ use Rattle.it_chain.proofs.agreement.agreed.Goals as goal
 
 pub returns-then-not-is_same : goal.returns-then-not-is_same
 returns-then-not-is_same c =
-    let name : c.in_ok-text_of.field-0 ≡ c.args.step.now.name = c.in_ok-text_of.ensures
+    let name : c.in_ok-copy.field-0 ≡ c.args.step.now.name = c.in_ok-copy.ensures
     ∙ c.as_str.ensures in
-    let id : c.in_ok-text_of-2.field-0 ≡ c.other-item.result.id = c.in_ok-text_of-2.ensures
+    let id : c.in_ok-copy-2.field-0 ≡ c.other-item.result.id = c.in_ok-copy-2.ensures
     ∙ c.as_str-then-not-is_same.ensures in
     rw c.refused.ensures (
       c.other-item.result.id,

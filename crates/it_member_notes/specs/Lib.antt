@@ -1,0 +1,4 @@
+pub mod LayoutNotes
+pub mod MemberNames
+pub mod Places
+pub mod UnreadMembers

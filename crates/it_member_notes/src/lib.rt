@@ -1,0 +1,22 @@
+//! Notes on policies and layouts: what is in them and not looked at, and what reads but may not be
+//! what its author meant. Every note is true.
+#![tactic(auto)]
+
+mod close_name;
+mod layout_line;
+pub mod layout_note;
+mod member_names;
+mod notes;
+mod object_at;
+pub mod place;
+mod places;
+mod quoted;
+mod rule_notes;
+#[cfg(test)]
+mod tests;
+mod unread;
+mod unread_line;
+pub mod unread_member;
+
+pub use notes::{layout_notes, policy_notes};
+pub use rule_notes::layout_rule_notes;

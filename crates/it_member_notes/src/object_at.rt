@@ -1,0 +1,70 @@
+//! What stands at a place of a document.
+ghost use Rattle.std.specs.Prelude.{◌≡◌, option_map};
+ghost use Rattle.serde_json.specs.View.{view};
+ghost use Rattle.it_member_notes.specs.Places.{builder_at as builder_of, inner_at as inner_of};
+ghost use Rattle.it_member_notes.specs.Places.{item_at as item_of, key_at as key_of};
+ghost use Rattle.it_member_notes.specs.Places.{object_at as object_of};
+
+use crate::place::{KeyPlace, Place};
+use it_base::document::member;
+use serde_json::Value;
+
+/// What stands at a place of a document, if something stands there. Takes no memory.
+pub(crate) fn object_at<'d>(document: &'d Value, place: &Place) -> Option<&'d Value>
+    ensures { option_map (λ v. view v.now) result ≡ object_of place.now (view document.now) }
+{
+    match place {
+        Place::Policy | Place::Layout => Some(document),
+        Place::Expectation(number) => item_at(document, "expectations", *number),
+        Place::Builder {
+            expectation,
+            builder,
+        } => builder_at(document, *expectation, *builder),
+        Place::Step(number) => item_at(document, "steps", *number),
+        Place::Inspection(number) => item_at(document, "inspect", *number),
+        Place::Key(key) => key_at(document, key),
+        Place::KeyValue(key) => member(key_at(document, key)?, "keyval"),
+    }
+}
+
+fn item_at<'d>(object: &'d Value, name: &str, number: usize) -> Option<&'d Value>
+    ensures { option_map (λ v. view v.now) result ≡ item_of name.now number (view object.now) }
+{
+    member(object, name)?.get(number)
+}
+
+fn inner_at<'d>(object: &'d Value, outer: &str, name: &str) -> Option<&'d Value>
+    ensures { option_map (λ v. view v.now) result
+        ≡ inner_of outer.now name.now (view object.now) }
+{
+    member(member(object, outer)?, name)
+}
+
+fn builder_at(document: &Value, expectation: usize, builder: usize) -> Option<&Value>
+    ensures { option_map (λ v. view v.now) result
+        ≡ builder_of expectation builder (view document.now) }
+{
+    item_at(
+        item_at(document, "expectations", expectation)?,
+        "builders",
+        builder,
+    )
+}
+
+fn key_at<'d>(document: &'d Value, place: &KeyPlace) -> Option<&'d Value>
+    ensures { option_map (λ v. view v.now) result ≡ key_of place.now (view document.now) }
+{
+    match place {
+        KeyPlace::Owner(id) => inner_at(document, "owners", id.as_str()),
+        KeyPlace::Builder {
+            expectation,
+            builder,
+            id,
+        } => inner_at(
+            builder_at(document, *expectation, *builder)?,
+            "keys",
+            id.as_str(),
+        ),
+        KeyPlace::Layout(id) => inner_at(document, "keys", id.as_str()),
+    }
+}

@@ -1,0 +1,221 @@
+//! The notes on what a layout asks for.
+ghost use Rattle.std.specs.Prelude.{◌≡◌, ◌↔◌, All, Contains, IfOk, IsTrue, OnOk, is_some};
+ghost use Rattle.std.specs.FinMap.{get};
+ghost use Rattle.it_member_notes.specs.LayoutNotes.{AreRulesOf, HasInspection, HasStep, Holds};
+ghost use Rattle.it_member_notes.specs.LayoutNotes.{IsDisallow, rules_of_step as step_rules};
+ghost use Rattle.it_member_notes.specs.LayoutNotes.{rules_of_inspection as inspection_rules};
+
+use crate::layout_note::{Item, LayoutNote};
+use it_base::text::Text;
+use it_docs::layout::Layout;
+use it_docs::rule::{Rule, Side};
+use it_docs::step::{Inspection, Step};
+use std::alloc::{AllocError, Global};
+
+/// The notes on a layout's rules and keys: steps before inspections, in the layout's order. Each
+/// note is true of the layout.
+///
+/// # Errors
+///
+/// `AllocError` where memory was refused.
+pub fn layout_rule_notes(alloc: Global, layout: &Layout) -> Result<Vec<LayoutNote>, AllocError>
+    ensures { IfOk result (λ notes. All (Holds layout.now) notes.items) }
+{
+    let mut notes = Vec::new(alloc);
+    for step in layout.steps.as_slice() {
+        note_step(alloc, layout, step, &mut notes)?;
+    }
+    for inspection in layout.inspections.as_slice() {
+        note_inspection(alloc, layout, inspection, &mut notes)?;
+    }
+    Ok(notes)
+}
+
+fn note_step(
+    alloc: Global,
+    layout: &Layout,
+    step: &Step,
+    notes: &mut Vec<LayoutNote>,
+) -> Result<(), AllocError>
+    requires in_layout { Contains layout.now.steps step.now }
+    requires before { All (Holds layout.now) notes.old.items }
+    ensures { OnOk result (All (Holds layout.now) notes.new.items) }
+{
+    note_keys(alloc, layout, step, notes)?;
+    for side in [Side::Materials, Side::Products] {
+        let list = rules_of_step(alloc, step, side)?;
+        note_rules(alloc, layout, &list, notes)?;
+    }
+    Ok(())
+}
+
+fn note_inspection(
+    alloc: Global,
+    layout: &Layout,
+    inspection: &Inspection,
+    notes: &mut Vec<LayoutNote>,
+) -> Result<(), AllocError>
+    requires in_layout { Contains layout.now.inspections inspection.now }
+    requires before { All (Holds layout.now) notes.old.items }
+    ensures { OnOk result (All (Holds layout.now) notes.new.items) }
+{
+    for side in [Side::Materials, Side::Products] {
+        let list = rules_of_inspection(alloc, inspection, side)?;
+        note_rules(alloc, layout, &list, notes)?;
+    }
+    Ok(())
+}
+
+fn note_keys(
+    alloc: Global,
+    layout: &Layout,
+    step: &Step,
+    notes: &mut Vec<LayoutNote>,
+) -> Result<(), AllocError>
+    requires in_layout { Contains layout.now.steps step.now }
+    requires before { All (Holds layout.now) notes.old.items }
+    ensures { OnOk result (All (Holds layout.now) notes.new.items) }
+{
+    for id in step.pubkeys.as_slice() {
+        if !has_key_object(layout, id) {
+            notes.push(no_key_object(alloc, &step.name, id)?)?;
+        }
+    }
+    Ok(())
+}
+
+fn has_key_object(layout: &Layout, id: &Text) -> bool
+    ensures { result ≡ is_some (get layout.now.keys id.now) }
+{
+    layout.keys.get(id.as_str()).is_some()
+}
+
+fn no_key_object(alloc: Global, step: &Text, id: &Text) -> Result<LayoutNote, AllocError>
+    ensures { IfOk result (λ note. note ≡ LayoutNote.NoKeyObject step.now id.now) }
+{
+    Ok(LayoutNote::NoKeyObject {
+        step: Text::copy(alloc, step.as_str())?,
+        id: Text::copy(alloc, id.as_str())?,
+    })
+}
+
+/// A list of rules of a layout, and whose they are.
+#[derive(Drop)]
+struct RuleList<'l> {
+    item: Item,
+    side: Side,
+    rules: &'l [Rule],
+}
+
+fn rules_of_step<'l>(alloc: Global, step: &'l Step, side: Side) -> Result<RuleList<'l>, AllocError>
+    ensures item { IfOk result (λ list. list.item ≡ Item.Step step.now.name) }
+    ensures side { IfOk result (λ list. list.side ≡ side) }
+    ensures rules { IfOk result (λ list. list.rules.now ≡ step_rules side step.now) }
+{
+    let rules = match side {
+        Side::Materials => step.expected_materials.as_slice(),
+        Side::Products => step.expected_products.as_slice(),
+    };
+    let item = Item::Step(Text::copy(alloc, step.name.as_str())?);
+    Ok(RuleList { item, side, rules })
+}
+
+fn rules_of_inspection<'l>(
+    alloc: Global,
+    inspection: &'l Inspection,
+    side: Side,
+) -> Result<RuleList<'l>, AllocError>
+    ensures item { IfOk result (λ list. list.item ≡ Item.Inspection inspection.now.name) }
+    ensures side { IfOk result (λ list. list.side ≡ side) }
+    ensures rules { IfOk result (λ list. list.rules.now ≡ inspection_rules side inspection.now) }
+{
+    let rules = match side {
+        Side::Materials => inspection.expected_materials.as_slice(),
+        Side::Products => inspection.expected_products.as_slice(),
+    };
+    let item = Item::Inspection(Text::copy(alloc, inspection.name.as_str())?);
+    Ok(RuleList { item, side, rules })
+}
+
+fn note_rules(
+    alloc: Global,
+    layout: &Layout,
+    list: &RuleList<'_>,
+    notes: &mut Vec<LayoutNote>,
+) -> Result<(), AllocError>
+    requires are_rules { AreRulesOf layout.now list.now.item list.now.side list.now.rules.now }
+    requires before { All (Holds layout.now) notes.old.items }
+    ensures { OnOk result (All (Holds layout.now) notes.new.items) }
+{
+    for (place, rule) in list.rules.iter().enumerate() {
+        if let Rule::Match { from, .. } = rule {
+            if !is_in(layout, from) {
+                notes.push(match_from_no_step(alloc, list, place, from)?)?;
+            }
+        }
+    }
+    note_end(alloc, layout, list, notes)
+}
+
+fn match_from_no_step(
+    alloc: Global,
+    list: &RuleList<'_>,
+    rule: usize,
+    name: &Text,
+) -> Result<LayoutNote, AllocError>
+    ensures { IfOk result (λ note. note
+        ≡ LayoutNote.MatchFromNoStep list.now.item list.now.side rule name.now) }
+{
+    Ok(LayoutNote::MatchFromNoStep {
+        item: list.item.copy(alloc)?,
+        side: list.side,
+        rule,
+        name: Text::copy(alloc, name.as_str())?,
+    })
+}
+
+fn note_end(
+    alloc: Global,
+    layout: &Layout,
+    list: &RuleList<'_>,
+    notes: &mut Vec<LayoutNote>,
+) -> Result<(), AllocError>
+    requires are_rules { AreRulesOf layout.now list.now.item list.now.side list.now.rules.now }
+    requires before { All (Holds layout.now) notes.old.items }
+    ensures { OnOk result (All (Holds layout.now) notes.new.items) }
+{
+    let Some((last, _front)) = list.rules.split_last() else {
+        return Ok(());
+    };
+    if !is_disallow(last) {
+        let item = list.item.copy(alloc)?;
+        notes.push(LayoutNote::NoDisallowAtEnd {
+            item,
+            side: list.side,
+        })?;
+    }
+    Ok(())
+}
+
+fn is_disallow(rule: &Rule) -> bool
+    ensures { IsTrue result ↔ IsDisallow rule.now }
+{
+    matches!(rule, Rule::Disallow(_))
+}
+
+/// Whether a step or an inspection of the layout has the name.
+fn is_in(layout: &Layout, name: &Text) -> bool
+    ensures steps { HasStep layout.now name.now → IsTrue result }
+    ensures inspections { HasInspection layout.now name.now → IsTrue result }
+{
+    layout
+        .steps
+        .as_slice()
+        .iter()
+        .any(|step| step.name.as_str() == name.as_str())
+        || layout
+            .inspections
+            .as_slice()
+            .iter()
+            .any(|inspection| inspection.name.as_str() == name.as_str())
+}

@@ -1,0 +1,101 @@
+//! The notes on members that are not looked at.
+ghost use Rattle.std.specs.Prelude.{◌≡◌, All, Any, Contains, IfOk, IfSome, IsTrue};
+ghost use Rattle.serde_json.specs.Data.{object};
+ghost use Rattle.serde_json.specs.View.{members_view, view};
+ghost use Rattle.it_member_notes.specs.MemberNames.{known_names as known_at};
+ghost use Rattle.it_member_notes.specs.MemberNames.{read_names as read_at};
+ghost use Rattle.it_member_notes.specs.UnreadMembers.{HasUnread, IsUnread};
+
+use crate::close_name::close_name;
+use crate::member_names::{known_names, read_names};
+use crate::object_at::object_at;
+use crate::place::Place;
+use crate::unread_member::UnreadMember;
+use it_base::text::Text;
+use serde_json::{Map, Value};
+use std::alloc::{AllocError, Global};
+
+/// The notes on the members of the objects at these places of a document, place by place.
+pub(crate) fn unread_at(
+    alloc: Global,
+    document: &Value,
+    places: &[Place],
+) -> Result<Vec<UnreadMember>, AllocError>
+    ensures { IfOk result (λ notes. All
+        (λ note. IsUnread (view document.now) note × Contains places.now note.place) notes.items) }
+{
+    let mut notes = Vec::new(alloc);
+    for place in places {
+        let mut found = unread_in(alloc, document, place)?;
+        notes.append(&mut found)?;
+    }
+    Ok(notes)
+}
+
+fn unread_in(
+    alloc: Global,
+    document: &Value,
+    place: &Place,
+) -> Result<Vec<UnreadMember>, AllocError>
+    ensures { IfOk result (λ notes. All
+        (λ note. IsUnread (view document.now) note × (note.place ≡ place.now)) notes.items) }
+{
+    match object_at(document, place) {
+        None => Ok(Vec::new(alloc)),
+        Some(object) => unread_of(alloc, object, place),
+    }
+}
+
+fn unread_of(alloc: Global, object: &Value, place: &Place) -> Result<Vec<UnreadMember>, AllocError>
+    ensures { IfOk result (λ notes. All
+        (λ note. HasUnread (view object.now) note × (note.place ≡ place.now)) notes.items) }
+{
+    match object.as_object() {
+        None => Ok(Vec::new(alloc)),
+        Some(members) => unread_among(alloc, members, place),
+    }
+}
+
+fn unread_among(
+    alloc: Global,
+    members: &Map<String, Value>,
+    place: &Place,
+) -> Result<Vec<UnreadMember>, AllocError>
+    ensures { IfOk result (λ notes. All (λ note.
+        HasUnread (object (members_view members.now.entries)) note × (note.place ≡ place.now))
+        notes.items) }
+{
+    let mut notes = Vec::new(alloc);
+    for (name, _) in members.iter() {
+        if !has_meaning(place, name.as_str()) {
+            notes.push(unread_member(alloc, place, name.as_str())?)?;
+        }
+    }
+    Ok(notes)
+}
+
+fn unread_member(alloc: Global, place: &Place, name: &str) -> Result<UnreadMember, AllocError>
+    ensures place { IfOk result (λ note. note.place ≡ place.now) }
+    ensures name { IfOk result (λ note. note.name ≡ name.now) }
+    ensures close { IfOk result (λ note.
+        IfSome note.close (λ near. Contains (read_at place.now) near.now)) }
+{
+    Ok(UnreadMember {
+        place: place.copy(alloc)?,
+        name: Text::copy(alloc, name)?,
+        close: close_name(read_names(place), name),
+    })
+}
+
+fn has_meaning(place: &Place, name: &str) -> bool
+    ensures read { Contains (read_at place.now) name.now → IsTrue result }
+    ensures known { Contains (known_at place.now) name.now → IsTrue result }
+{
+    is_among(read_names(place), name) || is_among(known_names(place), name)
+}
+
+fn is_among(names: &[&str], name: &str) -> bool
+    ensures { Any (λ n. n.now ≡ name.now) names.now → IsTrue result }
+{
+    names.iter().any(|other| *other == name)
+}

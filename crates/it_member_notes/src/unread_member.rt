@@ -1,0 +1,15 @@
+//! Members of a policy or a layout that are not looked at.
+
+use crate::place::Place;
+use it_base::text::Text;
+
+/// A member that is not looked at, and that no standard knows.
+#[derive(Drop)]
+pub struct UnreadMember {
+    /// Where the object stands that has the member.
+    pub place: Place,
+    /// The name of the member.
+    pub name: Text,
+    /// A name that is looked at there and that is near the member's: a hint, no more.
+    pub close: Option<&'static str>,
+}

@@ -1,0 +1,4 @@
+pub mod AnyOf
+pub mod Following
+pub mod Speaking
+pub mod WhoSigned

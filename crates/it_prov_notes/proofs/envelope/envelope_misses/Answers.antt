@@ -1,0 +1,36 @@
+use Rattle.std.proofs.Common.{◌≡◌, ◌∙◌, List, eqb-true, length, map, subst, sym}
+use Rattle.it_dsse.specs.Panel.{panel_of}
+use Rattle.it_dsse.specs.Signed.{AreThose}
+use Rattle.it_docs.specs.declared.policy.Builder.{Builder}
+use Rattle.it_prov.specs.Meets.{SignedByBuilder}
+use Rattle.it_prov_notes.specs.inside.Judged.{AreSigners, lent_builders}
+use Rattle.it_prov_notes.proofs.WhoSigned.{none_signed}
+use Rattle.it_prov_notes.proofs.envelope.envelope_misses.Goals as goal
+
+pub returns-then-not-is_empty : goal.returns-then-not-is_empty
+returns-then-not-is_empty g c =
+    let panel = panel_of
+    (map (λ check. (goal.SignatureCheck-dyn g (check.vtable, check.value)).meaning check.value)
+    c.args.panel.now) in
+    let signers = c.in_ok-signers.signers.items in
+    let are : AreSigners panel c.args.delivery.now.expectation.now c.args.envelope.now signers =
+    subst (λ (builders : List Builder). AreThose (SignedByBuilder panel c.args.envelope.now)
+    builders (lent_builders signers)) c.as_slice-builders.ensures c.in_ok-signers.ensures in
+    λ line reads. c.signed_misses.ensures panel line reads (rw c.as_slice.ensures.value are)
+
+pub returns-then-branch : goal.returns-then-branch
+returns-then-branch g c =
+    let panel = panel_of
+    (map (λ check. (goal.SignatureCheck-dyn g (check.vtable, check.value)).meaning check.value)
+    c.args.panel.now) in
+    let signers = c.in_ok-signers.signers.items in
+    let are : AreSigners panel c.args.delivery.now.expectation.now c.args.envelope.now signers =
+    subst (λ (builders : List Builder). AreThose (SignedByBuilder panel c.args.envelope.now)
+    builders (lent_builders signers)) c.as_slice-builders.ensures c.in_ok-signers.ensures in
+    let none : length signers ≡ 0 = sym (c.in_ok-signers.signers.ok.0)
+    ∙ eqb-true c.in_ok-signers.signers.len 0 (sym c.is_empty.ensures ∙ c.if-not-is_empty.false) in
+    λ line reads. (
+      c.args.envelope.now,
+      reads,
+      none_signed panel c.args.delivery.now.expectation.now c.args.envelope.now signers are none,
+    )

@@ -1,0 +1,2 @@
+pub mod ProvenanceNotes
+pub mod inside

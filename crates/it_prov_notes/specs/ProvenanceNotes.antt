@@ -1,0 +1,202 @@
+-- What the notes on the lines of provenance say (a word of this project; no standard speaks of
+-- notes). What a line misses is a part of `Meets`, denied; what a line that is no envelope looks
+-- like is said of its document.
+use Rattle.std.specs.Prelude.{◌≡◌, ◌≢◌, ◌<◌, ◌≤◌, ℕ, suc, List, Option, Some, None, Contains}
+use Rattle.std.specs.Prelude.{IfSome, IsSome, IsTrue, codes}
+use Rattle.std.specs.List.{slice_get}
+use Rattle.serde_json.specs.Data.{Data}
+use Rattle.serde_json.specs.Find.{as_array}
+use Rattle.it_base.specs.Document.{IsDocument, member_at}
+use Rattle.it_base.specs.Equal.{equal}
+use Rattle.it_base.specs.Json.{Json}
+use Rattle.it_base.specs.Parts.{IsPart}
+use Rattle.it_base.specs.Text.{IsText}
+use Rattle.it_base.specs.TreeOf.{field_at}
+use Rattle.it_digest.specs.Compare.{Agree}
+use Rattle.it_digest.specs.Sums.{lines_of}
+use Rattle.it_digest.specs.declared.compare.DigestSet.{DigestSet}
+use Rattle.it_dsse.specs.Envelope.{EnvelopeOf}
+use Rattle.it_dsse.specs.Panel.{Panel}
+use Rattle.it_dsse.specs.declared.envelope.Envelope.{Envelope}
+use Rattle.it_docs.specs.PayloadType.{in_toto_type}
+use Rattle.it_docs.specs.Statement.{StatementOf}
+use Rattle.it_docs.specs.declared.policy.Builder.{Builder}
+use Rattle.it_docs.specs.declared.policy.Expectation.{Expectation}
+use Rattle.it_docs.specs.declared.statement.Provenance.{Provenance}
+use Rattle.it_docs.specs.declared.statement.Statement.{Statement}
+use Rattle.it_prov.specs.Meets.{SignedByBuilder}
+use Rattle.it_prov_notes.specs.declared.note.ProvenanceNote.{ProvenanceNote}
+use Rattle.it_prov_notes.specs.declared.note.Shape.{Shape}
+use Rattle.it_prov_notes.specs.declared.note.Shape.TheVariants as shape
+use Rattle.it_prov_notes.specs.declared.note.Shortfall.{Shortfall}
+use Rattle.it_prov_notes.specs.declared.note.Shortfall.TheVariants as shortfall
+
+-- ---- the lines, and what is read of them
+-- the line of this number, counted from 1
+pub record IsLine (provenance : List ℕ) (number : ℕ) (line : List ℕ) : Type 0 where
+  pub place : ℕ
+  pub stands : slice_get (lines_of provenance) place ≡ Some line
+  pub number_is : number ≡ suc place
+
+-- a line is an envelope with this Statement
+pub record IsStatementOn (line : List ℕ) (envelope : Envelope) (statement : Statement) : Type 0
+  where
+    pub is_line : EnvelopeOf line envelope
+    pub reads : StatementOf envelope.payload statement
+
+-- a line is an envelope with this provenance
+pub record IsProvenanceOn (line : List ℕ) (envelope : Envelope) (provenance : Provenance) : Type 0
+  where
+    pub statement : Statement
+    pub states : IsStatementOn line envelope statement
+    pub provenance_is : statement.provenance ≡ Some provenance
+
+-- a line is an envelope of which P holds
+abbrev pub OfEnvelope : (Envelope → Type 0) → List ℕ → Type 0
+OfEnvelope P line = (envelope : Envelope) × EnvelopeOf line envelope × P envelope
+
+-- a line is an envelope with a Statement of which P holds
+abbrev pub OfStatement : (Statement → Type 0) → List ℕ → Type 0
+OfStatement P line = (envelope : Envelope) × (statement : Statement)
+    × IsStatementOn line envelope statement × P statement
+
+-- a line is an envelope with provenance, and P holds of both
+abbrev pub OfProvenance : (Envelope → Provenance → Type 0) → List ℕ → Type 0
+OfProvenance P line = (envelope : Envelope) × (provenance : Provenance)
+    × IsProvenanceOn line envelope provenance × P envelope provenance
+
+-- ---- what a line that is no envelope looks like
+-- bytes are a document of which P holds
+abbrev pub IsDocumentThat : (Data → Type 0) → List ℕ → Type 0
+IsDocumentThat P bytes = (d : Data) × IsDocument bytes d × P d
+
+-- the member `_type` of a document is this text
+abbrev pub IsTyped : List ℕ → Data → Type 0
+IsTyped text d = IsPart IsText (codes "_type") d text
+
+abbrev pub LooksLike : List ℕ → Shape → Type 0
+LooksLike line shape.NoDocument = (d : Data) → ¬ IsDocument line d
+LooksLike line shape.List = IsDocumentThat (λ d. IsSome (as_array d)) line
+LooksLike line shape.Bundle = IsDocumentThat (λ d. IsSome (member_at (codes "dsseEnvelope") d)) line
+LooksLike line (shape.Typed text) = IsDocumentThat (IsTyped text) line
+LooksLike line shape.Other = Unit {0}
+
+-- ---- what an envelope misses
+-- none of the expected builders signed it
+abbrev pub NoneSigned : Panel → Expectation → Envelope → Type 0
+NoneSigned panel expectation envelope = (builder : Builder)
+    → Contains expectation.builders builder → ¬ SignedByBuilder panel envelope builder
+
+-- its payload is of another type than that of in-toto
+abbrev pub IsOfOtherType : List ℕ → Envelope → Type 0
+IsOfOtherType found envelope = (found ≡ envelope.payload_type) × (found ≢ in_toto_type)
+
+-- its payload is no Statement; its type is this one, where a type is told
+pub record HasNoStatement (found : Option (List ℕ)) (envelope : Envelope) : Type 0 where
+  pub none : (statement : Statement) → ¬ StatementOf envelope.payload statement
+  pub type_is : IfSome found (λ text. IsDocumentThat (IsTyped text) envelope.payload)
+
+-- the predicate of a Statement, which is of this type, is no provenance
+abbrev pub HasNoProvenance : List ℕ → Statement → Type 0
+HasNoProvenance found statement =
+    (found ≡ statement.predicate_type) × (statement.provenance ≡ None)
+
+-- no subject of a Statement has the digests
+abbrev pub NoneAgrees : DigestSet → Statement → Type 0
+NoneAgrees digests statement =
+    (subject : DigestSet) → Contains statement.subjects subject → ¬ Agree subject digests
+
+-- ---- what provenance misses
+-- an expected builder signed the envelope
+pub record HasSigned (panel : Panel) (expectation : Expectation) (envelope : Envelope)
+    (builder : Builder) : Type 0 where
+  pub is_expected : Contains expectation.builders builder
+  pub signed : SignedByBuilder panel envelope builder
+
+-- an expected builder signed with the wanted id, and none did with the one that stands there
+pub record BuilderDiffers (panel : Panel) (expectation : Expectation) (found wanted : List ℕ)
+    (envelope : Envelope) (provenance : Provenance) : Type 0 where
+  pub builder : Builder
+  pub signed : HasSigned panel expectation envelope builder
+  pub wanted_is : wanted ≡ builder.id
+  pub found_is : found ≡ provenance.builder
+  pub none_has_it : (other : Builder) → HasSigned panel expectation envelope other
+      → found ≢ other.id
+
+-- the build is not of the wanted type
+pub record BuildTypeDiffers (expectation : Expectation) (found wanted : List ℕ)
+    (provenance : Provenance) : Type 0 where
+  pub wanted_is : wanted ≡ expectation.build_type
+  pub found_is : found ≡ provenance.build_type
+  pub differ : found ≢ wanted
+
+-- a parameter is expected under a name, and none stands there
+pub record IsParameterMissing (expectation : Expectation) (name : List ℕ) (provenance : Provenance)
+    : Type 0 where
+  pub wanted : Json
+  pub is_expected : field_at name expectation.parameters ≡ Some wanted
+  pub none_stands : field_at name provenance.parameters ≡ None
+
+-- a parameter is expected under a name, and an unequal one stands there
+pub record IsParameterUnequal (expectation : Expectation) (name : List ℕ) (provenance : Provenance)
+    : Type 0 where
+  pub wanted : Json
+  pub given : Json
+  pub is_expected : field_at name expectation.parameters ≡ Some wanted
+  pub stands : field_at name provenance.parameters ≡ Some given
+  pub unequal : ¬ IsTrue (equal given wanted)
+
+-- a parameter stands under a name under which none is expected and none is ignored
+pub record IsParameterUnexpected (expectation : Expectation) (name : List ℕ)
+    (provenance : Provenance) : Type 0 where
+  pub given : Json
+  pub stands : field_at name provenance.parameters ≡ Some given
+  pub none_expected : field_at name expectation.parameters ≡ None
+  pub not_ignored : ¬ Contains expectation.ignore name
+
+-- an expected builder of the id that stands there signed with this level, and each such builder
+-- has less than the wanted one
+pub record LevelIsLow (panel : Panel) (expectation : Expectation) (found wanted : ℕ)
+    (envelope : Envelope) (provenance : Provenance) : Type 0 where
+  pub builder : Builder
+  pub signed : HasSigned panel expectation envelope builder
+  pub built_by : provenance.builder ≡ builder.id
+  pub found_is : found ≡ builder.level
+  pub wanted_is : wanted ≡ expectation.level
+  pub all_are_low : (other : Builder) → HasSigned panel expectation envelope other
+      → provenance.builder ≡ other.id → other.level < wanted
+
+-- ---- the notes
+-- a line misses this
+abbrev pub Misses : Panel → Expectation → DigestSet → List ℕ → Shortfall → Type 0
+Misses panel expectation digests line (shortfall.NoEnvelope looks) =
+    ((envelope : Envelope) → ¬ EnvelopeOf line envelope) × LooksLike line looks
+Misses panel expectation digests line shortfall.NotSigned =
+    OfEnvelope (NoneSigned panel expectation) line
+Misses panel expectation digests line (shortfall.OtherPayloadType found) =
+    OfEnvelope (IsOfOtherType found) line
+Misses panel expectation digests line (shortfall.NoStatement found) =
+    OfEnvelope (HasNoStatement found) line
+Misses panel expectation digests line (shortfall.NoProvenance found) =
+    OfStatement (HasNoProvenance found) line
+Misses panel expectation digests line shortfall.NoSubject =
+    OfStatement (NoneAgrees digests) line
+Misses panel expectation digests line (shortfall.OtherBuilder found wanted) =
+    OfProvenance (BuilderDiffers panel expectation found wanted) line
+Misses panel expectation digests line (shortfall.OtherBuildType found wanted) =
+    OfProvenance (λ _. BuildTypeDiffers expectation found wanted) line
+Misses panel expectation digests line (shortfall.MissingParameter name) =
+    OfProvenance (λ _. IsParameterMissing expectation name) line
+Misses panel expectation digests line (shortfall.UnequalParameter name) =
+    OfProvenance (λ _. IsParameterUnequal expectation name) line
+Misses panel expectation digests line (shortfall.UnexpectedParameter name) =
+    OfProvenance (λ _. IsParameterUnexpected expectation name) line
+Misses panel expectation digests line (shortfall.LowLevel found wanted) =
+    OfProvenance (LevelIsLow panel expectation found wanted) line
+
+-- what a note says is true: the line of its number misses this
+pub record Holds (panel : Panel) (expectation : Expectation) (digests : DigestSet)
+    (provenance : List ℕ) (note : ProvenanceNote) : Type 0 where
+  pub line : List ℕ
+  pub is_line : IsLine provenance note.line line
+  pub misses : Misses panel expectation digests line note.shortfall

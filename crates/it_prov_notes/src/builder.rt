@@ -1,0 +1,78 @@
+//! Which builder the provenance names, and of what level it is.
+ghost use Rattle.std.specs.Prelude.{◌≡◌, ◌≤◌, ◌↔◌, List, ℕ, Any, IfOk, IfSome, IsTrue};
+ghost use Rattle.it_digest.specs.declared.compare.DigestSet.{DigestSet};
+ghost use Rattle.it_dsse.specs.Panel.{Panel};
+ghost use Rattle.it_dsse.specs.declared.envelope.Envelope.{Envelope};
+ghost use Rattle.it_docs.specs.declared.policy.Expectation.{Expectation};
+ghost use Rattle.it_prov_notes.specs.ProvenanceNotes.{IsProvenanceOn, Misses};
+ghost use Rattle.it_prov_notes.specs.inside.Judged.{AreSigners};
+
+use crate::note::Shortfall;
+use it_base::text::Text;
+use it_docs::policy::{Builder, Expectation};
+use it_docs::statement::Provenance;
+use std::alloc::{AllocError, Global};
+
+/// Whether the provenance names another builder than each of those that signed.
+pub(crate) fn other_builder(
+    alloc: Global,
+    provenance: &Provenance,
+    signers: &[&Builder],
+) -> Result<Option<Shortfall>, AllocError>
+    ensures { (panel : Panel) (expectation : Expectation) (digests : DigestSet) (line : List ℕ)
+        (envelope : Envelope) → IsProvenanceOn line envelope provenance.now
+        → AreSigners panel expectation envelope signers.now
+        → IfOk result (λ found. IfSome found (Misses panel expectation digests line)) }
+{
+    let found = provenance.builder.as_str();
+    if some_has_id(signers, found) {
+        return Ok(None);
+    }
+    let Some(signer) = signers.first() else {
+        return Ok(None);
+    };
+    Ok(Some(Shortfall::OtherBuilder {
+        found: Text::copy(alloc, found)?,
+        wanted: Text::copy(alloc, signer.id.as_str())?,
+    }))
+}
+
+fn some_has_id(signers: &[&Builder], id: &str) -> bool
+    ensures { IsTrue result ↔ Any (λ builder. builder.now.id ≡ id.now) signers.now }
+{
+    signers.iter().any(|builder| builder.id.as_str() == id)
+}
+
+/// Whether each builder that the provenance names, of those that signed, is of too low a level.
+pub(crate) fn low_level(
+    provenance: &Provenance,
+    expectation: &Expectation,
+    signers: &[&Builder],
+) -> Option<Shortfall>
+    ensures { (panel : Panel) (digests : DigestSet) (line : List ℕ) (envelope : Envelope)
+        → IsProvenanceOn line envelope provenance.now
+        → AreSigners panel expectation.now envelope signers.now
+        → IfSome result (Misses panel expectation.now digests line) }
+{
+    let id = provenance.builder.as_str();
+    let wanted = expectation.level;
+    if some_reaches(signers, id, wanted) {
+        return None;
+    }
+    for signer in signers {
+        if signer.id.as_str() == id {
+            return Some(Shortfall::LowLevel {
+                found: signer.level,
+                wanted,
+            });
+        }
+    }
+    None
+}
+
+fn some_reaches(signers: &[&Builder], id: &str, wanted: u8) -> bool
+    ensures { IsTrue result
+        ↔ Any (λ builder. (builder.now.id ≡ id.now) × (wanted ≤ builder.now.level)) signers.now }
+{
+    signers.iter().any(|builder| builder.id.as_str() == id && builder.level >= wanted)
+}

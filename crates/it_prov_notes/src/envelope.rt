@@ -1,0 +1,69 @@
+//! What an envelope misses.
+ghost use Rattle.std.specs.Prelude.{List, ℕ, IfOk, IfSome, map};
+ghost use Rattle.it_dsse.specs.Envelope.{EnvelopeOf};
+ghost use Rattle.it_dsse.specs.Panel.{Panel, panel_of};
+ghost use Rattle.it_prov_notes.specs.ProvenanceNotes.{Misses};
+ghost use Rattle.it_prov_notes.specs.inside.Judged.{AreSigners};
+
+use crate::delivery::Delivery;
+use crate::note::Shortfall;
+use crate::shape::type_in;
+use crate::signers::signers_among;
+use crate::statement::{is_about, statement_misses};
+use it_base::text::Text;
+use it_docs::fault::DocumentFault;
+use it_docs::policy::Builder;
+use it_docs::statement::read_statement;
+use it_dsse::check::SignatureCheck;
+use it_dsse::envelope::Envelope;
+use it_dsse::payload_type::IN_TOTO;
+use std::alloc::{AllocError, Global};
+
+/// What an envelope misses. Of one that no expected builder signed it is told only where it speaks
+/// of the file.
+pub(crate) fn envelope_misses(
+    alloc: Global,
+    envelope: &Envelope,
+    delivery: &Delivery<'_>,
+    panel: &[Box<dyn SignatureCheck>],
+) -> Result<Option<Shortfall>, AllocError>
+    ensures { (line : List ℕ) → EnvelopeOf line envelope.now → IfOk result (λ found.
+        IfSome found (Misses (panel_of (map meaning panel.now)) delivery.now.expectation.now
+        delivery.now.digests line)) }
+{
+    let builders = delivery.expectation.builders.as_slice();
+    let signers = signers_among(alloc, builders, envelope, panel)?;
+    if !signers.is_empty() {
+        return signed_misses(alloc, envelope, delivery, signers.as_slice());
+    }
+    if is_about(alloc, envelope, &delivery.digests)? {
+        return Ok(Some(Shortfall::NotSigned));
+    }
+    Ok(None)
+}
+
+/// What an envelope misses that these of the expected builders signed.
+fn signed_misses(
+    alloc: Global,
+    envelope: &Envelope,
+    delivery: &Delivery<'_>,
+    signers: &[&Builder],
+) -> Result<Option<Shortfall>, AllocError>
+    ensures { (panel : Panel) (line : List ℕ) → EnvelopeOf line envelope.now
+        → AreSigners panel delivery.now.expectation.now envelope.now signers.now
+        → IfOk result (λ found. IfSome found
+        (Misses panel delivery.now.expectation.now delivery.now.digests line)) }
+{
+    let kind = envelope.payload_type.as_str();
+    if kind != IN_TOTO {
+        return Ok(Some(Shortfall::OtherPayloadType(Text::copy(alloc, kind)?)));
+    }
+    let payload = envelope.payload.as_slice();
+    match read_statement(alloc, payload) {
+        Ok(statement) => statement_misses(alloc, &statement, delivery, signers),
+        Err(DocumentFault::BadDocument) => {
+            Ok(Some(Shortfall::NoStatement(type_in(alloc, payload)?)))
+        }
+        Err(DocumentFault::OutOfMemory) => Err(AllocError),
+    }
+}

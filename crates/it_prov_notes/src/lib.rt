@@ -1,0 +1,20 @@
+//! Notes on the provenance of a delivered file: what each line misses that might have been it. Each
+//! note is true.
+#![tactic(auto)]
+
+mod builder;
+pub mod delivery;
+mod envelope;
+mod line;
+pub mod note;
+mod notes;
+mod parameters;
+mod provenance;
+mod shape;
+mod signers;
+mod statement;
+#[cfg(test)]
+mod tests;
+mod words;
+
+pub use notes::missing_notes;

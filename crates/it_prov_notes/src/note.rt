@@ -1,0 +1,70 @@
+//! What is said of the lines of provenance.
+use it_base::text::Text;
+
+/// Why one line of the provenance is none for a delivered file.
+#[derive(Drop)]
+pub struct ProvenanceNote {
+    /// The number of the line, from 1.
+    pub line: u64,
+    /// What the line misses.
+    pub shortfall: Shortfall,
+}
+
+/// What a line of the provenance misses of an expectation.
+#[derive(Drop)]
+pub enum Shortfall {
+    /// The line is no envelope.
+    NoEnvelope(Shape),
+    /// None of the expected builders signed it.
+    NotSigned,
+    /// Its payload is of this type, and not of that of in-toto.
+    OtherPayloadType(Text),
+    /// Its payload is no Statement. The text is the `_type` that stands there, where one does.
+    NoStatement(Option<Text>),
+    /// The predicate of its Statement is no provenance. The text is the predicate's type.
+    NoProvenance(Text),
+    /// No subject of its Statement has the digests of the file.
+    NoSubject,
+    /// It names another builder than each of the expected ones that signed it.
+    OtherBuilder {
+        /// The id that its provenance names.
+        found: Text,
+        /// The id of an expected builder that signed it.
+        wanted: Text,
+    },
+    /// The build is of another type.
+    OtherBuildType {
+        /// The type that its provenance names.
+        found: Text,
+        /// The type that is expected.
+        wanted: Text,
+    },
+    /// No parameter stands under this name, under which one is expected.
+    MissingParameter(Text),
+    /// The parameter under this name is not equal to the one that is expected there.
+    UnequalParameter(Text),
+    /// A parameter stands under this name, under which none is expected and none is ignored.
+    UnexpectedParameter(Text),
+    /// The builder that it names and that signed it is of too low a level.
+    LowLevel {
+        /// The level that the policy trusts the builder to reach.
+        found: u8,
+        /// The least level that is expected.
+        wanted: u8,
+    },
+}
+
+/// What a line that is no envelope looks like.
+#[derive(Drop)]
+pub enum Shape {
+    /// It is no JSON document, such as a line of an envelope that is laid out over several.
+    NoDocument,
+    /// It is a list.
+    List,
+    /// It has a member `dsseEnvelope`, as a Sigstore bundle around an envelope has.
+    Bundle,
+    /// Its member `_type` is this text, as that of a Statement without an envelope is.
+    Typed(Text),
+    /// It is any other document.
+    Other,
+}

@@ -1,0 +1,49 @@
+//! The notes on the lines of the provenance.
+ghost use Rattle.std.specs.Prelude.{All, IfOk, map};
+ghost use Rattle.it_dsse.specs.Panel.{panel_of};
+ghost use Rattle.it_prov_notes.specs.ProvenanceNotes.{Holds};
+
+use crate::delivery::Delivery;
+use crate::line::line_misses;
+use crate::note::ProvenanceNote;
+use it_digest::sums::split_line;
+use it_dsse::check::SignatureCheck;
+use std::alloc::{AllocError, Global};
+
+/// What the lines of the provenance miss of the expectation that speaks of a delivered file, in
+/// their order.
+///
+/// There is a note for each line that is no envelope. For an envelope that an expected builder
+/// signed, or of which a subject has the digests of the file, there is one with the first thing
+/// that it misses. There is none for an empty line, for one that misses nothing, or for one that
+/// speaks of other files and that none of the builders signed. Signatures are checked by the
+/// `panel`: for each envelope at most each once for each key of the expected builders.
+///
+/// # Errors
+///
+/// `AllocError` where memory was refused.
+pub fn missing_notes(
+    alloc: Global,
+    delivery: &Delivery<'_>,
+    panel: &[Box<dyn SignatureCheck>],
+) -> Result<Vec<ProvenanceNote>, AllocError>
+    ensures { IfOk result (λ notes. All (Holds (panel_of (map meaning panel.now))
+        delivery.now.expectation.now delivery.now.digests delivery.now.provenance.now)
+        notes.items) }
+{
+    let mut notes = Vec::new(alloc);
+    let mut rest = delivery.provenance;
+    let mut number = 0;
+    while !rest.is_empty() {
+        let (line, after) = split_line(rest);
+        number += 1;
+        if let Some(shortfall) = line_misses(alloc, line, delivery, panel)? {
+            notes.push(ProvenanceNote {
+                line: number,
+                shortfall,
+            })?;
+        }
+        rest = after;
+    }
+    Ok(notes)
+}

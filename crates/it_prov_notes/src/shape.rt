@@ -1,0 +1,48 @@
+//! What a line looks like that is no envelope.
+ghost use Rattle.std.specs.Prelude.{List, ℕ, IfOk, IfSome};
+ghost use Rattle.serde_json.specs.View.{view};
+ghost use Rattle.it_base.specs.Document.{IsDocument};
+ghost use Rattle.it_prov_notes.specs.ProvenanceNotes.{IsDocumentThat, IsTyped, LooksLike};
+
+use crate::note::Shape;
+use it_base::document::{member, read_document};
+use it_base::parts::part;
+use it_base::text::Text;
+use serde_json::Value;
+use std::alloc::{AllocError, Global};
+
+/// What a line looks like.
+pub(crate) fn shape_of(alloc: Global, line: &[u8]) -> Result<Shape, AllocError>
+    ensures { IfOk result (LooksLike line.now) }
+{
+    match read_document(alloc, line)? {
+        None => Ok(Shape::NoDocument),
+        Some(value) => document_shape(alloc, &value),
+    }
+}
+
+fn document_shape(alloc: Global, value: &Value) -> Result<Shape, AllocError>
+    ensures { (line : List ℕ) → IsDocument line (view value.now) → IfOk result (LooksLike line) }
+{
+    if value.is_array() {
+        return Ok(Shape::List);
+    }
+    if member(value, "dsseEnvelope").is_some() {
+        return Ok(Shape::Bundle);
+    }
+    match part::<Text>(alloc, value, "_type")? {
+        None => Ok(Shape::Other),
+        Some(text) => Ok(Shape::Typed(text)),
+    }
+}
+
+/// The text that the member `_type` of a document is, where the bytes are a document with one.
+pub(crate) fn type_in(alloc: Global, bytes: &[u8]) -> Result<Option<Text>, AllocError>
+    ensures { IfOk result (λ found. IfSome found (λ text.
+        IsDocumentThat (IsTyped text) bytes.now)) }
+{
+    match read_document(alloc, bytes)? {
+        None => Ok(None),
+        Some(value) => part::<Text>(alloc, &value, "_type"),
+    }
+}

@@ -1,0 +1,74 @@
+-- What is found in a file counts for the step.
+use Rattle.std.proofs.Common.{◌≡◌, ◌↔◌, ℕ, ℤ, List, [], ◌++◌, Bool, true, false, IsTrue, All}
+use Rattle.std.proofs.Common.{Contains, IfSome, Option, Some, None, sym, subst, append-nil, refl}
+use Rattle.std.specs.Bool.{OnTrue}
+use Rattle.std.specs.List.{cons_option}
+use Rattle.std.proofs.lemmas.List.Elements.{All-push}
+use Rattle.it_dsse.specs.Panel.{Panel}
+use Rattle.it_docs.specs.Link.{LinkOf}
+use Rattle.it_docs.specs.declared.layout.Layout.{Layout}
+use Rattle.it_docs.specs.declared.link.Link.{Link}
+use Rattle.it_docs.specs.declared.step.Step.{Step}
+use Rattle.it_chain.specs.Contents.{Contents, files_of}
+use Rattle.it_chain.specs.CountedBodies.{of_layout, of_link}
+use Rattle.it_chain.specs.declared.bundle.File.{File}
+use Rattle.it_chain.proofs.Members.{in_head}
+use Rattle.it_rule_notes.specs.CountingFile.{FileCounts, IsLayoutBody, setting_of}
+use Rattle.it_rule_notes.specs.declared.counting_file.CountingFile.{CountingFile}
+use Rattle.it_rule_notes.specs.declared.counting_file.Signer.{Signer}
+use Rattle.it_rule_notes.specs.inside.CountingFile.{HasBody, IsListed, IsSigned}
+
+-- a link of the step's name is a body for the step
+pub link_body : (step bytes : List ℕ) (link : Link) (same : Bool) → LinkOf bytes link
+    → (IsTrue same ↔ (link.name ≡ step)) → OnTrue same (HasBody step bytes)
+link_body step bytes link true reads named =
+    record { body = of_link link; reads = (reads, named.0 refl) }
+link_body step bytes link false reads named = tt
+
+-- and so is a layout
+pub layout_body : (step bytes : List ℕ) (is : Bool) → OnTrue is (IsLayoutBody bytes)
+    → OnTrue is (HasBody step bytes)
+layout_body step bytes true is = record { body = of_layout is.layout; reads = is.reads }
+layout_body step bytes false is = tt
+
+module _ (panel : Panel) (moment : ℤ) (layout : Layout) (bundle : Contents) (step : Step)
+    (id : List ℕ) where
+  abbrev pub Counts : CountingFile → Type 0
+  Counts = FileCounts (setting_of panel moment) layout bundle step id
+
+  module _ (signer : Signer) (same : signer.id.now ≡ id) (listed : IsListed layout step signer)
+      (file : File) (stands : Contains (files_of bundle) file) where
+    signed_counts : (found : CountingFile) → IsSigned panel step.name signer file found
+        → FileCounts (setting_of panel moment) layout bundle step signer.id.now found
+    signed_counts found signed = record {
+      file = file;
+      stands = stands;
+      name_is = signed.name_is;
+      counts = record {
+        file = file;
+        envelope = signed.envelope;
+        object = signer.object.now;
+        key = signed.is_signer.0;
+        body = signed.has_body.body;
+        stands = in_head file [];
+        claimed = signed.claimed;
+        is_envelope = signed.is_envelope.is_envelope;
+        type_is = signed.is_envelope.type_is;
+        payload_is = signed.payload_is;
+        listed = listed.listed;
+        known = listed.known;
+        signed = signed.is_signer.1;
+        reads = signed.has_body.reads;
+      };
+    }
+
+    -- one more file, or none
+    pub more_counting : (found : List CountingFile) (more : Option CountingFile) → All Counts found
+        → IfSome more (IsSigned panel step.name signer file)
+        → All Counts (found ++ cons_option more [])
+    more_counting found None all signed = subst (All Counts) (sym (append-nil found)) all
+    more_counting found (Some one) all signed =
+        All-push Counts found one all
+        (subst
+        (λ name. FileCounts (setting_of panel moment) layout bundle step name one) same
+        (signed_counts one signed))

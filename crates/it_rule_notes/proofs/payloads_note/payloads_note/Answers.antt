@@ -1,0 +1,31 @@
+use Rattle.std.proofs.Common.{◌∙◌, map, sym}
+use Rattle.it_dsse.specs.Panel.{panel_of}
+use Rattle.it_rule_notes.specs.CountingFile.{setting_of}
+use Rattle.it_rule_notes.specs.declared.payloads_note.PayloadsNote.{PayloadsNote}
+use Rattle.it_rule_notes.proofs.Told.{payloads_told}
+use Rattle.it_rule_notes.proofs.payloads_note.payloads_note.Goals as goal
+
+pub returns : goal.returns
+returns g c =
+    let panel = panel_of
+    (map (λ check. (goal.SignatureCheck-dyn g (check.vtable, check.value)).meaning check.value)
+    c.args.panel.now) in
+    let note : PayloadsNote = record {
+      step = c.in_ok-copy.field-0;
+      id = c.in_ok-copy-2.field-0;
+      first = c.in_ok-copy-3.field-0;
+      second = c.in_ok-copy-4.field-0;
+    } in (
+      c.in_ok-copy.ensures,
+      c.in_ok-copy-2.ensures,
+      payloads_told (setting_of panel c.args.level.now.moment) c.args.level.now.layout.now
+          c.args.level.now.links.now note c.in-Some.asked.now c.args.id.now
+          c.in_ok-files.files.items c.in-Some-differing.first.now c.in-Some-differing.second.now
+          (rw c.as_slice.ensures at c.in-Some.ensures.0)
+          (c.in-Some.ensures.1 ∙ sym c.in_ok-copy.ensures) c.in_ok-copy-2.ensures
+          (sym (c.in_ok-copy-3.ensures ∙ c.as_str.ensures))
+          (sym (c.in_ok-copy-4.ensures ∙ c.as_str-2.ensures)) c.in_ok-files.ensures
+          (rw c.as_slice-2.ensures.value at c.in-Some-differing.ensures.0)
+          (rw c.as_slice-2.ensures.value at c.in-Some-differing.ensures.1)
+          c.in-Some-differing.ensures.2,
+    )

@@ -1,0 +1,12 @@
+pub mod CountingFile
+pub mod Difference
+pub mod Disagree
+pub mod Expiry
+pub mod Line
+pub mod LinkFile
+pub mod Owner
+pub mod Payloads
+pub mod Rule
+pub mod RulePlace
+pub mod Sublayout
+pub mod inside

@@ -1,0 +1,36 @@
+-- What a note tells of an owner of a policy (in-toto 1.0 section 5.2; who the owners are is this
+-- profile's choice).
+use Rattle.std.specs.FinMap.{get}
+use Rattle.std.specs.Prelude.{◌≡◌, ℕ, List, Some, codes}
+use Rattle.it_base.specs.Table.{Named}
+use Rattle.it_dsse.specs.Panel.{Panel}
+use Rattle.it_dsse.specs.Signed.{IsSigner}
+use Rattle.it_dsse.specs.declared.envelope.Envelope.{Envelope}
+use Rattle.it_dsse.specs.declared.key_object.KeyObject.{KeyObject}
+use Rattle.it_rule_notes.specs.Line.{told_form}
+use Rattle.it_rule_notes.specs.declared.owner_note.OwnerNote.{OwnerNote}
+use Rattle.it_rule_notes.specs.declared.owner_note.OwnerNote.TheVariants.{Signed, Unsigned}
+
+module _ (panel : Panel) (envelope : Envelope) (owners : Named KeyObject) where
+  -- the key of the owner with this id signed the envelope
+  pub record HasSigned (id : List ℕ) : Type 0 where
+    pub object : KeyObject
+    pub is_owner : get owners id ≡ Some object
+    pub is_signer : IsSigner panel envelope object id
+
+  -- the key of the owner with this id did not sign the envelope
+  pub record HasNotSigned (id : List ℕ) : Type 0 where
+    pub object : KeyObject
+    pub is_owner : get owners id ≡ Some object
+    pub is_no_signer : ¬ IsSigner panel envelope object id
+
+  -- the sentence of a note on an owner
+  abbrev pub TellsOwner : OwnerNote → Type 0
+  TellsOwner (Signed id) = HasSigned id
+  TellsOwner (Unsigned id) = HasNotSigned id
+
+-- the line of a note (this project's words)
+abbrev pub owner_line : OwnerNote → List ℕ
+owner_line (Signed id) = told_form (codes "layout: owner ") id (codes " signed the layout\n")
+owner_line (Unsigned id) =
+    told_form (codes "layout: owner ") id (codes " did not sign the layout\n")

@@ -1,0 +1,2 @@
+pub mod CountingFile
+pub mod RuleWords

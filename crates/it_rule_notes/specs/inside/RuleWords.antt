@@ -1,0 +1,33 @@
+-- The words of a rule, as they are written.
+use Rattle.std.specs.Prelude.{ℕ, List, [], ◌∷◌, ◌++◌, codes}
+use Rattle.it_docs.specs.declared.rule.Rule.{Rule}
+use Rattle.it_docs.specs.declared.rule.Rule.TheVariants.{Match, Create, Delete, Modify, Allow}
+use Rattle.it_docs.specs.declared.rule.Rule.TheVariants.{Disallow, Require}
+use Rattle.it_docs.specs.declared.rule.Side.{Side}
+use Rattle.it_docs.specs.declared.rule.Side.TheVariants.{Materials, Products}
+
+abbrev pub side_word : Side → List ℕ
+side_word Materials = codes "MATERIALS"
+side_word Products = codes "PRODUCTS"
+
+-- IN and the prefix, and nothing where it is empty
+abbrev pub prefix_words : List ℕ → List (List ℕ)
+prefix_words [] = []
+prefix_words (byte ∷ bytes) = codes "IN" ∷ (byte ∷ bytes) ∷ []
+
+abbrev pub source_words : List ℕ → List ℕ → List (List ℕ)
+source_words pattern source = codes "MATCH" ∷ pattern ∷ prefix_words source
+
+abbrev pub target_words : Side → List ℕ → List ℕ → List (List ℕ)
+target_words side target step =
+    codes "WITH" ∷ side_word side ∷ prefix_words target ++ codes "FROM" ∷ step ∷ []
+
+abbrev pub words_of_rule : Rule → List (List ℕ)
+words_of_rule (Match pattern source side target step) =
+    source_words pattern source ++ target_words side target step
+words_of_rule (Create pattern) = codes "CREATE" ∷ pattern ∷ []
+words_of_rule (Delete pattern) = codes "DELETE" ∷ pattern ∷ []
+words_of_rule (Modify pattern) = codes "MODIFY" ∷ pattern ∷ []
+words_of_rule (Allow pattern) = codes "ALLOW" ∷ pattern ∷ []
+words_of_rule (Disallow pattern) = codes "DISALLOW" ∷ pattern ∷ []
+words_of_rule (Require path) = codes "REQUIRE" ∷ path ∷ []

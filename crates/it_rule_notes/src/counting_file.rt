@@ -1,0 +1,183 @@
+//! The files that hold what counts for a key id of a step (in-toto 1.0, section 5.2).
+ghost use Rattle.std.specs.Bool.{OnTrue};
+ghost use Rattle.std.specs.List.{cons_option};
+ghost use Rattle.std.specs.Prelude.{◌≡◌, ◌↔◌, ◌++◌, [], All, Contains, IfOk, IfSome, IsTrue};
+ghost use Rattle.std.specs.Prelude.{OnOk, map};
+ghost use Rattle.it_chain.specs.ClaimedFiles.{IsClaimed};
+ghost use Rattle.it_dsse.specs.Panel.{panel_of};
+ghost use Rattle.it_rule_notes.specs.CountingFile.{FileCounts, IsLayoutBody, setting_of};
+ghost use Rattle.it_rule_notes.specs.inside.CountingFile.{HasBody, IsEnvelope, IsListed, IsSigned};
+
+use crate::level::Level;
+use it_base::sequence::Sequence;
+use it_base::text::Text;
+use it_chain::bundle::File;
+use it_chain::claimed_step;
+use it_docs::fault::DocumentFault;
+use it_docs::layout::Layout;
+use it_docs::layout_fault::LayoutFault;
+use it_docs::layout_reading::read_layout;
+use it_docs::link::read_link;
+use it_docs::step::Step;
+use it_dsse::check::SignatureCheck;
+use it_dsse::envelope::{Envelope, EnvelopeFault};
+use it_dsse::is_signer;
+use it_dsse::key_object::KeyObject;
+use it_dsse::meter::Meter;
+use it_dsse::payload_type::IN_TOTO;
+use std::alloc::{AllocError, Global};
+
+/// A file that holds what counts.
+#[derive(Drop)]
+pub struct CountingFile {
+    /// The name of the file in its folder.
+    pub name: Text,
+    /// The body of its envelope.
+    pub payload: Sequence<u8>,
+}
+
+/// A key id that a step lists, with the key object that the layout has for it.
+#[derive(Drop)]
+pub(crate) struct Signer<'a> {
+    /// The key id.
+    pub id: &'a str,
+    /// The key object.
+    pub object: &'a KeyObject,
+}
+
+/// The files that hold what counts for a key id of a step, in their order.
+pub(crate) fn counting_files(
+    alloc: Global,
+    level: &Level,
+    step: &Step,
+    id: &str,
+    panel: &[Box<dyn SignatureCheck>],
+) -> Result<Vec<CountingFile>, AllocError>
+    ensures { IfOk result (λ files. All
+        (FileCounts (setting_of (panel_of (map meaning panel.now)) level.now.moment)
+        level.now.layout.now level.now.links.now step.now id.now) files.items) }
+{
+    let mut found = Vec::new(alloc);
+    let Some(signer) = listed(level.layout, step, id) else {
+        return Ok(found);
+    };
+    for file in level.links.files() {
+        let counting = counting_file(alloc, file, step.name.as_str(), &signer, panel)?;
+        keep(&mut found, counting)?;
+    }
+    Ok(found)
+}
+
+/// Keeps a file behind the others, where there is one.
+fn keep(found: &mut Vec<CountingFile>, file: Option<CountingFile>) -> Result<(), AllocError>
+    ensures { OnOk result (found.new.items ≡ found.old.items ++ cons_option file []) }
+{
+    if let Some(file) = file {
+        found.push(file)?;
+    }
+    Ok(())
+}
+
+/// The key id with its key object, where the step lists it and the layout has it.
+fn listed<'a>(layout: &'a Layout, step: &Step, id: &'a str) -> Option<Signer<'a>>
+    ensures { IfSome result (λ signer.
+        (signer.id.now ≡ id.now) × IsListed layout.now step.now signer) }
+{
+    if !lists(step.pubkeys.as_slice(), id) {
+        return None;
+    }
+    let object = layout.keys.get(id)?;
+    Some(Signer { id, object })
+}
+
+fn lists(ids: &[Text], id: &str) -> bool
+    ensures { OnTrue result (Contains ids.now id.now) }
+{
+    for listed in ids {
+        if listed.as_str() == id {
+            return true;
+        }
+    }
+    false
+}
+
+/// What counts in a file for a step, where the signer's key signed it.
+fn counting_file(
+    alloc: Global,
+    file: &File,
+    step: &str,
+    signer: &Signer,
+    panel: &[Box<dyn SignatureCheck>],
+) -> Result<Option<CountingFile>, AllocError>
+    ensures { IfOk result (λ found. IfSome found
+        (IsSigned (panel_of (map meaning panel.now)) step.now signer.now file.now)) }
+{
+    if !is_claimed(step, file.name.as_str()) {
+        return Ok(None);
+    }
+    let Some(envelope) = envelope_in(alloc, file.bytes.as_slice())? else {
+        return Ok(None);
+    };
+    let mut meter = Meter { asked: 0 };
+    if !is_signer(&envelope, signer.id, signer.object, panel, &mut meter) {
+        return Ok(None);
+    }
+    if !has_body(alloc, step, envelope.payload.as_slice())? {
+        return Ok(None);
+    }
+    let name = Text::copy(alloc, file.name.as_str())?;
+    let Envelope {
+        payload,
+        payload_type: _,
+        signatures: _,
+    } = envelope;
+    Ok(Some(CountingFile { name, payload }))
+}
+
+fn is_claimed(step: &str, name: &str) -> bool
+    ensures { OnTrue result (IsClaimed step.now name.now) }
+{
+    match claimed_step(name) {
+        Some(claimed) => claimed == step,
+        None => false,
+    }
+}
+
+/// The envelope of the type of in-toto that the bytes are.
+fn envelope_in(alloc: Global, bytes: &[u8]) -> Result<Option<Envelope>, AllocError>
+    ensures { IfOk result (λ found. IfSome found (IsEnvelope bytes.now)) }
+{
+    match Envelope::read(alloc, bytes) {
+        Ok(envelope) if envelope.payload_type.as_str() == IN_TOTO => Ok(Some(envelope)),
+        Ok(_) | Err(EnvelopeFault::BadEnvelope) => Ok(None),
+        Err(EnvelopeFault::OutOfMemory) => Err(AllocError),
+    }
+}
+
+/// Whether the bytes are a body for a step.
+fn has_body(alloc: Global, step: &str, bytes: &[u8]) -> Result<bool, AllocError>
+    ensures { IfOk result (λ has. OnTrue has (HasBody step.now bytes.now)) }
+{
+    match read_link(alloc, bytes) {
+        Ok(link) => Ok(is_same(link.name.as_str(), step)),
+        Err(DocumentFault::BadDocument) => is_layout(alloc, bytes),
+        Err(DocumentFault::OutOfMemory) => Err(AllocError),
+    }
+}
+
+fn is_same(one: &str, other: &str) -> bool
+    ensures { IsTrue result ↔ (one.now ≡ other.now) }
+{
+    one == other
+}
+
+/// Whether the bytes are a layout.
+pub(crate) fn is_layout(alloc: Global, bytes: &[u8]) -> Result<bool, AllocError>
+    ensures { IfOk result (λ is. OnTrue is (IsLayoutBody bytes.now)) }
+{
+    match read_layout(alloc, bytes) {
+        Ok(_) => Ok(true),
+        Err(LayoutFault::BadLayout(_)) => Ok(false),
+        Err(LayoutFault::OutOfMemory) => Err(AllocError),
+    }
+}

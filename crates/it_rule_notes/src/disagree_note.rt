@@ -1,0 +1,168 @@
+//! Two files whose links differ.
+ghost use Rattle.std.specs.Prelude.{◌≡◌, ◌++◌, IfOk, IfSome, OnOk, map};
+ghost use Rattle.it_dsse.specs.Panel.{panel_of};
+ghost use Rattle.it_rule_notes.specs.CountingFile.{setting_of};
+ghost use Rattle.it_rule_notes.specs.Disagree.{IsOtherLink, TellsDisagree, difference_form};
+ghost use Rattle.it_rule_notes.specs.Disagree.{disagree_line, links_form};
+
+use crate::difference::{Difference, difference_of};
+use crate::level::Level;
+use crate::line::{push_text, push_told};
+use crate::link_file::{LinkFile, link_file};
+use crate::rule_place::{step_named, word_of};
+use it_base::text::Text;
+use it_docs::step::Step;
+use it_dsse::check::SignatureCheck;
+use std::alloc::{AllocError, Global};
+
+/// A file whose link differs from another.
+#[derive(Drop)]
+pub struct OtherLink {
+    /// The file.
+    pub file: LinkFile,
+    /// Where the links differ.
+    pub difference: Difference,
+}
+
+/// Two files that hold links of a step which both count and differ.
+#[derive(Drop)]
+pub struct DisagreeNote {
+    /// The name of the step.
+    pub step: Text,
+    /// A file.
+    pub first: LinkFile,
+    /// Another file, and where its link differs from that of the first.
+    pub second: OtherLink,
+}
+
+/// Says which file of a step holds another link than the file of a key id, and where the two differ
+/// (in-toto 1.0, section 5.2; that all must agree is this profile's choice).
+///
+/// `step` is the name of a step of the layout of `level`, `id` the key id, and `panel` the checks
+/// that are asked. The answer is `None` where no link for a key id of the step differs from that of
+/// `id`, or there is none for `id`.
+///
+/// # Errors
+///
+/// `AllocError` where memory was refused.
+pub fn disagree_note(
+    alloc: Global,
+    level: &Level,
+    step: &str,
+    id: &str,
+    panel: &[Box<dyn SignatureCheck>],
+) -> Result<Option<DisagreeNote>, AllocError>
+    ensures { IfOk result (λ found. IfSome found (λ note. (note.step ≡ step.now)
+        × TellsDisagree (setting_of (panel_of (map meaning panel.now)) level.now.moment)
+        level.now.layout.now level.now.links.now note)) }
+{
+    let Some(asked) = step_named(level.layout.steps.as_slice(), step) else {
+        return Ok(None);
+    };
+    let Some(first) = link_file(alloc, level, asked, id, panel)? else {
+        return Ok(None);
+    };
+    let Some(second) = other_link(alloc, level, asked, &first, panel)? else {
+        return Ok(None);
+    };
+    let step = Text::copy(alloc, step)?;
+    Ok(Some(DisagreeNote {
+        step,
+        first,
+        second,
+    }))
+}
+
+/// The first file of a key id that the step lists whose link differs from that of another file.
+fn other_link(
+    alloc: Global,
+    level: &Level,
+    step: &Step,
+    first: &LinkFile,
+    panel: &[Box<dyn SignatureCheck>],
+) -> Result<Option<OtherLink>, AllocError>
+    ensures { IfOk result (λ found. IfSome found (IsOtherLink
+        (setting_of (panel_of (map meaning panel.now)) level.now.moment)
+        level.now.layout.now level.now.links.now step.now first.now)) }
+{
+    for id in step.pubkeys.as_slice() {
+        if let Some(file) = link_file(alloc, level, step, id.as_str(), panel)? {
+            if let Some(difference) = difference_of(alloc, &first.link, &file.link)? {
+                return Ok(Some(OtherLink { file, difference }));
+            }
+        }
+    }
+    Ok(None)
+}
+
+impl DisagreeNote {
+    /// Appends the note as a line for people.
+    ///
+    /// # Errors
+    ///
+    /// `AllocError` where memory was refused; a part of the line may have been appended then.
+    pub fn push_line(&self, text: &mut Vec<u8>) -> Result<(), AllocError>
+        ensures { OnOk result (text.new.items ≡ text.old.items ++ disagree_line self.now) }
+    {
+        push_links(text, &self.first.name, &self.second.file.name)?;
+        push_difference(text, &self.step, &self.second.difference)
+    }
+}
+
+#[tactic(auto, unfolding(crate::specs::Disagree::links_form))]
+fn push_links(text: &mut Vec<u8>, first: &Text, second: &Text) -> Result<(), AllocError>
+    ensures { OnOk result (text.new.items ≡ text.old.items ++ links_form first.now second.now) }
+{
+    push_told(text, "layout: the links ", first, "")?;
+    push_told(text, " and ", second, "")
+}
+
+#[tactic(auto, unfolding(crate::specs::Disagree::difference_form))]
+fn push_difference(
+    text: &mut Vec<u8>,
+    step: &Text,
+    difference: &Difference,
+) -> Result<(), AllocError>
+    ensures { OnOk result
+        (text.new.items ≡ text.old.items ++ difference_form step.now difference.now) }
+{
+    push_told(text, " of step ", step, " differ in the ")?;
+    push_text(text, word_of(difference.side))?;
+    push_told(text, " at ", &difference.path, "\n")
+}
+
+#[cfg(test)]
+mod tests {
+    use super::*;
+    use crate::deliveries_tests::{EXPIRES, bundle, layout, ring};
+    use std::test::Fail;
+
+    const ONE: &str = r#"{"_type":"link","name":"build","products":{"b":{},"c d":{}}}"#;
+
+    const OTHER: &str = r#"{"_type":"link","name":"build","products":{"b":{},"z":{}}}"#;
+
+    // The products differ at `c d`, which the one has alone, and at `z`, which the other has alone.
+    #[test]
+    fn two_links_that_differ_are_told(rt: HostRuntime) -> Result<(), Fail> {
+        let alloc = rt.alloc();
+        let layout = layout(alloc)?;
+        let files = [
+            ("build.b.link", "bob", OTHER),
+            ("build.a.link", "alice", ONE),
+        ];
+        let links = bundle(alloc, &files)?;
+        let level = Level {
+            layout: &layout,
+            links: &links,
+            moment: EXPIRES,
+        };
+        let panel: [Box<dyn SignatureCheck>; 1] = [Box::new(alloc, ring(alloc)?)?];
+        let note = disagree_note(alloc, &level, "build", "bob", &panel)?.ok_or("no note")?;
+        let mut line = Vec::new(alloc);
+        note.push_line(&mut line)?;
+        let told: &[u8] = b"layout: the links build.b.link and build.a.link of step build \
+            differ in the products at c\\x20d\n";
+        assert_eq!(rt; line.as_slice(), told);
+        Ok(())
+    }
+}

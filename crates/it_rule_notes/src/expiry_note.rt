@@ -1,0 +1,110 @@
+//! When an expired layout expired.
+ghost use Rattle.std.specs.Prelude.{◌≡◌, ◌++◌, IfOk, IfSome, OnOk, codes};
+ghost use Rattle.it_base.specs.Document.{OfDocument};
+ghost use Rattle.it_base.specs.Finds.{Finds};
+ghost use Rattle.it_base.specs.Parts.{IsPart};
+ghost use Rattle.it_base.specs.Text.{IsText};
+ghost use Rattle.std.specs.Bool.{OnTrue};
+ghost use Rattle.it_rule_notes.specs.Expiry.{IsBefore, TellsExpiry, expiry_line};
+
+use crate::line::push_told;
+use it_base::document::read_document;
+use it_base::parts::part;
+use it_base::text::Text;
+use it_docs::moment::read_moment;
+use std::alloc::{AllocError, Global};
+
+/// A layout's `expires`, and a moment that is after it, as they are written.
+#[derive(Drop)]
+pub struct ExpiryNote {
+    /// The member `expires` of the layout.
+    pub expires: Text,
+    /// The moment of the verification.
+    pub moment: Text,
+}
+
+/// Says when a layout expired (in-toto 1.0, section 4.3, `expires`).
+///
+/// `body` is the body of the layout's envelope, and `moment` the moment of the verification, as it
+/// is written. The answer is `None` where the layout has not expired at the moment, or one of the
+/// two is not written as a moment.
+///
+/// # Errors
+///
+/// `AllocError` where memory was refused.
+pub fn expiry_note(
+    alloc: Global,
+    body: &[u8],
+    moment: &str,
+) -> Result<Option<ExpiryNote>, AllocError>
+    ensures { IfOk result (λ found. IfSome found (TellsExpiry body.now moment.now)) }
+{
+    let Some(expires) = expires_in(alloc, body)? else {
+        return Ok(None);
+    };
+    if !is_before(expires.as_str(), moment) {
+        return Ok(None);
+    }
+    let moment = Text::copy(alloc, moment)?;
+    Ok(Some(ExpiryNote { expires, moment }))
+}
+
+/// The text under `expires` in a document.
+fn expires_in(alloc: Global, body: &[u8]) -> Result<Option<Text>, AllocError>
+    ensures { IfOk result (Finds (OfDocument (IsPart IsText (codes "expires")) body.now)) }
+{
+    match read_document(alloc, body)? {
+        Some(document) => part(alloc, &document, "expires"),
+        None => Ok(None),
+    }
+}
+
+/// Whether both texts are moments, and the first is before the second.
+fn is_before(expires: &str, moment: &str) -> bool
+    ensures { OnTrue result (IsBefore expires.now moment.now) }
+{
+    match (read_moment(expires), read_moment(moment)) {
+        (Ok(expires), Ok(moment)) => expires < moment,
+        _ => false,
+    }
+}
+
+impl ExpiryNote {
+    /// Appends the note as a line for people.
+    ///
+    /// # Errors
+    ///
+    /// `AllocError` where memory was refused; a part of the line may have been appended then.
+    pub fn push_line(&self, text: &mut Vec<u8>) -> Result<(), AllocError>
+        ensures { OnOk result (text.new.items ≡ text.old.items ++ expiry_line self.now) }
+    {
+        push_told(text, "layout: it expired at ", &self.expires, "")?;
+        push_told(text, ", and the verification is of ", &self.moment, "\n")
+    }
+}
+
+#[cfg(test)]
+mod tests {
+    use super::*;
+    use std::test::Fail;
+
+    const BODY: &[u8] = br#"{"_type":"layout","expires":"2030-01-01T00:00:00Z"}"#;
+
+    #[test]
+    fn the_two_moments_are_told_as_they_are_written(rt: HostRuntime) -> Result<(), Fail> {
+        let note = expiry_note(rt.alloc(), BODY, "2030-01-01T00:00:01Z")?.ok_or("no note")?;
+        let mut line = Vec::new(rt.alloc());
+        note.push_line(&mut line)?;
+        let told: &[u8] = b"layout: it expired at 2030-01-01T00:00:00Z, \
+            and the verification is of 2030-01-01T00:00:01Z\n";
+        assert_eq!(rt; line.as_slice(), told);
+        Ok(())
+    }
+
+    #[test]
+    fn nothing_is_told_at_the_moment_itself(rt: HostRuntime) -> Result<(), Fail> {
+        assert!(rt; expiry_note(rt.alloc(), BODY, "2030-01-01T00:00:00Z")?.is_none());
+        assert!(rt; expiry_note(rt.alloc(), b"{}", "2031-01-01T00:00:00Z")?.is_none());
+        Ok(())
+    }
+}

@@ -1,0 +1,19 @@
+//! Notes on refusals: sentences about what a verification was given, which say more of a fault than
+//! its report does. A note is made only where its sentence holds.
+#![tactic(auto)]
+
+pub mod counting_file;
+#[cfg(test)]
+mod deliveries_tests;
+pub mod difference;
+pub mod disagree_note;
+pub mod expiry_note;
+pub mod level;
+mod line;
+pub mod link_file;
+pub mod owner_note;
+pub mod payloads_note;
+pub mod rule_note;
+pub mod rule_place;
+pub mod rule_words;
+pub mod sublayout_note;

@@ -1,0 +1,69 @@
+//! The links that count for key ids of a step.
+ghost use Rattle.std.specs.Prelude.{Contains, IfOk, IfSome, map};
+ghost use Rattle.it_docs.specs.Link.{LinkOf};
+ghost use Rattle.it_dsse.specs.Panel.{panel_of};
+ghost use Rattle.it_rule_notes.specs.CountingFile.{setting_of};
+ghost use Rattle.it_rule_notes.specs.LinkFile.{HoldsLink};
+
+use crate::counting_file::{CountingFile, counting_files};
+use crate::level::Level;
+use it_base::text::Text;
+use it_docs::fault::DocumentFault;
+use it_docs::link::{Link, read_link};
+use it_docs::step::Step;
+use it_dsse::check::SignatureCheck;
+use std::alloc::{AllocError, Global};
+
+/// A file that holds a link which counts for a key id.
+#[derive(Drop)]
+pub struct LinkFile {
+    /// The key id.
+    pub id: Text,
+    /// The name of the file in the layout's folder.
+    pub name: Text,
+    /// What it records.
+    pub link: Link,
+}
+
+/// The first file that holds a link which counts for a key id of a step.
+pub(crate) fn link_file(
+    alloc: Global,
+    level: &Level,
+    step: &Step,
+    id: &str,
+    panel: &[Box<dyn SignatureCheck>],
+) -> Result<Option<LinkFile>, AllocError>
+    ensures { IfOk result (λ found. IfSome found (HoldsLink
+        (setting_of (panel_of (map meaning panel.now)) level.now.moment)
+        level.now.layout.now level.now.links.now step.now)) }
+{
+    let files = counting_files(alloc, level, step, id, panel)?;
+    let Some(file) = first_of(files.as_slice()) else {
+        return Ok(None);
+    };
+    let Some(link) = link_in(alloc, file)? else {
+        return Ok(None);
+    };
+    Ok(Some(LinkFile {
+        id: Text::copy(alloc, id)?,
+        name: Text::copy(alloc, file.name.as_str())?,
+        link,
+    }))
+}
+
+fn first_of(files: &[CountingFile]) -> Option<&CountingFile>
+    ensures { IfSome result (λ file. Contains files.now file.now) }
+{
+    files.first()
+}
+
+/// The link that a file holds.
+fn link_in(alloc: Global, file: &CountingFile) -> Result<Option<Link>, AllocError>
+    ensures { IfOk result (λ found. IfSome found (LinkOf file.now.payload)) }
+{
+    match read_link(alloc, file.payload.as_slice()) {
+        Ok(link) => Ok(Some(link)),
+        Err(DocumentFault::BadDocument) => Ok(None),
+        Err(DocumentFault::OutOfMemory) => Err(AllocError),
+    }
+}

@@ -1,0 +1,125 @@
+//! Which owners of a policy signed the layout.
+ghost use Rattle.std.specs.FinMap.{get};
+ghost use Rattle.std.specs.Prelude.{◌≡◌, ◌++◌, All, IfOk, OnOk, Some, map};
+ghost use Rattle.it_base.specs.Table.{Named as Table};
+ghost use Rattle.it_dsse.specs.Panel.{panel_of};
+ghost use Rattle.it_dsse.specs.declared.key_object.KeyObject.{KeyObject as Object};
+ghost use Rattle.it_rule_notes.specs.Owner.{TellsOwner, owner_line};
+
+use crate::line::push_told;
+use it_base::table::Table;
+use it_base::text::Text;
+use it_dsse::check::SignatureCheck;
+use it_dsse::envelope::Envelope;
+use it_dsse::is_signer;
+use it_dsse::key_object::KeyObject;
+use it_dsse::meter::Meter;
+use std::alloc::{AllocError, Global};
+
+/// What is so of an owner and the layout's envelope.
+#[derive(Drop)]
+pub enum OwnerNote {
+    /// The key of the owner with this id signed the envelope.
+    Signed(Text),
+    /// The key of the owner with this id did not sign the envelope.
+    Unsigned(Text),
+}
+
+/// Says of each owner, in the order of the ids' bytes, whether the owner's key signed the envelope
+/// of the layout (in-toto 1.0, section 5.2).
+///
+/// `owners` are the key objects of a policy's owners under their ids, and `panel` the checks that
+/// are asked. The answer has one note for each owner.
+///
+/// # Errors
+///
+/// `AllocError` where memory was refused.
+pub fn owner_notes(
+    alloc: Global,
+    owners: &Table<KeyObject>,
+    envelope: &Envelope,
+    panel: &[Box<dyn SignatureCheck>],
+) -> Result<Vec<OwnerNote>, AllocError>
+    ensures { IfOk result (λ notes. All
+        (TellsOwner (panel_of (map meaning panel.now)) envelope.now owners.now) notes.items) }
+{
+    let mut notes = Vec::new(alloc);
+    for (id, object) in owners.iter() {
+        notes.push(owner_note(alloc, id.as_str(), object, envelope, panel)?)?;
+    }
+    Ok(notes)
+}
+
+/// Says whether the key that an id and an object name signed the envelope.
+fn owner_note(
+    alloc: Global,
+    id: &str,
+    object: &KeyObject,
+    envelope: &Envelope,
+    panel: &[Box<dyn SignatureCheck>],
+) -> Result<OwnerNote, AllocError>
+    ensures { IfOk result (λ note. (owners : Table Object) → get owners id.now ≡ Some object.now
+        → TellsOwner (panel_of (map meaning panel.now)) envelope.now owners note) }
+{
+    let mut meter = Meter { asked: 0 };
+    let signed = is_signer(envelope, id, object, panel, &mut meter);
+    let id = Text::copy(alloc, id)?;
+    if signed {
+        Ok(OwnerNote::Signed(id))
+    } else {
+        Ok(OwnerNote::Unsigned(id))
+    }
+}
+
+impl OwnerNote {
+    /// Appends the note as a line for people.
+    ///
+    /// # Errors
+    ///
+    /// `AllocError` where memory was refused; a part of the line may have been appended then.
+    pub fn push_line(&self, text: &mut Vec<u8>) -> Result<(), AllocError>
+        ensures { OnOk result (text.new.items ≡ text.old.items ++ owner_line self.now) }
+    {
+        match self {
+            OwnerNote::Signed(id) => push_told(text, "layout: owner ", id, " signed the layout\n"),
+            OwnerNote::Unsigned(id) => {
+                push_told(text, "layout: owner ", id, " did not sign the layout\n")
+            }
+        }
+    }
+}
+
+#[cfg(test)]
+mod tests {
+    use super::*;
+    use it_base::parts::from_bytes;
+    use it_dsse::ring::HmacRing;
+    use it_dsse::signing::sign;
+    use std::test::Fail;
+
+    const RING: &str = r#"[{"id":"alice","secret":"616c696365"},{"id":"bob","secret":"626f62"}]"#;
+
+    const OWNERS: &str = r#"{"alice":{"scheme":"hmac-sha256"},"bob":{"scheme":"hmac-sha256"},
+        "carol o":{"scheme":"hmac-sha256"}}"#;
+
+    // Bob signed: nobody else did, and the panel knows no key of carol's.
+    #[test]
+    fn it_is_told_of_each_owner_whether_the_owner_signed(rt: HostRuntime) -> Result<(), Fail> {
+        let alloc = rt.alloc();
+        let ring = HmacRing::read(alloc, RING.as_bytes())?;
+        let envelope = sign(alloc, &ring, "bob", "application/vnd.in-toto+json", b"{}")?;
+        let owners = from_bytes::<Table<KeyObject>>(alloc, OWNERS.as_bytes())?;
+        let owners = owners.ok_or("no owners")?;
+        let panel: [Box<dyn SignatureCheck>; 1] = [Box::new(alloc, ring)?];
+        let notes = owner_notes(alloc, &owners, &envelope, &panel)?;
+        let mut lines = Vec::new(alloc);
+        for note in &notes {
+            note.push_line(&mut lines)?;
+        }
+        let told: &[u8] = b"layout: owner alice did not sign the layout\n\
+            layout: owner bob signed the layout\n\
+            layout: owner carol\\x20o did not sign the layout\n";
+        assert_eq!(rt; lines.as_slice(), told);
+        Ok(())
+    }
+}

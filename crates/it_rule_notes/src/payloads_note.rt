@@ -1,0 +1,143 @@
+//! Two files whose bodies count for one key id and differ.
+ghost use Rattle.std.specs.Prelude.{◌≡◌, ◌≢◌, ◌++◌, Contains, IfOk, IfSome, OnOk, map};
+ghost use Rattle.it_dsse.specs.Panel.{panel_of};
+ghost use Rattle.it_rule_notes.specs.CountingFile.{setting_of};
+ghost use Rattle.it_rule_notes.specs.Payloads.{TellsPayloads, files_form, payloads_line};
+
+use crate::counting_file::{CountingFile, counting_files};
+use crate::level::Level;
+use crate::line::{push_key, push_told};
+use crate::rule_place::step_named;
+use it_base::text::Text;
+use it_dsse::check::SignatureCheck;
+use std::alloc::{AllocError, Global};
+
+/// Two files that hold bodies for one key id of a step which both count and differ.
+#[derive(Drop)]
+pub struct PayloadsNote {
+    /// The name of the step.
+    pub step: Text,
+    /// The key id.
+    pub id: Text,
+    /// The name of a file in the layout's folder.
+    pub first: Text,
+    /// The name of another file there.
+    pub second: Text,
+}
+
+/// Says which two files hold bodies that count for a key id of a step and differ (in-toto 1.0,
+/// section 5.2; that no two may differ is this profile's choice).
+///
+/// `step` is the name of a step of the layout, `id` the key id, and `panel` the checks that are
+/// asked. The answer is `None` where there are no two such files.
+///
+/// # Errors
+///
+/// `AllocError` where memory was refused.
+pub fn payloads_note(
+    alloc: Global,
+    level: &Level,
+    step: &str,
+    id: &str,
+    panel: &[Box<dyn SignatureCheck>],
+) -> Result<Option<PayloadsNote>, AllocError>
+    ensures { IfOk result (λ found. IfSome found (λ note.
+        (note.step ≡ step.now) × (note.id ≡ id.now)
+        × TellsPayloads (setting_of (panel_of (map meaning panel.now)) level.now.moment)
+        level.now.layout.now level.now.links.now note)) }
+{
+    let Some(asked) = step_named(level.layout.steps.as_slice(), step) else {
+        return Ok(None);
+    };
+    let files = counting_files(alloc, level, asked, id, panel)?;
+    let Some((first, second)) = differing(files.as_slice()) else {
+        return Ok(None);
+    };
+    Ok(Some(PayloadsNote {
+        step: Text::copy(alloc, step)?,
+        id: Text::copy(alloc, id)?,
+        first: Text::copy(alloc, first.name.as_str())?,
+        second: Text::copy(alloc, second.name.as_str())?,
+    }))
+}
+
+/// The first of the files, and one with another body.
+fn differing(files: &[CountingFile]) -> Option<(&CountingFile, &CountingFile)>
+    ensures { IfSome result (λ pair. Contains files.now pair.0.now × Contains files.now pair.1.now
+        × (pair.0.now.payload ≢ pair.1.now.payload)) }
+{
+    let first = files.first()?;
+    for other in files {
+        if first.payload.as_slice() != other.payload.as_slice() {
+            return Some((first, other));
+        }
+    }
+    None
+}
+
+impl PayloadsNote {
+    /// Appends the note as a line for people.
+    ///
+    /// # Errors
+    ///
+    /// `AllocError` where memory was refused; a part of the line may have been appended then.
+    pub fn push_line(&self, text: &mut Vec<u8>) -> Result<(), AllocError>
+        ensures { OnOk result (text.new.items ≡ text.old.items ++ payloads_line self.now) }
+    {
+        push_key(text, &self.id, &self.step)?;
+        push_files(text, &self.first, &self.second)
+    }
+}
+
+#[tactic(auto, unfolding(crate::specs::Payloads::files_form))]
+fn push_files(text: &mut Vec<u8>, first: &Text, second: &Text) -> Result<(), AllocError>
+    ensures { OnOk result (text.new.items ≡ text.old.items ++ files_form first.now second.now) }
+{
+    push_told(text, " the files ", first, "")?;
+    push_told(text, " and ", second, " count and differ\n")
+}
+
+#[cfg(test)]
+mod tests {
+    use super::*;
+    use crate::deliveries_tests::{EXPIRES, bundle, layout, ring};
+    use std::test::Fail;
+
+    const ONE: &str = r#"{"_type":"link","name":"build","products":{"app":{}}}"#;
+
+    const OTHER: &str = r#"{"_type":"link","name":"build"}"#;
+
+    // The note on a key id over these files, as a line.
+    fn line(alloc: Global, id: &str, files: &[(&str, &str, &str)]) -> Result<Vec<u8>, Fail> {
+        let layout = layout(alloc)?;
+        let links = bundle(alloc, files)?;
+        let level = Level {
+            layout: &layout,
+            links: &links,
+            moment: EXPIRES,
+        };
+        let panel: [Box<dyn SignatureCheck>; 1] = [Box::new(alloc, ring(alloc)?)?];
+        let mut line = Vec::new(alloc);
+        if let Some(note) = payloads_note(alloc, &level, "build", id, &panel)? {
+            note.push_line(&mut line)?;
+        }
+        Ok(line)
+    }
+
+    // The second file is bob's, the third is of no step, and the fourth is that of alice again.
+    #[test]
+    fn two_files_of_one_key_that_differ_are_told(rt: HostRuntime) -> Result<(), Fail> {
+        let files = [
+            ("build.a.link", "alice", ONE),
+            ("build.b.link", "bob", OTHER),
+            ("pack.a.link", "alice", OTHER),
+            ("build.c.link", "alice", ONE),
+            ("build.d.link", "alice", OTHER),
+        ];
+        let told: &[u8] = b"layout: for key alice of step build \
+            the files build.a.link and build.d.link count and differ\n";
+        assert_eq!(rt; line(rt.alloc(), "alice", &files)?.as_slice(), told);
+        assert!(rt; line(rt.alloc(), "bob", &files)?.is_empty());
+        Ok(())
+    }
+}

@@ -1,0 +1,151 @@
+//! Where artifact rules stand.
+ghost use Rattle.std.specs.Prelude.{◌≡◌, ◌++◌, Contains, IfOk, IfSome, OnOk};
+ghost use Rattle.it_report.specs.Report.{side_form};
+ghost use Rattle.it_rule_notes.specs.RulePlace.{AreRulesAt, document_form, inspection_rules};
+ghost use Rattle.it_rule_notes.specs.RulePlace.{item_form, place_form};
+ghost use Rattle.it_chain.specs.StepRules.{rules_on};
+
+use crate::line::{push_text, push_told};
+use it_base::text::Text;
+use it_chain::refusal::RuleItem;
+use it_docs::layout::Layout;
+use it_docs::rule::{Rule, Side};
+use it_docs::step::{Inspection, Step};
+use std::alloc::{AllocError, Global};
+
+/// The rules that a refusal can speak of.
+#[derive(Drop)]
+pub struct RuleBook<'a> {
+    /// The layout at which a delivery was refused.
+    pub layout: &'a Layout,
+    /// The rules of the policy on what is delivered.
+    pub deliver: &'a [Rule],
+}
+
+/// Where a rule stands.
+#[derive(Drop)]
+pub struct RulePlace {
+    /// Whose rule it is.
+    pub item: RuleItem,
+    /// The side that the rule judges.
+    pub side: Side,
+    /// The rule's place in the list of that side, from 0.
+    pub index: usize,
+}
+
+/// The rules of an item on a side.
+pub(crate) fn rules_at<'a>(book: &RuleBook<'a>, item: &RuleItem, side: Side) -> Option<&'a [Rule]>
+    ensures { IfSome result (λ rules.
+        AreRulesAt book.now.layout.now book.now.deliver.now item.now side rules.now) }
+{
+    match item {
+        RuleItem::Step(name) => {
+            let step = step_named(book.layout.steps.as_slice(), name.as_str())?;
+            Some(rules_of_step(step, side))
+        }
+        RuleItem::Inspection(name) => {
+            let inspections = book.layout.inspections.as_slice();
+            let inspection = inspection_named(inspections, name.as_str())?;
+            Some(rules_of_inspection(inspection, side))
+        }
+        RuleItem::Deliver => match side {
+            Side::Materials => None,
+            Side::Products => Some(book.deliver),
+        },
+    }
+}
+
+/// A step of this name.
+pub(crate) fn step_named<'a>(steps: &'a [Step], name: &str) -> Option<&'a Step>
+    ensures { IfSome result (λ step. Contains steps.now step.now × (step.now.name ≡ name.now)) }
+{
+    for step in steps {
+        if step.name.as_str() == name {
+            return Some(step);
+        }
+    }
+    None
+}
+
+fn rules_of_step(step: &Step, side: Side) -> &[Rule]
+    ensures { result.now ≡ rules_on side step.now }
+{
+    match side {
+        Side::Materials => step.expected_materials.as_slice(),
+        Side::Products => step.expected_products.as_slice(),
+    }
+}
+
+/// An inspection of this name.
+fn inspection_named<'a>(inspections: &'a [Inspection], name: &str) -> Option<&'a Inspection>
+    ensures { IfSome result (λ inspection. Contains inspections.now inspection.now
+        × (inspection.now.name ≡ name.now)) }
+{
+    for inspection in inspections {
+        if inspection.name.as_str() == name {
+            return Some(inspection);
+        }
+    }
+    None
+}
+
+fn rules_of_inspection(inspection: &Inspection, side: Side) -> &[Rule]
+    ensures { result.now ≡ inspection_rules side inspection.now }
+{
+    match side {
+        Side::Materials => inspection.expected_materials.as_slice(),
+        Side::Products => inspection.expected_products.as_slice(),
+    }
+}
+
+/// The item, copied.
+pub(crate) fn copy_of(alloc: Global, item: &RuleItem) -> Result<RuleItem, AllocError>
+    ensures { IfOk result (λ copy. copy ≡ item.now) }
+{
+    match item {
+        RuleItem::Step(name) => Ok(RuleItem::Step(Text::copy(alloc, name.as_str())?)),
+        RuleItem::Inspection(name) => Ok(RuleItem::Inspection(Text::copy(alloc, name.as_str())?)),
+        RuleItem::Deliver => Ok(RuleItem::Deliver),
+    }
+}
+
+/// Appends where a rule stands.
+pub(crate) fn push_place(text: &mut Vec<u8>, place: &RulePlace) -> Result<(), AllocError>
+    ensures { OnOk result (text.new.items ≡ text.old.items ++ place_form place.now) }
+{
+    let alloc = *text.allocator();
+    let index = place.index;
+    let number = format!(in alloc; ": rule {index} of the ")?;
+    text.extend_from_slice(document_of(&place.item).as_bytes())?;
+    text.extend_from_slice(number.as_bytes())?;
+    text.extend_from_slice(word_of(place.side).as_bytes())?;
+    push_item(text, &place.item)
+}
+
+fn document_of(item: &RuleItem) -> &'static str
+    ensures { result.now ≡ document_form item.now }
+{
+    match item {
+        RuleItem::Step(_) | RuleItem::Inspection(_) => "layout",
+        RuleItem::Deliver => "policy",
+    }
+}
+
+pub(crate) fn word_of(side: Side) -> &'static str
+    ensures { result.now ≡ side_form side }
+{
+    match side {
+        Side::Materials => "materials",
+        Side::Products => "products",
+    }
+}
+
+fn push_item(text: &mut Vec<u8>, item: &RuleItem) -> Result<(), AllocError>
+    ensures { OnOk result (text.new.items ≡ text.old.items ++ item_form item.now) }
+{
+    match item {
+        RuleItem::Step(name) => push_told(text, " of step ", name, ""),
+        RuleItem::Inspection(name) => push_told(text, " of inspection ", name, ""),
+        RuleItem::Deliver => push_text(text, " of the delivery"),
+    }
+}

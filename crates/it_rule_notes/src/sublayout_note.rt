@@ -1,0 +1,122 @@
+//! The file that a sublayout is in.
+ghost use Rattle.std.specs.Prelude.{◌≡◌, ◌++◌, Contains, IfOk, IfSome, OnOk, map};
+ghost use Rattle.it_dsse.specs.Panel.{panel_of};
+ghost use Rattle.it_rule_notes.specs.CountingFile.{IsLayoutBody, setting_of};
+ghost use Rattle.it_rule_notes.specs.Sublayout.{TellsSublayout, sublayout_line};
+
+use crate::counting_file::{CountingFile, counting_files, is_layout};
+use crate::level::Level;
+use crate::line::{push_key, push_told};
+use crate::rule_place::step_named;
+use it_base::text::Text;
+use it_dsse::check::SignatureCheck;
+use std::alloc::{AllocError, Global};
+
+/// A file that holds a sublayout which counts for a key id of a step.
+#[derive(Drop)]
+pub struct SublayoutNote {
+    /// The name of the step.
+    pub step: Text,
+    /// The key id.
+    pub id: Text,
+    /// The name of the file in the layout's folder.
+    pub file: Text,
+}
+
+/// Says which file holds a sublayout that counts for a key id of a step (in-toto 1.0, section 5.2).
+///
+/// `step` is the name of a step of the layout of `level`, `id` the key id, and `panel` the checks
+/// that are asked. The answer is `None` where no file holds such a sublayout.
+///
+/// # Errors
+///
+/// `AllocError` where memory was refused.
+pub fn sublayout_note(
+    alloc: Global,
+    level: &Level,
+    step: &str,
+    id: &str,
+    panel: &[Box<dyn SignatureCheck>],
+) -> Result<Option<SublayoutNote>, AllocError>
+    ensures { IfOk result (λ found. IfSome found (λ note.
+        (note.step ≡ step.now) × (note.id ≡ id.now)
+        × TellsSublayout (setting_of (panel_of (map meaning panel.now)) level.now.moment)
+        level.now.layout.now level.now.links.now note)) }
+{
+    let Some(asked) = step_named(level.layout.steps.as_slice(), step) else {
+        return Ok(None);
+    };
+    let files = counting_files(alloc, level, asked, id, panel)?;
+    let Some(file) = layout_among(alloc, files.as_slice())? else {
+        return Ok(None);
+    };
+    Ok(Some(SublayoutNote {
+        step: Text::copy(alloc, step)?,
+        id: Text::copy(alloc, id)?,
+        file: Text::copy(alloc, file.name.as_str())?,
+    }))
+}
+
+/// The first of the files that holds a layout.
+fn layout_among(alloc: Global, files: &[CountingFile]) -> Result<Option<&CountingFile>, AllocError>
+    ensures { IfOk result (λ found. IfSome found (λ file.
+        Contains files.now file.now × IsLayoutBody file.now.payload)) }
+{
+    for file in files {
+        if is_layout(alloc, file.payload.as_slice())? {
+            return Ok(Some(file));
+        }
+    }
+    Ok(None)
+}
+
+impl SublayoutNote {
+    /// Appends the note as a line for people.
+    ///
+    /// # Errors
+    ///
+    /// `AllocError` where memory was refused; a part of the line may have been appended then.
+    pub fn push_line(&self, text: &mut Vec<u8>) -> Result<(), AllocError>
+        ensures { OnOk result (text.new.items ≡ text.old.items ++ sublayout_line self.now) }
+    {
+        push_key(text, &self.id, &self.step)?;
+        push_told(text, " the sublayout is in file ", &self.file, "\n")
+    }
+}
+
+#[cfg(test)]
+mod tests {
+    use super::*;
+    use crate::deliveries_tests::{EXPIRES, bundle, layout, ring};
+    use std::test::Fail;
+
+    const INNER: &str = r#"{"_type":"layout","expires":"2030-01-01T00:00:00Z"}"#;
+
+    const LINK: &str = r#"{"_type":"link","name":"build"}"#;
+
+    // Bob's file is a link.
+    #[test]
+    fn the_file_of_a_sublayout_is_told(rt: HostRuntime) -> Result<(), Fail> {
+        let alloc = rt.alloc();
+        let layout = layout(alloc)?;
+        let files = [
+            ("build.bob.link", "bob", LINK),
+            ("build.a.link", "alice", INNER),
+        ];
+        let links = bundle(alloc, &files)?;
+        let level = Level {
+            layout: &layout,
+            links: &links,
+            moment: EXPIRES,
+        };
+        let panel: [Box<dyn SignatureCheck>; 1] = [Box::new(alloc, ring(alloc)?)?];
+        let note = sublayout_note(alloc, &level, "build", "alice", &panel)?.ok_or("no note")?;
+        let mut line = Vec::new(alloc);
+        note.push_line(&mut line)?;
+        let told: &[u8] =
+            b"layout: for key alice of step build the sublayout is in file build.a.link\n";
+        assert_eq!(rt; line.as_slice(), told);
+        assert!(rt; sublayout_note(alloc, &level, "build", "bob", &panel)?.is_none());
+        Ok(())
+    }
+}

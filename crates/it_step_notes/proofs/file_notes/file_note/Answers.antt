@@ -1,0 +1,12 @@
+use Rattle.std.proofs.Common.{◌∙◌, sym}
+use Rattle.it_step_notes.proofs.file_notes.file_note.Goals as goal
+
+pub returns-then-is_claimed : goal.returns-then-is_claimed
+returns-then-is_claimed g c = record {
+  file = c.args.file.now;
+  stands = c.requires;
+  name_is = sym (c.in_ok-copy.ensures ∙ c.as_str-name.ensures);
+  claimed = rw (c.as_str.ensures, c.as_str-name.ensures) at
+      (c.is_claimed.ensures.0 c.if-is_claimed.true);
+  is_so = rw c.as_slice.ensures at c.in_ok-finding.ensures;
+}

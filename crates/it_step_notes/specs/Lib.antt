@@ -1,0 +1,5 @@
+pub mod Line
+pub mod NoteLaws
+pub mod Signing
+pub mod StepNotes
+pub mod Sublayout

@@ -1,0 +1,83 @@
+//! What a file that is claimed for a step is for that step.
+ghost use Rattle.std.specs.Prelude.{◌↔◌, IfOk, IsTrue, MatchOption, map};
+ghost use Rattle.it_dsse.specs.Panel.{panel_of};
+ghost use Rattle.it_docs.specs.Layout.{LayoutOf};
+ghost use Rattle.it_docs.specs.declared.layout.Layout.{Layout};
+ghost use Rattle.it_chain.specs.CountedBodies.{Body, BodyOf};
+ghost use Rattle.it_step_notes.specs.StepNotes.{IsFinding, IsFindingOf, IsNoBody};
+
+use crate::note::Finding;
+use crate::signing_ids::{other_ids, signing_ids};
+use crate::step_at::StepAt;
+use it_base::sequence::Sequence;
+use it_base::text::Text;
+use it_chain::{envelope_in, layout_in, link_in};
+use it_dsse::check::SignatureCheck;
+use it_dsse::envelope::Envelope;
+use it_dsse::payload_type::IN_TOTO;
+use std::alloc::{AllocError, Global};
+
+/// What a file's bytes are for a step.
+pub(crate) fn finding_in(
+    alloc: Global,
+    at: &StepAt,
+    bytes: &[u8],
+    panel: &[Box<dyn SignatureCheck>],
+) -> Result<Finding, AllocError>
+    ensures { IfOk result (IsFinding (panel_of (map meaning panel.now)) at.now.layout.now
+        at.now.step.now bytes.now) }
+{
+    match envelope_in(alloc, bytes)? {
+        Some(envelope) => finding_of(alloc, at, &envelope, panel),
+        None => Ok(Finding::NoEnvelope),
+    }
+}
+
+fn finding_of(
+    alloc: Global,
+    at: &StepAt,
+    envelope: &Envelope,
+    panel: &[Box<dyn SignatureCheck>],
+) -> Result<Finding, AllocError>
+    ensures { IfOk result (IsFindingOf (panel_of (map meaning panel.now)) at.now.layout.now
+        at.now.step.now envelope.now) }
+{
+    let kind = envelope.payload_type.as_str();
+    if kind != IN_TOTO {
+        return Ok(Finding::PayloadType(Text::copy(alloc, kind)?));
+    }
+    let ids = signing_ids(alloc, at, envelope, panel)?;
+    let signed = ids.as_slice();
+    if signed.is_empty() {
+        let others = other_ids(alloc, at, envelope, panel)?;
+        return Ok(Finding::NoSignature(Sequence::from(others)));
+    }
+    match no_body(alloc, at.step.name.as_str(), envelope.payload.as_slice())? {
+        Some(finding) => Ok(finding),
+        None => Ok(Finding::Counts(Sequence::from(ids))),
+    }
+}
+
+/// Why a payload is no body for a step, if it is none.
+fn no_body(alloc: Global, step: &str, payload: &[u8]) -> Result<Option<Finding>, AllocError>
+    ensures { IfOk result (λ found. MatchOption found
+        ((body : Body) × BodyOf step.now payload.now body) (IsNoBody step.now payload.now)) }
+{
+    match link_in(alloc, payload)? {
+        Some(link) if link.name.as_str() == step => Ok(None),
+        Some(link) => Ok(Some(Finding::OtherName(link.name))),
+        None => {
+            if is_layout(alloc, payload)? {
+                return Ok(None);
+            }
+            Ok(Some(Finding::NeitherLinkNorLayout))
+        }
+    }
+}
+
+fn is_layout(alloc: Global, payload: &[u8]) -> Result<bool, AllocError>
+    ensures { IfOk result
+        (λ is. IsTrue is ↔ ((layout : Layout) × LayoutOf payload.now layout)) }
+{
+    Ok(layout_in(alloc, payload)?.is_some())
+}

@@ -1,0 +1,21 @@
+//! What there is to say of a step for which too few keys signed: why the files that are claimed for
+//! it don't count, and what is odd about its key ids and about files near to it. Each note is true.
+#![tactic(auto)]
+
+mod claimed;
+mod file_notes;
+mod finding;
+mod id_notes;
+mod keep;
+pub mod laws;
+mod line;
+mod near_names;
+pub mod note;
+mod signing_ids;
+mod step_at;
+pub mod sublayout;
+#[cfg(test)]
+mod tests;
+mod threshold;
+
+pub use threshold::threshold_notes;

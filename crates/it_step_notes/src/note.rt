@@ -1,0 +1,50 @@
+//! What is noted of a step.
+use it_base::sequence::Sequence;
+use it_base::text::Text;
+
+/// What a file that is claimed for a step is for that step.
+#[derive(Drop)]
+pub enum Finding {
+    /// Its bytes are no DSSE envelope.
+    NoEnvelope,
+    /// The payload type of its envelope is this one, and not that of in-toto.
+    PayloadType(Text),
+    /// It has no valid signature of a key id that the step lists and the layout has a key for. It
+    /// is signed under these key ids of the layout, which the step does not list.
+    NoSignature(Sequence<Text>),
+    /// Its payload is neither a link nor a layout.
+    NeitherLinkNorLayout,
+    /// Its payload is a link that bears this name, which is not the step's.
+    OtherName(Text),
+    /// It counts for these key ids.
+    Counts(Sequence<Text>),
+}
+
+/// Something that is true of a step of a layout over a bundle.
+#[derive(Drop)]
+pub enum StepNote {
+    /// What a file that is claimed for the step is for it.
+    File {
+        /// The name of the file.
+        name: Text,
+        /// What it is.
+        finding: Finding,
+    },
+    /// The layout has no key object for a key id that the step lists.
+    NoKeyObject {
+        /// The key id.
+        id: Text,
+    },
+    /// No file has the name under which the link of a key id that the step lists is kept.
+    NoFile {
+        /// The key id.
+        id: Text,
+        /// The name that such a file would have.
+        name: Text,
+    },
+    /// The name of a file begins and ends as if it claimed the file for the step, but does not.
+    NearlyClaims {
+        /// The name of the file.
+        name: Text,
+    },
+}

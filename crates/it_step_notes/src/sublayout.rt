@@ -1,0 +1,153 @@
+//! Down to a sublayout (in-toto 1.0 sections 4.4 and 5.2).
+ghost use Rattle.std.specs.Prelude.{◌≡◌, Contains, IfOk, IfSome, IsTrue, map, option_map};
+ghost use Rattle.it_dsse.specs.Panel.{panel_of};
+ghost use Rattle.it_chain.specs.Contents.{folder_at};
+ghost use Rattle.it_chain.specs.Sublayouts.{folder_name as folder_name_of};
+ghost use Rattle.it_step_notes.specs.Sublayout.{HoldsLayout, IsSublayoutIn, IsSublayoutOf};
+ghost use Rattle.it_step_notes.specs.Sublayout.{LeadsDown};
+
+use crate::claimed::is_claimed;
+use crate::signing_ids::is_signed_under;
+use crate::step_at::StepAt;
+use it_base::text::Text;
+use it_chain::bundle::{Bundle, File};
+use it_chain::{envelope_in, folder_name, layout_in};
+use it_docs::layout::Layout;
+use it_docs::step::Step;
+use it_dsse::check::SignatureCheck;
+use it_dsse::payload_type::IN_TOTO;
+use std::alloc::{AllocError, Global};
+
+/// A sublayout, and the folder that its files are in.
+#[derive(Drop)]
+pub struct Sublayout<'a> {
+    /// The sublayout.
+    pub layout: Layout,
+    /// The folder of its files, or `None` where it is missing, which counts as an empty one.
+    pub folder: Option<&'a Bundle>,
+}
+
+/// A sublayout that a key id signed for a step of a layout, in a file of the bundle that is claimed
+/// for the step, and the folder that its files are in: one place down, as a refusal names it
+/// (in-toto 1.0 sections 4.4 and 5.2). `place` is the name of the step and the key id. `None` where
+/// there is no such sublayout. Signatures are checked by the `panel`.
+///
+/// # Errors
+///
+/// `AllocError` where memory was refused.
+pub fn sublayout_at<'a>(
+    alloc: Global,
+    layout: &Layout,
+    bundle: &'a Bundle,
+    place: &(Text, Text),
+    panel: &[Box<dyn SignatureCheck>],
+) -> Result<Option<Sublayout<'a>>, AllocError>
+    ensures leads { IfOk result (λ found. IfSome found (λ below.
+        LeadsDown (panel_of (map meaning panel.now)) layout.now bundle.now place.now.0 place.now.1
+        below.layout)) }
+    ensures folder { IfOk result (λ found. IfSome found (λ below.
+        option_map (λ folder. folder.now) below.folder
+        ≡ folder_at (folder_name_of place.now.0 place.now.1) bundle.now)) }
+{
+    let (name, id) = (place.0.as_str(), place.1.as_str());
+    let Some(step) = step_named(layout.steps.as_slice(), name) else {
+        return Ok(None);
+    };
+    let at = StepAt {
+        layout,
+        bundle,
+        step,
+    };
+    let Some(layout) = sublayout_of(alloc, &at, id, panel)? else {
+        return Ok(None);
+    };
+    let folder = folder_name(alloc, name, id)?;
+    Ok(Some(Sublayout {
+        layout,
+        folder: bundle.dir(folder.as_str()),
+    }))
+}
+
+fn step_named<'a>(steps: &'a [Step], name: &str) -> Option<&'a Step>
+    ensures stands { IfSome result (λ step. Contains steps.now step.now) }
+    ensures named { IfSome result (λ step. step.now.name ≡ name.now) }
+{
+    for step in steps {
+        if step.name.as_str() == name {
+            return Some(step);
+        }
+    }
+    None
+}
+
+/// The sublayout that a key id signed for a step.
+fn sublayout_of(
+    alloc: Global,
+    at: &StepAt,
+    id: &str,
+    panel: &[Box<dyn SignatureCheck>],
+) -> Result<Option<Layout>, AllocError>
+    ensures { IfOk result (λ found. IfSome found (IsSublayoutOf (panel_of (map meaning panel.now))
+        at.now.layout.now at.now.bundle.now at.now.step.now id.now)) }
+{
+    if !is_listed(at.step.pubkeys.as_slice(), id) {
+        return Ok(None);
+    }
+    for file in at.bundle.files() {
+        if let Some(found) = sublayout_in(alloc, at, id, file, panel)? {
+            return Ok(Some(found));
+        }
+    }
+    Ok(None)
+}
+
+fn is_listed(ids: &[Text], id: &str) -> bool
+    ensures { IsTrue result → Contains ids.now id.now }
+{
+    for listed in ids {
+        if listed.as_str() == id {
+            return true;
+        }
+    }
+    false
+}
+
+/// The sublayout that a file holds, where a key id signed it for the step.
+fn sublayout_in(
+    alloc: Global,
+    at: &StepAt,
+    id: &str,
+    file: &File,
+    panel: &[Box<dyn SignatureCheck>],
+) -> Result<Option<Layout>, AllocError>
+    ensures { IfOk result (λ found. IfSome found (IsSublayoutIn (panel_of (map meaning panel.now))
+        at.now.layout.now at.now.step.now id.now file.now)) }
+{
+    if !is_claimed(at.step.name.as_str(), file.name.as_str()) {
+        return Ok(None);
+    }
+    signed_layout(alloc, at.layout, id, file.bytes.as_slice(), panel)
+}
+
+/// The layout that the payload of an envelope is, which is signed under a key id.
+fn signed_layout(
+    alloc: Global,
+    layout: &Layout,
+    id: &str,
+    bytes: &[u8],
+    panel: &[Box<dyn SignatureCheck>],
+) -> Result<Option<Layout>, AllocError>
+    ensures { IfOk result (λ found. IfSome found (HoldsLayout (panel_of (map meaning panel.now))
+        layout.now id.now bytes.now)) }
+{
+    let Some(envelope) = envelope_in(alloc, bytes)? else {
+        return Ok(None);
+    };
+    if envelope.payload_type.as_str() != IN_TOTO {
+        return Ok(None);
+    }
+    if !is_signed_under(layout, &envelope, id, panel) {
+        return Ok(None);
+    }
+    layout_in(alloc, envelope.payload.as_slice())
+}

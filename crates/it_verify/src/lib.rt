@@ -22,4 +22,4 @@ pub use it_commands::{check_name, run_digest, run_match, run_pae, run_sign, run_
 pub use it_report::{refusal, report, verdict};
 pub use it_words::{outcome, words};
 pub use verification::verify;
-pub use verify_output::run_verify;
+pub use verify_output::{run_verify, write_verdict};

@@ -4,6 +4,7 @@ ghost use Rattle.std.specs.Io.KnownBytes.{Appends};
 ghost use Rattle.it_base.specs.Writing.{AppendsBeginning};
 ghost use Rattle.it_dsse.specs.Panel.{panel_of};
 ghost use Rattle.it_words.specs.Outcome.{IsOutputFault};
+ghost use Rattle.it_report.specs.Report.{report_of};
 ghost use Rattle.it_verify.specs.VerifyOutput.{IsVerifyOutput, status_of};
 
 use crate::inputs::Inputs;
@@ -13,7 +14,7 @@ use it_dsse::check::SignatureCheck;
 use it_report::report;
 use it_report::verdict::Verdict;
 use it_words::outcome::{RunFault, Status};
-use std::alloc::{AllocError, Global};
+use std::alloc::Global;
 use std::io::Write;
 
 /// Verifies delivered files, as `verify` does, and writes the report of the verdict.
@@ -40,25 +41,33 @@ pub fn run_verify<W: Write>(
     ensures memory { IsErrOf result RunFault.OutOfMemory → out.new ≡ out.old }
     ensures faults { IfErr result IsOutputFault }
 {
-    let output = verified_output(alloc, inputs, panel)?;
-    put(out, &output)
+    let answer = verify(alloc, inputs, panel)?;
+    write_verdict(alloc, &answer.verdict, out)
 }
 
-fn verified_output(
+/// Writes the report of a verdict.
+///
+/// The answer is `Good` where the verdict accepts, and `Refused` where it refuses.
+///
+/// # Errors
+///
+/// `Write` where the output could not be written; a beginning of the report went out. `OutOfMemory`
+/// where memory was refused; nothing went out.
+pub fn write_verdict<W: Write>(
     alloc: Global,
-    inputs: &Inputs,
-    panel: &[Box<dyn SignatureCheck>],
-) -> Result<Output, AllocError>
-    requires { inputs.now.depth ≤ 8 }
-    ensures { IfOk result (λ output. IsVerifyOutput (panel_of (map meaning panel.now)) inputs.now
-        output.text.items
-        output.status) }
+    verdict: &Verdict,
+    out: &mut W,
+) -> Result<Status, RunFault>
+    ensures ok { IfOk result (λ status. (status ≡ status_of verdict.now)
+        × Appends (W.contents out.old) (W.contents out.new) (report_of verdict.now)) }
+    ensures write { IsErrOf result RunFault.Write
+        → AppendsBeginning (W.contents out.old) (W.contents out.new) (report_of verdict.now) }
+    ensures memory { IsErrOf result RunFault.OutOfMemory → out.new ≡ out.old }
+    ensures faults { IfErr result IsOutputFault }
 {
-    let answer = verify(alloc, inputs, panel)?;
-    Ok(Output {
-        text: report(alloc, &answer.verdict)?,
-        status: status_of(&answer.verdict),
-    })
+    let text = report(alloc, verdict)?;
+    let status = status_of(verdict);
+    put(out, &Output { text, status })
 }
 
 fn status_of(verdict: &Verdict) -> Status

@@ -1,3 +1,5 @@
 pub mod Commands
 pub mod Fault
 pub mod Reading
+pub mod RingFlaw
+pub mod Shown

@@ -33,6 +33,13 @@ abbrev pub HoldsIfGiven : {A : Type 0} → (List ℕ → List A → Type 0) → 
 HoldsIfGiven holds None items = items ≡ []
 HoldsIfGiven holds (Some path) items = holds path items
 
+-- the bytes are those at the path, and there are none where no path is given
+abbrev pub IsGiven : (List ℕ → List ℕ → Type 0) → Option (List ℕ) → Option (List ℕ) → Type 0
+IsGiven holds None None = Unit {0}
+IsGiven holds None (Some bytes) = ⊥
+IsGiven holds (Some path) None = ⊥
+IsGiven holds (Some path) (Some bytes) = holds path bytes
+
 -- each input is what stands at the path of its own option, and the moment and the depth are those
 -- of the words
 pub record AreInputs (disk : Holdings) (words : VerifyWords) (inputs : Inputs) : Type 0 where

@@ -5,11 +5,15 @@ ghost use Rattle.itv.specs.Commands.{IsLineOf, ListsDigests};
 
 use crate::disk::Disk;
 use crate::fault::Fault;
+use crate::remembering::Remembering;
+use crate::shown::Shown;
 use it_base::text::Text;
 use it_digest::reader::DigestFault;
 use it_verify::outcome::{RunFault, Status};
 use it_verify::words::digest_words::DigestWords;
 use it_verify::{check_name, run_digest};
+use std::alloc::{AllocError, Global};
+use std::io;
 use std::io::Write;
 
 /// How many bytes a file may have.
@@ -42,17 +46,35 @@ fn digest_file<R: Disk + AllocGlobal, W: Write>(
 {
     let alloc = rt.alloc();
     let path = file.as_str();
-    check_name(path)?;
-    let mut input = rt.open(path)?;
+    if let Err(fault) = check_name(path) {
+        return Err(told(alloc, path, fault, None)?);
+    }
+    let mut input = Remembering::new(rt.open(path)?);
     match run_digest(alloc, path, &mut input, MOST_BYTES, out) {
         Ok(_) => Ok(()),
-        Err(RunFault::Digest(DigestFault::Read)) => Err(Fault::Unread {
-            path: String::from_str(alloc, path)?,
+        Err(fault) => Err(told(alloc, path, fault, input.error())?),
+    }
+}
+
+/// The fault of a file that has no line, with the error that its reader answered last.
+fn told(
+    alloc: Global,
+    path: &str,
+    fault: RunFault,
+    error: Option<io::Error>,
+) -> Result<Fault, AllocError> {
+    match fault {
+        RunFault::BadName => Ok(Fault::Unlistable {
+            path: Shown::of(alloc, path)?,
         }),
-        Err(RunFault::Digest(DigestFault::TooLarge)) => Err(Fault::TooLarge {
-            path: String::from_str(alloc, path)?,
+        RunFault::Digest(DigestFault::TooLarge) => Ok(Fault::TooLarge {
+            path: Shown::of(alloc, path)?,
             limit: MOST_BYTES,
         }),
-        Err(fault) => Err(Fault::Run(fault)),
+        RunFault::Digest(DigestFault::Read) => {
+            let error = error.unwrap_or(io::Error::from(io::ErrorKind::Other));
+            Fault::unreadable(alloc, path, &error)
+        }
+        fault => Ok(Fault::Run(fault)),
     }
 }

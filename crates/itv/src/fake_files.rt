@@ -14,8 +14,10 @@ pub(crate) enum Node<'a> {
     Bytes(&'a [u8]),
     // So many bytes, whichever they are.
     File(usize),
-    // A file that opens, and that the system cannot read for want of memory.
-    Starved,
+    // A file or a folder that opens, and that the system then fails to read.
+    Failing(io::ErrorKind),
+    // A symbolic link that leads nowhere.
+    Dangling,
     // Names, each with a zero byte at its end, and so many files more, of which each is empty.
     Folder(&'a [u8], usize),
     // Neither a file nor a folder: it cannot be opened.
@@ -60,7 +62,8 @@ impl<'a> Files for FakeFiles<'a> {
         match self.node(path)? {
             Node::Bytes(bytes) => Ok(Content::Bytes(bytes)),
             Node::File(left) => Ok(Content::Blank(left)),
-            Node::Starved => Ok(Content::Starved),
+            Node::Failing(kind) => Ok(Content::Failing(kind)),
+            Node::Dangling => Err(missing()),
             _ => Err(unsupported()),
         }
     }
@@ -74,14 +77,18 @@ impl<'a> Files for FakeFiles<'a> {
 
     fn metadata(&self, path: &str) -> io::Result<Metadata> {
         Ok(match self.node(path)? {
-            Node::Bytes(_) | Node::File(_) | Node::Starved => Metadata::of_file(0),
+            Node::Bytes(_) | Node::File(_) | Node::Failing(_) => Metadata::of_file(0),
+            Node::Dangling => return Err(missing()),
             Node::Folder(_, _) => Metadata::of_dir(),
             Node::Device => Metadata::of_symlink(0),
         })
     }
 
-    fn symlink_metadata(&self, _path: &str) -> io::Result<Metadata> {
-        Err(unsupported())
+    fn symlink_metadata(&self, path: &str) -> io::Result<Metadata> {
+        match self.node(path)? {
+            Node::Dangling => Ok(Metadata::of_symlink(0)),
+            _ => Err(unsupported()),
+        }
     }
 
     fn copy(&self, _from: &str, _to: &str) -> io::Result<u64> {
@@ -114,7 +121,7 @@ impl<'a> Files for FakeFiles<'a> {
 pub(crate) enum Content<'a> {
     Bytes(&'a [u8]),
     Blank(usize),
-    Starved,
+    Failing(io::ErrorKind),
 }
 
 impl Read for Content<'_> {
@@ -126,7 +133,7 @@ impl Read for Content<'_> {
                 *left -= count;
                 Ok(count)
             }
-            Content::Starved => Err(io::Error::from(io::ErrorKind::OutOfMemory)),
+            Content::Failing(kind) => Err(io::Error::from(*kind)),
         }
     }
 }

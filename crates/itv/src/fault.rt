@@ -4,6 +4,9 @@ ghost use Rattle.it_words.specs.declared.outcome.RunFault.TheVariants.{OutOfMemo
 ghost use Rattle.itv.specs.Fault.{program_status};
 ghost use Rattle.itv.specs.declared.fault.Fault.TheVariants.{Run};
 
+use crate::ring_flaw::RingFlaw;
+use crate::shown::Shown;
+use it_base::text::Text;
 use it_verify::outcome::{RunFault, Status, exit_of};
 use it_verify::words::WordsFault;
 use std::alloc::{AllocError, AllocFailed, Global};
@@ -16,27 +19,51 @@ pub(crate) enum Fault {
     /// The words do not parse, for this reason.
     #[error("{0}")]
     Words(String),
+    /// The name under which the program runs is not UTF-8.
+    #[error("the program's name is not UTF-8")]
+    BadProgramName,
+    /// The word at this place, counted from 1 after the program's name, is not UTF-8.
+    #[error("word {0} after the program's name is not UTF-8")]
+    BadWord(usize),
     /// A file cannot be read, for this reason.
     #[error("cannot read {path}: {reason}")]
-    Unreadable { path: String, reason: String },
-    /// A file was opened and cannot be read.
-    #[error("cannot read {path}")]
-    Unread { path: String },
+    Unreadable { path: Shown, reason: String },
     /// A file has more bytes than this.
     #[error("{path} is larger than {limit} bytes")]
-    TooLarge { path: String, limit: u64 },
+    TooLarge { path: Shown, limit: u64 },
+    /// A file's name has a line feed.
+    #[error("{path} has a line feed in its name, which a digest list cannot hold")]
+    Unlistable { path: Shown },
     /// A folder has a name in it that is not UTF-8.
     #[error("cannot read {path}: a name in it is not UTF-8")]
-    BadName { path: String },
+    BadName { path: Shown },
     /// A folder has more entries that are read than this.
     #[error("{path} has more than {limit} entries to read")]
-    TooMany { path: String, limit: usize },
-    /// A file is no ring.
-    #[error("{path} is no ring of secrets")]
-    BadRing { path: String },
+    TooMany { path: Shown, limit: usize },
+    /// A file is no ring, for this reason.
+    #[error("{path} is no ring of secrets: {flaw}")]
+    BadRing { path: Shown, flaw: RingFlaw },
     /// A ring has no entry with this id.
     #[error("{path} has no key {id}")]
-    UnknownKey { path: String, id: String },
+    UnknownKey { path: Shown, id: Shown },
+    /// A line of a digest list, counted from 1, is none, or names a path again.
+    #[error("{path}: line {line} is no line of a digest list, or repeats a path")]
+    BadLine { path: Shown, line: u64 },
+    /// The external parameters are no JSON object, or one that nests too deep.
+    #[error("{path} is no JSON object that nests at most 124 levels deep")]
+    BadParameters { path: Shown },
+    /// What a signature is to be added to is no envelope.
+    #[error("{path} is no DSSE envelope")]
+    NoEnvelope { path: Shown },
+    /// An envelope that a signature is to be added to has another payload than the body.
+    #[error("{path} has another payload than {body}")]
+    OtherPayload { path: Shown, body: Shown },
+    /// An envelope that a signature is to be added to has another payload type.
+    #[error("{path} has another payload type than {kind}")]
+    OtherType { path: Shown, kind: Shown },
+    /// The output cannot be written, for this reason.
+    #[error("cannot write the output: {reason}")]
+    Unwritable { reason: String },
     /// The command stopped.
     #[error("{0}")]
     Run(RunFault),
@@ -78,7 +105,6 @@ impl Fault {
     pub(crate) fn of_words(alloc: Global, error: &io::Error) -> Fault {
         match error.kind() {
             io::ErrorKind::OutOfMemory => Fault::from(AllocError),
-            io::ErrorKind::InvalidData => said(alloc, "a word is not UTF-8"),
             _ => said(alloc, "the words cannot be read"),
         }
     }
@@ -88,7 +114,7 @@ impl Fault {
         if error.kind() == io::ErrorKind::OutOfMemory {
             return Fault::from(AllocError);
         }
-        match unreadable(alloc, path, error) {
+        match Fault::unreadable(alloc, path, error) {
             Ok(fault) => fault,
             Err(error) => Fault::from(error),
         }
@@ -99,8 +125,49 @@ impl Fault {
         if error.kind() != io::ErrorKind::InvalidFilename {
             return Fault::of_file(alloc, path, error);
         }
-        match String::from_str(alloc, path) {
+        match Shown::of(alloc, path) {
             Ok(path) => Fault::BadName { path },
+            Err(error) => Fault::from(error),
+        }
+    }
+
+    /// The fault of a file that cannot be read, for the system's reason.
+    pub(crate) fn unreadable(
+        alloc: Global,
+        path: &str,
+        error: &io::Error,
+    ) -> Result<Fault, AllocError> {
+        Ok(Fault::Unreadable {
+            path: Shown::of(alloc, path)?,
+            reason: reason_of(alloc, error)?,
+        })
+    }
+
+    /// The fault of a file that cannot be read, for a reason in the program's own words.
+    pub(crate) fn unread(alloc: Global, path: &str, reason: &str) -> Result<Fault, AllocError> {
+        Ok(Fault::Unreadable {
+            path: Shown::of(alloc, path)?,
+            reason: String::from_str(alloc, reason)?,
+        })
+    }
+
+    /// The fault of a digest list with a bad line. Where no list was given it has no line.
+    pub(crate) fn bad_line(
+        alloc: Global,
+        path: &Option<Text>,
+        line: u64,
+    ) -> Result<Fault, AllocError> {
+        let path = path.as_ref().map_or("", |path| path.as_str());
+        Ok(Fault::BadLine {
+            path: Shown::of(alloc, path)?,
+            line,
+        })
+    }
+
+    /// The fault of an output that the system did not take.
+    pub(crate) fn of_output(alloc: Global, error: &io::Error) -> Fault {
+        match reason_of(alloc, error) {
+            Ok(reason) => Fault::Unwritable { reason },
             Err(error) => Fault::from(error),
         }
     }
@@ -113,15 +180,8 @@ fn said(alloc: Global, reason: &str) -> Fault {
     }
 }
 
-fn unreadable(alloc: Global, path: &str, error: &io::Error) -> Result<Fault, AllocError> {
-    Ok(Fault::Unreadable {
-        path: String::from_str(alloc, path)?,
-        reason: reason(alloc, error)?,
-    })
-}
-
 /// The system's own words, without the number of the error.
-fn reason(alloc: Global, error: &io::Error) -> Result<String, AllocError> {
+fn reason_of(alloc: Global, error: &io::Error) -> Result<String, AllocError> {
     let text = format!(in alloc; "{error}")?;
     match text.as_str().split_once(" (os error ") {
         Some((reason, _)) => String::from_str(alloc, reason),

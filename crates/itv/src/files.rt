@@ -1,9 +1,13 @@
 //! Files, read up to a limit and no further.
 ghost use Rattle.std.specs.Prelude.{◌≡◌, ◌<◌, ◌≤◌, ◌-◌, ◌^◌, length, IfOk, IfSome, IsNone};
-ghost use Rattle.itv.specs.Reading.{HoldsRing};
+ghost use Rattle.itv.specs.Reading.{HoldsIfGiven, HoldsRing};
 
 use crate::disk::Disk;
 use crate::fault::Fault;
+use crate::ring_flaw::ring_flaw;
+use crate::shown::Shown;
+use it_base::sequence::Sequence;
+use it_base::text::Text;
 use it_dsse::ring::{HmacRing, RingFault};
 use std::alloc::{AllocError, Global};
 use std::io::Read;
@@ -25,10 +29,30 @@ pub(crate) fn read_file<R: Files + AllocGlobal>(rt: &R, path: &str) -> Result<Ve
     match bytes {
         Ok(Some(bytes)) => Ok(bytes),
         Ok(None) => Err(Fault::TooLarge {
-            path: String::from_str(alloc, path)?,
+            path: Shown::of(alloc, path)?,
             limit: MOST_BYTES,
         }),
         Err(error) => Err(Fault::of_file(alloc, path, &error)),
+    }
+}
+
+/// The bytes of the file at a path.
+pub(crate) fn bytes<R: Disk>(rt: &R, path: &Text) -> Result<Sequence<u8>, Fault>
+    ensures { IfOk result (λ bytes. R.holdings.file path.now bytes) }
+{
+    Ok(Sequence::from(rt.file(path.as_str())?))
+}
+
+/// The bytes of a file, or none where no file is given.
+pub(crate) fn bytes_if_given<R: Disk + AllocGlobal>(
+    rt: &R,
+    path: &Option<Text>,
+) -> Result<Sequence<u8>, Fault>
+    ensures { IfOk result (λ bytes. HoldsIfGiven R.holdings.file path.now bytes) }
+{
+    match path {
+        Some(path) => bytes(rt, path),
+        None => Ok(Sequence::from(Vec::new(rt.alloc()))),
     }
 }
 
@@ -40,11 +64,17 @@ pub(crate) fn read_ring<R: Disk + AllocGlobal>(rt: &R, path: &str) -> Result<Hma
     let bytes = rt.file(path)?;
     match HmacRing::read(alloc, bytes.as_slice()) {
         Ok(ring) => Ok(ring),
-        Err(RingFault::BadRing) => Err(Fault::BadRing {
-            path: String::from_str(alloc, path)?,
-        }),
+        Err(RingFault::BadRing) => Err(no_ring(alloc, path, bytes.as_slice())?),
         Err(RingFault::OutOfMemory) => Err(Fault::from(AllocError)),
     }
+}
+
+/// The fault of a file that is no ring.
+fn no_ring(alloc: Global, path: &str, bytes: &[u8]) -> Result<Fault, AllocError> {
+    Ok(Fault::BadRing {
+        path: Shown::of(alloc, path)?,
+        flaw: ring_flaw(alloc, bytes)?,
+    })
 }
 
 /// All bytes of a reader, or `None` where there are more than `limit`. Reads one byte beyond the

@@ -1,13 +1,14 @@
 //! Folders of links and of records, read as far as they count and no further.
 use crate::fault::Fault;
 use crate::files::read_file;
+use crate::shown::Shown;
 use it_base::sequence::Sequence;
 use it_base::text::Text;
 use it_chain::bundle::{Bundle, BundleFault};
 use std::alloc::AllocError;
-use std::fs;
 use std::path::{Path, PathBuf};
 use std::rt::Files;
+use std::{fs, io};
 
 #[cfg(test)]
 mod tests;
@@ -67,9 +68,10 @@ fn add_folder<R: Files + AllocGlobal>(
 ) -> Result<(), Fault> {
     match links.add_dir(entry.name, inner) {
         Ok(()) => Ok(()),
-        Err(BundleFault::NameTaken(_)) => Err(Fault::Unread {
-            path: entry.path.into_string(),
-        }),
+        Err(BundleFault::NameTaken(_)) => {
+            let path = entry.path.as_str();
+            Err(Fault::unread(rt.alloc(), path, "its name stands twice")?)
+        }
         Err(BundleFault::OutOfMemory) => Err(Fault::from(AllocError)),
     }
 }
@@ -104,7 +106,7 @@ fn entries<R: Files + AllocGlobal>(rt: &R, folder: &str, depth: u8) -> Result<Ve
         };
         if entries.len() == MOST_ENTRIES {
             return Err(Fault::TooMany {
-                path: String::from_str(alloc, folder)?,
+                path: Shown::of(alloc, folder)?,
                 limit: MOST_ENTRIES,
             });
         }
@@ -153,6 +155,23 @@ fn kind_of<R: Files + AllocGlobal>(
         Ok(found) if found.is_dir() && depth > 0 => Ok(Some(Kind::Folder)),
         Ok(found) if found.is_file() && name.ends_with(ENDING) => Ok(Some(Kind::File)),
         Ok(_) => Ok(None),
-        Err(error) => Err(Fault::of_file(rt.alloc(), path, &error)),
+        Err(error) => Err(untold(rt, path, &error)?),
+    }
+}
+
+/// The fault of an entry of which the system does not tell what it is.
+fn untold<R: Files + AllocGlobal>(
+    rt: &R,
+    path: &str,
+    error: &io::Error,
+) -> Result<Fault, AllocError> {
+    if error.kind() != io::ErrorKind::NotFound {
+        return Ok(Fault::of_file(rt.alloc(), path, error));
+    }
+    match fs::symlink_metadata(rt, path) {
+        Ok(found) if found.is_symlink() => {
+            Fault::unread(rt.alloc(), path, "it is a symbolic link that leads nowhere")
+        }
+        _ => Ok(Fault::of_file(rt.alloc(), path, error)),
     }
 }

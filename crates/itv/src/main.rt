@@ -3,6 +3,7 @@
 //! Reads the words, the files and the rings, and hands them to the command of `it_verify`.
 #![tactic(auto)]
 
+mod command_line;
 mod digest_command;
 mod disk;
 #[cfg(test)]
@@ -10,11 +11,18 @@ mod fake_files;
 mod fault;
 mod files;
 mod folders;
+mod link_command;
 mod match_command;
 mod pae_command;
+mod payload_command;
+mod remembering;
+mod ring_flaw;
 mod running;
+mod shown;
 mod sign_command;
+mod sign_onto_command;
 mod signed_command;
+mod statement_command;
 #[cfg(test)]
 mod tests;
 mod verify_command;
@@ -22,13 +30,14 @@ mod verify_command;
 use disk::Disk;
 use fault::{Fault, exit_status};
 use it_verify::outcome::Status;
-use running::run_words;
+use running::run_to;
+use std::io;
+use std::io::Write;
 use std::process::ExitCode;
 use std::rt::Env;
-use std::{env, io};
 
 fn main(rt: HostRuntime) -> ExitCode {
-    let outcome = run(&rt);
+    let outcome = run(&rt, &mut rt.stderr());
     if let Err(fault) = &outcome {
         let _ = eprintln!(rt; "itv: {fault}");
     }
@@ -36,15 +45,10 @@ fn main(rt: HostRuntime) -> ExitCode {
 }
 
 /// Reads the words, and runs the command that they name.
-fn run<R: Env + Disk + Print + AllocGlobal>(rt: &R) -> Result<Status, Fault> {
-    let words = words(rt)?;
-    let mut out = io::writer(rt);
-    run_words(rt, words.as_slice(), &mut out)
-}
-
-fn words<R: Env + AllocGlobal>(rt: &R) -> Result<Vec<String>, Fault> {
-    match env::args(rt) {
-        Ok(words) => Ok(words.collect(rt.alloc())?),
-        Err(error) => Err(Fault::of_words(rt.alloc(), &error)),
-    }
+fn run<R: Env + Disk + Print + AllocGlobal, N: Write>(
+    rt: &R,
+    notes: &mut N,
+) -> Result<Status, Fault> {
+    let words = command_line::words(rt)?;
+    run_to(rt, words.as_slice(), io::writer(rt), notes)
 }

@@ -6,21 +6,44 @@ ghost use Rattle.itv.specs.Commands.{IsOutputOf};
 
 use crate::disk::Disk;
 use crate::fault::Fault;
+use crate::remembering::Remembering;
 use crate::{
-    digest_command, match_command, pae_command, sign_command, signed_command, verify_command,
+    digest_command, link_command, match_command, pae_command, payload_command, sign_command,
+    signed_command, statement_command, verify_command,
 };
-use it_verify::outcome::Status;
+use it_verify::outcome::{RunFault, Status};
 use it_verify::words::{Words, read_words};
 use std::io::Write;
 
 #[cfg(test)]
 mod tests;
 
-/// Runs the command that the words name. The first word is the program's name.
-pub(crate) fn run_words<R: Disk + AllocGlobal, W: Write>(
+/// Runs the command that the words name, and says why the system did not take its output where that
+/// is so. What there is to say beside the output goes to `notes`. The first word is the program's
+/// name.
+pub(crate) fn run_to<R: Disk + AllocGlobal, W: Write + Drop, N: Write>(
+    rt: &R,
+    words: &[String],
+    out: W,
+    notes: &mut N,
+) -> Result<Status, Fault> {
+    let mut out = Remembering::new(out);
+    let outcome = run_words(rt, words, &mut out, notes);
+    match (outcome, out.error()) {
+        (Err(Fault::Run(RunFault::Write)), Some(error)) => {
+            Err(Fault::of_output(rt.alloc(), &error))
+        }
+        (outcome, _) => outcome,
+    }
+}
+
+/// Runs the command that the words name. What there is to say beside its output goes to `notes`.
+/// The first word is the program's name.
+pub(crate) fn run_words<R: Disk + AllocGlobal, W: Write, N: Write>(
     rt: &R,
     words: &[String],
     out: &mut W,
+    notes: &mut N,
 ) -> Result<Status, Fault>
     ensures { IfOk result (λ status. (command : _) × (text : _)
         × AreWordsOf (map string_bytes words.now) command
@@ -28,13 +51,14 @@ pub(crate) fn run_words<R: Disk + AllocGlobal, W: Write>(
         × Appends (W.contents out.old) (W.contents out.new) text) }
 {
     let command = read_words(rt.alloc(), words)?;
-    run_command(rt, &command, out)
+    run_command(rt, &command, out, notes)
 }
 
-fn run_command<R: Disk + AllocGlobal, W: Write>(
+fn run_command<R: Disk + AllocGlobal, W: Write, N: Write>(
     rt: &R,
     command: &Words,
     out: &mut W,
+    notes: &mut N,
 ) -> Result<Status, Fault>
     requires { GoesNoDeeper command.now }
     ensures { IfOk result (λ status. (text : _) × IsOutputOf R.holdings command.now text status
@@ -46,6 +70,9 @@ fn run_command<R: Disk + AllocGlobal, W: Write>(
         Words::Pae(words) => pae_command::run(rt, words, out),
         Words::Sign(words) => sign_command::run(rt, words, out),
         Words::Digest(words) => digest_command::run(rt, words, out),
-        Words::Verify(words) => verify_command::run(rt, words, out),
+        Words::Link(words) => link_command::run(rt, words, out),
+        Words::Statement(words) => statement_command::run(rt, words, out),
+        Words::Payload(words) => payload_command::run(rt, words, out),
+        Words::Verify(words) => verify_command::run(rt, words, out, notes),
     }
 }

@@ -10,23 +10,25 @@ ghost use Rattle.itv.specs.Reading.{AreInputs, HoldsIfGiven, HoldsRing};
 
 use crate::disk::Disk;
 use crate::fault::Fault;
-use crate::files::read_ring;
+use crate::files::{bytes, bytes_if_given, read_ring};
 use it_base::sequence::Sequence;
 use it_base::text::Text;
 use it_dsse::check::SignatureCheck;
 use it_dsse::ring::HmacRing;
+use it_notes::verify_with_notes::verify_with_notes;
 use it_verify::inputs::Inputs;
 use it_verify::outcome::{RunFault, Status};
-use it_verify::run_verify;
 use it_verify::words::verify_words::VerifyWords;
 use std::alloc::Global;
 use std::io::Write;
 
-/// Reads all files and folders and the rings, and writes the report of the verdict.
-pub(crate) fn run<R: Disk + AllocGlobal, W: Write>(
+/// Reads all files and folders and the rings, writes the report of the verdict, and then what there
+/// is to note.
+pub(crate) fn run<R: Disk + AllocGlobal, W: Write, N: Write>(
     rt: &R,
     words: &VerifyWords,
     out: &mut W,
+    notes: &mut N,
 ) -> Result<Status, Fault>
     requires { words.now.depth ≤ 8 }
     ensures ok { IfOk result (λ status. (text : _) × Verifies R.holdings words.now text status
@@ -36,15 +38,17 @@ pub(crate) fn run<R: Disk + AllocGlobal, W: Write>(
     let alloc = rt.alloc();
     let inputs = inputs(rt, words)?;
     let rings = read_rings(rt, words.rings.as_slice())?;
-    Ok(verify_by(alloc, &inputs, rings, out)?)
+    Ok(verify_by(alloc, &inputs, rings, out, notes)?)
 }
 
-/// Writes the report of the verdict on the inputs, with signatures checked by the rings.
-fn verify_by<W: Write>(
+/// Writes the report of the verdict on the inputs, and then the notes on it, with signatures
+/// checked by the rings.
+fn verify_by<W: Write, N: Write>(
     alloc: Global,
     inputs: &Inputs,
     rings: Vec<HmacRing>,
     out: &mut W,
+    notes: &mut N,
 ) -> Result<Status, Fault>
     requires { inputs.now.depth ≤ 8 }
     ensures ok { IfOk result (λ status. (text : _)
@@ -56,7 +60,8 @@ fn verify_by<W: Write>(
     for ring in rings {
         panel.push(Box::new(alloc, ring)?)?;
     }
-    Ok(run_verify(alloc, inputs, panel.as_slice(), out)?)
+    let panel = panel.as_slice();
+    Ok(verify_with_notes(alloc, inputs, panel, out, notes)?)
 }
 
 /// The rings at the paths, in their order.
@@ -85,22 +90,6 @@ fn inputs<R: Disk + AllocGlobal>(rt: &R, words: &VerifyWords) -> Result<Inputs, 
         moment: Text::from(moment),
         depth: words.depth,
     })
-}
-
-fn bytes<R: Disk>(rt: &R, path: &Text) -> Result<Sequence<u8>, Fault>
-    ensures { IfOk result (λ bytes. R.holdings.file path.now bytes) }
-{
-    Ok(Sequence::from(rt.file(path.as_str())?))
-}
-
-/// The bytes of a file, or none where no file is given.
-fn bytes_if_given<R: Disk + AllocGlobal>(rt: &R, path: &Option<Text>) -> Result<Sequence<u8>, Fault>
-    ensures { IfOk result (λ bytes. HoldsIfGiven R.holdings.file path.now bytes) }
-{
-    match path {
-        Some(path) => bytes(rt, path),
-        None => Ok(Sequence::from(Vec::new(rt.alloc()))),
-    }
 }
 
 /// The records in a folder, or none where no folder is given.

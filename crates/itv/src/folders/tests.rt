@@ -54,6 +54,18 @@ fn stops_at_what_cannot_be_listed(rt: HostRuntime) -> Result<(), Fail> {
     let gone: &[(&str, Node<'_>)] = &[("d", Node::Folder(b"gone.d\0", 0))];
     assert!(rt; matches!(shown(alloc, gone, 1), Err(Fault::Unreadable { .. })));
     assert_eq!(rt; shown(alloc, gone, 0)?.as_str(), "");
+    let stray: &[(&str, Node<'_>)] = &[
+        ("d", Node::Folder(b"x.link\0", 0)),
+        ("d/x.link", Node::Dangling),
+    ];
+    let told = match shown(alloc, stray, 0) {
+        Ok(text) => text,
+        Err(fault) => format!(in alloc; "{fault}")?,
+    };
+    assert_eq!(rt;
+        told.as_str(),
+        "cannot read d/x.link: it is a symbolic link that leads nowhere"
+    );
     let odd: &[(&str, Node<'_>)] = &[("d", Node::Folder(b"a\xff\0", 0))];
     assert!(rt; matches!(shown(alloc, odd, 0), Err(Fault::BadName { .. })));
     let file: &[(&str, Node<'_>)] = &[("d", Node::File(0))];

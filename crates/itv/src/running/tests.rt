@@ -1,22 +1,27 @@
-use super::run_words;
+use super::{run_to, run_words};
 use crate::fake_files::FakeFiles;
 use crate::fault::exit_status;
 use std::alloc::{AllocError, Global};
+use std::io;
+use std::io::Write;
 use std::test::Fail;
 
 mod changes;
 mod delivery;
+mod making;
+mod notes;
 
 use delivery::FILES;
 
 // What went out, with the note where the command stopped, and the status of the program.
 fn ran(alloc: Global, words: &str) -> Result<(String, u8), Fail> {
     let mut out = Vec::new(alloc);
+    let mut notes = Vec::new(alloc);
     let disk = FakeFiles {
         nodes: FILES.as_slice(),
     };
     let words = each_word(alloc, words)?;
-    let outcome = run_words(&(disk, alloc), words.as_slice(), &mut out);
+    let outcome = run_words(&(disk, alloc), words.as_slice(), &mut out, &mut notes);
     let mut text = String::from_utf8(out).ok().ok_or("no text")?;
     if let Err(fault) = &outcome {
         text.push_str(format!(in alloc; "{fault}")?.as_str())?;
@@ -59,7 +64,10 @@ const BOTH: &str = "ba7816bf8f01cfea414140de5dae2223b00361a396177a9cb410ff61f200
 const ABC_AND_NOTE: &str = "ba7816bf8f01cfea414140de5dae2223b00361a396177a9cb410ff61f20015ad  abc\n\
     cannot read gone: entity not found";
 
-static ROWS: [Row; 18] = [
+const ABC_AND_NAME: &str = "ba7816bf8f01cfea414140de5dae2223b00361a396177a9cb410ff61f20015ad  abc\n\
+    a\\x0ab has a line feed in its name, which a digest list cannot hold";
+
+static ROWS: [Row; 26] = [
     Row {
         words: "itv match a* ab",
         text: "yes\n",
@@ -117,7 +125,7 @@ static ROWS: [Row; 18] = [
     },
     Row {
         words: "itv sign ring --ring body --key alice --type t",
-        text: "body is no ring of secrets",
+        text: "body is no ring of secrets: it is no JSON list",
         status: 2,
     },
     Row {
@@ -147,7 +155,47 @@ static ROWS: [Row; 18] = [
     },
     Row {
         words: "itv signed ring --ring envelope",
-        text: "envelope is no ring of secrets",
+        text: "envelope is no ring of secrets: it is no JSON list",
+        status: 2,
+    },
+    Row {
+        words: "itv signed ring --ring abc",
+        text: "abc is no ring of secrets: it is no JSON document",
+        status: 2,
+    },
+    Row {
+        words: "itv signed ring --ring twice",
+        text: "twice is no ring of secrets: entry 2 has the id b\\x20c, as one before it",
+        status: 2,
+    },
+    Row {
+        words: "itv sign body --ring ring --key= --type t",
+        text: "ring has no key \"\"",
+        status: 2,
+    },
+    Row {
+        words: "itv pae gone\u{e9} --type t",
+        text: "cannot read gone\\xc3\\xa9: entity not found",
+        status: 2,
+    },
+    Row {
+        words: "itv pae large --type t",
+        text: "large is larger than 8388608 bytes",
+        status: 2,
+    },
+    Row {
+        words: "itv digest folder",
+        text: "cannot read folder: is a directory",
+        status: 2,
+    },
+    Row {
+        words: "itv digest starved",
+        text: "cannot read starved: out of memory",
+        status: 2,
+    },
+    Row {
+        words: "itv digest abc a\nb",
+        text: ABC_AND_NAME,
         status: 2,
     },
 ];
@@ -158,6 +206,50 @@ fn runs_each_command_over_files(rt: HostRuntime) -> Result<(), Fail> {
         let (text, status) = ran(rt.alloc(), row.words)?;
         assert_eq!(rt; text.as_str(), row.text, "{}", row.words);
         assert_eq!(rt; status, row.status, "{}", row.words);
+    }
+    Ok(())
+}
+
+// Takes nothing, and says why if there is a reason.
+#[derive(Drop)]
+struct Full {
+    reason: Option<io::ErrorKind>,
+}
+
+impl Write for Full {
+    fn write(&mut self, _bytes: &[u8]) -> io::Result<usize> {
+        match self.reason {
+            Some(reason) => Err(io::Error::from(reason)),
+            None => Ok(0),
+        }
+    }
+
+    fn flush(&mut self) -> io::Result<()> {
+        Ok(())
+    }
+}
+
+#[test]
+fn says_why_an_output_is_not_written(rt: HostRuntime) -> Result<(), Fail> {
+    let alloc = rt.alloc();
+    let disk = FakeFiles { nodes: &[] };
+    let words = each_word(alloc, "itv match a a")?;
+    let rows = [
+        (
+            Some(io::ErrorKind::StorageFull),
+            "cannot write the output: no storage space",
+        ),
+        (None, "cannot write the output"),
+    ];
+    for (reason, told) in rows {
+        let mut notes: Vec<u8> = Vec::new(alloc);
+        let full = Full { reason };
+        let outcome = run_to(&(disk, alloc), words.as_slice(), full, &mut notes);
+        assert_eq!(rt; exit_status(&outcome), 2);
+        let Err(fault) = outcome else {
+            panic!(rt; "{told}");
+        };
+        assert_eq!(rt; format!(in alloc; "{fault}")?.as_str(), told);
     }
     Ok(())
 }

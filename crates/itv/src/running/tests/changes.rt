@@ -1,7 +1,7 @@
 use super::ran;
 use std::test::Fail;
 
-const VERIFY: &str = "itv verify --policy policy --layout layout --links links --sums sums \
+pub(super) const VERIFY: &str = "itv verify --policy policy --layout layout --links links --sums sums \
     --provenance provenance --records records --ring ring --at 2030-01-01T00:00:00Z --depth 1";
 
 const ACCEPTED: &str = "accepted\nstep build 2\nfile app\n";
@@ -15,7 +15,7 @@ struct Change {
     status: u8,
 }
 
-static CHANGES: [Change; 20] = [
+static CHANGES: [Change; 23] = [
     Change {
         from: "--depth 1",
         to: "--depth 1",
@@ -62,6 +62,24 @@ static CHANGES: [Change; 20] = [
         from: "--links links",
         to: "--links gone",
         text: "cannot read gone: entity not found",
+        status: 2,
+    },
+    Change {
+        from: "--links links",
+        to: "--links stray",
+        text: "cannot read stray/a.link: it is a symbolic link that leads nowhere",
+        status: 2,
+    },
+    Change {
+        from: "--links links",
+        to: "--links odd",
+        text: "cannot read odd: a name in it is not UTF-8",
+        status: 2,
+    },
+    Change {
+        from: "--links links",
+        to: "--links many",
+        text: "many has more than 1000 entries to read",
         status: 2,
     },
     Change {
@@ -115,7 +133,7 @@ static CHANGES: [Change; 20] = [
     Change {
         from: "--ring ring",
         to: "--ring policy",
-        text: "policy is no ring of secrets",
+        text: "policy is no ring of secrets: it is no JSON list",
         status: 2,
     },
     Change {
@@ -133,7 +151,7 @@ static CHANGES: [Change; 20] = [
     Change {
         from: "--ring ring",
         to: "--ring ring --ring policy",
-        text: "policy is no ring of secrets",
+        text: "policy is no ring of secrets: it is no JSON list",
         status: 2,
     },
 ];

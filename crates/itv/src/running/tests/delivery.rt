@@ -2,9 +2,10 @@
 // another program. In the comments A stands for the SHA-256 of `abc`, and K for
 // {"scheme":"hmac-sha256"}.
 use crate::fake_files::Node;
+use std::io::ErrorKind;
 
 // Each secret is the id's own bytes.
-const RING: &[u8] =
+pub(super) const RING: &[u8] =
     br#"[{"id":"owner","secret":"6f776e6572"},{"id":"builder","secret":"6275696c646572"},
     {"id":"dave","secret":"64617665"},{"id":"bob","secret":"626f62"},
     {"id":"alice","secret":"616c696365"}]"#;
@@ -82,7 +83,14 @@ const PROVENANCE: &[u8] = b"{\"payloadType\":\"application/vnd.in-toto+json\",\"
     Y2kifX19fQ==\
     \",\"signatures\":[{\"sig\":\"brL2+MxyQTVzSvgOSR7HAgc9xC1RWG30EDQS9jWNZMk=\"}]}";
 
-pub(super) static FILES: [(&str, Node<'static>); 19] = [
+// A path that stands twice.
+const DOUBLED: &[u8] = b"ba7816bf8f01cfea414140de5dae2223b00361a396177a9cb410ff61f20015ad  app\n\
+    e3b0c44298fc1c149afbf4c8996fb92427ae41e4649b934ca495991b7852b855  app\n";
+
+// An id that stands twice.
+const TWICE: &[u8] = br#"[{"id":"b c","secret":""},{"id":"b c","secret":"00"}]"#;
+
+pub(super) static FILES: [(&str, Node<'static>); 29] = [
     ("ring", Node::Bytes(RING)),
     ("other", Node::Bytes(OTHER)),
     ("policy", Node::Bytes(POLICY)),
@@ -105,4 +113,14 @@ pub(super) static FILES: [(&str, Node<'static>); 19] = [
     ("body", Node::Bytes(b"{}")),
     ("abc", Node::Bytes(b"abc")),
     ("empty", Node::Bytes(b"")),
+    ("twice", Node::Bytes(TWICE)),
+    ("parameters", Node::Bytes(br#"{ "ref": "v1" }"#)),
+    ("doubled", Node::Bytes(DOUBLED)),
+    ("large", Node::File(8_388_609)),
+    ("folder", Node::Failing(ErrorKind::IsADirectory)),
+    ("starved", Node::Failing(ErrorKind::OutOfMemory)),
+    ("stray", Node::Folder(b"a.link\0", 0)),
+    ("stray/a.link", Node::Dangling),
+    ("odd", Node::Folder(b"\xff\0", 0)),
+    ("many", Node::Folder(b"", 1_001)),
 ];

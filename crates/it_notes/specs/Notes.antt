@@ -1,0 +1,43 @@
+-- What the notes on a verification say (words of this project).
+use Rattle.std.specs.Prelude.{◌≡◌, ◌⊎◌, ℕ, List, [], All, IfSome}
+use Rattle.it_docs.specs.Layout.{LayoutOf}
+use Rattle.it_docs.specs.declared.layout.Layout.{Layout}
+use Rattle.it_dsse.specs.Envelope.{EnvelopeOf}
+use Rattle.it_dsse.specs.Panel.{Panel}
+use Rattle.it_dsse.specs.declared.envelope.Envelope.{Envelope}
+use Rattle.it_member_notes.specs.LayoutNotes.{Holds}
+use Rattle.it_member_notes.specs.UnreadMembers.{IsUnreadOfLayout, IsUnreadOfPolicy}
+use Rattle.it_member_notes.specs.declared.layout_note.LayoutNote.{LayoutNote}
+use Rattle.it_report.specs.declared.verdict.Verdict.{Verdict}
+use Rattle.it_report.specs.declared.verdict.Verdict.TheVariants.{Accepted, Refused}
+use Rattle.it_verify.specs.declared.inputs.Inputs.{Inputs}
+use Rattle.it_notes.specs.RefusalNotes.{Tells}
+use Rattle.it_notes.specs.declared.layout_notes.LayoutNotes.{LayoutNotes}
+use Rattle.it_notes.specs.declared.notes.Notes.{Notes}
+use Rattle.it_notes.specs.declared.notes.RefusalNotes.{RefusalNotes}
+use Rattle.it_notes.specs.declared.notes.RefusalNotes.TheVariants.{Nothing}
+
+-- the notes are true of the layout that a payload is; where it is none, there are none
+abbrev pub AreOfLayout : List ℕ → List LayoutNote → Type 0
+AreOfLayout payload notes =
+    (notes ≡ []) ⊎ ((layout : Layout) × LayoutOf payload layout × All (Holds layout) notes)
+
+-- the notes are true of the payload of the envelope that bytes are
+pub record TellsLayout (bytes : List ℕ) (notes : LayoutNotes) : Type 0 where
+  pub envelope : Envelope
+  pub is_envelope : EnvelopeOf bytes envelope
+  pub members : All (IsUnreadOfLayout envelope.payload) notes.members.items
+  pub rules : AreOfLayout envelope.payload notes.rules.items
+
+-- the notes on a refusal are true of it; an accepted delivery has none
+abbrev pub TellsVerdict : Panel → Inputs → Verdict → RefusalNotes → Type 0
+TellsVerdict panel inputs (Accepted steps files) Nothing = Unit {0}
+TellsVerdict panel inputs (Accepted steps files) _ = ⊥
+TellsVerdict panel inputs (Refused refusal) told = Tells panel inputs refusal told
+
+-- every note is true of the inputs and of the verdict on them
+pub record AreTrue (panel : Panel) (inputs : Inputs) (verdict : Verdict) (notes : Notes)
+    : Type 0 where
+  pub refusal : TellsVerdict panel inputs verdict notes.refusal
+  pub policy : All (IsUnreadOfPolicy inputs.policy) notes.policy.items
+  pub layout : IfSome notes.layout (TellsLayout inputs.layout)

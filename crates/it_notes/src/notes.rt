@@ -1,0 +1,119 @@
+//! The notes on a verification.
+ghost use Rattle.std.specs.Prelude.{IfOk, IfSome, map};
+ghost use Rattle.it_dsse.specs.Panel.{panel_of};
+ghost use Rattle.it_notes.specs.Notes.{AreTrue, TellsLayout, TellsVerdict};
+
+use crate::layout_notes::LayoutNotes;
+use crate::refusal_notes::refusal_notes;
+use it_dsse::check::SignatureCheck;
+use it_member_notes::policy_notes;
+use it_member_notes::unread_member::UnreadMember;
+use it_prov_notes::note::ProvenanceNote;
+use it_report::verdict::Verdict;
+use it_rule_notes::disagree_note::DisagreeNote;
+use it_rule_notes::expiry_note::ExpiryNote;
+use it_rule_notes::owner_note::OwnerNote;
+use it_rule_notes::payloads_note::PayloadsNote;
+use it_rule_notes::rule_note::RuleNote;
+use it_step_notes::note::StepNote;
+use it_verify::inputs::Inputs;
+use std::alloc::{AllocError, Global};
+
+/// The number of the last fault of what is looked at before the layout is read.
+const OWNER_MISSING: u8 = 22;
+
+/// What there is to say to people of a verification. Each note is true.
+#[derive(Drop)]
+pub struct Notes {
+    /// Why the delivery was refused.
+    pub refusal: RefusalNotes,
+    /// The members of the policy that are not looked at.
+    pub policy: Vec<UnreadMember>,
+    /// What is odd about the layout, where the owners are known to have signed it.
+    pub layout: Option<LayoutNotes>,
+}
+
+/// Why a delivery was refused, by the fault that its report names.
+#[derive(Drop)]
+pub enum RefusalNotes {
+    /// There is nothing to say.
+    Nothing,
+    /// Of the step for which too few keys signed.
+    Step(Vec<StepNote>),
+    /// Of the owners of the policy.
+    Owners(Vec<OwnerNote>),
+    /// Of the layout that has expired.
+    Expiry(ExpiryNote),
+    /// Of the bodies of one key id that differ.
+    Payloads(PayloadsNote),
+    /// Of the links of a step that differ.
+    Disagreement(DisagreeNote),
+    /// Of the artifact rule that failed.
+    Rule(RuleNote),
+    /// Of the provenance that is none for the file.
+    Provenance(Vec<ProvenanceNote>),
+}
+
+impl Notes {
+    /// The notes on the `verdict` that a verification of the `inputs` came to. Signatures are
+    /// checked by the `panel`, again and after a refusal alone.
+    ///
+    /// # Errors
+    ///
+    /// `AllocError` where memory was refused.
+    pub fn of(
+        alloc: Global,
+        inputs: &Inputs,
+        verdict: &Verdict,
+        panel: &[Box<dyn SignatureCheck>],
+    ) -> Result<Notes, AllocError>
+        ensures { IfOk result (AreTrue (panel_of (map meaning panel.now)) inputs.now verdict.now) }
+    {
+        let policy = policy_notes(alloc, inputs.policy.as_slice())?;
+        let layout = signed_layout_notes(alloc, inputs, verdict)?;
+        Ok(Notes {
+            refusal: verdict_notes(alloc, inputs, verdict, panel)?,
+            policy,
+            layout,
+        })
+    }
+}
+
+/// Why the verdict refuses, if it does.
+fn verdict_notes(
+    alloc: Global,
+    inputs: &Inputs,
+    verdict: &Verdict,
+    panel: &[Box<dyn SignatureCheck>],
+) -> Result<RefusalNotes, AllocError>
+    ensures { IfOk result (TellsVerdict (panel_of (map meaning panel.now)) inputs.now verdict.now) }
+{
+    match verdict {
+        Verdict::Accepted { .. } => Ok(RefusalNotes::Nothing),
+        Verdict::Refused(refusal) => refusal_notes(alloc, inputs, refusal, panel),
+    }
+}
+
+/// What is odd about the layout. One that the owners are not known to have signed is not read.
+fn signed_layout_notes(
+    alloc: Global,
+    inputs: &Inputs,
+    verdict: &Verdict,
+) -> Result<Option<LayoutNotes>, AllocError>
+    ensures { IfOk result (λ found. IfSome found (TellsLayout inputs.now.layout)) }
+{
+    if is_signed(verdict) {
+        LayoutNotes::of(alloc, inputs.layout.as_slice())
+    } else {
+        Ok(None)
+    }
+}
+
+/// Whether the owners signed the layout: the verdict accepts, or names a fault of what is looked at
+/// after their signatures.
+fn is_signed(verdict: &Verdict) -> bool {
+    match verdict {
+        Verdict::Accepted { .. } => true,
+        Verdict::Refused(refusal) => refusal.number() > OWNER_MISSING,
+    }
+}

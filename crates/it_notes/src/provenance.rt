@@ -1,0 +1,66 @@
+//! Why a delivered file has no provenance.
+ghost use Rattle.std.specs.Prelude.{IfOk, IfSome, Option, ℕ, map};
+ghost use Rattle.it_dsse.specs.Panel.{panel_of};
+ghost use Rattle.it_prov.specs.Fits.{Fits};
+ghost use Rattle.it_report.specs.declared.refusal.Fault.TheVariants.{NoProvenance};
+ghost use Rattle.it_notes.specs.RefusalNotes.{IsDelivered, TellsFault};
+
+use crate::notes::RefusalNotes;
+use crate::reading::policy_in;
+use it_digest::compare::DigestSet;
+use it_digest::sums::{SumsFault, read_sums};
+use it_docs::policy::Expectation;
+use it_dsse::check::SignatureCheck;
+use it_prov::fits::fitting;
+use it_prov_notes::delivery::Delivery;
+use it_prov_notes::missing_notes;
+use it_verify::inputs::Inputs;
+use std::alloc::{AllocError, Global};
+
+/// What the lines of the provenance miss of the expectation that speaks of the delivered file at a
+/// path.
+pub(crate) fn provenance_told(
+    alloc: Global,
+    inputs: &Inputs,
+    path: &str,
+    panel: &[Box<dyn SignatureCheck>],
+) -> Result<RefusalNotes, AllocError>
+    ensures { IfOk result (λ told. (best : Option ℕ) → TellsFault
+        (panel_of (map meaning panel.now)) inputs.now (NoProvenance path.now best) told) }
+{
+    let Some(policy) = policy_in(alloc, inputs.policy.as_slice())? else {
+        return Ok(RefusalNotes::Nothing);
+    };
+    let Some(digests) = digests_of(alloc, inputs.sums.as_slice(), path)? else {
+        return Ok(RefusalNotes::Nothing);
+    };
+    let Some(expectation) = speaking(policy.expectations.as_slice(), path) else {
+        return Ok(RefusalNotes::Nothing);
+    };
+    let delivery = Delivery {
+        digests,
+        expectation,
+        provenance: inputs.provenance.as_slice(),
+    };
+    let notes = missing_notes(alloc, &delivery, panel)?;
+    Ok(RefusalNotes::Provenance(notes))
+}
+
+/// The expectation that speaks of the file at a path.
+fn speaking<'a>(expectations: &'a [Expectation], path: &str) -> Option<&'a Expectation>
+    ensures { IfSome result (λ expectation. Fits expectations.now path.now expectation.now) }
+{
+    let place = fitting(expectations, path)?;
+    expectations.get(place)
+}
+
+/// The digests of the file at a path in a digest list.
+fn digests_of(alloc: Global, sums: &[u8], path: &str) -> Result<Option<DigestSet>, AllocError>
+    ensures { IfOk result (λ found. IfSome found (IsDelivered sums.now path.now)) }
+{
+    match read_sums(alloc, sums) {
+        Ok(delivered) => Ok(delivered.get(path)),
+        Err(SumsFault::BadSums(_)) => Ok(None),
+        Err(SumsFault::OutOfMemory) => Err(AllocError),
+    }
+}

@@ -1,0 +1,46 @@
+//! Why too few keys signed a step.
+ghost use Rattle.std.specs.Prelude.{◌≡◌, Contains, IfOk, IfSome, ℕ, map};
+ghost use Rattle.it_dsse.specs.Panel.{panel_of};
+ghost use Rattle.it_report.specs.declared.refusal.Fault.TheVariants.{Threshold};
+ghost use Rattle.it_notes.specs.RefusalNotes.{TellsFault};
+
+use crate::notes::RefusalNotes;
+use crate::signed_layout::SignedLayout;
+use it_docs::step::Step;
+use it_dsse::check::SignatureCheck;
+use it_step_notes::threshold_notes;
+use it_verify::inputs::Inputs;
+use std::alloc::{AllocError, Global};
+
+/// What there is to say of the step of this name in the outermost layout, for which too few keys
+/// signed.
+pub(crate) fn step_told(
+    alloc: Global,
+    inputs: &Inputs,
+    name: &str,
+    panel: &[Box<dyn SignatureCheck>],
+) -> Result<RefusalNotes, AllocError>
+    ensures { IfOk result (λ told. (found : ℕ) (needed : ℕ) → TellsFault
+        (panel_of (map meaning panel.now)) inputs.now (Threshold name.now found needed) told) }
+{
+    let Some(signed) = SignedLayout::read(alloc, inputs.layout.as_slice())? else {
+        return Ok(RefusalNotes::Nothing);
+    };
+    let Some(step) = step_named(signed.layout.steps.as_slice(), name) else {
+        return Ok(RefusalNotes::Nothing);
+    };
+    let notes = threshold_notes(alloc, &signed.layout, &inputs.links, step, panel)?;
+    Ok(RefusalNotes::Step(notes))
+}
+
+/// The step of this name.
+fn step_named<'a>(steps: &'a [Step], name: &str) -> Option<&'a Step>
+    ensures { IfSome result (λ step. Contains steps.now step.now × (step.now.name ≡ name.now)) }
+{
+    for step in steps {
+        if step.name.as_str() == name {
+            return Some(step);
+        }
+    }
+    None
+}

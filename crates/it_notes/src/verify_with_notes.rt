@@ -1,0 +1,75 @@
+//! `itv verify`, with notes for people.
+ghost use Rattle.std.specs.Prelude.{◌≡◌, ◌≤◌, IfErr, IfOk, IsErrOf, map};
+ghost use Rattle.std.specs.Io.KnownBytes.{Appends};
+ghost use Rattle.it_base.specs.Writing.{AppendsBeginning};
+ghost use Rattle.it_dsse.specs.Panel.{panel_of};
+ghost use Rattle.it_words.specs.Outcome.{IsOutputFault};
+ghost use Rattle.it_verify.specs.VerifyOutput.{IsVerifyOutput};
+
+use crate::notes::Notes;
+use it_dsse::check::SignatureCheck;
+use it_report::verdict::Verdict;
+use it_verify::inputs::Inputs;
+use it_verify::{verify, write_verdict};
+use it_words::outcome::{RunFault, Status};
+use std::alloc::{AllocError, Global};
+use std::io::Write;
+
+/// Verifies delivered files and writes the report, as `run_verify` of `it_verify` does, and then
+/// writes the notes on the verdict to `notes`.
+///
+/// The answer is `Good` where the verdict accepts, and `Refused` where it refuses. What becomes of
+/// the notes changes neither it nor the report: where memory is refused for them there are none,
+/// and where they cannot be written a beginning of them went out.
+///
+/// # Errors
+///
+/// `Write` where the report could not be written; a beginning of it went out. `OutOfMemory` where
+/// memory was refused for the verdict or the report; nothing went out.
+pub fn verify_with_notes<W: Write, N: Write>(
+    alloc: Global,
+    inputs: &Inputs,
+    panel: &[Box<dyn SignatureCheck>],
+    out: &mut W,
+    notes: &mut N,
+) -> Result<Status, RunFault>
+    requires { inputs.now.depth ≤ 8 }
+    ensures ok { IfOk result (λ status. (text : _)
+        × IsVerifyOutput (panel_of (map meaning panel.now)) inputs.now text status
+        × Appends (W.contents out.old) (W.contents out.new) text) }
+    ensures write { IsErrOf result RunFault.Write → (text : _) × (status : _)
+        × IsVerifyOutput (panel_of (map meaning panel.now)) inputs.now text status
+        × AppendsBeginning (W.contents out.old) (W.contents out.new) text }
+    ensures memory { IsErrOf result RunFault.OutOfMemory → out.new ≡ out.old }
+    ensures faults { IfErr result IsOutputFault }
+{
+    let answer = verify(alloc, inputs, panel)?;
+    let outcome = write_verdict(alloc, &answer.verdict, out);
+    if outcome.is_ok() {
+        note(alloc, inputs, &answer.verdict, panel, notes);
+    }
+    outcome
+}
+
+/// Writes the notes on a verdict, as far as memory suffices and they can be written.
+fn note<N: Write>(
+    alloc: Global,
+    inputs: &Inputs,
+    verdict: &Verdict,
+    panel: &[Box<dyn SignatureCheck>],
+    notes: &mut N,
+) {
+    if let Ok(text) = notes_text(alloc, inputs, verdict, panel) {
+        let _ = notes.write_all(text.as_slice());
+    }
+}
+
+/// The lines of the notes on a verdict.
+fn notes_text(
+    alloc: Global,
+    inputs: &Inputs,
+    verdict: &Verdict,
+    panel: &[Box<dyn SignatureCheck>],
+) -> Result<Vec<u8>, AllocError> {
+    Notes::of(alloc, inputs, verdict, panel)?.text(alloc)
+}

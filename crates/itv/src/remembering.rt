@@ -1,0 +1,58 @@
+//! Readers and writers that remember why the system failed them.
+ghost use Rattle.std.specs.Prelude.{◌≡◌};
+
+use std::io;
+use std::io::{Read, Write};
+
+/// A reader or a writer, with the last error that it answered.
+#[derive(Drop)]
+pub(crate) struct Remembering<T> {
+    inner: T,
+    error: Option<io::Error>,
+}
+
+impl<T> Remembering<T> {
+    /// It has answered no error yet.
+    pub(crate) fn new(inner: T) -> Remembering<T>
+        ensures { result.inner ≡ inner }
+    {
+        Remembering { inner, error: None }
+    }
+
+    /// The last error that it answered.
+    pub(crate) fn error(&self) -> Option<io::Error> {
+        self.error
+    }
+}
+
+impl<R: Read> Read for Remembering<R> {
+    ghost remaining = { λ reader. R.remaining reader.inner };
+
+    fn read(&mut self, bytes: &mut [u8]) -> io::Result<usize> {
+        match self.inner.read(bytes) {
+            Ok(count) => Ok(count),
+            Err(error) => {
+                self.error = Some(error);
+                Err(error)
+            }
+        }
+    }
+}
+
+impl<W: Write> Write for Remembering<W> {
+    ghost contents = { λ writer. W.contents writer.inner };
+
+    fn write(&mut self, bytes: &[u8]) -> io::Result<usize> {
+        match self.inner.write(bytes) {
+            Ok(count) => Ok(count),
+            Err(error) => {
+                self.error = Some(error);
+                Err(error)
+            }
+        }
+    }
+
+    fn flush(&mut self) -> io::Result<()> {
+        self.inner.flush()
+    }
+}

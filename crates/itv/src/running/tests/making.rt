@@ -1,0 +1,264 @@
+use super::delivery::RING;
+use super::{Row, each_word, ran};
+use crate::fake_files::{FakeFiles, Node};
+use crate::running::run_words;
+use it_verify::outcome::Status;
+use std::alloc::Global;
+use std::test::Fail;
+
+// What is expected of the provenance has the parameter that the Statement has.
+const POLICY: &[u8] = br#"{"owners":{"owner":{"scheme":"hmac-sha256"}},
+    "deliver":[["MATCH","*","WITH","PRODUCTS","FROM","build"],["DISALLOW","*"]],
+    "expectations":[{"files":"*","buildType":"make","parameters":{"ref":"v1"},
+        "builders":[{"id":"ci","keys":{"builder":{"scheme":"hmac-sha256"}}}]}]}"#;
+
+// The link of a step that took `app`, and of one that made it.
+const TAKES_APP: &str = "{\"_type\":\"link\",\"materials\":{\"app\":{\"sha256\":\
+    \"ba7816bf8f01cfea414140de5dae2223b00361a396177a9cb410ff61f20015ad\"}},\"name\":\"build\",\
+    \"products\":{}}\n";
+
+const MAKES_APP: &str = "{\"_type\":\"link\",\"materials\":{},\"name\":\"build\",\"products\":{\
+    \"app\":{\"sha256\":\"ba7816bf8f01cfea414140de5dae2223b00361a396177a9cb410ff61f20015ad\"}}}\n";
+
+// The Statement for `app`, without parameters and with some.
+const STATES: &str = "{\"_type\":\"https://in-toto.io/Statement/v1\",\"predicate\":{\
+    \"buildDefinition\":{\"buildType\":\"make\",\"externalParameters\":{}},\
+    \"runDetails\":{\"builder\":{\"id\":\"ci\"}}},\
+    \"predicateType\":\"https://slsa.dev/provenance/v1\",\"subject\":[{\"digest\":{\"sha256\":\
+    \"ba7816bf8f01cfea414140de5dae2223b00361a396177a9cb410ff61f20015ad\"},\"name\":\"app\"}]}\n";
+
+const STATES_MORE: &str = "{\"_type\":\"https://in-toto.io/Statement/v1\",\"predicate\":{\
+    \"buildDefinition\":{\"buildType\":\"make\",\"externalParameters\":{\"ref\":\"v1\"}},\
+    \"runDetails\":{\"builder\":{\"id\":\"ci\"}}},\
+    \"predicateType\":\"https://slsa.dev/provenance/v1\",\"subject\":[{\"digest\":{\"sha256\":\
+    \"ba7816bf8f01cfea414140de5dae2223b00361a396177a9cb410ff61f20015ad\"},\"name\":\"app\"}]}\n";
+
+// The envelope of the other tests with one signature more, by dave. The code was computed by another
+// program.
+const BY_THREE: &str =
+    "{\"payload\":\"e30=\",\"payloadType\":\"t\",\"signatures\":[{\"keyid\":\"\",\
+    \"sig\":\"9wR5Dwp4Fbs1g9j/OLACfrLHW4JUrxfSddoLAMnvROg=\"},{\"keyid\":\"\",\
+    \"sig\":\"TJYKrxTWOTr/MmSTZbEtdVpXz1ocHIygh1jt6js+/nM=\"},{\"keyid\":\"dave\",\
+    \"sig\":\"PLS8Rqi7zld1PrG00AdSNqT3n+dqEmQ/Tay4DIICSV0=\"}]}\n";
+
+static ROWS: [Row; 25] = [
+    Row {
+        words: "itv link --name build --materials sums",
+        text: TAKES_APP,
+        status: 0,
+    },
+    Row {
+        words: "itv link --name build --products sums",
+        text: MAKES_APP,
+        status: 0,
+    },
+    Row {
+        words: "itv link --name= --materials empty --products empty",
+        text: "{\"_type\":\"link\",\"materials\":{},\"name\":\"\",\"products\":{}}\n",
+        status: 0,
+    },
+    Row {
+        words: "itv link --name build --materials doubled --products policy",
+        text: "doubled: line 2 is no line of a digest list, or repeats a path",
+        status: 2,
+    },
+    Row {
+        words: "itv link --name build --materials sums --products policy",
+        text: "policy: line 1 is no line of a digest list, or repeats a path",
+        status: 2,
+    },
+    Row {
+        words: "itv link --name build --materials gone --products doubled",
+        text: "cannot read gone: entity not found",
+        status: 2,
+    },
+    Row {
+        words: "itv link --name build --products gone",
+        text: "cannot read gone: entity not found",
+        status: 2,
+    },
+    Row {
+        words: "itv statement --sums sums --builder ci --build-type make",
+        text: STATES,
+        status: 0,
+    },
+    Row {
+        words: "itv statement --sums sums --builder ci --build-type make --parameters parameters",
+        text: STATES_MORE,
+        status: 0,
+    },
+    Row {
+        words: "itv statement --sums sums --builder ci --build-type make --parameters abc",
+        text: "abc is no JSON object that nests at most 124 levels deep",
+        status: 2,
+    },
+    Row {
+        words: "itv statement --sums sums --builder ci --build-type make --parameters ring",
+        text: "ring is no JSON object that nests at most 124 levels deep",
+        status: 2,
+    },
+    Row {
+        words: "itv statement --sums sums --builder ci --build-type make --parameters gone",
+        text: "cannot read gone: entity not found",
+        status: 2,
+    },
+    Row {
+        words: "itv statement --sums doubled --builder ci --build-type make --parameters abc",
+        text: "doubled: line 2 is no line of a digest list, or repeats a path",
+        status: 2,
+    },
+    Row {
+        words: "itv statement --sums gone --builder ci --build-type make",
+        text: "cannot read gone: entity not found",
+        status: 2,
+    },
+    Row {
+        words: "itv payload envelope",
+        text: "{}",
+        status: 0,
+    },
+    Row {
+        words: "itv payload ring",
+        text: "refused 20 BadEnvelope\nat -\n",
+        status: 1,
+    },
+    Row {
+        words: "itv payload gone",
+        text: "cannot read gone: entity not found",
+        status: 2,
+    },
+    Row {
+        words: "itv sign body --ring ring --key dave --type t --onto envelope",
+        text: BY_THREE,
+        status: 0,
+    },
+    Row {
+        words: "itv sign body --ring ring --key dave --type t --onto ring",
+        text: "ring is no DSSE envelope",
+        status: 2,
+    },
+    Row {
+        words: "itv sign abc --ring ring --key dave --type t --onto envelope",
+        text: "envelope has another payload than abc",
+        status: 2,
+    },
+    Row {
+        words: "itv sign body --ring ring --key dave --type u --onto envelope",
+        text: "envelope has another payload type than u",
+        status: 2,
+    },
+    Row {
+        words: "itv sign body --ring ring --key t --type t --onto envelope",
+        text: "ring has no key t",
+        status: 2,
+    },
+    Row {
+        words: "itv sign gone --ring ring --key dave --type t --onto envelope",
+        text: "cannot read gone: entity not found",
+        status: 2,
+    },
+    Row {
+        words: "itv sign body --ring abc --key dave --type t --onto envelope",
+        text: "abc is no ring of secrets: it is no JSON document",
+        status: 2,
+    },
+    Row {
+        words: "itv sign body --ring ring --key dave --type t --onto gone",
+        text: "cannot read gone: entity not found",
+        status: 2,
+    },
+];
+
+#[test]
+fn makes_links_and_adds_signatures(rt: HostRuntime) -> Result<(), Fail> {
+    for row in ROWS.as_slice() {
+        let (text, status) = ran(rt.alloc(), row.words)?;
+        assert_eq!(rt; text.as_str(), row.text, "{}", row.words);
+        assert_eq!(rt; status, row.status, "{}", row.words);
+    }
+    Ok(())
+}
+
+const LAYOUT: &[u8] = br#"{"_type":"layout","expires":"2030-01-01T00:00:00Z",
+    "keys":{"alice":{"scheme":"hmac-sha256"},"bob":{"scheme":"hmac-sha256"}},
+    "steps":[{"name":"build","threshold":2,"pubkeys":["alice","bob"],
+        "expected_materials":[["REQUIRE","src"],["DISALLOW","app"]],
+        "expected_products":[["CREATE","app"],["ALLOW","src"],["DISALLOW","*"]]}],
+    "inspect":[{"name":"look","expected_materials":[["REQUIRE","app"]]}]}"#;
+
+// What a command writes over these files.
+fn made(alloc: Global, nodes: &[(&str, Node<'_>)], words: &str) -> Result<Vec<u8>, Fail> {
+    let mut out = Vec::new(alloc);
+    let mut notes = Vec::new(alloc);
+    let words = each_word(alloc, words)?;
+    let disk = (FakeFiles { nodes }, alloc);
+    match run_words(&disk, words.as_slice(), &mut out, &mut notes) {
+        Ok(Status::Good) => Ok(out),
+        _ => Err(Fail::from("refused")),
+    }
+}
+
+fn signed(alloc: Global, body: &[u8], id: &str) -> Result<Vec<u8>, Fail> {
+    let nodes = [("ring", Node::Bytes(RING)), ("body", Node::Bytes(body))];
+    let words = format!(in alloc; "itv sign body --ring ring --key {id} --type {KIND}")?;
+    made(alloc, &nodes, words.as_str())
+}
+
+const KIND: &str = "application/vnd.in-toto+json";
+
+#[test]
+fn verifies_what_the_commands_made(rt: HostRuntime) -> Result<(), Fail> {
+    let alloc = rt.alloc();
+    let files = [("app", Node::Bytes(b"abc")), ("src", Node::Bytes(b""))];
+    let before = made(alloc, &files, "itv digest src")?;
+    let sums = made(alloc, &files, "itv digest app")?;
+    let lists = [
+        ("before", Node::Bytes(before.as_slice())),
+        ("sums", Node::Bytes(sums.as_slice())),
+        ("parameters", Node::Bytes(br#"{"ref":"v1"}"#)),
+    ];
+    let link = made(
+        alloc,
+        &lists,
+        "itv link --name build --materials before --products sums",
+    )?;
+    let record = made(alloc, &lists, "itv link --name look --materials sums")?;
+    let statement = made(
+        alloc,
+        &lists,
+        "itv statement --sums sums --builder ci --build-type make --parameters parameters",
+    )?;
+    let by_alice = signed(alloc, link.as_slice(), "alice")?;
+    let envelopes = [
+        ("ring", Node::Bytes(RING)),
+        ("link", Node::Bytes(link.as_slice())),
+        ("envelope", Node::Bytes(by_alice.as_slice())),
+    ];
+    let words = format!(in alloc;
+        "itv sign link --ring ring --key bob --type {KIND} --onto envelope"
+    )?;
+    let by_both = made(alloc, &envelopes, words.as_str())?;
+    let layout = signed(alloc, LAYOUT, "owner")?;
+    let provenance = signed(alloc, statement.as_slice(), "builder")?;
+    let delivery = [
+        ("ring", Node::Bytes(RING)),
+        ("policy", Node::Bytes(POLICY)),
+        ("layout", Node::Bytes(layout.as_slice())),
+        ("links", Node::Folder(b"build.any.link\0", 0)),
+        ("links/build.any.link", Node::Bytes(by_both.as_slice())),
+        ("records", Node::Folder(b"look.link\0", 0)),
+        ("records/look.link", Node::Bytes(record.as_slice())),
+        ("sums", Node::Bytes(sums.as_slice())),
+        ("provenance", Node::Bytes(provenance.as_slice())),
+    ];
+    let payload = made(alloc, &delivery, "itv payload links/build.any.link")?;
+    assert_eq!(rt; payload.as_slice(), link.as_slice());
+    let report = made(
+        alloc,
+        &delivery,
+        "itv verify --policy policy --layout layout --links links --sums sums \
+        --provenance provenance --records records --ring ring --at 2029-12-31T00:00:00Z",
+    )?;
+    assert_eq!(rt; report.as_slice(), b"accepted\nstep build 2\nfile app\n".as_slice());
+    Ok(())
+}

@@ -1,7 +1,8 @@
 use super::ran;
 use std::test::Fail;
 
-pub(super) const VERIFY: &str = "itv verify --policy policy --layout layout --links links --sums sums \
+pub(super) const VERIFY: &str =
+    "itv verify --policy policy --layout layout --links links --sums sums \
     --provenance provenance --records records --ring ring --at 2030-01-01T00:00:00Z --depth 1";
 
 const ACCEPTED: &str = "accepted\nstep build 2\nfile app\n";

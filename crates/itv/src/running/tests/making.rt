@@ -259,6 +259,9 @@ fn verifies_what_the_commands_made(rt: HostRuntime) -> Result<(), Fail> {
         "itv verify --policy policy --layout layout --links links --sums sums \
         --provenance provenance --records records --ring ring --at 2029-12-31T00:00:00Z",
     )?;
-    assert_eq!(rt; report.as_slice(), b"accepted\nstep build 2\nfile app\n".as_slice());
+    assert_eq!(rt;
+        report.as_slice(),
+        b"accepted\nstep build 2\nfile app\n".as_slice()
+    );
     Ok(())
 }

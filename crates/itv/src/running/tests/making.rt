@@ -206,62 +206,84 @@ fn signed(alloc: Global, body: &[u8], id: &str) -> Result<Vec<u8>, Fail> {
 
 const KIND: &str = "application/vnd.in-toto+json";
 
+// The lists of what the step took and made, and what the build was called with.
+static LISTS: [(&str, Node<'static>); 3] = [
+    (
+        "before",
+        Node::Bytes(b"e3b0c44298fc1c149afbf4c8996fb92427ae41e4649b934ca495991b7852b855  src\n"),
+    ),
+    ("sums", Node::Bytes(SUMS)),
+    ("parameters", Node::Bytes(br#"{"ref":"v1"}"#)),
+];
+
+const SUMS: &[u8] = b"ba7816bf8f01cfea414140de5dae2223b00361a396177a9cb410ff61f20015ad  app\n";
+
+// The envelope of the body, which alice signed, with bob's signature more.
+fn signed_onto<'a>(alloc: Global, body: &'a [u8], envelope: &'a [u8]) -> Result<Vec<u8>, Fail> {
+    let nodes = [
+        ("ring", Node::Bytes(RING)),
+        ("body", Node::Bytes(body)),
+        ("envelope", Node::Bytes(envelope)),
+    ];
+    let words = format!(in alloc;
+        "itv sign body --ring ring --key bob --type {KIND} --onto envelope"
+    )?;
+    made(alloc, &nodes, words.as_str())
+}
+
+// What the commands made of a delivery.
+#[derive(Drop)]
+struct Shipment {
+    layout: Vec<u8>,
+    link: Vec<u8>,
+    record: Vec<u8>,
+    provenance: Vec<u8>,
+}
+
+// The report of the verification of what the commands made.
+fn verified(alloc: Global, made_of: &Shipment) -> Result<Vec<u8>, Fail> {
+    let nodes = [
+        ("ring", Node::Bytes(RING)),
+        ("policy", Node::Bytes(POLICY)),
+        ("sums", Node::Bytes(SUMS)),
+        ("layout", Node::Bytes(made_of.layout.as_slice())),
+        ("links", Node::Folder(b"build.any.link\0", 0)),
+        ("links/build.any.link", Node::Bytes(made_of.link.as_slice())),
+        ("records", Node::Folder(b"look.link\0", 0)),
+        ("records/look.link", Node::Bytes(made_of.record.as_slice())),
+        ("provenance", Node::Bytes(made_of.provenance.as_slice())),
+    ];
+    made(
+        alloc,
+        &nodes,
+        "itv verify --policy policy --layout layout --links links --sums sums \
+        --provenance provenance --records records --ring ring --at 2029-12-31T00:00:00Z",
+    )
+}
+
+// A link, a Statement and the record of an inspection, made and signed by the commands alone.
+fn shipped(alloc: Global) -> Result<Shipment, Fail> {
+    let lists = LISTS.as_slice();
+    let words = "itv link --name build --materials before --products sums";
+    let link = made(alloc, lists, words)?;
+    let record = made(alloc, lists, "itv link --name look --materials sums")?;
+    let words = "itv statement --sums sums --builder ci --build-type make --parameters parameters";
+    let statement = made(alloc, lists, words)?;
+    let by_alice = signed(alloc, link.as_slice(), "alice")?;
+    Ok(Shipment {
+        layout: signed(alloc, LAYOUT, "owner")?,
+        link: signed_onto(alloc, link.as_slice(), by_alice.as_slice())?,
+        record,
+        provenance: signed(alloc, statement.as_slice(), "builder")?,
+    })
+}
+
 #[test]
 fn verifies_what_the_commands_made(rt: HostRuntime) -> Result<(), Fail> {
     let alloc = rt.alloc();
-    let files = [("app", Node::Bytes(b"abc")), ("src", Node::Bytes(b""))];
-    let before = made(alloc, &files, "itv digest src")?;
-    let sums = made(alloc, &files, "itv digest app")?;
-    let lists = [
-        ("before", Node::Bytes(before.as_slice())),
-        ("sums", Node::Bytes(sums.as_slice())),
-        ("parameters", Node::Bytes(br#"{"ref":"v1"}"#)),
-    ];
-    let link = made(
-        alloc,
-        &lists,
-        "itv link --name build --materials before --products sums",
-    )?;
-    let record = made(alloc, &lists, "itv link --name look --materials sums")?;
-    let statement = made(
-        alloc,
-        &lists,
-        "itv statement --sums sums --builder ci --build-type make --parameters parameters",
-    )?;
-    let by_alice = signed(alloc, link.as_slice(), "alice")?;
-    let envelopes = [
-        ("ring", Node::Bytes(RING)),
-        ("link", Node::Bytes(link.as_slice())),
-        ("envelope", Node::Bytes(by_alice.as_slice())),
-    ];
-    let words = format!(in alloc;
-        "itv sign link --ring ring --key bob --type {KIND} --onto envelope"
-    )?;
-    let by_both = made(alloc, &envelopes, words.as_str())?;
-    let layout = signed(alloc, LAYOUT, "owner")?;
-    let provenance = signed(alloc, statement.as_slice(), "builder")?;
-    let delivery = [
-        ("ring", Node::Bytes(RING)),
-        ("policy", Node::Bytes(POLICY)),
-        ("layout", Node::Bytes(layout.as_slice())),
-        ("links", Node::Folder(b"build.any.link\0", 0)),
-        ("links/build.any.link", Node::Bytes(by_both.as_slice())),
-        ("records", Node::Folder(b"look.link\0", 0)),
-        ("records/look.link", Node::Bytes(record.as_slice())),
-        ("sums", Node::Bytes(sums.as_slice())),
-        ("provenance", Node::Bytes(provenance.as_slice())),
-    ];
-    let payload = made(alloc, &delivery, "itv payload links/build.any.link")?;
-    assert_eq!(rt; payload.as_slice(), link.as_slice());
-    let report = made(
-        alloc,
-        &delivery,
-        "itv verify --policy policy --layout layout --links links --sums sums \
-        --provenance provenance --records records --ring ring --at 2029-12-31T00:00:00Z",
-    )?;
-    assert_eq!(rt;
-        report.as_slice(),
-        b"accepted\nstep build 2\nfile app\n".as_slice()
-    );
+    let made_of = shipped(alloc)?;
+    let report = verified(alloc, &made_of)?;
+    let accepted = b"accepted\nstep build 2\nfile app\n";
+    assert_eq!(rt; report.as_slice(), accepted.as_slice());
     Ok(())
 }

@@ -24,8 +24,14 @@ struct Target<'a> {
     prefix: &'a str,
 }
 
-/// Whether a rule claims a path of the side.
-pub(crate) fn claims(
+/// Whether a `rule` of an `item` claims a `path` of a `side` (in-toto 1.0, section 4.3.3). `links`
+/// are what items recorded under their names, all different, for `MATCH`. `DISALLOW` and `REQUIRE`
+/// claim nothing.
+///
+/// # Errors
+///
+/// `AllocError` where memory was refused.
+pub fn claims(
     alloc: Global,
     rule: &Rule,
     side: Side,

@@ -25,8 +25,8 @@ pub struct Named<'a> {
 impl<'a> Item<'a> {
     ghost use Rattle.it_rules.specs.Item.{artifacts_on, recorded_of};
 
-    /// Lends the artifacts of one side.
-    pub(crate) fn artifacts_on(&self, side: Side) -> &'a Artifacts
+    /// The artifacts that the item recorded on a `side`: its materials or its products.
+    pub fn artifacts_on(&self, side: Side) -> &'a Artifacts
         ensures { result.now ≡ artifacts_on side (recorded_of self.now) }
     {
         match side {

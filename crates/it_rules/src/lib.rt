@@ -2,7 +2,7 @@
 //! fail on one side of an item, and with which path.
 #![tactic(auto)]
 
-mod claims;
+pub mod claims;
 mod folder_prefix;
 pub mod item;
 mod marks;

@@ -1,5 +1,10 @@
 pub mod Appended
+pub mod BareLayouts
 pub mod CountingFiles
+pub mod KeptPaths
+pub mod Meeting
+pub mod NamedEntries
 pub mod Owners
 pub mod RuleWords
+pub mod StepRecords
 pub mod Told

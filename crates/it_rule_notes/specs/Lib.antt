@@ -1,9 +1,12 @@
+pub mod BareLayout
 pub mod CountingFile
 pub mod Difference
 pub mod Disagree
 pub mod Expiry
 pub mod Line
 pub mod LinkFile
+pub mod Met
+pub mod MetNote
 pub mod Owner
 pub mod Payloads
 pub mod Rule

@@ -2,18 +2,23 @@
 //! its report does. A note is made only where its sentence holds.
 #![tactic(auto)]
 
+mod bare_layout;
 pub mod counting_file;
 #[cfg(test)]
 mod deliveries_tests;
 pub mod difference;
 pub mod disagree_note;
 pub mod expiry_note;
+mod judged;
 pub mod level;
 mod line;
 pub mod link_file;
+pub mod met;
+pub mod met_note;
 pub mod owner_note;
 pub mod payloads_note;
 pub mod rule_note;
 pub mod rule_place;
 pub mod rule_words;
+mod step_records;
 pub mod sublayout_note;

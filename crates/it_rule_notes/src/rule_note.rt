@@ -85,7 +85,8 @@ impl RuleNote {
     }
 }
 
-fn push_words(text: &mut Vec<u8>, words: &[Text]) -> Result<(), AllocError>
+/// Appends words, each behind a space.
+pub(crate) fn push_words(text: &mut Vec<u8>, words: &[Text]) -> Result<(), AllocError>
     ensures { OnOk result (text.new.items ≡ text.old.items ++ flat_map word_form words.now) }
 {
     for word in words {

@@ -67,7 +67,8 @@ pub(crate) fn step_named<'a>(steps: &'a [Step], name: &str) -> Option<&'a Step>
     None
 }
 
-fn rules_of_step(step: &Step, side: Side) -> &[Rule]
+/// The rules that a step has for a side.
+pub(crate) fn rules_of_step(step: &Step, side: Side) -> &[Rule]
     ensures { result.now ≡ rules_on side step.now }
 {
     match side {

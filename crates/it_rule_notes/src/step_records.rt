@@ -1,0 +1,86 @@
+//! What the steps of a layout come to over a bundle, whether its rules hold over it or not.
+ghost use Rattle.std.specs.Prelude.{◌≡◌, ◌≤◌, Contains, IfOk, IfSome, map};
+ghost use Rattle.it_chain.specs.StepRules.{links_in, recorded_in};
+ghost use Rattle.it_dsse.specs.Panel.{panel_of};
+ghost use Rattle.it_rules.specs.Item.{links_of, recorded_of};
+ghost use Rattle.it_rules.specs.Rules.{NamesDiffer};
+ghost use Rattle.it_rule_notes.specs.BareLayout.{AreRecords};
+ghost use Rattle.it_rule_notes.specs.CountingFile.{setting_of};
+
+use crate::bare_layout::bare_layout;
+use crate::level::Level;
+use it_chain::chain::{Chain, StepResult};
+use it_chain::refusal::ChainError;
+use it_chain::verify_chain;
+use it_dsse::check::SignatureCheck;
+use it_dsse::meter::Meter;
+use it_rules::item::{Item, Named};
+use std::alloc::{AllocError, Global};
+
+/// The records of the steps of a level, where sublayouts may lie up to `depth` deep.
+pub(crate) fn step_records(
+    alloc: Global,
+    level: &Level,
+    depth: u8,
+    panel: &[Box<dyn SignatureCheck>],
+) -> Result<Option<Chain>, AllocError>
+    requires { depth ≤ 8 }
+    ensures are { IfOk result (λ found. IfSome found (λ chain. AreRecords
+        (setting_of (panel_of (map meaning panel.now)) level.now.moment) depth
+        level.now.layout.now level.now.links.now chain.steps)) }
+    ensures differ { IfOk result (λ found. IfSome found (λ chain.
+        NamesDiffer (links_in chain.steps))) }
+{
+    let bare = bare_layout(alloc, level.layout)?;
+    let mut meter = Meter { asked: 0 };
+    match verify_chain(
+        alloc,
+        &bare,
+        level.links,
+        level.moment,
+        depth,
+        panel,
+        &mut meter,
+    ) {
+        Ok(chain) => Ok(Some(chain)),
+        Err(ChainError::Refused(_)) => Ok(None),
+        Err(ChainError::OutOfMemory) => Err(AllocError),
+    }
+}
+
+/// The record of the step of this name.
+pub(crate) fn record_named<'a>(results: &'a [StepResult], name: &str) -> Option<&'a StepResult>
+    ensures { IfSome result (λ found.
+        Contains results.now found.now × (found.now.name ≡ name.now)) }
+{
+    for found in results {
+        if found.name.as_str() == name {
+            return Some(found);
+        }
+    }
+    None
+}
+
+/// The records under the names of their steps.
+pub(crate) fn links_to(alloc: Global, results: &[StepResult]) -> Result<Vec<Named<'_>>, AllocError>
+    ensures { IfOk result (λ links. links_of links.items ≡ links_in results.now) }
+{
+    let mut links = Vec::new(alloc);
+    for found in results {
+        links.push(Named {
+            name: found.name.as_str(),
+            item: item_of(found),
+        })?;
+    }
+    Ok(links)
+}
+
+/// What a record lends.
+pub(crate) fn item_of(found: &StepResult) -> Item<'_>
+    ensures { recorded_of result ≡ recorded_in found.now }
+{
+    Item {
+        materials: &found.materials,
+        products: &found.products,
+    }
+}

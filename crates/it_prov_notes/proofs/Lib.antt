@@ -1,4 +1,5 @@
 pub mod AnyOf
 pub mod Following
+pub mod LaidOut
 pub mod Speaking
 pub mod WhoSigned

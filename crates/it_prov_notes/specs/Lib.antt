@@ -1,2 +1,3 @@
+pub mod LaidOut
 pub mod ProvenanceNotes
 pub mod inside

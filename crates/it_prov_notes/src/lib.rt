@@ -5,6 +5,7 @@
 mod builder;
 pub mod delivery;
 mod envelope;
+mod laid_out;
 mod line;
 pub mod note;
 mod notes;
@@ -17,4 +18,5 @@ mod statement;
 mod tests;
 mod words;
 
+pub use laid_out::is_laid_out;
 pub use notes::missing_notes;

@@ -1,0 +1,2 @@
+pub mod NoDocument
+pub mod SumLines

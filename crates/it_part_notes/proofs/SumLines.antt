@@ -1,0 +1,94 @@
+-- The lines of a digest list, one after another, and what is read of each.
+use Rattle.std.proofs.Common.{◌≡◌, ◌≢◌, ◌≤◌, ◌==◌, ℕ, ◌+◌, suc, true, false, List, [], ◌∷◌, ◌++◌}
+use Rattle.std.proofs.Common.{length, take, drop, Some, None, refl, sym, ap, append_assoc, arith}
+use Rattle.std.proofs.Common.{◌∙◌, take-append-drop, length-take-le}
+use Rattle.std.proofs.Math.Seq.{take-append_seam}
+use Rattle.std.proofs.lemmas.List.{length-append}
+use Rattle.std.specs.List.{slice_get}
+use Rattle.std.specs.Str.{IsUtf8}
+use Rattle.it_base.specs.HexadecimalText.{hexadecimal_decoded}
+use Rattle.it_digest.specs.DigestSet.{only_sha256}
+use Rattle.it_digest.specs.Sums.{lines_of}
+use Rattle.it_part_notes.specs.SumLine.{FollowsDigits, GivesPath, IsLine, IsMarked}
+
+-- ---- the lines
+-- the rest begins with the line of this number
+pub record Begins (bytes : List ℕ) (number : ℕ) (rest : List ℕ) : Type 0 where
+  pub before : List (List ℕ)
+  pub lines_are : lines_of bytes ≡ before ++ lines_of rest
+  pub number_is : number ≡ suc (length before)
+
+pub begins_first : (bytes : List ℕ) → Begins bytes 1 bytes
+begins_first bytes = record { before = []; lines_are = refl; number_is = refl }
+
+at_length : (before : List (List ℕ)) (line : List ℕ) (after : List (List ℕ))
+    → slice_get (before ++ line ∷ after) (length before) ≡ Some line
+at_length [] line after = refl
+at_length (x ∷ before) line after = at_length before line after
+
+module _ (bytes rest line after : List ℕ) (number : ℕ) (so_far : Begins bytes number rest)
+    (next : lines_of rest ≡ line ∷ lines_of after) where
+  -- the next line has the number
+  pub line_here : IsLine bytes number line
+  line_here = record {
+    place = length so_far.before;
+    stands = ap (λ lines. slice_get lines (length so_far.before))
+        (so_far.lines_are ∙ ap (λ l. so_far.before ++ l) next)
+        ∙ at_length so_far.before line (lines_of after);
+    number_is = so_far.number_is;
+  }
+
+  -- the rest after it begins with the line of the number after
+  pub begins_after : Begins bytes (number + 1) after
+  begins_after = record {
+    before = so_far.before ++ line ∷ [];
+    lines_are = so_far.lines_are ∙ ap (λ l. so_far.before ++ l) next
+        ∙ sym (append_assoc so_far.before (line ∷ []) (lines_of after));
+    number_is = let same = so_far.number_is in
+        omega (arith, same, length-append so_far.before (line ∷ []));
+  }
+
+-- ---- one line
+pub follows_read : (line digits text digest : List ℕ) → digits ≡ take 64 line
+    → text ≡ drop 64 line → 64 ≤ length line → Some digest ≡ hexadecimal_decoded digits
+    → FollowsDigits line text
+follows_read line digits text digest front back long digest_is =
+    record {
+      digits = digits;
+      digest = digest;
+      written = sym (take-append-drop 64 line) ∙ (λ i. sym front i ++ sym back i);
+      digits_many = ap length front ∙ length-take-le 64 line long;
+      are_digits = sym digest_is;
+    }
+
+-- the digits of a line are its first 64 bytes
+digits_of : (line text : List ℕ) (h : FollowsDigits line text) → take 64 line ≡ h.digits
+digits_of line text h = ap (take 64) h.written ∙ ap (λ n. take n (h.digits ++ text))
+    (sym h.digits_many) ∙ take-append_seam h.digits text
+
+pub none_follows : (line digits : List ℕ) → digits ≡ take 64 line
+    → None ≡ hexadecimal_decoded digits → (text : List ℕ) → ¬ FollowsDigits line text
+none_follows line digits front none text h =
+    let found : None ≡ Some h.digest = none
+    ∙ ap hexadecimal_decoded (front ∙ digits_of line text h) ∙ h.are_digits in
+    cc found
+
+pub is_named : (path : List ℕ) → false ≡ (length path == 0) → path ≢ []
+is_named [] none same = let no : false ≡ true = none in cc
+is_named (byte ∷ path) some none = cc none
+
+pub gives_read : (line text path : List ℕ) → FollowsDigits line text → IsMarked text path
+    → path ≢ [] → IsUtf8 path → GivesPath line path
+gives_read line text path follows marked named in_utf8 = (
+  only_sha256 follows.digest,
+  record {
+    digits = follows.digits;
+    text = text;
+    digest = follows.digest;
+    written = follows.written;
+    digits_many = follows.digits_many;
+    digest_is = follows.are_digits;
+    digests_are = refl;
+    path_is = record { written = marked; named = named; in_utf8 = in_utf8 };
+  },
+)

@@ -1,0 +1,4 @@
+pub mod Members
+pub mod PartLines
+pub mod PartNotes
+pub mod SumLine

@@ -1,0 +1,84 @@
+-- Notes on a part of a policy or of a layout, as lines for people (this project's words).
+use Rattle.std.specs.Prelude.{ℕ, List, [], ◌∷◌, ◌++◌, Option, Some, None, codes, decimal}
+use Rattle.std.specs.List.{flat_map}
+use Rattle.it_report.specs.Name.{name_form}
+use Rattle.it_part_notes.specs.Members.{Looked, shown}
+use Rattle.it_part_notes.specs.declared.member.Kind.{Kind}
+use Rattle.it_part_notes.specs.declared.member.Kind.TheVariants as kinds
+use Rattle.it_part_notes.specs.declared.part_note.BadRule.{BadRule}
+use Rattle.it_part_notes.specs.declared.part_note.Fault.{Fault}
+use Rattle.it_part_notes.specs.declared.part_note.Fault.TheVariants as faults
+use Rattle.it_part_notes.specs.declared.part_note.PartNote.{PartNote}
+use Rattle.it_part_notes.specs.declared.part_note.PartPlace.{PartPlace}
+use Rattle.it_part_notes.specs.declared.part_note.PartPlace.TheVariants as places
+use Rattle.it_part_notes.specs.declared.part_note.Problem.{Problem}
+use Rattle.it_part_notes.specs.declared.part_note.Problem.TheVariants as problems
+
+abbrev pub document_form : PartPlace → List ℕ
+document_form places.Policy = codes "policy: "
+document_form (places.Expectation n) = codes "policy: "
+document_form places.Layout = codes "layout: "
+document_form (places.Step n) = codes "layout: "
+document_form (places.Inspection n) = codes "layout: "
+
+-- the item that a place is, after some words; of a whole document nothing
+abbrev pub place_form : List ℕ → PartPlace → List ℕ
+place_form before places.Policy = []
+place_form before (places.Expectation n) = before ++ codes "expectation " ++ decimal n
+place_form before places.Layout = []
+place_form before (places.Step n) = before ++ codes "step " ++ decimal n
+place_form before (places.Inspection n) = before ++ codes "inspection " ++ decimal n
+
+-- what stands at a place
+abbrev pub object_form : PartPlace → List ℕ
+object_form places.Policy = codes "it"
+object_form (places.Expectation n) = place_form [] (places.Expectation n)
+object_form places.Layout = codes "it"
+object_form (places.Step n) = place_form [] (places.Step n)
+object_form (places.Inspection n) = place_form [] (places.Inspection n)
+
+abbrev pub unfit_form : Kind → List ℕ
+unfit_form kinds.Text = codes " is not a text"
+unfit_form kinds.Word = codes " is not the text layout"
+unfit_form kinds.Moment = codes " is not a moment"
+unfit_form kinds.Threshold = codes " is not a whole number of at least 1"
+unfit_form kinds.Level = codes " is not a whole number from 0 to 3"
+unfit_form kinds.Texts = codes " is not a list of texts"
+unfit_form kinds.Keys = codes " is not an object of key objects"
+unfit_form kinds.SomeKey = codes " has no member"
+unfit_form kinds.Builders = codes " is not a list of builders"
+unfit_form kinds.Object = codes " is not an object"
+unfit_form kinds.Items = codes " is not a list"
+unfit_form kinds.Rules = codes " is not a list"
+
+abbrev pub word_form : List ℕ → List ℕ
+word_form word = codes " " ++ name_form word
+
+-- why an item is no rule: its words, if it has some
+abbrev pub words_form : Option (List (List ℕ)) → List ℕ
+words_form None = codes " is no list of texts"
+words_form (Some []) = codes " is no artifact rule: it has no words"
+words_form (Some (word ∷ words)) =
+    codes " is no artifact rule:" ++ flat_map word_form (word ∷ words)
+
+abbrev pub rule_form : PartPlace → List ℕ → BadRule → List ℕ
+rule_form place name bad =
+    codes "rule " ++ decimal bad.number ++ codes " of " ++ name ++ place_form (codes " of ") place
+    ++ words_form bad.words
+
+abbrev pub member_form : PartPlace → List ℕ → List ℕ
+member_form place name = codes "the member " ++ name ++ place_form (codes " of ") place
+
+abbrev pub fault_form : PartPlace → Looked → Fault → List ℕ
+fault_form place looked faults.Missing = member_form place looked.name ++ codes " is missing"
+fault_form place looked faults.Unfit = member_form place looked.name ++ unfit_form looked.kind
+fault_form place looked (faults.NoRule bad) = rule_form place looked.name bad
+
+abbrev pub problem_form : PartPlace → Problem → List ℕ
+problem_form place problems.NoObject = object_form place ++ codes " is no JSON object"
+problem_form place (problems.Member member fault) = fault_form place (shown member) fault
+
+-- the line of a note
+abbrev pub part_line : PartNote → List ℕ
+part_line note =
+    document_form note.place ++ problem_form note.place note.problem ++ codes "\n"

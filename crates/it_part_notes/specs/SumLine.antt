@@ -1,0 +1,100 @@
+-- What a note tells of a bad line of a digest list (this project's words). Its lines are those of
+-- `sha256sum` of the GNU core utilities, in UTF-8, with no path twice.
+use Rattle.std.specs.Prelude.{◌≡◌, ◌⊎◌, ◌<◌, ℕ, suc, List, [], ◌++◌, length, codes, decimal, Some}
+use Rattle.std.specs.List.{slice_get}
+use Rattle.std.specs.Str.{IsUtf8}
+use Rattle.it_base.specs.HexadecimalText.{hexadecimal_decoded}
+use Rattle.it_digest.specs.Sums.{IsSum, lines_of}
+use Rattle.it_digest.specs.declared.compare.DigestSet.{DigestSet}
+use Rattle.it_report.specs.Name.{name_form}
+use Rattle.it_part_notes.specs.declared.sum_line_note.LineFault.{LineFault}
+use Rattle.it_part_notes.specs.declared.sum_line_note.LineFault.TheVariants.{NoDigits, NoMark}
+use Rattle.it_part_notes.specs.declared.sum_line_note.LineFault.TheVariants.{NoPath, NotUtf8}
+use Rattle.it_part_notes.specs.declared.sum_line_note.LineFault.TheVariants.{Repeated}
+use Rattle.it_part_notes.specs.declared.sum_line_note.SumLineNote.{SumLineNote}
+
+-- ---- the lines
+-- the line of this number, counted from 1
+pub record IsLine (bytes : List ℕ) (number : ℕ) (line : List ℕ) : Type 0 where
+  pub place : ℕ
+  pub stands : slice_get (lines_of bytes) place ≡ Some line
+  pub number_is : number ≡ suc place
+
+-- a line is 64 hexadecimal digits and then this text
+pub record FollowsDigits (line text : List ℕ) : Type 0 where
+  pub digits : List ℕ
+  pub digest : List ℕ
+  pub written : line ≡ digits ++ text
+  pub digits_many : length digits ≡ 64
+  pub are_digits : hexadecimal_decoded digits ≡ Some digest
+
+-- a text is two spaces, or a space and a star, and then this path
+abbrev pub IsMarked : List ℕ → List ℕ → Type 0
+IsMarked text path = (text ≡ codes "  " ++ path) ⊎ (text ≡ codes " *" ++ path)
+
+-- a line gives some digests to this path
+abbrev pub GivesPath : List ℕ → List ℕ → Type 0
+GivesPath line path = (digests : DigestSet) × IsSum line (path, digests)
+
+-- the line of this number does
+abbrev pub LineGives : List ℕ → ℕ → List ℕ → Type 0
+LineGives bytes number path =
+    (line : List ℕ) × IsLine bytes number line × GivesPath line path
+
+-- ---- what is wrong with a line
+-- what follows the digits of a line has no mark
+abbrev pub HasNoMark : List ℕ → Type 0
+HasNoMark line =
+    (text : List ℕ) × FollowsDigits line text × ((path : List ℕ) → ¬ IsMarked text path)
+
+-- what follows the digits of a line is a mark and then this path
+abbrev pub HasPath : List ℕ → List ℕ → Type 0
+HasPath line path = (text : List ℕ) × FollowsDigits line text × IsMarked text path
+
+-- a line gives this path, and so does the earlier line of this number
+pub record IsRepeated (bytes : List ℕ) (number : ℕ) (line path : List ℕ) (earlier : ℕ) : Type 0
+  where
+    pub gives : GivesPath line path
+    pub is_earlier : earlier < number
+    pub earlier_gives : LineGives bytes earlier path
+
+-- this is wrong with the line of this number
+abbrev pub IsFault : List ℕ → ℕ → List ℕ → LineFault → Type 0
+IsFault bytes number line NoDigits = (text : List ℕ) → ¬ FollowsDigits line text
+IsFault bytes number line NoMark = HasNoMark line
+IsFault bytes number line NoPath = HasPath line []
+IsFault bytes number line NotUtf8 = (path : List ℕ) × HasPath line path × ¬ IsUtf8 path
+IsFault bytes number line (Repeated path earlier) = IsRepeated bytes number line path earlier
+
+-- what a note says is true: this is wrong with the line of its number
+pub record TellsSumLine (bytes : List ℕ) (note : SumLineNote) : Type 0 where
+  pub line : List ℕ
+  pub is_line : IsLine bytes note.number line
+  pub is_fault : IsFault bytes note.number line note.fault
+
+-- ---- the lines of notes
+-- a name after a text, in the form of a report
+unfoldable pub told_form : List ℕ → List ℕ → List ℕ
+told_form before name = before ++ name_form name
+
+-- a number between two texts
+unfoldable pub numbered_form : List ℕ → ℕ → List ℕ → List ℕ
+numbered_form before number after = before ++ decimal number ++ after
+
+abbrev pub repeated_form : List ℕ → ℕ → List ℕ
+repeated_form path earlier =
+    told_form (codes " has the path ") path
+    ++ numbered_form (codes ", which line ") earlier (codes " has too")
+
+abbrev pub fault_form : LineFault → List ℕ
+fault_form NoDigits = codes " does not begin with 64 hexadecimal digits"
+fault_form NoMark = codes " has neither two spaces nor a space and a star after the digits"
+fault_form NoPath = codes " has no path"
+fault_form NotUtf8 = codes " has a path that is not UTF-8"
+fault_form (Repeated path earlier) = repeated_form path earlier
+
+-- the line of a note
+abbrev pub sum_line : SumLineNote → List ℕ
+sum_line note =
+    numbered_form (codes "digest list: line ") note.number [] ++ fault_form note.fault
+    ++ codes "\n"

@@ -1,0 +1,98 @@
+//! Whether a value is of a kind.
+ghost use Rattle.std.specs.Prelude.{◌≡◌, IfOk, false};
+ghost use Rattle.serde_json.specs.View.{view};
+ghost use Rattle.it_base.specs.Text.{IsText};
+ghost use Rattle.it_dsse.specs.KeyObject.{IsKeyObject};
+ghost use Rattle.it_docs.specs.Level.{IsLevel};
+ghost use Rattle.it_docs.specs.Moment.{IsMoment};
+ghost use Rattle.it_docs.specs.Threshold.{IsThreshold};
+ghost use Rattle.it_part_notes.specs.Members.{Fits, Reads};
+
+use crate::member::Kind;
+use it_base::parts::FromDocument;
+use it_base::sequence::Sequence;
+use it_base::table::Table;
+use it_base::text::Text;
+use it_base::tree::Members;
+use it_docs::moment::read_moment;
+use it_docs::policy::Builder;
+use it_dsse::key_object::KeyObject;
+use serde_json::Value;
+use std::alloc::{AllocError, Global};
+
+/// Whether a value is of a kind. Of a list of rules only that it is a list.
+///
+/// # Errors
+///
+/// `AllocError` where memory was refused.
+pub(crate) fn is_fit(alloc: Global, value: &Value, kind: Kind) -> Result<bool, AllocError>
+    ensures { IfOk result (λ fit. fit ≡ false → ¬ Fits kind (view value.now)) }
+{
+    match kind {
+        Kind::Text => reads::<Text>(alloc, value),
+        Kind::Word => Ok(is_layout_word(value)),
+        Kind::Moment => Ok(is_moment(value)),
+        Kind::Threshold => Ok(is_threshold(value)),
+        Kind::Level => Ok(is_level(value)),
+        Kind::Texts => reads::<Sequence<Text>>(alloc, value),
+        Kind::Keys => reads::<Table<KeyObject>>(alloc, value),
+        Kind::SomeKey => has_member(alloc, value),
+        Kind::Builders => reads::<Sequence<Builder>>(alloc, value),
+        Kind::Object => reads::<Members>(alloc, value),
+        Kind::Items | Kind::Rules => Ok(value.is_array()),
+    }
+}
+
+/// Whether a part of a document is some value of a type.
+pub(crate) fn reads<T: FromDocument>(alloc: Global, value: &Value) -> Result<bool, AllocError>
+    ensures { IfOk result (λ read. read ≡ false → ¬ Reads T.is_of (view value.now)) }
+{
+    let found = T::from_document(alloc, value)?;
+    Ok(found.is_some())
+}
+
+/// Whether a part of a document is no object of key objects that has no member.
+fn has_member(alloc: Global, value: &Value) -> Result<bool, AllocError>
+    ensures { IfOk result (λ fit. fit ≡ false → ¬ Fits Kind.SomeKey (view value.now)) }
+{
+    let Some(keys) = Table::<KeyObject>::from_document(alloc, value)? else {
+        return Ok(true);
+    };
+    Ok(!keys.is_empty())
+}
+
+fn is_layout_word(value: &Value) -> bool
+    ensures { result ≡ false → ¬ Fits Kind.Word (view value.now) }
+{
+    match value.as_str() {
+        None => false,
+        Some(text) => text == "layout",
+    }
+}
+
+fn is_moment(value: &Value) -> bool
+    ensures { result ≡ false → ¬ Reads IsMoment (view value.now) }
+{
+    match value.as_str() {
+        None => false,
+        Some(text) => read_moment(text).is_ok(),
+    }
+}
+
+fn is_threshold(value: &Value) -> bool
+    ensures { result ≡ false → ¬ Reads IsThreshold (view value.now) }
+{
+    match value.as_u64() {
+        None => false,
+        Some(number) => number >= 1,
+    }
+}
+
+fn is_level(value: &Value) -> bool
+    ensures { result ≡ false → ¬ Reads IsLevel (view value.now) }
+{
+    match value.as_u64() {
+        None => false,
+        Some(number) => number <= 3,
+    }
+}

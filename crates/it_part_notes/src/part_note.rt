@@ -1,0 +1,61 @@
+//! Notes on a part of a policy or of a layout that fails.
+
+use crate::member::Member;
+use it_base::sequence::Sequence;
+use it_base::text::Text;
+
+/// What is wrong with a part of a policy or of a layout.
+#[derive(Drop)]
+pub struct PartNote {
+    /// Where the object stands that is looked at.
+    pub place: PartPlace,
+    /// What is wrong there.
+    pub problem: Problem,
+}
+
+/// A place of a policy or of a layout. Numbers count from 0.
+#[derive(Clone, Copy, Debug, PartialEq, Eq)]
+pub enum PartPlace {
+    /// The whole policy.
+    Policy,
+    /// This expectation of a policy.
+    Expectation(usize),
+    /// The whole layout.
+    Layout,
+    /// This step of a layout.
+    Step(usize),
+    /// This inspection of a layout.
+    Inspection(usize),
+}
+
+/// What is wrong at a place.
+#[derive(Drop)]
+pub enum Problem {
+    /// No JSON object stands there.
+    NoObject,
+    /// This member of the object that stands there is wrong.
+    Member(Member, Fault),
+}
+
+/// What is wrong with a member.
+#[derive(Drop)]
+pub enum Fault {
+    /// It is missing, and must be there.
+    Missing,
+    /// It is there, and is not what it must be.
+    Unfit,
+    /// It is a list of rules, and this item is none.
+    NoRule(BadRule),
+}
+
+/// An item of a list of rules that is no rule.
+#[derive(Drop)]
+pub struct BadRule {
+    /// The number of the item, from 0.
+    pub number: usize,
+    /// The texts of the item, or `None` where it is no list of texts.
+    pub words: Option<Sequence<Text>>,
+}
+
+#[cfg(test)]
+mod tests;

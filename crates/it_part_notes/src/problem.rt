@@ -1,0 +1,113 @@
+//! What is wrong with a part of a document.
+ghost use Rattle.std.specs.Prelude.{◌≡◌, IfOk, IfSome, map, true};
+ghost use Rattle.serde_json.specs.View.{view};
+ghost use Rattle.it_part_notes.specs.Members.{shown};
+ghost use Rattle.it_part_notes.specs.PartNotes.{IsWhole, TellsFault, TellsPart, TellsProblem};
+
+use crate::bad_rule::bad_rule;
+use crate::fit::is_fit;
+use crate::item_at::object_at;
+use crate::member::{Kind, Member};
+use crate::part_note::{Fault, PartNote, PartPlace, Problem};
+use it_base::document::{member, read_document};
+use serde_json::Value;
+use std::alloc::{AllocError, Global};
+
+/// The note on the object at a place of a document, of which these members are looked at: on the
+/// first of them that is wrong.
+///
+/// # Errors
+///
+/// `AllocError` where memory was refused.
+pub(crate) fn part_note(
+    alloc: Global,
+    bytes: &[u8],
+    place: PartPlace,
+    members: &[Member],
+) -> Result<Option<PartNote>, AllocError>
+    ensures { IfOk result (λ found.
+        IfSome found (TellsPart bytes.now place (map shown members.now))) }
+{
+    let Some(document) = read_document(alloc, bytes)? else {
+        return Ok(no_document(place));
+    };
+    let Some(object) = object_at(&document, place) else {
+        return Ok(None);
+    };
+    let Some(problem) = problem_of(alloc, object, members)? else {
+        return Ok(None);
+    };
+    Ok(Some(PartNote { place, problem }))
+}
+
+/// The note on a whole document, of bytes that are none.
+fn no_document(place: PartPlace) -> Option<PartNote>
+    ensures { IfSome result (λ note.
+        (note.place ≡ place) × IsWhole note.place × (note.problem ≡ Problem.NoObject)) }
+{
+    match place {
+        PartPlace::Policy | PartPlace::Layout => Some(PartNote {
+            place,
+            problem: Problem::NoObject,
+        }),
+        _ => None,
+    }
+}
+
+fn problem_of(
+    alloc: Global,
+    object: &Value,
+    members: &[Member],
+) -> Result<Option<Problem>, AllocError>
+    ensures { IfOk result (λ found.
+        IfSome found (TellsProblem (map shown members.now) (view object.now))) }
+{
+    if !object.is_object() {
+        return Ok(Some(Problem::NoObject));
+    }
+    for member in members {
+        if let Some(fault) = fault_of(alloc, object, *member)? {
+            return Ok(Some(Problem::Member(*member, fault)));
+        }
+    }
+    Ok(None)
+}
+
+fn fault_of(alloc: Global, object: &Value, looked: Member) -> Result<Option<Fault>, AllocError>
+    ensures { IfOk result (λ found.
+        IfSome found (TellsFault (view object.now) (shown looked))) }
+{
+    let Some(value) = member(object, looked.name()) else {
+        return Ok(missing(looked));
+    };
+    if !is_fit(alloc, value, looked.kind())? {
+        return Ok(Some(Fault::Unfit));
+    }
+    match looked.kind() {
+        Kind::Rules => rule_fault(alloc, object, looked),
+        _ => Ok(None),
+    }
+}
+
+/// The fault of a member that is missing, where it must be there.
+fn missing(looked: Member) -> Option<Fault>
+    ensures { IfSome result (λ fault.
+        (fault ≡ Fault.Missing) × ((shown looked).is_needed ≡ true)) }
+{
+    if looked.is_needed() {
+        Some(Fault::Missing)
+    } else {
+        None
+    }
+}
+
+fn rule_fault(alloc: Global, object: &Value, looked: Member) -> Result<Option<Fault>, AllocError>
+    requires { (shown looked).kind ≡ Kind.Rules }
+    ensures { IfOk result (λ found.
+        IfSome found (TellsFault (view object.now) (shown looked))) }
+{
+    let Some(bad) = bad_rule(alloc, object, looked.name())? else {
+        return Ok(None);
+    };
+    Ok(Some(Fault::NoRule(bad)))
+}

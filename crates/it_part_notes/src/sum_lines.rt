@@ -1,0 +1,42 @@
+//! The lines of a digest list by their numbers.
+ghost use Rattle.std.specs.Prelude.{◌<◌, IfSome};
+ghost use Rattle.it_part_notes.specs.SumLine.{IsLine, LineGives};
+
+use crate::sum_line::gives_path;
+use it_digest::sums::split_line;
+
+/// The line of this number, from 1.
+pub(crate) fn line_at(bytes: &[u8], number: u64) -> Option<&[u8]>
+    ensures { IfSome result (λ line. IsLine bytes.now number line.now) }
+{
+    let mut rest = bytes;
+    let mut next = 1;
+    while !rest.is_empty() {
+        let (line, after) = split_line(rest);
+        if next == number {
+            return Some(line);
+        }
+        next += 1;
+        rest = after;
+    }
+    None
+}
+
+/// The number of the first line that gives a path, where that line comes before another one.
+pub(crate) fn earlier_line(bytes: &[u8], number: u64, path: &str) -> Option<u64>
+    ensures { IfSome result (λ earlier. (earlier < number)
+        × LineGives bytes.now earlier path.now) }
+{
+    let mut rest = bytes;
+    for earlier in 1..number {
+        if rest.is_empty() {
+            return None;
+        }
+        let (line, after) = split_line(rest);
+        if gives_path(line, path) {
+            return Some(earlier);
+        }
+        rest = after;
+    }
+    None
+}

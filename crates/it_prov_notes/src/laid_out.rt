@@ -1,0 +1,89 @@
+//! Provenance that is one envelope, laid out over several lines.
+ghost use Rattle.std.specs.Prelude.{◌↔◌, Any, IfOk, IsTrue};
+ghost use Rattle.it_digest.specs.Sums.{lines_of};
+ghost use Rattle.it_prov_notes.specs.LaidOut.{IsAnEnvelope, IsLaidOut};
+
+use it_digest::sums::split_line;
+use it_dsse::envelope::{Envelope, EnvelopeFault};
+use std::alloc::{AllocError, Global};
+
+/// Whether the provenance as a whole is one envelope that is laid out over several lines: the bytes
+/// are an envelope, and none of their lines is one.
+///
+/// `provenance` is what is looked through for an envelope a line. The answer is no for a line that
+/// is an envelope, also with empty lines around it, and for several of them.
+///
+/// # Errors
+///
+/// `AllocError` where memory was refused.
+pub fn is_laid_out(alloc: Global, provenance: &[u8]) -> Result<bool, AllocError>
+    ensures { IfOk result (λ is. IsTrue is ↔ IsLaidOut provenance.now) }
+{
+    if !is_envelope(alloc, provenance)? {
+        return Ok(false);
+    }
+    let has_line = has_envelope_line(alloc, provenance)?;
+    Ok(!has_line)
+}
+
+/// Whether one of the lines is an envelope.
+fn has_envelope_line(alloc: Global, bytes: &[u8]) -> Result<bool, AllocError>
+    ensures { IfOk result (λ has. IsTrue has ↔ Any IsAnEnvelope (lines_of bytes.now)) }
+{
+    let mut rest = bytes;
+    while !rest.is_empty() {
+        let (line, after) = split_line(rest);
+        if is_envelope(alloc, line)? {
+            return Ok(true);
+        }
+        rest = after;
+    }
+    Ok(false)
+}
+
+/// Whether bytes as a whole are an envelope.
+fn is_envelope(alloc: Global, bytes: &[u8]) -> Result<bool, AllocError>
+    ensures { IfOk result (λ is. IsTrue is ↔ IsAnEnvelope bytes.now) }
+{
+    match Envelope::read(alloc, bytes) {
+        Ok(_) => Ok(true),
+        Err(EnvelopeFault::BadEnvelope) => Ok(false),
+        Err(EnvelopeFault::OutOfMemory) => Err(AllocError),
+    }
+}
+
+#[cfg(test)]
+mod tests {
+    use super::*;
+    use std::test::Fail;
+
+    // The payload is `{}` in base64.
+    const LINE: &[u8] = br#"{"payload":"e30=","payloadType":"text/plain","signatures":[]}"#;
+
+    const LAID_OUT: &[u8] = b"{\n  \"payload\": \"e30=\",\n  \"payloadType\": \"text/plain\",\n\
+        \n  \"signatures\": [\n    {\n      \"sig\": \"\"\n    }\n  ]\n}\n";
+
+    // So many times these bytes, each time with an empty line after them.
+    fn times(alloc: Global, count: usize, bytes: &[u8]) -> Result<Vec<u8>, AllocError> {
+        let mut lines = Vec::new(alloc);
+        for _ in 0..count {
+            lines.extend_from_slice(bytes)?;
+            lines.extend_from_slice(b"\n\n")?;
+        }
+        Ok(lines)
+    }
+
+    #[test]
+    fn says_whether_one_envelope_is_over_several_lines(rt: HostRuntime) -> Result<(), Fail> {
+        let alloc = rt.alloc();
+        assert!(rt; is_laid_out(alloc, LAID_OUT)?);
+        assert!(rt; is_laid_out(alloc, times(alloc, 1, LAID_OUT)?.as_slice())?);
+        assert!(rt; !is_laid_out(alloc, times(alloc, 2, LAID_OUT)?.as_slice())?);
+        assert!(rt; !is_laid_out(alloc, LINE)?);
+        assert!(rt; !is_laid_out(alloc, times(alloc, 1, LINE)?.as_slice())?);
+        assert!(rt; !is_laid_out(alloc, times(alloc, 2, LINE)?.as_slice())?);
+        assert!(rt; !is_laid_out(alloc, b"{\n}")?);
+        assert!(rt; !is_laid_out(alloc, b"")?);
+        Ok(())
+    }
+}

@@ -1,1 +1,2 @@
 mod Delivering
+mod Levels

@@ -1,2 +1,4 @@
+pub mod Level
 pub mod Notes
+pub mod PlaceNotes
 pub mod RefusalNotes

@@ -11,11 +11,13 @@ use Rattle.it_member_notes.specs.declared.layout_note.LayoutNote.{LayoutNote}
 use Rattle.it_report.specs.declared.verdict.Verdict.{Verdict}
 use Rattle.it_report.specs.declared.verdict.Verdict.TheVariants.{Accepted, Refused}
 use Rattle.it_verify.specs.declared.inputs.Inputs.{Inputs}
+use Rattle.it_notes.specs.PlaceNotes.{TellsPlace}
 use Rattle.it_notes.specs.RefusalNotes.{Tells}
 use Rattle.it_notes.specs.declared.layout_notes.LayoutNotes.{LayoutNotes}
 use Rattle.it_notes.specs.declared.notes.Notes.{Notes}
 use Rattle.it_notes.specs.declared.notes.RefusalNotes.{RefusalNotes}
 use Rattle.it_notes.specs.declared.notes.RefusalNotes.TheVariants.{Nothing}
+use Rattle.it_notes.specs.declared.place_notes.PlaceNotes.{PlaceNotes}
 
 -- the notes are true of the layout that a payload is; where it is none, there are none
 abbrev pub AreOfLayout : List ℕ → List LayoutNote → Type 0
@@ -35,9 +37,15 @@ TellsVerdict panel inputs (Accepted steps files) Nothing = Unit {0}
 TellsVerdict panel inputs (Accepted steps files) _ = ⊥
 TellsVerdict panel inputs (Refused refusal) told = Tells panel inputs refusal told
 
+-- where the sublayout is of which a refusal speaks; an accepted delivery has none
+abbrev pub TellsWhere : Panel → Inputs → Verdict → PlaceNotes → Type 0
+TellsWhere panel inputs (Accepted steps files) notes = ⊥
+TellsWhere panel inputs (Refused refusal) notes = TellsPlace panel inputs refusal.at notes
+
 -- every note is true of the inputs and of the verdict on them
 pub record AreTrue (panel : Panel) (inputs : Inputs) (verdict : Verdict) (notes : Notes)
     : Type 0 where
+  pub place : IfSome notes.place (TellsWhere panel inputs verdict)
   pub refusal : TellsVerdict panel inputs verdict notes.refusal
   pub policy : All (IsUnreadOfPolicy inputs.policy) notes.policy.items
   pub layout : IfSome notes.layout (TellsLayout inputs.layout)

@@ -1,6 +1,6 @@
 -- What the notes on a refusal say (words of this project). Each speaks of the fault that is
 -- reported, and of what the verification was given.
-use Rattle.std.specs.Prelude.{◌≡◌, ◌⊎◌, ℕ, ℤ, List, [], Option, Some, All, Contains}
+use Rattle.std.specs.Prelude.{◌≡◌, ◌⊎◌, ℕ, List, Option, Some, All, Contains, IfSome}
 use Rattle.std.specs.FinMap.{get}
 use Rattle.it_digest.specs.Artifacts.{ArtifactMap}
 use Rattle.it_digest.specs.Sums.{SumsOf}
@@ -8,13 +8,18 @@ use Rattle.it_digest.specs.declared.compare.DigestSet.{DigestSet}
 use Rattle.it_dsse.specs.Envelope.{EnvelopeOf}
 use Rattle.it_dsse.specs.Panel.{Panel}
 use Rattle.it_dsse.specs.declared.envelope.Envelope.{Envelope}
-use Rattle.it_docs.specs.Layout.{LayoutOf}
-use Rattle.it_docs.specs.Moment.{MomentOf}
 use Rattle.it_docs.specs.Policy.{PolicyOf}
+use Rattle.it_docs.specs.declared.layout_fault.LayoutPart.{LayoutPart}
 use Rattle.it_docs.specs.declared.policy.Expectation.{Expectation}
 use Rattle.it_docs.specs.declared.policy.Policy.{Policy}
+use Rattle.it_docs.specs.declared.policy_fault.PolicyPart.{PolicyPart}
 use Rattle.it_docs.specs.declared.step.Step.{Step}
+use Rattle.it_part_notes.specs.PartNotes.{TellsLayoutPart, TellsPolicyPart}
+use Rattle.it_part_notes.specs.SumLine.{TellsSumLine}
+use Rattle.it_part_notes.specs.declared.part_note.PartNote.{PartNote}
+use Rattle.it_part_notes.specs.declared.sum_line_note.SumLineNote.{SumLineNote}
 use Rattle.it_prov.specs.Fits.{Fits}
+use Rattle.it_prov_notes.specs.LaidOut.{IsLaidOut}
 use Rattle.it_prov_notes.specs.ProvenanceNotes.{Holds as TellsLine}
 use Rattle.it_prov_notes.specs.declared.note.ProvenanceNote.{ProvenanceNote}
 use Rattle.it_report.specs.declared.refusal.Fault.{Fault}
@@ -23,25 +28,24 @@ use Rattle.it_report.specs.declared.refusal.Refusal.{Refusal}
 use Rattle.it_rule_notes.specs.CountingFile.{setting_of}
 use Rattle.it_rule_notes.specs.Disagree.{TellsDisagree}
 use Rattle.it_rule_notes.specs.Expiry.{TellsExpiry}
+use Rattle.it_rule_notes.specs.MetNote.{TellsMet}
 use Rattle.it_rule_notes.specs.Owner.{TellsOwner}
 use Rattle.it_rule_notes.specs.Payloads.{TellsPayloads}
 use Rattle.it_rule_notes.specs.Rule.{TellsRule}
 use Rattle.it_rule_notes.specs.declared.disagree_note.DisagreeNote.{DisagreeNote}
 use Rattle.it_rule_notes.specs.declared.expiry_note.ExpiryNote.{ExpiryNote}
+use Rattle.it_rule_notes.specs.declared.met_note.MetNote.{MetNote}
 use Rattle.it_rule_notes.specs.declared.owner_note.OwnerNote.{OwnerNote}
 use Rattle.it_rule_notes.specs.declared.payloads_note.PayloadsNote.{PayloadsNote}
-use Rattle.it_rule_notes.specs.declared.rule_note.RuleNote.{RuleNote}
+use Rattle.it_rule_notes.specs.declared.rule_place.RulePlace.{RulePlace}
 use Rattle.it_step_notes.specs.StepNotes.{Holds as TellsStep}
 use Rattle.it_step_notes.specs.declared.note.StepNote.{StepNote}
 use Rattle.it_verify.specs.declared.inputs.Inputs.{Inputs}
+use Rattle.it_notes.specs.Level.{IsLevel, Place}
+use Rattle.it_notes.specs.declared.fault_level.FaultLevel.{FaultLevel}
 use Rattle.it_notes.specs.declared.notes.RefusalNotes.{RefusalNotes}
 use Rattle.it_notes.specs.declared.notes.RefusalNotes.TheVariants as notes
-use Rattle.it_notes.specs.declared.signed_layout.SignedLayout.{SignedLayout}
-
--- bytes are an envelope with this layout
-pub record IsSignedLayout (bytes : List ℕ) (signed : SignedLayout) : Type 0 where
-  pub is_envelope : EnvelopeOf bytes signed.envelope
-  pub reads : LayoutOf signed.envelope.payload signed.layout
+use Rattle.it_notes.specs.declared.notes.RuleNotes.{RuleNotes}
 
 -- a digest list has these digests for a path
 pub record IsDelivered (sums path : List ℕ) (digests : DigestSet) : Type 0 where
@@ -49,17 +53,82 @@ pub record IsDelivered (sums path : List ℕ) (digests : DigestSet) : Type 0 whe
   pub reads : SumsOf sums delivered
   pub stands : get delivered path ≡ Some digests
 
-module _ (panel : Panel) (inputs : Inputs) (fault : Fault) where
+-- what the rule at a place of a layout met
+pub record TellsMetAt (panel : Panel) (depth : ℕ) (level : FaultLevel) (place : RulePlace)
+    (note : MetNote) : Type 0 where
+  pub place_is : note.place ≡ place
+  pub is_true : TellsMet (setting_of panel level.moment) depth level.signed.layout level.links.now
+      note
+
+-- what is said of a layout at which a delivery was refused
+module _ (panel : Panel) (inputs : Inputs) (level : FaultLevel) (fault : Fault) where
   -- of the step that has too few keys, what the files and key ids are for it
   pub record TellsThreshold (notes : List StepNote) : Type 0 where
-    pub signed : SignedLayout
     pub step : Step
     pub found : ℕ
     pub needed : ℕ
     pub fault_is : fault ≡ faults.Threshold step.name found needed
-    pub is_layout : IsSignedLayout inputs.layout signed
-    pub in_layout : Contains signed.layout.steps step
-    pub are_true : All (TellsStep panel signed.layout inputs.links step) notes
+    pub in_layout : Contains level.signed.layout.steps step
+    pub are_true : All (TellsStep panel level.signed.layout level.links.now step) notes
+
+  -- when the layout that has expired did
+  pub record TellsEnd (note : ExpiryNote) : Type 0 where
+    pub fault_is : fault ≡ faults.Expired
+    pub is_true : TellsExpiry level.signed.envelope.payload inputs.moment note
+
+  -- which files hold bodies of the key id that differ
+  pub record TellsTwo (note : PayloadsNote) : Type 0 where
+    pub fault_is : fault ≡ faults.TwoPayloads note.step note.id
+    pub is_true : TellsPayloads (setting_of panel level.moment) level.signed.layout
+        level.links.now note
+
+  -- which files hold links of the step that differ
+  pub record TellsOdd (note : DisagreeNote) : Type 0 where
+    pub id : List ℕ
+    pub fault_is : fault ≡ faults.Disagree note.step id
+    pub is_true : TellsDisagree (setting_of panel level.moment) level.signed.layout
+        level.links.now note
+
+  -- what the rule says that failed, and what it met
+  pub record TellsFailed (notes : RuleNotes) : Type 0 where
+    pub policy : Policy
+    pub path : List ℕ
+    pub fault_is : fault ≡ faults.RuleFailed notes.rule.place.item notes.rule.place.side
+        notes.rule.place.index path
+    pub is_policy : PolicyOf inputs.policy policy
+    pub rule : TellsRule level.signed.layout policy.deliver notes.rule
+    pub met : IfSome notes.met (TellsMetAt panel inputs.depth level notes.rule.place)
+
+  -- the notes are true of the layout, and speak of the fault
+  abbrev pub TellsAt : RefusalNotes → Type 0
+  TellsAt notes.Nothing = Unit {0}
+  TellsAt (notes.Step told) = TellsThreshold told.items
+  TellsAt (notes.Expiry told) = TellsEnd told
+  TellsAt (notes.Payloads told) = TellsTwo told
+  TellsAt (notes.Disagreement told) = TellsOdd told
+  TellsAt (notes.Rule told) = TellsFailed told
+  TellsAt told = ⊥
+
+-- what is said of the documents that were given
+module _ (panel : Panel) (inputs : Inputs) (fault : Fault) where
+  -- what is wrong with the policy
+  pub record TellsBadPolicy (note : PartNote) : Type 0 where
+    pub part : PolicyPart
+    pub fault_is : fault ≡ faults.BadPolicy part
+    pub is_true : TellsPolicyPart inputs.policy part note
+
+  -- what is wrong with the layout
+  pub record TellsBadLayout (note : PartNote) : Type 0 where
+    pub part : LayoutPart
+    pub envelope : Envelope
+    pub fault_is : fault ≡ faults.BadLayout part
+    pub is_envelope : EnvelopeOf inputs.layout envelope
+    pub is_true : TellsLayoutPart envelope.payload part note
+
+  -- what is wrong with the line of the digest list
+  pub record TellsBadLine (note : SumLineNote) : Type 0 where
+    pub fault_is : fault ≡ faults.BadSums note.number
+    pub is_true : TellsSumLine inputs.sums note
 
   -- where an owner is missing, which of the owners signed the layout
   pub record TellsOwners (notes : List OwnerNote) : Type 0 where
@@ -70,42 +139,6 @@ module _ (panel : Panel) (inputs : Inputs) (fault : Fault) where
     pub is_policy : PolicyOf inputs.policy policy
     pub is_envelope : EnvelopeOf inputs.layout envelope
     pub are_true : All (TellsOwner panel envelope policy.owners) notes
-
-  -- when the layout that has expired did
-  pub record TellsEnd (note : ExpiryNote) : Type 0 where
-    pub envelope : Envelope
-    pub fault_is : fault ≡ faults.Expired
-    pub is_envelope : EnvelopeOf inputs.layout envelope
-    pub is_true : TellsExpiry envelope.payload inputs.moment note
-
-  -- which files hold bodies of the key id that differ
-  pub record TellsTwo (note : PayloadsNote) : Type 0 where
-    pub signed : SignedLayout
-    pub moment : ℤ
-    pub fault_is : fault ≡ faults.TwoPayloads note.step note.id
-    pub is_layout : IsSignedLayout inputs.layout signed
-    pub is_moment : MomentOf inputs.moment moment
-    pub is_true : TellsPayloads (setting_of panel moment) signed.layout inputs.links note
-
-  -- which files hold links of the step that differ
-  pub record TellsOdd (note : DisagreeNote) : Type 0 where
-    pub signed : SignedLayout
-    pub moment : ℤ
-    pub id : List ℕ
-    pub fault_is : fault ≡ faults.Disagree note.step id
-    pub is_layout : IsSignedLayout inputs.layout signed
-    pub is_moment : MomentOf inputs.moment moment
-    pub is_true : TellsDisagree (setting_of panel moment) signed.layout inputs.links note
-
-  -- what the rule says that failed
-  pub record TellsFailed (note : RuleNote) : Type 0 where
-    pub policy : Policy
-    pub signed : SignedLayout
-    pub path : List ℕ
-    pub fault_is : fault ≡ faults.RuleFailed note.place.item note.place.side note.place.index path
-    pub is_policy : PolicyOf inputs.policy policy
-    pub is_layout : IsSignedLayout inputs.layout signed
-    pub is_true : TellsRule signed.layout policy.deliver note
 
   -- of the file that has no provenance, what the lines of the provenance miss
   pub record TellsMissing (notes : List ProvenanceNote) : Type 0 where
@@ -120,18 +153,31 @@ module _ (panel : Panel) (inputs : Inputs) (fault : Fault) where
     pub is_delivered : IsDelivered inputs.sums path digests
     pub are_true : All (TellsLine panel expectation digests inputs.provenance) notes
 
-  -- the notes are true, and speak of the fault
-  abbrev pub TellsFault : RefusalNotes → Type 0
-  TellsFault notes.Nothing = Unit {0}
-  TellsFault (notes.Step told) = TellsThreshold told.items
-  TellsFault (notes.Owners told) = TellsOwners told.items
-  TellsFault (notes.Expiry told) = TellsEnd told
-  TellsFault (notes.Payloads told) = TellsTwo told
-  TellsFault (notes.Disagreement told) = TellsOdd told
-  TellsFault (notes.Rule told) = TellsFailed told
-  TellsFault (notes.Provenance told) = TellsMissing told.items
+  -- where a file has no provenance, that the provenance is one envelope over several lines
+  pub record TellsLaidOut : Type 0 where
+    pub path : List ℕ
+    pub best : Option ℕ
+    pub fault_is : fault ≡ faults.NoProvenance path best
+    pub is_true : IsLaidOut inputs.provenance
 
--- the notes are true, and speak of a refusal of the outermost layout; or there are none
+  -- the notes are true of the documents, and speak of the fault
+  abbrev pub TellsInputs : RefusalNotes → Type 0
+  TellsInputs notes.Nothing = Unit {0}
+  TellsInputs (notes.Part told) = TellsBadPolicy told ⊎ TellsBadLayout told
+  TellsInputs (notes.Line told) = TellsBadLine told
+  TellsInputs (notes.Owners told) = TellsOwners told.items
+  TellsInputs (notes.Provenance told) = TellsMissing told.items
+  TellsInputs notes.LaidOut = TellsLaidOut
+  TellsInputs told = ⊥
+
+-- the notes are true of the layout to which these places lead down
+pub record TellsLevel (panel : Panel) (inputs : Inputs) (at : List Place) (fault : Fault)
+    (told : RefusalNotes) : Type 0 where
+  pub level : FaultLevel
+  pub is_level : IsLevel panel inputs at level
+  pub is_true : TellsAt panel inputs level fault told
+
+-- the notes are true, and speak of the refusal
 abbrev pub Tells : Panel → Inputs → Refusal → RefusalNotes → Type 0
-Tells panel inputs refusal told =
-    ((refusal.at ≡ []) × TellsFault panel inputs refusal.fault told) ⊎ (told ≡ notes.Nothing)
+Tells panel inputs refusal told = TellsInputs panel inputs refusal.fault told
+    ⊎ TellsLevel panel inputs refusal.at refusal.fault told

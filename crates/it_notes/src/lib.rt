@@ -2,17 +2,22 @@
 //! delivery was refused and of what was read over. Each note is true.
 #![tactic(auto)]
 
+mod bad_parts;
 mod expiry;
+pub mod fault_level;
 pub mod layout_notes;
+mod level_notes;
 mod lines;
 pub mod notes;
 mod owners;
+pub mod place_notes;
 mod provenance;
 mod reading;
 mod records;
 mod refusal_notes;
 mod rules;
-pub mod signed_layout;
 mod steps;
+#[cfg(test)]
+mod tests;
 mod text;
 pub mod verify_with_notes;

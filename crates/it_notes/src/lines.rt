@@ -1,7 +1,8 @@
-//! The lines that people read: the first forty, and how many there are besides.
+//! The lines that people read: at most forty, of which the last can say how many notes there are
+//! besides.
 use std::alloc::{AllocError, Global};
 
-/// How many notes are written out.
+/// How many lines are written out.
 const MOST: u64 = 40;
 
 /// A note that has a line for people.
@@ -13,8 +14,10 @@ pub(crate) trait Line {
 /// Lines, as they are written.
 #[derive(Drop)]
 pub(crate) struct Lines {
-    /// The first lines.
+    /// The first lines, without the one that can be the last.
     text: Vec<u8>,
+    /// The line that is the last one where no further note comes.
+    last: Vec<u8>,
     /// How many notes there are, written out or not.
     count: u64,
 }
@@ -24,6 +27,7 @@ impl Lines {
     pub(crate) fn new(alloc: Global) -> Lines {
         Lines {
             text: Vec::new(alloc),
+            last: Vec::new(alloc),
             count: 0,
         }
     }
@@ -38,20 +42,83 @@ impl Lines {
 
     /// Adds the line of a note.
     pub(crate) fn add<N: Line>(&mut self, note: &N) -> Result<(), AllocError> {
+        self.count = self.count.saturating_add(1);
         if self.count < MOST {
             note.push_line(&mut self.text)?;
+        } else if self.count == MOST {
+            note.push_line(&mut self.last)?;
         }
-        self.count = self.count.saturating_add(1);
         Ok(())
     }
 
-    /// The text of the lines. Where there are more than are written out, a last line says how many.
+    /// The text of the lines. Where there are more notes than lines that are written out, the last
+    /// line says how many it leaves out.
     pub(crate) fn into_text(self, alloc: Global) -> Result<Vec<u8>, AllocError> {
-        let Lines { mut text, count } = self;
+        let Lines {
+            mut text,
+            last,
+            count,
+        } = self;
         if count > MOST {
-            let last = format!(in alloc; "{} further notes\n", count - MOST)?;
-            text.extend_from_slice(last.as_bytes())?;
+            let rest = format!(in alloc; "{} further notes\n", count - MOST + 1)?;
+            text.extend_from_slice(rest.as_bytes())?;
+        } else {
+            text.extend_from_slice(last.as_slice())?;
         }
         Ok(text)
+    }
+}
+
+#[cfg(test)]
+mod tests {
+    use super::*;
+    use std::test::Fail;
+
+    #[derive(Drop)]
+    struct Plain;
+
+    impl Line for Plain {
+        fn push_line(&self, text: &mut Vec<u8>) -> Result<(), AllocError> {
+            text.extend_from_slice(b"a note\n")?;
+            Ok(())
+        }
+    }
+
+    // The text of this many notes.
+    fn text_of(alloc: Global, notes: u64) -> Result<Vec<u8>, AllocError> {
+        let mut lines = Lines::new(alloc);
+        for _ in 0..notes {
+            lines.add(&Plain)?;
+        }
+        lines.into_text(alloc)
+    }
+
+    // This many lines of notes, and then a text.
+    fn lines_and(alloc: Global, lines: u64, rest: &str) -> Result<Vec<u8>, AllocError> {
+        let mut text = Vec::new(alloc);
+        for _ in 0..lines {
+            text.extend_from_slice(b"a note\n")?;
+        }
+        text.extend_from_slice(rest.as_bytes())?;
+        Ok(text)
+    }
+
+    #[test]
+    fn forty_notes_are_written_out(rt: HostRuntime) -> Result<(), Fail> {
+        let forty = lines_and(rt.alloc(), 40, "")?;
+        assert_eq!(rt; text_of(rt.alloc(), 40)?.as_slice(), forty.as_slice());
+        let one = lines_and(rt.alloc(), 1, "")?;
+        assert_eq!(rt; text_of(rt.alloc(), 1)?.as_slice(), one.as_slice());
+        assert!(rt; text_of(rt.alloc(), 0)?.is_empty());
+        Ok(())
+    }
+
+    #[test]
+    fn of_more_than_forty_the_last_line_counts_the_rest(rt: HostRuntime) -> Result<(), Fail> {
+        let wanted = lines_and(rt.alloc(), 39, "2 further notes\n")?;
+        assert_eq!(rt; text_of(rt.alloc(), 41)?.as_slice(), wanted.as_slice());
+        let wanted = lines_and(rt.alloc(), 39, "61 further notes\n")?;
+        assert_eq!(rt; text_of(rt.alloc(), 100)?.as_slice(), wanted.as_slice());
+        Ok(())
     }
 }

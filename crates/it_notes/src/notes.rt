@@ -1,17 +1,21 @@
 //! The notes on a verification.
 ghost use Rattle.std.specs.Prelude.{IfOk, IfSome, map};
 ghost use Rattle.it_dsse.specs.Panel.{panel_of};
-ghost use Rattle.it_notes.specs.Notes.{AreTrue, TellsLayout, TellsVerdict};
+ghost use Rattle.it_notes.specs.Notes.{AreTrue, TellsLayout, TellsVerdict, TellsWhere};
 
 use crate::layout_notes::LayoutNotes;
+use crate::place_notes::{PlaceNotes, place_notes};
 use crate::refusal_notes::refusal_notes;
 use it_dsse::check::SignatureCheck;
 use it_member_notes::policy_notes;
 use it_member_notes::unread_member::UnreadMember;
+use it_part_notes::part_note::PartNote;
+use it_part_notes::sum_line_note::SumLineNote;
 use it_prov_notes::note::ProvenanceNote;
 use it_report::verdict::Verdict;
 use it_rule_notes::disagree_note::DisagreeNote;
 use it_rule_notes::expiry_note::ExpiryNote;
+use it_rule_notes::met_note::MetNote;
 use it_rule_notes::owner_note::OwnerNote;
 use it_rule_notes::payloads_note::PayloadsNote;
 use it_rule_notes::rule_note::RuleNote;
@@ -25,6 +29,8 @@ const OWNER_MISSING: u8 = 22;
 /// What there is to say to people of a verification. Each note is true.
 #[derive(Drop)]
 pub struct Notes {
+    /// Where the sublayout is of which the refusal speaks.
+    pub place: Option<PlaceNotes>,
     /// Why the delivery was refused.
     pub refusal: RefusalNotes,
     /// The members of the policy that are not looked at.
@@ -38,6 +44,10 @@ pub struct Notes {
 pub enum RefusalNotes {
     /// There is nothing to say.
     Nothing,
+    /// Of the part of the policy or the layout that fails.
+    Part(PartNote),
+    /// Of the line of the digest list that is bad.
+    Line(SumLineNote),
     /// Of the step for which too few keys signed.
     Step(Vec<StepNote>),
     /// Of the owners of the policy.
@@ -49,9 +59,20 @@ pub enum RefusalNotes {
     /// Of the links of a step that differ.
     Disagreement(DisagreeNote),
     /// Of the artifact rule that failed.
-    Rule(RuleNote),
+    Rule(RuleNotes),
     /// Of the provenance that is none for the file.
     Provenance(Vec<ProvenanceNote>),
+    /// The provenance is one envelope over several lines.
+    LaidOut,
+}
+
+/// An artifact rule that failed.
+#[derive(Drop)]
+pub struct RuleNotes {
+    /// The words of the rule.
+    pub rule: RuleNote,
+    /// What a rule of a step met.
+    pub met: Option<MetNote>,
 }
 
 impl Notes {
@@ -71,7 +92,9 @@ impl Notes {
     {
         let policy = policy_notes(alloc, inputs.policy.as_slice())?;
         let layout = signed_layout_notes(alloc, inputs, verdict)?;
+        let place = verdict_place(alloc, inputs, verdict, panel)?;
         Ok(Notes {
+            place,
             refusal: verdict_notes(alloc, inputs, verdict, panel)?,
             policy,
             layout,
@@ -91,6 +114,22 @@ fn verdict_notes(
     match verdict {
         Verdict::Accepted { .. } => Ok(RefusalNotes::Nothing),
         Verdict::Refused(refusal) => refusal_notes(alloc, inputs, refusal, panel),
+    }
+}
+
+/// Where the sublayout is of which the verdict speaks, if it does of one.
+fn verdict_place(
+    alloc: Global,
+    inputs: &Inputs,
+    verdict: &Verdict,
+    panel: &[Box<dyn SignatureCheck>],
+) -> Result<Option<PlaceNotes>, AllocError>
+    ensures { IfOk result (λ found. IfSome found
+        (TellsWhere (panel_of (map meaning panel.now)) inputs.now verdict.now)) }
+{
+    match verdict {
+        Verdict::Accepted { .. } => Ok(None),
+        Verdict::Refused(refusal) => place_notes(alloc, inputs, refusal.at.as_slice(), panel),
     }
 }
 

@@ -2,7 +2,7 @@
 ghost use Rattle.std.specs.Prelude.{IfOk, List, ℕ, map};
 ghost use Rattle.it_dsse.specs.Panel.{panel_of};
 ghost use Rattle.it_report.specs.declared.refusal.Fault.TheVariants.{OwnerMissing};
-ghost use Rattle.it_notes.specs.RefusalNotes.{TellsFault};
+ghost use Rattle.it_notes.specs.RefusalNotes.{TellsInputs};
 
 use crate::notes::RefusalNotes;
 use crate::reading::{envelope_in, policy_in};
@@ -17,7 +17,7 @@ pub(crate) fn owners_told(
     inputs: &Inputs,
     panel: &[Box<dyn SignatureCheck>],
 ) -> Result<RefusalNotes, AllocError>
-    ensures { IfOk result (λ told. (id : List ℕ) → TellsFault
+    ensures { IfOk result (λ told. (id : List ℕ) → TellsInputs
         (panel_of (map meaning panel.now)) inputs.now (OwnerMissing id) told) }
 {
     let Some(policy) = policy_in(alloc, inputs.policy.as_slice())? else {

@@ -3,7 +3,7 @@ ghost use Rattle.std.specs.Prelude.{IfOk, IfSome, Option, ℕ, map};
 ghost use Rattle.it_dsse.specs.Panel.{panel_of};
 ghost use Rattle.it_prov.specs.Fits.{Fits};
 ghost use Rattle.it_report.specs.declared.refusal.Fault.TheVariants.{NoProvenance};
-ghost use Rattle.it_notes.specs.RefusalNotes.{IsDelivered, TellsFault};
+ghost use Rattle.it_notes.specs.RefusalNotes.{IsDelivered, TellsInputs};
 
 use crate::notes::RefusalNotes;
 use crate::reading::policy_in;
@@ -13,7 +13,7 @@ use it_docs::policy::Expectation;
 use it_dsse::check::SignatureCheck;
 use it_prov::fits::fitting;
 use it_prov_notes::delivery::Delivery;
-use it_prov_notes::missing_notes;
+use it_prov_notes::{is_laid_out, missing_notes};
 use it_verify::inputs::Inputs;
 use std::alloc::{AllocError, Global};
 
@@ -25,9 +25,12 @@ pub(crate) fn provenance_told(
     path: &str,
     panel: &[Box<dyn SignatureCheck>],
 ) -> Result<RefusalNotes, AllocError>
-    ensures { IfOk result (λ told. (best : Option ℕ) → TellsFault
+    ensures { IfOk result (λ told. (best : Option ℕ) → TellsInputs
         (panel_of (map meaning panel.now)) inputs.now (NoProvenance path.now best) told) }
 {
+    if is_laid_out(alloc, inputs.provenance.as_slice())? {
+        return Ok(RefusalNotes::LaidOut);
+    }
     let Some(policy) = policy_in(alloc, inputs.policy.as_slice())? else {
         return Ok(RefusalNotes::Nothing);
     };

@@ -1,8 +1,10 @@
 //! Documents of a verification, read again.
 ghost use Rattle.std.specs.Prelude.{IfOk, IfSome};
+ghost use Rattle.it_docs.specs.Moment.{MomentOf};
 ghost use Rattle.it_docs.specs.Policy.{PolicyOf};
 ghost use Rattle.it_dsse.specs.Envelope.{EnvelopeOf};
 
+use it_docs::moment::read_moment;
 use it_docs::policy::Policy;
 use it_docs::policy_fault::PolicyFault;
 use it_docs::policy_reading::read_policy;
@@ -28,5 +30,15 @@ pub(crate) fn envelope_in(alloc: Global, bytes: &[u8]) -> Result<Option<Envelope
         Ok(envelope) => Ok(Some(envelope)),
         Err(EnvelopeFault::BadEnvelope) => Ok(None),
         Err(EnvelopeFault::OutOfMemory) => Err(AllocError),
+    }
+}
+
+/// The moment that a text is.
+pub(crate) fn moment_in(text: &str) -> Option<i64>
+    ensures { IfSome result (MomentOf text.now) }
+{
+    match read_moment(text) {
+        Ok(moment) => Some(moment),
+        Err(_) => None,
     }
 }

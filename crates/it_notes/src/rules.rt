@@ -1,42 +1,80 @@
-//! Which artifact rule failed.
-ghost use Rattle.std.specs.Prelude.{IfOk, List, ℕ};
-ghost use Rattle.it_dsse.specs.Panel.{Panel};
+//! Which artifact rule failed, and what it met.
+ghost use Rattle.std.specs.Prelude.{IfOk, IfSome, List, ℕ, map};
+ghost use Rattle.it_dsse.specs.Panel.{panel_of};
 ghost use Rattle.it_report.specs.declared.refusal.Fault.TheVariants.{RuleFailed};
-ghost use Rattle.it_notes.specs.RefusalNotes.{TellsFault};
+ghost use Rattle.it_notes.specs.RefusalNotes.{TellsAt, TellsMetAt};
 
-use crate::notes::RefusalNotes;
+use crate::fault_level::FaultLevel;
+use crate::notes::{RefusalNotes, RuleNotes};
 use crate::reading::policy_in;
-use crate::signed_layout::SignedLayout;
 use it_chain::refusal::RuleItem;
 use it_docs::rule::Side;
+use it_dsse::check::SignatureCheck;
+use it_rule_notes::level::Level;
+use it_rule_notes::met_note::{MetNote, met_note};
 use it_rule_notes::rule_note::rule_note;
-use it_rule_notes::rule_place::RuleBook;
+use it_rule_notes::rule_place::{RuleBook, RulePlace};
 use it_verify::inputs::Inputs;
 use std::alloc::{AllocError, Global};
 
-/// The text of the rule of an item on a side that has this place in its list, from 0.
+/// Where the rule stands that failed.
+#[derive(Drop)]
+pub(crate) struct FailedRule<'a> {
+    /// Whose rule it is.
+    pub item: &'a RuleItem,
+    /// The side that it judges.
+    pub side: Side,
+    /// Its place in the list of that side, from 0.
+    pub index: usize,
+}
+
+/// How deep sublayouts may lie at the most.
+const DEEPEST: u8 = 8;
+
+/// The text of the rule that failed, and what it met.
 pub(crate) fn rule_told(
     alloc: Global,
     inputs: &Inputs,
-    item: &RuleItem,
-    side: Side,
-    index: usize,
+    level: &FaultLevel,
+    rule: &FailedRule,
+    panel: &[Box<dyn SignatureCheck>],
 ) -> Result<RefusalNotes, AllocError>
-    ensures { IfOk result (λ told. (panel : Panel) (path : List ℕ) → TellsFault panel inputs.now
-        (RuleFailed item.now side index path) told) }
+    ensures { IfOk result (λ told. (path : List ℕ) → TellsAt (panel_of (map meaning panel.now))
+        inputs.now level.now
+        (RuleFailed rule.now.item.now rule.now.side rule.now.index path) told) }
 {
     let Some(policy) = policy_in(alloc, inputs.policy.as_slice())? else {
         return Ok(RefusalNotes::Nothing);
     };
-    let Some(signed) = SignedLayout::read(alloc, inputs.layout.as_slice())? else {
-        return Ok(RefusalNotes::Nothing);
-    };
     let book = RuleBook {
-        layout: &signed.layout,
+        layout: &level.signed.layout,
         deliver: policy.deliver.as_slice(),
     };
-    match rule_note(alloc, &book, item, side, index)? {
-        Some(note) => Ok(RefusalNotes::Rule(note)),
-        None => Ok(RefusalNotes::Nothing),
+    let Some(rule) = rule_note(alloc, &book, rule.item, rule.side, rule.index)? else {
+        return Ok(RefusalNotes::Nothing);
+    };
+    let met = met_at(alloc, inputs.depth, level, &rule.place, panel)?;
+    Ok(RefusalNotes::Rule(RuleNotes { rule, met }))
+}
+
+/// What the rule at a place of a layout met.
+fn met_at(
+    alloc: Global,
+    depth: u8,
+    level: &FaultLevel,
+    place: &RulePlace,
+    panel: &[Box<dyn SignatureCheck>],
+) -> Result<Option<MetNote>, AllocError>
+    ensures { IfOk result (λ found. IfSome found (TellsMetAt (panel_of (map meaning panel.now))
+        depth level.now place.now)) }
+{
+    if depth > DEEPEST {
+        return Ok(None);
     }
+    let rule_level = Level {
+        layout: &level.signed.layout,
+        links: level.links,
+        moment: level.moment,
+    };
+    met_note(alloc, &rule_level, depth, place, panel)
 }

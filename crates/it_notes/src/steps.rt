@@ -2,34 +2,32 @@
 ghost use Rattle.std.specs.Prelude.{◌≡◌, Contains, IfOk, IfSome, ℕ, map};
 ghost use Rattle.it_dsse.specs.Panel.{panel_of};
 ghost use Rattle.it_report.specs.declared.refusal.Fault.TheVariants.{Threshold};
-ghost use Rattle.it_notes.specs.RefusalNotes.{TellsFault};
+ghost use Rattle.it_verify.specs.declared.inputs.Inputs.{Inputs};
+ghost use Rattle.it_notes.specs.RefusalNotes.{TellsAt};
 
+use crate::fault_level::FaultLevel;
 use crate::notes::RefusalNotes;
-use crate::signed_layout::SignedLayout;
 use it_docs::step::Step;
 use it_dsse::check::SignatureCheck;
 use it_step_notes::threshold_notes;
-use it_verify::inputs::Inputs;
 use std::alloc::{AllocError, Global};
 
-/// What there is to say of the step of this name in the outermost layout, for which too few keys
-/// signed.
+/// What there is to say of the step of this name, for which too few keys signed.
 pub(crate) fn step_told(
     alloc: Global,
-    inputs: &Inputs,
+    level: &FaultLevel,
     name: &str,
     panel: &[Box<dyn SignatureCheck>],
 ) -> Result<RefusalNotes, AllocError>
-    ensures { IfOk result (λ told. (found : ℕ) (needed : ℕ) → TellsFault
-        (panel_of (map meaning panel.now)) inputs.now (Threshold name.now found needed) told) }
+    ensures { IfOk result (λ told. (inputs : Inputs) (found : ℕ) (needed : ℕ) → TellsAt
+        (panel_of (map meaning panel.now)) inputs level.now (Threshold name.now found needed)
+        told) }
 {
-    let Some(signed) = SignedLayout::read(alloc, inputs.layout.as_slice())? else {
+    let layout = &level.signed.layout;
+    let Some(step) = step_named(layout.steps.as_slice(), name) else {
         return Ok(RefusalNotes::Nothing);
     };
-    let Some(step) = step_named(signed.layout.steps.as_slice(), name) else {
-        return Ok(RefusalNotes::Nothing);
-    };
-    let notes = threshold_notes(alloc, &signed.layout, &inputs.links, step, panel)?;
+    let notes = threshold_notes(alloc, layout, level.links, step, panel)?;
     Ok(RefusalNotes::Step(notes))
 }
 

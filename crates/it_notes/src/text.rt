@@ -1,28 +1,37 @@
 //! The notes as lines for people.
 use crate::layout_notes::LayoutNotes;
 use crate::lines::{Line, Lines};
-use crate::notes::{Notes, RefusalNotes};
+use crate::notes::{Notes, RefusalNotes, RuleNotes};
+use crate::place_notes::PlaceNotes;
 use it_member_notes::layout_note::LayoutNote;
 use it_member_notes::unread_member::UnreadMember;
+use it_part_notes::part_note::PartNote;
+use it_part_notes::sum_line_note::SumLineNote;
 use it_prov_notes::note::ProvenanceNote;
 use it_rule_notes::disagree_note::DisagreeNote;
 use it_rule_notes::expiry_note::ExpiryNote;
+use it_rule_notes::met_note::MetNote;
 use it_rule_notes::owner_note::OwnerNote;
 use it_rule_notes::payloads_note::PayloadsNote;
 use it_rule_notes::rule_note::RuleNote;
+use it_rule_notes::sublayout_note::SublayoutNote;
+use it_step_notes::folder_note::FolderNote;
 use it_step_notes::note::StepNote;
 use std::alloc::{AllocError, Global};
 
 impl Notes {
     /// The lines for people: those on the refusal first, then those on the policy and the layout,
-    /// each with a line feed. At most 40 notes are written out; where there are more, a last line
-    /// says how many. Names are written as reports write them.
+    /// each with a line feed. There are at most 40; where there are more notes than that, the last
+    /// line says how many are not written out. Names are written as reports write them.
     ///
     /// # Errors
     ///
     /// `AllocError` where memory was refused.
     pub fn text(&self, alloc: Global) -> Result<Vec<u8>, AllocError> {
         let mut lines = Lines::new(alloc);
+        if let Some(place) = &self.place {
+            place.add_to(&mut lines)?;
+        }
         self.refusal.add_to(&mut lines)?;
         lines.add_all(self.policy.as_slice())?;
         if let Some(layout) = &self.layout {
@@ -36,13 +45,38 @@ impl RefusalNotes {
     fn add_to(&self, lines: &mut Lines) -> Result<(), AllocError> {
         match self {
             RefusalNotes::Nothing => Ok(()),
+            RefusalNotes::Part(note) => lines.add(note),
+            RefusalNotes::Line(note) => lines.add(note),
             RefusalNotes::Step(notes) => lines.add_all(notes.as_slice()),
             RefusalNotes::Owners(notes) => lines.add_all(notes.as_slice()),
             RefusalNotes::Expiry(note) => lines.add(note),
             RefusalNotes::Payloads(note) => lines.add(note),
             RefusalNotes::Disagreement(note) => lines.add(note),
-            RefusalNotes::Rule(note) => lines.add(note),
+            RefusalNotes::Rule(notes) => notes.add_to(lines),
             RefusalNotes::Provenance(notes) => lines.add_all(notes.as_slice()),
+            RefusalNotes::LaidOut => lines.add(&LaidOut),
+        }
+    }
+}
+
+impl PlaceNotes {
+    fn add_to(&self, lines: &mut Lines) -> Result<(), AllocError> {
+        if let Some(note) = &self.file {
+            lines.add(note)?;
+        }
+        if let Some(note) = &self.folder {
+            lines.add(note)?;
+        }
+        Ok(())
+    }
+}
+
+impl RuleNotes {
+    fn add_to(&self, lines: &mut Lines) -> Result<(), AllocError> {
+        lines.add(&self.rule)?;
+        match &self.met {
+            Some(note) => lines.add(note),
+            None => Ok(()),
         }
     }
 }
@@ -51,6 +85,42 @@ impl LayoutNotes {
     fn add_to(&self, lines: &mut Lines) -> Result<(), AllocError> {
         lines.add_all(self.members.as_slice())?;
         lines.add_all(self.rules.as_slice())
+    }
+}
+
+/// That the provenance is one envelope over several lines.
+#[derive(Drop)]
+struct LaidOut;
+
+impl Line for LaidOut {
+    fn push_line(&self, text: &mut Vec<u8>) -> Result<(), AllocError> {
+        text.extend_from_slice(b"provenance: one envelope over several lines, ")?;
+        text.extend_from_slice(b"where each line is to be one\n")?;
+        Ok(())
+    }
+}
+
+impl Line for PartNote {
+    fn push_line(&self, text: &mut Vec<u8>) -> Result<(), AllocError> {
+        PartNote::push_line(self, text)
+    }
+}
+
+impl Line for SumLineNote {
+    fn push_line(&self, text: &mut Vec<u8>) -> Result<(), AllocError> {
+        SumLineNote::push_line(self, text)
+    }
+}
+
+impl Line for SublayoutNote {
+    fn push_line(&self, text: &mut Vec<u8>) -> Result<(), AllocError> {
+        SublayoutNote::push_line(self, text)
+    }
+}
+
+impl Line for FolderNote {
+    fn push_line(&self, text: &mut Vec<u8>) -> Result<(), AllocError> {
+        FolderNote::push_line(self, text)
     }
 }
 
@@ -81,6 +151,12 @@ impl Line for OwnerNote {
 impl Line for RuleNote {
     fn push_line(&self, text: &mut Vec<u8>) -> Result<(), AllocError> {
         RuleNote::push_line(self, text)
+    }
+}
+
+impl Line for MetNote {
+    fn push_line(&self, text: &mut Vec<u8>) -> Result<(), AllocError> {
+        MetNote::push_line(self, text)
     }
 }
 

@@ -1,43 +1,41 @@
 -- What it means that a step of a layout and a key id lead down to a sublayout (in-toto 1.0 sections
 -- 4.4 and 5.2).
 use Rattle.std.specs.Prelude.{◌≡◌, ℕ, List, Contains}
-use Rattle.it_dsse.specs.Envelope.{EnvelopeOf}
 use Rattle.it_dsse.specs.Panel.{Panel}
-use Rattle.it_dsse.specs.declared.envelope.Envelope.{Envelope}
-use Rattle.it_docs.specs.Layout.{LayoutOf}
 use Rattle.it_docs.specs.PayloadType.{in_toto_type}
 use Rattle.it_docs.specs.declared.layout.Layout.{Layout}
 use Rattle.it_docs.specs.declared.step.Step.{Step}
 use Rattle.it_chain.specs.ClaimedFiles.{IsClaimed}
 use Rattle.it_chain.specs.Contents.{Contents, files_of}
 use Rattle.it_chain.specs.declared.bundle.File.{File}
+use Rattle.it_step_notes.specs.SignedLayout.{IsSignedLayout}
 use Rattle.it_step_notes.specs.Signing.{IsSignedUnder}
+use Rattle.it_step_notes.specs.declared.signed_layout.SignedLayout.{SignedLayout}
 
 module _ (panel : Panel) (layout : Layout) where
   -- the bytes are an envelope of the type of in-toto, whose payload is a layout that is signed
   -- under an id
-  pub record HoldsLayout (id bytes : List ℕ) (below : Layout) : Type 0 where
-    pub envelope : Envelope
-    pub is_envelope : EnvelopeOf bytes envelope
-    pub type_is : envelope.payload_type ≡ in_toto_type
-    pub signed : IsSignedUnder panel layout envelope id
-    pub reads : LayoutOf envelope.payload below
+  pub record HoldsLayout (id bytes : List ℕ) (below : SignedLayout) : Type 0 where
+    pub is_layout : IsSignedLayout bytes below
+    pub type_is : below.envelope.payload_type ≡ in_toto_type
+    pub signed : IsSignedUnder panel layout below.envelope id
 
   -- a file that is claimed for the step holds such a layout
-  pub record IsSublayoutIn (step : Step) (id : List ℕ) (file : File) (below : Layout) : Type 0 where
+  pub record IsSublayoutIn (step : Step) (id : List ℕ) (file : File) (below : SignedLayout)
+      : Type 0 where
     pub claimed : IsClaimed step.name file.name
     pub holds : HoldsLayout id file.bytes below
 
   module _ (bundle : Contents) where
     -- some file of the bundle does, and the step lists the id
-    pub record IsSublayoutOf (step : Step) (id : List ℕ) (below : Layout) : Type 0 where
+    pub record IsSublayoutOf (step : Step) (id : List ℕ) (below : SignedLayout) : Type 0 where
       pub listed : Contains step.pubkeys id
       pub file : File
       pub stands : Contains (files_of bundle) file
       pub is_in : IsSublayoutIn step id file below
 
     -- for the step of this name
-    pub record LeadsDown (name id : List ℕ) (below : Layout) : Type 0 where
+    pub record LeadsDown (name id : List ℕ) (below : SignedLayout) : Type 0 where
       pub step : Step
       pub stands : Contains layout.steps step
       pub name_is : step.name ≡ name

@@ -5,12 +5,14 @@
 mod claimed;
 mod file_notes;
 mod finding;
+pub mod folder_note;
 mod id_notes;
 mod keep;
 pub mod laws;
 mod line;
 mod near_names;
 pub mod note;
+pub mod signed_layout;
 mod signing_ids;
 mod step_at;
 pub mod sublayout;

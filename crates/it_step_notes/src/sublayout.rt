@@ -7,11 +7,12 @@ ghost use Rattle.it_step_notes.specs.Sublayout.{HoldsLayout, IsSublayoutIn, IsSu
 ghost use Rattle.it_step_notes.specs.Sublayout.{LeadsDown};
 
 use crate::claimed::is_claimed;
+use crate::signed_layout::SignedLayout;
 use crate::signing_ids::is_signed_under;
 use crate::step_at::StepAt;
 use it_base::text::Text;
 use it_chain::bundle::{Bundle, File};
-use it_chain::{envelope_in, folder_name, layout_in};
+use it_chain::{envelope_in, folder_name};
 use it_docs::layout::Layout;
 use it_docs::step::Step;
 use it_dsse::check::SignatureCheck;
@@ -21,8 +22,8 @@ use std::alloc::{AllocError, Global};
 /// A sublayout, and the folder that its files are in.
 #[derive(Drop)]
 pub struct Sublayout<'a> {
-    /// The sublayout.
-    pub layout: Layout,
+    /// The sublayout in its envelope.
+    pub signed: SignedLayout,
     /// The folder of its files, or `None` where it is missing, which counts as an empty one.
     pub folder: Option<&'a Bundle>,
 }
@@ -44,7 +45,7 @@ pub fn sublayout_at<'a>(
 ) -> Result<Option<Sublayout<'a>>, AllocError>
     ensures leads { IfOk result (λ found. IfSome found (λ below.
         LeadsDown (panel_of (map meaning panel.now)) layout.now bundle.now place.now.0 place.now.1
-        below.layout)) }
+        below.signed)) }
     ensures folder { IfOk result (λ found. IfSome found (λ below.
         option_map (λ folder. folder.now) below.folder
         ≡ folder_at (folder_name_of place.now.0 place.now.1) bundle.now)) }
@@ -58,12 +59,12 @@ pub fn sublayout_at<'a>(
         bundle,
         step,
     };
-    let Some(layout) = sublayout_of(alloc, &at, id, panel)? else {
+    let Some(signed) = sublayout_of(alloc, &at, id, panel)? else {
         return Ok(None);
     };
     let folder = folder_name(alloc, name, id)?;
     Ok(Some(Sublayout {
-        layout,
+        signed,
         folder: bundle.dir(folder.as_str()),
     }))
 }
@@ -86,7 +87,7 @@ fn sublayout_of(
     at: &StepAt,
     id: &str,
     panel: &[Box<dyn SignatureCheck>],
-) -> Result<Option<Layout>, AllocError>
+) -> Result<Option<SignedLayout>, AllocError>
     ensures { IfOk result (λ found. IfSome found (IsSublayoutOf (panel_of (map meaning panel.now))
         at.now.layout.now at.now.bundle.now at.now.step.now id.now)) }
 {
@@ -119,7 +120,7 @@ fn sublayout_in(
     id: &str,
     file: &File,
     panel: &[Box<dyn SignatureCheck>],
-) -> Result<Option<Layout>, AllocError>
+) -> Result<Option<SignedLayout>, AllocError>
     ensures { IfOk result (λ found. IfSome found (IsSublayoutIn (panel_of (map meaning panel.now))
         at.now.layout.now at.now.step.now id.now file.now)) }
 {
@@ -136,7 +137,7 @@ fn signed_layout(
     id: &str,
     bytes: &[u8],
     panel: &[Box<dyn SignatureCheck>],
-) -> Result<Option<Layout>, AllocError>
+) -> Result<Option<SignedLayout>, AllocError>
     ensures { IfOk result (λ found. IfSome found (HoldsLayout (panel_of (map meaning panel.now))
         layout.now id.now bytes.now)) }
 {
@@ -149,5 +150,5 @@ fn signed_layout(
     if !is_signed_under(layout, &envelope, id, panel) {
         return Ok(None);
     }
-    layout_in(alloc, envelope.payload.as_slice())
+    SignedLayout::in_envelope(alloc, envelope)
 }

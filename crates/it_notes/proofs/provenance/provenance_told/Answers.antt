@@ -10,7 +10,7 @@ returns g c = λ best. record {
   digests = c.in-Some-2.digests;
   fault_is = refl;
   is_policy = search rules;
-  fits = rw (← c.as_slice-3.ensures) c.in-Some-speaking.ensures;
+  fits = rw (← c.as_slice-4.ensures) c.in-Some-speaking.ensures;
   is_delivered = search rules;
-  are_true = rw (← c.as_slice-4.ensures) c.in_ok-notes.ensures;
+  are_true = rw (← c.as_slice-5.ensures) c.in_ok-notes.ensures;
 }

@@ -2,6 +2,7 @@ use Rattle.it_notes.proofs.notes.Notes.of.Goals as goal
 
 pub returns : goal.returns
 returns g c = record {
+  place = c.in_ok-place.ensures;
   refusal = c.in_ok-verdict_notes.ensures;
   policy = rw (← c.as_slice.ensures) c.in_ok-policy.ensures;
   layout = c.in_ok-layout.ensures;

@@ -1,0 +1,30 @@
+use Rattle.std.proofs.Common.{◌≡◌, rules}
+use Rattle.std.proofs.lemmas.Result.{IfOk-weaker}
+use Rattle.it_notes.proofs.refusal_notes.input_notes.Goals as goal
+
+pub returns-in-BadPolicy : goal.returns-in-BadPolicy
+returns-in-BadPolicy g c =
+    IfOk-weaker c.policy_told.result _ _ (λ told each. rw c.in-BadPolicy.is (each _))
+    c.policy_told.ensures
+
+pub returns-in-BadSums : goal.returns-in-BadSums
+returns-in-BadSums g c =
+    IfOk-weaker c.line_told.result _ _ (λ told each. rw c.in-BadSums.is (each _))
+    c.line_told.ensures
+
+pub returns-in-BadLayout : goal.returns-in-BadLayout
+returns-in-BadLayout g c =
+    IfOk-weaker c.layout_told.result _ _ (λ told each. rw c.in-BadLayout.is (each _))
+    c.layout_told.ensures
+
+pub returns-in-OwnerMissing : goal.returns-in-OwnerMissing
+returns-in-OwnerMissing g c =
+    IfOk-weaker c.owners_told.result _ _
+    (λ told each. rw c.in-OwnerMissing.is (each c.in-OwnerMissing.field-0))
+    c.owners_told.ensures
+
+pub returns-in-NoProvenance : goal.returns-in-NoProvenance
+returns-in-NoProvenance g c =
+    let path : c.as_str.result.now ≡ c.in-NoProvenance.path = search rules in
+    IfOk-weaker c.provenance_told.result _ _
+    (λ told each. rw (c.in-NoProvenance.is, ← path) (each _)) c.provenance_told.ensures

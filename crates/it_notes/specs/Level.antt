@@ -1,0 +1,44 @@
+-- The layout that a refusal speaks of (in-toto 1.0 sections 4.4 and 5.2; how a place is named is
+-- this profile's choice).
+use Rattle.std.specs.Prelude.{◌≡◌, ℕ, List, [], ◌∷◌, Some}
+use Rattle.it_chain.specs.Contents.{Contents, folder_at}
+use Rattle.it_chain.specs.Sublayouts.{folder_name}
+use Rattle.it_docs.specs.Moment.{MomentOf}
+use Rattle.it_dsse.specs.Panel.{Panel}
+use Rattle.it_step_notes.specs.SignedLayout.{IsSignedLayout}
+use Rattle.it_step_notes.specs.Sublayout.{LeadsDown}
+use Rattle.it_step_notes.specs.declared.signed_layout.SignedLayout.{SignedLayout}
+use Rattle.it_verify.specs.declared.inputs.Inputs.{Inputs}
+use Rattle.it_notes.specs.declared.fault_level.FaultLevel.{FaultLevel}
+
+-- the names of a step and of the key id that signed a sublayout for it
+abbrev pub Place : Type 0
+Place = List ℕ × List ℕ
+
+-- the next layout is a sublayout that was signed at the place, its files are in this folder, and it
+-- is looked at at the same moment
+pub record IsBelow (panel : Panel) (level : FaultLevel) (place : Place) (next : FaultLevel)
+    : Type 0 where
+  pub leads : LeadsDown panel level.signed.layout level.links.now place.0 place.1 next.signed
+  pub folder_is :
+      folder_at (folder_name place.0 place.1) level.links.now ≡ Some next.links.now
+  pub moment_is : next.moment ≡ level.moment
+
+-- from one layout the places lead down to another, the outermost place first
+abbrev pub LeadsTo : Panel → FaultLevel → List Place → FaultLevel → Type 0
+LeadsTo panel level [] below = below ≡ level
+LeadsTo panel level (place ∷ rest) below =
+    (next : FaultLevel) × IsBelow panel level place next × LeadsTo panel next rest below
+
+-- the layout that was given, over the links and at the moment that were given
+pub record IsTop (inputs : Inputs) (level : FaultLevel) : Type 0 where
+  pub is_layout : IsSignedLayout inputs.layout level.signed
+  pub links_are : level.links.now ≡ inputs.links
+  pub moment_is : MomentOf inputs.moment level.moment
+
+-- from that layout the places lead down to this one
+pub record IsLevel (panel : Panel) (inputs : Inputs) (at : List Place) (level : FaultLevel)
+    : Type 0 where
+  pub top : FaultLevel
+  pub is_top : IsTop inputs top
+  pub leads : LeadsTo panel top at level

@@ -1,0 +1,63 @@
+//! What is wrong with a document that does not read.
+ghost use Rattle.std.specs.Prelude.{IfOk};
+ghost use Rattle.it_dsse.specs.Panel.{Panel};
+ghost use Rattle.it_report.specs.declared.refusal.Fault.TheVariants.{BadLayout, BadPolicy, BadSums};
+ghost use Rattle.it_notes.specs.RefusalNotes.{TellsInputs};
+
+use crate::notes::RefusalNotes;
+use crate::reading::envelope_in;
+use it_docs::layout_fault::LayoutPart;
+use it_docs::policy_fault::PolicyPart;
+use it_part_notes::layout_part_note::layout_part_note;
+use it_part_notes::policy_part_note::policy_part_note;
+use it_part_notes::sum_line_note::sum_line_note;
+use it_verify::inputs::Inputs;
+use std::alloc::{AllocError, Global};
+
+/// What is wrong with the policy in its first part that fails.
+pub(crate) fn policy_told(
+    alloc: Global,
+    inputs: &Inputs,
+    part: PolicyPart,
+) -> Result<RefusalNotes, AllocError>
+    ensures { IfOk result
+        (λ told. (panel : Panel) → TellsInputs panel inputs.now (BadPolicy part) told) }
+{
+    match policy_part_note(alloc, inputs.policy.as_slice(), part)? {
+        Some(note) => Ok(RefusalNotes::Part(note)),
+        None => Ok(RefusalNotes::Nothing),
+    }
+}
+
+/// What is wrong with the first bad line of the digest list.
+pub(crate) fn line_told(
+    alloc: Global,
+    inputs: &Inputs,
+    number: u64,
+) -> Result<RefusalNotes, AllocError>
+    ensures { IfOk result
+        (λ told. (panel : Panel) → TellsInputs panel inputs.now (BadSums number) told) }
+{
+    match sum_line_note(alloc, inputs.sums.as_slice(), number)? {
+        Some(note) => Ok(RefusalNotes::Line(note)),
+        None => Ok(RefusalNotes::Nothing),
+    }
+}
+
+/// What is wrong with the layout in its first part that fails.
+pub(crate) fn layout_told(
+    alloc: Global,
+    inputs: &Inputs,
+    part: &LayoutPart,
+) -> Result<RefusalNotes, AllocError>
+    ensures { IfOk result
+        (λ told. (panel : Panel) → TellsInputs panel inputs.now (BadLayout part.now) told) }
+{
+    let Some(envelope) = envelope_in(alloc, inputs.layout.as_slice())? else {
+        return Ok(RefusalNotes::Nothing);
+    };
+    match layout_part_note(alloc, envelope.payload.as_slice(), part)? {
+        Some(note) => Ok(RefusalNotes::Part(note)),
+        None => Ok(RefusalNotes::Nothing),
+    }
+}

@@ -1,0 +1,69 @@
+//! What there is to say of the layout at which a delivery was refused.
+ghost use Rattle.std.specs.Prelude.{IfOk, IfSome, map};
+ghost use Rattle.it_dsse.specs.Panel.{panel_of};
+ghost use Rattle.it_notes.specs.RefusalNotes.{TellsAt, TellsLevel};
+
+use crate::expiry::expiry_told;
+use crate::fault_level::{FaultLevel, level_at};
+use crate::notes::RefusalNotes;
+use crate::records::{disagreement_told, payloads_told};
+use crate::rules::{FailedRule, rule_told};
+use crate::steps::step_told;
+use it_dsse::check::SignatureCheck;
+use it_report::refusal::{Fault, Refusal};
+use it_verify::inputs::Inputs;
+use std::alloc::{AllocError, Global};
+
+/// What there is to say of the layout that a refusal speaks of, or `None` where that is none.
+pub(crate) fn level_told(
+    alloc: Global,
+    inputs: &Inputs,
+    refusal: &Refusal,
+    panel: &[Box<dyn SignatureCheck>],
+) -> Result<Option<RefusalNotes>, AllocError>
+    ensures { IfOk result (λ found. IfSome found (TellsLevel
+        (panel_of (map meaning panel.now)) inputs.now refusal.now.at refusal.now.fault)) }
+{
+    let Some(level) = level_at(alloc, inputs, refusal.at.as_slice(), panel)? else {
+        return Ok(None);
+    };
+    let told = level_notes(alloc, inputs, &level, &refusal.fault, panel)?;
+    Ok(Some(told))
+}
+
+/// What there is to say of a fault of a layout.
+fn level_notes(
+    alloc: Global,
+    inputs: &Inputs,
+    level: &FaultLevel,
+    fault: &Fault,
+    panel: &[Box<dyn SignatureCheck>],
+) -> Result<RefusalNotes, AllocError>
+    ensures { IfOk result
+        (TellsAt (panel_of (map meaning panel.now)) inputs.now level.now fault.now) }
+{
+    match fault {
+        Fault::Expired => expiry_told(alloc, inputs, level),
+        Fault::TwoPayloads { step, id } => {
+            payloads_told(alloc, level, step.as_str(), id.as_str(), panel)
+        }
+        Fault::Disagree { step, id } => {
+            disagreement_told(alloc, level, step.as_str(), id.as_str(), panel)
+        }
+        Fault::Threshold { step, .. } => step_told(alloc, level, step.as_str(), panel),
+        Fault::RuleFailed {
+            item,
+            side,
+            index,
+            ..
+        } => {
+            let rule = FailedRule {
+                item,
+                side: *side,
+                index: *index,
+            };
+            rule_told(alloc, inputs, level, &rule, panel)
+        }
+        _ => Ok(RefusalNotes::Nothing),
+    }
+}

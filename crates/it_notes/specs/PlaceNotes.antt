@@ -18,13 +18,8 @@ pub record TellsFile (panel : Panel) (level : FaultLevel) (place : Place) (note 
   pub is_true : TellsSublayout (setting_of panel level.moment) level.signed.layout level.links.now
       note
 
--- which file holds the sublayout that was signed at a place, and whether its folder is missing
-pub record TellsLast (panel : Panel) (level : FaultLevel) (place : Place) (notes : PlaceNotes)
-    : Type 0 where
-  pub file : IfSome notes.file (TellsFile panel level place)
-  pub folder : IfSome notes.folder (LacksFolder level.links.now place.0 place.1)
-
--- the same of the last of the places
+-- which file holds the sublayout that was signed at the last of the places, and that its folder is
+-- missing
 pub record TellsPlace (panel : Panel) (inputs : Inputs) (at : List Place) (notes : PlaceNotes)
     : Type 0 where
   pub before : List Place
@@ -32,4 +27,5 @@ pub record TellsPlace (panel : Panel) (inputs : Inputs) (at : List Place) (notes
   pub level : FaultLevel
   pub at_is : at ≡ before ++ last ∷ []
   pub is_level : IsLevel panel inputs before level
-  pub is_true : TellsLast panel level last notes
+  pub file : IfSome notes.file (TellsFile panel level last)
+  pub folder : IfSome notes.folder (LacksFolder level.links.now last.0 last.1)

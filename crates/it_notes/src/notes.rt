@@ -129,7 +129,7 @@ fn verdict_place(
 {
     match verdict {
         Verdict::Accepted { .. } => Ok(None),
-        Verdict::Refused(refusal) => place_notes(alloc, inputs, refusal.at.as_slice(), panel),
+        Verdict::Refused(refusal) => place_notes(alloc, inputs, refusal, panel),
     }
 }
 

@@ -1,11 +1,13 @@
 //! Where the sublayout is of which a refusal speaks.
 ghost use Rattle.std.specs.Prelude.{IfOk, IfSome, map};
 ghost use Rattle.it_dsse.specs.Panel.{panel_of};
-ghost use Rattle.it_notes.specs.PlaceNotes.{TellsLast, TellsPlace};
+ghost use Rattle.it_step_notes.specs.Folder.{LacksFolder};
+ghost use Rattle.it_notes.specs.PlaceNotes.{TellsFile, TellsPlace};
 
 use crate::fault_level::{FaultLevel, level_at};
 use it_base::text::Text;
 use it_dsse::check::SignatureCheck;
+use it_report::refusal::{Fault, Refusal};
 use it_rule_notes::level::Level;
 use it_rule_notes::sublayout_note::{SublayoutNote, sublayout_note};
 use it_step_notes::folder_note::{FolderNote, folder_note};
@@ -21,44 +23,61 @@ pub struct PlaceNotes {
     pub folder: Option<FolderNote>,
 }
 
-/// Where the sublayout is to which the places lead down, or `None` where there is no place, or they
-/// lead to none.
+/// Where the sublayout is of which a refusal speaks, or `None` where it speaks of none, or its
+/// places lead to none.
 pub(crate) fn place_notes(
     alloc: Global,
     inputs: &Inputs,
-    at: &[(Text, Text)],
+    refusal: &Refusal,
     panel: &[Box<dyn SignatureCheck>],
 ) -> Result<Option<PlaceNotes>, AllocError>
     ensures { IfOk result (λ found. IfSome found
-        (TellsPlace (panel_of (map meaning panel.now)) inputs.now at.now)) }
+        (TellsPlace (panel_of (map meaning panel.now)) inputs.now refusal.now.at)) }
 {
-    let Some((last, before)) = at.split_last() else {
+    let Some((last, before)) = refusal.at.as_slice().split_last() else {
         return Ok(None);
     };
     let Some(level) = level_at(alloc, inputs, before, panel)? else {
         return Ok(None);
     };
-    let notes = last_place(alloc, &level, last, panel)?;
-    Ok(Some(notes))
+    let file = file_of(alloc, &level, last, panel)?;
+    let folder = missing_folder(alloc, &level, last, &refusal.fault)?;
+    Ok(Some(PlaceNotes { file, folder }))
 }
 
-/// Where the sublayout at a place is.
-fn last_place(
+/// The file that holds the sublayout at a place.
+fn file_of(
     alloc: Global,
     level: &FaultLevel,
     place: &(Text, Text),
     panel: &[Box<dyn SignatureCheck>],
-) -> Result<PlaceNotes, AllocError>
-    ensures { IfOk result
-        (TellsLast (panel_of (map meaning panel.now)) level.now place.now) }
+) -> Result<Option<SublayoutNote>, AllocError>
+    ensures { IfOk result (λ found. IfSome found
+        (TellsFile (panel_of (map meaning panel.now)) level.now place.now)) }
 {
-    let (step, id) = (place.0.as_str(), place.1.as_str());
-    let rule_level = Level {
+    let level = Level {
         layout: &level.signed.layout,
         links: level.links,
         moment: level.moment,
     };
-    let file = sublayout_note(alloc, &rule_level, step, id, panel)?;
-    let folder = folder_note(alloc, level.links, step, id)?;
-    Ok(PlaceNotes { file, folder })
+    sublayout_note(alloc, &level, place.0.as_str(), place.1.as_str(), panel)
+}
+
+/// The folder of the sublayout at a place, where it is missing and a step has too few keys. Of a
+/// sublayout that lies too deep it is not told: its folder was not read.
+fn missing_folder(
+    alloc: Global,
+    level: &FaultLevel,
+    place: &(Text, Text),
+    fault: &Fault,
+) -> Result<Option<FolderNote>, AllocError>
+    ensures { IfOk result (λ found. IfSome found
+        (LacksFolder level.now.links.now place.now.0 place.now.1)) }
+{
+    match fault {
+        Fault::Threshold { .. } => {
+            folder_note(alloc, level.links, place.0.as_str(), place.1.as_str())
+        }
+        _ => Ok(None),
+    }
 }

@@ -5,7 +5,8 @@ returns g c = record {
   before = c.in-Some.before.now;
   last = c.in-Some.last.now;
   level = c.in-Some-2.level;
-  at_is = c.in-Some.ensures.cases.0;
+  at_is = rw c.as_slice.ensures at c.in-Some.ensures.cases.0;
   is_level = rw c.in-Some-2.is at c.in_ok-level.ensures;
-  is_true = c.in_ok-notes.ensures;
+  file = c.in_ok-file.ensures;
+  folder = c.in_ok-folder.ensures;
 }

@@ -13,7 +13,7 @@ pub struct PartNote {
     pub problem: Problem,
 }
 
-/// A place of a policy or of a layout. Numbers count from 0.
+/// A place of a policy, of a layout, or of what a file of a step holds. Numbers count from 0.
 #[derive(Clone, Copy, Debug, PartialEq, Eq)]
 pub enum PartPlace {
     /// The whole policy.
@@ -26,6 +26,10 @@ pub enum PartPlace {
     Step(usize),
     /// This inspection of a layout.
     Inspection(usize),
+    /// The whole envelope (DSSE v1.0).
+    Envelope,
+    /// The whole link.
+    Link,
 }
 
 /// What is wrong at a place.

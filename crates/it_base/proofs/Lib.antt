@@ -11,6 +11,7 @@ pub mod Settled
 pub mod Sums
 pub mod TableDecided
 pub mod TableLemmas
+pub mod TableMade
 pub mod TreeLengths
 pub mod TreesRead
 pub mod Unique

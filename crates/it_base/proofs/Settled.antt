@@ -1,5 +1,5 @@
 -- What holds or does not, with a proof either way.
-use Rattle.std.proofs.Common.{◌≡◌, ◌⊎◌, List, [], ◌∷◌, Bool, true, false, inl, inr, Contains}
+use Rattle.std.proofs.Common.{◌⊎◌, List, [], ◌∷◌, Bool, true, false, inl, inr, Contains}
 use Rattle.std.proofs.Common.{Decides, refl, sym, subst}
 use Rattle.std.proofs.lemmas.Bool.Decides.{not_from_Decides}
 use Rattle.it_base.proofs.Members.{in_head, in_tail, in_cases, in_none}

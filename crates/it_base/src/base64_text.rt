@@ -66,12 +66,16 @@ fn base64_bytes(alloc: Global, value: &Value) -> Result<Option<Sequence<u8>>, Al
     }
 }
 
+/// Whether a text has a mark of the URL-safe alphabet. It looks at every byte, and does not stop at
+/// the first mark, so that many bytes can be looked at at once.
 fn has_url_mark(text: &str) -> bool
     ensures { result ≡ list_any is_url_mark text.now }
 {
-    text.as_bytes()
-        .iter()
-        .any(|byte| *byte == b'-' || *byte == b'_')
+    let mut found = false;
+    for byte in text.as_bytes() {
+        found |= (*byte == b'-') | (*byte == b'_');
+    }
+    found
 }
 
 fn decode(alloc: Global, text: &str) -> Result<Option<Sequence<u8>>, AllocError>

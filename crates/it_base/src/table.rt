@@ -1,6 +1,7 @@
 //! Maps from texts to values, which contracts see as finite maps.
 ghost use Rattle.std.specs.Prelude.{◌≡◌, ◌↔◌, IsTrue, IfOk, OnOk, OnErr, MatchOption, None, Some};
 ghost use Rattle.std.specs.Prelude.{option_map, string_bytes};
+ghost use Rattle.std.specs.BTreeMap.{IsFromIterResult};
 ghost use Rattle.std.specs.FinMap as finite;
 ghost use Rattle.std.specs.List.Sorted.{IsStrictlySortedBy};
 ghost use Rattle.std.specs.Map.{keys_of};
@@ -119,13 +120,15 @@ impl<V: FromDocument> FromDocument for Table<V> {
     }
 }
 
+/// Reads one member after another, and makes the map of all of them at once, since their names are
+/// in order already.
 fn read_members<V: FromDocument>(
     alloc: Global,
     members: &Map<String, Value>,
 ) -> Result<Option<Table<V>>, AllocError>
     ensures { IfOk result (Finds (AreMembers V.is_of (members_view members.now.entries))) }
 {
-    let mut table = Table::new(alloc);
+    let mut named = Vec::new(alloc);
     for (name, member) in members.iter() {
         if member.is_null() {
             continue;
@@ -133,7 +136,17 @@ fn read_members<V: FromDocument>(
         let Some(value) = V::from_document(alloc, member)? else {
             return Ok(None);
         };
-        drop(table.insert(name.clone()?, value)?);
+        named.push((name.clone()?, value))?;
     }
-    Ok(Some(table))
+    Ok(Some(Table::from(map_of(alloc, named)?)))
+}
+
+/// The map of some values under names.
+fn map_of<V: Drop>(
+    alloc: Global,
+    named: Vec<(String, V)>,
+) -> Result<BTreeMap<String, V>, AllocError>
+    ensures { IfOk result (IsFromIterResult string_cmp named.items) }
+{
+    named.into_iter().collect(alloc)
 }

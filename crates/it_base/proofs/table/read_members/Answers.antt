@@ -1,6 +1,6 @@
-use Rattle.std.proofs.Common.{rules, ◌≡◌, [], ◌∷◌, ◌++◌, string_bytes, sym, ap, ◌∙◌, subst}
-use Rattle.std.proofs.Common.{append_assoc}
-use Rattle.std.specs.FinMap.{insert}
+use Rattle.std.proofs.Common.{rules, ◌≡◌, [], ◌∷◌, ◌++◌, sym, ap, ◌∙◌, subst, string_bytes}
+use Rattle.std.proofs.Common.{append-nil, append_assoc}
+use Rattle.std.specs.FinMap.{empty, insert}
 use Rattle.std.specs.List.Sorted.{IsStrictlySortedBy}
 use Rattle.std.specs.Map.{keys_of}
 use Rattle.std.specs.String.{string_cmp}
@@ -8,64 +8,80 @@ use Rattle.serde_json.specs.View.{members_view}
 use Rattle.serde_json.proofs.Views.{Entry}
 use Rattle.it_base.specs.Table.{AreMembers}
 use Rattle.it_base.proofs.TableLemmas.{members_none, members_more, members_skip, no_members_of}
+use Rattle.it_base.proofs.TableMade.{Holds, holds_more, holds_none, map-of_entries}
 use Rattle.it_base.proofs.table.read_members.Goals as goal
 
 pub loop-name-init : goal.loop-name-init
-loop-name-init g c = (
-  [],
-  search rules,
-  subst (λ m. AreMembers g.V.FromDocument.is_of (members_view []) m) (sym c.new-table.ensures)
-      (members_none g.V.FromDocument.is_of),
-)
+loop-name-init g c = record {
+  done = [];
+  read = empty;
+  all = search rules;
+  are = members_none g.V.FromDocument.is_of;
+  holds = subst (Holds empty) (sym c.new-named.ensures.items) holds_none;
+}
 
 pub loop-name-preserved-then-is_null : goal.loop-name-preserved-then-is_null
 loop-name-preserved-then-is_null g c =
-    let l = c.loop-name in
-    let done = l.invariant.0 in
+    let so_far = c.loop-name.invariant in
     let e : Entry = (c.in-Some.name.now, c.in-Some.member.now) in
     let left = c.next.new.self in
-    let all : c.args.members.now.entries ≡ done ++ e ∷ left = l.invariant.1
-    ∙ ap (λ es. done ++ es) c.in-Some.ensures.steps in
+    let all : c.args.members.now.entries ≡ so_far.done ++ e ∷ left = so_far.all
+    ∙ ap (λ es. so_far.done ++ es) c.in-Some.ensures.steps in
     let sorted = subst (λ es. IsStrictlySortedBy string_cmp (keys_of es)) all
-    c.iter-name-items.ensures.ordered in (
-      done ++ e ∷ [],
-      all ∙ sym (append_assoc done (e ∷ []) left),
-      members_skip g.V.FromDocument.is_of done e left l.table sorted (sym c.is_null.ensures
-          ∙ c.if-is_null.true) l.invariant.2,
-    )
+    c.iter-name-items.ensures.ordered in
+    record {
+      done = so_far.done ++ e ∷ [];
+      read = so_far.read;
+      all = all ∙ sym (append_assoc so_far.done (e ∷ []) left);
+      are = members_skip g.V.FromDocument.is_of so_far.done e left so_far.read sorted
+          (sym c.is_null.ensures ∙ c.if-is_null.true) so_far.are;
+      holds = so_far.holds;
+    }
 
 pub returns-in_default : goal.returns-in_default
 returns-in_default g c =
-    let l = c.loop-name in
-    let done = l.invariant.0 in
+    let so_far = c.loop-name.invariant in
     let e : Entry = (c.in-Some.name.now, c.in-Some.member.now) in
     let left = c.next.new.self in
-    let all : c.args.members.now.entries ≡ done ++ e ∷ left = l.invariant.1
-    ∙ ap (λ es. done ++ es) c.in-Some.ensures.steps in
+    let all : c.args.members.now.entries ≡ so_far.done ++ e ∷ left = so_far.all
+    ∙ ap (λ es. so_far.done ++ es) c.in-Some.ensures.steps in
     let sorted = subst (λ es. IsStrictlySortedBy string_cmp (keys_of es)) all
     c.iter-name-items.ensures.ordered in
     let none = rw c.in_default.is at c.in_ok-value.ensures in
-    λ m is. no_members_of g.V.FromDocument.is_of done e left sorted (sym c.is_null.ensures
+    λ m is. no_members_of g.V.FromDocument.is_of so_far.done e left sorted (sym c.is_null.ensures
     ∙ c.if-is_null.false) none m
     (subst (λ es. AreMembers g.V.FromDocument.is_of (members_view es) m) all is)
 
 pub loop-name-preserved : goal.loop-name-preserved
 loop-name-preserved g c =
-    let l = c.loop-name in
-    let done = l.invariant.0 in
+    let so_far = c.loop-name.invariant in
     let e : Entry = (c.in-Some.name.now, c.in-Some.member.now) in
     let left = c.next.new.self in
-    let all : c.args.members.now.entries ≡ done ++ e ∷ left = l.invariant.1
-    ∙ ap (λ es. done ++ es) c.in-Some.ensures.steps in
+    let all : c.args.members.now.entries ≡ so_far.done ++ e ∷ left = so_far.all
+    ∙ ap (λ es. so_far.done ++ es) c.in-Some.ensures.steps in
     let sorted = subst (λ es. IsStrictlySortedBy string_cmp (keys_of es)) all
     c.iter-name-items.ensures.ordered in
     let value = rw c.in-Some-2.is at c.in_ok-value.ensures in
-    let named : string_bytes c.in_ok-clone.field-0 ≡ string_bytes e.0 =
-    c.in_ok-clone.ensures.cases in
-    let put = c.in_ok-insert.ensures.ok ∙ ap (λ k. insert l.table k c.in-Some-2.value) named in (
-      done ++ e ∷ [],
-      all ∙ sym (append_assoc done (e ∷ []) left),
-      subst (λ m. AreMembers g.V.FromDocument.is_of (members_view (done ++ e ∷ [])) m) (sym put)
-          (members_more g.V.FromDocument.is_of done e left l.table c.in-Some-2.value sorted
-          (sym c.is_null.ensures ∙ c.if-is_null.false) l.invariant.2 value),
-    )
+    record {
+      done = so_far.done ++ e ∷ [];
+      read = insert so_far.read (string_bytes e.0) c.in-Some-2.value;
+      all = all ∙ sym (append_assoc so_far.done (e ∷ []) left);
+      are = members_more g.V.FromDocument.is_of so_far.done e left so_far.read c.in-Some-2.value
+          sorted (sym c.is_null.ensures ∙ c.if-is_null.false) so_far.are value;
+      holds = subst (Holds (insert so_far.read (string_bytes e.0) c.in-Some-2.value))
+          (sym c.in_ok-push.ensures.items)
+          (holds_more so_far.read c.loop-name.named.items c.in_ok-clone.field-0 (string_bytes e.0)
+          c.in-Some-2.value c.in_ok-clone.ensures.cases so_far.holds);
+    }
+
+pub returns : goal.returns
+returns g c =
+    let so_far = c.loop-name.invariant in
+    let whole : c.args.members.now.entries ≡ so_far.done = so_far.all
+    ∙ ap (λ es. so_far.done ++ es) c.in-None.ensures.steps.0 ∙ append-nil so_far.done in
+    let table : c.from.result ≡ so_far.read = c.from.ensures
+    ∙ map-of_entries so_far.read c.loop-name.named.items c.in_ok-map_of.field-0.entries
+    so_far.holds c.in_ok-map_of.ensures.0 in
+    let P = g.V.FromDocument.is_of in
+    subst (λ m. AreMembers P (members_view c.args.members.now.entries) m) (sym table)
+    (subst (λ es. AreMembers P (members_view es) so_far.read) (sym whole) so_far.are)

@@ -4,6 +4,7 @@ pub mod FaultDecided
 pub mod Fronts
 pub mod LentPaths
 pub mod Listed
+pub mod LookedAt
 pub mod Marking
 pub mod PathOrder
 pub mod Reached

@@ -1,12 +1,15 @@
 //! Which paths a rule claims, one path at a time: a function for each rule.
-ghost use Rattle.std.specs.Prelude.{◌≡◌, ◌↔◌, IfOk, IsTrue, MatchOption, Contains};
+ghost use Rattle.std.specs.Prelude.{◌≡◌, ◌↔◌, ◌++◌, IfOk, IsTrue, MatchOption};
+ghost use Rattle.std.specs.FinMap.{get};
 ghost use Rattle.it_digest.specs.Compare.{Agree, Differ};
-ghost use Rattle.it_rules.specs.Item.{Recorded, links_of, recorded_of};
+ghost use Rattle.it_rules.specs.FolderPrefix.{folder_prefix};
+ghost use Rattle.it_rules.specs.Item.{links_of, recorded_of};
 ghost use Rattle.it_rules.specs.Rules.{Claims, CreateClaims, DeleteClaims, IsMatch, MatchClaims};
 ghost use Rattle.it_rules.specs.Rules.{ModifyClaims, NamesDiffer};
 
 use crate::folder_prefix::{join_folder, strip_folder};
 use crate::item::{Item, Named};
+use crate::looked::find_link;
 use it_digest::artifacts::Artifacts;
 use it_digest::compare::{Compare, DigestSet};
 use it_docs::rule::{Rule, Side};
@@ -88,12 +91,12 @@ fn match_claims(
     if !pattern.matches(rest) {
         return Ok(false);
     }
-    let Some(linked) = find_named(links, target.from) else {
+    let Some(link) = find_link(links, target.from) else {
         return Ok(false);
     };
-    let linked_path = join_folder(alloc, target.prefix, rest)?;
     let here = artifacts.get(path);
-    let there = linked.artifacts_on(target.side).get(linked_path.as_str());
+    let recorded = link.item.artifacts_on(target.side);
+    let there = digests_under(alloc, recorded, target.prefix, rest)?;
     Ok(agree(here, there))
 }
 
@@ -121,18 +124,21 @@ fn allow_claims(pattern: &Pattern, path: &str) -> bool
     pattern.matches(path)
 }
 
-/// What was recorded under a name.
-fn find_named<'a, 'b>(links: &'b [Named<'a>], name: &str) -> Option<&'b Item<'a>>
-    ensures { MatchOption result
-        ((item : Recorded) → ¬ Contains (links_of links.now) (name.now, item))
-        (λ item. Contains (links_of links.now) (name.now, recorded_of item.now)) }
+/// The digests of what lies below a folder's prefix.
+fn digests_under(
+    alloc: Global,
+    artifacts: &Artifacts,
+    prefix: &str,
+    rest: &str,
+) -> Result<Option<DigestSet>, AllocError>
+    ensures { IfOk result
+        (λ found. found ≡ get artifacts.now (folder_prefix prefix.now ++ rest.now)) }
 {
-    for link in links {
-        if link.name == name {
-            return Some(&link.item);
-        }
+    if prefix.is_empty() {
+        return Ok(artifacts.get(rest));
     }
-    None
+    let path = join_folder(alloc, prefix, rest)?;
+    Ok(artifacts.get(path.as_str()))
 }
 
 /// Whether both digest sets are there and agree.

@@ -5,6 +5,7 @@
 pub mod claims;
 mod folder_prefix;
 pub mod item;
+mod looked;
 mod marks;
 pub mod ranges;
 mod reach;

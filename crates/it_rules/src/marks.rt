@@ -6,6 +6,7 @@ ghost use Rattle.it_rules.specs.Rules.{Claims, IsLeastMatch, IsMatch, NamesDiffe
 
 use crate::claims::claims;
 use crate::item::{Item, Named};
+use crate::looked::looked_at;
 use crate::reach::{claimed_range, pattern_range};
 use it_digest::artifacts::Artifacts;
 use it_docs::rule::{Rule, Side};
@@ -41,8 +42,9 @@ pub(crate) fn consume(
         × ¬ Claims rule.now side (recorded_of item.now) (links_of links.now) path)) }
 {
     let (start, end) = claimed_range(alloc, rule, paths)?;
+    let looked = looked_at(rule, links);
     for place in start..end {
-        if !marks[place] && claims(alloc, rule, side, item, links, paths[place])? {
+        if !marks[place] && claims(alloc, rule, side, item, looked, paths[place])? {
             marks[place] = true;
         }
     }

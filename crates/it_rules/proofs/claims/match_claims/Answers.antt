@@ -14,18 +14,17 @@ returns-then-not-matches c =
       λ m. absurd (no_match _ _ _ _ _ _ _ _ c.in-Some.rest.now c.in-Some.ensures none m),
     )
 
-pub returns-in_default-find_named : goal.returns-in_default-find_named
-returns-in_default-find_named c =
-    (λ h. absurd (cc h), λ m. absurd (c.in_default-find_named.ensures m.linked m.is_named))
+pub returns-in_default-find_link : goal.returns-in_default-find_link
+returns-in_default-find_link c =
+    (λ h. absurd (cc h), λ m. absurd (c.in_default-find_link.ensures m.linked m.is_named))
 
 pub returns : goal.returns
 returns c =
-    let linked = recorded_of c.in-Some-find_named.linked.now in
-    let there : c.get-there.result ≡ get (artifacts_on c.args.target.now.side linked)
+    let linked = recorded_of c.in-Some-find_link.link.now.item in
+    let there : c.in_ok-there.there ≡ get (artifacts_on c.args.target.now.side linked)
     (folder_prefix c.args.target.now.prefix.now ++ c.in-Some.rest.now) =
-    c.get-there.ensures ∙ ap (λ m. get m c.as_str.result.now) c.artifacts_on.ensures
-    ∙ ap (get (artifacts_on c.args.target.now.side linked)) (c.as_str.ensures.value
-    ∙ c.in_ok-linked_path.ensures) in
+    c.in_ok-there.ensures ∙ ap (λ m. get m (folder_prefix c.args.target.now.prefix.now
+    ++ c.in-Some.rest.now)) c.artifacts_on-recorded.ensures in
     answer_on_path c.agree.result _ _ _ _ c.agree.ensures c.get-here.ensures there
     (claims_from_digests _ _ _ _ _ _ _ _ c.in-Some.rest.now linked c.requires c.in-Some.ensures
-    (c.matches.ensures.0 c.if-not-matches.false) c.in-Some-find_named.ensures)
+    (c.matches.ensures.0 c.if-not-matches.false) c.in-Some-find_link.ensures.1)

@@ -30,19 +30,21 @@ loop-place-preserved c =
     let within : place < length paths = omega arith in
     let path = get_or paths place (record { ref_ptr = (0, 0); now = [] }) in
     let here = slice_get-get_or paths place (record { ref_ptr = (0, 0); now = [] }) within in
+    let same = c.looked_at-looked.ensures.same c.args.side (recorded_of c.args.item.now) in
     record {
       within = c.loop-place.invariant.within;
       marking = elim c.if-not-marks-place.branch [
         | then-not-marks-place+in_ok-claims+then-branch w ↦
             rw w.marks-is (marked IsClaimed paths c.args.marks.now c.loop-place.marks place path
-            (omega arith) here (w.in_ok-claims.ensures.0 w.if-branch.true)
+            (omega arith) here ((same path.now).0 (w.in_ok-claims.ensures.0 w.if-branch.true))
             c.loop-place.invariant.marking)
         | else-not-marks-place w ↦
             rw w.marks-is (left_as_is IsClaimed paths c.args.marks.now c.loop-place.marks place path
             here
             (elim w.else-not-marks-place.branch [
               | else-not-marks-place-via-then-not-marks-place+in_ok-claims+else-branch v ↦ λ u
-                  claimed. true≢false (sym (v.in_ok-claims.ensures.1 claimed) ∙ v.if-branch.false)
+                  claimed. true≢false (sym (v.in_ok-claims.ensures.1 ((same path.now).1 claimed))
+                  ∙ v.if-branch.false)
               | else-not-marks-place-via-else-not-marks-place v ↦ λ u claimed. true≢false
                   (sym v.if-not-marks-place.false ∙ u)
             ])

@@ -1,7 +1,7 @@
 use Rattle.std.proofs.Common.{◌≡◌, ◌≢◌, ℕ, ◌<◌, Some}
 use Rattle.std.specs.List.{slice_get}
 use Rattle.it_rules.specs.declared.item.Named.{Named}
-use Rattle.it_rules.proofs.claims.find_named.Given as goal
+use Rattle.it_rules.proofs.looked.find_link.Given as goal
 
 -- no link so far has the name
 abbrev pub invariant-loop-link : goal.invariant-loop-link

@@ -4,17 +4,20 @@ use Rattle.std.proofs.lemmas.Slice.Eq.{bytes_eq-Decides}
 use Rattle.it_rules.specs.declared.item.Named.{Named}
 use Rattle.it_rules.specs.Item.{links_of, recorded_of}
 use Rattle.it_rules.proofs.Listed.{Contains-map, Contains-map_cases, places_more, slice_get_within}
-use Rattle.it_rules.proofs.claims.find_named.Goals as goal
+use Rattle.it_rules.proofs.looked.find_link.Goals as goal
 
 pub returns-then-eq : goal.returns-then-eq
 returns-then-eq c =
     let here = slice_get_read c.args.links.now _ c.loop-link.link-index c.link-item.result refl
     c.loop-link-test.true c.link-item.is in
     let name : c.link-item.result.name.now ≡ c.args.name.now =
-    (bytes_eq-Decides _ _).0 (sym c.eq.ensures ∙ c.if-eq.true) in
-    subst (λ n. Contains (links_of c.args.links.now) (n, recorded_of c.link-item.result.item)) name
-    (Contains-map (λ (link : Named). (link.name.now, recorded_of link.item)) c.args.links.now
-    c.loop-link.link-index c.link-item.result here)
+    (bytes_eq-Decides _ _).0 (sym c.eq.ensures ∙ c.if-eq.true) in (
+      name,
+      subst (λ n. Contains (links_of c.args.links.now) (n, recorded_of c.link-item.result.item))
+          name
+          (Contains-map (λ (link : Named). (link.name.now, recorded_of link.item))
+          c.args.links.now c.loop-link.link-index c.link-item.result here),
+    )
 
 pub loop-link-preserved : goal.loop-link-preserved
 loop-link-preserved c =

@@ -1,6 +1,7 @@
 //! Whether the records of a step agree (that all must is this profile's choice).
-ghost use Rattle.std.specs.Prelude.{◌≡◌, ◌↔◌, IsTrue};
-ghost use Rattle.it_chain.specs.inside.Agreement.{IsAgreed};
+ghost use Rattle.std.specs.Prelude.{◌≡◌, ◌↔◌, IsTrue, MatchResult};
+ghost use Rattle.std.specs.List.{AllByRecursion};
+ghost use Rattle.it_chain.specs.inside.Agreement.{IsAgreed, IsDisagreed};
 
 use crate::chain::StepResult;
 use crate::fault::refused;
@@ -15,10 +16,29 @@ pub(crate) fn agreed(
     alloc: Global,
     step: &Step,
     found: u64,
-    first: &IdRecord,
+    first: IdRecord,
     others: &[IdRecord],
 ) -> Result<StepResult, ChainError>
-    ensures { IsAgreed step.now found first.now others.now result }
+    ensures { IsAgreed step.now found first others.now result }
+{
+    check_others(alloc, step, &first, others)?;
+    Ok(StepResult {
+        name: Text::copy(alloc, step.name.as_str())?,
+        materials: first.recorded.materials,
+        products: first.recorded.products,
+        keys: found,
+    })
+}
+
+/// Checks that all the others are the same as the first record of a step.
+fn check_others(
+    alloc: Global,
+    step: &Step,
+    first: &IdRecord,
+    others: &[IdRecord],
+) -> Result<(), ChainError>
+    ensures { MatchResult result (λ _. AllByRecursion (λ r. r.recorded ≡ first.now.recorded)
+        others.now) (IsDisagreed step.now first.now others.now) }
 {
     for other in others {
         if !is_same(&other.recorded, &first.recorded) {
@@ -31,12 +51,7 @@ pub(crate) fn agreed(
             ));
         }
     }
-    Ok(StepResult {
-        name: Text::copy(alloc, step.name.as_str())?,
-        materials: first.recorded.materials.copy(alloc)?,
-        products: first.recorded.products.copy(alloc)?,
-        keys: found,
-    })
+    Ok(())
 }
 
 fn is_same(one: &Recorded, other: &Recorded) -> bool

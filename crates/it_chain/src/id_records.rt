@@ -91,7 +91,7 @@ fn verify_id<C: Checking>(
             },
         )),
         Counting::One(key, body) => {
-            let recorded = verify_body(alloc, checking, level, name, id, &body, meter);
+            let recorded = verify_body(alloc, checking, level, name, id, body, meter);
             record_of(alloc, id, key, recorded)
         }
     }

@@ -116,5 +116,5 @@ fn verify_step<C: Checking>(
         found.as_slice(),
         meter,
     )?;
-    judged(alloc, step, records.as_slice())
+    judged(alloc, step, records)
 }

@@ -26,25 +26,25 @@ pub(crate) fn verify_body<C: Checking>(
     level: &Level,
     step: &str,
     id: &str,
-    body: &Body,
+    body: Body,
     meter: &mut Meter,
 ) -> Result<Recorded, ChainError>
     requires shallow { level.now.depth ≤ 8 }
     ensures answer { BodyAnswers (scope_of (C.setting checking.now) level.now)
-        step.now id.now body.now result }
+        step.now id.now body result }
     ensures asked { Asks (λ _. 0) (BodyCost (scope_of (C.setting checking.now) level.now)
-        step.now id.now body.now) meter.old meter.new result }
+        step.now id.now body) meter.old meter.new result }
     ensures fewest { IfOk result (λ _. BodyTakes (scope_of (C.setting checking.now) level.now)
-        step.now id.now body.now meter.old meter.new) }
+        step.now id.now body meter.old meter.new) }
 {
     match body {
         Body::Link(link) => Ok(Recorded {
-            materials: link.materials.copy(alloc)?,
-            products: link.products.copy(alloc)?,
+            materials: link.materials,
+            products: link.products,
         }),
         Body::Layout(sublayout) => {
-            match verify_sublayout(alloc, checking, level, step, id, sublayout, meter) {
-                Ok(chain) => Ok(summary_of(alloc, chain.steps.as_slice())?),
+            match verify_sublayout(alloc, checking, level, step, id, &sublayout, meter) {
+                Ok(chain) => Ok(summary_of(alloc, chain.steps.into_vec())),
                 Err(error) => Err(under(alloc, step, id, error)),
             }
         }

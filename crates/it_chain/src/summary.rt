@@ -1,36 +1,30 @@
 //! What a sublayout stands for in the step that it was signed for (in-toto 1.0 section 4.3).
-ghost use Rattle.std.specs.Prelude.{◌≡◌, IfOk};
+ghost use Rattle.std.specs.Prelude.{◌≡◌};
 ghost use Rattle.it_chain.specs.Summary.{summary};
 
 use crate::chain::StepResult;
 use crate::record::Recorded;
 use it_digest::artifacts::Artifacts;
-use std::alloc::{AllocError, Global};
+use std::alloc::Global;
 
 /// What a sublayout stands for: the materials of its first step and the products of its last.
-pub(crate) fn summary_of(alloc: Global, results: &[StepResult]) -> Result<Recorded, AllocError>
-    ensures { IfOk result (λ recorded. recorded ≡ summary results.now) }
+pub(crate) fn summary_of(alloc: Global, mut results: Vec<StepResult>) -> Recorded
+    ensures { result ≡ summary results.items }
 {
-    match results {
-        [] => Ok(Recorded {
+    let Some(last) = results.pop() else {
+        return Recorded {
             materials: Artifacts::new(alloc),
             products: Artifacts::new(alloc),
-        }),
-        [first, .., last] => summary_between(alloc, first, last),
-        [only] => summary_between(alloc, only, only),
+        };
+    };
+    let Some(first) = results.into_iter().next() else {
+        return Recorded {
+            materials: last.materials,
+            products: last.products,
+        };
+    };
+    Recorded {
+        materials: first.materials,
+        products: last.products,
     }
-}
-
-fn summary_between(
-    alloc: Global,
-    first: &StepResult,
-    last: &StepResult,
-) -> Result<Recorded, AllocError>
-    ensures { IfOk result (λ recorded. recorded
-        ≡ record { materials = first.now.materials; products = last.now.products }) }
-{
-    Ok(Recorded {
-        materials: first.materials.copy(alloc)?,
-        products: last.products.copy(alloc)?,
-    })
 }

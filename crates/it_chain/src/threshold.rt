@@ -20,24 +20,23 @@ use std::collections::BTreeSet;
 pub(crate) fn judged(
     alloc: Global,
     step: &Step,
-    records: &[IdRecord],
+    mut records: Vec<IdRecord>,
 ) -> Result<StepResult, ChainError>
-    ensures { IsJudged step.now records.now result }
+    ensures { IsJudged step.now records.items result }
 {
-    let found = key_count(alloc, records)?;
-    match records {
-        [first, others @ ..] if step.threshold <= found => {
-            agreed(alloc, step, found, first, others)
-        }
-        _ => Err(refused(
+    let found = key_count(alloc, records.as_slice())?;
+    if records.is_empty() || found < step.threshold {
+        return Err(refused(
             alloc,
             ChainFault::Threshold {
                 step: Text::copy(alloc, step.name.as_str())?,
                 found,
                 needed: step.threshold,
             },
-        )),
+        ));
     }
+    let first = records.remove(0);
+    agreed(alloc, step, found, first, records.as_slice())
 }
 
 /// How many different keys the records have.

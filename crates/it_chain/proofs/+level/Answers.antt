@@ -298,7 +298,7 @@ level::verify_step-returns-clause-answer g t c =
     c.in_ok-records.ensures.answer.0
     (judged_walks (holds_below s v.depth) (fails_below s v.depth) (one_below s v.depth) s
     v.layout.now v.links.now step c.in_ok-records.records.items c.in_ok-records.ensures.answer.1
-    c.judged.result (rw c.as_slice-2.ensures.value at c.judged.ensures))
+    c.judged.result c.judged.ensures)
 
 pub level::verify_steps-returns-in_err-verify_step-clause-answer : goal.level::verify_steps-returns-in_err-verify_step-clause-answer
 level::verify_steps-returns-in_err-verify_step-clause-answer g t c =
@@ -494,7 +494,7 @@ level::verify_step-returns-clause-asked g t c =
     step_asks s v.depth v.layout.now v.links.now c.args.step.now c.as_slice.result.now are
     c.as_slice-signers.result.now same c.args.meter.now c.verify_ids.new.meter
     c.in_ok-records.records.items c.judged.result
-    (rw c.as_slice-2.ensures.value at c.judged.ensures) c.in_ok-records.ensures.asked
+    c.judged.ensures c.in_ok-records.ensures.asked
 
 pub sublayouts::verify_sublayout-returns-then-is_deepest-clause-asked : goal.sublayouts::verify_sublayout-returns-then-is_deepest-clause-asked
 sublayouts::verify_sublayout-returns-then-is_deepest-clause-asked g t c =

@@ -17,6 +17,12 @@ IsFirstOther first (q ∷ qs) id =
     ((q.recorded ≢ first.recorded) × (id ≡ q.id))
     ⊎ ((q.recorded ≡ first.recorded) × IsFirstOther first qs id)
 
+-- why records do not agree
+abbrev pub IsDisagreed : Step → IdRecord → List IdRecord → ChainError → Type 0
+IsDisagreed step first others (Refused refusal) =
+    (id : List ℕ) × IsFirstOther first others id × (refusal ≡ here (Disagree step.name id))
+IsDisagreed step first others OutOfMemory = ⊤
+
 abbrev pub IsAgreed : Step → ℕ → IdRecord → List IdRecord → Result StepResult ChainError → Type 0
 IsAgreed step found first others (Ok result) =
     AllByRecursion (λ r. r.recorded ≡ first.recorded) others
@@ -27,6 +33,4 @@ IsAgreed step found first others (Ok result) =
       products = first.recorded.products;
       keys = found;
     })
-IsAgreed step found first others (Err (Refused refusal)) =
-    (id : List ℕ) × IsFirstOther first others id × (refusal ≡ here (Disagree step.name id))
-IsAgreed step found first others (Err OutOfMemory) = ⊤
+IsAgreed step found first others (Err e) = IsDisagreed step first others e

@@ -1,17 +1,14 @@
-use Rattle.std.proofs.Common.{◌≡◌, ◌∙◌, ◌∷◌, ◌-◌, length, length-drop, take, take_all, drop}
-use Rattle.std.proofs.Common.{drop-cons, ap, sym, arith}
+use Rattle.std.proofs.Common.{◌≡◌, ◌∙◌, ◌∷◌, drop, drop-cons, ap, sym, arith}
 use Rattle.it_chain.proofs.Others.{judged_by}
 use Rattle.it_chain.proofs.threshold.judged.Goals as goal
 
-pub returns-in-len1-up : goal.returns-in-len1-up
-returns-in-len1-up c =
-    let records = c.args.records.now in
-    let first = c.first-item.result in
-    let others = take (length records - 1) (drop 1 records) in
-    let whole : others ≡ drop 1 records = take_all (length records - 1) (drop 1 records)
-    (omega (arith, length-drop 1 records)) in
-    let split : records ≡ first ∷ others =
-    drop-cons records 0 first (omega (arith, c.in-len1-up.len_at_least))
-    ∙ ap (λ r. r ∷ drop 1 records) (sym c.first-item.is) ∙ ap (λ rs. first ∷ rs) (sym whole) in
-    judged_by c.args.step.now records first others c.in_ok-found.found c.agreed.result split
-    c.in_ok-found.ensures (omega (arith, c.if-step-found.true)) c.agreed.ensures
+pub returns : goal.returns
+returns c =
+    let records = c.args.records.items in
+    let first = c.remove-first.result in
+    let split : records ≡ first ∷ c.as_slice-2.result.now =
+    drop-cons records 0 first (omega arith)
+    ∙ ap (λ r. r ∷ drop 1 records) (sym c.remove-first.ensures.value)
+    ∙ ap (λ rs. first ∷ rs) (sym (c.as_slice-2.ensures.value ∙ c.remove-first.ensures.items)) in
+    judged_by c.args.step.now records first c.as_slice-2.result.now c.in_ok-found.found
+    c.agreed.result split (rw c.as_slice.ensures.value at c.in_ok-found.ensures) (omega arith) c.agreed.ensures

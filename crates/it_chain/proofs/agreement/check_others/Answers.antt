@@ -2,7 +2,7 @@ use Rattle.std.proofs.Common.{◌≡◌, ◌∙◌, true}
 use Rattle.it_chain.specs.First.{here}
 use Rattle.it_chain.specs.declared.refusal.ChainFault.TheVariants.{Disagree}
 use Rattle.it_chain.proofs.Others.{first_other}
-use Rattle.it_chain.proofs.agreement.agreed.Goals as goal
+use Rattle.it_chain.proofs.agreement.check_others.Goals as goal
 
 pub returns-then-not-is_same : goal.returns-then-not-is_same
 returns-then-not-is_same c =

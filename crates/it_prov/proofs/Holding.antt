@@ -1,6 +1,6 @@
 -- Lists that stand side by side.
-use Rattle.std.proofs.Common.{◌≡◌, ◌+◌, ◌++◌, ◌<◌, ◌≤◌, ℕ, zero, suc, List, [], ◌∷◌, length, get_or}
-use Rattle.std.proofs.Common.{take, Option, Some, None, inl, inr, Contains, refl, sym, ap}
+use Rattle.std.proofs.Common.{◌≡◌, ◌+◌, ◌++◌, ◌<◌, ℕ, zero, suc, List, [], ◌∷◌, length, get_or}
+use Rattle.std.proofs.Common.{take, Some, inl, inr, Contains, refl, sym, ap}
 use Rattle.std.proofs.Common.{subst, arith, ◌∙◌}
 use Rattle.std.specs.List.{AllZip, slice_get}
 use Rattle.std.proofs.lemmas.List.{take_more}

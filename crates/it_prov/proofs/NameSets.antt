@@ -1,41 +1,31 @@
 -- Sets of names that are lent, by their bytes.
-use Rattle.std.proofs.Common.{◌≡◌, ◌⊎◌, ◌||◌, inl, inr, ℕ, List, [], ◌∷◌, ◌++◌, Bool, true, false}
-use Rattle.std.proofs.Common.{Bor, Contains, Ordering, Less, Equal, Greater, nat_cmp, is_eq, IsTrue}
+use Rattle.std.proofs.Common.{◌≡◌, ◌||◌, ℕ, List, [], ◌∷◌, ◌++◌, Bool, true, false, Bor, Contains}
+use Rattle.std.proofs.Common.{Ordering, Less, Equal, Greater, nat_cmp, is_eq, ◌↔◌, IsTrue, ◌<◌}
+use Rattle.std.proofs.Common.{◌+◌, Some, length, take, get_or}
 use Rattle.std.proofs.Common.{refl, sym, ap, subst, ◌∙◌}
 use Rattle.std.specs.BTreeSet.{BTreeSet, insert_key}
 use Rattle.std.specs.Cmp.Lexicographic.{slice_cmp}
+use Rattle.std.specs.List.{slice_get}
+use Rattle.std.specs.Option.{option_map}
 use Rattle.std.specs.Ordering.{match_ordering}
-use Rattle.std.proofs.lemmas.Bool.{false≢true}
-use Rattle.std.proofs.lemmas.List.Elements.{Contains-append_left, Contains-push}
-use Rattle.std.proofs.lemmas.List.Elements.{Contains-push_cases}
+use Rattle.std.specs.Str.{bytes_eq}
+use Rattle.std.proofs.lemmas.Cmp.{nat_list_eq_equiv}
+use Rattle.std.proofs.lemmas.List.{length-map, map-append, take_more}
+use Rattle.std.proofs.lemmas.List.Folds.{list_any-append}
 use Rattle.std.proofs.lemmas.Map.Lookups.{exact_bytes}
 use Rattle.std.proofs.lemmas.Map.Text.{is_eq-slice_cmp}
+use Rattle.std.proofs.lemmas.Map.Views.{Contains-from_any, list_any-from_Contains}
+use Rattle.std.proofs.lemmas.Option.{same_Some, slice_get-map, slice_get_read, slice_get_within}
 use Rattle.std.proofs.lemmas.Slice.Eq.{bytes_eq-Decides}
-use Rattle.it_base.proofs.Members.{in_none}
-use Rattle.it_prov.specs.inside.Judged.{HasNames, is_among}
+use Rattle.it_docs.specs.declared.policy.Expectation.{Expectation}
+use Rattle.it_prov.specs.Ignored.{AreIgnored, is_among, is_one_of}
+use Rattle.it_prov.specs.inside.Judged.{HasNames}
 
 abbrev lent_cmp : Bor (List ℕ) → Bor (List ℕ) → Ordering
 lent_cmp x y = slice_cmp nat_cmp x.now y.now
 
 abbrev same : List ℕ → List ℕ → Bool
 same p q = is_eq (slice_cmp nat_cmp p q)
-
-same_name : (p q : List ℕ) → IsTrue (same p q) → p ≡ q
-same_name p q h = (bytes_eq-Decides p q).0 (sym (is_eq-slice_cmp p q) ∙ h)
-
-same_self : (p q : List ℕ) → p ≡ q → IsTrue (same p q)
-same_self p q e = is_eq-slice_cmp p q ∙ (bytes_eq-Decides p q).1 e
-
-or_cases : (a b : Bool) → IsTrue (a || b) → IsTrue a ⊎ IsTrue b
-or_cases true b h = inl refl
-or_cases false b h = inr h
-
-or_left : (a b : Bool) → IsTrue a → IsTrue (a || b)
-or_left a b h = rw h refl
-
-or_right : (a b : Bool) → IsTrue b → IsTrue (a || b)
-or_right true b h = refl
-or_right false b h = h
 
 or_swap : (a b c : Bool) → a || (b || c) ≡ b || (a || c)
 or_swap true true c = refl
@@ -66,26 +56,61 @@ is_among-insert_key p k [] = refl
 is_among-insert_key p k (x ∷ xs) = insert_step p k x xs (slice_cmp nat_cmp k.now x.now) refl
     (is_among-insert_key p k xs)
 
-pub has_none : (set : BTreeSet (Bor (List ℕ))) → set.keys ≡ [] → HasNames [] set
-has_none set empty = λ name. (
-  λ h. absurd (false≢true (sym (ap (λ ks. is_among ks name) empty) ∙ h)),
-  λ c. absurd (in_none name c),
+-- a name is one of a list where the test says so
+pub is_one_of-Decides : (names : List (List ℕ)) (name : List ℕ)
+    → IsTrue (is_one_of names name) ↔ Contains names name
+is_one_of-Decides names name = (
+  Contains-from_any (λ x y. (bytes_eq-Decides x y).0) name names,
+  list_any-from_Contains nat_list_eq_equiv name names,
 )
+
+pub has_none : (set : BTreeSet (Bor (List ℕ))) → set.keys ≡ [] → HasNames [] set
+has_none set empty = λ name. ap (λ ks. is_among ks name) empty
+
+or_push : (a b : Bool) → a || b ≡ b || (a || false)
+or_push true true = refl
+or_push true false = refl
+or_push false true = refl
+or_push false false = refl
 
 pub has_more : (names : List (List ℕ)) (set with : BTreeSet (Bor (List ℕ))) (k : Bor (List ℕ))
     → with.keys ≡ insert_key lent_cmp set.keys k → HasNames names set
     → HasNames (names ++ k.now ∷ []) with
 has_more names set with k added has = λ name.
-    let is : is_among with.keys name ≡ same name k.now || is_among set.keys name =
-    ap (λ ks. is_among ks name) added ∙ is_among-insert_key name k set.keys in (
-      λ h. elim (or_cases (same name k.now) (is_among set.keys name) (sym is ∙ h)) [
-        | inl new ↦ subst (Contains (names ++ k.now ∷ [])) (sym (same_name name k.now new))
-            (Contains-push names k.now)
-        | inr old ↦ Contains-append_left names (k.now ∷ []) name ((has name).0 old)
-      ],
-      λ c. is ∙ elim (Contains-push_cases names k.now name c) [
-        | inl old ↦ or_right (same name k.now) (is_among set.keys name) ((has name).1 old)
-        | inr new ↦ or_left (same name k.now) (is_among set.keys name)
-            (same_self name k.now (sym new))
-      ],
-    )
+    ap (λ ks. is_among ks name) added ∙ is_among-insert_key name k set.keys
+    ∙ rw (has name, is_eq-slice_cmp name k.now, list_any-append (bytes_eq name))
+    (or_push (bytes_eq name k.now) (is_one_of names name))
+
+abbrev has_name : List ℕ → BTreeSet (Bor (List ℕ)) → Bool
+has_name name set = is_among set.keys name
+
+abbrev lets : List ℕ → Expectation → Bool
+lets name expectation = is_one_of expectation.ignore name
+
+-- ---- the sets of each expectation
+module _ (expectations : List Expectation) (sets : List (BTreeSet (Bor (List ℕ)))) where
+  pub sets_as_many : AreIgnored expectations sets → length sets ≡ length expectations
+  sets_as_many are = simp length-map at (ap length (are []))
+
+  -- at the place of an expectation stands the set of the names that it lets be ignored
+  pub set_at : (i : ℕ) (expectation : Expectation) (set : BTreeSet (Bor (List ℕ)))
+      → AreIgnored expectations sets → slice_get expectations i ≡ Some expectation
+      → set ≡ get_or sets i set → HasNames expectation.ignore set
+  set_at i expectation set are there here = λ name.
+      let below : i < length sets = rw (sets_as_many are)
+      (slice_get_within expectations i expectation there) in
+      let stands = slice_get_read sets (length sets) i set refl below here in
+      same_Some (has_name name set) (lets name expectation)
+      (sym (slice_get-map (has_name name) sets i ∙ ap (option_map (has_name name)) stands)
+      ∙ ap (λ bs. slice_get bs i) (are name) ∙ slice_get-map (lets name) expectations i
+      ∙ ap (option_map (lets name)) there)
+
+  pub sets_more : (i : ℕ) (expectation : Expectation) (set : BTreeSet (Bor (List ℕ)))
+      → i < length expectations → expectation ≡ get_or expectations i expectation
+      → HasNames expectation.ignore set → AreIgnored (take i expectations) sets
+      → AreIgnored (take (i + 1) expectations) (sets ++ set ∷ [])
+  sets_more i expectation set below here has are = λ name.
+      let more : take (i + 1) expectations ≡ take i expectations ++ expectation ∷ [] =
+      take_more expectations i expectation below
+      ∙ ap (λ e. take i expectations ++ e ∷ []) (sym here) in
+      rw (more, map-append (has_name name), map-append (lets name), are name, has name) refl

@@ -1,5 +1,5 @@
 -- What an envelope attests is what the Statement says that was read of it.
-use Rattle.std.proofs.Common.{◌↔◌, ◌*◌, ◌≤◌, ℕ, List, Option, Some, None, IfSome, Contains, length}
+use Rattle.std.proofs.Common.{◌*◌, ◌≤◌, ℕ, List, Option, None, IfSome, Contains, length}
 use Rattle.std.proofs.Common.{refl, subst}
 use Rattle.it_digest.specs.declared.compare.DigestSet.{DigestSet}
 use Rattle.it_dsse.specs.Meter.{RaisedBy}

@@ -5,5 +5,6 @@ pub mod Cost
 pub mod Finding
 pub mod Fits
 pub mod Held
+pub mod Ignored
 pub mod Meets
 pub mod inside

@@ -2,8 +2,10 @@
 ghost use Rattle.std.specs.Prelude.{◌≡◌, IfOk, map};
 ghost use Rattle.it_dsse.specs.Panel.{panel_of};
 ghost use Rattle.it_prov.specs.Held.{AreHeld, HoldsOrNone};
+ghost use Rattle.it_prov.specs.Ignored.{AreIgnored};
 
 use crate::answers::{Answer, answers_of, some_signed};
+use crate::parameters::ignored_by;
 use it_base::sequence::Sequence;
 use it_docs::fault::DocumentFault;
 use it_docs::policy::Expectation;
@@ -12,6 +14,7 @@ use it_dsse::check::SignatureCheck;
 use it_dsse::envelope::Envelope;
 use it_dsse::payload_type::IN_TOTO;
 use std::alloc::{AllocError, Global};
+use std::collections::BTreeSet;
 
 /// What envelopes attest to those who trust the builders of some expectations: it is found out
 /// once, for as many searches as there are files.
@@ -25,6 +28,9 @@ pub struct Attestations<'a> {
     pub panel: &'a [Box<dyn SignatureCheck>],
     /// For each envelope what it attests, if one of the builders signed it.
     pub held: Vec<Option<Attestation>>,
+    /// For each expectation the names of parameters that it lets be ignored.
+    pub(crate) ignored: Vec<BTreeSet<&'a str>>,
+    ghost ignored_are: { AreIgnored expectations.now ignored.items },
 }
 
 /// What an envelope attests, and who signed it.
@@ -61,6 +67,7 @@ impl<'a> Attestations<'a> {
             expectations,
             panel,
             held: held_in(alloc, envelopes, expectations, panel)?,
+            ignored: ignored_by(alloc, expectations)?,
         })
     }
 }

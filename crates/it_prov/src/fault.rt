@@ -26,22 +26,9 @@ impl From<AllocError> for ProvError {
     }
 }
 
-/// Why no envelope was found for an expectation.
-#[derive(Drop)]
-pub(crate) enum MeetingFault {
-    /// No envelope meets it. The level is that of `NoProvenance`.
-    NoneMeets(Option<u8>),
-    /// Memory was refused.
-    OutOfMemory,
-}
-
-impl From<AllocError> for MeetingFault {
-    ghost use Rattle.std.specs.Prelude.{◌≡◌};
-    ghost use Rattle.it_prov.specs.declared.fault.MeetingFault.TheVariants.{OutOfMemory};
-
-    ghost from_gives = { λ _ e. e ≡ OutOfMemory };
-
-    fn from(_e: AllocError) -> MeetingFault {
-        MeetingFault::OutOfMemory
-    }
+/// No envelope meets an expectation.
+#[derive(Clone, Copy)]
+pub(crate) struct Unmet {
+    /// The level that `NoProvenance` tells.
+    pub best: Option<u8>,
 }

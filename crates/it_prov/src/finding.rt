@@ -9,7 +9,7 @@ ghost use Rattle.it_prov.specs.Fits.{Fits};
 ghost use Rattle.it_prov.specs.Held.{AreHeld};
 
 use crate::attestations::Attestations;
-use crate::fault::{MeetingFault, ProvError};
+use crate::fault::ProvError;
 use crate::fits::fitting;
 use crate::meets::first_to_meet;
 use it_base::text::Text;
@@ -108,11 +108,8 @@ pub fn find_among(
         return Err(ProvError::NoExpectation(Text::copy(alloc, path)?));
     };
     let expectation = &attestations.expectations[place];
-    match first_to_meet(alloc, expectation, place, &digests, attestations, meter) {
+    match first_to_meet(expectation, place, &digests, attestations, meter) {
         Ok(index) => Ok(index),
-        Err(MeetingFault::NoneMeets(best)) => {
-            Err(ProvError::NoProvenance(Text::copy(alloc, path)?, best))
-        }
-        Err(MeetingFault::OutOfMemory) => Err(ProvError::OutOfMemory),
+        Err(unmet) => Err(ProvError::NoProvenance(Text::copy(alloc, path)?, unmet.best)),
     }
 }

@@ -16,14 +16,13 @@ ghost use Rattle.it_prov.specs.inside.Judged.{SaysExpected};
 
 use crate::attestations::{Attestation, Attestations};
 use crate::builders::level_of_builders;
-use crate::fault::MeetingFault;
+use crate::fault::Unmet;
 use crate::levels::greater;
-use crate::parameters::{parameters_meet, set_of};
+use crate::parameters::parameters_meet;
 use it_digest::compare::{Compare, DigestSet};
 use it_docs::policy::Expectation;
 use it_docs::statement::{Provenance, Statement};
 use it_dsse::meter::Meter;
-use std::alloc::Global;
 use std::collections::BTreeSet;
 
 /// The index of the first envelope that meets the expectation at a place, for a file with these
@@ -31,15 +30,14 @@ use std::collections::BTreeSet;
 ///
 /// # Errors
 ///
-/// `NoneMeets` where no envelope meets it, and `OutOfMemory` where memory was refused.
+/// `Unmet` where no envelope meets it.
 pub(crate) fn first_to_meet(
-    alloc: Global,
     expectation: &Expectation,
     place: usize,
     digests: &DigestSet,
     attestations: &Attestations,
     meter: &mut Meter,
-) -> Result<usize, MeetingFault>
+) -> Result<usize, Unmet>
     requires held { AreHeld (panel_of (map meaning attestations.now.panel.now))
         attestations.now.expectations.now attestations.now.envelopes.now
         attestations.now.held.items }
@@ -47,11 +45,11 @@ pub(crate) fn first_to_meet(
     ensures found { IfOk result (IsFirstToMeet
         (panel_of (map meaning attestations.now.panel.now)) expectation.now digests.now
         attestations.now.envelopes.now) }
-    ensures missing { IfErr result (λ e. (best : _) → e ≡ MeetingFault.NoneMeets best
-        → NoneMeets (panel_of (map meaning attestations.now.panel.now)) expectation.now digests.now
+    ensures missing { IfErr result (λ unmet.
+        NoneMeets (panel_of (map meaning attestations.now.panel.now)) expectation.now digests.now
         attestations.now.envelopes.now
         × IsBest (panel_of (map meaning attestations.now.panel.now)) expectation.now digests.now
-        (Contains attestations.now.envelopes.now) best) }
+        (Contains attestations.now.envelopes.now) unmet.best) }
     ensures at_most { RaisedBy (λ n. n
         ≤ key_count expectation.now.builders * signature_count attestations.now.envelopes.now)
         meter.old meter.new }
@@ -60,16 +58,16 @@ pub(crate) fn first_to_meet(
         attestations.now.envelopes.now index))
         meter.old meter.new) }
 {
-    let ignored = set_of(alloc, expectation.ignore.as_slice())?;
+    let ignored = &attestations.ignored[place];
     let mut best = None;
     for (index, held) in attestations.held.iter().enumerate() {
-        let level = level_reached(expectation, place, &ignored, digests, held, meter);
+        let level = level_reached(expectation, place, ignored, digests, held, meter);
         match level {
             Some(reached) if reached >= expectation.level => return Ok(index),
             _ => best = greater(best, level),
         }
     }
-    Err(MeetingFault::NoneMeets(best))
+    Err(Unmet { best })
 }
 
 /// The level of a builder with which an envelope meets the expectation at a place in all but the

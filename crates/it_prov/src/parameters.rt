@@ -1,5 +1,6 @@
 //! Whether the parameters of a build are those that are expected.
 ghost use Rattle.std.specs.Prelude.{◌≡◌, ◌↔◌, IfOk, IsTrue};
+ghost use Rattle.it_prov.specs.Ignored.{AreIgnored};
 ghost use Rattle.it_prov.specs.inside.Judged.{HasNames, IsMet, MayStand, OfEachName};
 ghost use Rattle.it_prov.specs.Meets.{ParametersMeet};
 
@@ -9,8 +10,22 @@ use it_docs::tree::Members;
 use std::alloc::{AllocError, Global};
 use std::collections::BTreeSet;
 
+/// For each expectation the names that it lets be ignored, as a set.
+pub(crate) fn ignored_by<'a>(
+    alloc: Global,
+    expectations: &'a [Expectation],
+) -> Result<Vec<BTreeSet<&'a str>>, AllocError>
+    ensures { IfOk result (λ sets. AreIgnored expectations.now sets.items) }
+{
+    let mut sets = Vec::with_capacity(alloc, expectations.len())?;
+    for expectation in expectations {
+        sets.push(set_of(alloc, expectation.ignore.as_slice())?)?;
+    }
+    Ok(sets)
+}
+
 /// The names, as a set.
-pub(crate) fn set_of(alloc: Global, names: &[Text]) -> Result<BTreeSet<&str>, AllocError>
+fn set_of(alloc: Global, names: &[Text]) -> Result<BTreeSet<&str>, AllocError>
     ensures { IfOk result (HasNames names.now) }
 {
     let mut set = BTreeSet::new(alloc);

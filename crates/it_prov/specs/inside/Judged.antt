@@ -1,13 +1,9 @@
 -- What the functions that judge an envelope come to, in the words of the definitions. Nothing
 -- that is trusted stands here.
-use Rattle.std.specs.Prelude.{◌≡◌, ◌↔◌, ◌*◌, ◌<◌, ◌≤◌, ℕ, List, Bool, Option, Some, None, Contains}
-use Rattle.std.specs.Prelude.{IfSome, IsTrue, length, slice_get}
+use Rattle.std.specs.Prelude.{◌≡◌, ◌*◌, ◌<◌, ◌≤◌, ℕ, List, Option, Some, None, Contains}
+use Rattle.std.specs.Prelude.{IfSome, length, slice_get}
 use Rattle.std.specs.Borrow.{Bor}
-use Rattle.std.specs.BTreeMap.{is_at}
 use Rattle.std.specs.BTreeSet.{BTreeSet}
-use Rattle.std.specs.Cmp.Lexicographic.{slice_cmp}
-use Rattle.std.specs.List.{list_any}
-use Rattle.std.specs.Ordering.{nat_cmp}
 use Rattle.it_digest.specs.Compare.{Agree}
 use Rattle.it_digest.specs.declared.compare.DigestSet.{DigestSet}
 use Rattle.it_dsse.specs.Meter.{RaisedBy}
@@ -26,15 +22,12 @@ use Rattle.it_prov.specs.Best.{MeetsAtLevel}
 use Rattle.it_prov.specs.Cost.{key_count}
 use Rattle.it_prov.specs.declared.answers.Answer.{Answer}
 use Rattle.it_prov.specs.declared.attestations.Attestation.{Attestation}
+use Rattle.it_prov.specs.Ignored.{is_among, is_one_of}
 use Rattle.it_prov.specs.Meets.{ParametersMeet, SignedByBuilder, StandsEqual}
-
--- whether a name is one of these lent ones
-abbrev pub is_among : List (Bor (List ℕ)) → List ℕ → Bool
-is_among lent name = list_any (is_at (λ key. slice_cmp nat_cmp name key.now)) lent
 
 -- a set has the names of a list, and no others
 abbrev pub HasNames : List (List ℕ) → BTreeSet (Bor (List ℕ)) → Type 0
-HasNames names set = (name : List ℕ) → IsTrue (is_among set.keys name) ↔ Contains names name
+HasNames names set = (name : List ℕ) → is_among set.keys name ≡ is_one_of names name
 
 -- what is expected under a name stands there
 abbrev pub IsMet : Fields → Fields → List ℕ → Type 0

@@ -27,9 +27,9 @@ returns-in-Ok-clause-unasked g c =
     c.index-attestations-place.result c.in-Some.ensures in
     λ none. absurd (none expectation fits)
 
-pub returns-in_err-copy-in-Err-NoneMeets-clause-at_most :
-    goal.returns-in_err-copy-in-Err-NoneMeets-clause-at_most
-returns-in_err-copy-in-Err-NoneMeets-clause-at_most g c =
+pub returns-in_err-copy-in-Err-clause-at_most :
+    goal.returns-in_err-copy-in-Err-clause-at_most
+returns-in_err-copy-in-Err-clause-at_most g c =
     let expectations = c.args.attestations.now.expectations.now in
     let expectation = get_or expectations c.in-Some.place c.index-attestations-place.result in
     let fits = fits_there c.args.path.now expectations c.in-Some.place
@@ -39,18 +39,18 @@ returns-in_err-copy-in-Err-NoneMeets-clause-at_most g c =
     c.args.meter.now c.first_to_meet.new.meter) expectations c.args.path.now expectation fits
     c.first_to_meet.ensures.at_most
 
-pub returns-in_err-copy-in-Err-NoneMeets-clause-unasked :
-    goal.returns-in_err-copy-in-Err-NoneMeets-clause-unasked
-returns-in_err-copy-in-Err-NoneMeets-clause-unasked g c =
+pub returns-in_err-copy-in-Err-clause-unasked :
+    goal.returns-in_err-copy-in-Err-clause-unasked
+returns-in_err-copy-in-Err-clause-unasked g c =
     let expectations = c.args.attestations.now.expectations.now in
     let expectation = get_or expectations c.in-Some.place c.index-attestations-place.result in
     let fits = fits_there c.args.path.now expectations c.in-Some.place
     c.index-attestations-place.result c.in-Some.ensures in
     λ none. absurd (none expectation fits)
 
-pub returns-in_ok-copy-in-Err-NoneMeets-clause-at_most :
-    goal.returns-in_ok-copy-in-Err-NoneMeets-clause-at_most
-returns-in_ok-copy-in-Err-NoneMeets-clause-at_most g c =
+pub returns-in_ok-copy-in-Err-clause-at_most :
+    goal.returns-in_ok-copy-in-Err-clause-at_most
+returns-in_ok-copy-in-Err-clause-at_most g c =
     let expectations = c.args.attestations.now.expectations.now in
     let expectation = get_or expectations c.in-Some.place c.index-attestations-place.result in
     let fits = fits_there c.args.path.now expectations c.in-Some.place
@@ -60,28 +60,9 @@ returns-in_ok-copy-in-Err-NoneMeets-clause-at_most g c =
     c.args.meter.now c.first_to_meet.new.meter) expectations c.args.path.now expectation fits
     c.first_to_meet.ensures.at_most
 
-pub returns-in_ok-copy-in-Err-NoneMeets-clause-unasked :
-    goal.returns-in_ok-copy-in-Err-NoneMeets-clause-unasked
-returns-in_ok-copy-in-Err-NoneMeets-clause-unasked g c =
-    let expectations = c.args.attestations.now.expectations.now in
-    let expectation = get_or expectations c.in-Some.place c.index-attestations-place.result in
-    let fits = fits_there c.args.path.now expectations c.in-Some.place
-    c.index-attestations-place.result c.in-Some.ensures in
-    λ none. absurd (none expectation fits)
-
-pub returns-in-Err-OutOfMemory-clause-at_most : goal.returns-in-Err-OutOfMemory-clause-at_most
-returns-in-Err-OutOfMemory-clause-at_most g c =
-    let expectations = c.args.attestations.now.expectations.now in
-    let expectation = get_or expectations c.in-Some.place c.index-attestations-place.result in
-    let fits = fits_there c.args.path.now expectations c.in-Some.place
-    c.index-attestations-place.result c.in-Some.ensures in
-    of_each_fit (λ e. RaisedBy
-    (λ n. n ≤ key_count e.builders * signature_count c.args.attestations.now.envelopes.now)
-    c.args.meter.now c.first_to_meet.new.meter) expectations c.args.path.now expectation fits
-    c.first_to_meet.ensures.at_most
-
-pub returns-in-Err-OutOfMemory-clause-unasked : goal.returns-in-Err-OutOfMemory-clause-unasked
-returns-in-Err-OutOfMemory-clause-unasked g c =
+pub returns-in_ok-copy-in-Err-clause-unasked :
+    goal.returns-in_ok-copy-in-Err-clause-unasked
+returns-in_ok-copy-in-Err-clause-unasked g c =
     let expectations = c.args.attestations.now.expectations.now in
     let expectation = get_or expectations c.in-Some.place c.index-attestations-place.result in
     let fits = fits_there c.args.path.now expectations c.in-Some.place
@@ -111,19 +92,18 @@ returns-in-Ok-clause-at_least g c =
     (λ n a. record { expectation = expectation; fits = fits; asked = a })
     c.args.meter.now c.first_to_meet.new.meter c.in-Ok.ensures.at_least
 
-pub returns-in_ok-copy-in-Err-NoneMeets-clause-no_provenance :
-    goal.returns-in_ok-copy-in-Err-NoneMeets-clause-no_provenance
-returns-in_ok-copy-in-Err-NoneMeets-clause-no_provenance g c =
+pub returns-in_ok-copy-in-Err-clause-no_provenance :
+    goal.returns-in_ok-copy-in-Err-clause-no_provenance
+returns-in_ok-copy-in-Err-clause-no_provenance g c =
     let expectations = c.args.attestations.now.expectations.now in
     let expectation = get_or expectations c.in-Some.place c.index-attestations-place.result in
     let fits = fits_there c.args.path.now expectations c.in-Some.place
     c.index-attestations-place.result c.in-Some.ensures in
-    let missing = c.in-Err-NoneMeets.ensures.missing c.in-Err-NoneMeets.best
-    c.in-Err-NoneMeets.field-0-is in
+    let missing = c.in-Err.ensures.missing in
     λ named best same.
-    let path_is : c.in_ok-copy-in-Err-NoneMeets.field-0 ≡ named = cc in
-    let best_is : c.in-Err-NoneMeets.best ≡ best = cc in (
-      sym path_is ∙ c.in_ok-copy-in-Err-NoneMeets.ensures,
+    let path_is : c.in_ok-copy-in-Err.field-0 ≡ named = cc in
+    let best_is : c.in-Err.unmet.best ≡ best = cc in (
+      sym path_is ∙ c.in_ok-copy-in-Err.ensures,
       record {
         expectation = expectation;
         fits = fits;

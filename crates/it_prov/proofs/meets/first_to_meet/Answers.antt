@@ -1,5 +1,5 @@
-use Rattle.std.proofs.Common.{◌≡◌, ◌∙◌, ◌+◌, ◌*◌, ◌≤◌, drop, length, take, refl, sym, map}
-use Rattle.std.proofs.lemmas.Option.{slice_get_read}
+use Rattle.std.proofs.Common.{◌≡◌, ◌∙◌, ◌+◌, ◌*◌, ◌≤◌, arith, drop, length, take, refl, sym, map}
+use Rattle.std.proofs.lemmas.Option.{slice_get_read, slice_get_within}
 use Rattle.it_dsse.specs.Meter.{RaisedBy}
 use Rattle.it_dsse.specs.Panel.{panel_of}
 use Rattle.it_prov.specs.Asked.{AtLeast, IsAskedAt, IsAskedFor}
@@ -14,6 +14,7 @@ use Rattle.it_prov.proofs.Greatest.{Step, greatest_of_short, none_enough, so_far
 use Rattle.it_prov.proofs.Greatest.{so_far_more, so_far_none}
 use Rattle.it_prov.proofs.Holding.{zip_found, zip_length}
 use Rattle.it_prov.proofs.Meeting.{level_of, meets_at}
+use Rattle.it_prov.proofs.NameSets.{set_at, sets_as_many}
 use Rattle.it_prov.proofs.meets.first_to_meet.Goals as goal
 use Rattle.it_prov.proofs.meets.first_to_meet.Goals.{
   in_default-via-in-Some+else-reached-expectation,
@@ -32,6 +33,22 @@ loop-index-init g c =
           (key_count c.args.expectation.now.builders * signature_count
           c.args.attestations.now.envelopes.now) c.args.meter.now refl;
     }
+
+pub index-ignored-requires : goal.index-ignored-requires
+index-ignored-requires g c =
+    let attestations = c.args.attestations.now in
+    let as_many = sets_as_many attestations.expectations.now attestations.ignored.items
+    attestations.ignored_are in
+    let below = slice_get_within attestations.expectations.now c.args.place c.args.expectation.now
+    c.requires.stands in
+    omega (arith, as_many, below)
+
+pub level_reached-level-requires-clause-names : goal.level_reached-level-requires-clause-names
+level_reached-level-requires-clause-names g c =
+    let attestations = c.args.attestations.now in
+    set_at attestations.expectations.now attestations.ignored.items c.args.place
+    c.args.expectation.now c.index-ignored.result.now attestations.ignored_are c.requires.stands
+    c.index-ignored.ensures
 
 pub level_reached-level-requires-clause-answers : goal.level_reached-level-requires-clause-answers
 level_reached-level-requires-clause-answers g c =
@@ -193,13 +210,12 @@ returns-clause-missing g c =
     let past : length envelopes ≤ c.loop-index.index =
     rw (← as_many, ← c.deref-held-items.ensures.value) c.loop-index-test.false in
     let all = so_far_all expectation.level (MeetsAtLevel panel expectation digests) envelopes
-    c.loop-index.index c.loop-index.best past c.loop-index.invariant.so_far in
-    λ best same. (
+    c.loop-index.index c.loop-index.best past c.loop-index.invariant.so_far in (
       λ envelope stands m.
           none_enough expectation.level (MeetsAtLevel panel expectation digests) envelopes
           c.loop-index.best all envelope stands m.builder.level
           (level_of panel expectation digests envelope m) m.level_is_enough,
-      let is : c.loop-index.best ≡ best = cc in rw (← is) all.greatest,
+      all.greatest,
     )
 
 pub returns-clause-at_most : goal.returns-clause-at_most

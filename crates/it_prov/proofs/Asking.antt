@@ -84,19 +84,24 @@ module _ (start now new : Meter) (i : ℕ) where
       (key_count (drop i builders) * signatures) (key_count builders * signatures) start now new
       (ap (λ n. n * signatures) split ∙ omega arith)
 
+  pub leaves_each : {X : Type 0} (size : X → ℕ) (keys total : ℕ) (xs : List X) (x : X)
+      → i < length xs → x ≡ get_or xs i x → Leaves (keys * sum_by size (drop i xs)) total start now
+      → RaisedBy (λ n. n ≤ keys * size x) now new
+      → Leaves (keys * sum_by size (drop (i + 1) xs)) total start new
+  leaves_each size keys total xs x below here =
+      let rest = sum_by size (drop (i + 1) xs) in
+      let split = sum_split size xs i x below here in
+      leaves_less (keys * size x) (keys * rest) (keys * sum_by size (drop i xs)) total start now new
+      (ap (λ n. keys * n) split ∙ omega arith)
+
   pub leaves_envelope : (keys : ℕ) (envelopes : List Envelope) (envelope : Envelope)
       → i < length envelopes → envelope ≡ get_or envelopes i envelope
       → Leaves (keys * signature_count (drop i envelopes)) (keys * signature_count envelopes) start
       now → RaisedBy (λ n. n ≤ keys * length envelope.signatures) now new
       → Leaves (keys * signature_count (drop (i + 1) envelopes)) (keys * signature_count envelopes)
       start new
-  leaves_envelope keys envelopes envelope below here =
-      let rest = signature_count (drop (i + 1) envelopes) in
-      let split : signature_count (drop i envelopes) ≡ length envelope.signatures + rest =
-      sum_split (λ (e : Envelope). length e.signatures) envelopes i envelope below here in
-      leaves_less (keys * length envelope.signatures) (keys * rest)
-      (keys * signature_count (drop i envelopes)) (keys * signature_count envelopes) start now
-      new (ap (λ n. keys * n) split ∙ omega arith)
+  leaves_envelope keys envelopes = leaves_each (λ (e : Envelope). length e.signatures) keys
+      (keys * signature_count envelopes) envelopes
 
 -- ---- one key
 -- the signatures that are tried with a key

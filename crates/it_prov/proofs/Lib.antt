@@ -3,14 +3,17 @@ pub mod AskedOnce
 pub mod Asking
 pub mod Attesting
 pub mod BestLevel
+pub mod Candidates
 pub mod Entries
 pub mod Fitting
 pub mod Greatest
 pub mod Holding
 pub mod Meeting
+pub mod Indexing
 pub mod NameSets
 pub mod OneFit
 pub mod ParametersSettled
+pub mod Places
 pub mod Saying
 pub mod Searching
 pub mod Signing

@@ -27,7 +27,7 @@ module _ (panel : Panel) (expectations : List Expectation) (expectation : Expect
     (envelope : Envelope) where
   -- an envelope that meets an expectation in all but a level was signed by a builder of it, and so
   -- its Statement was read
-  held_of : (level : ℕ) (m : MeetsAtLevel panel expectation digests envelope level)
+  pub held_of : (level : ℕ) (m : MeetsAtLevel panel expectation digests envelope level)
       → IsHeld panel expectations envelope m.besides_level.attests.statement
   held_of level m =
       let a = m.besides_level.attests in

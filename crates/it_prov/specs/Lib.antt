@@ -6,5 +6,6 @@ pub mod Finding
 pub mod Fits
 pub mod Held
 pub mod Ignored
+pub mod Index
 pub mod Meets
 pub mod inside

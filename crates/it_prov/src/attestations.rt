@@ -3,8 +3,10 @@ ghost use Rattle.std.specs.Prelude.{◌≡◌, IfOk, map};
 ghost use Rattle.it_dsse.specs.Panel.{panel_of};
 ghost use Rattle.it_prov.specs.Held.{AreHeld, HoldsOrNone};
 ghost use Rattle.it_prov.specs.Ignored.{AreIgnored};
+ghost use Rattle.it_prov.specs.Index.{IsIndex};
 
 use crate::answers::{Answer, answers_of, some_signed};
+use crate::index::index_of;
 use crate::parameters::ignored_by;
 use it_base::sequence::Sequence;
 use it_docs::fault::DocumentFault;
@@ -14,7 +16,7 @@ use it_dsse::check::SignatureCheck;
 use it_dsse::envelope::Envelope;
 use it_dsse::payload_type::IN_TOTO;
 use std::alloc::{AllocError, Global};
-use std::collections::BTreeSet;
+use std::collections::{BTreeMap, BTreeSet};
 
 /// What envelopes attest to those who trust the builders of some expectations: it is found out
 /// once, for as many searches as there are files.
@@ -31,6 +33,9 @@ pub struct Attestations<'a> {
     /// For each expectation the names of parameters that it lets be ignored.
     pub(crate) ignored: Vec<BTreeSet<&'a str>>,
     ghost ignored_are: { AreIgnored expectations.now ignored.items },
+    /// The places of the envelopes by the SHA-256 of the subjects of what they attest.
+    pub(crate) by_sha256: BTreeMap<[u8; 32], Vec<usize>>,
+    ghost indexed: { IsIndex held.items by_sha256 },
 }
 
 /// What an envelope attests, and who signed it.
@@ -62,12 +67,15 @@ impl<'a> Attestations<'a> {
         ensures held { IfOk result (λ a. AreHeld (panel_of (map meaning panel.now))
             expectations.now envelopes.now a.held.items) }
     {
+        let held = held_in(alloc, envelopes, expectations, panel)?;
+        let by_sha256 = index_of(alloc, held.as_slice())?;
         Ok(Attestations {
             envelopes,
             expectations,
             panel,
-            held: held_in(alloc, envelopes, expectations, panel)?,
+            held,
             ignored: ignored_by(alloc, expectations)?,
+            by_sha256,
         })
     }
 }

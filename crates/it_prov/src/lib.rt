@@ -8,6 +8,7 @@ mod builders;
 pub mod fault;
 mod finding;
 pub mod fits;
+mod index;
 mod levels;
 mod meets;
 mod parameters;

@@ -4,7 +4,7 @@ use Rattle.it_prov.specs.Best.{MeetsAtLevel}
 use Rattle.it_prov.specs.Cost.{key_count, signature_count}
 use Rattle.it_prov.proofs.Asking.{Leaves}
 use Rattle.it_prov.proofs.Greatest.{SoFar}
-use Rattle.it_prov.proofs.meets.first_to_meet.Given as goal
+use Rattle.it_prov.proofs.meets.first_of_all.Given as goal
 
 -- the greatest level with which an envelope so far meets the expectation in all else is too low,
 -- and the rest leave each of their signatures to be tried once for each key

@@ -1,13 +1,17 @@
--- The members that are looked at of each part of a policy and of a layout, and what they must be:
--- those of policies are this profile's choice, those of layouts stand in in-toto 1.0 section 4.3.
+-- The members that are looked at of each part of a policy and of a layout, of envelopes and of
+-- links, and what they must be: those of policies are this profile's choice, those of layouts and
+-- links stand in in-toto 1.0 sections 4.3 and 4.4, those of envelopes in DSSE v1.0.
 use Rattle.std.specs.Prelude.{ℕ, List, [], ◌∷◌, Bool, true, false, IsTrue, is_some, codes}
 use Rattle.std.specs.FinMap.{empty}
 use Rattle.serde_json.specs.Data.{Data}
 use Rattle.serde_json.specs.Find.{as_array}
+use Rattle.it_base.specs.Base64Text.{IsBase64}
 use Rattle.it_base.specs.Sequence.{IsList}
 use Rattle.it_base.specs.Table.{IsTable}
 use Rattle.it_base.specs.Text.{IsText}
 use Rattle.it_base.specs.TreeOf.{IsMembers}
+use Rattle.it_digest.specs.Digest.{IsDigestSet}
+use Rattle.it_dsse.specs.Envelope.{IsSignature}
 use Rattle.it_dsse.specs.KeyObject.{IsKeyObject}
 use Rattle.it_docs.specs.Level.{IsLevel}
 use Rattle.it_docs.specs.Moment.{IsMoment}
@@ -40,6 +44,10 @@ Fits kinds.Builders d = Reads (IsList IsBuilderOf) d
 Fits kinds.Object d = Reads IsMembers d
 Fits kinds.Items d = IsTrue (is_some (as_array d))
 Fits kinds.Rules d = IsTrue (is_some (as_array d))
+Fits kinds.Base64 d = Reads IsBase64 d
+Fits kinds.Signatures d = Reads (IsList IsSignature) d
+Fits kinds.LinkWord d = IsText d (codes "link")
+Fits kinds.Artifacts d = Reads (IsTable IsDigestSet) d
 
 -- a member that is looked at
 pub record Looked : Type 0 where
@@ -89,3 +97,16 @@ layout_members (layout.Step n) =
 layout_members layout.Inspects = optional (codes "inspect") kinds.Items ∷ []
 layout_members (layout.Inspect n) = needed (codes "name") kinds.Text ∷ rule_members
 layout_members (layout.DuplicateName name) = []
+
+-- the members of an envelope, in their order
+abbrev pub envelope_members : List Looked
+envelope_members =
+    needed (codes "payload") kinds.Base64 ∷ needed (codes "payloadType") kinds.Text
+    ∷ needed (codes "signatures") kinds.Signatures ∷ []
+
+-- the members of a link, in their order
+abbrev pub link_members : List Looked
+link_members =
+    needed (codes "_type") kinds.LinkWord ∷ needed (codes "name") kinds.Text
+    ∷ optional (codes "materials") kinds.Artifacts ∷ optional (codes "products") kinds.Artifacts
+    ∷ []

@@ -1,4 +1,5 @@
--- Notes on a part of a policy or of a layout, as lines for people (this project's words).
+-- Notes on a part of a policy, of a layout, of an envelope or of a link, as lines for people (this
+-- project's words). The line of the last two follows the name of a file.
 use Rattle.std.specs.Prelude.{ℕ, List, [], ◌∷◌, ◌++◌, Option, Some, None, codes, decimal}
 use Rattle.std.specs.List.{flat_map}
 use Rattle.it_report.specs.Name.{name_form}
@@ -20,6 +21,8 @@ document_form (places.Expectation n) = codes "policy: "
 document_form places.Layout = codes "layout: "
 document_form (places.Step n) = codes "layout: "
 document_form (places.Inspection n) = codes "layout: "
+document_form places.Envelope = codes ""
+document_form places.Link = codes ""
 
 -- the item that a place is, after some words; of a whole document nothing
 abbrev pub place_form : List ℕ → PartPlace → List ℕ
@@ -28,6 +31,8 @@ place_form before (places.Expectation n) = before ++ codes "expectation " ++ dec
 place_form before places.Layout = []
 place_form before (places.Step n) = before ++ codes "step " ++ decimal n
 place_form before (places.Inspection n) = before ++ codes "inspection " ++ decimal n
+place_form before places.Envelope = before ++ codes "the envelope"
+place_form before places.Link = before ++ codes "the link"
 
 -- what stands at a place
 abbrev pub object_form : PartPlace → List ℕ
@@ -36,6 +41,8 @@ object_form (places.Expectation n) = place_form [] (places.Expectation n)
 object_form places.Layout = codes "it"
 object_form (places.Step n) = place_form [] (places.Step n)
 object_form (places.Inspection n) = place_form [] (places.Inspection n)
+object_form places.Envelope = codes "it"
+object_form places.Link = codes "its payload"
 
 abbrev pub unfit_form : Kind → List ℕ
 unfit_form kinds.Text = codes " is not a text"
@@ -50,6 +57,10 @@ unfit_form kinds.Builders = codes " is not a list of builders"
 unfit_form kinds.Object = codes " is not an object"
 unfit_form kinds.Items = codes " is not a list"
 unfit_form kinds.Rules = codes " is not a list"
+unfit_form kinds.Base64 = codes " is not a text in base64"
+unfit_form kinds.Signatures = codes " is not a list of signatures"
+unfit_form kinds.LinkWord = codes " is not the text link"
+unfit_form kinds.Artifacts = codes " is not an object of digest sets"
 
 abbrev pub word_form : List ℕ → List ℕ
 word_form word = codes " " ++ name_form word

@@ -14,7 +14,8 @@ use Rattle.it_docs.specs.declared.layout_fault.LayoutPart.{LayoutPart}
 use Rattle.it_docs.specs.declared.layout_fault.LayoutPart.TheVariants as layout
 use Rattle.it_docs.specs.declared.policy_fault.PolicyPart.{PolicyPart}
 use Rattle.it_docs.specs.declared.policy_fault.PolicyPart.TheVariants as policy
-use Rattle.it_part_notes.specs.Members.{Fits, Looked, Reads, layout_members, policy_members, shown}
+use Rattle.it_part_notes.specs.Members.{Fits, Looked, Reads, envelope_members, layout_members}
+use Rattle.it_part_notes.specs.Members.{link_members, policy_members, shown}
 use Rattle.it_part_notes.specs.declared.member.Kind.TheVariants as kinds
 use Rattle.it_part_notes.specs.declared.part_note.BadRule.{BadRule}
 use Rattle.it_part_notes.specs.declared.part_note.Fault.{Fault}
@@ -36,6 +37,8 @@ object_at (places.Expectation n) d = item_at (codes "expectations") n d
 object_at places.Layout d = Some d
 object_at (places.Step n) d = item_at (codes "steps") n d
 object_at (places.Inspection n) d = item_at (codes "inspect") n d
+object_at places.Envelope d = Some d
+object_at places.Link d = Some d
 
 -- an item of the list of this name is no rule; its words are its texts, if it is a list of texts
 pub record HasBadRule (d : Data) (name : List ℕ) (bad : BadRule) : Type 0 where
@@ -67,6 +70,8 @@ IsWhole (places.Expectation n) = ⊥
 IsWhole places.Layout = Unit {0}
 IsWhole (places.Step n) = ⊥
 IsWhole (places.Inspection n) = ⊥
+IsWhole places.Envelope = Unit {0}
+IsWhole places.Link = Unit {0}
 
 -- the bytes are no document at all
 pub record IsNoDocument (bytes : List ℕ) (note : PartNote) : Type 0 where
@@ -104,3 +109,11 @@ TellsPolicyPart bytes part = TellsPart bytes (policy_place part) (policy_members
 -- the sentence of a note on a part of a layout
 abbrev pub TellsLayoutPart : List ℕ → LayoutPart → PartNote → Type 0
 TellsLayoutPart bytes part = TellsPart bytes (layout_place part) (layout_members part)
+
+-- the sentence of a note on bytes that were read as an envelope
+abbrev pub TellsEnvelope : List ℕ → PartNote → Type 0
+TellsEnvelope bytes = TellsPart bytes places.Envelope envelope_members
+
+-- the sentence of a note on a payload that was read as a link
+abbrev pub TellsLink : List ℕ → PartNote → Type 0
+TellsLink payload = TellsPart payload places.Link link_members

@@ -14,13 +14,16 @@ use it_base::sequence::Sequence;
 use it_base::table::Table;
 use it_base::text::Text;
 use it_base::tree::Members;
+use it_digest::artifacts::Artifacts;
 use it_docs::moment::read_moment;
 use it_docs::policy::Builder;
+use it_dsse::envelope::Signature;
 use it_dsse::key_object::KeyObject;
 use serde_json::Value;
 use std::alloc::{AllocError, Global};
 
-/// Whether a value is of a kind. Of a list of rules only that it is a list.
+/// Whether a value is of a kind. Of a list of rules only that it is a list, and of a text in base64
+/// only that it is a text.
 ///
 /// # Errors
 ///
@@ -40,6 +43,10 @@ pub(crate) fn is_fit(alloc: Global, value: &Value, kind: Kind) -> Result<bool, A
         Kind::Builders => reads::<Sequence<Builder>>(alloc, value),
         Kind::Object => reads::<Members>(alloc, value),
         Kind::Items | Kind::Rules => Ok(value.is_array()),
+        Kind::Base64 => Ok(is_text(value)),
+        Kind::Signatures => reads::<Sequence<Signature>>(alloc, value),
+        Kind::LinkWord => Ok(is_link_word(value)),
+        Kind::Artifacts => reads::<Artifacts>(alloc, value),
     }
 }
 
@@ -68,6 +75,21 @@ fn is_layout_word(value: &Value) -> bool
         None => false,
         Some(text) => text == "layout",
     }
+}
+
+fn is_link_word(value: &Value) -> bool
+    ensures { result ≡ false → ¬ Fits Kind.LinkWord (view value.now) }
+{
+    match value.as_str() {
+        None => false,
+        Some(text) => text == "link",
+    }
+}
+
+fn is_text(value: &Value) -> bool
+    ensures { result ≡ false → ¬ Fits Kind.Base64 (view value.now) }
+{
+    value.as_str().is_some()
 }
 
 fn is_moment(value: &Value) -> bool

@@ -12,7 +12,9 @@ pub(crate) fn object_at(document: &Value, place: PartPlace) -> Option<&Value>
     ensures { option_map (λ v. view v.now) result ≡ object_of place (view document.now) }
 {
     match place {
-        PartPlace::Policy | PartPlace::Layout => Some(document),
+        PartPlace::Policy | PartPlace::Layout | PartPlace::Envelope | PartPlace::Link => {
+            Some(document)
+        }
         PartPlace::Expectation(number) => item_at(document, "expectations", number),
         PartPlace::Step(number) => item_at(document, "steps", number),
         PartPlace::Inspection(number) => item_at(document, "inspect", number),

@@ -1,11 +1,14 @@
-//! Notes on what a part of the input is that does not read: which member of a policy or of a layout
-//! is wrong, which rule, and what is wrong with a line of a digest list. Every note is true.
+//! Notes on what a part of the input is that does not read: which member of a policy, a layout, an
+//! envelope or a link is wrong, which rule, and what is wrong with a line of a digest list. Every
+//! note is true.
 #![tactic(auto)]
 
 mod bad_rule;
+pub mod envelope_part_note;
 mod fit;
 mod item_at;
 pub mod layout_part_note;
+pub mod link_part_note;
 pub mod member;
 mod members;
 mod part_line;

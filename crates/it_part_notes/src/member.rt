@@ -38,6 +38,14 @@ pub enum Kind {
     Items,
     /// A list of artifact rules.
     Rules,
+    /// A text in base64.
+    Base64,
+    /// A list of signatures (DSSE v1.0).
+    Signatures,
+    /// The text `link`.
+    LinkWord,
+    /// An object from path to digest set.
+    Artifacts,
 }
 
 impl Member {

@@ -1,6 +1,8 @@
-//! The members that are looked at of each part of a policy and of a layout.
+//! The members that are looked at of each part of a policy and of a layout, of envelopes and links.
 ghost use Rattle.std.specs.Prelude.{◌≡◌, map};
+ghost use Rattle.it_part_notes.specs.Members.{envelope_members as of_envelope};
 ghost use Rattle.it_part_notes.specs.Members.{layout_members as of_layout};
+ghost use Rattle.it_part_notes.specs.Members.{link_members as of_link};
 ghost use Rattle.it_part_notes.specs.Members.{policy_members as of_policy, shown};
 
 use crate::member::{Kind, Member};
@@ -54,4 +56,27 @@ pub(crate) fn layout_members(part: &LayoutPart) -> &'static [Member]
             Member::Optional("expected_products", Kind::Rules),
         ],
     }
+}
+
+/// The members of an envelope, in the order in which they are looked at. Takes no memory.
+pub(crate) fn envelope_members() -> &'static [Member]
+    ensures { map shown result.now ≡ of_envelope }
+{
+    &[
+        Member::Needed("payload", Kind::Base64),
+        Member::Needed("payloadType", Kind::Text),
+        Member::Needed("signatures", Kind::Signatures),
+    ]
+}
+
+/// The members of a link, in the order in which they are looked at. Takes no memory.
+pub(crate) fn link_members() -> &'static [Member]
+    ensures { map shown result.now ≡ of_link }
+{
+    &[
+        Member::Needed("_type", Kind::LinkWord),
+        Member::Needed("name", Kind::Text),
+        Member::Optional("materials", Kind::Artifacts),
+        Member::Optional("products", Kind::Artifacts),
+    ]
 }

@@ -1,4 +1,4 @@
-//! Notes on a part of a policy or of a layout, as lines for people.
+//! Notes on a part of a document, as lines for people.
 ghost use Rattle.std.specs.Prelude.{◌≡◌, ◌++◌, OnOk, decimal};
 ghost use Rattle.std.specs.List.{flat_map};
 ghost use Rattle.it_part_notes.specs.Members.{shown};
@@ -14,8 +14,9 @@ use it_report::name::push_name;
 use std::alloc::AllocError;
 
 impl PartNote {
-    /// Appends the note as a line for people, which ends with a line feed. The words of a rule are
-    /// written as reports write names.
+    /// Appends the note as a line for people, which ends with a line feed. A note on an envelope or
+    /// a link is to stand behind the name of its file. The words of a rule are written as reports
+    /// write names.
     ///
     /// # Errors
     ///
@@ -35,6 +36,7 @@ fn document_of(place: PartPlace) -> &'static str
     match place {
         PartPlace::Policy | PartPlace::Expectation(_) => "policy: ",
         PartPlace::Layout | PartPlace::Step(_) | PartPlace::Inspection(_) => "layout: ",
+        PartPlace::Envelope | PartPlace::Link => "",
     }
 }
 
@@ -60,7 +62,8 @@ fn push_object(text: &mut Vec<u8>, place: PartPlace) -> Result<(), AllocError>
     ensures { OnOk result (text.new.items ≡ text.old.items ++ object_form place) }
 {
     match place {
-        PartPlace::Policy | PartPlace::Layout => push_text(text, "it"),
+        PartPlace::Policy | PartPlace::Layout | PartPlace::Envelope => push_text(text, "it"),
+        PartPlace::Link => push_text(text, "its payload"),
         PartPlace::Expectation(_) | PartPlace::Step(_) | PartPlace::Inspection(_) => {
             push_place(text, "", place)
         }
@@ -123,6 +126,10 @@ fn unfit_words(kind: Kind) -> &'static str
         Kind::Builders => " is not a list of builders",
         Kind::Object => " is not an object",
         Kind::Items | Kind::Rules => " is not a list",
+        Kind::Base64 => " is not a text in base64",
+        Kind::Signatures => " is not a list of signatures",
+        Kind::LinkWord => " is not the text link",
+        Kind::Artifacts => " is not an object of digest sets",
     }
 }
 
@@ -180,7 +187,16 @@ fn push_place(text: &mut Vec<u8>, before: &str, place: PartPlace) -> Result<(), 
         PartPlace::Expectation(number) => push_item(text, before, "expectation ", number),
         PartPlace::Step(number) => push_item(text, before, "step ", number),
         PartPlace::Inspection(number) => push_item(text, before, "inspection ", number),
+        PartPlace::Envelope => push_both(text, before, "the envelope"),
+        PartPlace::Link => push_both(text, before, "the link"),
     }
+}
+
+fn push_both(text: &mut Vec<u8>, before: &str, words: &str) -> Result<(), AllocError>
+    ensures { OnOk result (text.new.items ≡ text.old.items ++ before.now ++ words.now) }
+{
+    push_text(text, before)?;
+    push_text(text, words)
 }
 
 fn push_item(text: &mut Vec<u8>, before: &str, item: &str, number: usize) -> Result<(), AllocError>

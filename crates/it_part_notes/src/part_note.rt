@@ -1,10 +1,10 @@
-//! Notes on a part of a policy or of a layout that fails.
+//! Notes on a part of a policy or of a layout that fails, and on a file of a step.
 
 use crate::member::Member;
 use it_base::sequence::Sequence;
 use it_base::text::Text;
 
-/// What is wrong with a part of a policy or of a layout.
+/// What is wrong with a part of a policy or of a layout, or with what a file of a step holds.
 #[derive(Drop)]
 pub struct PartNote {
     /// Where the object stands that is looked at.
@@ -13,7 +13,7 @@ pub struct PartNote {
     pub problem: Problem,
 }
 
-/// A place of a policy or of a layout. Numbers count from 0.
+/// A place of a policy, of a layout, or of what a file of a step holds. Numbers count from 0.
 #[derive(Clone, Copy, Debug, PartialEq, Eq)]
 pub enum PartPlace {
     /// The whole policy.
@@ -26,6 +26,10 @@ pub enum PartPlace {
     Step(usize),
     /// This inspection of a layout.
     Inspection(usize),
+    /// The whole envelope (DSSE v1.0).
+    Envelope,
+    /// The whole link, which is the payload of an envelope.
+    Link,
 }
 
 /// What is wrong at a place.

@@ -1,6 +1,7 @@
 //! What is wrong with a part of a document.
-ghost use Rattle.std.specs.Prelude.{◌≡◌, IfOk, IfSome, map, true};
+ghost use Rattle.std.specs.Prelude.{◌≡◌, IfOk, IfSome, IsTrue, is_some, map, true};
 ghost use Rattle.serde_json.specs.View.{view};
+ghost use Rattle.it_base.specs.Document.{member_at};
 ghost use Rattle.it_part_notes.specs.Members.{shown};
 ghost use Rattle.it_part_notes.specs.PartNotes.{IsWhole, TellsFault, TellsPart, TellsProblem};
 
@@ -9,6 +10,7 @@ use crate::fit::is_fit;
 use crate::item_at::object_at;
 use crate::member::{Kind, Member};
 use crate::part_note::{Fault, PartNote, PartPlace, Problem};
+use it_base::base64_text::base64_part;
 use it_base::document::{member, read_document};
 use serde_json::Value;
 use std::alloc::{AllocError, Global};
@@ -46,10 +48,10 @@ fn no_document(place: PartPlace) -> Option<PartNote>
         (note.place ≡ place) × IsWhole note.place × (note.problem ≡ Problem.NoObject)) }
 {
     match place {
-        PartPlace::Policy | PartPlace::Layout => Some(PartNote {
-            place,
-            problem: Problem::NoObject,
-        }),
+        PartPlace::Policy | PartPlace::Layout | PartPlace::Envelope | PartPlace::Link => {
+            let problem = Problem::NoObject;
+            Some(PartNote { place, problem })
+        }
         _ => None,
     }
 }
@@ -85,6 +87,7 @@ fn fault_of(alloc: Global, object: &Value, looked: Member) -> Result<Option<Faul
     }
     match looked.kind() {
         Kind::Rules => rule_fault(alloc, object, looked),
+        Kind::Base64 => base64_fault(alloc, object, looked),
         _ => Ok(None),
     }
 }
@@ -110,4 +113,17 @@ fn rule_fault(alloc: Global, object: &Value, looked: Member) -> Result<Option<Fa
         return Ok(None);
     };
     Ok(Some(Fault::NoRule(bad)))
+}
+
+/// The fault of a member that is there, where it is no text in base64.
+fn base64_fault(alloc: Global, object: &Value, looked: Member) -> Result<Option<Fault>, AllocError>
+    requires kind { (shown looked).kind ≡ Kind.Base64 }
+    requires there { IsTrue (is_some (member_at (shown looked).name (view object.now))) }
+    ensures { IfOk result (λ found.
+        IfSome found (TellsFault (view object.now) (shown looked))) }
+{
+    match base64_part(alloc, object, looked.name())? {
+        Some(_) => Ok(None),
+        None => Ok(Some(Fault::Unfit)),
+    }
 }

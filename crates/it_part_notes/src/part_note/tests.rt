@@ -1,5 +1,7 @@
 use super::PartNote;
+use crate::envelope_part_note::envelope_part_note;
 use crate::layout_part_note::layout_part_note;
+use crate::link_part_note::link_part_note;
 use crate::policy_part_note::policy_part_note;
 use it_docs::layout_fault::{LayoutFault, LayoutPart};
 use it_docs::layout_reading::read_layout;
@@ -257,5 +259,91 @@ fn a_part_that_reads_has_no_note(rt: HostRuntime) -> Result<(), Fail> {
     assert!(rt; deliver.is_none());
     let expectation = policy_part_note(alloc, text.as_bytes(), PolicyPart::Expectation(0))?;
     assert!(rt; expectation.is_none());
+    Ok(())
+}
+
+// The lines of the notes on what is wrong with these envelopes.
+fn of_envelopes(alloc: Global, texts: &[&str]) -> Result<String, Fail> {
+    let mut lines = Vec::new(alloc);
+    for text in texts {
+        let found = envelope_part_note(alloc, text.as_bytes())?;
+        push_note(&mut lines, found)?;
+    }
+    Ok(String::from_utf8(lines).ok().ok_or("no text")?)
+}
+
+// The lines of the notes on what is wrong with these links.
+fn of_links(alloc: Global, texts: &[&str]) -> Result<String, Fail> {
+    let mut lines = Vec::new(alloc);
+    for text in texts {
+        let found = link_part_note(alloc, text.as_bytes())?;
+        push_note(&mut lines, found)?;
+    }
+    Ok(String::from_utf8(lines).ok().ok_or("no text")?)
+}
+
+#[test]
+fn the_member_that_makes_it_no_envelope_is_named(rt: HostRuntime) -> Result<(), Fail> {
+    let texts = [
+        "envelope",
+        "[]",
+        "{}",
+        r#"{"payload":7}"#,
+        r#"{"payload":"!"}"#,
+        r#"{"payload":"e30="}"#,
+        r#"{"payload":"e30=","payloadType":7}"#,
+        r#"{"payload":"e30=","payloadType":"t"}"#,
+        r#"{"payload":"e30=","payloadType":"t","signatures":[{}]}"#,
+    ];
+    let lines = of_envelopes(rt.alloc(), &texts)?;
+    let told = "it is no JSON object\n\
+        it is no JSON object\n\
+        the member payload of the envelope is missing\n\
+        the member payload of the envelope is not a text in base64\n\
+        the member payload of the envelope is not a text in base64\n\
+        the member payloadType of the envelope is missing\n\
+        the member payloadType of the envelope is not a text\n\
+        the member signatures of the envelope is missing\n\
+        the member signatures of the envelope is not a list of signatures\n";
+    assert_eq!(rt; lines.as_str(), told);
+    Ok(())
+}
+
+#[test]
+fn the_member_that_makes_it_no_link_is_named(rt: HostRuntime) -> Result<(), Fail> {
+    let texts = [
+        "link",
+        "{}",
+        r#"{"_type":"Link"}"#,
+        r#"{"_type":"link"}"#,
+        r#"{"_type":"link","name":7}"#,
+        r#"{"_type":"link","name":"a","materials":{"b":{"sha256":"12"}}}"#,
+        r#"{"_type":"link","name":"a","products":[]}"#,
+    ];
+    let lines = of_links(rt.alloc(), &texts)?;
+    let told = "its payload is no JSON object\n\
+        the member _type of the link is missing\n\
+        the member _type of the link is not the text link\n\
+        the member name of the link is missing\n\
+        the member name of the link is not a text\n\
+        the member materials of the link is not an object of digest sets\n\
+        the member products of the link is not an object of digest sets\n";
+    assert_eq!(rt; lines.as_str(), told);
+    Ok(())
+}
+
+#[test]
+fn an_envelope_and_a_link_have_no_note(rt: HostRuntime) -> Result<(), Fail> {
+    let envelopes = [
+        r#"{"payload":"e30=","payloadType":"t","signatures":[]}"#,
+        r#"{"payload":"","payloadType":"","signatures":[{"sig":"e30="}]}"#,
+    ];
+    assert!(rt; of_envelopes(rt.alloc(), &envelopes)?.is_empty());
+    let links = [
+        r#"{"_type":"link","name":"a"}"#,
+        r#"{"_type":"link","name":"","materials":{},"products":{},"command":7}"#,
+        r#"{"_type":"layout"}"#,
+    ];
+    assert!(rt; of_links(rt.alloc(), &links)?.is_empty());
     Ok(())
 }

@@ -1,0 +1,22 @@
+//! The note on bytes that are no envelope.
+ghost use Rattle.std.specs.Prelude.{IfOk, IfSome};
+ghost use Rattle.it_part_notes.specs.PartNotes.{TellsEnvelope};
+
+use crate::members::envelope_members;
+use crate::part_note::{PartNote, PartPlace};
+use crate::problem::part_note;
+use std::alloc::{AllocError, Global};
+
+/// Says what is wrong with `bytes` that were read as an envelope (DSSE v1.0): they are no JSON
+/// object, or the first of its members that is wrong.
+///
+/// The answer is `None` where nothing is wrong.
+///
+/// # Errors
+///
+/// `AllocError` where memory was refused.
+pub fn envelope_part_note(alloc: Global, bytes: &[u8]) -> Result<Option<PartNote>, AllocError>
+    ensures { IfOk result (λ found. IfSome found (TellsEnvelope bytes.now)) }
+{
+    part_note(alloc, bytes, PartPlace::Envelope, envelope_members())
+}

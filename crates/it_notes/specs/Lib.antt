@@ -1,3 +1,4 @@
+pub mod FileDetails
 pub mod Level
 pub mod Notes
 pub mod PlaceNotes

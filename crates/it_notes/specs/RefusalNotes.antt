@@ -39,10 +39,11 @@ use Rattle.it_rule_notes.specs.declared.owner_note.OwnerNote.{OwnerNote}
 use Rattle.it_rule_notes.specs.declared.payloads_note.PayloadsNote.{PayloadsNote}
 use Rattle.it_rule_notes.specs.declared.rule_place.RulePlace.{RulePlace}
 use Rattle.it_step_notes.specs.StepNotes.{Holds as TellsStep}
-use Rattle.it_step_notes.specs.declared.note.StepNote.{StepNote}
 use Rattle.it_verify.specs.declared.inputs.Inputs.{Inputs}
+use Rattle.it_notes.specs.FileDetails.{TellsDetail}
 use Rattle.it_notes.specs.Level.{IsLevel, Place}
 use Rattle.it_notes.specs.declared.fault_level.FaultLevel.{FaultLevel}
+use Rattle.it_notes.specs.declared.file_detail.DetailedNote.{DetailedNote}
 use Rattle.it_notes.specs.declared.notes.RefusalNotes.{RefusalNotes}
 use Rattle.it_notes.specs.declared.notes.RefusalNotes.TheVariants as notes
 use Rattle.it_notes.specs.declared.notes.RuleNotes.{RuleNotes}
@@ -60,16 +61,22 @@ pub record TellsMetAt (panel : Panel) (depth : ℕ) (level : FaultLevel) (place 
   pub is_true : TellsMet (setting_of panel level.moment) depth level.signed.layout level.links.now
       note
 
+-- what a file or a key id is for a step of a layout, and what more there is to say of the file
+pub record TellsDetailed (panel : Panel) (level : FaultLevel) (step : Step) (told : DetailedNote)
+    : Type 0 where
+  pub note : TellsStep panel level.signed.layout level.links.now step told.note
+  pub detail : IfSome told.detail (TellsDetail level.links.now step told.note)
+
 -- what is said of a layout at which a delivery was refused
 module _ (panel : Panel) (inputs : Inputs) (level : FaultLevel) (fault : Fault) where
   -- of the step that has too few keys, what the files and key ids are for it
-  pub record TellsThreshold (notes : List StepNote) : Type 0 where
+  pub record TellsThreshold (notes : List DetailedNote) : Type 0 where
     pub step : Step
     pub found : ℕ
     pub needed : ℕ
     pub fault_is : fault ≡ faults.Threshold step.name found needed
     pub in_layout : Contains level.signed.layout.steps step
-    pub are_true : All (TellsStep panel level.signed.layout level.links.now step) notes
+    pub are_true : All (TellsDetailed panel level step) notes
 
   -- when the layout that has expired did
   pub record TellsEnd (note : ExpiryNote) : Type 0 where

@@ -3,8 +3,10 @@
 #![tactic(auto)]
 
 mod bad_parts;
+mod details;
 mod expiry;
 pub mod fault_level;
+pub mod file_detail;
 pub mod layout_notes;
 mod level_notes;
 mod lines;

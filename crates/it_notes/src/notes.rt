@@ -3,6 +3,7 @@ ghost use Rattle.std.specs.Prelude.{IfOk, IfSome, map};
 ghost use Rattle.it_dsse.specs.Panel.{panel_of};
 ghost use Rattle.it_notes.specs.Notes.{AreTrue, TellsLayout, TellsVerdict, TellsWhere};
 
+use crate::file_detail::DetailedNote;
 use crate::layout_notes::LayoutNotes;
 use crate::place_notes::{PlaceNotes, place_notes};
 use crate::refusal_notes::refusal_notes;
@@ -19,7 +20,6 @@ use it_rule_notes::met_note::MetNote;
 use it_rule_notes::owner_note::OwnerNote;
 use it_rule_notes::payloads_note::PayloadsNote;
 use it_rule_notes::rule_note::RuleNote;
-use it_step_notes::note::StepNote;
 use it_verify::inputs::Inputs;
 use std::alloc::{AllocError, Global};
 
@@ -48,8 +48,8 @@ pub enum RefusalNotes {
     Part(PartNote),
     /// Of the line of the digest list that is bad.
     Line(SumLineNote),
-    /// Of the step for which too few keys signed.
-    Step(Vec<StepNote>),
+    /// Of the step for which too few keys signed, and of its files.
+    Step(Vec<DetailedNote>),
     /// Of the owners of the policy.
     Owners(Vec<OwnerNote>),
     /// Of the layout that has expired.

@@ -5,6 +5,7 @@ ghost use Rattle.it_report.specs.declared.refusal.Fault.TheVariants.{Threshold};
 ghost use Rattle.it_verify.specs.declared.inputs.Inputs.{Inputs};
 ghost use Rattle.it_notes.specs.RefusalNotes.{TellsAt};
 
+use crate::details::with_details;
 use crate::fault_level::FaultLevel;
 use crate::notes::RefusalNotes;
 use it_docs::step::Step;
@@ -28,7 +29,8 @@ pub(crate) fn step_told(
         return Ok(RefusalNotes::Nothing);
     };
     let notes = threshold_notes(alloc, layout, level.links, step, panel)?;
-    Ok(RefusalNotes::Step(notes))
+    let told = with_details(alloc, level.links, step, notes)?;
+    Ok(RefusalNotes::Step(told))
 }
 
 /// The step of this name.

@@ -10,6 +10,8 @@ use it_verify::inputs::Inputs;
 use std::alloc::Global;
 use std::test::Fail;
 
+mod steps;
+
 const RING: &str = r#"[{"id":"owner","secret":"6f"},{"id":"carol","secret":"63"},
     {"id":"dave","secret":"64"}]"#;
 

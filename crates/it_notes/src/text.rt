@@ -1,4 +1,5 @@
 //! The notes as lines for people.
+use crate::file_detail::{DetailedNote, FileDetail};
 use crate::layout_notes::LayoutNotes;
 use crate::lines::{Line, Lines};
 use crate::notes::{Notes, RefusalNotes, RuleNotes};
@@ -47,7 +48,7 @@ impl RefusalNotes {
             RefusalNotes::Nothing => Ok(()),
             RefusalNotes::Part(note) => lines.add(note),
             RefusalNotes::Line(note) => lines.add(note),
-            RefusalNotes::Step(notes) => lines.add_all(notes.as_slice()),
+            RefusalNotes::Step(notes) => add_step(lines, notes.as_slice()),
             RefusalNotes::Owners(notes) => lines.add_all(notes.as_slice()),
             RefusalNotes::Expiry(note) => lines.add(note),
             RefusalNotes::Payloads(note) => lines.add(note),
@@ -57,6 +58,17 @@ impl RefusalNotes {
             RefusalNotes::LaidOut => lines.add(&LaidOut),
         }
     }
+}
+
+/// Adds the notes on a step, with what more there is to say of a file right behind its note.
+fn add_step(lines: &mut Lines, notes: &[DetailedNote]) -> Result<(), AllocError> {
+    for told in notes {
+        lines.add(&told.note)?;
+        if let Some(detail) = &told.detail {
+            lines.add(detail)?;
+        }
+    }
+    Ok(())
 }
 
 impl PlaceNotes {
@@ -127,6 +139,12 @@ impl Line for FolderNote {
 impl Line for StepNote {
     fn push_line(&self, text: &mut Vec<u8>) -> Result<(), AllocError> {
         StepNote::push_line(self, text)
+    }
+}
+
+impl Line for FileDetail {
+    fn push_line(&self, text: &mut Vec<u8>) -> Result<(), AllocError> {
+        FileDetail::push_line(self, text)
     }
 }
 

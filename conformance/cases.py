@@ -1,0 +1,49 @@
+"""Whole verifications as data: a small good delivery, what a case changes of it, what it wants.
+
+The documents are made by bench/deliveries.py, where everybody's secret is the own name.
+"""
+
+import json
+import pathlib
+import sys
+
+TOP = pathlib.Path(__file__).resolve().parent.parent
+sys.dont_write_bytecode = True
+sys.path.insert(0, str(TOP / "bench"))
+from deliveries import MOMENT, compact, digest, layout, link, policy, signed, statement, step
+
+DATA = TOP / "crates" / "itv_cases" / "data"
+PEOPLE = ["owner", "builder", "alice", "bob", "carol"]
+DELIVER = [["MATCH", "*", "WITH", "PRODUCTS", "FROM", "build"], ["DISALLOW", "*"]]
+
+
+def ring(people):
+    """The ring of these people."""
+    return json.dumps([{"id": who, "secret": who.encode().hex()} for who in people])
+
+
+def folder(files, folders=()):
+    """A folder of links: files and folders, each list in its order, by their names."""
+    return {"files": [list(file) for file in files], "folders": [list(one) for one in folders]}
+
+
+def good():
+    """The smallest delivery, which is accepted: alice builds `app`, and a builder attests it."""
+    body = layout(["alice"], [step("build", ["alice"], [], [["CREATE", "app"], ["DISALLOW", "*"]])])
+    return {"policy": compact(policy(DELIVER)).decode(), "layout": signed(body, "owner"),
+            "links": folder([("build.alice.link", signed(link("build", [], ["app"]), "alice"))]),
+            "records": [], "provenance": signed(statement(["app"]), "builder") + "\n",
+            "sums": f"{digest('app')}  app\n", "at": MOMENT, "depth": 4, "rings": [ring(PEOPLE)]}
+
+
+def case(name, report, notes, **changed):
+    """A case: its name, the lines of the report and of the notes, and what it changes of `good`."""
+    status = 0 if report[0] == "accepted" else 1
+    return {"name": name, **good(), **changed, "report": "".join(line + "\n" for line in report),
+            "status": status, "notes": list(notes)}
+
+
+def write(name, cases):
+    """Writes a file of cases, each on a line of its own."""
+    lines = [json.dumps(one, ensure_ascii=False, separators=(",", ":")) for one in cases]
+    (DATA / name).write_text("".join(line + "\n" for line in lines), encoding="utf-8")

@@ -12,8 +12,6 @@ pub mod place;
 mod places;
 mod quoted;
 mod rule_notes;
-#[cfg(test)]
-mod tests;
 mod unread;
 mod unread_line;
 pub mod unread_member;

@@ -19,7 +19,5 @@ mod records;
 mod refusal_notes;
 mod rules;
 mod steps;
-#[cfg(test)]
-mod tests;
 mod text;
 pub mod verify_with_notes;

@@ -60,6 +60,3 @@ pub struct BadRule {
     /// The texts of the item, or `None` where it is no list of texts.
     pub words: Option<Sequence<Text>>,
 }
-
-#[cfg(test)]
-mod tests;

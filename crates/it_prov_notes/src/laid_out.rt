@@ -51,39 +51,3 @@ fn is_envelope(alloc: Global, bytes: &[u8]) -> Result<bool, AllocError>
         Err(EnvelopeFault::OutOfMemory) => Err(AllocError),
     }
 }
-
-#[cfg(test)]
-mod tests {
-    use super::*;
-    use std::test::Fail;
-
-    // The payload is `{}` in base64.
-    const LINE: &[u8] = br#"{"payload":"e30=","payloadType":"text/plain","signatures":[]}"#;
-
-    const LAID_OUT: &[u8] = b"{\n  \"payload\": \"e30=\",\n  \"payloadType\": \"text/plain\",\n\
-        \n  \"signatures\": [\n    {\n      \"sig\": \"\"\n    }\n  ]\n}\n";
-
-    // So many times these bytes, each time with an empty line after them.
-    fn times(alloc: Global, count: usize, bytes: &[u8]) -> Result<Vec<u8>, AllocError> {
-        let mut lines = Vec::new(alloc);
-        for _ in 0..count {
-            lines.extend_from_slice(bytes)?;
-            lines.extend_from_slice(b"\n\n")?;
-        }
-        Ok(lines)
-    }
-
-    #[test]
-    fn says_whether_one_envelope_is_over_several_lines(rt: HostRuntime) -> Result<(), Fail> {
-        let alloc = rt.alloc();
-        assert!(rt; is_laid_out(alloc, LAID_OUT)?);
-        assert!(rt; is_laid_out(alloc, times(alloc, 1, LAID_OUT)?.as_slice())?);
-        assert!(rt; !is_laid_out(alloc, times(alloc, 2, LAID_OUT)?.as_slice())?);
-        assert!(rt; !is_laid_out(alloc, LINE)?);
-        assert!(rt; !is_laid_out(alloc, times(alloc, 1, LINE)?.as_slice())?);
-        assert!(rt; !is_laid_out(alloc, times(alloc, 2, LINE)?.as_slice())?);
-        assert!(rt; !is_laid_out(alloc, b"{\n}")?);
-        assert!(rt; !is_laid_out(alloc, b"")?);
-        Ok(())
-    }
-}

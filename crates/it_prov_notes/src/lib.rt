@@ -14,8 +14,6 @@ mod provenance;
 mod shape;
 mod signers;
 mod statement;
-#[cfg(test)]
-mod tests;
 mod words;
 
 pub use laid_out::is_laid_out;

@@ -130,39 +130,3 @@ fn push_difference(
     push_text(text, word_of(difference.side))?;
     push_told(text, " at ", &difference.path, "\n")
 }
-
-#[cfg(test)]
-mod tests {
-    use super::*;
-    use crate::deliveries_tests::{EXPIRES, bundle, layout, ring};
-    use std::test::Fail;
-
-    const ONE: &str = r#"{"_type":"link","name":"build","products":{"b":{},"c d":{}}}"#;
-
-    const OTHER: &str = r#"{"_type":"link","name":"build","products":{"b":{},"z":{}}}"#;
-
-    // The products differ at `c d`, which the one has alone, and at `z`, which the other has alone.
-    #[test]
-    fn two_links_that_differ_are_told(rt: HostRuntime) -> Result<(), Fail> {
-        let alloc = rt.alloc();
-        let layout = layout(alloc)?;
-        let files = [
-            ("build.b.link", "bob", OTHER),
-            ("build.a.link", "alice", ONE),
-        ];
-        let links = bundle(alloc, &files)?;
-        let level = Level {
-            layout: &layout,
-            links: &links,
-            moment: EXPIRES,
-        };
-        let panel: [Box<dyn SignatureCheck>; 1] = [Box::new(alloc, ring(alloc)?)?];
-        let note = disagree_note(alloc, &level, "build", "bob", &panel)?.ok_or("no note")?;
-        let mut line = Vec::new(alloc);
-        note.push_line(&mut line)?;
-        let told: &[u8] = b"layout: the links build.b.link and build.a.link of step build \
-            differ in the products at c\\x20d\n";
-        assert_eq!(rt; line.as_slice(), told);
-        Ok(())
-    }
-}

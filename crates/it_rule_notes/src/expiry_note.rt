@@ -82,29 +82,3 @@ impl ExpiryNote {
         push_told(text, ", and the verification is of ", &self.moment, "\n")
     }
 }
-
-#[cfg(test)]
-mod tests {
-    use super::*;
-    use std::test::Fail;
-
-    const BODY: &[u8] = br#"{"_type":"layout","expires":"2030-01-01T00:00:00Z"}"#;
-
-    #[test]
-    fn the_two_moments_are_told_as_they_are_written(rt: HostRuntime) -> Result<(), Fail> {
-        let note = expiry_note(rt.alloc(), BODY, "2030-01-01T00:00:01Z")?.ok_or("no note")?;
-        let mut line = Vec::new(rt.alloc());
-        note.push_line(&mut line)?;
-        let told: &[u8] = b"layout: it expired at 2030-01-01T00:00:00Z, \
-            and the verification is of 2030-01-01T00:00:01Z\n";
-        assert_eq!(rt; line.as_slice(), told);
-        Ok(())
-    }
-
-    #[test]
-    fn nothing_is_told_at_the_moment_itself(rt: HostRuntime) -> Result<(), Fail> {
-        assert!(rt; expiry_note(rt.alloc(), BODY, "2030-01-01T00:00:00Z")?.is_none());
-        assert!(rt; expiry_note(rt.alloc(), b"{}", "2031-01-01T00:00:00Z")?.is_none());
-        Ok(())
-    }
-}

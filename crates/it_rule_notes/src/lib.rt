@@ -4,8 +4,6 @@
 
 mod bare_layout;
 pub mod counting_file;
-#[cfg(test)]
-mod deliveries_tests;
 pub mod difference;
 pub mod disagree_note;
 pub mod expiry_note;

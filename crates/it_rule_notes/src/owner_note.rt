@@ -88,38 +88,3 @@ impl OwnerNote {
         }
     }
 }
-
-#[cfg(test)]
-mod tests {
-    use super::*;
-    use it_base::parts::from_bytes;
-    use it_dsse::ring::HmacRing;
-    use it_dsse::signing::sign;
-    use std::test::Fail;
-
-    const RING: &str = r#"[{"id":"alice","secret":"616c696365"},{"id":"bob","secret":"626f62"}]"#;
-
-    const OWNERS: &str = r#"{"alice":{"scheme":"hmac-sha256"},"bob":{"scheme":"hmac-sha256"},
-        "carol o":{"scheme":"hmac-sha256"}}"#;
-
-    // Bob signed: nobody else did, and the panel knows no key of carol's.
-    #[test]
-    fn it_is_told_of_each_owner_whether_the_owner_signed(rt: HostRuntime) -> Result<(), Fail> {
-        let alloc = rt.alloc();
-        let ring = HmacRing::read(alloc, RING.as_bytes())?;
-        let envelope = sign(alloc, &ring, "bob", "application/vnd.in-toto+json", b"{}")?;
-        let owners = from_bytes::<Table<KeyObject>>(alloc, OWNERS.as_bytes())?;
-        let owners = owners.ok_or("no owners")?;
-        let panel: [Box<dyn SignatureCheck>; 1] = [Box::new(alloc, ring)?];
-        let notes = owner_notes(alloc, &owners, &envelope, &panel)?;
-        let mut lines = Vec::new(alloc);
-        for note in &notes {
-            note.push_line(&mut lines)?;
-        }
-        let told: &[u8] = b"layout: owner alice did not sign the layout\n\
-            layout: owner bob signed the layout\n\
-            layout: owner carol\\x20o did not sign the layout\n";
-        assert_eq!(rt; lines.as_slice(), told);
-        Ok(())
-    }
-}

@@ -16,8 +16,6 @@ pub mod signed_layout;
 mod signing_ids;
 mod step_at;
 pub mod sublayout;
-#[cfg(test)]
-mod tests;
 mod threshold;
 
 pub use threshold::threshold_notes;

@@ -1,20 +1,14 @@
 -- The envelopes that the index gives for a SHA-256, among all.
 use Rattle.std.proofs.Common.{◌≡◌, ◌<◌, ◌≤◌, ◌+◌, ◌*◌, ℕ, zero, suc, List, [], ◌∷◌}
-use Rattle.std.proofs.Common.{true, false, Option, Some, None}
-use Rattle.std.proofs.Common.{Contains, length, take, get_or, inl, inr, refl, sym, ap, subst, ◌∙◌}
-use Rattle.std.proofs.Common.{arith, drop, bytes_eq, le_trans, mul-le-mul_left}
-use Rattle.std.specs.List.{list_any, slice_get, sum_by}
+use Rattle.std.proofs.Common.{true, Option, Some, None, IfSome}
+use Rattle.std.proofs.Common.{Contains, length, take, get_or, refl, sym, ap, subst, ◌∙◌}
+use Rattle.std.proofs.Common.{arith, drop, le_trans, mul-le-mul_left}
+use Rattle.std.specs.List.{slice_get, sum_by}
 use Rattle.std.specs.Option.{option_map_or}
-use Rattle.std.proofs.lemmas.List.Folds.{list_any-from_Any}
 use Rattle.std.proofs.lemmas.Option.{get_or_from_slice_get, slice_get-get_or}
 use Rattle.std.proofs.lemmas.Option.{same_Some, slice_get_read, slice_get_within}
 use Rattle.std.proofs.lemmas.List.Elements.{Contains-get_or}
-use Rattle.std.proofs.lemmas.Slice.Eq.{bytes_eq-Decides}
-use Rattle.it_base.proofs.Settled.{settled_by}
-use Rattle.it_digest.specs.Compare.{Agree, Differ}
-use Rattle.it_digest.specs.DigestSet.{Algorithm, in_sha256, in_sha384, in_sha512, only_sha256}
-use Rattle.it_digest.specs.DigestSet.{value_in}
-use Rattle.it_digest.specs.declared.compare.DigestSet.{DigestSet}
+use Rattle.it_digest.specs.DigestSet.{only_sha256}
 use Rattle.it_dsse.specs.Panel.{Panel}
 use Rattle.it_dsse.specs.declared.envelope.Envelope.{Envelope}
 use Rattle.it_docs.specs.declared.policy.Expectation.{Expectation}
@@ -22,7 +16,7 @@ use Rattle.it_docs.specs.declared.statement.Statement.{Statement}
 use Rattle.it_docs.proofs.Same.{statement_same}
 use Rattle.it_prov.specs.Best.{MeetsAtLevel}
 use Rattle.it_prov.specs.Held.{AreHeld, HoldsOrNone}
-use Rattle.it_prov.specs.Index.{has_sha256, names_sha256, places_where}
+use Rattle.it_prov.specs.Index.{names_sha256, places_where}
 use Rattle.it_prov.specs.declared.attestations.Attestation.{Attestation}
 use Rattle.it_prov.proofs.Holding.{zip_stands}
 use Rattle.it_prov.proofs.Saying.{held_of}
@@ -30,50 +24,15 @@ use Rattle.it_prov.proofs.Asking.{Leaves, leaves_each}
 use Rattle.it_prov.proofs.Greatest.{SoFar, greatest_alike, none_enough, so_far_all}
 use Rattle.it_prov.proofs.Meeting.{level_of}
 use Rattle.it_prov.proofs.Places.{where_at, where_before, where_has, where_sum}
-use Rattle.it_prov.proofs.Searching.{stands_in}
+use Rattle.it_prov.proofs.Searching.{read_at, stands_in}
+use Rattle.it_prov.proofs.Subjects.{named_has, some_agree}
 use Rattle.it_prov.specs.Finding.{NoneMeets}
 use Rattle.it_prov.specs.Meets.{Meets}
 use Rattle.it_prov.specs.Cost.{signature_count}
 use Rattle.it_dsse.specs.Meter.{RaisedBy}
 use Rattle.it_dsse.specs.declared.meter.Meter.{Meter}
 use Rattle.it_prov.specs.Best.{IsBest, IsGreatest}
-use Rattle.it_prov.specs.inside.Judged.{OfSome}
-
--- ---- a subject
-same_value : (subject : DigestSet) (digest a b : List ℕ) → subject.sha256 ≡ Some a
-    → Some digest ≡ Some b → ¬ Differ subject (only_sha256 digest) → a ≡ digest
-same_value subject digest a b first second alike =
-    elim (settled_by (bytes_eq a digest) (bytes_eq-Decides a digest)) [
-      | inl same ↦ same
-      | inr other ↦ absurd (alike (record {
-        algorithm = in_sha256;
-        in_a = a;
-        in_b = digest;
-        in_both = record { first = first; second = refl };
-        unequal = other;
-      }))
-    ]
-
-agree_by : (subject : DigestSet) (digest : List ℕ) (algorithm : Algorithm) (a b : List ℕ)
-    → value_in algorithm subject ≡ Some a → value_in algorithm (only_sha256 digest) ≡ Some b
-    → ¬ Differ subject (only_sha256 digest) → has_sha256 digest subject ≡ true
-agree_by subject digest in_sha256 a b first second alike =
-    ap (λ o. option_map_or (bytes_eq digest) o false) first
-    ∙ (bytes_eq-Decides digest a).1 (sym (same_value subject digest a b first second alike))
-agree_by subject digest in_sha384 a b first second alike = cc
-agree_by subject digest in_sha512 a b first second alike = cc
-
--- a subject that agrees with a SHA-256 alone has it
-agree_sha256 : (subject : DigestSet) (digest : List ℕ) → Agree subject (only_sha256 digest)
-    → has_sha256 digest subject ≡ true
-agree_sha256 subject digest h = agree_by subject digest h.algorithm h.in_a h.in_b h.in_both.first
-    h.in_both.second h.no_difference
-
-some_agree : (subjects : List DigestSet) (subject : DigestSet) (digest : List ℕ)
-    → Contains subjects subject → Agree subject (only_sha256 digest)
-    → list_any (has_sha256 digest) subjects ≡ true
-some_agree subjects subject digest c h = list_any-from_Any (has_sha256 digest) subjects
-    (c.0, subject, c.1, c.2, agree_sha256 subject digest h)
+use Rattle.it_prov.specs.inside.Judged.{HasSubject, OfSome}
 
 take_stands : (p : ℕ) (es : List Envelope) (q : ℕ) (e : Envelope)
     → slice_get (take p es) q ≡ Some e → (slice_get es q ≡ Some e) × (q < p)
@@ -218,6 +177,19 @@ listed_within digest held places j are below =
     let within = slice_get_within held at.0 at.1 at.3 in
     let is = at.2 in
     omega (arith, within, is)
+
+-- and what is held at it has a subject of the SHA-256
+pub listed_has : (digest : List ℕ) (held : List (Option Attestation)) (places : List ℕ) (j : ℕ)
+    → places ≡ places_where (names_sha256 digest) 0 held → j < length places
+    → (h : Option Attestation) → h ≡ get_or held (get_or places j 0) h
+    → IfSome h (HasSubject (only_sha256 digest))
+listed_has digest held places j are below h here =
+    let p = get_or places j 0 in
+    let at = where_at (names_sha256 digest) 0 held p
+    (subst (λ ps. Contains ps p) are (Contains-get_or places j 0 below)) in
+    let same : at.0 ≡ p = let is = at.2 in omega (arith, is) in
+    named_has digest h (ap (names_sha256 digest)
+    (read_at held p at.1 h here (subst (λ i. slice_get held i ≡ Some at.1) same at.3)) ∙ at.4)
 
 -- the greatest level of the envelope at a place is that of the place
 pub reaches_greatest : (panel : Panel) (expectation : Expectation) (digest : List ℕ)

@@ -17,4 +17,5 @@ pub mod Places
 pub mod Saying
 pub mod Searching
 pub mod Signing
+pub mod Subjects
 pub mod Trees

@@ -15,7 +15,8 @@ use Rattle.it_prov.specs.Best.{MeetsAtLevel}
 use Rattle.it_prov.specs.Cost.{key_count}
 use Rattle.it_prov.specs.Held.{IsHeld}
 use Rattle.it_prov.specs.inside.Judged.{IsAskedOfBuilders, IsBuiltBy, IsEnoughOrGreatest, IsReached}
-use Rattle.it_prov.specs.inside.Judged.{OfSome, SaysExpected}
+use Rattle.it_prov.specs.declared.attestations.Attestation.{Attestation}
+use Rattle.it_prov.specs.inside.Judged.{HasSubject, OfSome, SaysExpected}
 use Rattle.it_prov.specs.Meets.{Attests}
 use Rattle.std.proofs.lemmas.Option.{IfSome_then}
 use Rattle.it_prov.proofs.Asking.{raised_as, raised_none}
@@ -43,36 +44,42 @@ module _ (panel : Panel) (expectations : List Expectation) (expectation : Expect
         reads = a.reads;
       }
 
-  says_attests : (statement : Statement) → IsHeld panel expectations envelope statement
-      → (p : Provenance) → SaysExpected expectation digests statement p
+  says_attests : (a : Attestation) → IsHeld panel expectations envelope a.statement
+      → HasSubject digests a → (p : Provenance) → SaysExpected expectation a.statement p
       → Attests envelope digests p
-  says_attests statement held p h = record {
-    statement = statement;
-    subject = h.subject;
+  says_attests a held has p h = record {
+    statement = a.statement;
+    subject = has.1;
     type_is = held.type_is;
     reads = held.reads;
     provenance_is = h.provenance_is;
-    is_subject = h.is_subject;
-    digests_agree = h.digests_agree;
+    is_subject = (has.0, has.2, has.3);
+    digests_agree = has.4;
   }
 
   meets_says : (statement : Statement) → IsHeld panel expectations envelope statement
       → (level : ℕ) (m : MeetsAtLevel panel expectation digests envelope level)
-      → SaysExpected expectation digests statement m.besides_level.provenance
+      → SaysExpected expectation statement m.besides_level.provenance
   meets_says statement held level m =
       let a = m.besides_level.attests in
-      let says : SaysExpected expectation digests a.statement m.besides_level.provenance = record {
-        subject = a.subject;
+      let says : SaysExpected expectation a.statement m.besides_level.provenance = record {
         provenance_is = a.provenance_is;
-        is_subject = a.is_subject;
-        digests_agree = a.digests_agree;
         expected = record {
           build_type = m.besides_level.build_type;
           parameters = m.besides_level.parameters;
         };
       } in
-      subst (λ (s : Statement). SaysExpected expectation digests s m.besides_level.provenance)
+      subst (λ (s : Statement). SaysExpected expectation s m.besides_level.provenance)
       (statement_same envelope.payload a.statement statement a.reads held.reads) says
+
+  meets_has : (a : Attestation) → IsHeld panel expectations envelope a.statement
+      → (level : ℕ) → MeetsAtLevel panel expectation digests envelope level → HasSubject digests a
+  meets_has a held level m =
+      let at = m.besides_level.attests in
+      let c = subst (λ (s : Statement). Contains s.subjects at.subject)
+      (statement_same envelope.payload at.statement a.statement at.reads held.reads) at.is_subject
+      in
+      (c.0, at.subject, c.1, c.2, at.digests_agree)
 
   -- ---- with which level an envelope meets an expectation in all else
   none_reached : (meter : Meter)
@@ -91,26 +98,33 @@ module _ (panel : Panel) (expectations : List Expectation) (expectation : Expect
   unread_reached meter none =
       none_reached meter (λ level m. none m.besides_level.attests.statement (held_of level m))
 
+  -- none, where no subject has the digests
+  pub unnamed_reached : (meter : Meter) (a : Attestation)
+      → IsHeld panel expectations envelope a.statement → ¬ HasSubject digests a
+      → IsReached panel expectation digests envelope meter meter None
+  unnamed_reached meter a held none =
+      none_reached meter (λ level m. none (meets_has a held level m))
+
   -- none, where the Statement does not say what is expected
   pub unsaid_reached : (meter : Meter) (statement : Statement)
       → IsHeld panel expectations envelope statement
-      → ((p : Provenance) → ¬ SaysExpected expectation digests statement p)
+      → ((p : Provenance) → ¬ SaysExpected expectation statement p)
       → IsReached panel expectation digests envelope meter meter None
   unsaid_reached meter statement held none = none_reached meter
       (λ level m. none m.besides_level.provenance (meets_says statement held level m))
 
   -- and else that of a builder which the Statement names and that signed
-  pub said_reached : (old new : Meter) (statement : Statement)
-      → IsHeld panel expectations envelope statement
-      → (p : Provenance) → SaysExpected expectation digests statement p → (level : Option ℕ)
+  pub said_reached : (old new : Meter) (a : Attestation)
+      → IsHeld panel expectations envelope a.statement → HasSubject digests a
+      → (p : Provenance) → SaysExpected expectation a.statement p → (level : Option ℕ)
       → IsEnoughOrGreatest expectation.level
       (OfSome (IsBuiltBy panel envelope p.builder) expectation.builders) level
       → RaisedBy (λ n. n ≤ key_count expectation.builders * length envelope.signatures) old new
       → IfSome level (λ n. expectation.level ≤ n → RaisedBy (AtLeast
       (IsAskedOfBuilders panel envelope expectation.builders p.builder expectation.level)) old new)
       → IsReached panel expectation digests envelope old new level
-  said_reached old new statement held p says level built most least =
-      let attests = says_attests statement held p says in
+  said_reached old new a held has p says level built most least =
+      let attests = says_attests a held has p says in
       record {
         answer = enough_alike expectation.level
             (OfSome (IsBuiltBy panel envelope p.builder) expectation.builders)

@@ -12,6 +12,7 @@ mod index;
 mod levels;
 mod meets;
 mod parameters;
+mod reached;
 
 pub use finding::{find_among, find_provenance};
-pub use meets::some_agrees;
+pub use reached::some_agrees;

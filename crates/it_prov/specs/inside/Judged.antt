@@ -1,7 +1,7 @@
 -- What the functions that judge an envelope come to, in the words of the definitions. Nothing
 -- that is trusted stands here.
 use Rattle.std.specs.Prelude.{◌≡◌, ◌*◌, ◌<◌, ◌≤◌, ℕ, List, Option, Some, None, Contains}
-use Rattle.std.specs.Prelude.{IfSome, length, slice_get}
+use Rattle.std.specs.Prelude.{Any, IfSome, length, slice_get}
 use Rattle.std.specs.Borrow.{Bor}
 use Rattle.std.specs.BTreeSet.{BTreeSet}
 use Rattle.it_digest.specs.Compare.{Agree}
@@ -79,14 +79,16 @@ pub record IsAskedOfBuilders (panel : Panel) (envelope : Envelope) (builders : L
   pub is_enough : wanted ≤ builder.level
   pub tried : n ≡ tries panel envelope built.signed.id built.signed.object
 
--- a subject of the Statement has the digests, and it has this provenance, which is expected
-pub record SaysExpected (expectation : Expectation) (digests : DigestSet)
-    (statement : Statement) (provenance : Provenance) : Type 0 where
-  pub subject : DigestSet
+-- the Statement has this provenance, which is expected
+pub record SaysExpected (expectation : Expectation) (statement : Statement)
+    (provenance : Provenance) : Type 0 where
   pub provenance_is : statement.provenance ≡ Some provenance
-  pub is_subject : Contains statement.subjects subject
-  pub digests_agree : Agree subject digests
   pub expected : IsExpected expectation provenance
+
+-- a subject of the Statement has the digests
+abbrev pub HasSubject : DigestSet → Attestation → Type 0
+HasSubject digests attestation =
+    Any (λ subject. Agree subject digests) attestation.statement.subjects
 
 -- at a place there is an answer for each of the builders
 pub record HasAnswers (place : ℕ) (builders : List Builder) (attestation : Attestation) : Type 0

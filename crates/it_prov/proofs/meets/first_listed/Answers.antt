@@ -14,7 +14,7 @@ use Rattle.it_prov.specs.Index.{names_sha256, places_where}
 use Rattle.it_prov.specs.inside.Judged.{IsShort}
 use Rattle.it_prov.proofs.Answering.{has_answers}
 use Rattle.it_prov.proofs.Asking.{leaves_at_most, raised_as, raised_still}
-use Rattle.it_prov.proofs.Candidates.{Reaches, best_of_all, listed_within, none_at_all}
+use Rattle.it_prov.proofs.Candidates.{Reaches, best_of_all, listed_has, listed_within, none_at_all}
 use Rattle.it_prov.proofs.Candidates.{leaves_candidate, none_earlier, raised_in_all}
 use Rattle.it_prov.proofs.Candidates.{reaches_greatest, read_there, signatures_at}
 use Rattle.it_prov.proofs.Greatest.{Step, greatest_of_short, so_far_more}
@@ -54,15 +54,15 @@ index-held-requires g c =
     let within = listed_within digest held places j listed c.loop-candidate-test.true in
     omega (arith, within)
 
-pub level_reached-level-requires-clause-names : goal.level_reached-level-requires-clause-names
-level_reached-level-requires-clause-names g c =
+pub level_listed-level-requires-clause-names : goal.level_listed-level-requires-clause-names
+level_listed-level-requires-clause-names g c =
     let attestations = c.args.attestations.now in
     set_at attestations.expectations.now attestations.ignored.items c.args.place
     c.args.expectation.now c.index-ignored.result.now attestations.ignored_are c.requires.stands
     c.index-ignored.ensures
 
-pub level_reached-level-requires-clause-answers : goal.level_reached-level-requires-clause-answers
-level_reached-level-requires-clause-answers g c =
+pub level_listed-level-requires-clause-answers : goal.level_listed-level-requires-clause-answers
+level_listed-level-requires-clause-answers g c =
     let panel = panel_of
     (map (λ check. (goal.SignatureCheck-dyn g (check.vtable, check.value)).meaning check.value)
     c.args.attestations.now.panel.now) in
@@ -82,8 +82,8 @@ level_reached-level-requires-clause-answers g c =
     has_answers panel at.0 expectations c.args.place expectation c.index-held.result.now at.3
     c.requires.stands
 
-pub returns-in-Some-clause-found : goal.returns-in-Some-clause-found
-returns-in-Some-clause-found g c =
+pub returns-in-Some : goal.returns-in-Some
+returns-in-Some g c =
     let panel = panel_of
     (map (λ check. (goal.SignatureCheck-dyn g (check.vtable, check.value)).meaning check.value)
     c.args.attestations.now.panel.now) in
@@ -102,83 +102,47 @@ returns-in-Some-clause-found g c =
     c.index-held.ensures in
     let envelope = at.0 in
     let stands = slice_get_read envelopes _ p envelope refl at.1 at.2 in
-    let told = c.level_reached-level.ensures panel expectations envelope c.requires.stands at.3 in
-    let met : MeetsAtLevel panel expectation (only_sha256 digest) envelope c.in-Some.reached =
-    (rw c.in-Some.is at told.answer).0 in
+    let told = c.level_listed-level.ensures panel expectations envelope c.requires.stands at.3
+    (only_sha256 digest) (listed_has digest held places j listed c.loop-candidate-test.true
+    c.index-held.result.now c.index-held.ensures) in
+    let k = key_count expectation.builders in
     let next = ap (λ ps. slice_get ps j) (sym listed)
     ∙ slice_get-get_or places j 0 c.loop-candidate-test.true in
-    record {
-      envelope = envelope;
-      stands = stands;
-      meets = meets_at panel expectation (only_sha256 digest) envelope c.in-Some.reached met
-          c.if-reached-expectation.true;
-      none_before = none_earlier panel expectations expectation
-          (stands_in expectations c.args.place expectation c.requires.stands) digest envelopes held
-          c.requires.held j c.loop-candidate.best
-          (rw listed at c.loop-candidate.invariant.so_far) p next;
-    }
-
-pub returns-in-Some-clause-at_most : goal.returns-in-Some-clause-at_most
-returns-in-Some-clause-at_most g c =
-    let panel = panel_of
-    (map (λ check. (goal.SignatureCheck-dyn g (check.vtable, check.value)).meaning check.value)
-    c.args.attestations.now.panel.now) in
-    let expectation = c.args.expectation.now in
-    let expectations = c.args.attestations.now.expectations.now in
-    let envelopes = c.args.attestations.now.envelopes.now in
-    let held = c.args.attestations.now.held.items in
-    let digest = c.args.digest.now in
-    let places = c.places_of-places.result.now in
-    let listed : places ≡ places_where (names_sha256 digest) 0 held =
-    c.places_of-places.ensures ∙ c.args.attestations.now.indexed digest in
-    let j = c.loop-candidate.candidate-index in
-    let p = get_or places j 0 in
-    let at = zip_found (HoldsOrNone panel expectations) envelopes held p c.index-held.result.now
-    c.requires.held (listed_within digest held places j listed c.loop-candidate-test.true)
-    c.index-held.ensures in
-    let envelope = at.0 in
-    let stands = slice_get_read envelopes _ p envelope refl at.1 at.2 in
-    let told = c.level_reached-level.ensures panel expectations envelope c.requires.stands at.3 in
-    let k = key_count expectation.builders in
-    let left = leaves_candidate c.args.meter.now c.loop-candidate.meter
-    c.level_reached-level.new.meter k envelopes places j envelope c.loop-candidate-test.true stands
-    c.loop-candidate.invariant.asked told.at_most in
-    raised_in_all envelopes held digest k c.args.meter.now c.level_reached-level.new.meter
-    (zip_length (HoldsOrNone panel expectations) envelopes held c.requires.held)
-    (rw listed at (leaves_at_most (k * sum_by (signatures_at envelopes) (drop (j + 1) places))
-    (k * sum_by (signatures_at envelopes) places) c.args.meter.now c.level_reached-level.new.meter
-    left))
-
-pub returns-in-Some-clause-at_least : goal.returns-in-Some-clause-at_least
-returns-in-Some-clause-at_least g c =
-    let panel = panel_of
-    (map (λ check. (goal.SignatureCheck-dyn g (check.vtable, check.value)).meaning check.value)
-    c.args.attestations.now.panel.now) in
-    let expectation = c.args.expectation.now in
-    let expectations = c.args.attestations.now.expectations.now in
-    let envelopes = c.args.attestations.now.envelopes.now in
-    let held = c.args.attestations.now.held.items in
-    let digest = c.args.digest.now in
-    let places = c.places_of-places.result.now in
-    let listed : places ≡ places_where (names_sha256 digest) 0 held =
-    c.places_of-places.ensures ∙ c.args.attestations.now.indexed digest in
-    let j = c.loop-candidate.candidate-index in
-    let p = get_or places j 0 in
-    let at = zip_found (HoldsOrNone panel expectations) envelopes held p c.index-held.result.now
-    c.requires.held (listed_within digest held places j listed c.loop-candidate-test.true)
-    c.index-held.ensures in
-    let envelope = at.0 in
-    let stands = slice_get_read envelopes _ p envelope refl at.1 at.2 in
-    let told = c.level_reached-level.ensures panel expectations envelope c.requires.stands at.3 in
+    let met : MeetsAtLevel panel expectation (only_sha256 digest) envelope c.in-Some.reached =
+    (rw c.in-Some.is at told.answer).0 in
     let here = IsAskedFor panel expectation (only_sha256 digest) envelope in
     let there = IsAskedAt panel expectation (only_sha256 digest) envelopes p in
     let asked : expectation.level ≤ c.in-Some.reached
-    → RaisedBy (AtLeast here) c.loop-candidate.meter c.level_reached-level.new.meter =
+    → RaisedBy (AtLeast here) c.loop-candidate.meter c.level_listed-level.new.meter =
     rw c.in-Some.is at told.at_least in
-    raised_still _ there c.args.meter.now c.loop-candidate.meter c.level_reached-level.new.meter
-    c.loop-candidate.invariant.asked
-    (raised_as here there (λ n a. record { envelope = envelope; stands = stands; asked = a })
-    c.loop-candidate.meter c.level_reached-level.new.meter (asked c.if-reached-expectation.true))
+    record {
+      found = record {
+        envelope = envelope;
+        stands = stands;
+        meets = meets_at panel expectation (only_sha256 digest) envelope c.in-Some.reached met
+            c.if-reached-expectation.true;
+        none_before = none_earlier panel expectations expectation
+            (stands_in expectations c.args.place expectation c.requires.stands) digest envelopes
+            held c.requires.held j c.loop-candidate.best
+            (rw listed at c.loop-candidate.invariant.so_far) p next;
+      };
+      missing = tt;
+      at_most = raised_in_all envelopes held digest k c.args.meter.now
+          c.level_listed-level.new.meter
+          (zip_length (HoldsOrNone panel expectations) envelopes held c.requires.held)
+          (rw listed at (leaves_at_most (k * sum_by (signatures_at envelopes) (drop (j + 1) places))
+          (k * sum_by (signatures_at envelopes) places) c.args.meter.now
+          c.level_listed-level.new.meter
+          (leaves_candidate c.args.meter.now c.loop-candidate.meter
+          c.level_listed-level.new.meter k envelopes places j envelope c.loop-candidate-test.true
+          stands c.loop-candidate.invariant.asked told.at_most)));
+      at_least = raised_still _ there c.args.meter.now c.loop-candidate.meter
+          c.level_listed-level.new.meter c.loop-candidate.invariant.asked
+          (raised_as here there
+          (λ n a. record { envelope = envelope; stands = stands; asked = a })
+          c.loop-candidate.meter c.level_listed-level.new.meter
+          (asked c.if-reached-expectation.true));
+    }
 
 pub loop-candidate-preserved : goal.loop-candidate-preserved
 loop-candidate-preserved g c =
@@ -200,8 +164,10 @@ loop-candidate-preserved g c =
     c.index-held.ensures in
     let envelope = at.0 in
     let stands = slice_get_read envelopes _ p envelope refl at.1 at.2 in
-    let told = c.level_reached-level.ensures panel expectations envelope c.requires.stands at.3 in
-    let level = c.level_reached-level.result in
+    let told = c.level_listed-level.ensures panel expectations envelope c.requires.stands at.3
+    (only_sha256 digest) (listed_has digest held places j listed c.loop-candidate-test.true
+    c.index-held.result.now c.index-held.ensures) in
+    let level = c.level_listed-level.result in
     let short : IsShort expectation.level level =
     elim c.in_default.branch [
       | in_default-via-in-Some+else-reached-expectation w ↦ rw w.in-Some.is
@@ -231,35 +197,12 @@ loop-candidate-preserved g c =
           (read_there places j c.loop-candidate-test.true) c.loop-candidate.best
           c.greater-best.result c.loop-candidate.invariant.so_far step;
       asked = leaves_candidate c.args.meter.now c.loop-candidate.meter
-          c.level_reached-level.new.meter k envelopes places j envelope
+          c.level_listed-level.new.meter k envelopes places j envelope
           c.loop-candidate-test.true stands c.loop-candidate.invariant.asked told.at_most;
     }
 
-pub returns-clause-missing : goal.returns-clause-missing
-returns-clause-missing g c =
-    let panel = panel_of
-    (map (λ check. (goal.SignatureCheck-dyn g (check.vtable, check.value)).meaning check.value)
-    c.args.attestations.now.panel.now) in
-    let expectation = c.args.expectation.now in
-    let expectations = c.args.attestations.now.expectations.now in
-    let envelopes = c.args.attestations.now.envelopes.now in
-    let held = c.args.attestations.now.held.items in
-    let digest = c.args.digest.now in
-    let places = c.places_of-places.result.now in
-    let listed : places ≡ places_where (names_sha256 digest) 0 held =
-    c.places_of-places.ensures ∙ c.args.attestations.now.indexed digest in
-    let j = c.loop-candidate.candidate-index in
-    let is_expectation = stands_in expectations c.args.place expectation c.requires.stands in
-    let so_far = rw listed at c.loop-candidate.invariant.so_far in
-    let past = rw listed at c.loop-candidate-test.false in (
-      none_at_all panel expectations expectation is_expectation digest envelopes held
-          c.requires.held j c.loop-candidate.best so_far past,
-      best_of_all panel expectations expectation is_expectation digest envelopes held
-          c.requires.held j c.loop-candidate.best so_far past,
-    )
-
-pub returns-clause-at_most : goal.returns-clause-at_most
-returns-clause-at_most g c =
+pub returns : goal.returns
+returns g c =
     let panel = panel_of
     (map (λ check. (goal.SignatureCheck-dyn g (check.vtable, check.value)).meaning check.value)
     c.args.attestations.now.panel.now) in
@@ -273,8 +216,21 @@ returns-clause-at_most g c =
     c.places_of-places.ensures ∙ c.args.attestations.now.indexed digest in
     let j = c.loop-candidate.candidate-index in
     let k = key_count expectation.builders in
-    raised_in_all envelopes held digest k c.args.meter.now c.loop-candidate.meter
-    (zip_length (HoldsOrNone panel expectations) envelopes held c.requires.held)
-    (rw listed at (leaves_at_most (k * sum_by (signatures_at envelopes) (drop j places))
-    (k * sum_by (signatures_at envelopes) places) c.args.meter.now c.loop-candidate.meter
-    c.loop-candidate.invariant.asked))
+    let is_expectation = stands_in expectations c.args.place expectation c.requires.stands in
+    let so_far = rw listed at c.loop-candidate.invariant.so_far in
+    let past = rw listed at c.loop-candidate-test.false in
+    record {
+      found = tt;
+      missing = (
+        none_at_all panel expectations expectation is_expectation digest envelopes held
+            c.requires.held j c.loop-candidate.best so_far past,
+        best_of_all panel expectations expectation is_expectation digest envelopes held
+            c.requires.held j c.loop-candidate.best so_far past,
+      );
+      at_most = raised_in_all envelopes held digest k c.args.meter.now c.loop-candidate.meter
+          (zip_length (HoldsOrNone panel expectations) envelopes held c.requires.held)
+          (rw listed at (leaves_at_most (k * sum_by (signatures_at envelopes) (drop j places))
+          (k * sum_by (signatures_at envelopes) places) c.args.meter.now c.loop-candidate.meter
+          c.loop-candidate.invariant.asked));
+      at_least = tt;
+    }

@@ -66,8 +66,8 @@ level_reached-level-requires-clause-answers g c =
     has_answers panel at.0 expectations c.args.place expectation c.held-item.result at.3
     c.requires.stands
 
-pub returns-in-Some-clause-found : goal.returns-in-Some-clause-found
-returns-in-Some-clause-found g c =
+pub returns-in-Some : goal.returns-in-Some
+returns-in-Some g c =
     let panel = panel_of
     (map (λ check. (goal.SignatureCheck-dyn g (check.vtable, check.value)).meaning check.value)
     c.args.attestations.now.panel.now) in
@@ -80,74 +80,42 @@ returns-in-Some-clause-found g c =
     (rw (← c.deref-held-items.ensures.value) c.loop-index-test.true)
     (rw (← c.deref-held-items.ensures.value) c.held-item.is) in
     let envelope = at.0 in
+    let stands = slice_get_read envelopes _ index envelope refl at.1 at.2 in
     let digests = c.args.digests.now in
     let told = c.level_reached-level.ensures panel expectations envelope c.requires.stands at.3 in
     let level = c.in-Some.reached in
     let met : MeetsAtLevel panel expectation digests envelope level =
     (rw c.in-Some.is at told.answer).0 in
-    record {
-      envelope = envelope;
-      stands = slice_get_read envelopes _ index envelope refl at.1 at.2;
-      meets = meets_at panel expectation digests envelope level met c.if-reached-expectation.true;
-      none_before = λ other stands m.
-          none_enough expectation.level (MeetsAtLevel panel expectation digests)
-          (take index envelopes) c.loop-index.best c.loop-index.invariant.so_far
-          other stands m.builder.level (level_of panel expectation digests other m)
-          m.level_is_enough;
-    }
-
-pub returns-in-Some-clause-at_most : goal.returns-in-Some-clause-at_most
-returns-in-Some-clause-at_most g c =
-    let panel = panel_of
-    (map (λ check. (goal.SignatureCheck-dyn g (check.vtable, check.value)).meaning check.value)
-    c.args.attestations.now.panel.now) in
-    let expectation = c.args.expectation.now in
-    let expectations = c.args.attestations.now.expectations.now in
-    let envelopes = c.args.attestations.now.envelopes.now in
-    let index = c.loop-index.index in
-    let at = zip_found (HoldsOrNone panel expectations) envelopes
-    c.args.attestations.now.held.items index c.held-item.result c.requires.held
-    (rw (← c.deref-held-items.ensures.value) c.loop-index-test.true)
-    (rw (← c.deref-held-items.ensures.value) c.held-item.is) in
-    let envelope = at.0 in
-    let digests = c.args.digests.now in
-    let told = c.level_reached-level.ensures panel expectations envelope c.requires.stands at.3 in
     let k = key_count expectation.builders in
-    leaves_at_most (k * signature_count (drop (index + 1) envelopes)) (k * signature_count
-    envelopes)
-    c.args.meter.now c.level_reached-level.new.meter
-    (leaves_envelope c.args.meter.now c.loop-index.meter c.level_reached-level.new.meter index k
-    envelopes envelope at.1 at.2 c.loop-index.invariant.asked told.at_most)
-
-pub returns-in-Some-clause-at_least : goal.returns-in-Some-clause-at_least
-returns-in-Some-clause-at_least g c =
-    let panel = panel_of
-    (map (λ check. (goal.SignatureCheck-dyn g (check.vtable, check.value)).meaning check.value)
-    c.args.attestations.now.panel.now) in
-    let expectation = c.args.expectation.now in
-    let expectations = c.args.attestations.now.expectations.now in
-    let envelopes = c.args.attestations.now.envelopes.now in
-    let index = c.loop-index.index in
-    let at = zip_found (HoldsOrNone panel expectations) envelopes
-    c.args.attestations.now.held.items index c.held-item.result c.requires.held
-    (rw (← c.deref-held-items.ensures.value) c.loop-index-test.true)
-    (rw (← c.deref-held-items.ensures.value) c.held-item.is) in
-    let envelope = at.0 in
-    let digests = c.args.digests.now in
-    let told = c.level_reached-level.ensures panel expectations envelope c.requires.stands at.3 in
     let here = IsAskedFor panel expectation digests envelope in
     let there = IsAskedAt panel expectation digests envelopes index in
-    let asked : expectation.level ≤ c.in-Some.reached
+    let asked : expectation.level ≤ level
     → RaisedBy (AtLeast here) c.loop-index.meter c.level_reached-level.new.meter =
     rw c.in-Some.is at told.at_least in
-    raised_still _ there c.args.meter.now c.loop-index.meter c.level_reached-level.new.meter
-    c.loop-index.invariant.asked
-    (raised_as here there (λ n a. record {
-      envelope = envelope;
-      stands = slice_get_read envelopes _ index envelope refl at.1 at.2;
-      asked = a;
-    })
-    c.loop-index.meter c.level_reached-level.new.meter (asked c.if-reached-expectation.true))
+    record {
+      found = record {
+        envelope = envelope;
+        stands = stands;
+        meets = meets_at panel expectation digests envelope level met
+            c.if-reached-expectation.true;
+        none_before = λ other stands m.
+            none_enough expectation.level (MeetsAtLevel panel expectation digests)
+            (take index envelopes) c.loop-index.best c.loop-index.invariant.so_far
+            other stands m.builder.level (level_of panel expectation digests other m)
+            m.level_is_enough;
+      };
+      missing = tt;
+      at_most = leaves_at_most (k * signature_count (drop (index + 1) envelopes))
+          (k * signature_count envelopes) c.args.meter.now c.level_reached-level.new.meter
+          (leaves_envelope c.args.meter.now c.loop-index.meter c.level_reached-level.new.meter
+          index k envelopes envelope at.1 at.2 c.loop-index.invariant.asked told.at_most);
+      at_least = raised_still _ there c.args.meter.now c.loop-index.meter
+          c.level_reached-level.new.meter c.loop-index.invariant.asked
+          (raised_as here there
+          (λ n a. record { envelope = envelope; stands = stands; asked = a })
+          c.loop-index.meter c.level_reached-level.new.meter
+          (asked c.if-reached-expectation.true));
+    }
 
 pub loop-index-preserved : goal.loop-index-preserved
 loop-index-preserved g c =
@@ -197,31 +165,33 @@ loop-index-preserved g c =
           c.loop-index.invariant.asked told.at_most;
     }
 
-pub returns-clause-missing : goal.returns-clause-missing
-returns-clause-missing g c =
+pub returns : goal.returns
+returns g c =
     let panel = panel_of
     (map (λ check. (goal.SignatureCheck-dyn g (check.vtable, check.value)).meaning check.value)
     c.args.attestations.now.panel.now) in
     let expectation = c.args.expectation.now in
-    let digests = c.args.digests.now in
+    let expectations = c.args.attestations.now.expectations.now in
     let envelopes = c.args.attestations.now.envelopes.now in
-    let as_many = zip_length (HoldsOrNone panel c.args.attestations.now.expectations.now) envelopes
+    let digests = c.args.digests.now in
+    let as_many = zip_length (HoldsOrNone panel expectations) envelopes
     c.args.attestations.now.held.items c.requires.held in
     let past : length envelopes ≤ c.loop-index.index =
     rw (← as_many, ← c.deref-held-items.ensures.value) c.loop-index-test.false in
     let all = so_far_all expectation.level (MeetsAtLevel panel expectation digests) envelopes
-    c.loop-index.index c.loop-index.best past c.loop-index.invariant.so_far in (
-      λ envelope stands m.
-          none_enough expectation.level (MeetsAtLevel panel expectation digests) envelopes
-          c.loop-index.best all envelope stands m.builder.level
-          (level_of panel expectation digests envelope m) m.level_is_enough,
-      all.greatest,
-    )
-
-pub returns-clause-at_most : goal.returns-clause-at_most
-returns-clause-at_most g c =
-    let k = key_count c.args.expectation.now.builders in
-    leaves_at_most (k * signature_count
-    (drop c.loop-index.index c.args.attestations.now.envelopes.now))
-    (k * signature_count c.args.attestations.now.envelopes.now) c.args.meter.now
-    c.loop-index.meter c.loop-index.invariant.asked
+    c.loop-index.index c.loop-index.best past c.loop-index.invariant.so_far in
+    let k = key_count expectation.builders in
+    record {
+      found = tt;
+      missing = (
+        λ envelope stands m.
+            none_enough expectation.level (MeetsAtLevel panel expectation digests) envelopes
+            c.loop-index.best all envelope stands m.builder.level
+            (level_of panel expectation digests envelope m) m.level_is_enough,
+        all.greatest,
+      );
+      at_most = leaves_at_most (k * signature_count (drop c.loop-index.index envelopes))
+          (k * signature_count envelopes) c.args.meter.now c.loop-index.meter
+          c.loop-index.invariant.asked;
+      at_least = tt;
+    }

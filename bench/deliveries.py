@@ -59,17 +59,17 @@ def key_object():
     return {"keytype": "hmac", "scheme": "hmac-sha256", "keyval": {"public": ""}}
 
 
-def signature(who, payload, hint=True):
-    """Somebody's signature of a payload, with or without the id as a hint."""
-    message = f"DSSEv1 {len(TYPE)} {TYPE} {len(payload)} ".encode() + payload
+def signature(who, payload, hint=True, kind=TYPE):
+    """Somebody's signature of a payload of a type, with or without the id as a hint."""
+    message = f"DSSEv1 {len(kind.encode())} {kind} {len(payload)} ".encode() + payload
     code = hmac.new(who.encode(), message, hashlib.sha256).digest()
     given = {"sig": base64.b64encode(code).decode()}
     return {"keyid": who, **given} if hint else given
 
 
-def envelope(payload, signatures):
-    """The text of an envelope of the in-toto type."""
-    return json.dumps({"payload": base64.b64encode(payload).decode(), "payloadType": TYPE,
+def envelope(payload, signatures, kind=TYPE):
+    """The text of an envelope of a type, which is in-toto's unless another is given."""
+    return json.dumps({"payload": base64.b64encode(payload).decode(), "payloadType": kind,
                        "signatures": signatures})
 
 
@@ -78,10 +78,10 @@ def compact(document):
     return json.dumps(document, separators=(",", ":")).encode()
 
 
-def signed(document, *people):
-    """The text of a document's envelope that these people signed."""
+def signed(document, *people, kind=TYPE):
+    """The text of a document's envelope of a type that these people signed."""
     payload = compact(document)
-    return envelope(payload, [signature(who, payload) for who in people])
+    return envelope(payload, [signature(who, payload, kind=kind) for who in people], kind)
 
 
 def artifacts(paths):

@@ -36,6 +36,12 @@ def good():
             "sums": f"{digest('app')}  app\n", "at": MOMENT, "depth": 4, "rings": [ring(PEOPLE)]}
 
 
+def over(body, *files, **changed):
+    """What a layout and its files change of `good`: a file is a name, a document and a signer."""
+    return {"layout": signed(body, "owner"), **changed,
+            "links": folder([(name, signed(document, who)) for name, document, who in files])}
+
+
 def case(name, report, notes, **changed):
     """A case: its name, the lines of the report and of the notes, and what it changes of `good`."""
     status = 0 if report[0] == "accepted" else 1

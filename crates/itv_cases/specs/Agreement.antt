@@ -1,20 +1,35 @@
 -- Which cases agree (words of this project).
-use Rattle.std.specs.Prelude.{◌≡◌, ◌==◌, ◌&&◌, Bool, map, nat_eq}
+use Rattle.std.specs.Prelude.{◌≡◌, ◌==◌, ◌&&◌, ℕ, List, Option, Some, None, Bool, true, IfSome}
+use Rattle.std.specs.Prelude.{map, nat_eq}
 use Rattle.std.specs.Cmp.Lexicographic.{pointwise}
 use Rattle.it_dsse.specs.Panel.{panel_of}
 use Rattle.it_dsse.specs.Ring.{ring_check}
 use Rattle.itv_cases.specs.Answer.{IsAnswer}
+use Rattle.itv_cases.specs.declared.answer.Answer.{Answer}
 use Rattle.itv_cases.specs.declared.case.Case.{Case}
 use Rattle.itv_cases.specs.declared.run.Run.{Run}
+use Rattle.itv_cases.specs.declared.wanted.Wanted.{Wanted}
 
--- the verification came to what is wanted: the same status, and the same bytes
+-- the answer is what is wanted: the same status, the same bytes of the report, and, where notes are
+-- wanted, the same bytes of the notes
+abbrev pub Meets : Wanted → Answer → Type 0
+Meets wanted answer = (answer.status ≡ wanted.status) × (answer.report ≡ wanted.report)
+    × IfSome wanted.notes (λ notes. answer.notes ≡ notes)
+
+-- the verification came to what is wanted
 abbrev pub Agrees : Run → Type 0
-Agrees run = run.given ≡ run.wanted
+Agrees run = Meets run.wanted run.given
 
--- the same, as a truth value
+-- the notes are these, where any are wanted, as a truth value
+abbrev pub has_notes : Option (List ℕ) → List ℕ → Bool
+has_notes None notes = true
+has_notes (Some wanted) notes = pointwise nat_eq notes wanted
+
+-- the verification came to what is wanted, as a truth value
 abbrev pub agrees : Run → Bool
 agrees run = (run.given.status == run.wanted.status)
     && pointwise nat_eq run.given.report run.wanted.report
+    && has_notes run.wanted.notes run.given.notes
 
 -- the run of a case: what the case wants, and what the verification of its inputs by its rings
 -- comes to

@@ -8,7 +8,7 @@ use Rattle.it_words.specs.declared.outcome.Status.{Status}
 use Rattle.itv_cases.specs.declared.answer.Answer.{Answer}
 
 -- the report is that of the verdict on the inputs, and the status is the exit status that goes with
--- it
+-- it; the notes are left open
 pub record IsAnswer (panel : Panel) (inputs : Inputs) (answer : Answer) : Type 0 where
   pub found : Status
   pub is_output : IsVerifyOutput panel inputs answer.report found

@@ -7,12 +7,13 @@ ghost use Rattle.it_dsse.specs.Panel.{panel_of};
 ghost use Rattle.it_dsse.specs.Ring.{ring_check};
 ghost use Rattle.itv_cases.specs.Answer.{IsAnswer};
 ghost use Rattle.itv_cases.specs.Part.{IsBytes, IsNamed};
-ghost use Rattle.itv_cases.specs.Reading.{InputsOf, WantedOf};
+ghost use Rattle.itv_cases.specs.Reading.{InputsOf};
 
 use crate::answer::Answer;
 use crate::links::read_links;
 use crate::parts::{bytes_of, bytes_part, named_part, needed, number_part, text_part};
 use crate::run::Run;
+use crate::wanted::Wanted;
 use it_base::document::{member, read_document};
 use it_base::sequence::Sequence;
 use it_base::text::Text;
@@ -38,7 +39,7 @@ pub(crate) struct Case {
     /// The rings of secrets that signatures are checked with, in the order of their places.
     pub(crate) rings: Sequence<HmacRing>,
     /// What the other implementation came to.
-    pub(crate) wanted: Answer,
+    pub(crate) wanted: Wanted,
     ghost within_depth: { inputs.depth ≤ 8 },
 }
 
@@ -92,7 +93,7 @@ impl Case {
             name: text_part(alloc, &document, "name")?,
             inputs,
             rings: Sequence::from(rings(alloc, &document)?),
-            wanted: wanted(alloc, &document)?,
+            wanted: Wanted::of_case(alloc, &document)?,
         })
     }
 
@@ -178,13 +179,4 @@ fn read_ring(alloc: Global, bytes: &[u8]) -> Result<HmacRing, CaseFault> {
         Err(RingFault::BadRing) => Err(BAD_RINGS),
         Err(RingFault::OutOfMemory) => Err(CaseFault::OutOfMemory),
     }
-}
-
-fn wanted(alloc: Global, case: &Value) -> Result<Answer, CaseFault>
-    ensures { IfOk result (WantedOf (view case.now)) }
-{
-    Ok(Answer {
-        report: bytes_part(alloc, case, "report")?,
-        status: number_part(case, "status")?,
-    })
 }

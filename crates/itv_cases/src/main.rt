@@ -1,7 +1,7 @@
 //! `itv_cases FILE..`: whether the verification comes to what another implementation came to.
 //!
-//! Each line of a file is a case: the inputs of a verification, and the report and the status that
-//! are wanted. Writes each case that differs, and how many agree.
+//! Each line of a file is a case: the inputs of a verification, and the report, the status and, in
+//! some cases, the notes that are wanted. Writes each case that differs, and how many agree.
 #![tactic(auto)]
 
 ghost use Rattle.std.specs.Prelude.{◌≡◌, ◌+◌, OnOk, length, vec_len};
@@ -14,6 +14,7 @@ mod links;
 mod parts;
 mod run;
 mod summary;
+mod wanted;
 
 use case::Case;
 use fault::{Fault, exit_status};

@@ -2,6 +2,7 @@
 ghost use Rattle.std.specs.Prelude.{◌≡◌, ◌↔◌, IsTrue};
 
 use crate::answer::Answer;
+use crate::wanted::Wanted;
 use it_base::text::Text;
 
 /// What a case wants, and what the verification came to.
@@ -10,8 +11,8 @@ pub(crate) struct Run {
     /// The name of the case.
     pub(crate) name: Text,
     /// What the other implementation came to.
-    pub(crate) wanted: Answer,
-    /// What `run_verify` came to.
+    pub(crate) wanted: Wanted,
+    /// What `verify_with_notes` came to.
     pub(crate) given: Answer,
 }
 
@@ -23,6 +24,6 @@ impl Run {
         ensures equal { IsTrue result ↔ Agrees self.now }
         ensures value { result ≡ agrees self.now }
     {
-        self.given.is_same_as(&self.wanted)
+        self.given.meets(&self.wanted)
     }
 }

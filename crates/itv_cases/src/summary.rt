@@ -2,8 +2,8 @@
 ghost use Rattle.std.specs.Prelude.{◌≡◌, ◌↔◌, All, IsTrue, count_by};
 ghost use Rattle.itv_cases.specs.Agreement.{Agrees, agrees};
 
-use crate::answer::Answer;
 use crate::run::Run;
+use it_base::sequence::Sequence;
 use std::io;
 use std::io::Write;
 
@@ -25,10 +25,7 @@ pub(crate) fn all_agree(runs: &[Run]) -> bool
 pub(crate) fn write_summary<W: Write>(out: &mut W, runs: &[Run]) -> io::Result<()> {
     for run in runs {
         if !run.agrees() {
-            let name = run.name.as_str();
-            writeln!(out, "{name}")?;
-            write_answer(out, "wanted", &run.wanted)?;
-            write_answer(out, "given", &run.given)?;
+            write_difference(out, run)?;
         }
     }
     let agreed = agreed_count(runs);
@@ -36,8 +33,30 @@ pub(crate) fn write_summary<W: Write>(out: &mut W, runs: &[Run]) -> io::Result<(
     writeln!(out, "{agreed} of {count} agree")
 }
 
-fn write_answer<W: Write>(out: &mut W, title: &str, answer: &Answer) -> io::Result<()> {
-    let status = answer.status;
+/// Writes what a case wants and what is given: the status, the report, and the notes.
+fn write_difference<W: Write>(out: &mut W, run: &Run) -> io::Result<()> {
+    let name = run.name.as_str();
+    let Run { wanted, given, .. } = run;
+    writeln!(out, "{name}")?;
+    write_report(out, "wanted", wanted.status, &wanted.report)?;
+    if let Some(notes) = &wanted.notes {
+        write_notes(out, "wanted", notes)?;
+    }
+    write_report(out, "given", given.status, &given.report)?;
+    write_notes(out, "given", &given.notes)
+}
+
+fn write_report<W: Write>(
+    out: &mut W,
+    title: &str,
+    status: u8,
+    report: &Sequence<u8>,
+) -> io::Result<()> {
     writeln!(out, "{title}, with status {status}:")?;
-    out.write_all(answer.report.as_slice())
+    out.write_all(report.as_slice())
+}
+
+fn write_notes<W: Write>(out: &mut W, title: &str, notes: &Sequence<u8>) -> io::Result<()> {
+    writeln!(out, "{title}, as notes:")?;
+    out.write_all(notes.as_slice())
 }

@@ -10,6 +10,7 @@ use it_base::sequence::Sequence;
 use it_base::text::Text;
 use it_dsse::ring::{HmacRing, RingFault};
 use std::alloc::{AllocError, Global};
+use std::fs::OpenFile;
 use std::io::Read;
 use std::rt::Files;
 use std::{fs, io};
@@ -23,7 +24,10 @@ pub(crate) fn read_file<R: Files + AllocGlobal>(rt: &R, path: &str) -> Result<Ve
 {
     let alloc = rt.alloc();
     let bytes = match fs::open(rt, path) {
-        Ok(file) => read_limited(alloc, file, MOST_BYTES),
+        Ok(file) => {
+            let room = room_for(&file);
+            read_limited(alloc, file, MOST_BYTES, room)
+        }
         Err(error) => Err(error),
     };
     match bytes {
@@ -33,6 +37,17 @@ pub(crate) fn read_file<R: Files + AllocGlobal>(rt: &R, path: &str) -> Result<Ve
             limit: MOST_BYTES,
         }),
         Err(error) => Err(Fault::of_file(alloc, path, &error)),
+    }
+}
+
+/// How many bytes there is to be room for before a file is read: as many as the system says that it
+/// has, up to the limit, and one more, by which its end is seen. What the system says is a guess.
+fn room_for<F: OpenFile>(file: &F) -> usize
+    ensures { result ≤ 8388609 }
+{
+    match file.metadata() {
+        Ok(metadata) => (metadata.len().min(MOST_BYTES) + 1) as usize,
+        Err(_) => 0,
     }
 }
 
@@ -78,11 +93,12 @@ fn no_ring(alloc: Global, path: &str, bytes: &[u8]) -> Result<Fault, AllocError>
 }
 
 /// All bytes of a reader, or `None` where there are more than `limit`. Reads one byte beyond the
-/// limit at most.
+/// limit at most. There is `room` for so many bytes from the beginning; for more it is made.
 pub(crate) fn read_limited<R: Read + Drop>(
     alloc: Global,
     reader: R,
     limit: u64,
+    room: usize,
 ) -> io::Result<Option<Vec<u8>>>
     requires { limit < 2 ^ 64 - 1 }
     ensures whole { IfOk result (λ found. IfSome found (λ bytes. IfSome (R.remaining reader)
@@ -91,7 +107,7 @@ pub(crate) fn read_limited<R: Read + Drop>(
     ensures large { IfOk result (λ found. IsNone found
         → IfSome (R.remaining reader) (λ all. limit < length all)) }
 {
-    let mut bytes = Vec::new(alloc);
+    let mut bytes = Vec::with_capacity(alloc, room)?;
     let count = reader.take(limit + 1).read_to_end(&mut bytes)?;
     if count as u64 > limit {
         Ok(None)

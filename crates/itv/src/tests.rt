@@ -34,12 +34,12 @@ fn reads_up_to_the_limit(rt: HostRuntime) -> Result<(), Fail> {
         ("a", 0, false),
     ];
     for (text, limit, fits) in rows {
-        let found = read_limited(alloc, text.as_bytes(), limit)?;
+        let found = read_limited(alloc, text.as_bytes(), limit, 2)?;
         assert_eq!(rt; found.is_some(), fits, "{text} {limit}");
         if let Some(bytes) = found {
             assert_eq!(rt; bytes.as_slice(), text.as_bytes());
         }
     }
-    assert!(rt; read_limited(alloc, Broken { is_begun: false }, 9).is_err());
+    assert!(rt; read_limited(alloc, Broken { is_begun: false }, 9, 0).is_err());
     Ok(())
 }

@@ -23,8 +23,8 @@ whole_known (Some all) before read most limit one_more empty taken short =
 pub returns-else-count-limit-clause-whole : goal.returns-else-count-limit-clause-whole
 returns-else-count-limit-clause-whole g c =
     let short : length c.read_to_end.new.buf.items ≤ c.args.limit =
-    omega (arith, c.in_ok-count.ensures.ok, c.new-bytes.ensures.len, c.read_to_end.new.buf.ok.0) in
-    let known = whole_known (g.R.Read.remaining c.take.result.inner) c.new-bytes.result.items
+    omega (arith, c.in_ok-count.ensures.ok, c.in_ok-bytes.ensures.len, c.read_to_end.new.buf.ok.0) in
+    let known = whole_known (g.R.Read.remaining c.take.result.inner) c.in_ok-bytes.bytes.items
     c.read_to_end.new.buf.items c.take.result.limit c.args.limit
-    c.take.ensures.limit c.new-bytes.ensures.items c.in_ok-count.ensures.bytes short in
+    c.take.ensures.limit c.in_ok-bytes.ensures.items c.in_ok-count.ensures.bytes short in
     rw c.take.ensures.inner at known

@@ -50,6 +50,10 @@ def case(name, report, notes, **changed):
 
 
 def write(name, cases):
-    """Writes a file of cases, each on a line of its own."""
+    """Writes a file of cases, each on a line of its own; with `--check` it must be there already."""
     lines = [json.dumps(one, ensure_ascii=False, separators=(",", ":")) for one in cases]
-    (DATA / name).write_text("".join(line + "\n" for line in lines), encoding="utf-8")
+    text = "".join(line + "\n" for line in lines)
+    if sys.argv[1:] != ["--check"]:
+        (DATA / name).write_text(text, encoding="utf-8")
+    elif (DATA / name).read_text(encoding="utf-8") != text:
+        sys.exit(f"{name} is not what its script writes")

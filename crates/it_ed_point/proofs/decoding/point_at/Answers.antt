@@ -1,7 +1,7 @@
 use Rattle.std.proofs.Common.{ap, sym, ◌∙◌, ℕ}
 use Rattle.std.specs.Option.{option_and_then}
 use Rattle.it_ed_point.specs.Encoding.{signed_point}
-use Rattle.it_ed_point.proofs.Decoding.{point_by}
+use Rattle.it_ed_point.proofs.Decoded.{point_by}
 use Rattle.it_ed_point.proofs.decoding.point_at.Goals as goal
 
 pub returns-in-None : goal.returns-in-None

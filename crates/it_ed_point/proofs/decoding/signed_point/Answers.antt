@@ -1,6 +1,6 @@
 use Rattle.std.proofs.Common.{ap, ◌∙◌, Some}
 use Rattle.it_ed_point.specs.declared.point.Point.{Point}
-use Rattle.it_ed_point.proofs.Decoding.{no_signed, one_signed, affine_is}
+use Rattle.it_ed_point.proofs.Decoded.{no_signed, one_signed, affine_is}
 use Rattle.it_ed_point.proofs.decoding.signed_point.Goals as goal
 
 pub returns-then-is_odd_zero : goal.returns-then-is_odd_zero

@@ -62,16 +62,22 @@ fn differs_if_one_algorithm_does_and_agrees_if_one_does(rt: HostRuntime) {
     }
 }
 
-/// A map with `é`, `a` and `B`, all with one digest: `a` was put in with another before. Whether
-/// each call of `insert` answered what stood there before.
-fn filled(alloc: Global) -> Result<(Artifacts, bool), AllocError> {
-    let mut map = Artifacts::new(alloc);
-    let first = map.insert(String::from_str(alloc, "é")?, SHORT_ABC)?;
-    let second = map.insert(String::from_str(alloc, "a")?, SHORT_NOTHING)?;
-    let third = map.insert(String::from_str(alloc, "B")?, SHORT_ABC)?;
-    let again = map.insert(String::from_str(alloc, "a")?, SHORT_ABC)?;
-    let are_new = first.is_none() && second.is_none() && third.is_none();
-    Ok((map, are_new && again == Some(SHORT_NOTHING)))
+// What is put into a map, and what stood there before.
+const PUT: [(&str, DigestSet, Option<DigestSet>); 4] = [
+    ("é", SHORT_ABC, None),
+    ("a", SHORT_NOTHING, None),
+    ("B", SHORT_ABC, None),
+    ("a", SHORT_ABC, Some(SHORT_NOTHING)),
+];
+
+fn put(
+    alloc: Global,
+    map: &mut Artifacts,
+    path: &str,
+    digests: DigestSet,
+) -> Result<Option<DigestSet>, AllocError> {
+    let path = String::from_str(alloc, path)?;
+    map.insert(path, digests)
 }
 
 /// Whether the map's paths are these, in this order.
@@ -101,9 +107,12 @@ fn has_entries(map: &Artifacts, paths: &[&str], digests: DigestSet) -> bool {
 
 #[test]
 fn maps_paths(rt: HostRuntime) -> Result<(), Fail> {
-    assert!(rt; Artifacts::new(rt.alloc()).is_empty());
-    let (map, well) = filled(rt.alloc())?;
-    assert!(rt; well);
+    let mut map = Artifacts::new(rt.alloc());
+    assert!(rt; map.is_empty());
+    for (path, digests, before) in PUT.as_slice() {
+        let found = put(rt.alloc(), &mut map, path, *digests)?;
+        assert!(rt; found == *before, "{path}");
+    }
     assert!(rt; !map.is_empty());
     assert!(rt; map.get("a") == Some(SHORT_ABC));
     assert!(rt; map.get("b").is_none());

@@ -114,7 +114,9 @@ fn lists_the_ids_of_a_ring(rt: HostRuntime) -> Result<(), Fail> {
 
 // The number of a key, the parts of a message, how many bytes of the code of `message` under the
 // secret `alice` there are, and whether they are a signature.
-const CHECKED: [(u32, &[&[u8]], usize, bool); 7] = [
+type Checked = (u32, &'static [&'static [u8]], usize, bool);
+
+const CHECKED: [Checked; 7] = [
     (1, &[b"message"], 32, true),
     (1, &[b"mess", b"", b"age"], 32, true),
     (1, &[b"age", b"mess"], 32, false),
@@ -124,6 +126,15 @@ const CHECKED: [(u32, &[&[u8]], usize, bool); 7] = [
     (5, &[b"message"], 32, false),
 ];
 
+/// Whether the ring says of a code what a row says.
+fn is_as_said(ring: &HmacRing, code: &[u8], row: &Checked, meter: &mut Meter) -> bool {
+    let (key, message, length, want) = *row;
+    match code.get(..length) {
+        Some(sig) => ring.valid(key, message, sig, meter) == want,
+        None => false,
+    }
+}
+
 #[test]
 fn checks_signatures_by_a_ring(rt: HostRuntime) -> Result<(), Fail> {
     let ring = ring_of(rt.alloc(), RING)?;
@@ -131,10 +142,9 @@ fn checks_signatures_by_a_ring(rt: HostRuntime) -> Result<(), Fail> {
     let mut meter = Meter {
         asked: u64::MAX - 2,
     };
-    for (key, message, length, want) in CHECKED.as_slice() {
-        let sig = code.get(..*length).ok_or("no such length")?;
-        let found = ring.valid(*key, message, sig, &mut meter);
-        assert!(rt; found == *want, "{key}");
+    for row in CHECKED.as_slice() {
+        let well = is_as_said(&ring, &code, row, &mut meter);
+        assert!(rt; well, "{row:?}");
     }
     assert!(rt; meter.asked == u64::MAX);
     Ok(())

@@ -11,12 +11,18 @@ use std::alloc::{AllocError, Global};
 use std::process::Abort;
 use std::test::Fail;
 
-fn signature(alloc: Global, secret: &[u8], hint: &str) -> Result<Signature, AllocError> {
+/// The code of the body under a secret.
+fn code(alloc: Global, secret: &[u8]) -> Result<[u8; 32], AllocError> {
     let message = pae(alloc, "t", b"body")?;
-    let code = hmac_sha256(secret, message.as_slice());
+    Ok(hmac_sha256(secret, message.as_slice()))
+}
+
+fn signature(alloc: Global, secret: &str, hint: &str) -> Result<Signature, AllocError> {
+    let code = code(alloc, secret.as_bytes())?;
+    let sig = Vec::from_slice(alloc, code.as_slice())?;
     Ok(Signature {
         keyid: text(alloc, hint)?,
-        sig: Sequence::from(Vec::from_slice(alloc, code.as_slice())?),
+        sig: Sequence::from(sig),
     })
 }
 
@@ -24,7 +30,7 @@ fn signature(alloc: Global, secret: &[u8], hint: &str) -> Result<Signature, Allo
 fn envelope(alloc: Global, signers: &[(&str, &str)]) -> Result<Envelope, AllocError> {
     let mut signatures = Vec::new(alloc);
     for (secret, hint) in signers {
-        signatures.push(signature(alloc, secret.as_bytes(), hint)?)?;
+        signatures.push(signature(alloc, secret, hint)?)?;
     }
     Ok(Envelope {
         payload: Sequence::from(Vec::from_slice(alloc, b"body")?),
@@ -144,12 +150,22 @@ fn finds_nobody_by_an_empty_panel(rt: HostRuntime) -> Result<(), Fail> {
 fn signers_among(
     alloc: Global,
     envelope: &Envelope,
+    ids: &[String],
+    panel: &[Box<dyn SignatureCheck>],
+) -> Result<Vec<String>, AllocError> {
+    let object = object_of(alloc, "hmac-sha256")?;
+    signed_ids(alloc, envelope, ids, &object, panel)
+}
+
+/// The same as one text.
+fn signers_told(
+    alloc: Global,
+    envelope: &Envelope,
     ids: &[&str],
     panel: &[Box<dyn SignatureCheck>],
 ) -> Result<String, AllocError> {
     let ids = strings(alloc, ids)?;
-    let object = object_of(alloc, "hmac-sha256")?;
-    let signers = signed_ids(alloc, envelope, ids.as_slice(), &object, panel)?;
+    let signers = signers_among(alloc, envelope, ids.as_slice(), panel)?;
     joined(alloc, signers.as_slice())
 }
 
@@ -161,7 +177,7 @@ fn lists_signers(rt: HostRuntime) -> Result<(), Fail> {
     let panel: [Box<dyn SignatureCheck>; 1] = [Box::new(alloc, ring_of(alloc, RING)?)?];
     let signers = [("bob", ""), ("alice", "alice"), ("owner", "carol")];
     let envelope = envelope(alloc, &signers)?;
-    let found = signers_among(alloc, &envelope, &ASKED, &panel)?;
+    let found = signers_told(alloc, &envelope, &ASKED, &panel)?;
     assert!(rt; found.as_str() == "bobz alice bob alice ", "{found}");
     Ok(())
 }

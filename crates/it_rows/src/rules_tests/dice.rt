@@ -73,12 +73,16 @@ impl Dice {
         Ok(rules)
     }
 
+    fn two_maps(&mut self, alloc: Global) -> Result<(Artifacts, Artifacts), AllocError> {
+        let first = self.artifacts(alloc)?;
+        let second = self.artifacts(alloc)?;
+        Ok((first, second))
+    }
+
     pub(super) fn case(&mut self, alloc: Global) -> Result<Case, AllocError> {
         Ok(Case {
-            materials: self.artifacts(alloc)?,
-            products: self.artifacts(alloc)?,
-            built: self.artifacts(alloc)?,
-            tested: self.artifacts(alloc)?,
+            recorded: self.two_maps(alloc)?,
+            linked: self.two_maps(alloc)?,
             rules: self.rules(alloc)?,
             side: self.side(),
         })
@@ -107,10 +111,10 @@ impl Dice {
 /// Artifacts of an item and of two links, and rules on one side of the item.
 #[derive(Drop)]
 pub(super) struct Case {
-    materials: Artifacts,
-    products: Artifacts,
-    built: Artifacts,
-    tested: Artifacts,
+    /// The materials and the products of the item.
+    recorded: (Artifacts, Artifacts),
+    /// The products of both links, and the materials of `test`. Those of `build` are the item's.
+    linked: (Artifacts, Artifacts),
     pub(super) rules: Vec<Rule>,
     pub(super) side: Side,
 }
@@ -118,8 +122,8 @@ pub(super) struct Case {
 impl Case {
     pub(super) fn item(&self) -> Item<'_> {
         Item {
-            materials: &self.materials,
-            products: &self.products,
+            materials: &self.recorded.0,
+            products: &self.recorded.1,
         }
     }
 
@@ -127,15 +131,15 @@ impl Case {
         let build = Named {
             name: "build",
             item: Item {
-                materials: &self.materials,
-                products: &self.built,
+                materials: &self.recorded.0,
+                products: &self.linked.0,
             },
         };
         let test = Named {
             name: "test",
             item: Item {
-                materials: &self.tested,
-                products: &self.built,
+                materials: &self.linked.1,
+                products: &self.linked.0,
             },
         };
         [build, test]

@@ -2,8 +2,8 @@
 """Keeps what tells of the commands as the list docs/commands.json has it.
 
 That is docs/itv.1, the man page, the completions for bash, zsh and fish, and the usages that itv
-itself writes. Fails where one of them is not what the list gives, and where README.md does not show
-the words of a command as the list has them.
+itself writes. Fails where one of them is not what the list gives, and where docs/commands.md does not
+show the words of a command as the list has them.
 
     manual.py          checks
     manual.py --write  writes the files
@@ -17,6 +17,7 @@ import completions
 import tree
 
 LIST = tree.TOP / "docs" / "commands.json"
+TABLE = tree.TOP / "docs" / "commands.md"
 PAGE = tree.TOP / "docs" / "itv.1"
 COMPLETIONS = tree.TOP / "completions"
 USAGES = tree.TOP / "crates" / "it_words" / "src" / "words" / "usages.rt"
@@ -167,11 +168,11 @@ def faults(listed):
     for path, text in made(listed).items():
         if not path.exists() or path.read_text() != text:
             yield f"{tree.name_of(path)}: {told}"
-    shown = (tree.TOP / "README.md").read_text()
+    shown = TABLE.read_text()
     for command in listed["commands"]:
         words = f"`{listed['program']} {command['name']} {words_of(command)}`"
         if words not in shown:
-            yield f"README.md: does not show {words}"
+            yield f"{tree.name_of(TABLE)}: does not show {words}"
 
 
 def main():

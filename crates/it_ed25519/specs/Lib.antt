@@ -1,2 +1,0 @@
-pub mod PublicKey
-pub mod Signature

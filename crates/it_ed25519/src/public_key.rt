@@ -1,5 +1,5 @@
 //! Public keys.
-ghost use Rattle.std.specs.Prelude.{◌≡◌, ℕ, ◌→◌, ◌↔◌, IsSome, IfSome, Some, List};
+ghost use Rattle.std.specs.Prelude.{◌≡◌, ℕ, ◌↔◌, IsSome, IfSome, Some, List};
 ghost use Rattle.it_ed_point.specs.declared.point.Point.{Point};
 ghost use Rattle.it_ed_point.specs.Encoding.{decoded, encoding_of};
 ghost use Rattle.it_ed25519.specs.PublicKey.{IsPublicKey, HoldsKey, is_small_order};
@@ -53,9 +53,10 @@ impl PublicKey {
         }
     }
 
-    /// The 32 bytes of the key.
+    /// The 32 bytes of the key. They are those of a public key, of whatever key they are.
     pub fn as_bytes(&self) -> &[u8; 32]
-        ensures { result.now ≡ self.now }
+        ensures bytes { result.now ≡ self.now }
+        ensures key { IsPublicKey self.now }
     {
         &self.bytes
     }

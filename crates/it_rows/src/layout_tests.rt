@@ -40,18 +40,27 @@ fn is_inspection(inspection: &Inspection) -> bool {
         && inspection.expected_products.as_slice().is_empty()
 }
 
+/// Whether the first step is that of the layout above, and so are its rules.
+fn has_step(alloc: Global, layout: &Layout) -> Result<bool, AllocError> {
+    match layout.steps.as_slice().first() {
+        Some(step) => Ok(is_step(step) && has_rules(alloc, step)?),
+        None => Ok(false),
+    }
+}
+
+fn has_inspection(layout: &Layout) -> bool {
+    let first = layout.inspections.as_slice().first();
+    first.is_some_and(is_inspection)
+}
+
 #[test]
 fn reads_a_layout_with_a_missing_threshold_as_one(rt: HostRuntime) -> Result<(), Fail> {
-    let layout = read_layout(rt.alloc(), LAYOUT.as_bytes())
-        .ok()
-        .ok_or("no layout")?;
+    let read = read_layout(rt.alloc(), LAYOUT.as_bytes());
+    let layout = read.ok().ok_or("no layout")?;
     assert!(rt; layout.expires == 1_893_456_000);
     assert!(rt; has_keys(&layout));
-    let step = layout.steps.as_slice().first().ok_or("no step")?;
-    assert!(rt; is_step(step));
-    assert!(rt; has_rules(rt.alloc(), step)?);
-    let inspection = layout.inspections.as_slice().first().ok_or("none")?;
-    assert!(rt; is_inspection(inspection));
+    assert!(rt; has_step(rt.alloc(), &layout)?);
+    assert!(rt; has_inspection(&layout));
     Ok(())
 }
 

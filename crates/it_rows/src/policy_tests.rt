@@ -1,9 +1,10 @@
 //! How policies are read.
 use crate::rule_texts::rule_texts;
-use it_docs::policy::{Builder, Expectation};
+use it_docs::policy::{Builder, Expectation, Policy};
 use it_docs::policy_fault::{PolicyFault, PolicyPart};
 use it_docs::policy_reading::read_policy;
 use it_docs::tree::Tree;
+use std::alloc::{AllocError, Global};
 use std::test::Fail;
 
 const POLICY: &str =
@@ -33,20 +34,26 @@ fn expects_a_ref(expectation: &Expectation) -> bool {
     matches!(found, Some(Tree::Text(text)) if text.as_str() == "v1")
 }
 
+/// Whether the first expectation is that of the policy above, and so is its first builder.
+fn has_expectation(policy: &Policy) -> bool {
+    let Some(first) = policy.expectations.as_slice().first() else {
+        return false;
+    };
+    let builder = first.builders.as_slice().first();
+    is_expectation(first) && expects_a_ref(first) && builder.is_some_and(is_builder)
+}
+
+fn delivers_what_was_built(alloc: Global, policy: &Policy) -> Result<bool, AllocError> {
+    let rules = rule_texts(alloc, policy.deliver.as_slice())?;
+    Ok(rules.as_str() == "match * [] products [] build;")
+}
+
 #[test]
 fn reads_a_policy(rt: HostRuntime) -> Result<(), Fail> {
     let policy = read_policy(rt.alloc(), POLICY.as_bytes())?;
     assert!(rt; policy.owners.get("owner").is_some());
-    let rules = rule_texts(rt.alloc(), policy.deliver.as_slice())?;
-    assert!(rt;
-        rules.as_str() == "match * [] products [] build;",
-        "{rules}"
-    );
-    let expectation = policy.expectations.as_slice().first().ok_or("none")?;
-    assert!(rt; is_expectation(expectation));
-    assert!(rt; expects_a_ref(expectation));
-    let builder = expectation.builders.as_slice().first().ok_or("no builder")?;
-    assert!(rt; is_builder(builder));
+    assert!(rt; delivers_what_was_built(rt.alloc(), &policy)?);
+    assert!(rt; has_expectation(&policy));
     Ok(())
 }
 

@@ -51,9 +51,9 @@ fn reads_a_statement(rt: HostRuntime) -> Result<(), Fail> {
     assert!(rt; has_subjects(&statement));
     let kind = statement.predicate_type.as_str();
     assert!(rt; kind == "https://slsa.dev/provenance/v1");
-    let provenance = statement.provenance.as_ref().ok_or("no provenance")?;
-    assert!(rt; is_provenance(provenance));
-    assert!(rt; has_parameters(provenance));
+    let provenance = statement.provenance.as_ref();
+    assert!(rt; provenance.is_some_and(is_provenance));
+    assert!(rt; provenance.is_some_and(has_parameters));
     Ok(())
 }
 

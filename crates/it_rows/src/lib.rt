@@ -1,13 +1,19 @@
-//! The tests of the libraries below the whole verification, from outside: worked rows, tables of
-//! good and bad inputs, and devices that fail. Each calls public functions alone.
+//! The tests of the libraries, from outside: worked rows, tables of good and bad inputs, and devices
+//! that fail. Each calls public functions alone.
 #![tactic(auto)]
 
+#[cfg(test)]
+mod base_case;
 #[cfg(test)]
 mod base_tests;
 #[cfg(test)]
 mod bundle_tests;
 #[cfg(test)]
 mod chain_tests;
+#[cfg(test)]
+mod command_tests;
+#[cfg(test)]
+mod cut_tests;
 #[cfg(test)]
 mod digest_tests;
 #[cfg(test)]
@@ -23,13 +29,27 @@ mod link_tests;
 #[cfg(test)]
 mod mac_tests;
 #[cfg(test)]
+mod made_link_tests;
+#[cfg(test)]
+mod made_statement_tests;
+#[cfg(test)]
 mod moment_tests;
+#[cfg(test)]
+mod noise_tests;
+#[cfg(test)]
+mod note_tests;
+#[cfg(test)]
+mod onto_tests;
+#[cfg(test)]
+mod panel_tests;
 #[cfg(test)]
 mod pattern_tests;
 #[cfg(test)]
 mod policy_tests;
 #[cfg(test)]
 mod provenance_tests;
+#[cfg(test)]
+mod report_tests;
 #[cfg(test)]
 mod ring_tests;
 #[cfg(test)]
@@ -45,6 +65,8 @@ mod sha384_tests;
 #[cfg(test)]
 mod signed_bodies;
 #[cfg(test)]
+mod signed_tests;
+#[cfg(test)]
 mod signer_tests;
 #[cfg(test)]
 mod statement_tests;
@@ -52,3 +74,9 @@ mod statement_tests;
 mod texts;
 #[cfg(test)]
 mod trees_tests;
+#[cfg(test)]
+mod verification_tests;
+#[cfg(test)]
+mod wanted;
+#[cfg(test)]
+mod words_tests;

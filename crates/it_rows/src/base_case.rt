@@ -3,15 +3,14 @@
 use it_base::sequence::Sequence;
 use it_base::text::Text;
 use it_chain::bundle::Bundle;
-use it_devices::{ABC as A, NOTHING as B};
+use it_devices::text;
 use it_dsse::check::SignatureCheck;
 use it_dsse::ring::HmacRing;
 use it_dsse::signing::sign;
 use it_verify::inputs::Inputs;
-use it_verify::outcome::{RunFault, Status, exit_of};
+use it_verify::outcome::exit_of;
 use it_verify::{run_verify, verify};
 use std::alloc::{AllocError, Global};
-use std::io::Write;
 use std::test::Fail;
 
 pub(crate) const IN_TOTO: &str = "application/vnd.in-toto+json";
@@ -21,9 +20,22 @@ pub(crate) const RING: &str =
     {"id":"bob","secret":"626f62"},{"id":"bobz","secret":"626f6200"},
     {"id":"carol","secret":"6361726f6c"},{"id":"builder","secret":"6275696c646572"}]"#;
 
-// In the documents K stands for a key object, "A" for the SHA-256 of `abc` and "B" for that of no
-// bytes.
-const KEY: &str = r#"{"keytype":"hmac","scheme":"hmac-sha256","keyval":{"public":""}}"#;
+// What letters stand for in the documents: K for a key object, "A" for the SHA-256 of `abc` and "B"
+// for that of no bytes.
+const LETTERS: [(&str, &str); 3] = [
+    (
+        ":K",
+        r#":{"keytype":"hmac","scheme":"hmac-sha256","keyval":{"public":""}}"#,
+    ),
+    (
+        "\"A\"",
+        "\"ba7816bf8f01cfea414140de5dae2223b00361a396177a9cb410ff61f20015ad\"",
+    ),
+    (
+        "\"B\"",
+        "\"e3b0c44298fc1c149afbf4c8996fb92427ae41e4649b934ca495991b7852b855\"",
+    ),
+];
 
 pub(crate) const LAYOUT: &str = r#"{"_type":"layout","expires":"2030-01-01T00:00:00Z","readme":"",
     "keys":{"alice":K,"bob":K,"bobz":K,"carol":K},
@@ -47,9 +59,21 @@ pub(crate) const POLICY: &str = r#"{"owners":{"owner":K},
 pub(crate) const STATEMENT: &str =
     r#"{"_type":"https://in-toto.io/Statement/v1","subject":[{"name":"app","digest":{"sha256":"A"}}],"predicateType":"https://slsa.dev/provenance/v1","predicate":{"buildDefinition":{"buildType":"https://ci.example/make","externalParameters":{"ref":"v1"}},"runDetails":{"builder":{"id":"https://ci.example/1"}}}}"#;
 
+// A digest list of the delivered file, whose bytes are `abc`.
+const SUMS: &str = "ba7816bf8f01cfea414140de5dae2223b00361a396177a9cb410ff61f20015ad  app\n";
+
 pub(crate) const MOMENT: &str = "2029-12-31T00:00:00Z";
 
 pub(crate) const ACCEPTED: &str = "accepted\nstep build 1\nfile app\n";
+
+/// A text with these changes made in turn.
+fn changed(alloc: Global, text: &str, changes: &[(&str, &str)]) -> Result<String, AllocError> {
+    let mut changed = String::from_str(alloc, text)?;
+    for (from, to) in changes {
+        changed = changed.replace(alloc, *from, to)?;
+    }
+    Ok(changed)
+}
 
 /// A text with these changes made in turn, and then with what its letters stand for.
 pub(crate) fn filled(
@@ -57,31 +81,13 @@ pub(crate) fn filled(
     text: &str,
     changes: &[(&str, &str)],
 ) -> Result<String, AllocError> {
-    let mut filled = String::from_str(alloc, text)?;
-    for (from, to) in changes {
-        filled = filled.replace(alloc, *from, to)?;
-    }
-    let keys = format!(in alloc; ":{KEY}")?;
-    let digests = [
-        ("\"A\"", format!(in alloc; "\"{A}\"")?),
-        ("\"B\"", format!(in alloc; "\"{B}\"")?),
-    ];
-    filled = filled.replace(alloc, ":K", keys.as_str())?;
-    for (letter, digest) in digests {
-        filled = filled.replace(alloc, letter, digest.as_str())?;
-    }
-    Ok(filled)
+    let text = changed(alloc, text, changes)?;
+    changed(alloc, text.as_str(), &LETTERS)
 }
 
-/// A digest list: one of the lines `A  path` or `B  path` for each file.
-pub(crate) fn sums(alloc: Global, lines: &[(&str, &str)]) -> Result<Sequence<u8>, AllocError> {
-    let mut list = String::new(alloc);
-    for (letter, path) in lines {
-        let digest = if *letter == "A" { A } else { B };
-        let line = format!(in alloc; "{digest}  {path}\n")?;
-        list.push_str(line.as_str())?;
-    }
-    Ok(Sequence::from(list.into_bytes()))
+/// The bytes of a text.
+pub(crate) fn bytes(alloc: Global, text: &str) -> Result<Sequence<u8>, AllocError> {
+    Ok(Sequence::from(text.as_bytes().to_vec(alloc)?))
 }
 
 /// The ring whose ids sign the base case.
@@ -99,11 +105,14 @@ pub(crate) fn signed(alloc: Global, id: &str, kind: &str, body: &str) -> Result<
 
 /// The envelope of a body, signed by an id of the ring, as a text.
 pub(crate) fn signed_text(alloc: Global, id: &str, body: &str) -> Result<String, Fail> {
-    Ok(
-        String::from_utf8(signed(alloc, id, IN_TOTO, body)?)
-            .ok()
-            .ok_or("no text")?,
-    )
+    text_of(signed(alloc, id, IN_TOTO, body)?)
+}
+
+fn text_of(bytes: Vec<u8>) -> Result<String, Fail> {
+    match String::from_utf8(bytes) {
+        Ok(text) => Ok(text),
+        Err(_) => Err(Fail::from("no text")),
+    }
 }
 
 /// Adds the envelope of a body, signed by an id, to a bundle.
@@ -137,11 +146,10 @@ pub(crate) fn add_folder(
     name: &str,
     folder: Bundle,
 ) -> Result<(), Fail> {
-    bundle
-        .add_dir(String::from_str(alloc, name)?, folder)
-        .ok()
-        .ok_or("a folder has this name")?;
-    Ok(())
+    match bundle.add_dir(String::from_str(alloc, name)?, folder) {
+        Ok(()) => Ok(()),
+        Err(_) => Err(Fail::from("a folder has this name")),
+    }
 }
 
 /// The layout with these changes, signed by its owner.
@@ -151,20 +159,11 @@ pub(crate) fn layout(alloc: Global, changes: &[(&str, &str)]) -> Result<Sequence
 }
 
 /// A layout with one step, without rules, for one functionary.
-pub(crate) fn sublayout(
-    alloc: Global,
-    step: &str,
-    id: &str,
-    expires: &str,
-) -> Result<String, AllocError> {
+pub(crate) fn sublayout(alloc: Global, step: &str, id: &str) -> Result<String, AllocError> {
     let text =
-        r#"{"_type":"layout","expires":"EXPIRES","keys":{"alice":K,"bob":K,"bobz":K,"carol":K},
+        r#"{"_type":"layout","expires":"2030-01-01T00:00:00Z","keys":{"alice":K,"bob":K,"bobz":K,"carol":K},
         "steps":[{"name":"STEP","threshold":1,"pubkeys":["ID"]}],"inspect":[]}"#;
-    filled(
-        alloc,
-        text,
-        &[("EXPIRES", expires), ("STEP", step), ("ID", id)],
-    )
+    filled(alloc, text, &[("STEP", step), ("ID", id)])
 }
 
 /// A policy with these changes.
@@ -180,18 +179,29 @@ fn provenance(alloc: Global) -> Result<Sequence<u8>, Fail> {
     Ok(Sequence::from(line))
 }
 
-/// The base case without its link.
-pub(crate) fn without_links(alloc: Global) -> Result<Inputs, Fail> {
-    Ok(Inputs {
-        policy: policy(alloc, &[])?,
-        layout: layout(alloc, &[])?,
+// No document at all.
+fn nothing(alloc: Global) -> Inputs {
+    Inputs {
+        policy: Sequence::from(Vec::new(alloc)),
+        layout: Sequence::from(Vec::new(alloc)),
         links: Bundle::new(alloc),
         records: Sequence::from(Vec::new(alloc)),
-        provenance: provenance(alloc)?,
-        sums: sums(alloc, &[("A", "app")])?,
-        moment: Text::from(String::from_str(alloc, MOMENT)?),
+        provenance: Sequence::from(Vec::new(alloc)),
+        sums: Sequence::from(Vec::new(alloc)),
+        moment: Text::from(String::new(alloc)),
         depth: 4,
-    })
+    }
+}
+
+/// The base case without its link.
+pub(crate) fn without_links(alloc: Global) -> Result<Inputs, Fail> {
+    let mut inputs = nothing(alloc);
+    inputs.policy = policy(alloc, &[])?;
+    inputs.layout = layout(alloc, &[])?;
+    inputs.provenance = provenance(alloc)?;
+    inputs.sums = bytes(alloc, SUMS)?;
+    inputs.moment = text(alloc, MOMENT)?;
+    Ok(inputs)
 }
 
 /// The base case.
@@ -199,25 +209,6 @@ pub(crate) fn base(alloc: Global) -> Result<Inputs, Fail> {
     let mut inputs = without_links(alloc)?;
     add_link(alloc, &mut inputs.links, "build.alice.link", "alice", &[])?;
     Ok(inputs)
-}
-
-/// What `run_verify` answers over the ring.
-pub(crate) fn run<W: Write>(
-    alloc: Global,
-    inputs: &Inputs,
-    out: &mut W,
-) -> Result<Result<Status, RunFault>, Fail> {
-    if inputs.depth > 8 {
-        return Err(Fail::from("too deep"));
-    }
-    let panel: [Box<dyn SignatureCheck>; 1] = [Box::new(alloc, ring(alloc)?)?];
-    Ok(run_verify(alloc, inputs, &panel, out))
-}
-
-/// The exit status and the report, over the ring.
-pub(crate) fn reported(alloc: Global, inputs: &Inputs) -> Result<(u8, String), Fail> {
-    let panel: [Box<dyn SignatureCheck>; 1] = [Box::new(alloc, ring(alloc)?)?];
-    reported_by(alloc, inputs, &panel)
 }
 
 /// The exit status and the report, over a panel of checks.
@@ -231,10 +222,19 @@ pub(crate) fn reported_by(
     }
     let mut out = Vec::new(alloc);
     let status = run_verify(alloc, inputs, panel, &mut out);
-    let report = String::from_utf8(out)
-        .ok()
-        .ok_or("a report that is no text")?;
-    Ok((exit_of(&status), report))
+    Ok((exit_of(&status), text_of(out)?))
+}
+
+/// The exit status and the report, over the ring.
+pub(crate) fn reported(alloc: Global, inputs: &Inputs) -> Result<(u8, String), Fail> {
+    let panel: [Box<dyn SignatureCheck>; 1] = [Box::new(alloc, ring(alloc)?)?];
+    reported_by(alloc, inputs, &panel)
+}
+
+/// The report, over the ring.
+pub(crate) fn report_of(alloc: Global, inputs: &Inputs) -> Result<String, Fail> {
+    let (_, report) = reported(alloc, inputs)?;
+    Ok(report)
 }
 
 /// How often it is asked whether a signature is valid.

@@ -112,7 +112,16 @@ fn is_by_queue(
 /// case.
 fn has_fault(alloc: Global, case: &Case) -> Result<Option<bool>, AllocError> {
     let item = case.item();
-    let links = case.links();
+    let links = [
+        Named {
+            name: "build",
+            item: case.built(),
+        },
+        Named {
+            name: "test",
+            item: case.tested(),
+        },
+    ];
     let found = run_rules(alloc, case.side, case.rules.as_slice(), &item, &links)?;
     let are_alike = is_by_definition(alloc, case, &item, &links, &found)?
         && is_by_queue(alloc, case, &item, &links, &found)?;

@@ -7,7 +7,7 @@ use it_digest::artifacts::Artifacts;
 use it_digest::compare::DigestSet;
 use it_docs::rule::{Rule, Side};
 use it_glob::Pattern;
-use it_rules::item::{Item, Named};
+use it_rules::item::Item;
 use std::alloc::{AllocError, Global};
 
 /// Numbers that look thrown, the same in each run.
@@ -127,22 +127,20 @@ impl Case {
         }
     }
 
-    pub(super) fn links(&self) -> [Named<'_>; 2] {
-        let build = Named {
-            name: "build",
-            item: Item {
-                materials: &self.recorded.0,
-                products: &self.linked.0,
-            },
-        };
-        let test = Named {
-            name: "test",
-            item: Item {
-                materials: &self.linked.1,
-                products: &self.linked.0,
-            },
-        };
-        [build, test]
+    /// What the step `build` recorded.
+    pub(super) fn built(&self) -> Item<'_> {
+        Item {
+            materials: &self.recorded.0,
+            products: &self.linked.0,
+        }
+    }
+
+    /// What the step `test` recorded.
+    pub(super) fn tested(&self) -> Item<'_> {
+        Item {
+            materials: &self.linked.1,
+            products: &self.linked.0,
+        }
     }
 }
 

@@ -1,0 +1,8 @@
+pub mod Small
+pub mod Bits
+pub mod Little
+pub mod Big
+pub mod Squares
+pub mod LowestFirst
+pub mod HighestFirst
+pub mod FastPowers

@@ -1,0 +1,23 @@
+//! Laws about numbers and their bytes: functions that do nothing, and whose contracts say what is
+//! true of every number and all bytes.
+ghost use Rattle.it_numbers.specs.Laws.{LittleOfBytes, BytesOfLittle, BigOfBytes, BytesOfBig};
+
+/// A number below 256 to the count is the number of so many of its bytes, lowest first.
+pub fn little_of_bytes()
+    ensures { LittleOfBytes }
+{}
+
+/// Bytes are those of the number that they stand for, lowest first.
+pub fn bytes_of_little()
+    ensures { BytesOfLittle }
+{}
+
+/// A number below 256 to the count is the number of so many of its bytes, highest first.
+pub fn big_of_bytes()
+    ensures { BigOfBytes }
+{}
+
+/// Bytes are those of the number that they stand for, highest first.
+pub fn bytes_of_big()
+    ensures { BytesOfBig }
+{}

@@ -1,5 +1,6 @@
 //! The files and folders that a layout is checked against.
-ghost use Rattle.std.specs.Prelude.{◌≡◌, ◌++◌, OnOk, OnErr, IfErr, IfOk, IsSome, None, string_bytes};
+ghost use Rattle.std.specs.Prelude.{◌≡◌, ◌++◌, OnOk, OnErr, IfErr, IfOk, IsSome, None};
+ghost use Rattle.std.specs.Prelude.{string_bytes};
 ghost use Rattle.std.specs.Prelude.{map, option_map};
 ghost use Rattle.it_chain.specs.AllFiles.{all_files};
 

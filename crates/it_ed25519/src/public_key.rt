@@ -1,5 +1,5 @@
 //! Public keys.
-ghost use Rattle.std.specs.Prelude.{◌≡◌, ℕ, ◌→◌, ◌↔◌, IsSome, IfSome, Some, List};
+ghost use Rattle.std.specs.Prelude.{◌≡◌, ℕ, ◌↔◌, IsSome, IfSome, Some, List};
 ghost use Rattle.it_ed_point.specs.declared.point.Point.{Point};
 ghost use Rattle.it_ed_point.specs.Encoding.{decoded, encoding_of};
 ghost use Rattle.it_ed25519.specs.PublicKey.{IsPublicKey, HoldsKey, is_small_order};
@@ -53,9 +53,10 @@ impl PublicKey {
         }
     }
 
-    /// The 32 bytes of the key.
+    /// The 32 bytes of the key. They are those of a public key, of whatever key they are.
     pub fn as_bytes(&self) -> &[u8; 32]
-        ensures { result.now ≡ self.now }
+        ensures bytes { result.now ≡ self.now }
+        ensures key { IsPublicKey self.now }
     {
         &self.bytes
     }
@@ -63,7 +64,8 @@ impl PublicKey {
     /// The bytes of [S] B + [k] (-A), where A is the key's point: what a signature of the key with
     /// this S begins with.
     pub(crate) fn first_half(&self, s: &Scalar, k: &Scalar) -> [u8; 32]
-        ensures { (a : Point) → decoded self.now ≡ Some a → result ≡ encoding_of (combination_of a s.now k.now) }
+        ensures { (a : Point) → decoded self.now ≡ Some a → result ≡ encoding_of
+            (combination_of a s.now k.now) }
     {
         Point::base()
             .multiply(s)

@@ -15,9 +15,9 @@ pub fn is_signature(key: &PublicKey, message: &[&[u8]], signature: &[u8]) -> boo
     if signature.len() != 64 {
         return false;
     }
-    let r = &signature[..32];
+    let (r, last) = signature.split_at(32);
     let mut s = [0; 32];
-    s.copy_from_slice(&signature[32..]);
+    s.copy_from_slice(last);
     match Scalar::from_bytes(&s) {
         None => false,
         Some(s) => {

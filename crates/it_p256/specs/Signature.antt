@@ -14,8 +14,8 @@ pub record IsInRange (n : ℕ) : Type 0 where
   pub positive : 0 < n
   pub below : n < group_order
 
--- u G + v Q, where Q is the key's point, u is e / s and v is r / s modulo the order (steps 4 to 6): the inverse of s is a power, by
--- Fermat's little theorem
+-- u G + v Q, where Q is the key's point, u is e / s and v is r / s modulo the order (steps 4 to 6):
+-- the inverse of s is a power, by Fermat's little theorem
 unfoldable pub combination_of : Key → ℕ → ℕ → ℕ → Point
 combination_of key e r s =
     let inverse = power_mod s (group_order - 2) group_order in
@@ -34,7 +34,8 @@ pub record IsSigned (key : Key) (e r s : ℕ) : Type 0 where
   pub s_good : IsInRange s
   pub agrees : Agrees key e r s
 
--- the same where they are encoded, and the digest is 32 bytes, which are as many bits as the order has (steps 2 and 3)
+-- the same where they are encoded, and the digest is 32 bytes, which are as many bits as the order
+-- has (steps 2 and 3)
 pub record IsSignatureOfDigest (key : Key) (digest signature : List ℕ) : Type 0 where
   pub r : ℕ
   pub s : ℕ

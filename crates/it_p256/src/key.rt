@@ -35,9 +35,9 @@ impl Model for PublicKey {
 
 impl PublicKey {
     /// The key that the bytes encode as a SubjectPublicKeyInfo (RFC 5480, section 2) with the named
-    /// curve secp256r1 and an uncompressed point, in DER. `None` where they encode no such key: with
-    /// a point that is compressed or not on the curve, with a coordinate that is not below the prime,
-    /// with another algorithm or curve, or with anything after.
+    /// curve secp256r1 and an uncompressed point, in DER. `None` where they encode no such key:
+    /// with a point that is compressed or not on the curve, with a coordinate that is not below the
+    /// prime, with another algorithm or curve, or with anything after.
     pub fn from_info(info: &[u8]) -> Option<PublicKey>
         ensures { MatchOption result
             ((key : Key) → IsKey key → info.now ≡ info_of key → ⊥)
@@ -91,8 +91,10 @@ fn key_at(x_bytes: &[u8], y_bytes: &[u8]) -> Option<PublicKey>
     requires x_length { length x_bytes.now ≡ 32 }
     requires y_length { length y_bytes.now ≡ 32 }
     ensures { MatchOption result
-        ((key : Key) → IsKey key → x_bytes.now ≡ big_bytes 32 key.x → y_bytes.now ≡ big_bytes 32 key.y → ⊥)
-        (λ key. IsKey key × (x_bytes.now ≡ big_bytes 32 key.x) × (y_bytes.now ≡ big_bytes 32 key.y)) }
+        ((key : Key) → IsKey key → x_bytes.now ≡ big_bytes 32 key.x → y_bytes.now ≡ big_bytes 32
+        key.y → ⊥)
+        (λ key. IsKey key × (x_bytes.now ≡ big_bytes 32 key.x)
+        × (y_bytes.now ≡ big_bytes 32 key.y)) }
 {
     let Some(x) = FieldElement::from_bytes(x_bytes) else {
         return None;

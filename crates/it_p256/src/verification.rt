@@ -12,7 +12,8 @@ use it_p256_point::Point;
 
 /// Whether the two numbers are a signature under the key of what has the digest `e`.
 pub(crate) fn is_signed(key: &PublicKey, e: Limbs, signature: &SignatureValue) -> bool
-    ensures { IsTrue result ↔ IsSigned key.now (value_of e) (value_of signature.now.r) (value_of signature.now.s) }
+    ensures { IsTrue result ↔ IsSigned key.now (value_of e) (value_of signature.now.r)
+        (value_of signature.now.s) }
 {
     if !is_in_range(signature.r) {
         return false;
@@ -37,7 +38,8 @@ fn is_in_range(n: Limbs) -> bool
 fn agrees(key: &PublicKey, e: Limbs, signature: &SignatureValue) -> bool
     requires r_below { value_of signature.now.r < group_order }
     requires s_below { value_of signature.now.s < group_order }
-    ensures { IsTrue result ↔ Agrees key.now (value_of e) (value_of signature.now.r) (value_of signature.now.s) }
+    ensures { IsTrue result ↔ Agrees key.now (value_of e) (value_of signature.now.r)
+        (value_of signature.now.s) }
 {
     let point = combination(key, e, signature);
     if point.is_infinity() {
@@ -51,7 +53,8 @@ fn agrees(key: &PublicKey, e: Limbs, signature: &SignatureValue) -> bool
 fn combination(key: &PublicKey, e: Limbs, signature: &SignatureValue) -> Point
     requires r_below { value_of signature.now.r < group_order }
     requires s_below { value_of signature.now.s < group_order }
-    ensures { result ≡ combination_of key.now (value_of e) (value_of signature.now.r) (value_of signature.now.s) }
+    ensures { result ≡ combination_of key.now (value_of e) (value_of signature.now.r)
+        (value_of signature.now.s) }
 {
     let inverse = Scalar::from_limbs(signature.s).inverse();
     let first = Scalar::from_limbs(e).multiply(&inverse).to_limbs();

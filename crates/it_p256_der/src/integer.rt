@@ -1,5 +1,6 @@
 //! One INTEGER.
-ghost use Rattle.std.specs.Prelude.{◌≡◌, ℕ, ◌+◌, ◌^◌, ◌<◌, ◌≤◌, ◌↔◌, IsTrue, length, slice_index, MatchOption};
+ghost use Rattle.std.specs.Prelude.{◌≡◌, ℕ, ◌+◌, ◌^◌, ◌<◌, ◌≤◌, ◌↔◌, IsTrue, length, slice_index};
+ghost use Rattle.std.specs.Prelude.{MatchOption};
 ghost use Rattle.it_p256_limbs.specs.Numbers.{value_of};
 ghost use Rattle.it_p256_der.specs.Der.{IsInteger};
 
@@ -54,7 +55,8 @@ pub(crate) fn integer_at(bytes: &[u8], start: usize) -> Option<Integer>
 fn is_padded(bytes: &[u8], start: usize, long: usize) -> bool
     requires some { 0 < long }
     requires inside { start + long ≤ length bytes.now }
-    ensures { IsTrue result ↔ ((1 < long) × (slice_index bytes.now start ≡ 0) × (slice_index bytes.now (start + 1) < 128)) }
+    ensures { IsTrue result ↔ ((1 < long) × (slice_index bytes.now start ≡ 0)
+        × (slice_index bytes.now (start + 1) < 128)) }
 {
     if long == 1 {
         return false;

@@ -1,4 +1,5 @@
--- Points of P-256 in homogeneous coordinates: x / z and y / z are the coordinates, and z is 0 at infinity.
+-- Points of P-256 in homogeneous coordinates: x / z and y / z are the coordinates, and z is 0 at
+-- infinity.
 use Rattle.std.specs.Prelude.{◌≡◌, ℕ, zero, suc, ◌-◌, ◌/◌, true, if◌then◌else◌, refl}
 use Rattle.it_numbers.specs.Modular.{is_odd, power_mod}
 use Rattle.it_p256_field.specs.Prime.{prime, plus_mod, minus_mod, times_mod}
@@ -27,7 +28,8 @@ base-on_curve = refl
 abbrev pub cross_of : ℕ → ℕ → ℕ → ℕ → ℕ → ℕ
 cross_of a b c d rest = minus_mod (times_mod (plus_mod a b) (plus_mod c d)) rest
 
--- the sum of two points, by the complete formulas of Renes, Costello and Batina (IACR ePrint 2015/1060), algorithm 4
+-- the sum of two points, by the complete formulas of Renes, Costello and Batina (IACR ePrint
+-- 2015/1060), algorithm 4
 unfoldable pub sum_of : Point → Point → Point
 sum_of p q =
     let xx = times_mod p.x q.x in
@@ -85,6 +87,7 @@ multiple_of (suc bits) n p =
     let twice = double_of (multiple_of bits (n / 2) p) in
     if is_odd n then sum_of twice p else twice
 
--- the first coordinate x / z, of a point other than infinity: the inverse is a power, by Fermat's little theorem
+-- the first coordinate x / z, of a point other than infinity: the inverse is a power, by Fermat's
+-- little theorem
 unfoldable pub first_coordinate : Point → ℕ
 first_coordinate p = times_mod p.x (power_mod p.z (prime - 2) prime)

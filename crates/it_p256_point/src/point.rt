@@ -3,7 +3,8 @@
 ghost use Rattle.std.specs.Prelude.{◌≡◌, ◌+◌, ◌%◌, nat_eq};
 ghost use Rattle.it_p256_limbs.specs.Numbers.{value_of};
 ghost use Rattle.it_p256_field.specs.Prime.{prime};
-ghost use Rattle.it_p256_point.specs.Points.{cross_of, infinity, affine, base, sum_of, double_of, multiple_of, first_coordinate};
+ghost use Rattle.it_p256_point.specs.Points.{cross_of, infinity, affine, base, sum_of, double_of};
+ghost use Rattle.it_p256_point.specs.Points.{multiple_of, first_coordinate};
 
 use crate::curve::curve_constant;
 use it_p256_field::FieldElement;

@@ -32,10 +32,16 @@ def copy_but_last(lines, out):
     return last
 
 
+def processor_time():
+    """The seconds of processors that the commands took which this process has waited for."""
+    used = resource.getrusage(resource.RUSAGE_CHILDREN)
+    return used.ru_utime + used.ru_stime
+
+
 def time_line(command, wall, used):
-    """What a command took."""
-    minutes = (used.ru_utime + used.ru_stime) / 60
-    return f"{command} took {wall / 60:.1f} minutes of wall, {minutes:.1f} processor minutes\n"
+    """What a command took, of seconds."""
+    minutes = f"{wall / 60:.1f} minutes of wall, {used / 60:.1f} processor minutes"
+    return f"{command} took {minutes}\n"
 
 
 def main():
@@ -43,7 +49,7 @@ def main():
     words, out = sys.argv[1:], sys.stdout.buffer
     if not words:
         sys.exit(__doc__)
-    begun = time.monotonic()
+    begun, used = time.monotonic(), processor_time()
     try:
         process = subprocess.Popen(words, stdout=subprocess.PIPE)
     except OSError as error:
@@ -52,8 +58,8 @@ def main():
     handed_on(process)
     last = copy_but_last(process.stdout, out)
     status = process.wait()
-    used = resource.getrusage(resource.RUSAGE_CHILDREN)
-    out.write(time_line(" ".join(words), time.monotonic() - begun, used).encode())
+    took = time.monotonic() - begun, processor_time() - used
+    out.write(time_line(" ".join(words), *took).encode())
     out.write(last)
     out.flush()
     return status if status >= 0 else 128 - status

@@ -40,8 +40,9 @@ pub struct StatementParts<'a> {
 /// Writes a Statement that carries provenance (in-toto Attestation, Statement v1; SLSA Provenance
 /// v1) and a line feed: compact JSON with the members in the order of their bytes, the subjects in
 /// the order of their paths' bytes with SHA-256 in lower-case hexadecimal digits, and the external
-/// parameters as they were given. What is written reads back as just that Statement. The answer is
-/// `Good`.
+/// parameters as they were read: a number with a fraction, an exponent or more than 64 bits is
+/// written as the floating-point number of 64 bits that it was read as, so that `1.10` becomes
+/// `1.1`. What is written reads back as just that Statement. The answer is `Good`.
 ///
 /// # Errors
 ///

@@ -1,0 +1,95 @@
+#!/usr/bin/env python3
+"""Fails where a page gives another figure than what is counted in the tree.
+
+    figures.py          checks
+    figures.py --write  puts the figures that are counted into the pages
+"""
+
+import re
+import shutil
+import subprocess
+import sys
+
+import reach
+import tree
+
+DATA = tree.TOP / "crates" / "itv_cases" / "data"
+NUMBER = r"(?P<figure>\d[\d,]*)"
+# The name of each figure with the pages that give it, each with the words around it.
+PLACES = [
+    ("verify", "README.md", "the definitions, {} lines of them for the verdict"),
+    ("verify", "docs/trusted.md", "`verify` rests on {} lines"),
+    ("run_verify", "docs/trusted.md", "with `run_verify` {}, of"),
+    ("public", "docs/trusted.md", ", of {} that public contracts reach"),
+    ("cases", "README.md", "among it {} whole verifications"),
+    ("cases", "docs/testing.md", "- {} whole verifications,"),
+    ("worked", "docs/testing.md", "whole verifications, {} worked out by hand"),
+    ("random", "docs/testing.md", "by hand and {} changed at random"),
+    ("toolchain", "README.md", "The toolchain (`{}`)"),
+    ("toolchain", "docs/trusted.md", "The toolchain (`{}`)"),
+    ("toolchain", "CONTRIBUTING.md", "`rt version` prints `{}`"),
+]
+
+
+def lines_reached(graph, functions):
+    """How many lines of specs/ the contracts of these functions rest on, or all public ones."""
+    reached = graph.reached(reach.keys_of(graph, functions))
+    return sum(reach.lines_by_crate(graph, reached).values())
+
+
+def cases(pattern):
+    """How many cases the files of a pattern hold."""
+    return sum(path.read_bytes().count(b"\n") for path in DATA.glob(pattern))
+
+
+def counted():
+    """Each figure as it is written, by its name; that of a toolchain only where there is one."""
+    graph, every, thrown = reach.Graph(), cases("*.jsonl"), cases("random-*.jsonl")
+    numbers = {"verify": lines_reached(graph, reach.VERIFY),
+               "run_verify": lines_reached(graph, reach.VERIFYING),
+               "public": lines_reached(graph, None),
+               "cases": every, "random": thrown, "worked": every - thrown}
+    found = {name: f"{number:,}" for name, number in numbers.items()}
+    if shutil.which("rt"):
+        ran = subprocess.run(["rt", "version"], stdout=subprocess.PIPE, text=True, check=True)
+        found["toolchain"] = ran.stdout.strip()
+    return found
+
+
+def pattern_of(name, words):
+    """What finds a figure among the words around it."""
+    figure = r"(?P<figure>[^`]+)" if name == "toolchain" else NUMBER
+    before, after = (re.escape(part) for part in words.split("{}"))
+    return re.compile(f"(?<={before}){figure}(?={after})")
+
+
+def faults(found):
+    """What the pages give otherwise."""
+    for name, page, words in PLACES:
+        given = pattern_of(name, words).search((tree.TOP / page).read_text())
+        if not given:
+            yield f"{page}: the words {words.format('N')!r} are not there"
+        elif name in found and given["figure"] != found[name]:
+            yield f"{page}: {words.format(given['figure'])!r} should be {found[name]}"
+
+
+def write(found):
+    """Puts the figures into the pages."""
+    for name, page, words in PLACES:
+        path = tree.TOP / page
+        if name in found:
+            path.write_text(pattern_of(name, words).sub(found[name], path.read_text()))
+
+
+def main():
+    """Does what the words say."""
+    words = tree.words_of(__doc__)
+    words.add_argument("--write", action="store_true")
+    is_written, found = words.parse_args().write, counted()
+    if is_written:
+        write(found)
+    return tree.report(list(faults(found)))
+
+
+if __name__ == "__main__":
+    sys.exit(main())

@@ -18,32 +18,32 @@ get_or-take_front bs n k h = rw get_or-take refl
 rest_is : (bs : List ℕ) (a b : ℕ) → a ≡ b → take (length bs - a) (drop a bs) ≡ drop b bs
 rest_is bs a b e = rw e (take_all (length bs - b) (drop b bs) (omega (arith, length-drop b bs)))
 
-pub opened_judged : (digest bytes hash again slice : List ℕ) (t r : Bool) → 33 ≤ length bytes → t ≡ true
-    → IsTrue t ↔ ((k : ℕ) → k < length (take (length bytes - 33) bytes) → get_or (take (length bytes - 33) bytes) k 0 ≡ 0)
-    → get_or bytes (length bytes - 33) 0 ≡ 1
-    → again ≡ sha256 (replicate 8 0 ++ digest ++ take (length bytes - (length bytes - 33 + 1)) (drop (length bytes - 33 + 1) bytes))
+pub opened_judged : (digest bytes hash again slice : List ℕ) (mark : ℕ) (t r : Bool) → mark ≡ length bytes - 33 → 33 ≤ length bytes → t ≡ true
+    → IsTrue t ↔ ((k : ℕ) → k < length (take mark bytes) → get_or (take mark bytes) k 0 ≡ 0)
+    → get_or bytes mark 0 ≡ 1
+    → again ≡ sha256 (replicate 8 0 ++ digest ++ take (length bytes - (mark + 1)) (drop (mark + 1) bytes))
     → slice ≡ again → r ≡ pointwise nat_eq slice hash → IsTrue r ↔ IsOpened digest bytes hash
-opened_judged digest bytes hash again slice t r h is z one d sl eq =
+opened_judged digest bytes hash again slice mark t r at h is z one d sl eq =
     let n = length bytes in
-    let rest : take (n - (n - 33 + 1)) (drop (n - 33 + 1) bytes) ≡ drop (n - 32) bytes = rest_is bytes (n - 33 + 1) (n - 32) (omega arith) in
-    let long : length (take (n - 33) bytes) ≡ n - 33 = length-take-le (n - 33) bytes (omega arith) in
+    let rest : take (n - (mark + 1)) (drop (mark + 1) bytes) ≡ drop (n - 32) bytes = rest_is bytes (mark + 1) (n - 32) (omega arith) in
+    let long : length (take mark bytes) ≡ mark = length-take-le mark bytes (omega arith) in
     let made : slice ≡ sha256 (replicate 8 0 ++ digest ++ drop (n - 32) bytes) = sl ∙ d ∙ ap (λ (x : List ℕ). sha256 (replicate 8 0 ++ digest ++ x)) rest in
     let decides = slice_eq-Decides Decides-eqb slice hash r eq in (
       λ yes. record {
-        zeros = λ k p. sym (get_or-take_front bytes (n - 33) k p) ∙ z.0 is k (rw long p);
-        one = one;
+        zeros = λ k p. let q : k < mark = omega arith in sym (get_or-take_front bytes mark k q) ∙ z.0 is k (rw long q);
+        one = rw (sym at) one;
         agrees = sym made ∙ decides.0 yes;
       },
       λ o. decides.1 (made ∙ o.agrees),
     )
 
-pub encoded_judged : (digest em db copy hash : List ℕ) (r : Bool) → 66 ≤ length em
+pub encoded_judged : (digest em db copy hash : List ℕ) (clear r : Bool) → 66 ≤ length em
     → copy ≡ take (length em - 33) em → hash ≡ take (length em - 33 + 32 - (length em - 33)) (drop (length em - 33) em)
     → db ≡ with_low_bits 7 (xored copy (mgf1 hash (length copy)))
-    → get_or em (length em - 1) 0 ≡ 188 → get_or em 0 0 < 128
+    → get_or em (length em - 1) 0 ≡ 188 → (IsTrue clear ↔ (get_or em 0 0 < 2 ^ 7)) → clear ≡ true
     → IsTrue r ↔ IsOpened digest db hash → IsTrue r ↔ IsEncoded digest em (8 * length em - 1)
 unfolding data_of
-encoded_judged digest em db copy hash r room c h d trailer top o =
+encoded_judged digest em db copy hash clear r room c h d trailer top is_clear o =
     let n = length em in
     let low : 8 - (8 * n - (8 * n - 1)) ≡ 7 = omega arith in
     let size : n - 33 + 32 - (n - 33) ≡ 32 = omega arith in
@@ -53,7 +53,7 @@ encoded_judged digest em db copy hash r room c h d trailer top o =
       λ yes. record {
         room = room;
         trailer = trailer;
-        top_clear = rw low top;
+        top_clear = rw low (top.0 is_clear);
         opened = rw (data_is, hash_is) at (o.0 yes);
       },
       λ e. o.1 (rw (data_is, hash_is) e.opened),

@@ -1,5 +1,5 @@
 //! The encoding EMSA-PSS with SHA-256 and a salt of 32 bytes (RFC 8017, section 9.1.2).
-ghost use Rattle.std.specs.Prelude.{◌≡◌, ℕ, ◌-◌, ◌*◌, ◌<◌, ◌≤◌, ◌↔◌, ◌++◌, IsTrue, length, replicate, slice_index};
+ghost use Rattle.std.specs.Prelude.{◌≡◌, ℕ, ◌-◌, ◌*◌, ◌^◌, ◌<◌, ◌≤◌, ◌↔◌, ◌++◌, IsTrue, length, replicate, slice_index};
 ghost use Rattle.sha2.specs.Sha256.{sha256};
 ghost use Rattle.it_rsa.specs.Encoding.{IsEncoded, IsOpened, with_low_bits};
 ghost use Rattle.it_rsa.specs.Mask.{mgf1, xored};
@@ -39,20 +39,36 @@ fn open_data(bytes: &mut [u8], seed: &[u8])
     bytes[0] %= 128;
 }
 
+/// The place of the 1 in DB, which the salt of 32 bytes follows.
+fn mark_place(bytes: &[u8]) -> usize
+    requires { 33 ≤ length bytes.now }
+    ensures { result ≡ length bytes.now - 33 }
+{
+    bytes.len() - 33
+}
+
 /// Whether DB has its zeros, its 1 and the salt that goes with the digest H.
 fn is_opened(digest: &[u8; 32], bytes: &[u8], hash: &[u8]) -> bool
     requires { 33 ≤ length bytes.now }
     ensures { IsTrue result ↔ IsOpened digest.now bytes.now hash.now }
 {
-    let split = bytes.len() - 33;
-    if !all_zero(&bytes[..split]) {
+    let mark = mark_place(bytes);
+    if !all_zero(&bytes[..mark]) {
         return false;
     }
-    if bytes[split] != 1 {
+    if bytes[mark] != 1 {
         return false;
     }
-    let again = salted(digest, &bytes[split + 1..]);
+    let again = salted(digest, &bytes[mark + 1..]);
     again.as_slice() == hash
+}
+
+/// Whether the first bit, which an encoded message has no room for, is clear.
+fn is_first_bit_clear(em: &[u8]) -> bool
+    requires { 0 < length em.now }
+    ensures { IsTrue result ↔ (slice_index em.now 0 < 2 ^ 7) }
+{
+    em[0] < 128
 }
 
 /// Whether the bytes encode the message of a digest in all their bits but the first.
@@ -65,7 +81,7 @@ pub(crate) fn is_encoded(digest: &[u8; 32], em: &[u8]) -> bool
     if em[em.len() - 1] != TRAILER {
         return false;
     }
-    if em[0] >= 128 {
+    if !is_first_bit_clear(em) {
         return false;
     }
     let hash = &em[size..size + 32];

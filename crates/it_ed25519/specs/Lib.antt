@@ -1,0 +1,2 @@
+pub mod PublicKey
+pub mod Signature

@@ -1,0 +1,75 @@
+//! Public keys.
+ghost use Rattle.std.specs.Prelude.{◌≡◌, ℕ, ◌↔◌, IsSome, IfSome, Some, List};
+ghost use Rattle.it_ed_point.specs.declared.point.Point.{Point};
+ghost use Rattle.it_ed_point.specs.Encoding.{decoded, encoding_of};
+ghost use Rattle.it_ed25519.specs.PublicKey.{IsPublicKey, HoldsKey, is_small_order};
+ghost use Rattle.it_ed25519.specs.Signature.{combination_of};
+
+use it_ed_point::point::Point;
+use it_ed_scalar::scalar::Scalar;
+use std::marker::Model;
+
+/// A public key, decoded once. To a contract it is its 32 bytes, so equal keys are those of equal
+/// bytes.
+#[derive(Drop)]
+pub struct PublicKey {
+    bytes: [u8; 32],
+    /// The point with the opposite x, -A.
+    opposite: Point,
+}
+
+impl Model for PublicKey {
+    ghost Value = { List ℕ };
+
+    ghost view = { λ k. k.bytes };
+
+    ghost invariant = { λ k. HoldsKey k.bytes k.opposite };
+}
+
+fn is_small_order(point: &Point) -> bool
+    ensures { result ≡ is_small_order point.now }
+{
+    point.double().double().double().is_neutral()
+}
+
+impl PublicKey {
+    /// The key of 32 bytes, or `None` where they are no key: where RFC 8032, section 5.1.3, decodes
+    /// no point, or one of small order, under which anyone could sign.
+    pub fn from_bytes(bytes: &[u8; 32]) -> Option<PublicKey>
+        ensures some { IsSome result ↔ IsPublicKey bytes.now }
+        ensures key { IfSome result (λ key. key ≡ bytes.now) }
+    {
+        match Point::decode(bytes) {
+            None => None,
+            Some(point) => {
+                if is_small_order(&point) {
+                    return None;
+                }
+                Some(PublicKey {
+                    bytes: *bytes,
+                    opposite: point.negate(),
+                })
+            }
+        }
+    }
+
+    /// The 32 bytes of the key. They are those of a public key, of whatever key they are.
+    pub fn as_bytes(&self) -> &[u8; 32]
+        ensures bytes { result.now ≡ self.now }
+        ensures key { IsPublicKey self.now }
+    {
+        &self.bytes
+    }
+
+    /// The bytes of [S] B + [k] (-A), where A is the key's point: what a signature of the key with
+    /// this S begins with.
+    pub(crate) fn first_half(&self, s: &Scalar, k: &Scalar) -> [u8; 32]
+        ensures { (a : Point) → decoded self.now ≡ Some a → result ≡ encoding_of
+            (combination_of a s.now k.now) }
+    {
+        Point::base()
+            .multiply(s)
+            .add(&self.opposite.multiply(k))
+            .encode()
+    }
+}

@@ -1,0 +1,8 @@
+//! Points of the curve edwards25519: their sums, and their encoding in 32 bytes (RFC 8032,
+//! section 5.1).
+#![tactic(auto)]
+
+mod constants;
+mod decoding;
+pub mod point;
+mod roots;

@@ -1,0 +1,4 @@
+pub mod Masks
+pub mod Verdicts
+pub mod Infos
+pub mod Keys

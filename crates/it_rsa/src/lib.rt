@@ -1,0 +1,26 @@
+//! RSASSA-PSS with SHA-256 (RFC 8017): public keys as SubjectPublicKeyInfo, and the verification of
+//! signatures.
+//!
+//! ```
+//! let key = PublicKey::from_info(&info)?;
+//! let is_good = is_signature(&key, &[b"The message, ", b"in parts"], &signature);
+//! ```
+//!
+//! Nothing here is secret, so nothing here takes care to take the same time for all numbers: no key
+//! is made and nothing is signed.
+#![tactic(auto)]
+
+mod digest;
+mod encoding;
+mod info;
+mod key;
+pub mod laws;
+mod mask;
+mod signature;
+
+pub use digest::message_digest;
+pub use key::PublicKey;
+pub use signature::{is_signature, is_signature_of_digest};
+
+/// The most bytes that a modulus, and so a signature, may have.
+pub(crate) const MOST_BYTES: usize = 512;

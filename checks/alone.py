@@ -25,7 +25,7 @@ def texts():
             is_made = "out" in path.relative_to(tree.TOP).parts
             if path.suffix in ENDINGS and path.is_file() and not is_made:
                 yield path
-    yield tree.TOP / "README.md"
+    yield from sorted(tree.TOP.glob("*.md"))
 
 
 def without_allowed(line):

@@ -1,66 +1,28 @@
 #!/usr/bin/env python3
 """Keeps what tells of the commands as the list docs/commands.json has it.
 
-That is docs/itv.1, the man page, completions/itv.bash, and the usages that itv itself writes. Fails
-where one of the three is not what the list gives, and where README.md does not show the words of a
-command as the list has them.
+That is docs/itv.1, the man page, the completions for bash, zsh and fish, and the usages that itv
+itself writes. Fails where one of them is not what the list gives, and where docs/commands.md does not
+show the words of a command as the list has them.
 
     manual.py          checks
-    manual.py --write  writes the three files
+    manual.py --write  writes the files
 """
 
 import json
 import sys
 import textwrap
 
+import completions
 import tree
 
 LIST = tree.TOP / "docs" / "commands.json"
+TABLE = tree.TOP / "docs" / "commands.md"
 PAGE = tree.TOP / "docs" / "itv.1"
-COMPLETIONS = tree.TOP / "completions" / "itv.bash"
+COMPLETIONS = tree.TOP / "completions"
 USAGES = tree.TOP / "crates" / "it_words" / "src" / "words" / "usages.rt"
 # How many columns a usage has.
 COLUMNS = 79
-TYPE = "application/vnd.in-toto+json"
-# What bash offers for a value, by its kind.
-OFFERS = {
-    "file": "compgen -f -- \"$word\"",
-    "folder": "compgen -d -- \"$word\"",
-    "depth": "compgen -W '0 1 2 3 4 5 6 7 8' -- \"$word\"",
-    "type": f"compgen -W {TYPE} -- \"$word\"",
-}
-SCRIPT = """\
-# Bash completions for {program}. Made by checks/manual.py from docs/commands.json.
-
-_{program}_values() {{
-    case $1 in
-{values}
-    esac
-}}
-
-_{program}() {{
-    local word=${{COMP_WORDS[COMP_CWORD]}} before=${{COMP_WORDS[COMP_CWORD - 1]}}
-    local command=${{COMP_WORDS[1]}} offered
-    # Of --option=value bash makes three words.
-    if [ "$word" = = ]; then
-        word=
-    elif [ "$before" = = ]; then
-        before=${{COMP_WORDS[COMP_CWORD - 2]}}
-    fi
-    if [ "$COMP_CWORD" = 1 ]; then
-        offered=$(compgen -W '{commands}' -- "$word")
-    elif [[ $before == --* ]]; then
-        offered=$(_{program}_values "$command$before")
-    else
-        case $command in
-{options}
-        esac
-    fi
-    mapfile -t COMPREPLY < <(printf '%s' "${{offered:+$offered$'\\n'}}")
-}}
-
-complete -o filenames -F _{program} {program}
-"""
 USAGE_SOURCE = """\
 //! The usages of the commands. Made by checks/manual.py from docs/commands.json.
 use super::usage::Usage;
@@ -148,35 +110,6 @@ def page_lines(listed):
     yield f".fi\n.SH SEE ALSO\n{text_of(listed['see'])}"
 
 
-def value_lines(listed):
-    """What is offered for the value of each option, but for values that nothing is known of."""
-    for command in listed["commands"]:
-        for option in command["options"]:
-            if option["kind"] in OFFERS:
-                yield f"        {command['name']}--{option['name']}) {OFFERS[option['kind']]} ;;"
-
-
-def word_lines(listed):
-    """What is offered for a word of each command: its options, and files where it takes files."""
-    for command in listed["commands"]:
-        names = " ".join(f"--{option['name']}" for option in command["options"])
-        takes_files = any(argument["kind"] == "file" for argument in command["arguments"])
-        offers = [f"compgen -W '{names}' -- \"$word\""] if names else []
-        offers += [OFFERS["file"]] if takes_files else []
-        if offers:
-            yield f"            {command['name']}) offered=$({'; '.join(offers)}) ;;"
-
-
-def completions(listed):
-    """The text of the completions."""
-    return SCRIPT.format(
-        program=listed["program"],
-        commands=" ".join(command["name"] for command in listed["commands"]),
-        values="\n".join(value_lines(listed)),
-        options="\n".join(word_lines(listed)),
-    )
-
-
 def literal_of(text):
     """A text as a literal of the source has it between its quotes."""
     return text.replace("\\", "\\\\").replace('"', '\\"')
@@ -222,7 +155,11 @@ def usages(listed):
 def made(listed):
     """The text of each file that is made, by its path."""
     page = "\n".join(page_lines(listed)) + "\n"
-    return {PAGE: page, COMPLETIONS: completions(listed), USAGES: usages(listed)}
+    program = listed["program"]
+    return {PAGE: page, USAGES: usages(listed),
+            COMPLETIONS / f"{program}.bash": completions.bash(listed),
+            COMPLETIONS / f"_{program}": completions.zsh(listed),
+            COMPLETIONS / f"{program}.fish": completions.fish(listed)}
 
 
 def faults(listed):
@@ -231,11 +168,11 @@ def faults(listed):
     for path, text in made(listed).items():
         if not path.exists() or path.read_text() != text:
             yield f"{tree.name_of(path)}: {told}"
-    shown = (tree.TOP / "README.md").read_text()
+    shown = TABLE.read_text()
     for command in listed["commands"]:
         words = f"`{listed['program']} {command['name']} {words_of(command)}`"
         if words not in shown:
-            yield f"README.md: does not show {words}"
+            yield f"{tree.name_of(TABLE)}: does not show {words}"
 
 
 def main():

@@ -1,4 +1,5 @@
 pub mod Alikes
+pub mod AllFiles
 pub mod Asking
 pub mod Candidates
 pub mod ClaimedFiles

@@ -64,7 +64,8 @@ impl PublicKey {
     /// The bytes of [S] B + [k] (-A), where A is the key's point: what a signature of the key with
     /// this S begins with.
     pub(crate) fn first_half(&self, s: &Scalar, k: &Scalar) -> [u8; 32]
-        ensures { (a : Point) → decoded self.now ≡ Some a → result ≡ encoding_of (combination_of a s.now k.now) }
+        ensures { (a : Point) → decoded self.now ≡ Some a → result ≡ encoding_of
+            (combination_of a s.now k.now) }
     {
         Point::base()
             .multiply(s)

@@ -1,7 +1,8 @@
--- The curve edwards25519 (RFC 8032, section 5.1): -x ^ 2 + y ^ 2 = 1 + d x ^ 2 y ^ 2, in the extended
--- coordinates of section 5.1.4, in which a point (x, y) is (X, Y, Z, T) with x = X / Z, y = Y / Z and
--- x y = T / Z.
-use Rattle.std.specs.Prelude.{◌≡◌, ℕ, zero, suc, ◌+◌, ◌*◌, ◌/◌, ◌%◌, Bool, ◌&&◌, nat_eq, if◌then◌else◌, refl}
+-- The curve edwards25519 (RFC 8032, section 5.1): -x ^ 2 + y ^ 2 = 1 + d x ^ 2 y ^ 2, in the
+-- extended coordinates of section 5.1.4, in which a point (x, y) is (X, Y, Z, T) with x = X / Z, y
+-- = Y / Z and x y = T / Z.
+use Rattle.std.specs.Prelude.{◌≡◌, ℕ, zero, suc, ◌+◌, ◌*◌, ◌/◌, ◌%◌, Bool, ◌&&◌, nat_eq}
+use Rattle.std.specs.Prelude.{if◌then◌else◌, refl}
 use Rattle.it_numbers.specs.Modular.{is_odd}
 use Rattle.it_ed_field.specs.Prime.{prime, plus_mod, minus_mod, times_mod}
 use Rattle.it_ed_point.specs.declared.point.Point.{Point}
@@ -34,7 +35,8 @@ base_y = 46316835694926478169428394003475163141307993866256225615783033603165251
 base_y-is : (5 * base_y) % prime ≡ 4
 base_y-is = refl
 
-base-on_curve : (base_y * base_y) % prime ≡ (base_x * base_x + 1 + curve_d * (base_x * base_x * (base_y * base_y))) % prime
+base-on_curve : (base_y * base_y) % prime ≡ (base_x * base_x + 1 + curve_d
+    * (base_x * base_x * (base_y * base_y))) % prime
 base-on_curve = refl
 
 -- the point with these coordinates
@@ -79,7 +81,8 @@ opposite_of p = record { x = minus_mod 0 p.x; y = p.y; z = p.z; t = minus_mod 0 
 -- first
 unfoldable pub added : ℕ → ℕ → Point → Point → Point
 added zero n total step = total
-added (suc bits) n total step = added bits (n / 2) (if is_odd n then sum_of total step else total) (double_of step)
+added (suc bits) n total step = added bits (n / 2) (if is_odd n then sum_of total step else total)
+    (double_of step)
 
 -- n times a point, for a number n below 2 ^ 253
 abbrev pub multiple_of : ℕ → Point → Point

@@ -1,5 +1,6 @@
 -- The 32 bytes of points (RFC 8032, sections 5.1.2 and 5.1.3).
-use Rattle.std.specs.Prelude.{ℕ, ◌+◌, ◌-◌, ◌*◌, ◌/◌, ◌%◌, ◌^◌, Bool, ◌&&◌, nat_eq, if◌then◌else◌, Option, Some, None, List}
+use Rattle.std.specs.Prelude.{ℕ, ◌+◌, ◌-◌, ◌*◌, ◌/◌, ◌%◌, ◌^◌, Bool, ◌&&◌, nat_eq, if◌then◌else◌}
+use Rattle.std.specs.Prelude.{Option, Some, None, List}
 use Rattle.std.specs.Option.{option_and_then}
 use Rattle.it_numbers.specs.Bytes.{little, little_bytes}
 use Rattle.it_numbers.specs.Modular.{number_below, power_mod}
@@ -53,7 +54,8 @@ point_at y sign =
     option_and_then (λ x. signed_point x y sign)
     (root_of_ratio (minus_mod square 1) (plus_mod (times_mod curve_d square) 1))
 
--- the point of 32 bytes: without the highest bit they are y, which is to be below the prime, and that
--- bit is the sign (step 1)
+-- the point of 32 bytes: without the highest bit they are y, which is to be below the prime, and
+-- that bit is the sign (step 1)
 unfoldable pub decoded : List ℕ → Option Point
-decoded bytes = option_and_then (λ y. point_at y (little bytes / 2 ^ 255 % 2)) (number_below prime (little bytes % 2 ^ 255))
+decoded bytes = option_and_then (λ y. point_at y (little bytes / 2 ^ 255 % 2))
+    (number_below prime (little bytes % 2 ^ 255))

@@ -1,7 +1,8 @@
 //! Points in extended coordinates (RFC 8032, section 5.1.4).
 ghost use Rattle.std.specs.Prelude.{◌≡◌, ◌*◌, ◌/◌, ◌%◌, ◌^◌, ◌<◌};
 ghost use Rattle.it_ed_scalar.specs.Order.{order};
-ghost use Rattle.it_ed_point.specs.Curve.{neutral, base, sum_of, double_of, opposite_of, multiple_of, is_neutral};
+ghost use Rattle.it_ed_point.specs.Curve.{neutral, base, sum_of, double_of, opposite_of};
+ghost use Rattle.it_ed_point.specs.Curve.{multiple_of, is_neutral};
 ghost use Rattle.it_ed_point.specs.Encoding.{encoding_of, decoded};
 
 use crate::constants::{one, twice_curve_constant, zero};

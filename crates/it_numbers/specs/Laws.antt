@@ -8,7 +8,8 @@ LittleOfBytes = (count n : ℕ) → n < 2 ^ (8 * count) → little (little_bytes
 
 -- bytes are those of their number, lowest first
 abbrev pub BytesOfLittle : Type 0
-BytesOfLittle = (bytes : List ℕ) → All (λ b. b < 256) bytes → little_bytes (length bytes) (little bytes) ≡ bytes
+BytesOfLittle = (bytes : List ℕ) → All (λ b. b < 256) bytes → little_bytes (length bytes)
+    (little bytes) ≡ bytes
 
 -- a number that fits is the number of its bytes, highest first
 abbrev pub BigOfBytes : Type 0
@@ -16,4 +17,5 @@ BigOfBytes = (count n : ℕ) → n < 2 ^ (8 * count) → big (big_bytes count n)
 
 -- bytes are those of their number, highest first
 abbrev pub BytesOfBig : Type 0
-BytesOfBig = (bytes : List ℕ) → All (λ b. b < 256) bytes → big_bytes (length bytes) (big bytes) ≡ bytes
+BytesOfBig = (bytes : List ℕ) → All (λ b. b < 256) bytes → big_bytes (length bytes) (big bytes)
+    ≡ bytes

@@ -1,47 +1,58 @@
+//! Folders of links.
 use it_chain::bundle::{Bundle, BundleFault};
-use std::alloc::Global;
+use std::alloc::{AllocError, Global};
 use std::test::Fail;
 
-fn text(alloc: Global, text: &str) -> Result<String, Fail> {
-    Ok(String::from_str(alloc, text)?)
+/// A folder in which there is another, of this name and with nothing in it.
+fn with_empty(alloc: Global, name: &str) -> Result<Bundle, Fail> {
+    with(alloc, name, Bundle::new(alloc))
+}
+
+/// A folder in which there is this one, under this name.
+fn with(alloc: Global, name: &str, inner: Bundle) -> Result<Bundle, Fail> {
+    let mut outer = Bundle::new(alloc);
+    let name = String::from_str(alloc, name)?;
+    outer.add_dir(name, inner).ok().ok_or("name taken")?;
+    Ok(outer)
+}
+
+/// A folder with one file, which is empty.
+fn with_file(alloc: Global, name: &str) -> Result<Bundle, AllocError> {
+    let mut bundle = Bundle::new(alloc);
+    bundle.add_file(String::from_str(alloc, name)?, Vec::new(alloc))?;
+    Ok(bundle)
+}
+
+fn has_both(outer: &Bundle) -> bool {
+    outer.dir("build.alice").is_some_and(|found| found.dir("inner.bob").is_some()
+        && found.dir("inner.alice").is_none())
 }
 
 #[test]
 fn finds_folders_in_folders(rt: HostRuntime) -> Result<(), Fail> {
-    let alloc = rt.alloc();
-    let mut inner = Bundle::new(alloc);
-    inner.add_file(text(alloc, "core.carol.link")?, Vec::new(alloc))?;
-    let mut middle = Bundle::new(alloc);
-    assert!(rt; middle.add_dir(text(alloc, "inner.bob")?, inner).is_ok());
-    let mut outer = Bundle::new(alloc);
-    assert!(rt; outer.add_dir(text(alloc, "build.alice")?, middle).is_ok());
-    let found = outer.dir("build.alice").ok_or("no folder")?;
-    assert!(rt; found.dir("inner.bob").is_some());
-    assert!(rt; found.dir("inner.alice").is_none());
+    let inner = with_file(rt.alloc(), "core.carol.link")?;
+    let middle = with(rt.alloc(), "inner.bob", inner)?;
+    let outer = with(rt.alloc(), "build.alice", middle)?;
+    assert!(rt; has_both(&outer));
     assert!(rt; outer.dir("inner.bob").is_none());
     assert!(rt; outer.dir("build.alic").is_none());
     Ok(())
 }
 
+/// Whether a second folder `a.b`, which holds one named `mark`, is handed back.
+fn is_handed_back(alloc: Global, bundle: &mut Bundle) -> Result<bool, Fail> {
+    let second = with_empty(alloc, "mark")?;
+    let name = String::from_str(alloc, "a.b")?;
+    Ok(match bundle.add_dir(name, second) {
+        Err(BundleFault::NameTaken(back)) => back.dir("mark").is_some(),
+        _ => false,
+    })
+}
+
 #[test]
 fn hands_a_second_folder_of_one_name_back(rt: HostRuntime) -> Result<(), Fail> {
-    let alloc = rt.alloc();
-    let mut bundle = Bundle::new(alloc);
-    assert!(rt;
-        bundle
-            .add_dir(text(alloc, "a.b")?, Bundle::new(alloc))
-            .is_ok()
-    );
-    let mut second = Bundle::new(alloc);
-    assert!(rt;
-        second
-            .add_dir(text(alloc, "mark")?, Bundle::new(alloc))
-            .is_ok()
-    );
-    match bundle.add_dir(text(alloc, "a.b")?, second) {
-        Err(BundleFault::NameTaken(back)) => assert!(rt; back.dir("mark").is_some()),
-        _ => assert!(rt; false, "the name is taken"),
-    }
+    let mut bundle = with_empty(rt.alloc(), "a.b")?;
+    assert!(rt; is_handed_back(rt.alloc(), &mut bundle)?);
     let there = bundle.dir("a.b").ok_or("no folder")?;
     assert!(rt; there.dir("mark").is_none());
     Ok(())

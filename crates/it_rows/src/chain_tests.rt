@@ -1,5 +1,9 @@
 //! What a chain holds, and where a refusal lies. What chains come to is in the cases that
 //! `itv_cases` runs.
+ghost use Rattle.std.specs.Prelude.{◌≤◌};
+
+use crate::rings::ring_of;
+use crate::signed_bodies::signed_bytes;
 use it_chain::bundle::Bundle;
 use it_chain::chain::Chain;
 use it_chain::refusal::{ChainError, ChainFault, ChainRefusal};
@@ -7,8 +11,6 @@ use it_chain::verify_chain;
 use it_docs::layout_reading::read_layout;
 use it_dsse::check::SignatureCheck;
 use it_dsse::meter::Meter;
-use it_dsse::ring::HmacRing;
-use it_dsse::signing::sign;
 use std::alloc::Global;
 use std::test::Fail;
 
@@ -30,72 +32,87 @@ const BY_CAROL: &str = r#"{"_type":"link","name":"core","products":{"app":{}}}"#
 
 const BY_BOB: &str = r#"{"_type":"link","name":"build","products":{"app":{}}}"#;
 
-fn ring(alloc: Global) -> Result<HmacRing, Fail> {
-    Ok(HmacRing::read(alloc, RING.as_bytes())?)
-}
-
-// Adds the envelope of a body, signed by an id.
+/// Adds the envelope of a body, signed by an id.
 fn add(alloc: Global, bundle: &mut Bundle, name: &str, id: &str, body: &str) -> Result<(), Fail> {
-    let kind = "application/vnd.in-toto+json";
-    let envelope = sign(alloc, &ring(alloc)?, id, kind, body.as_bytes())?;
-    let mut bytes = Vec::new(alloc);
-    envelope.write(alloc, &mut bytes)?;
+    let ring = ring_of(alloc, RING)?;
+    let bytes = signed_bytes(alloc, &ring, id, body)?;
     bundle.add_file(String::from_str(alloc, name)?, bytes)?;
     Ok(())
 }
 
-fn bundle(alloc: Global) -> Result<Bundle, Fail> {
+fn inner(alloc: Global) -> Result<Bundle, Fail> {
     let mut inner = Bundle::new(alloc);
     add(alloc, &mut inner, "core.carol.link", "carol", BY_CAROL)?;
+    Ok(inner)
+}
+
+fn bundle(alloc: Global) -> Result<Bundle, Fail> {
     let mut outer = Bundle::new(alloc);
     add(alloc, &mut outer, "build.alice.link", "alice", BY_ALICE)?;
     add(alloc, &mut outer, "build.bob.link", "bob", BY_BOB)?;
     let name = String::from_str(alloc, "build.alice")?;
+    let inner = inner(alloc)?;
     outer.add_dir(name, inner).ok().ok_or("name taken")?;
     Ok(outer)
 }
 
-// What the layout comes to, and how many signatures were tried.
-fn verified(alloc: Global, depth: u8) -> Result<(Result<Chain, ChainError>, u64), Fail> {
-    if depth > 8 {
-        return Err(Fail::from("too deep"));
-    }
+/// What the layout comes to over a bundle, and how many signatures were tried.
+fn verified_by(
+    alloc: Global,
+    bundle: &Bundle,
+    depth: u8,
+    panel: &[Box<dyn SignatureCheck>],
+) -> Result<(Result<Chain, ChainError>, u64), Fail>
+    requires { depth ≤ 8 }
+{
     let layout = read_layout(alloc, LAYOUT.as_bytes())
         .ok()
         .ok_or("no layout")?;
-    let panel: [Box<dyn SignatureCheck>; 1] = [Box::new(alloc, ring(alloc)?)?];
     let mut meter = Meter { asked: 0 };
-    let bundle = bundle(alloc)?;
-    let found = verify_chain(alloc, &layout, &bundle, EXPIRES, depth, &panel, &mut meter);
+    let found = verify_chain(alloc, &layout, bundle, EXPIRES, depth, panel, &mut meter);
     Ok((found, meter.asked))
+}
+
+/// The same over the bundle above and by one ring.
+fn verified(alloc: Global, depth: u8) -> Result<(Result<Chain, ChainError>, u64), Fail>
+    requires { depth ≤ 8 }
+{
+    let panel: [Box<dyn SignatureCheck>; 1] = [Box::new(alloc, ring_of(alloc, RING)?)?];
+    let bundle = bundle(alloc)?;
+    verified_by(alloc, &bundle, depth, &panel)
+}
+
+fn is_step(chain: &Chain) -> bool {
+    chain.steps.as_slice().first().is_some_and(|step| {
+        step.name.as_str() == "build"
+            && step.keys == 2
+            && step.materials.is_empty()
+            && step.products.get("app").is_some()
+    })
 }
 
 // Signatures are tried for alice, for bob, and for carol in the sublayout.
 #[test]
 fn a_sublayout_and_a_link_record_the_same_files(rt: HostRuntime) -> Result<(), Fail> {
     let (found, asked) = verified(rt.alloc(), 1)?;
-    assert_eq!(rt; asked, 3);
-    let Ok(chain) = found else {
-        panic!(rt; "no chain");
-    };
-    let step = chain.steps.as_slice().first().ok_or("no step")?;
-    assert_eq!(rt; step.name.as_str(), "build");
-    assert_eq!(rt; step.keys, 2);
-    assert!(rt; step.materials.is_empty());
-    assert!(rt; step.products.get("app").is_some());
+    assert!(rt; asked == 3, "{asked}");
+    assert!(rt; found.as_ref().is_ok_and(is_step));
     Ok(())
+}
+
+/// Whether a refusal is of a depth, and lies at the step `build` of alice.
+fn is_too_deep(refusal: &ChainRefusal) -> bool {
+    let [(step, id)] = refusal.at.as_slice() else {
+        return false;
+    };
+    matches!(refusal.fault, ChainFault::TooDeep)
+        && step.as_str() == "build"
+        && id.as_str() == "alice"
 }
 
 #[test]
 fn a_sublayout_past_the_depth_is_refused_where_it_lies(rt: HostRuntime) -> Result<(), Fail> {
     let (found, _) = verified(rt.alloc(), 0)?;
-    let Err(ChainError::Refused(ChainRefusal { at, fault })) = found else {
-        panic!(rt; "no refusal");
-    };
-    assert!(rt; matches!(fault, ChainFault::TooDeep));
-    let (step, id) = at.as_slice().first().ok_or("no place")?;
-    assert_eq!(rt; step.as_str(), "build");
-    assert_eq!(rt; id.as_str(), "alice");
-    assert_eq!(rt; at.as_slice().len(), 1);
+    assert!(rt; matches!(&found, Err(ChainError::Refused(refusal)) if is_too_deep(refusal)));
     Ok(())
 }

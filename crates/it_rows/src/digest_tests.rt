@@ -1,5 +1,5 @@
-use hex::{FromHex, FromHexError};
-use it_devices::{ABC, NOTHING, Source, map_of};
+use crate::known_digests::{ABC, LONG_ABC, MILLION, NOTHING};
+use it_devices::{Source, map_of};
 use it_digest::artifacts::Artifacts;
 use it_digest::compare::{Compare, DigestSet};
 use it_digest::reader::{DigestFault, sha256_of_reader};
@@ -7,166 +7,201 @@ use it_digest::sums::{SumsFault, read_sums};
 use std::alloc::{AllocError, Global};
 use std::test::Fail;
 
-const UPPER_CASE_ABC: &str = "BA7816BF8F01CFEA414140DE5DAE2223B00361A396177A9CB410FF61F20015AD";
+const NONE: DigestSet = DigestSet {
+    sha256: None,
+    sha384: None,
+    sha512: None,
+};
 
-// The SHA-256 of a million times `a`, and the SHA-512 of `abc` (FIPS 180-4, NIST's examples).
-const MILLION: &str = "cdc76e5c9914fb9281a1c7e284d73e67f1809a48a497200e046d39ccc7112cd0";
+const SHORT_ABC: DigestSet = DigestSet {
+    sha256: Some(ABC),
+    sha384: None,
+    sha512: None,
+};
 
-const LONG_ABC: &str =
-    "ddaf35a193617abacc417349ae20413112e6fa4e89a97ea20a9eeee64b55d39a2192992a274fc1a836ba3c23a3feebbd454d4423643ce80e2a9ac94fa54ca49f";
+const SHORT_NOTHING: DigestSet = DigestSet {
+    sha256: Some(NOTHING),
+    sha384: None,
+    sha512: None,
+};
 
-fn digest(text: &str) -> Result<[u8; 32], FromHexError> {
-    <[u8; 32] as FromHex>::from_hex(text)
-}
+const BOTH_OF_ABC: DigestSet = DigestSet {
+    sha256: Some(ABC),
+    sha384: None,
+    sha512: Some(LONG_ABC),
+};
 
-fn sha256(text: &str) -> Result<DigestSet, FromHexError> {
-    Ok(DigestSet {
-        sha256: Some(digest(text)?),
-        sha384: None,
-        sha512: None,
-    })
-}
+const LONG_ALONE: DigestSet = DigestSet {
+    sha256: None,
+    sha384: None,
+    sha512: Some(LONG_ABC),
+};
 
-fn with_sha512(set: DigestSet) -> Result<DigestSet, FromHexError> {
-    Ok(DigestSet {
-        sha256: set.sha256,
-        sha384: set.sha384,
-        sha512: Some(<[u8; 64] as FromHex>::from_hex(LONG_ABC)?),
-    })
-}
+const MIXED: DigestSet = DigestSet {
+    sha256: Some(NOTHING),
+    sha384: None,
+    sha512: Some(LONG_ABC),
+};
 
-fn all_with(alloc: Global, paths: &[&str], digests: DigestSet) -> Result<Artifacts, AllocError> {
-    let mut map = Artifacts::new(alloc);
-    for path in paths {
-        map.insert(String::from_str(alloc, path)?, digests)?;
-    }
-    Ok(map)
-}
+const COMPARED: [(DigestSet, DigestSet, Compare); 8] = [
+    (SHORT_ABC, BOTH_OF_ABC, Compare::Agree),
+    (BOTH_OF_ABC, MIXED, Compare::Differ),
+    (NONE, NONE, Compare::Apart),
+    (SHORT_ABC, SHORT_ABC, Compare::Agree),
+    (SHORT_ABC, SHORT_NOTHING, Compare::Differ),
+    (SHORT_ABC, LONG_ALONE, Compare::Apart),
+    (SHORT_ABC, NONE, Compare::Apart),
+    (MIXED, LONG_ALONE, Compare::Agree),
+];
 
 #[test]
-fn differs_if_one_algorithm_does_and_agrees_if_one_does(rt: HostRuntime) -> Result<(), Fail> {
-    let none = DigestSet {
-        sha256: None,
-        sha384: None,
-        sha512: None,
-    };
-    let abc = sha256(ABC)?;
-    let nothing = sha256(NOTHING)?;
-    let abc_twice = with_sha512(abc)?;
-    let long_alone = DigestSet {
-        sha256: None,
-        sha384: None,
-        sha512: abc_twice.sha512,
-    };
-    let mixed = with_sha512(nothing)?;
-    let rows = [
-        (abc, abc_twice, Compare::Agree),
-        (abc_twice, mixed, Compare::Differ),
-        (none, none, Compare::Apart),
-        (abc, abc, Compare::Agree),
-        (abc, nothing, Compare::Differ),
-        (abc, long_alone, Compare::Apart),
-        (abc, none, Compare::Apart),
-        (mixed, long_alone, Compare::Agree),
-    ];
-    for (a, b, want) in rows {
-        assert_eq!(rt; a.compare(&b), want, "{a:?} with {b:?}");
-        assert_eq!(rt; b.compare(&a), want, "{b:?} with {a:?}");
+fn differs_if_one_algorithm_does_and_agrees_if_one_does(rt: HostRuntime) {
+    for (one, other, want) in COMPARED.as_slice() {
+        assert!(rt; one.compare(other) == *want, "{one:?} with {other:?}");
+        assert!(rt; other.compare(one) == *want, "{other:?} with {one:?}");
     }
-    Ok(())
+}
+
+// What is put into a map, and what stood there before.
+const PUT: [(&str, DigestSet, Option<DigestSet>); 4] = [
+    ("é", SHORT_ABC, None),
+    ("a", SHORT_NOTHING, None),
+    ("B", SHORT_ABC, None),
+    ("a", SHORT_ABC, Some(SHORT_NOTHING)),
+];
+
+fn put(
+    alloc: Global,
+    map: &mut Artifacts,
+    path: &str,
+    digests: DigestSet,
+) -> Result<Option<DigestSet>, AllocError> {
+    let path = String::from_str(alloc, path)?;
+    map.insert(path, digests)
+}
+
+/// Whether the map's paths are these, in this order.
+fn has_paths(map: &Artifacts, paths: &[&str]) -> bool {
+    let mut found = map.paths();
+    for path in paths {
+        if found.next().is_none_or(|found| found.as_str() != *path) {
+            return false;
+        }
+    }
+    found.next().is_none()
+}
+
+/// Whether the map's entries are these paths in this order, each with these digests.
+fn has_entries(map: &Artifacts, paths: &[&str], digests: DigestSet) -> bool {
+    let mut found = map.iter();
+    for path in paths {
+        if found
+            .next()
+            .is_none_or(|(found, of)| found.as_str() != *path || *of != digests)
+        {
+            return false;
+        }
+    }
+    found.next().is_none()
 }
 
 #[test]
 fn maps_paths(rt: HostRuntime) -> Result<(), Fail> {
-    let alloc = rt.alloc();
-    let abc = sha256(ABC)?;
-    let nothing = sha256(NOTHING)?;
-    let mut map = Artifacts::new(alloc);
+    let mut map = Artifacts::new(rt.alloc());
     assert!(rt; map.is_empty());
-    assert_eq!(rt; map.insert(String::from_str(alloc, "é")?, abc)?, None);
-    assert_eq!(rt; map.insert(String::from_str(alloc, "a")?, nothing)?, None);
-    assert_eq!(rt; map.insert(String::from_str(alloc, "B")?, abc)?, None);
-    assert_eq!(rt;
-        map.insert(String::from_str(alloc, "a")?, abc)?,
-        Some(nothing)
-    );
-    assert!(rt; !map.is_empty());
-    assert_eq!(rt; map.get("a"), Some(abc));
-    assert_eq!(rt; map.get("b"), None);
-    let mut paths = map.paths();
-    let mut entries = map.iter();
-    for want in ["B", "a", "é"] {
-        let path = paths.next().ok_or("a path is missing")?;
-        assert_eq!(rt; path.as_str(), want);
-        let (path, digests) = entries.next().ok_or("an entry is missing")?;
-        assert_eq!(rt; path.as_str(), want);
-        assert_eq!(rt; *digests, abc);
+    for (path, digests, before) in PUT.as_slice() {
+        let found = put(rt.alloc(), &mut map, path, *digests)?;
+        assert!(rt; found == *before, "{path}");
     }
-    assert!(rt; paths.next().is_none());
-    assert!(rt; entries.next().is_none());
+    assert!(rt; !map.is_empty());
+    assert!(rt; map.get("a") == Some(SHORT_ABC));
+    assert!(rt; map.get("b").is_none());
+    assert!(rt; has_paths(&map, &["B", "a", "é"]));
+    assert!(rt; has_entries(&map, &["B", "a", "é"], SHORT_ABC));
     Ok(())
 }
+
+fn are_same(
+    alloc: Global,
+    one: &[(&str, DigestSet)],
+    other: &[(&str, DigestSet)],
+) -> Result<bool, AllocError> {
+    let one = map_of(alloc, one)?;
+    let other = map_of(alloc, other)?;
+    Ok(one.same_as(&other))
+}
+
+const TWO: [(&str, DigestSet); 2] = [("a", SHORT_ABC), ("b", SHORT_ABC)];
+
+const MAPS: [(&[(&str, DigestSet)], bool); 5] = [
+    (&[("b", SHORT_ABC), ("a", SHORT_ABC)], true),
+    (&[("a", SHORT_ABC)], false),
+    (&[("a", SHORT_ABC), ("c", SHORT_ABC)], false),
+    (&[("a", SHORT_ABC), ("b", SHORT_NOTHING)], false),
+    (&[("a", SHORT_ABC), ("b", BOTH_OF_ABC)], false),
+];
 
 #[test]
 fn same_maps_are_equal(rt: HostRuntime) -> Result<(), Fail> {
-    let alloc = rt.alloc();
-    let abc = sha256(ABC)?;
-    let map = map_of(alloc, &[("a", abc), ("b", abc)])?;
-    assert!(rt; map.same_as(&map_of(alloc, &[("b", abc), ("a", abc)])?));
-    assert!(rt; !map.same_as(&map_of(alloc, &[("a", abc)])?));
-    assert!(rt; !map.same_as(&map_of(alloc, &[("a", abc), ("c", abc)])?));
-    assert!(rt; !map.same_as(&map_of(alloc, &[("a", abc), ("b", sha256(NOTHING)?)])?));
-    assert!(rt; !map.same_as(&map_of(alloc, &[("a", abc), ("b", with_sha512(abc)?)])?));
+    for (other, want) in MAPS.as_slice() {
+        assert!(rt; are_same(rt.alloc(), &TWO, other)? == *want, "{other:?}");
+    }
     Ok(())
 }
 
+fn digest_of(bytes: &[u8], limit: u64) -> Result<[u8; 32], DigestFault> {
+    let mut reader = bytes;
+    sha256_of_reader(&mut reader, limit)
+}
+
+const READ: [(&[u8], u64, Result<[u8; 32], DigestFault>); 4] = [
+    (b"abc", 3, Ok(ABC)),
+    (b"abc", 2, Err(DigestFault::TooLarge)),
+    (b"abc", u64::MAX, Ok(ABC)),
+    (b"", 0, Ok(NOTHING)),
+];
+
 #[test]
 fn digests_what_a_reader_gives_up_to_a_limit(rt: HostRuntime) -> Result<(), Fail> {
-    let mut abc: &[u8] = b"abc";
-    assert_eq!(rt; sha256_of_reader(&mut abc, 3), Ok(digest(ABC)?));
-    let mut abc: &[u8] = b"abc";
-    assert_eq!(rt; sha256_of_reader(&mut abc, 2), Err(DigestFault::TooLarge));
-    let mut abc: &[u8] = b"abc";
-    assert_eq!(rt; sha256_of_reader(&mut abc, u64::MAX), Ok(digest(ABC)?));
-    let mut nothing: &[u8] = b"";
-    assert_eq!(rt; sha256_of_reader(&mut nothing, 0), Ok(digest(NOTHING)?));
-
+    for (bytes, limit, want) in READ.as_slice() {
+        assert!(rt; digest_of(bytes, *limit) == *want, "{bytes:?} {limit}");
+    }
     let million = vec![in rt.alloc(); b'a'; 1_000_000]?;
-    let mut reader = million.as_slice();
-    assert_eq!(rt;
-        sha256_of_reader(&mut reader, 1_000_000),
-        Ok(digest(MILLION)?)
-    );
-    let mut reader = million.as_slice();
-    assert_eq!(rt;
-        sha256_of_reader(&mut reader, 999_999),
-        Err(DigestFault::TooLarge)
-    );
+    let million = million.as_slice();
+    assert!(rt; digest_of(million, 1_000_000) == Ok(MILLION));
+    assert!(rt; digest_of(million, 999_999) == Err(DigestFault::TooLarge));
     Ok(())
+}
+
+/// The fault of reading so many bytes with a limit of three, and how many reads there were.
+fn fault_of(bytes: u64, fails_at: Option<u64>) -> (Option<DigestFault>, u64) {
+    let mut source = Source {
+        bytes,
+        reads: 0,
+        fails_at,
+    };
+    let fault = sha256_of_reader(&mut source, 3).err();
+    (fault, source.reads)
 }
 
 #[test]
 fn stops_at_a_fault_of_the_reader(rt: HostRuntime) {
     for fails_at in 1..5 {
-        let mut source = Source {
-            bytes: 3,
-            reads: 0,
-            fails_at: Some(fails_at),
-        };
-        assert_eq!(rt; sha256_of_reader(&mut source, 3), Err(DigestFault::Read));
-        assert_eq!(rt; source.reads, fails_at);
+        let (fault, reads) = fault_of(3, Some(fails_at));
+        assert!(rt; fault == Some(DigestFault::Read), "{fails_at}");
+        assert!(rt; reads == fails_at, "{fails_at}");
     }
-    let mut endless = Source {
-        bytes: u64::MAX,
-        reads: 0,
-        fails_at: None,
-    };
-    assert_eq!(rt;
-        sha256_of_reader(&mut endless, 3),
-        Err(DigestFault::TooLarge)
-    );
-    assert_eq!(rt; endless.reads, 4);
+    let (fault, reads) = fault_of(u64::MAX, None);
+    assert!(rt; fault == Some(DigestFault::TooLarge));
+    assert!(rt; reads == 4, "{reads}");
 }
+
+/// The digits of the SHA-256 of `abc`; in upper case; and all but the last of them.
+const DIGITS: &[u8] = b"ba7816bf8f01cfea414140de5dae2223b00361a396177a9cb410ff61f20015ad";
+
+const UPPER_CASE: &[u8] = b"BA7816BF8F01CFEA414140DE5DAE2223B00361A396177A9CB410FF61F20015AD";
+
+const SHORT: &[u8] = b"ba7816bf8f01cfea414140de5dae2223b00361a396177a9cb410ff61f20015a";
 
 fn list(alloc: Global, parts: &[&[u8]]) -> Result<Vec<u8>, AllocError> {
     let mut bytes = Vec::new(alloc);
@@ -176,65 +211,68 @@ fn list(alloc: Global, parts: &[&[u8]]) -> Result<Vec<u8>, AllocError> {
     Ok(bytes)
 }
 
+/// The parts of a list, and its paths in their order. The digest of each is that of `abc`.
+const LISTS: [(&[&[u8]], &[&str]); 9] = [
+    (&[], &[]),
+    (&[DIGITS, b"  app\n"], &["app"]),
+    (&[DIGITS, b" *app"], &["app"]),
+    (&[UPPER_CASE, b" *app"], &["app"]),
+    (&[DIGITS, b"   app\n"], &[" app"]),
+    (&[DIGITS, b"  app\r\n"], &["app\r"]),
+    (&[DIGITS, b"  a\0b\\c  d*\n"], &["a\0b\\c  d*"]),
+    (
+        &[DIGITS, b"  b\n", DIGITS, b" * \n", DIGITS, b"  a"],
+        &[" ", "a", "b"],
+    ),
+    (&[DIGITS, b"  \xc3\xa9\n"], &["é"]),
+];
+
+/// Whether a list of these parts has these paths, each with the digest of `abc`.
+fn lists(alloc: Global, parts: &[&[u8]], paths: &[&str]) -> Result<bool, SumsFault> {
+    let bytes = list(alloc, parts)?;
+    let sums = read_sums(alloc, &bytes)?;
+    Ok(has_entries(&sums, paths, SHORT_ABC))
+}
+
 #[test]
 fn reads_lists_of_text_and_binary_lines(rt: HostRuntime) -> Result<(), Fail> {
-    let alloc = rt.alloc();
-    let abc = ABC.as_bytes();
-    let upper = UPPER_CASE_ABC.as_bytes();
-    let rows: [(&[&[u8]], &[&str]); 9] = [
-        (&[], &[]),
-        (&[abc, b"  app\n"], &["app"]),
-        (&[abc, b" *app"], &["app"]),
-        (&[upper, b" *app"], &["app"]),
-        (&[abc, b"   app\n"], &[" app"]),
-        (&[abc, b"  app\r\n"], &["app\r"]),
-        (&[abc, b"  a\0b\\c  d*\n"], &["a\0b\\c  d*"]),
-        (
-            &[abc, b"  b\n", abc, b" * \n", abc, b"  a"],
-            &["b", " ", "a"],
-        ),
-        (&[abc, b"  \xc3\xa9\n"], &["é"]),
-    ];
-    let digests = sha256(ABC)?;
-    for (parts, paths) in rows {
-        let bytes = list(alloc, parts)?;
-        let want = all_with(alloc, paths, digests)?;
-        let sums = read_sums(alloc, &bytes)?;
-        assert!(rt; sums.same_as(&want), "{bytes:?}");
+    for (parts, paths) in LISTS.as_slice() {
+        assert!(rt; lists(rt.alloc(), parts, paths)?, "{paths:?}");
     }
     Ok(())
 }
 
+/// The parts of a list, and its first bad line.
+const BAD_LISTS: [(&[&[u8]], u64); 17] = [
+    (&[b"\n"], 1),
+    (&[SHORT, b"  app"], 1),
+    (&[b"0", DIGITS, b"  app"], 1),
+    (&[SHORT, b"g  app"], 1),
+    (&[b"\\", DIGITS, b"  app"], 1),
+    (&[DIGITS], 1),
+    (&[DIGITS, b"  "], 1),
+    (&[DIGITS, b" *\n"], 1),
+    (&[DIGITS, b" app\n"], 1),
+    (&[DIGITS, b"* app\n"], 1),
+    (&[DIGITS, b"\t app\n"], 1),
+    (&[DIGITS, b"  \xff\n"], 1),
+    (&[DIGITS, b"  app\n\n"], 2),
+    (&[DIGITS, b"  a\n", DIGITS, b"  a\n"], 2),
+    (&[DIGITS, b"  a\n", DIGITS, b"  b\n", DIGITS, b" *a\n"], 3),
+    (&[DIGITS, b"  a\n\n", DIGITS, b"  a\n"], 2),
+    (&[b"a\n", DIGITS, b"  b\n", DIGITS, b"  \xff\n"], 1),
+];
+
+fn fault_of_list(alloc: Global, parts: &[&[u8]]) -> Result<Option<SumsFault>, AllocError> {
+    let bytes = list(alloc, parts)?;
+    Ok(read_sums(alloc, &bytes).err())
+}
+
 #[test]
 fn names_the_first_bad_line_of_a_list(rt: HostRuntime) -> Result<(), Fail> {
-    let alloc = rt.alloc();
-    let abc = ABC.as_bytes();
-    let short = &abc[..63];
-    let rows: [(&[&[u8]], u64); 17] = [
-        (&[b"\n"], 1),
-        (&[short, b"  app"], 1),
-        (&[b"0", abc, b"  app"], 1),
-        (&[short, b"g  app"], 1),
-        (&[b"\\", abc, b"  app"], 1),
-        (&[abc], 1),
-        (&[abc, b"  "], 1),
-        (&[abc, b" *\n"], 1),
-        (&[abc, b" app\n"], 1),
-        (&[abc, b"* app\n"], 1),
-        (&[abc, b"\t app\n"], 1),
-        (&[abc, b"  \xff\n"], 1),
-        (&[abc, b"  app\n\n"], 2),
-        (&[abc, b"  a\n", abc, b"  a\n"], 2),
-        (&[abc, b"  a\n", abc, b"  b\n", abc, b" *a\n"], 3),
-        (&[abc, b"  a\n\n", abc, b"  a\n"], 2),
-        (&[b"a\n", abc, b"  b\n", abc, b"  \xff\n"], 1),
-    ];
-    for (parts, line) in rows {
-        let bytes = list(alloc, parts)?;
-        match read_sums(alloc, &bytes) {
-            Ok(_) => assert!(rt; false, "{bytes:?}"),
-            Err(fault) => assert_eq!(rt; fault, SumsFault::BadSums(line), "{bytes:?}"),
-        }
+    for (parts, line) in BAD_LISTS.as_slice() {
+        let fault = fault_of_list(rt.alloc(), parts)?;
+        assert!(rt; fault == Some(SumsFault::BadSums(*line)), "{parts:?}");
     }
     Ok(())
 }

@@ -1,484 +1,117 @@
+//! How envelopes and key objects are read, and envelopes written.
+use crate::rings::{RING, is_object, ring_of};
 use it_base::parts::from_bytes;
-use it_base::sequence::Sequence;
-use it_devices::{Full, Pipe, strings, text};
-use it_dsse::check::SignatureCheck;
+use it_devices::{Full, Pipe};
 use it_dsse::envelope::{Envelope, EnvelopeFault, Signature};
 use it_dsse::key_object::KeyObject;
-use it_dsse::meter::Meter;
-use it_dsse::ring::{HmacRing, RingFault};
 use it_dsse::signing::sign;
 use it_dsse::written::WriteFault;
-use it_dsse::{hmac_sha256, hmac_sha256_parts, pae, signed_by, signed_ids};
-use sha2::{Digest, Sha256};
 use std::alloc::{AllocError, Global};
 use std::test::Fail;
 
-#[test]
-fn encodes_type_and_body_with_their_lengths_in_bytes(rt: HostRuntime) -> Result<(), Fail> {
-    let alloc = rt.alloc();
-    // The example of the DSSE specification, an empty body, and a type of more bytes than
-    // characters.
-    let rows = [
-        (
-            "http://example.com/HelloWorld",
-            "hello world",
-            "DSSEv1 29 http://example.com/HelloWorld 11 hello world",
-        ),
-        (
-            "application/vnd.in-toto+json",
-            "",
-            "DSSEv1 28 application/vnd.in-toto+json 0 ",
-        ),
-        ("größe", "ok", "DSSEv1 7 größe 2 ok"),
-    ];
-    for (kind, body, want) in rows {
-        let bytes = pae(alloc, kind, body.as_bytes())?;
-        assert_eq!(rt; bytes.as_slice(), want.as_bytes(), "{kind}");
-    }
-    Ok(())
+fn read(alloc: Global, text: &str) -> Result<Envelope, EnvelopeFault> {
+    Envelope::read(alloc, text.as_bytes())
 }
 
-#[test]
-fn computes_the_codes_of_the_standard(rt: HostRuntime) -> Result<(), Fail> {
-    let alloc = rt.alloc();
-    let counted: [u8; 25] = [
-        1, 2, 3, 4, 5, 6, 7, 8, 9, 10, 11, 12, 13, 14, 15, 16, 17, 18, 19, 20, 21, 22, 23, 24, 25,
-    ];
-    let long = [0xaa; 131];
-    // The seven cases of RFC 4231; of the fifth the first 16 bytes are given.
-    let rows: [(&[u8], &[u8], &str); 7] = [
-        (
-            &[0x0b; 20],
-            b"Hi There",
-            "b0344c61d8db38535ca8afceaf0bf12b881dc200c9833da726e9376c2e32cff7",
-        ),
-        (
-            b"Jefe",
-            b"what do ya want for nothing?",
-            "5bdcc146bf60754e6a042426089575c75a003f089d2739839dec58b964ec3843",
-        ),
-        (
-            &[0xaa; 20],
-            &[0xdd; 50],
-            "773ea91e36800e46854db8ebd09181a72959098b3ef8c122d9635514ced565fe",
-        ),
-        (
-            &counted,
-            &[0xcd; 50],
-            "82558a389a443c0ea4cc819899f2083a85f0faa3e578f8077a2e3ff46729665b",
-        ),
-        (
-            &[0x0c; 20],
-            b"Test With Truncation",
-            "a3b6167473100ee06e0c796c2955552b",
-        ),
-        (
-            &long,
-            b"Test Using Larger Than Block-Size Key - Hash Key First",
-            "60e431591ee0b67f0d8a26aacbf5b77f8e0bc6213728c5140546040f0ee37f54",
-        ),
-        (
-            &long,
-            b"This is a test using a larger than block-size key and a larger than block-size data. The key needs to be hashed before being used by the HMAC algorithm.",
-            "9b09ffa71b942fcb27635fbcd5b0e944bfdc63644f0713938a7f51535c3a35e2",
-        ),
-    ];
-    for (key, message, want) in rows {
-        let code = hmac_sha256(key, message);
-        let text = hex::encode(alloc, code.as_slice())?;
-        assert!(rt; text.as_str().starts_with(want), "{want}");
-    }
-    Ok(())
+fn are_signatures(found: &[Signature], want: &[(&str, &[u8])]) -> bool {
+    found.len() == want.len()
+        && found.iter().zip(want).all(|(found, (keyid, sig))| {
+            found.keyid.as_str() == *keyid && found.sig.as_slice() == *sig
+        })
 }
 
-// The second case of RFC 4231 in three parts, and a message of no parts.
-#[test]
-fn computes_the_code_of_a_message_in_parts(rt: HostRuntime) -> Result<(), Fail> {
-    let alloc = rt.alloc();
-    let code = hmac_sha256_parts(b"Jefe", &[b"what do ya ", b"", b"want for nothing?"]);
-    let text = hex::encode(alloc, code.as_slice())?;
-    assert_eq!(rt;
-        text.as_str(),
-        "5bdcc146bf60754e6a042426089575c75a003f089d2739839dec58b964ec3843"
-    );
-    let nothing = hmac_sha256_parts(b"Jefe", &[]);
-    assert_eq!(rt; nothing, hmac_sha256(b"Jefe", b""));
-    Ok(())
+/// Whether a text is an envelope of the type `t` with this payload and these signatures.
+fn reads_as(
+    alloc: Global,
+    text: &str,
+    payload: &[u8],
+    signatures: &[(&str, &[u8])],
+) -> Result<bool, EnvelopeFault> {
+    let envelope = read(alloc, text)?;
+    Ok(
+        envelope.payload.as_slice() == payload
+            && envelope.payload_type.as_str() == "t"
+            && are_signatures(envelope.signatures.as_slice(), signatures),
+    )
 }
 
-// A key of one block stands for itself, and a longer one for its digest. The codes were computed by
-// another program.
-#[test]
-fn takes_a_key_of_a_block_as_it_is_and_digests_a_longer_one(rt: HostRuntime) -> Result<(), Fail> {
-    let alloc = rt.alloc();
-    let block = hmac_sha256(&[0xaa; 64], b"Sample message for keylen");
-    let text = hex::encode(alloc, block.as_slice())?;
-    assert_eq!(rt;
-        text.as_str(),
-        "a7c8a4e5e9dfc9097262c3c2891710074e4640d6a1056d21853b2e1a83461c13"
-    );
-    let longer = hmac_sha256(&[0xaa; 65], b"Sample message for keylen");
-    let text = hex::encode(alloc, longer.as_slice())?;
-    assert_eq!(rt;
-        text.as_str(),
-        "e420ce7f8eeb9d8561ba3a72173e9b1e7ff195126116eeb3fb0463ea2c9e8938"
-    );
-    let digest = Sha256::digest([0xaa; 65].as_slice());
-    let by_digest = hmac_sha256(&digest, b"Sample message for keylen");
-    assert_eq!(rt; by_digest, longer);
-    Ok(())
-}
-
-fn joined(alloc: Global, texts: &[String]) -> Result<String, AllocError> {
-    let mut all = String::new(alloc);
-    for text in texts {
-        all.push_str(text.as_str())?;
-        all.push(' ')?;
-    }
-    Ok(all)
-}
+const EITHER_ALPHABET: [&str; 2] = [
+    r#"{"payload":"-_8=","payloadType":"t","other":7,"signatures":[{"sig":"Zg=="},{"sig":"","keyid":"a"}]}"#,
+    r#"{"payload":"+/8=","payloadType":"t","other":7,"signatures":[{"sig":"Zg=="},{"sig":"","keyid":"a"}]}"#,
+];
 
 #[test]
 fn reads_payloads_in_either_alphabet_of_base64(rt: HostRuntime) -> Result<(), Fail> {
-    let alloc = rt.alloc();
-    for payload in ["-_8=", "+/8="] {
-        let bytes = format!(in alloc;
-            "{{\"payload\":\"{payload}\",\"payloadType\":\"t\",\"other\":7,\"signatures\":[{{\"sig\":\"Zg==\"}},{{\"sig\":\"\",\"keyid\":\"a\"}}]}}"
-        )?;
-        match Envelope::read(alloc, bytes.as_bytes()) {
-            Ok(envelope) => {
-                assert_eq!(rt; envelope.payload.as_slice(), [0xfb, 0xff].as_slice());
-                assert_eq!(rt; envelope.payload_type.as_str(), "t");
-                let signatures = envelope.signatures.as_slice();
-                assert_eq!(rt; signatures.len(), 2);
-                assert_eq!(rt; signatures[0].keyid.as_str(), "");
-                assert_eq!(rt; signatures[0].sig.as_slice(), b"f".as_slice());
-                assert_eq!(rt; signatures[1].keyid.as_str(), "a");
-                assert_eq!(rt; signatures[1].sig.as_slice(), b"".as_slice());
-            }
-            Err(_) => panic!(rt; "{payload}"),
-        }
-    }
-    // Of both alphabets, without padding, and with bits left over.
-    for payload in ["-/8=", "+/8", "e31="] {
-        let bytes = format!(in alloc;
-            "{{\"payload\":\"{payload}\",\"payloadType\":\"t\",\"signatures\":[]}}"
-        )?;
-        let read = Envelope::read(alloc, bytes.as_bytes());
+    let signatures: [(&str, &[u8]); 2] = [("", b"f"), ("a", b"")];
+    for text in EITHER_ALPHABET.as_slice() {
         assert!(rt;
-            matches!(read, Err(EnvelopeFault::BadEnvelope)),
-            "{payload}"
+            reads_as(rt.alloc(), text, b"\xfb\xff", &signatures)?,
+            "{text}"
         );
     }
     Ok(())
 }
 
+// The first three have a payload of both alphabets, without padding, and with bits left over.
+const NO_ENVELOPES: [&str; 13] = [
+    r#"{"payload":"-/8=","payloadType":"t","signatures":[]}"#,
+    r#"{"payload":"+/8","payloadType":"t","signatures":[]}"#,
+    r#"{"payload":"e31=","payloadType":"t","signatures":[]}"#,
+    "",
+    "[]",
+    "{}",
+    r#"{"payload":"","payloadType":"t"}"#,
+    r#"{"payload":"","payloadType":"t","signatures":null}"#,
+    r#"{"payload":"","payloadType":7,"signatures":[]}"#,
+    r#"{"payloadType":"t","signatures":[]}"#,
+    r#"{"payload":"","payloadType":"t","signatures":[{}]}"#,
+    r#"{"payload":"","payloadType":"t","signatures":[{"sig":"","keyid":7}]}"#,
+    r#"{"payload":"","payloadType":"t","signatures":[{"sig":""},{"sig":"e31="}]}"#,
+];
+
+const NO_HINT: &str = r#"{"payload":"","payloadType":"t","signatures":[{"sig":"","keyid":null}]}"#;
+
 #[test]
-fn refuses_bytes_that_are_no_envelope(rt: HostRuntime) -> Result<(), Fail> {
-    let alloc = rt.alloc();
-    let texts = [
-        "",
-        "[]",
-        "{}",
-        "{\"payload\":\"\",\"payloadType\":\"t\"}",
-        "{\"payload\":\"\",\"payloadType\":\"t\",\"signatures\":null}",
-        "{\"payload\":\"\",\"payloadType\":7,\"signatures\":[]}",
-        "{\"payloadType\":\"t\",\"signatures\":[]}",
-        "{\"payload\":\"\",\"payloadType\":\"t\",\"signatures\":[{}]}",
-        "{\"payload\":\"\",\"payloadType\":\"t\",\"signatures\":[{\"sig\":\"\",\"keyid\":7}]}",
-        "{\"payload\":\"\",\"payloadType\":\"t\",\"signatures\":[{\"sig\":\"\"},{\"sig\":\"e31=\"}]}",
-    ];
-    for text in texts {
-        match Envelope::read(alloc, text.as_bytes()) {
-            Ok(_) => panic!(rt; "{text}"),
-            Err(e) => assert!(rt; e == EnvelopeFault::BadEnvelope, "{text}"),
-        }
+fn refuses_bytes_that_are_no_envelope(rt: HostRuntime) {
+    for text in NO_ENVELOPES.as_slice() {
+        let fault = read(rt.alloc(), text).err();
+        assert!(rt; fault == Some(EnvelopeFault::BadEnvelope), "{text}");
     }
-    let no_hint =
-        "{\"payload\":\"\",\"payloadType\":\"t\",\"signatures\":[{\"sig\":\"\",\"keyid\":null}]}";
-    assert!(rt; Envelope::read(alloc, no_hint.as_bytes()).is_ok());
-    Ok(())
+    assert!(rt; read(rt.alloc(), NO_HINT).is_ok());
+}
+
+const KEY_OBJECTS: [(&str, Option<(&str, &str, &str)>); 5] = [
+    (
+        r#"{"keytype":"hmac","scheme":"s","keyval":{"public":"p"},"keyid":7}"#,
+        Some(("hmac", "s", "p")),
+    ),
+    ("{}", Some(("", "", ""))),
+    (
+        r#"{"keytype":7,"scheme":null,"keyval":["p"]}"#,
+        Some(("", "", "")),
+    ),
+    ("[]", None),
+    ("\"hmac\"", None),
+];
+
+fn is_key_object(
+    alloc: Global,
+    document: &str,
+    want: Option<(&str, &str, &str)>,
+) -> Result<bool, AllocError> {
+    let found = from_bytes::<KeyObject>(alloc, document.as_bytes())?;
+    Ok(match (&found, want) {
+        (Some(found), Some(want)) => is_object(found, want),
+        (None, None) => true,
+        _ => false,
+    })
 }
 
 #[test]
 fn reads_key_objects(rt: HostRuntime) -> Result<(), Fail> {
-    let alloc = rt.alloc();
-    let rows = [
-        (
-            "{\"keytype\":\"hmac\",\"scheme\":\"s\",\"keyval\":{\"public\":\"p\"},\"keyid\":7}",
-            Some(("hmac", "s", "p")),
-        ),
-        ("{}", Some(("", "", ""))),
-        (
-            "{\"keytype\":7,\"scheme\":null,\"keyval\":[\"p\"]}",
-            Some(("", "", "")),
-        ),
-        ("[]", None),
-        ("\"hmac\"", None),
-    ];
-    for (document, want) in rows {
-        match (from_bytes::<KeyObject>(alloc, document.as_bytes())?, want) {
-            (Some(object), Some((keytype, scheme, public))) => {
-                assert_eq!(rt; object.keytype.as_str(), keytype, "{document}");
-                assert_eq!(rt; object.scheme.as_str(), scheme, "{document}");
-                assert_eq!(rt; object.public.as_str(), public, "{document}");
-            }
-            (None, None) => {}
-            (_, _) => panic!(rt; "{document}"),
-        }
+    for (document, want) in KEY_OBJECTS.as_slice() {
+        assert!(rt; is_key_object(rt.alloc(), document, *want)?, "{document}");
     }
-    Ok(())
-}
-
-const RING: &str =
-    "[{\"id\":\"owner\",\"secret\":\"6f776e6572\"},{\"id\":\"alice\",\"secret\":\"616c696365\"},{\"id\":\"bobz\",\"secret\":\"626F6200\"},{\"id\":\"bob\",\"secret\":\"626f62\"},{\"id\":\"carol\",\"secret\":\"6361726f6c\"}]";
-
-fn ring(alloc: Global) -> Result<HmacRing, Fail> {
-    ring_of(alloc, RING)
-}
-
-fn ring_of(alloc: Global, text: &str) -> Result<HmacRing, Fail> {
-    Ok(
-        HmacRing::read(alloc, text.as_bytes())
-            .ok()
-            .ok_or("no ring")?,
-    )
-}
-
-#[test]
-fn refuses_bytes_that_are_no_ring(rt: HostRuntime) -> Result<(), Fail> {
-    let alloc = rt.alloc();
-    let texts = [
-        "",
-        "{}",
-        "[{}]",
-        "[{\"id\":\"a\"}]",
-        "[{\"secret\":\"00\"}]",
-        "[{\"id\":\"a\",\"secret\":\"0\"}]",
-        "[{\"id\":\"a\",\"secret\":\"0g\"}]",
-        "[{\"id\":7,\"secret\":\"00\"}]",
-        "[{\"id\":\"a\",\"secret\":\"00\"},{\"id\":\"b\",\"secret\":\"\"},{\"id\":\"a\",\"secret\":\"11\"}]",
-    ];
-    for text in texts {
-        match HmacRing::read(alloc, text.as_bytes()) {
-            Ok(_) => panic!(rt; "{text}"),
-            Err(e) => assert!(rt; e == RingFault::BadRing, "{text}"),
-        }
-    }
-    assert!(rt; HmacRing::read(alloc, b"[]").is_ok());
-    Ok(())
-}
-
-fn ring_text(alloc: Global, entries: usize) -> Result<String, AllocError> {
-    let mut text = String::from_str(alloc, "[")?;
-    for n in 0..entries {
-        if n > 0 {
-            text.push(',')?;
-        }
-        write!(text, "{{\"id\":\"{n}\",\"secret\":\"\"}}")?;
-    }
-    text.push(']')?;
-    Ok(text)
-}
-
-#[test]
-fn reads_a_full_ring(rt: HostRuntime) -> Result<(), Fail> {
-    let alloc = rt.alloc();
-    let full = ring_text(alloc, 65536)?;
-    let ring = HmacRing::read(alloc, full.as_bytes())
-        .ok()
-        .ok_or("no ring")?;
-    assert_eq!(rt; ring.ids(alloc)?.len(), 65536);
-    let object = object(alloc)?;
-    assert_eq!(rt; ring.key("65535", &object), Some(0));
-    let over = ring_text(alloc, 65537)?;
-    match HmacRing::read(alloc, over.as_bytes()) {
-        Ok(_) => panic!(rt; "read"),
-        Err(e) => assert!(rt; e == RingFault::BadRing),
-    }
-    Ok(())
-}
-
-fn object(alloc: Global) -> Result<KeyObject, AllocError> {
-    Ok(KeyObject {
-        keytype: text(alloc, "hmac")?,
-        scheme: text(alloc, "hmac-sha256")?,
-        public: text(alloc, "")?,
-    })
-}
-
-#[test]
-fn knows_the_keys_of_a_ring(rt: HostRuntime) -> Result<(), Fail> {
-    let alloc = rt.alloc();
-    let ring = ring(alloc)?;
-    let ids = ring.ids(alloc)?;
-    let ids = joined(alloc, ids.as_slice())?;
-    assert_eq!(rt; ids.as_str(), "alice bob bobz carol owner ");
-    let object = object(alloc)?;
-    // `bob` and `bobz` have one key: a secret is filled with zero bytes to a block.
-    let rows = [
-        ("owner", Some(0)),
-        ("alice", Some(1)),
-        ("bobz", Some(2)),
-        ("bob", Some(2)),
-        ("carol", Some(4)),
-        ("dave", None),
-        ("", None),
-    ];
-    for (id, want) in rows {
-        assert_eq!(rt; ring.key(id, &object), want, "{id}");
-    }
-    let other = KeyObject {
-        scheme: text(alloc, "ed25519")?,
-        ..object
-    };
-    assert_eq!(rt; ring.key("alice", &other), None);
-    Ok(())
-}
-
-#[test]
-fn checks_signatures_by_a_ring(rt: HostRuntime) -> Result<(), Fail> {
-    let alloc = rt.alloc();
-    let ring = ring(alloc)?;
-    let code = hmac_sha256(b"alice", b"message");
-    let rows: [(u32, &[&[u8]], &[u8], bool); 7] = [
-        (1, &[b"message"], &code, true),
-        (1, &[b"mess", b"", b"age"], &code, true),
-        (1, &[b"age", b"mess"], &code, false),
-        (1, &[b"messagf"], &code, false),
-        (0, &[b"message"], &code, false),
-        (1, &[b"message"], &code[..31], false),
-        (5, &[b"message"], &code, false),
-    ];
-    let mut meter = Meter {
-        asked: u64::MAX - 2,
-    };
-    for (key, message, sig, want) in rows {
-        assert_eq!(rt; ring.valid(key, message, sig, &mut meter), want, "{key}");
-    }
-    assert_eq!(rt; meter.asked, u64::MAX);
-    Ok(())
-}
-
-fn signature(alloc: Global, secret: &[u8], hint: &str) -> Result<Signature, AllocError> {
-    let message = pae(alloc, "t", b"body")?;
-    let code = hmac_sha256(secret, message.as_slice());
-    Ok(Signature {
-        keyid: text(alloc, hint)?,
-        sig: Sequence::from(Vec::from_slice(alloc, code.as_slice())?),
-    })
-}
-
-fn envelope(alloc: Global, signers: &[(&str, &str)]) -> Result<Envelope, AllocError> {
-    let mut signatures = Vec::new(alloc);
-    for (secret, hint) in signers {
-        signatures.push(signature(alloc, secret.as_bytes(), hint)?)?;
-    }
-    Ok(Envelope {
-        payload: Sequence::from(Vec::from_slice(alloc, b"body")?),
-        payload_type: text(alloc, "t")?,
-        signatures: Sequence::from(signatures),
-    })
-}
-
-// Which key of a panel signed for an id, of these secrets and hints, and how many signatures were
-// tried.
-fn signer(
-    alloc: Global,
-    signers: &[(&str, &str)],
-    id: &str,
-    panel: &[Box<dyn SignatureCheck>],
-) -> Result<(Option<(usize, u32)>, u64), AllocError> {
-    let mut meter = Meter { asked: 0 };
-    let envelope = envelope(alloc, signers)?;
-    let found = signed_by(&envelope, id, &object(alloc)?, panel, &mut meter);
-    Ok((found, meter.asked))
-}
-
-#[test]
-fn finds_signers(rt: HostRuntime) -> Result<(), Fail> {
-    let alloc = rt.alloc();
-    let panel: [Box<dyn SignatureCheck>; 1] = [Box::new(alloc, ring(alloc)?)?];
-    let rows = [
-        ("", "alice", None, 1),
-        ("", "bob", Some((0, 2)), 1),
-        ("", "bobz", Some((0, 2)), 1),
-        ("bob", "bob", Some((0, 2)), 1),
-        ("bob", "bobz", None, 0),
-        ("alice", "bob", None, 0),
-        ("", "dave", None, 0),
-    ];
-    for (hint, id, want, asked) in rows {
-        let found = signer(alloc, &[("bob", hint)], id, &panel)?;
-        assert_eq!(rt; found, (want, asked), "{id} under {hint}");
-    }
-    Ok(())
-}
-
-// A key that is not the ring's, a hint for another id, another key under the hint, and the key
-// twice.
-#[test]
-fn stops_at_the_first_valid_signature(rt: HostRuntime) -> Result<(), Fail> {
-    let alloc = rt.alloc();
-    let panel: [Box<dyn SignatureCheck>; 1] = [Box::new(alloc, ring(alloc)?)?];
-    let signers = [
-        ("x", ""),
-        ("alice", "bob"),
-        ("y", "alice"),
-        ("alice", ""),
-        ("alice", ""),
-    ];
-    let found = signer(alloc, &signers, "alice", &panel)?;
-    assert_eq!(rt; found, (Some((0, 1)), 3));
-    Ok(())
-}
-
-const CAROL_AND_ANOTHER_ALICE: &str =
-    r#"[{"id":"carol","secret":"6361726f6c"},{"id":"alice","secret":"626f62"}]"#;
-
-#[test]
-fn finds_signers_by_a_panel(rt: HostRuntime) -> Result<(), Fail> {
-    let alloc = rt.alloc();
-    let first = ring_of(alloc, CAROL_AND_ANOTHER_ALICE)?;
-    let panel: [Box<dyn SignatureCheck>; 2] = [
-        Box::new(alloc, first)?,
-        Box::new(alloc, ring(alloc)?)?,
-    ];
-    let rows = [
-        ("bob", "alice", Some((0, 1)), 1),
-        ("alice", "alice", None, 1),
-        ("carol", "carol", Some((0, 0)), 1),
-        ("owner", "owner", Some((1, 0)), 1),
-        ("bob", "bob", Some((1, 2)), 1),
-        ("bob", "dave", None, 0),
-    ];
-    for (secret, id, want, asked) in rows {
-        let found = signer(alloc, &[(secret, "")], id, &panel)?;
-        assert_eq!(rt; found, (want, asked), "{id} signed with {secret}");
-    }
-    Ok(())
-}
-
-#[test]
-fn finds_nobody_by_an_empty_panel(rt: HostRuntime) -> Result<(), Fail> {
-    let found = signer(rt.alloc(), &[("alice", "")], "alice", &[])?;
-    assert_eq!(rt; found, (None, 0));
-    Ok(())
-}
-
-#[test]
-fn lists_signers(rt: HostRuntime) -> Result<(), Fail> {
-    let alloc = rt.alloc();
-    let panel: [Box<dyn SignatureCheck>; 1] = [Box::new(alloc, ring(alloc)?)?];
-    let object = object(alloc)?;
-    let envelope = envelope(
-        alloc,
-        &[("bob", ""), ("alice", "alice"), ("owner", "carol")],
-    )?;
-    let ids = strings(alloc, &["carol", "bobz", "alice", "owner", "bob", "alice"])?;
-    let signers = signed_ids(alloc, &envelope, ids.as_slice(), &object, &panel)?;
-    let signers = joined(alloc, signers.as_slice())?;
-    assert_eq!(rt; signers.as_str(), "bobz alice bob alice ");
     Ok(())
 }
 
@@ -487,82 +120,98 @@ const KIND: &str = "application/vnd.in-toto+json";
 // The code is that of the body's pre-authentication encoding under the secret `alice`, as Python's
 // hmac, hashlib and base64 give it.
 const SIGNED: &str =
-    "{\"payload\":\"e30=\",\"payloadType\":\"application/vnd.in-toto+json\",\"signatures\":[{\"keyid\":\"alice\",\"sig\":\"GYvlMgoDSh7aimmYQa+mVXbtzb6hq2TIJDLz8mP3+D0=\"}]}";
+    r#"{"payload":"e30=","payloadType":"application/vnd.in-toto+json","signatures":[{"keyid":"alice","sig":"GYvlMgoDSh7aimmYQa+mVXbtzb6hq2TIJDLz8mP3+D0="}]}"#;
 
 fn signed(alloc: Global) -> Result<Envelope, Fail> {
-    Ok(
-        sign(alloc, &ring(alloc)?, "alice", KIND, b"{}")
-            .ok()
-            .ok_or("not signed")?,
-    )
-}
-
-fn read(alloc: Global, text: &str) -> Result<Envelope, Fail> {
-    Ok(
-        Envelope::read(alloc, text.as_bytes())
-            .ok()
-            .ok_or("no envelope")?,
-    )
+    let ring = ring_of(alloc, RING)?;
+    Ok(sign(alloc, &ring, "alice", KIND, b"{}")?)
 }
 
 fn written(alloc: Global, envelope: &Envelope) -> Result<String, Fail> {
     let mut out = Vec::new(alloc);
-    envelope.write(alloc, &mut out).ok().ok_or("not written")?;
+    envelope.write(alloc, &mut out)?;
     Ok(String::from_utf8(out).ok().ok_or("no text")?)
 }
 
+/// Whether an envelope that is read from the one text is written as the other.
+fn is_written_as(alloc: Global, text: &str, want: &str) -> Result<bool, Fail> {
+    let envelope = read(alloc, text)?;
+    let written = written(alloc, &envelope)?;
+    Ok(written.as_str() == want)
+}
+
+// No signatures; no hint, texts that JSON escapes, and the marks of the standard alphabet.
+const WRITTEN: [&str; 2] = [
+    r#"{"payload":"","payloadType":"","signatures":[]}"#,
+    r#"{"payload":"+/8=","payloadType":"\"größe\n","signatures":[{"keyid":"","sig":"Zg=="},{"keyid":"a","sig":""}]}"#,
+];
+
 #[test]
 fn writes_what_reads_back(rt: HostRuntime) -> Result<(), Fail> {
-    let alloc = rt.alloc();
-    // No signatures; no hint, texts that JSON escapes, and the marks of the standard alphabet.
-    let texts = [
-        "{\"payload\":\"\",\"payloadType\":\"\",\"signatures\":[]}",
-        "{\"payload\":\"+/8=\",\"payloadType\":\"\\\"größe\\n\",\"signatures\":[{\"keyid\":\"\",\"sig\":\"Zg==\"},{\"keyid\":\"a\",\"sig\":\"\"}]}",
-    ];
-    for text in texts {
-        let found = read(alloc, text)?;
-        assert_eq!(rt; written(alloc, &found)?.as_str(), text);
+    for text in WRITTEN.as_slice() {
+        assert!(rt; is_written_as(rt.alloc(), text, text)?, "{text}");
     }
-    let back = read(alloc, written(alloc, &signed(alloc)?)?.as_str())?;
-    assert_eq!(rt; back.payload.as_slice(), b"{}".as_slice());
-    assert_eq!(rt; back.payload_type.as_str(), KIND);
-    let signatures = back.signatures.as_slice();
-    assert_eq!(rt; signatures.len(), 1);
-    assert_eq!(rt; signatures[0].keyid.as_str(), "alice");
-    assert_eq!(rt; signatures[0].sig.as_slice().len(), 32);
     Ok(())
 }
 
+/// Whether this is the envelope that alice signed.
+fn is_by_alice(envelope: &Envelope) -> bool {
+    let [signature] = envelope.signatures.as_slice() else {
+        return false;
+    };
+    envelope.payload.as_slice() == b"{}".as_slice()
+        && envelope.payload_type.as_str() == KIND
+        && signature.keyid.as_str() == "alice"
+        && signature.sig.as_slice().len() == 32
+}
+
+#[test]
+fn reads_back_what_was_signed(rt: HostRuntime) -> Result<(), Fail> {
+    let text = written(rt.alloc(), &signed(rt.alloc())?)?;
+    let back = read(rt.alloc(), text.as_str())?;
+    assert!(rt; is_by_alice(&back));
+    Ok(())
+}
+
+const ANOTHER_SPELLING: &str =
+    r#" {"signatures":[{"sig":"_w==","other":7}],"payloadType":"t","payload":"-_8="} "#;
+
+const ONE_SPELLING: &str =
+    r#"{"payload":"+/8=","payloadType":"t","signatures":[{"keyid":"","sig":"/w=="}]}"#;
+
 #[test]
 fn writes_one_spelling(rt: HostRuntime) -> Result<(), Fail> {
-    let alloc = rt.alloc();
-    let found = read(
-        alloc,
-        " {\"signatures\":[{\"sig\":\"_w==\",\"other\":7}],\"payloadType\":\"t\",\"payload\":\"-_8=\"} ",
-    )?;
-    assert_eq!(rt;
-        written(alloc, &found)?.as_str(),
-        "{\"payload\":\"+/8=\",\"payloadType\":\"t\",\"signatures\":[{\"keyid\":\"\",\"sig\":\"/w==\"}]}"
-    );
+    assert!(rt; is_written_as(rt.alloc(), ANOTHER_SPELLING, ONE_SPELLING)?);
     Ok(())
+}
+
+/// What writing to a pipe with this room answers, and whether it took as much of the text as it has
+/// room for.
+fn stopped(
+    alloc: Global,
+    envelope: &Envelope,
+    full: Full,
+    room: usize,
+) -> (Result<(), WriteFault>, bool) {
+    let mut pipe = Pipe {
+        taken: Vec::new(alloc),
+        room,
+        most: 1,
+        full,
+    };
+    let answer = envelope.write(alloc, &mut pipe);
+    let front = SIGNED.as_bytes().get(..room);
+    (answer, front == Some(pipe.taken.as_slice()))
 }
 
 #[test]
 fn stops_at_a_failed_write(rt: HostRuntime) -> Result<(), Fail> {
-    let alloc = rt.alloc();
-    let envelope = signed(alloc)?;
-    let text = SIGNED.as_bytes();
+    let envelope = signed(rt.alloc())?;
     for full in [Full::AnswersAnError, Full::TakesNothing] {
-        for (room, _) in text.iter().enumerate() {
-            let mut pipe = Pipe {
-                taken: Vec::new(alloc),
-                room,
-                most: 1,
-                full,
-            };
-            let answer = envelope.write(alloc, &mut pipe);
-            assert_eq!(rt; answer, Err(WriteFault::Write), "{full:?} at {room}");
-            assert_eq!(rt; pipe.taken.as_slice(), &text[..room], "{full:?} at {room}");
+        for room in 0..SIGNED.len() {
+            let (answer, is_front) = stopped(rt.alloc(), &envelope, full, room);
+            assert!(rt; answer == Err(WriteFault::Write), "{full:?} at {room}");
+            assert!(rt; is_front, "{full:?} at {room}");
         }
     }
     Ok(())

@@ -6,7 +6,7 @@ mod rows;
 
 use by_definition::first_fault;
 use by_queue::first_fault as first_fault_by_queue;
-use dice::Dice;
+use dice::{Case, Dice};
 use it_digest::compare::DigestSet;
 use it_rules::item::{Item, Named};
 use it_rules::ranges::front_range;
@@ -84,57 +84,62 @@ fn is_as_wanted(found: &Option<RuleFault>, want: &Option<(usize, String)>) -> bo
     }
 }
 
-/// Whether the run, the definitions and the run by a queue answer alike on one generated case. The
-/// first number counts faults, the second cases without one.
-fn answers_alike(alloc: Global, seed: u64, counts: &mut (u64, u64)) -> Result<bool, AllocError> {
+/// Whether a fault is the one that the definitions name.
+fn is_by_definition(
+    alloc: Global,
+    case: &Case,
+    item: &Item,
+    links: &[Named],
+    found: &Option<RuleFault>,
+) -> Result<bool, AllocError> {
+    let want = first_fault(alloc, case.side, case.rules.as_slice(), item, links)?;
+    Ok(is_as_wanted(found, &want))
+}
+
+/// Whether a fault is the one that the run by a queue names.
+fn is_by_queue(
+    alloc: Global,
+    case: &Case,
+    item: &Item,
+    links: &[Named],
+    found: &Option<RuleFault>,
+) -> Result<bool, AllocError> {
+    let want = first_fault_by_queue(alloc, case.side, case.rules.as_slice(), item, links)?;
+    Ok(is_as_wanted(found, &want))
+}
+
+/// Whether there is a fault, where the run, the definitions and the run by a queue answer alike on a
+/// case.
+fn has_fault(alloc: Global, case: &Case) -> Result<Option<bool>, AllocError> {
+    let item = case.item();
+    let links = case.links();
+    let found = run_rules(alloc, case.side, case.rules.as_slice(), &item, &links)?;
+    let are_alike = is_by_definition(alloc, case, &item, &links, &found)?
+        && is_by_queue(alloc, case, &item, &links, &found)?;
+    Ok(if are_alike {
+        Some(found.is_some())
+    } else {
+        None
+    })
+}
+
+/// The same of the case that is thrown with this seed.
+fn has_fault_by_seed(alloc: Global, seed: u64) -> Result<Option<bool>, AllocError> {
     let mut dice = Dice { state: seed };
-    let materials = dice.artifacts(alloc)?;
-    let products = dice.artifacts(alloc)?;
-    let built = dice.artifacts(alloc)?;
-    let tested = dice.artifacts(alloc)?;
-    let mut rules = Vec::new(alloc);
-    for _ in 0..5 {
-        rules.push(dice.rule(alloc)?)?;
-    }
-    let side = dice.side();
-    let item = Item {
-        materials: &materials,
-        products: &products,
-    };
-    let build = Named {
-        name: "build",
-        item: Item {
-            materials: &materials,
-            products: &built,
-        },
-    };
-    let test = Named {
-        name: "test",
-        item: Item {
-            materials: &tested,
-            products: &built,
-        },
-    };
-    let links = [build, test];
-    let found = run_rules(alloc, side, rules.as_slice(), &item, &links)?;
-    let want = first_fault(alloc, side, rules.as_slice(), &item, &links)?;
-    match &want {
-        Some(_) => counts.0 = counts.0.saturating_add(1),
-        None => counts.1 = counts.1.saturating_add(1),
-    }
-    let queued = first_fault_by_queue(alloc, side, rules.as_slice(), &item, &links)?;
-    Ok(is_as_wanted(&found, &want) && is_as_wanted(&found, &queued))
+    let case = dice.case(alloc)?;
+    has_fault(alloc, &case)
 }
 
 #[test]
 fn answers_as_the_definitions_and_the_run_by_a_queue(rt: HostRuntime) -> Result<(), Fail> {
-    let mut counts = (0, 0);
+    let mut faults = 0u64;
     for seed in 0..600 {
-        assert!(rt;
-            answers_alike(rt.alloc(), seed, &mut counts)?,
-            "case {seed}"
-        );
+        let has_fault = has_fault_by_seed(rt.alloc(), seed)?;
+        assert!(rt; has_fault.is_some(), "case {seed}");
+        if has_fault == Some(true) {
+            faults = faults.saturating_add(1);
+        }
     }
-    assert!(rt; counts.0 > 100 && counts.1 > 100, "{counts:?}");
+    assert!(rt; faults > 100 && faults < 500, "{faults}");
     Ok(())
 }

@@ -1,7 +1,8 @@
+//! Digests of SHA-384 beside the others.
 use it_digest::compare::{Compare, DigestSet};
 use it_docs::link::read_link;
 use it_docs::statement::read_statement;
-use std::alloc::Global;
+use std::alloc::{AllocError, Global};
 use std::test::Fail;
 
 // One bit for each algorithm.
@@ -41,16 +42,22 @@ fn wanted(in_both: u8, changed: u8) -> Compare {
     }
 }
 
+/// Whether two sets compare as the definition says, each with the other. In the second the values
+/// of some algorithms are changed.
+fn compare_as_wanted(first: u8, second: u8, changed: u8) -> bool {
+    let one = set(first, 0);
+    let other = set(second, changed);
+    let want = wanted(first & second, changed);
+    one.compare(&other) == want && other.compare(&one) == want
+}
+
 #[test]
 fn compares_sets_of_all_shapes(rt: HostRuntime) {
     for first in 0..8u8 {
         for second in 0..8u8 {
             for changed in 0..8u8 {
-                let a = set(first, 0);
-                let b = set(second, changed);
-                let want = wanted(first & second, changed);
-                assert_eq!(rt; a.compare(&b), want, "{a:?} with {b:?}");
-                assert_eq!(rt; b.compare(&a), want, "{b:?} with {a:?}");
+                let well = compare_as_wanted(first, second, changed);
+                assert!(rt; well, "{first} with {second}, {changed} changed");
             }
         }
     }
@@ -60,84 +67,98 @@ fn compares_sets_of_all_shapes(rt: HostRuntime) {
 fn a_sha384_decides_as_the_others_do(rt: HostRuntime) {
     let both = set(SHA256 | SHA384, 0);
     let changed = set(SHA256 | SHA384, SHA384);
-    assert_eq!(rt; both.compare(&changed), Compare::Differ);
+    assert!(rt; both.compare(&changed) == Compare::Differ);
     let short = set(SHA256, 0);
     let long = set(SHA384, 0);
-    assert_eq!(rt; short.compare(&long), Compare::Apart);
-    assert_eq!(rt; long.compare(&set(SHA384 | SHA512, 0)), Compare::Agree);
+    assert!(rt; short.compare(&long) == Compare::Apart);
+    assert!(rt; long.compare(&set(SHA384 | SHA512, 0)) == Compare::Agree);
 }
 
-/// The digits of so many bytes 0x0F, in upper case.
-fn digits(alloc: Global, bytes: usize) -> Result<String, Fail> {
-    let mut text = String::new(alloc);
+/// The digits of so many bytes 0x0F, in upper case, between quotes, with these behind them.
+fn quoted(alloc: Global, bytes: usize, rest: &str) -> Result<String, AllocError> {
+    let mut text = String::from_str(alloc, "\"")?;
     for _ in 0..bytes {
         text.push_str("0F")?;
     }
+    text.push_str(rest)?;
+    text.push('"')?;
     Ok(text)
 }
 
-fn link_text(alloc: Global, sha384: &str) -> Result<String, Fail> {
-    Ok(format!(in alloc;
+fn link_text(alloc: Global, sha384: &str) -> Result<String, AllocError> {
+    format!(in alloc;
         "{{\"_type\":\"link\",\"name\":\"build\",\"products\":{{\"app\":{{\"sha384\":{sha384}}}}}}}"
-    )?)
+    )
 }
 
-fn statement_text(alloc: Global, sha384: &str) -> Result<String, Fail> {
-    Ok(format!(in alloc;
+fn statement_text(alloc: Global, sha384: &str) -> Result<String, AllocError> {
+    format!(in alloc;
         "{{\"_type\":\"https://in-toto.io/Statement/v1\",\"predicateType\":\"\",
         \"subject\":[{{\"digest\":{{\"sha384\":{sha384}}}}}]}}"
-    )?)
+    )
+}
+
+/// The digests of the product of a link with this digest.
+fn product(alloc: Global, sha384: &str) -> Result<DigestSet, Fail> {
+    let text = link_text(alloc, sha384)?;
+    let link = read_link(alloc, text.as_bytes())?;
+    Ok(link.products.get("app").ok_or("no app")?)
+}
+
+/// The digests of the subject of a Statement with this digest.
+fn subject(alloc: Global, sha384: &str) -> Result<DigestSet, Fail> {
+    let text = statement_text(alloc, sha384)?;
+    let statement = read_statement(alloc, text.as_bytes())?;
+    Ok(*statement.subjects.as_slice().first().ok_or("none")?)
 }
 
 #[test]
 fn reads_a_sha384_of_96_digits(rt: HostRuntime) -> Result<(), Fail> {
-    let alloc = rt.alloc();
-    let digest = format!(in alloc; "\"{}\"", digits(alloc, 48)?)?;
-    let text = link_text(alloc, digest.as_str())?;
-    let link = read_link(alloc, text.as_bytes()).ok().ok_or("no link")?;
-    let app = link.products.get("app").ok_or("no app")?;
-    assert_eq!(rt; app.sha384, Some([0x0f; 48]));
-    assert_eq!(rt; app.sha256, None);
-    let text = statement_text(alloc, digest.as_str())?;
-    let statement = read_statement(alloc, text.as_bytes())
-        .ok()
-        .ok_or("no statement")?;
-    let subject = statement.subjects.as_slice().first().ok_or("none")?;
-    assert_eq!(rt; subject.sha384, Some([0x0f; 48]));
+    let digest = quoted(rt.alloc(), 48, "")?;
+    let app = product(rt.alloc(), digest.as_str())?;
+    assert!(rt; app.sha384 == Some([0x0f; 48]));
+    assert!(rt; app.sha256.is_none());
+    let subject = subject(rt.alloc(), digest.as_str())?;
+    assert!(rt; subject.sha384 == Some([0x0f; 48]));
     Ok(())
+}
+
+/// Whether a link and a Statement with this digest are read, each.
+fn read_with(alloc: Global, sha384: &str) -> Result<(bool, bool), AllocError> {
+    let link = link_text(alloc, sha384)?;
+    let statement = statement_text(alloc, sha384)?;
+    let reads_link = read_link(alloc, link.as_bytes()).is_ok();
+    Ok((
+        reads_link,
+        read_statement(alloc, statement.as_bytes()).is_ok(),
+    ))
+}
+
+const DOCUMENTS: [(&str, bool); 5] = [
+    ("null", true),
+    ("\"00\"", false),
+    ("\"\"", false),
+    ("7", false),
+    ("{}", false),
+];
+
+// The digits of a SHA-256, too many, one less, and one that is no digit.
+const BAD_DIGITS: [(usize, &str); 4] = [(32, ""), (49, ""), (47, "0"), (47, "0g")];
+
+fn read_with_digits(alloc: Global, bytes: usize, rest: &str) -> Result<(bool, bool), AllocError> {
+    let digest = quoted(alloc, bytes, rest)?;
+    read_with(alloc, digest.as_str())
 }
 
 #[test]
 fn another_sha384_makes_a_document_malformed(rt: HostRuntime) -> Result<(), Fail> {
-    let alloc = rt.alloc();
-    let of_a_sha256 = format!(in alloc; "\"{}\"", digits(alloc, 32)?)?;
-    let too_long = format!(in alloc; "\"{}\"", digits(alloc, 49)?)?;
-    let one_less = format!(in alloc; "\"{}0\"", digits(alloc, 47)?)?;
-    let no_digit = format!(in alloc; "\"{}0g\"", digits(alloc, 47)?)?;
-    let rows = [
-        ("null", true),
-        ("\"00\"", false),
-        ("\"\"", false),
-        ("7", false),
-        ("{}", false),
-        (of_a_sha256.as_str(), false),
-        (too_long.as_str(), false),
-        (one_less.as_str(), false),
-        (no_digit.as_str(), false),
-    ];
-    for (sha384, reads) in rows {
-        let text = link_text(alloc, sha384)?;
-        assert_eq!(rt;
-            read_link(alloc, text.as_bytes()).is_ok(),
-            reads,
-            "{sha384}"
-        );
-        let text = statement_text(alloc, sha384)?;
-        assert_eq!(rt;
-            read_statement(alloc, text.as_bytes()).is_ok(),
-            reads,
-            "{sha384}"
-        );
+    for (sha384, reads) in DOCUMENTS.as_slice() {
+        let found = read_with(rt.alloc(), sha384)?;
+        assert!(rt; found == (*reads, *reads), "{sha384}");
+    }
+    for (bytes, rest) in BAD_DIGITS.as_slice() {
+        let found = read_with_digits(rt.alloc(), *bytes, rest)?;
+        assert!(rt; found == (false, false), "{bytes} bytes and {rest}");
     }
     Ok(())
 }

@@ -1,4 +1,5 @@
 use crate::files::read_limited;
+use std::alloc::Global;
 use std::io;
 use std::io::Read;
 use std::test::Fail;
@@ -23,23 +24,33 @@ impl Read for Broken {
     }
 }
 
+/// Whether a text is read whole, or not at all where it has more bytes than the limit.
+fn reads(alloc: Global, text: &str, limit: u64, fits: bool) -> io::Result<bool> {
+    let found = read_limited(alloc, text.as_bytes(), limit, 2)?;
+    Ok(match &found {
+        Some(bytes) => fits && bytes.as_slice() == text.as_bytes(),
+        None => !fits,
+    })
+}
+
+const LIMITS: [(&str, u64, bool); 5] = [
+    ("", 0, true),
+    ("abc", 3, true),
+    ("abc", 4, true),
+    ("abc", 2, false),
+    ("a", 0, false),
+];
+
 #[test]
 fn reads_up_to_the_limit(rt: HostRuntime) -> Result<(), Fail> {
-    let alloc = rt.alloc();
-    let rows = [
-        ("", 0, true),
-        ("abc", 3, true),
-        ("abc", 4, true),
-        ("abc", 2, false),
-        ("a", 0, false),
-    ];
-    for (text, limit, fits) in rows {
-        let found = read_limited(alloc, text.as_bytes(), limit, 2)?;
-        assert_eq!(rt; found.is_some(), fits, "{text} {limit}");
-        if let Some(bytes) = found {
-            assert_eq!(rt; bytes.as_slice(), text.as_bytes());
-        }
+    for (text, limit, fits) in LIMITS.as_slice() {
+        assert!(rt; reads(rt.alloc(), text, *limit, *fits)?, "{text} {limit}");
     }
-    assert!(rt; read_limited(alloc, Broken { is_begun: false }, 9, 0).is_err());
     Ok(())
+}
+
+#[test]
+fn stops_where_reading_fails(rt: HostRuntime) {
+    let broken = Broken { is_begun: false };
+    assert!(rt; read_limited(rt.alloc(), broken, 9, 0).is_err());
 }

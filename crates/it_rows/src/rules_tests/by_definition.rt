@@ -99,32 +99,67 @@ fn claims(
             _ => false,
         }),
         Rule::Allow(pattern) => Ok(pattern.matches(path)),
-        Rule::Match {
-            pattern,
-            source_prefix,
-            side,
-            target_prefix,
-            from,
-        } => {
-            let source = folder(alloc, source_prefix.as_str())?;
-            let target = folder(alloc, target_prefix.as_str())?;
-            for link in links {
-                if link.name != from.as_str() {
-                    continue;
-                }
-                for (linked_path, linked) in on(*side, &link.item).iter() {
-                    let rest = linked_path.as_str().strip_prefix(target.as_str());
-                    if path.strip_prefix(source.as_str()) == rest
-                        && rest.is_some_and(|rest| pattern.matches(rest))
-                        && digests.compare(linked) == Compare::Agree
-                    {
-                        return Ok(true);
-                    }
-                }
-            }
-            Ok(false)
-        }
+        Rule::Match { .. } => match_claims(alloc, rule, digests, links, path),
         Rule::Disallow(_) | Rule::Require(_) => Ok(false),
+    }
+}
+
+/// Whether a MATCH rule claims a path.
+fn match_claims(
+    alloc: Global,
+    rule: &Rule,
+    digests: DigestSet,
+    links: &[Named],
+    path: &str,
+) -> Result<bool, AllocError> {
+    let Rule::Match {
+        pattern,
+        source_prefix,
+        side,
+        target_prefix,
+        from,
+    } = rule
+    else {
+        return Ok(false);
+    };
+    let source = folder(alloc, source_prefix.as_str())?;
+    let target = folder(alloc, target_prefix.as_str())?;
+    let sought = Sought {
+        pattern,
+        rest: path.strip_prefix(source.as_str()),
+        target: target.as_str(),
+        digests,
+    };
+    Ok(
+        links.iter().any(|link| link.name == from.as_str()
+            && sought.is_among(on(*side, &link.item))),
+    )
+}
+
+/// What a MATCH rule seeks in a link for a path.
+#[derive(Clone, Copy)]
+struct Sought<'a> {
+    pattern: &'a Pattern,
+    /// What stands behind the source folder in the path.
+    rest: Option<&'a str>,
+    /// The target folder.
+    target: &'a str,
+    digests: DigestSet,
+}
+
+impl Sought<'_> {
+    fn is_among(&self, linked: &Artifacts) -> bool {
+        for (path, digests) in linked.iter() {
+            if self.is_at(path.as_str()) && self.digests.compare(digests) == Compare::Agree {
+                return true;
+            }
+        }
+        false
+    }
+
+    fn is_at(&self, linked_path: &str) -> bool {
+        let rest = linked_path.strip_prefix(self.target);
+        self.rest == rest && rest.is_some_and(|rest| self.pattern.matches(rest))
     }
 }
 

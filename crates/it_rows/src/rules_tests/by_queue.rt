@@ -83,22 +83,38 @@ fn consumes(
         Rule::Modify(pattern) => (pattern, Change::Modified),
         Rule::Allow(pattern) => return Ok(pattern.matches(path)),
         Rule::Disallow(_) | Rule::Require(_) => return Ok(false),
-        Rule::Match {
-            pattern,
-            source_prefix,
-            side: linked_side,
-            target_prefix,
-            from,
-        } => {
-            let Some(rest) = below(source_prefix.as_str(), path) else {
-                return Ok(false);
-            };
-            let linked_path = put_below(alloc, target_prefix.as_str(), rest)?;
-            let linked = recorded(links, from.as_str(), *linked_side, linked_path.as_str());
-            return Ok(pattern.matches(rest) && agree(side_of(item, side).get(path), linked));
+        Rule::Match { .. } => {
+            let digests = side_of(item, side).get(path);
+            return match_consumes(alloc, rule, path, digests, links);
         }
     };
     Ok(pattern.matches(path) && change_of(item, path) == wanted)
+}
+
+/// Whether a MATCH rule consumes a path that has these digests.
+fn match_consumes(
+    alloc: Global,
+    rule: &Rule,
+    path: &str,
+    digests: Option<DigestSet>,
+    links: &[Named],
+) -> Result<bool, AllocError> {
+    let Rule::Match {
+        pattern,
+        source_prefix,
+        side,
+        target_prefix,
+        from,
+    } = rule
+    else {
+        return Ok(false);
+    };
+    let Some(rest) = below(source_prefix.as_str(), path) else {
+        return Ok(false);
+    };
+    let linked_path = put_below(alloc, target_prefix.as_str(), rest)?;
+    let linked = recorded(links, from.as_str(), *side, linked_path.as_str());
+    Ok(pattern.matches(rest) && agree(digests, linked))
 }
 
 /// The digests of a path on a side of the link with a name.

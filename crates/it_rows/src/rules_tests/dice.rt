@@ -7,6 +7,7 @@ use it_digest::artifacts::Artifacts;
 use it_digest::compare::DigestSet;
 use it_docs::rule::{Rule, Side};
 use it_glob::Pattern;
+use it_rules::item::{Item, Named};
 use std::alloc::{AllocError, Global};
 
 /// Numbers that look thrown, the same in each run.
@@ -34,7 +35,7 @@ impl Dice {
         texts.get(at).copied().unwrap_or("")
     }
 
-    pub(super) fn side(&mut self) -> Side {
+    fn side(&mut self) -> Side {
         if self.below(2) == 0 {
             Side::Materials
         } else {
@@ -54,7 +55,7 @@ impl Dice {
         }
     }
 
-    pub(super) fn artifacts(&mut self, alloc: Global) -> Result<Artifacts, AllocError> {
+    fn artifacts(&mut self, alloc: Global) -> Result<Artifacts, AllocError> {
         let mut map = Artifacts::new(alloc);
         for path in PATHS {
             if let Some(digests) = self.digests() {
@@ -64,7 +65,30 @@ impl Dice {
         Ok(map)
     }
 
-    pub(super) fn rule(&mut self, alloc: Global) -> Result<Rule, AllocError> {
+    fn rules(&mut self, alloc: Global) -> Result<Vec<Rule>, AllocError> {
+        let mut rules = Vec::new(alloc);
+        for _ in 0..5 {
+            rules.push(self.rule(alloc)?)?;
+        }
+        Ok(rules)
+    }
+
+    fn two_maps(&mut self, alloc: Global) -> Result<(Artifacts, Artifacts), AllocError> {
+        let first = self.artifacts(alloc)?;
+        let second = self.artifacts(alloc)?;
+        Ok((first, second))
+    }
+
+    pub(super) fn case(&mut self, alloc: Global) -> Result<Case, AllocError> {
+        Ok(Case {
+            recorded: self.two_maps(alloc)?,
+            linked: self.two_maps(alloc)?,
+            rules: self.rules(alloc)?,
+            side: self.side(),
+        })
+    }
+
+    fn rule(&mut self, alloc: Global) -> Result<Rule, AllocError> {
         let pattern = Pattern::read(alloc, self.pick(&PATTERNS))?;
         Ok(match self.below(10) {
             0 => Rule::Create(pattern),
@@ -81,6 +105,44 @@ impl Dice {
                 from: text(alloc, self.pick(&NAMES))?,
             },
         })
+    }
+}
+
+/// Artifacts of an item and of two links, and rules on one side of the item.
+#[derive(Drop)]
+pub(super) struct Case {
+    /// The materials and the products of the item.
+    recorded: (Artifacts, Artifacts),
+    /// The products of both links, and the materials of `test`. Those of `build` are the item's.
+    linked: (Artifacts, Artifacts),
+    pub(super) rules: Vec<Rule>,
+    pub(super) side: Side,
+}
+
+impl Case {
+    pub(super) fn item(&self) -> Item<'_> {
+        Item {
+            materials: &self.recorded.0,
+            products: &self.recorded.1,
+        }
+    }
+
+    pub(super) fn links(&self) -> [Named<'_>; 2] {
+        let build = Named {
+            name: "build",
+            item: Item {
+                materials: &self.recorded.0,
+                products: &self.linked.0,
+            },
+        };
+        let test = Named {
+            name: "test",
+            item: Item {
+                materials: &self.linked.1,
+                products: &self.linked.0,
+            },
+        };
+        [build, test]
     }
 }
 

@@ -1,6 +1,7 @@
 ghost use Rattle.std.specs.Prelude.{◌≤◌, IfOk, length};
 
 use super::words;
+use std::alloc::{AllocError, Global};
 use std::env::FillError;
 use std::rt::Env;
 use std::test::Fail;
@@ -41,28 +42,31 @@ fn filled(buf: &mut [u8], word: &[u8]) -> Result<usize, FillError>
 }
 
 // What is said of a command line: how many words it has, or which is no text.
-fn told(rt: &HostRuntime, words_of: &[&[u8]]) -> Result<String, Fail> {
-    match words(&(FakeLine { words: words_of }, rt.alloc())) {
-        Ok(words) => Ok(format!(in rt.alloc(); "{} words", words.len())?),
-        Err(fault) => Ok(format!(in rt.alloc(); "{fault}")?),
+fn told(alloc: Global, words_of: &[&[u8]]) -> Result<String, AllocError> {
+    match words(&(FakeLine { words: words_of }, alloc)) {
+        Ok(words) => format!(in alloc; "{} words", words.len()),
+        Err(fault) => format!(in alloc; "{fault}"),
     }
 }
 
+const LINES: [(&[&[u8]], &str); 4] = [
+    (&[b"itv", b"", b"\xc3\xa4 b"], "3 words"),
+    (
+        &[b"itv", b"a", b"\xff", b"\xff"],
+        "word 2 after the program's name is not UTF-8",
+    ),
+    (
+        &[b"itv", b"a\x80"],
+        "word 1 after the program's name is not UTF-8",
+    ),
+    (&[b"\xc3", b"a"], "the program's name is not UTF-8"),
+];
+
 #[test]
 fn says_which_word_is_no_text(rt: HostRuntime) -> Result<(), Fail> {
-    let good = told(&rt, &[b"itv", b"", b"\xc3\xa4 b"])?;
-    assert_eq!(rt; good.as_str(), "3 words");
-    let second = told(&rt, &[b"itv", b"a", b"\xff", b"\xff"])?;
-    assert_eq!(rt;
-        second.as_str(),
-        "word 2 after the program's name is not UTF-8"
-    );
-    let first = told(&rt, &[b"itv", b"a\x80"])?;
-    assert_eq!(rt;
-        first.as_str(),
-        "word 1 after the program's name is not UTF-8"
-    );
-    let name = told(&rt, &[b"\xc3", b"a"])?;
-    assert_eq!(rt; name.as_str(), "the program's name is not UTF-8");
+    for (words_of, want) in LINES.as_slice() {
+        let found = told(rt.alloc(), words_of)?;
+        assert!(rt; found.as_str() == *want, "{found}");
+    }
     Ok(())
 }

@@ -1,7 +1,11 @@
+ghost use Rattle.std.specs.Prelude.{◌≤◌};
+
 use super::{Kind, entries, read_links, read_records};
 use crate::fake_files::{FakeFiles, Node};
 use crate::fault::Fault;
-use std::alloc::Global;
+use it_chain::bundle::Bundle;
+use std::alloc::{AllocError, Global};
+use std::process::Abort;
 use std::test::Fail;
 
 static MIXED: [(&str, Node<'static>); 7] = [
@@ -32,79 +36,120 @@ fn shown(alloc: Global, nodes: &[(&str, Node<'_>)], depth: u8) -> Result<String,
     Ok(text)
 }
 
+fn is_shown_as(
+    alloc: Global,
+    nodes: &[(&str, Node<'_>)],
+    depth: u8,
+    want: &str,
+) -> Result<bool, Fault> {
+    Ok(shown(alloc, nodes, depth)?.as_str() == want)
+}
+
 #[test]
 fn reads_links_and_folders_in_order(rt: HostRuntime) -> Result<(), Fail> {
-    let alloc = rt.alloc();
-    let deep = shown(alloc, MIXED.as_slice(), 1)?;
-    assert_eq!(rt;
-        deep.as_str(),
-        ".git/ .link B.link a.link x.y/ x.y.link/ z.link "
-    );
-    let flat = shown(alloc, MIXED.as_slice(), 0)?;
-    assert_eq!(rt; flat.as_str(), ".link B.link a.link z.link ");
+    let deep = ".git/ .link B.link a.link x.y/ x.y.link/ z.link ";
+    assert!(rt; is_shown_as(rt.alloc(), MIXED.as_slice(), 1, deep)?);
+    let flat = ".link B.link a.link z.link ";
+    assert!(rt; is_shown_as(rt.alloc(), MIXED.as_slice(), 0, flat)?);
     Ok(())
+}
+
+// How the reading of a folder ends.
+#[derive(Clone, Copy, Debug, PartialEq)]
+enum End {
+    Whole,
+    Unreadable,
+    BadName,
+    TooMany,
+    Other,
+}
+
+fn end_of(alloc: Global, nodes: &[(&str, Node<'_>)], depth: u8) -> End {
+    match shown(alloc, nodes, depth) {
+        Ok(_) => End::Whole,
+        Err(Fault::Unreadable { .. }) => End::Unreadable,
+        Err(Fault::BadName { .. }) => End::BadName,
+        Err(Fault::TooMany { .. }) => End::TooMany,
+        Err(_) => End::Other,
+    }
+}
+
+// What stands in `d`, how deep it is read, and how that ends.
+type Row = (&'static [(&'static str, Node<'static>)], u8, End);
+
+fn check(rt: &impl Abort, alloc: Global, rows: &[Row]) {
+    for (nodes, depth, want) in rows {
+        let end = end_of(alloc, nodes, *depth);
+        assert!(rt; end == *want, "{end:?} in place of {want:?}");
+    }
+}
+
+static UNLISTED: [Row; 6] = [
+    (
+        &[("d", Node::Folder(b"gone.link\0", 0))],
+        1,
+        End::Unreadable,
+    ),
+    (
+        &[("d", Node::Folder(b"gone.link\0", 0))],
+        0,
+        End::Unreadable,
+    ),
+    (&[("d", Node::Folder(b"gone.d\0", 0))], 1, End::Unreadable),
+    (&[("d", Node::Folder(b"gone.d\0", 0))], 0, End::Whole),
+    (&[("d", Node::Folder(b"a\xff\0", 0))], 0, End::BadName),
+    (&[("d", Node::File(0))], 0, End::Unreadable),
+];
+
+static GONE: [(&str, Node<'static>); 1] = [("d", Node::Folder(b"gone.d\0", 0))];
+
+static STRAY: [(&str, Node<'static>); 2] = [
+    ("d", Node::Folder(b"x.link\0", 0)),
+    ("d/x.link", Node::Dangling),
+];
+
+fn told(alloc: Global, nodes: &[(&str, Node<'_>)]) -> Result<String, AllocError> {
+    match shown(alloc, nodes, 0) {
+        Ok(text) => Ok(text),
+        Err(fault) => format!(in alloc; "{fault}"),
+    }
 }
 
 #[test]
 fn stops_at_what_cannot_be_listed(rt: HostRuntime) -> Result<(), Fail> {
-    let alloc = rt.alloc();
-    let gone: &[(&str, Node<'_>)] = &[("d", Node::Folder(b"gone.link\0", 0))];
-    assert!(rt; matches!(shown(alloc, gone, 1), Err(Fault::Unreadable { .. })));
-    assert!(rt; matches!(shown(alloc, gone, 0), Err(Fault::Unreadable { .. })));
-    let gone: &[(&str, Node<'_>)] = &[("d", Node::Folder(b"gone.d\0", 0))];
-    assert!(rt; matches!(shown(alloc, gone, 1), Err(Fault::Unreadable { .. })));
-    assert_eq!(rt; shown(alloc, gone, 0)?.as_str(), "");
-    let stray: &[(&str, Node<'_>)] = &[
-        ("d", Node::Folder(b"x.link\0", 0)),
-        ("d/x.link", Node::Dangling),
-    ];
-    let told = match shown(alloc, stray, 0) {
-        Ok(text) => text,
-        Err(fault) => format!(in alloc; "{fault}")?,
-    };
-    assert_eq!(rt;
-        told.as_str(),
-        "cannot read d/x.link: it is a symbolic link that leads nowhere"
-    );
-    let odd: &[(&str, Node<'_>)] = &[("d", Node::Folder(b"a\xff\0", 0))];
-    assert!(rt; matches!(shown(alloc, odd, 0), Err(Fault::BadName { .. })));
-    let file: &[(&str, Node<'_>)] = &[("d", Node::File(0))];
-    assert!(rt; matches!(shown(alloc, file, 0), Err(Fault::Unreadable { .. })));
+    check(&rt, rt.alloc(), &UNLISTED);
+    assert!(rt; is_shown_as(rt.alloc(), GONE.as_slice(), 0, "")?);
+    let told = told(rt.alloc(), STRAY.as_slice())?;
+    let want = "cannot read d/x.link: it is a symbolic link that leads nowhere";
+    assert!(rt; told.as_str() == want, "{told}");
     Ok(())
 }
 
+static COUNTED: [Row; 5] = [
+    (&[("d", Node::Folder(b"a\0b.txt\0", 1_000))], 1, End::Whole),
+    (&[("d", Node::Folder(b"", 1_001))], 1, End::TooMany),
+    (&[("d", Node::Folder(b"x.link\0", 1_000))], 0, End::TooMany),
+    (
+        &[
+            ("d", Node::Folder(b"x.y\0", 1_000)),
+            ("d/x.y", Node::Folder(b"", 0)),
+        ],
+        0,
+        End::Whole,
+    ),
+    (
+        &[
+            ("d", Node::Folder(b"x.y\0", 1_000)),
+            ("d/x.y", Node::Folder(b"", 0)),
+        ],
+        1,
+        End::TooMany,
+    ),
+];
+
 #[test]
-fn counts_what_is_read(rt: HostRuntime) -> Result<(), Fail> {
-    let alloc = rt.alloc();
-    let rows: [(&[(&str, Node<'_>)], u8, bool); 5] = [
-        (&[("d", Node::Folder(b"a\0b.txt\0", 1_000))], 1, true),
-        (&[("d", Node::Folder(b"", 1_001))], 1, false),
-        (&[("d", Node::Folder(b"x.link\0", 1_000))], 0, false),
-        (
-            &[
-                ("d", Node::Folder(b"x.y\0", 1_000)),
-                ("d/x.y", Node::Folder(b"", 0)),
-            ],
-            0,
-            true,
-        ),
-        (
-            &[
-                ("d", Node::Folder(b"x.y\0", 1_000)),
-                ("d/x.y", Node::Folder(b"", 0)),
-            ],
-            1,
-            false,
-        ),
-    ];
-    for (nodes, depth, fits) in rows {
-        match shown(alloc, nodes, depth) {
-            Ok(_) => assert!(rt; fits),
-            Err(Fault::TooMany { .. }) => assert!(rt; !fits),
-            Err(_) => panic!(rt; "another fault"),
-        }
-    }
-    Ok(())
+fn counts_what_is_read(rt: HostRuntime) {
+    check(&rt, rt.alloc(), &COUNTED);
 }
 
 // The deepest folder cannot be read.
@@ -116,48 +161,69 @@ static NESTED: [(&str, Node<'static>); 5] = [
     ("d/a.b/c.d/e.f/large.link", Node::File(8_388_609)),
 ];
 
+fn nested(alloc: Global, depth: u8) -> Result<Bundle, Fault>
+    requires { depth ≤ 8 }
+{
+    let disk = FakeFiles {
+        nodes: NESTED.as_slice(),
+    };
+    read_links(&(disk, alloc), "d", depth)
+}
+
+// How many of the folders one inside the other were read.
+fn folders_read(alloc: Global, depth: u8) -> Result<usize, Fault>
+    requires { depth ≤ 8 }
+{
+    let links = nested(alloc, depth)?;
+    let Some(first) = links.dir("a.b") else {
+        return Ok(0);
+    };
+    let Some(second) = first.dir("c.d") else {
+        return Ok(1);
+    };
+    Ok(if second.dir("e.f").is_none() { 2 } else { 3 })
+}
+
 #[test]
 fn reads_folders_down_to_the_depth(rt: HostRuntime) -> Result<(), Fail> {
-    let alloc = rt.alloc();
-    let disk = (
-        FakeFiles {
-            nodes: NESTED.as_slice(),
-        },
-        alloc,
-    );
-    assert!(rt; read_links(&disk, "d", 0)?.dir("a.b").is_none());
-    for depth in 1..3 {
-        let links = read_links(&disk, "d", depth)?;
-        let Some(first) = links.dir("a.b") else {
-            panic!(rt; "{depth}");
-        };
-        let second = first.dir("c.d");
-        assert_eq!(rt; second.is_some(), depth > 1, "{depth}");
-        assert!(rt; second.is_none_or(|folder| folder.dir("e.f").is_none()));
-    }
-    assert!(rt; matches!(read_links(&disk, "d", 3), Err(Fault::TooLarge { .. })));
-    assert!(rt; matches!(read_links(&disk, "d", 8), Err(Fault::TooLarge { .. })));
+    assert!(rt; folders_read(rt.alloc(), 0)? == 0);
+    assert!(rt; folders_read(rt.alloc(), 1)? == 1);
+    assert!(rt; folders_read(rt.alloc(), 2)? == 2);
+    assert!(rt; matches!(nested(rt.alloc(), 3), Err(Fault::TooLarge { .. })));
+    assert!(rt; matches!(nested(rt.alloc(), 8), Err(Fault::TooLarge { .. })));
     Ok(())
+}
+
+static RECORDS: [(&str, Node<'static>); 4] = [
+    (
+        "r",
+        Node::Folder(b"b.c.link\0.link\0a.link\0a\0x.link\0a.json\0", 0),
+    ),
+    ("r/x.link", Node::Folder(b"", 0)),
+    ("r/a.link", Node::File(3)),
+    ("r/b.c.link", Node::File(8_388_608)),
+];
+
+// Whether the records have these names and lengths.
+fn records_are(alloc: Global, want: &[(&str, usize)]) -> Result<bool, Fault> {
+    let disk = FakeFiles {
+        nodes: RECORDS.as_slice(),
+    };
+    let records = read_records(&(disk, alloc), "r")?;
+    let mut rest = want.iter();
+    for (name, bytes) in records.as_slice() {
+        let is_next = rest.next().is_some_and(|next| next.0 == name.as_str()
+            && next.1 == bytes.as_slice().len());
+        if !is_next {
+            return Ok(false);
+        }
+    }
+    Ok(rest.next().is_none())
 }
 
 #[test]
 fn reads_records_under_their_names(rt: HostRuntime) -> Result<(), Fail> {
-    let alloc = rt.alloc();
-    let nodes: &[(&str, Node<'_>)] = &[
-        (
-            "r",
-            Node::Folder(b"b.c.link\0.link\0a.link\0a\0x.link\0a.json\0", 0),
-        ),
-        ("r/x.link", Node::Folder(b"", 0)),
-        ("r/a.link", Node::File(3)),
-        ("r/b.c.link", Node::File(8_388_608)),
-    ];
-    let records = read_records(&(FakeFiles { nodes }, alloc), "r")?;
-    let mut shown = String::new(alloc);
-    for (name, bytes) in records.as_slice() {
-        let length = bytes.as_slice().len();
-        shown.push_str(format!(in alloc; "{} {length};", name.as_str())?.as_str())?;
-    }
-    assert_eq!(rt; shown.as_str(), " 0;a 3;b.c 8388608;");
+    let want = [("", 0), ("a", 3), ("b.c", 8_388_608)];
+    assert!(rt; records_are(rt.alloc(), &want)?);
     Ok(())
 }

@@ -1,9 +1,11 @@
 use super::{run_to, run_words};
 use crate::fake_files::FakeFiles;
-use crate::fault::exit_status;
+use crate::fault::{Fault, exit_status};
+use it_verify::outcome::Status;
 use std::alloc::{AllocError, Global};
 use std::io;
 use std::io::Write;
+use std::process::Abort;
 use std::test::Fail;
 
 mod changes;
@@ -13,20 +15,41 @@ mod notes;
 
 use delivery::FILES;
 
-// What went out, with the note where the command stopped, and the status of the program.
-fn ran(alloc: Global, words: &str) -> Result<(String, u8), Fail> {
-    let mut out = Vec::new(alloc);
-    let mut notes = Vec::new(alloc);
+// What goes out of a command, and the fault where it stops.
+fn outcome(alloc: Global, words: &[String], out: &mut Vec<u8>) -> Result<Status, Fault> {
+    let mut notes: Vec<u8> = Vec::new(alloc);
     let disk = FakeFiles {
         nodes: FILES.as_slice(),
     };
-    let words = each_word(alloc, words)?;
-    let outcome = run_words(&(disk, alloc), words.as_slice(), &mut out, &mut notes);
-    let mut text = String::from_utf8(out).ok().ok_or("no text")?;
+    run_words(&(disk, alloc), words, out, &mut notes)
+}
+
+// What went out, with the note where the command stopped, and the status of the program.
+fn ran(alloc: Global, words: &[String]) -> Result<(Vec<u8>, u8), AllocError> {
+    let mut out: Vec<u8> = Vec::new(alloc);
+    let outcome = outcome(alloc, words, &mut out);
     if let Err(fault) = &outcome {
-        text.push_str(format!(in alloc; "{fault}")?.as_str())?;
+        out.extend_from_slice(format!(in alloc; "{fault}")?.as_bytes())?;
     }
-    Ok((text, exit_status(&outcome)))
+    Ok((out, exit_status(&outcome)))
+}
+
+// Whether a command comes to this text and status.
+fn comes_to(alloc: Global, words: &str, text: &str, status: u8) -> Result<bool, AllocError> {
+    let words = each_word(alloc, words)?;
+    let (found, found_status) = ran(alloc, words.as_slice())?;
+    Ok(found.as_slice() == text.as_bytes() && found_status == status)
+}
+
+fn check(rt: &impl Abort, alloc: Global, rows: &[Row]) -> Result<(), AllocError> {
+    for row in rows {
+        assert!(rt;
+            comes_to(alloc, row.words, row.text, row.status)?,
+            "{}",
+            row.words
+        );
+    }
+    Ok(())
 }
 
 fn each_word(alloc: Global, text: &str) -> Result<Vec<String>, AllocError> {
@@ -202,12 +225,7 @@ static ROWS: [Row; 26] = [
 
 #[test]
 fn runs_each_command_over_files(rt: HostRuntime) -> Result<(), Fail> {
-    for row in ROWS.as_slice() {
-        let (text, status) = ran(rt.alloc(), row.words)?;
-        assert_eq!(rt; text.as_str(), row.text, "{}", row.words);
-        assert_eq!(rt; status, row.status, "{}", row.words);
-    }
-    Ok(())
+    Ok(check(&rt, rt.alloc(), &ROWS)?)
 }
 
 // Takes nothing, and says why if there is a reason.
@@ -229,27 +247,27 @@ impl Write for Full {
     }
 }
 
+// What is said of a command whose output goes to a writer that takes nothing.
+fn told(alloc: Global, words: &[String], reason: Option<io::ErrorKind>) -> Result<String, Fail> {
+    let disk = FakeFiles { nodes: &[] };
+    let mut notes: Vec<u8> = Vec::new(alloc);
+    let outcome = run_to(&(disk, alloc), words, Full { reason }, &mut notes);
+    match &outcome {
+        Err(fault) => Ok(format!(in alloc; "{} {fault}", exit_status(&outcome))?),
+        Ok(_) => Err(Fail::from("no fault")),
+    }
+}
+
 #[test]
 fn says_why_an_output_is_not_written(rt: HostRuntime) -> Result<(), Fail> {
-    let alloc = rt.alloc();
-    let disk = FakeFiles { nodes: &[] };
-    let words = each_word(alloc, "itv match a a")?;
-    let rows = [
-        (
-            Some(io::ErrorKind::StorageFull),
-            "cannot write the output: no storage space",
-        ),
-        (None, "cannot write the output"),
-    ];
-    for (reason, told) in rows {
-        let mut notes: Vec<u8> = Vec::new(alloc);
-        let full = Full { reason };
-        let outcome = run_to(&(disk, alloc), words.as_slice(), full, &mut notes);
-        assert_eq!(rt; exit_status(&outcome), 2);
-        let Err(fault) = outcome else {
-            panic!(rt; "{told}");
-        };
-        assert_eq!(rt; format!(in alloc; "{fault}")?.as_str(), told);
-    }
+    let words = each_word(rt.alloc(), "itv match a a")?;
+    let storage_full = told(
+        rt.alloc(),
+        words.as_slice(),
+        Some(io::ErrorKind::StorageFull),
+    )?;
+    assert!(rt; storage_full.as_str() == "2 cannot write the output: no storage space");
+    let no_reason = told(rt.alloc(), words.as_slice(), None)?;
+    assert!(rt; no_reason.as_str() == "2 cannot write the output");
     Ok(())
 }

@@ -1,0 +1,4 @@
+pub mod Tests
+pub mod Verdicts
+pub mod Encodings
+pub mod Infos

@@ -1,0 +1,25 @@
+-- What a test says of the numbers that it compares.
+use Rattle.std.proofs.Common.{◌≡◌, ◌≢◌, ℕ, ◌<◌, Bool, true, false, not, nat_lt, nat_eq, arith}
+use Rattle.std.proofs.lemmas.Bool.Decides.{nat_tests}
+
+pub is_less : (n m limit : ℕ) (t : Bool) → m ≡ limit → t ≡ nat_lt n m → t ≡ true → n < limit
+is_less n m limit t at e h = grind (arith, nat_tests)
+
+pub less_test : (n m limit : ℕ) (t : Bool) → m ≡ limit → t ≡ nat_lt n m → n < limit → t ≡ true
+less_test n m limit t at e h = grind (arith, nat_tests)
+
+pub same_of : (a b : ℕ) (t : Bool) → t ≡ nat_eq a b → t ≡ true → a ≡ b
+same_of a b t e h = grind (arith, nat_tests)
+
+pub same_test : (a b : ℕ) (t : Bool) → t ≡ nat_eq a b → a ≡ b → t ≡ true
+same_test a b t e h = grind (arith, nat_tests)
+
+pub other_of : (a b : ℕ) (t : Bool) → t ≡ nat_eq a b → t ≡ false → a ≢ b
+other_of a b t e h = grind (arith, nat_tests)
+
+pub clash : (t : Bool) → t ≡ true → t ≡ false → false ≡ true
+clash t e h = cc
+
+pub not_false : (b : Bool) → not b ≡ false → b ≡ true
+not_false true h = cc
+not_false false h = cc

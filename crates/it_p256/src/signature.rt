@@ -1,0 +1,29 @@
+//! Signatures.
+ghost use Rattle.std.specs.Prelude.{◌↔◌, IsTrue};
+ghost use Rattle.it_p256.specs.Message.{joined};
+ghost use Rattle.it_p256.specs.Signature.{IsSignature, IsSignatureOfDigest};
+
+use crate::digest::message_digest;
+use crate::key::PublicKey;
+use crate::verification::is_signed;
+use it_p256_der::read_signature_value;
+use it_p256_limbs::limbs_of;
+
+/// Whether `signature` is the key's signature of the message that the parts make when they are
+/// joined (FIPS 186-5, section 6.4.2, with SHA-256): an ECDSA-Sig-Value in DER. Takes no memory.
+pub fn is_signature(key: &PublicKey, message: &[&[u8]], signature: &[u8]) -> bool
+    ensures { IsTrue result ↔ IsSignature key.now (joined message.now) signature.now }
+{
+    is_signature_of_digest(key, &message_digest(message), signature)
+}
+
+/// The same of a message whose SHA-256 is given, so that one message is hashed once for many keys
+/// and signatures. What is no ECDSA-Sig-Value costs no arithmetic.
+pub fn is_signature_of_digest(key: &PublicKey, digest: &[u8; 32], signature: &[u8]) -> bool
+    ensures { IsTrue result ↔ IsSignatureOfDigest key.now digest.now signature.now }
+{
+    match read_signature_value(signature) {
+        None => false,
+        Some(value) => is_signed(key, limbs_of(digest), &value),
+    }
+}

@@ -1,0 +1,52 @@
+//! The two numbers of a signature.
+ghost use Rattle.std.specs.Prelude.{◌≡◌, ℕ, ◌^◌, ◌<◌, MatchOption};
+ghost use Rattle.it_p256_limbs.specs.Numbers.{value_of};
+ghost use Rattle.it_p256_der.specs.Der.{IsSignatureValue};
+
+use crate::integer::integer_at;
+use it_p256_limbs::Limbs;
+
+const SEQUENCE: u8 = 48;
+
+/// The two numbers of a signature, by their names in the standards.
+#[derive(Drop)]
+pub struct SignatureValue {
+    pub r: Limbs,
+    pub s: Limbs,
+}
+
+/// The two numbers that the bytes encode as an ECDSA-Sig-Value (RFC 3279, section 2.2.3) in DER:
+/// each length and each number in as few bytes as hold it, and nothing after. `None` where the
+/// bytes are no such encoding, or one of a number that is not below 2 ^ 256.
+pub fn read_signature_value(bytes: &[u8]) -> Option<SignatureValue>
+    ensures { MatchOption result
+        ((r s : ℕ) → r < 2 ^ 256 → s < 2 ^ 256 → IsSignatureValue bytes.now r s → ⊥)
+        (λ signature. IsSignatureValue bytes.now (value_of signature.r) (value_of signature.s)) }
+{
+    if bytes.len() < 2 {
+        return None;
+    }
+    if bytes[0] != SEQUENCE {
+        return None;
+    }
+    let long = bytes[1] as usize;
+    if long >= 128 {
+        return None;
+    }
+    if bytes.len() != long + 2 {
+        return None;
+    }
+    let Some(first) = integer_at(bytes, 2) else {
+        return None;
+    };
+    let Some(second) = integer_at(bytes, first.end) else {
+        return None;
+    };
+    if second.end != bytes.len() {
+        return None;
+    }
+    Some(SignatureValue {
+        r: first.value,
+        s: second.value,
+    })
+}

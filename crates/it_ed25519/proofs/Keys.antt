@@ -1,5 +1,5 @@
 -- The point of a public key.
-use Rattle.std.proofs.Common.{◌≡◌, ℕ, Bool, false, Option, Some, List, refl, sym, ap, ◌∙◌}
+use Rattle.std.proofs.Common.{◌≡◌, ℕ, Bool, false, Option, Some, List, length, refl, sym, ap, ◌∙◌}
 use Rattle.std.proofs.lemmas.Option.{same_Some}
 use Rattle.it_ed_point.specs.declared.point.Point.{Point}
 use Rattle.it_ed_point.specs.Curve.{base, sum_of, opposite_of, multiple_of}
@@ -7,10 +7,10 @@ use Rattle.it_ed_point.specs.Encoding.{decoded, encoding_of}
 use Rattle.it_ed25519.specs.PublicKey.{HoldsKey, is_small_order}
 use Rattle.it_ed25519.specs.Signature.{combination_of}
 
-pub key_held : (bytes : List ℕ) (p q : Point) (o : Option Point) (t : Bool) → o ≡ decoded bytes → o ≡ Some p
+pub key_held : (bytes : List ℕ) (p q : Point) (o : Option Point) (t : Bool) → length bytes ≡ 32 → o ≡ decoded bytes → o ≡ Some p
     → t ≡ is_small_order p → t ≡ false → q ≡ opposite_of p → HoldsKey bytes q
-key_held bytes p q o t d e f g h = record {
-  key = record { point = p; decodes = sym d ∙ e; large = sym f ∙ g };
+key_held bytes p q o t long d e f g h = record {
+  key = record { long = long; point = p; decodes = sym d ∙ e; large = sym f ∙ g };
   is = h;
 }
 

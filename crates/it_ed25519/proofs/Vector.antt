@@ -86,7 +86,7 @@ unfolding double_of
 large = refl
 
 pub third_key : IsPublicKey key
-third_key = record { point = point; decodes = point-decoded; large = large }
+third_key = record { long = refl; point = point; decodes = point-decoded; large = large }
 
 pub third_vector : IsSignature key message signature
 third_vector = record {

@@ -1,5 +1,5 @@
 -- When 32 bytes are a public key.
-use Rattle.std.specs.Prelude.{◌≡◌, ℕ, Bool, false, Some, List}
+use Rattle.std.specs.Prelude.{◌≡◌, ℕ, Bool, false, Some, List, length}
 use Rattle.it_ed_point.specs.declared.point.Point.{Point}
 use Rattle.it_ed_point.specs.Curve.{double_of, is_neutral, opposite_of}
 use Rattle.it_ed_point.specs.Encoding.{decoded}
@@ -8,9 +8,10 @@ use Rattle.it_ed_point.specs.Encoding.{decoded}
 abbrev pub is_small_order : Point → Bool
 is_small_order p = is_neutral (double_of (double_of (double_of p)))
 
--- the bytes decode to a point (RFC 8032, section 5.1.3) that is not of small order. That points of
--- small order are refused is this profile's choice: under such a key anyone could sign
+-- the bytes are 32 and decode to a point (RFC 8032, section 5.1.3) that is not of small order. That
+-- points of small order are refused is this profile's choice: under such a key anyone could sign
 pub record IsPublicKey (bytes : List ℕ) : Type 0 where
+  pub long : length bytes ≡ 32
   pub point : Point
   pub decodes : decoded bytes ≡ Some point
   pub large : is_small_order point ≡ false

@@ -1,5 +1,7 @@
--- The encoding EMSA-PSS with SHA-256, its mask generation function and a salt of 32 bytes (RFC 8017, section 9.1.2).
-use Rattle.std.specs.Prelude.{◌≡◌, ℕ, ◌-◌, ◌*◌, ◌%◌, ◌^◌, ◌<◌, ◌≤◌, List, [], ◌∷◌, ◌++◌, length, take, drop, replicate, slice_index}
+-- The encoding EMSA-PSS with SHA-256, its mask generation function and a salt of 32 bytes (RFC
+-- 8017, section 9.1.2).
+use Rattle.std.specs.Prelude.{◌≡◌, ℕ, ◌-◌, ◌*◌, ◌%◌, ◌^◌, ◌<◌, ◌≤◌, List, [], ◌∷◌, ◌++◌, length}
+use Rattle.std.specs.Prelude.{take, drop, replicate, slice_index}
 use Rattle.sha2.specs.Sha256.{sha256}
 use Rattle.it_rsa.specs.Mask.{mgf1, xored}
 
@@ -21,9 +23,11 @@ hash_of em = take 32 (drop (length em - 33) em)
 
 -- DB, with the bits cleared that the encoded message has no room for (steps 7 to 9)
 unfoldable pub data_of : List ℕ → ℕ → List ℕ
-data_of em em_bits = with_low_bits (low_bits em em_bits) (xored (masked_of em) (mgf1 (hash_of em) (length em - 33)))
+data_of em em_bits = with_low_bits (low_bits em em_bits)
+    (xored (masked_of em) (mgf1 (hash_of em) (length em - 33)))
 
--- DB is zeros, a 1 and a salt of 32 bytes, with which the message's digest has the digest H (steps 10 to 14)
+-- DB is zeros, a 1 and a salt of 32 bytes, with which the message's digest has the digest H (steps
+-- 10 to 14)
 pub record IsOpened (digest db hash : List ℕ) : Type 0 where
   pub zeros : (k : ℕ) → k < length db - 33 → slice_index db k ≡ 0
   pub one : slice_index db (length db - 33) ≡ 1

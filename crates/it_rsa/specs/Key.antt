@@ -7,8 +7,9 @@ pub record Key : Type 0 where
   pub modulus : List ℕ
   pub exponent : ℕ
 
--- this profile's choice: the first bit of the modulus is set, so that its length in bits is 8 times that in bytes; it has 2,048 to 4,096 bits
--- and is odd, and so is the exponent, which is at least 3 and below 2 ^ 31
+-- this profile's choice: the first bit of the modulus is set, so that its length in bits is 8 times
+-- that in bytes; it has 2,048 to 4,096 bits and is odd, and so is the exponent, which is at least 3
+-- and below 2 ^ 31
 pub record IsKey (key : Key) : Type 0 where
   pub full : 128 ≤ slice_index key.modulus 0
   pub least : 256 ≤ length key.modulus

@@ -1,4 +1,5 @@
--- The mask generation function MGF1 with SHA-256 (RFC 8017, section B.2.1), and the mask laid on bytes.
+-- The mask generation function MGF1 with SHA-256 (RFC 8017, section B.2.1), and the mask laid on
+-- bytes.
 use Rattle.std.specs.Prelude.{ℕ, zero, suc, ◌+◌, ◌/◌, List, [], ◌∷◌, ◌++◌, take, bit_xor}
 use Rattle.sha2.specs.Sha256.{sha256}
 use Rattle.it_numbers.specs.Bytes.{big_bytes}

@@ -25,7 +25,8 @@ representative key signature = power_mod (big signature) key.exponent (big key.m
 pub record IsSignatureOfDigest (key : Key) (digest signature : List ℕ) : Type 0 where
   pub long : length signature ≡ length key.modulus
   pub below : big signature < big key.modulus
-  pub encoded : IsEncoded digest (big_bytes (em_length key) (representative key signature)) (em_bits key)
+  pub encoded : IsEncoded digest (big_bytes (em_length key) (representative key signature))
+      (em_bits key)
 
 -- the key's signature of a message
 abbrev pub IsSignature : Key → List ℕ → List ℕ → Type 0

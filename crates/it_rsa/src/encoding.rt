@@ -1,5 +1,6 @@
 //! The encoding EMSA-PSS with SHA-256 and a salt of 32 bytes (RFC 8017, section 9.1.2).
-ghost use Rattle.std.specs.Prelude.{◌≡◌, ℕ, ◌-◌, ◌*◌, ◌^◌, ◌<◌, ◌≤◌, ◌↔◌, ◌++◌, IsTrue, length, replicate, slice_index};
+ghost use Rattle.std.specs.Prelude.{◌≡◌, ℕ, ◌-◌, ◌*◌, ◌^◌, ◌<◌, ◌≤◌, ◌↔◌, ◌++◌, IsTrue, length};
+ghost use Rattle.std.specs.Prelude.{replicate, slice_index};
 ghost use Rattle.sha2.specs.Sha256.{sha256};
 ghost use Rattle.it_rsa.specs.Encoding.{IsEncoded, IsOpened, with_low_bits};
 ghost use Rattle.it_rsa.specs.Mask.{mgf1, xored};

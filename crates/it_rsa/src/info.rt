@@ -1,5 +1,6 @@
 //! The modulus and the exponent in a SubjectPublicKeyInfo.
-ghost use Rattle.std.specs.Prelude.{◌≡◌, ℕ, ◌+◌, ◌*◌, ◌<◌, ◌≤◌, List, ◌∷◌, MatchOption, length, slice_index};
+ghost use Rattle.std.specs.Prelude.{◌≡◌, ℕ, ◌+◌, ◌*◌, ◌<◌, ◌≤◌, List, ◌∷◌, MatchOption, length};
+ghost use Rattle.std.specs.Prelude.{slice_index};
 ghost use Rattle.it_rsa.specs.inside.Parts.{AreParts, info_head, high, low};
 
 /// The bytes of the two numbers of a key, highest first.
@@ -33,44 +34,15 @@ fn head(size: usize, count: usize) -> [u8; HEAD_SIZE]
     requires short { count ≤ 4 }
     ensures { result ≡ info_head size count }
 {
-    let info = size + count + 31;
-    let bits = size + count + 12;
-    let numbers = size + count + 7;
-    let modulus = size + 1;
+    let (info, bits) = (size + count + 31, size + count + 12);
+    let (numbers, modulus) = (size + count + 7, size + 1);
+    let (info_high, info_low) = (high_byte(info), low_byte(info));
+    let (bits_high, bits_low) = (high_byte(bits), low_byte(bits));
+    let (pair_high, pair_low) = (high_byte(numbers), low_byte(numbers));
+    let (size_high, size_low) = (high_byte(modulus), low_byte(modulus));
     [
-        48,
-        130,
-        high_byte(info),
-        low_byte(info),
-        48,
-        13,
-        6,
-        9,
-        42,
-        134,
-        72,
-        134,
-        247,
-        13,
-        1,
-        1,
-        1,
-        5,
-        0,
-        3,
-        130,
-        high_byte(bits),
-        low_byte(bits),
-        0,
-        48,
-        130,
-        high_byte(numbers),
-        low_byte(numbers),
-        2,
-        130,
-        high_byte(modulus),
-        low_byte(modulus),
-        0,
+        48, 130, info_high, info_low, 48, 13, 6, 9, 42, 134, 72, 134, 247, 13, 1, 1, 1, 5, 0, 3,
+        130, bits_high, bits_low, 0, 48, 130, pair_high, pair_low, 2, 130, size_high, size_low, 0,
     ]
 }
 

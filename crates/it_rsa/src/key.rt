@@ -1,5 +1,6 @@
 //! Public keys.
-ghost use Rattle.std.specs.Prelude.{◌≡◌, ◌*◌, ◌%◌, ◌^◌, ◌<◌, ◌≤◌, ◌↔◌, IsTrue, length, slice_index, MatchOption};
+ghost use Rattle.std.specs.Prelude.{◌≡◌, ◌*◌, ◌%◌, ◌^◌, ◌<◌, ◌≤◌, ◌↔◌, IsTrue, length, slice_index};
+ghost use Rattle.std.specs.Prelude.{MatchOption};
 ghost use Rattle.it_numbers.specs.Bytes.{big, big_bytes};
 ghost use Rattle.it_rsa.specs.Info.{info_of, integer_length, exponent_bytes};
 ghost use Rattle.it_rsa.specs.Key.{Key, IsKey};
@@ -79,7 +80,8 @@ impl PublicKey {
     /// Puts the message representative of a signature in its place (RFC 8017, section 5.2.2).
     pub(crate) fn open(&self, signature: &mut [u8])
         requires { length signature.old ≡ length self.now.modulus }
-        ensures { signature.new ≡ big_bytes (length self.now.modulus) (representative self.now signature.old) }
+        ensures { signature.new ≡ big_bytes (length self.now.modulus)
+            (representative self.now signature.old) }
     {
         self.modulus.raise(signature, self.exponent);
     }
@@ -133,8 +135,10 @@ fn key_of(modulus: &[u8], exponent: &[u8]) -> Option<PublicKey>
     requires most { length modulus.now ≤ 512 }
     requires short { length exponent.now ≤ 4 }
     ensures { MatchOption result
-        ((key : Key) → IsKey key → modulus.now ≡ key.modulus → exponent.now ≡ exponent_bytes key.exponent → ⊥)
-        (λ key. IsKey key × (modulus.now ≡ key.modulus) × (exponent.now ≡ exponent_bytes key.exponent)) }
+        ((key : Key) → IsKey key → modulus.now ≡ key.modulus → exponent.now ≡ exponent_bytes
+        key.exponent → ⊥)
+        (λ key. IsKey key × (modulus.now ≡ key.modulus)
+        × (exponent.now ≡ exponent_bytes key.exponent)) }
 {
     if !is_modulus(modulus) {
         return None;

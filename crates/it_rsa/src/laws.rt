@@ -5,5 +5,6 @@ ghost use Rattle.it_rsa.specs.Key.{Key, IsKey};
 
 /// A SubjectPublicKeyInfo is that of at most one key.
 pub fn info_tells_key()
-    ensures { (key : Key) (other : Key) → IsKey key → IsKey other → info_of key ≡ info_of other → key ≡ other }
+    ensures { (key : Key) (other : Key) → IsKey key → IsKey other → info_of key ≡ info_of other
+        → key ≡ other }
 {}

@@ -20,5 +20,7 @@ low n = n % 256
 -- what stands before a modulus of so many bytes, where so many bytes are the exponent's
 abbrev pub info_head : ℕ → ℕ → List ℕ
 info_head size count =
-    48 ∷ 130 ∷ high (size + count + 31) ∷ low (size + count + 31) ∷ rsa_encryption ++ 3 ∷ 130 ∷ high (size + count + 12) ∷ low (size + count + 12) ∷ 0
-    ∷ 48 ∷ 130 ∷ high (size + count + 7) ∷ low (size + count + 7) ∷ 2 ∷ 130 ∷ high (size + 1) ∷ low (size + 1) ∷ 0 ∷ []
+    48 ∷ 130 ∷ high (size + count + 31) ∷ low (size + count + 31) ∷ rsa_encryption ++ 3 ∷ 130 ∷
+    high (size + count + 12) ∷ low (size + count + 12) ∷ 0
+    ∷ 48 ∷ 130 ∷ high (size + count + 7) ∷ low (size + count + 7) ∷ 2 ∷ 130 ∷ high (size + 1) ∷ low
+    (size + 1) ∷ 0 ∷ []

@@ -1,0 +1,9 @@
+use Rattle.std.proofs.Common.{take, map}
+use Rattle.it_public_keys.specs.Collected.{HoldsLayout}
+use Rattle.it_public_keys.proofs.Extending.{Collected}
+use Rattle.it_public_keys.proofs.collecting.with_files.Given as goal
+
+abbrev pub invariant-loop-file : goal.invariant-loop-file
+invariant-loop-file l =
+    Collected (λ keys file. HoldsLayout keys file.now.bytes) (take l.file-index l.files)
+    l.fn.keys l.table

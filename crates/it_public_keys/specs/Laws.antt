@@ -1,0 +1,26 @@
+-- What is shown of these definitions.
+use Rattle.std.specs.Prelude.{◌≡◌, ◌↔◌, ℕ, List, None, IsTrue, codes}
+use Rattle.it_dsse.specs.Ring.{ring_check}
+use Rattle.it_dsse.specs.declared.key_object.KeyObject.{KeyObject}
+use Rattle.it_dsse.specs.declared.ring_entry.RingEntry.{RingEntry}
+use Rattle.it_ed25519.specs.Signature.{IsSignature}
+use Rattle.it_public_keys.specs.KeyTable.{key_check}
+use Rattle.it_public_keys.specs.Validity.{is_signature_of}
+
+-- the test is true exactly of signatures
+abbrev pub TestIsSignature : Type 0
+TestIsSignature =
+    (key message signature : List ℕ)
+    → IsTrue (is_signature_of key message signature) ↔ IsSignature key message signature
+
+-- no ring knows an object of the scheme of public keys
+abbrev pub NoRingKnowsPublicKeys : Type 0
+NoRingKnowsPublicKeys =
+    (ring : List RingEntry) (id : List ℕ) (object : KeyObject)
+    → object.scheme ≡ codes "ed25519" → (ring_check ring).key_of id object ≡ None
+
+-- and no table knows an object of a ring's, so their order in a panel makes no difference
+abbrev pub NoTableKnowsSecrets : Type 0
+NoTableKnowsSecrets =
+    (keys : List (List ℕ)) (id : List ℕ) (object : KeyObject)
+    → object.scheme ≡ codes "hmac-sha256" → (key_check keys).key_of id object ≡ None

@@ -1,0 +1,11 @@
+//! The check of signatures by public keys, and the table of keys that it looks in.
+#![tactic(auto)]
+
+pub mod any_check;
+mod collecting;
+mod key_text;
+pub mod laws;
+mod table;
+
+pub use collecting::{public_keys_of, table_if};
+pub use table::PublicKeys;

@@ -25,15 +25,15 @@ impl Read for Broken {
 }
 
 /// Whether a text is read whole, or not at all where it has more bytes than the limit.
-fn reads(alloc: Global, text: &str, limit: u64, fits: bool) -> io::Result<bool> {
-    let found = read_limited(alloc, text.as_bytes(), limit, 2)?;
+fn reads(alloc: Global, text: &str, limit: u32, fits: bool) -> io::Result<bool> {
+    let found = read_limited(alloc, text.as_bytes(), limit as u64, 2)?;
     Ok(match &found {
         Some(bytes) => fits && bytes.as_slice() == text.as_bytes(),
         None => !fits,
     })
 }
 
-const LIMITS: [(&str, u64, bool); 5] = [
+const LIMITS: [(&str, u32, bool); 5] = [
     ("", 0, true),
     ("abc", 3, true),
     ("abc", 4, true),

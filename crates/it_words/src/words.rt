@@ -18,8 +18,6 @@ mod program;
 pub mod sign_words;
 pub mod signed_words;
 pub mod statement_words;
-#[cfg(test)]
-mod tests;
 mod usage;
 mod usages;
 pub mod verify_words;

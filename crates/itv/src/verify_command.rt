@@ -16,9 +16,9 @@ use it_base::text::Text;
 use it_dsse::check::SignatureCheck;
 use it_dsse::ring::HmacRing;
 use it_notes::verify_with_notes::verify_with_notes;
+use it_outcome::{RunFault, Status};
 use it_verify::inputs::Inputs;
-use it_verify::outcome::{RunFault, Status};
-use it_verify::words::verify_words::VerifyWords;
+use it_words::words::verify_words::VerifyWords;
 use std::alloc::Global;
 use std::io::Write;
 

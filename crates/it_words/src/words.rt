@@ -62,7 +62,7 @@ pub enum Words {
     /// `itv payload ENVELOPE`: the payload of an envelope.
     Payload(PayloadWords),
     /// `itv verify --policy F --layout F --links DIR --sums F --at MOMENT --ring F.. [--provenance
-    /// F] [--records DIR] [--depth N]`: whether delivered files were made as the owners laid down.
+    /// F] [--records DIR] [--depth N]`: whether delivered files were made as the owners prescribed.
     Verify(VerifyWords),
 }
 

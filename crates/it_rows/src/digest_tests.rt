@@ -1,4 +1,4 @@
-use crate::known_digests::{ABC, LONG_ABC, MILLION, NOTHING};
+use it_devices::known_digests::{ABC, LONG_ABC, MILLION, NOTHING};
 use it_devices::{Source, map_of};
 use it_digest::artifacts::Artifacts;
 use it_digest::compare::{Compare, DigestSet};

@@ -1,6 +1,6 @@
 //! How envelopes and key objects are read, and envelopes written.
-use crate::rings::{RING, is_object, ring_of};
 use it_base::parts::from_bytes;
+use it_devices::rings::{RING, is_object, ring_of};
 use it_devices::{Full, Pipe};
 use it_dsse::envelope::{Envelope, EnvelopeFault, Signature};
 use it_dsse::key_object::KeyObject;

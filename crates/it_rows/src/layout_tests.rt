@@ -1,6 +1,6 @@
 //! How layouts are read.
-use crate::rings::is_object;
 use crate::rule_texts::rule_texts;
+use it_devices::rings::is_object;
 use it_docs::layout::Layout;
 use it_docs::layout_fault::{LayoutFault, LayoutPart};
 use it_docs::layout_reading::read_layout;

@@ -1,19 +1,9 @@
-//! The tests of the libraries, from outside: worked rows, tables of good and bad inputs, and devices
-//! that fail. Each calls public functions alone.
+//! The tests of patterns, digests, envelopes and documents, from outside: tables of good and bad
+//! inputs, and devices that fail. Each calls public functions alone.
 #![tactic(auto)]
 
 #[cfg(test)]
-mod base_case;
-#[cfg(test)]
 mod base_tests;
-#[cfg(test)]
-mod bundle_tests;
-#[cfg(test)]
-mod chain_tests;
-#[cfg(test)]
-mod command_tests;
-#[cfg(test)]
-mod cut_tests;
 #[cfg(test)]
 mod digest_tests;
 #[cfg(test)]
@@ -21,51 +11,25 @@ mod envelope_tests;
 #[cfg(test)]
 mod json_texts;
 #[cfg(test)]
-mod known_digests;
-#[cfg(test)]
 mod layout_tests;
 #[cfg(test)]
 mod link_tests;
 #[cfg(test)]
 mod mac_tests;
 #[cfg(test)]
-mod made_link_tests;
-#[cfg(test)]
-mod made_statement_tests;
-#[cfg(test)]
 mod moment_tests;
-#[cfg(test)]
-mod noise_tests;
-#[cfg(test)]
-mod note_tests;
-#[cfg(test)]
-mod onto_tests;
-#[cfg(test)]
-mod panel_tests;
 #[cfg(test)]
 mod pattern_tests;
 #[cfg(test)]
 mod policy_tests;
 #[cfg(test)]
-mod provenance_tests;
-#[cfg(test)]
-mod report_tests;
-#[cfg(test)]
 mod ring_tests;
-#[cfg(test)]
-mod rings;
 #[cfg(test)]
 mod rule_tests;
 #[cfg(test)]
 mod rule_texts;
 #[cfg(test)]
-mod rules_tests;
-#[cfg(test)]
 mod sha384_tests;
-#[cfg(test)]
-mod signed_bodies;
-#[cfg(test)]
-mod signed_tests;
 #[cfg(test)]
 mod signer_tests;
 #[cfg(test)]
@@ -74,9 +38,3 @@ mod statement_tests;
 mod texts;
 #[cfg(test)]
 mod trees_tests;
-#[cfg(test)]
-mod verification_tests;
-#[cfg(test)]
-mod wanted;
-#[cfg(test)]
-mod words_tests;

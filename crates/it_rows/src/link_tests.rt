@@ -1,5 +1,5 @@
 //! How links are read.
-use crate::known_digests::ABC;
+use it_devices::known_digests::ABC;
 use it_digest::artifacts::Artifacts;
 use it_docs::link::read_link;
 use std::alloc::{AllocError, Global};

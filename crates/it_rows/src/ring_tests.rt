@@ -1,6 +1,6 @@
 //! Rings of secrets: how they are read, and what they say of keys and signatures.
-use crate::rings::{RING, object_of, ring_of};
 use crate::texts::joined;
+use it_devices::rings::{RING, object_of, ring_of};
 use it_dsse::check::SignatureCheck;
 use it_dsse::hmac_sha256;
 use it_dsse::meter::Meter;

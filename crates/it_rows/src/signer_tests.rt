@@ -1,7 +1,7 @@
 //! Who signed an envelope, as a panel of rings finds it.
-use crate::rings::{RING, object_of, ring_of};
 use crate::texts::joined;
 use it_base::sequence::Sequence;
+use it_devices::rings::{RING, object_of, ring_of};
 use it_devices::{strings, text};
 use it_dsse::check::SignatureCheck;
 use it_dsse::envelope::{Envelope, Signature};

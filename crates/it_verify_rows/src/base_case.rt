@@ -3,6 +3,7 @@
 use it_base::sequence::Sequence;
 use it_base::text::Text;
 use it_chain::bundle::Bundle;
+use it_devices::rings::DELIVERY_RING;
 use it_devices::text;
 use it_dsse::check::SignatureCheck;
 use it_dsse::ring::HmacRing;
@@ -14,11 +15,6 @@ use std::alloc::{AllocError, Global};
 use std::test::Fail;
 
 pub(crate) const IN_TOTO: &str = "application/vnd.in-toto+json";
-
-pub(crate) const RING: &str =
-    r#"[{"id":"owner","secret":"6f776e6572"},{"id":"alice","secret":"616c696365"},
-    {"id":"bob","secret":"626f62"},{"id":"bobz","secret":"626f6200"},
-    {"id":"carol","secret":"6361726f6c"},{"id":"builder","secret":"6275696c646572"}]"#;
 
 // What letters stand for in the documents: K for a key object, "A" for the SHA-256 of `abc` and "B"
 // for that of no bytes.
@@ -92,7 +88,7 @@ pub(crate) fn bytes(alloc: Global, text: &str) -> Result<Sequence<u8>, AllocErro
 
 /// The ring whose ids sign the base case.
 pub(crate) fn ring(alloc: Global) -> Result<HmacRing, Fail> {
-    Ok(HmacRing::read(alloc, RING.as_bytes())?)
+    Ok(HmacRing::read(alloc, DELIVERY_RING.as_bytes())?)
 }
 
 /// The envelope of a body, signed by an id of the ring.

@@ -1,7 +1,7 @@
 //! Who signed an envelope, and how a command ends.
-use crate::base_case::RING;
-use crate::wanted::{Ran, ran_as};
 use it_commands::run_signed;
+use it_devices::rings::DELIVERY_RING;
+use it_devices::wanted::{Ran, ran_as};
 use it_devices::{Full, Pipe};
 use it_digest::reader::DigestFault;
 use it_dsse::check::SignatureCheck;
@@ -69,7 +69,7 @@ fn check_signers(
     rows: &[(&str, &str, Status)],
 ) -> Result<(), Fail> {
     for (envelope, want, status) in rows {
-        let ran = signers(alloc, RING.as_bytes(), envelope)?;
+        let ran = signers(alloc, DELIVERY_RING.as_bytes(), envelope)?;
         ran_as(rt, &ran, Ok(*status), want.as_bytes(), envelope);
     }
     Ok(())
@@ -95,7 +95,7 @@ fn signers_into(alloc: Global, envelope: &str, room: usize, full: Full) -> Resul
         most: 1,
         full,
     };
-    let outcome = signers_told(alloc, RING.as_bytes(), envelope, &mut pipe)?;
+    let outcome = signers_told(alloc, DELIVERY_RING.as_bytes(), envelope, &mut pipe)?;
     Ok(Ran {
         outcome,
         written: pipe.taken,

@@ -1,10 +1,11 @@
 //! Each document of the base case cut to each shorter beginning, the others staying whole.
 use crate::base_case::{
-    ACCEPTED, LINK, MOMENT, RING, base, filled, layout, report_of, signed_text, without_links,
+    ACCEPTED, LINK, MOMENT, base, filled, layout, report_of, signed_text, without_links,
 };
-use crate::wanted::is_text_at;
 use it_base::sequence::Sequence;
 use it_chain::bundle::Bundle;
+use it_devices::rings::DELIVERY_RING;
+use it_devices::wanted::is_text_at;
 use it_devices::{nested, text};
 use it_dsse::ring::{HmacRing, RingFault};
 use it_verify::inputs::Inputs;
@@ -184,8 +185,11 @@ fn fault_of(alloc: Global, ring: &[u8]) -> Option<RingFault> {
 
 #[test]
 fn reads_no_cut_ring(rt: HostRuntime) -> Result<(), Fail> {
-    for kept in 0..RING.len() {
-        let cut = RING.as_bytes().get(..kept).ok_or("no such beginning")?;
+    for kept in 0..DELIVERY_RING.len() {
+        let cut = DELIVERY_RING
+            .as_bytes()
+            .get(..kept)
+            .ok_or("no such beginning")?;
         let fault = fault_of(rt.alloc(), cut);
         assert_eq!(rt; fault, Some(RingFault::BadRing), "{kept}");
     }

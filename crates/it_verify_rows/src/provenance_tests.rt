@@ -1,8 +1,8 @@
 //! Which envelope the search finds, and how many signatures it tries. What attests a delivered file
 //! is in the cases that `itv_cases` runs.
-use crate::known_digests::ABC;
-use crate::rings::ring_of;
 use crate::signed_bodies::signed;
+use it_devices::known_digests::ABC;
+use it_devices::rings::ring_of;
 use it_digest::compare::DigestSet;
 use it_docs::policy::{Expectation, Policy};
 use it_docs::policy_reading::read_policy;

@@ -2,12 +2,12 @@
 //! `itv_cases` runs.
 ghost use Rattle.std.specs.Prelude.{◌≤◌};
 
-use crate::rings::ring_of;
 use crate::signed_bodies::signed_bytes;
 use it_chain::bundle::Bundle;
 use it_chain::chain::Chain;
 use it_chain::refusal::{ChainError, ChainFault, ChainRefusal};
 use it_chain::verify_chain;
+use it_devices::rings::ring_of;
 use it_docs::layout_reading::read_layout;
 use it_dsse::check::SignatureCheck;
 use it_dsse::meter::Meter;

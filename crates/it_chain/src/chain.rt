@@ -1,4 +1,4 @@
-//! What a layout comes to over a bundle: one record for each of its steps.
+//! The result of a layout over a bundle: one record for each of its steps.
 use it_base::sequence::Sequence;
 use it_base::text::Text;
 use it_digest::artifacts::Artifacts;

@@ -30,8 +30,8 @@ pub fn chain_goes_deeper()
     ensures { ChainGoesDeeper }
 {}
 
-/// Over bundles in which the same counts a layout comes to the same: the same records, or the same
-/// first failure.
+/// Over bundles in which the same files count, a layout has the same result: the same records, or
+/// the same first failure.
 pub fn alike_chains()
     ensures { AlikeChains }
 {}

@@ -3,7 +3,7 @@ use it_base::text::Text;
 use it_digest::artifacts::Artifacts;
 use std::marker::Model;
 
-/// The artifacts that a body comes to.
+/// The artifacts that a body records.
 #[derive(Drop)]
 pub(crate) struct Recorded {
     /// What the step took.
@@ -31,6 +31,6 @@ pub(crate) struct IdRecord {
     pub id: Text,
     /// The number of its key, as `it_dsse::signed_by` answers it.
     pub key: (usize, u32),
-    /// The artifacts that its body comes to.
+    /// The artifacts that its body records.
     pub recorded: Recorded,
 }

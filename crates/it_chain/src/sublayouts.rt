@@ -18,7 +18,7 @@ use it_docs::layout::Layout;
 use it_dsse::meter::Meter;
 use std::alloc::{AllocError, Global};
 
-/// The artifacts that the body of a key id comes to.
+/// The artifacts that the body of a key id records.
 #[cycle(level)]
 pub(crate) fn verify_body<C: Checking>(
     alloc: Global,

@@ -1,4 +1,4 @@
-//! What a sublayout stands for in the step that it was signed for (in-toto 1.0 section 4.3).
+//! What a sublayout gives the step that it was signed for (in-toto 1.0 section 4.3).
 ghost use Rattle.std.specs.Prelude.{◌≡◌};
 ghost use Rattle.it_chain.specs.Summary.{summary};
 
@@ -7,7 +7,7 @@ use crate::record::Recorded;
 use it_digest::artifacts::Artifacts;
 use std::alloc::Global;
 
-/// What a sublayout stands for: the materials of its first step and the products of its last.
+/// The record of a sublayout: the materials of its first step and the products of its last.
 pub(crate) fn summary_of(alloc: Global, mut results: Vec<StepResult>) -> Recorded
     ensures { result ≡ summary results.items }
 {

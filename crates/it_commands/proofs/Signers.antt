@@ -5,7 +5,7 @@ use Rattle.it_dsse.specs.Signed.{AreThose, IsSigner}
 use Rattle.it_dsse.specs.declared.envelope.Envelope.{Envelope}
 use Rattle.it_commands.specs.SignedOutput.{NamesSigners, ring_object}
 use Rattle.it_commands.specs.inside.SignerNames.{ListsNames}
-use Rattle.it_words.specs.declared.outcome.Status.{Status}
+use Rattle.it_outcome.specs.declared.outcome.Status.{Status}
 use Rattle.it_commands.proofs.Those.{any_kept, kept_any}
 
 -- a text that lists the signers names them

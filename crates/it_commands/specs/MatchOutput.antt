@@ -1,8 +1,8 @@
 -- Whether a pattern matches a path, as a text (this profile's choice of the text).
 use Rattle.std.specs.Prelude.{◌≡◌, ◌⊎◌, ℕ, List, codes}
 use Rattle.it_glob.specs.Pattern.{Matches, items_of}
-use Rattle.it_words.specs.declared.outcome.Status.{Status}
-use Rattle.it_words.specs.declared.outcome.Status.TheVariants.{Good, Refused}
+use Rattle.it_outcome.specs.declared.outcome.Status.{Status}
+use Rattle.it_outcome.specs.declared.outcome.Status.TheVariants.{Good, Refused}
 
 -- the pattern matches, and the text says so
 pub record SaysYes (pattern path text : List ℕ) (status : Status) : Type 0 where

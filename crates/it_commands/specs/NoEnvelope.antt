@@ -6,8 +6,8 @@ use Rattle.it_report.specs.Report.{report_of}
 use Rattle.it_report.specs.declared.refusal.Fault.TheVariants.{BadEnvelope}
 use Rattle.it_report.specs.declared.refusal.Refusal.{Refusal}
 use Rattle.it_report.specs.declared.verdict.Verdict.TheVariants.{Refused as refused_for}
-use Rattle.it_words.specs.declared.outcome.Status.{Status}
-use Rattle.it_words.specs.declared.outcome.Status.TheVariants.{Refused}
+use Rattle.it_outcome.specs.declared.outcome.Status.{Status}
+use Rattle.it_outcome.specs.declared.outcome.Status.TheVariants.{Refused}
 
 -- the refusal of bytes that are no envelope
 abbrev pub no_envelope : Refusal

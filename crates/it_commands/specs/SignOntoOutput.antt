@@ -5,8 +5,8 @@ use Rattle.it_dsse.specs.Envelope.{EnvelopeOf}
 use Rattle.it_dsse.specs.Written.{written_form}
 use Rattle.it_dsse.specs.declared.envelope.Envelope.{Envelope}
 use Rattle.it_dsse.specs.declared.ring_entry.RingEntry.{RingEntry}
-use Rattle.it_words.specs.declared.outcome.RunFault.{RunFault}
-use Rattle.it_words.specs.declared.outcome.RunFault.TheVariants.{
+use Rattle.it_outcome.specs.declared.outcome.RunFault.{RunFault}
+use Rattle.it_outcome.specs.declared.outcome.RunFault.TheVariants.{
   Write,
   OutOfMemory,
   UnknownKey,

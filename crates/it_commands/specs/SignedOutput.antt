@@ -7,8 +7,8 @@ use Rattle.it_dsse.specs.Signed.{AreThose, IsSigner}
 use Rattle.it_dsse.specs.declared.envelope.Envelope.{Envelope}
 use Rattle.it_dsse.specs.declared.key_object.KeyObject.{KeyObject}
 use Rattle.it_report.specs.Name.{name_form}
-use Rattle.it_words.specs.declared.outcome.Status.{Status}
-use Rattle.it_words.specs.declared.outcome.Status.TheVariants.{Good}
+use Rattle.it_outcome.specs.declared.outcome.Status.{Status}
+use Rattle.it_outcome.specs.declared.outcome.Status.TheVariants.{Good}
 use Rattle.it_commands.specs.NoEnvelope.{RefusesBytes}
 
 -- the key object that is asked with

@@ -5,9 +5,9 @@ ghost use Rattle.it_base.specs.Writing.{AppendsBeginning};
 ghost use Rattle.it_digest.specs.Reader.{GaveAtMost, GaveMoreThan};
 ghost use Rattle.it_commands.specs.DigestOutput.{HasLineFeed, IsDigestLine, digest_line};
 
-use crate::output::{Output, put};
 use it_digest::reader::{DigestFault, sha256_of_reader};
-use it_words::outcome::{RunFault, Status};
+use it_outcome::output::{Output, put};
+use it_outcome::{RunFault, Status};
 use std::alloc::{AllocError, Global};
 use std::io::{Read, Write};
 

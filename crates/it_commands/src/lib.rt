@@ -5,14 +5,11 @@
 mod digest_output;
 mod match_output;
 mod no_envelope;
-pub mod output;
 mod pae_output;
 mod payload_output;
 mod sign_onto_output;
 mod sign_output;
 mod signed_output;
-#[cfg(test)]
-mod tests;
 
 pub use digest_output::{check_name, run_digest};
 pub use match_output::run_match;

@@ -3,12 +3,12 @@ ghost use Rattle.std.specs.Prelude.{◌≡◌, IfOk};
 ghost use Rattle.it_report.specs.Report.{report_of};
 ghost use Rattle.it_commands.specs.NoEnvelope.{no_envelope};
 
-use crate::output::Output;
 use it_base::sequence::Sequence;
+use it_outcome::Status;
+use it_outcome::output::Output;
 use it_report::refusal::{Fault, Refusal};
 use it_report::refused_report;
 use it_report::verdict::Verdict;
-use it_words::outcome::Status;
 use std::alloc::{AllocError, Global};
 
 /// The report that refuses such bytes.

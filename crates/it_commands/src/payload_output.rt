@@ -2,13 +2,13 @@
 ghost use Rattle.std.specs.Prelude.{◌≡◌, IfErr, IfOk, IsErrOf};
 ghost use Rattle.std.specs.Io.KnownBytes.{Appends};
 ghost use Rattle.it_base.specs.Writing.{AppendsBeginning};
-ghost use Rattle.it_words.specs.Outcome.{IsOutputFault};
+ghost use Rattle.it_outcome.specs.Outcome.{IsOutputFault};
 ghost use Rattle.it_commands.specs.PayloadOutput.{IsPayloadOutput};
 
 use crate::no_envelope::no_envelope_output;
-use crate::output::{Output, put};
 use it_dsse::envelope::{Envelope, EnvelopeFault};
-use it_words::outcome::{RunFault, Status};
+use it_outcome::output::{Output, put};
+use it_outcome::{RunFault, Status};
 use std::alloc::{AllocError, Global};
 use std::io::Write;
 

@@ -9,7 +9,7 @@ ghost use Rattle.it_commands.specs.SignOntoOutput.{IsSignOntoFault, IsSignOntoOu
 use crate::sign_output::put_line;
 use it_dsse::envelope::{Envelope, EnvelopeFault};
 use it_dsse::signing::{CountersignFault, NewSignature, countersign};
-use it_words::outcome::{RunFault, Status};
+use it_outcome::{RunFault, Status};
 use std::alloc::Global;
 use std::io::Write;
 

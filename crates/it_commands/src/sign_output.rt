@@ -6,7 +6,7 @@ ghost use Rattle.it_base.specs.Writing.{AppendsBeginning};
 ghost use Rattle.it_dsse.specs.Ring.{has_id};
 ghost use Rattle.it_dsse.specs.Signing.{IsSignedUnder};
 ghost use Rattle.it_dsse.specs.Written.{written_form};
-ghost use Rattle.it_words.specs.Outcome.{IsOutputFault};
+ghost use Rattle.it_outcome.specs.Outcome.{IsOutputFault};
 ghost use Rattle.it_commands.specs.SignOutput.{IsSignOutput};
 
 use it_base::writing::{WriteError, write_all_of};
@@ -14,7 +14,7 @@ use it_dsse::envelope::Envelope;
 use it_dsse::ring::HmacRing;
 use it_dsse::signing::{SignFault, sign};
 use it_dsse::written::WriteFault;
-use it_words::outcome::{RunFault, Status};
+use it_outcome::{RunFault, Status};
 use std::alloc::Global;
 use std::io::Write;
 

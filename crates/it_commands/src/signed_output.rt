@@ -4,7 +4,7 @@ ghost use Rattle.std.specs.Io.KnownBytes.{Appends};
 ghost use Rattle.it_base.specs.Writing.{AppendsBeginning};
 ghost use Rattle.it_dsse.specs.Panel.{panel_of};
 ghost use Rattle.it_dsse.specs.Signed.{AreThose, IsSigner};
-ghost use Rattle.it_words.specs.Outcome.{IsOutputFault};
+ghost use Rattle.it_outcome.specs.Outcome.{IsOutputFault};
 ghost use Rattle.it_commands.specs.SignedOutput.{
   IsSignedOutput,
   NamesSigners,
@@ -14,14 +14,14 @@ ghost use Rattle.it_commands.specs.SignedOutput.{
 ghost use Rattle.it_commands.specs.inside.SignerNames.{ListsNames};
 
 use crate::no_envelope::no_envelope_output;
-use crate::output::{Output, put};
 use it_base::text::Text;
 use it_dsse::check::SignatureCheck;
 use it_dsse::envelope::{Envelope, EnvelopeFault};
 use it_dsse::key_object::KeyObject;
 use it_dsse::signed_ids;
+use it_outcome::output::{Output, put};
+use it_outcome::{RunFault, Status};
 use it_report::name::push_name;
-use it_words::outcome::{RunFault, Status};
 use std::alloc::{AllocError, Global};
 use std::io::Write;
 

@@ -2,8 +2,8 @@
 use Rattle.std.proofs.Common.{◌≢◌, ℕ, List}
 use Rattle.it_digest.specs.Artifacts.{ArtifactMap}
 use Rattle.it_digest.specs.Sums.{SumsOf}
-use Rattle.it_words.specs.declared.outcome.RunFault.{RunFault}
-use Rattle.it_words.specs.declared.outcome.RunFault.TheVariants.{Write, OutOfMemory, BadProducts}
+use Rattle.it_outcome.specs.declared.outcome.RunFault.{RunFault}
+use Rattle.it_outcome.specs.declared.outcome.RunFault.TheVariants.{Write, OutOfMemory, BadProducts}
 use Rattle.it_making.specs.LinkOutput.{IsLinkFault}
 use Rattle.it_making.specs.inside.LinkParts.{IsProductsFault}
 

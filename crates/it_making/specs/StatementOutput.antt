@@ -13,8 +13,8 @@ use Rattle.it_digest.specs.Sums.{IsFirstBadLine, SumsOf}
 use Rattle.it_digest.specs.declared.compare.DigestSet.{DigestSet}
 use Rattle.it_docs.specs.Statement.{StatementOf}
 use Rattle.it_docs.specs.declared.statement.Statement.{Statement}
-use Rattle.it_words.specs.declared.outcome.RunFault.{RunFault}
-use Rattle.it_words.specs.declared.outcome.RunFault.TheVariants.{
+use Rattle.it_outcome.specs.declared.outcome.RunFault.{RunFault}
+use Rattle.it_outcome.specs.declared.outcome.RunFault.TheVariants.{
   Write,
   OutOfMemory,
   BadSubjects,

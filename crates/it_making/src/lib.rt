@@ -7,13 +7,9 @@ mod digest_sets;
 mod link_output;
 mod members;
 mod nesting;
-mod output;
 mod parameters;
 mod statement_output;
 mod subjects;
 
 pub use link_output::run_link;
 pub use statement_output::{StatementParts, run_statement};
-
-#[cfg(test)]
-mod tests;

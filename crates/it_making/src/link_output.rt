@@ -11,12 +11,12 @@ ghost use Rattle.it_making.specs.inside.LinkParts.{IsProductsFault};
 
 use crate::artifact_maps::artifacts_value;
 use crate::members::put_member;
-use crate::output::put_text;
 use it_base::text::Text;
 use it_digest::artifacts::Artifacts;
 use it_digest::sums::{SumsFault, read_sums};
 use it_docs::link::Link;
-use it_words::outcome::{RunFault, Status};
+use it_outcome::output::put_text;
+use it_outcome::{RunFault, Status};
 use serde_json::{Map, Value};
 use std::alloc::{AllocError, Global};
 use std::io::Write;

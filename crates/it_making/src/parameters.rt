@@ -7,7 +7,7 @@ ghost use Rattle.it_making.specs.inside.StatementParts.{IsParametersFault};
 
 use crate::nesting::nests_within;
 use it_base::document::read_document;
-use it_words::outcome::RunFault;
+use it_outcome::RunFault;
 use serde_json::{Map, Value};
 use std::alloc::Global;
 

@@ -14,12 +14,12 @@ ghost use Rattle.it_making.specs.StatementOutput.{provenance_document, statement
 ghost use Rattle.it_making.specs.StatementOutput.{subjects_document};
 ghost use Rattle.it_making.specs.inside.StatementParts.{IsSubjectsFault, IsWritten};
 
-use crate::output::put_text;
 use crate::parameters::parameters_of;
 use crate::subjects::subjects_value;
 use it_digest::artifacts::Artifacts;
 use it_digest::sums::{SumsFault, read_sums};
-use it_words::outcome::{RunFault, Status};
+use it_outcome::output::put_text;
+use it_outcome::{RunFault, Status};
 use serde_json::{Value, json};
 use std::alloc::{AllocError, Global};
 use std::io::Write;

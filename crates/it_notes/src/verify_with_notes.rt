@@ -3,15 +3,15 @@ ghost use Rattle.std.specs.Prelude.{◌≡◌, ◌≤◌, IfErr, IfOk, IsErrOf, 
 ghost use Rattle.std.specs.Io.KnownBytes.{Appends};
 ghost use Rattle.it_base.specs.Writing.{AppendsBeginning};
 ghost use Rattle.it_dsse.specs.Panel.{panel_of};
-ghost use Rattle.it_words.specs.Outcome.{IsOutputFault};
+ghost use Rattle.it_outcome.specs.Outcome.{IsOutputFault};
 ghost use Rattle.it_verify.specs.VerifyOutput.{IsVerifyOutput};
 
 use crate::notes::Notes;
 use it_dsse::check::SignatureCheck;
+use it_outcome::{RunFault, Status};
 use it_report::verdict::Verdict;
 use it_verify::inputs::Inputs;
 use it_verify::{verify, write_verdict};
-use it_words::outcome::{RunFault, Status};
 use std::alloc::{AllocError, Global};
 use std::io::Write;
 

@@ -29,6 +29,6 @@ impl From<AllocError> for ProvError {
 /// No envelope meets an expectation.
 #[derive(Clone, Copy)]
 pub(crate) struct Unmet {
-    /// The level that `NoProvenance` tells.
+    /// The level that `NoProvenance` reports.
     pub best: Option<u8>,
 }

@@ -1,4 +1,4 @@
-//! What a report tells of a fault, line by line.
+//! What a report says about a fault, line by line.
 ghost use Rattle.std.specs.Prelude.{◌≡◌, ◌++◌, OnOk, codes};
 ghost use Rattle.it_report.specs.Name.{name_form};
 ghost use Rattle.it_report.specs.Report.{

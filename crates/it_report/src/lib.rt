@@ -1,5 +1,4 @@
-//! What a verification comes to, as values and as the report that tells it: verdicts, refusals and
-//! their faults.
+//! The result of a verification, as values and as a report: verdicts, refusals and their faults.
 #![tactic(auto)]
 
 mod fault_lines;

@@ -1,4 +1,4 @@
-//! One line of a report: a word and what is told by it.
+//! One line of a report: a word and its value.
 ghost use Rattle.std.specs.Prelude.{◌≡◌, ◌++◌, OnOk, decimal};
 ghost use Rattle.it_report.specs.Name.{name_form};
 ghost use Rattle.it_report.specs.Report.{line};

@@ -15,7 +15,7 @@ use std::alloc::{AllocError, Global};
 
 /// The report of a verdict, line by line, each with a line feed at its end. The first line is
 /// `accepted`, or `refused` with the number and the name of the fault. Then come the steps with
-/// their numbers of keys and the files, or where the fault is and what is to be told of it.
+/// their numbers of keys and the files, or where the fault is and its details.
 ///
 /// # Errors
 ///

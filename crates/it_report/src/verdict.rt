@@ -1,4 +1,4 @@
-//! What a verification comes to.
+//! The verdict of a verification.
 use crate::refusal::Refusal;
 use it_base::sequence::Sequence;
 use it_base::text::Text;
@@ -26,6 +26,7 @@ pub struct Answer {
     /// How many answers of checks were asked for, on whether a signature is valid: for the owners
     /// of the policy, for the links and sublayouts at every depth, and for the provenance, one
     /// count for all of them. An answer on provenance that is remembered counts for each delivered
-    /// file that asks for it. The greatest number that this holds stands for every greater one.
+    /// file that asks for it. A number that this cannot hold is given as the
+    /// greatest that it can.
     pub asked: u64,
 }

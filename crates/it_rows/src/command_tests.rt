@@ -1,11 +1,11 @@
 //! The commands over bytes that look at no ring of others: a pattern, what is signed, a signature
 //! and a digest.
 use crate::wanted::{Ran, ran_as};
+use it_commands::{run_digest, run_match, run_pae, run_sign};
 use it_devices::Source;
 use it_digest::reader::DigestFault;
 use it_dsse::ring::HmacRing;
-use it_verify::outcome::{RunFault, Status};
-use it_verify::{run_digest, run_match, run_pae, run_sign};
+use it_outcome::{RunFault, Status};
 use std::alloc::Global;
 use std::io::Read;
 use std::process::Abort;

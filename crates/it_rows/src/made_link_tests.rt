@@ -1,7 +1,7 @@
 //! The bodies of links that are made from digest lists.
 use crate::wanted::{Ran, ran_as};
 use it_making::run_link;
-use it_words::outcome::{RunFault, Status};
+use it_outcome::{RunFault, Status};
 use std::alloc::Global;
 
 const ABC_P: &str = "ba7816bf8f01cfea414140de5dae2223b00361a396177a9cb410ff61f20015ad  p\n";

@@ -2,7 +2,7 @@
 use crate::wanted::{Ran, ran_as};
 use it_devices::nested;
 use it_making::{StatementParts, run_statement};
-use it_words::outcome::{RunFault, Status};
+use it_outcome::{RunFault, Status};
 use std::alloc::{AllocError, Global};
 use std::process::Abort;
 use std::test::Fail;

@@ -4,7 +4,7 @@ use crate::wanted::{Ran, ran_as};
 use it_commands::{run_payload, run_sign, run_sign_onto};
 use it_dsse::ring::HmacRing;
 use it_dsse::signing::NewSignature;
-use it_words::outcome::{RunFault, Status};
+use it_outcome::{RunFault, Status};
 use std::alloc::Global;
 use std::io::Write;
 use std::process::Abort;

@@ -1,12 +1,12 @@
 //! Who signed an envelope, and how a command ends.
 use crate::base_case::RING;
 use crate::wanted::{Ran, ran_as};
+use it_commands::run_signed;
 use it_devices::{Full, Pipe};
 use it_digest::reader::DigestFault;
 use it_dsse::check::SignatureCheck;
 use it_dsse::ring::HmacRing;
-use it_verify::outcome::{RunFault, Status, exit_of};
-use it_verify::run_signed;
+use it_outcome::{RunFault, Status, exit_of};
 use std::alloc::Global;
 use std::io::Write;
 use std::process::Abort;

@@ -1,5 +1,5 @@
 //! What the tables assert, once for all of them: that what was found is what a row wants.
-use it_words::outcome::{RunFault, Status};
+use it_outcome::{RunFault, Status};
 use std::process::Abort;
 
 /// How a command ended, and what it wrote.

@@ -32,7 +32,7 @@ use Rattle.it_verify.specs.Verdict.{IsVerdict}
 use Rattle.it_verify.specs.VerifyOutput.{IsVerifyOutput}
 use Rattle.it_verify.specs.VerificationLaws.{ComesToTheSame}
 use Rattle.it_verify.specs.declared.inputs.Inputs.{Inputs}
-use Rattle.it_words.specs.declared.outcome.Status.{Status}
+use Rattle.it_outcome.specs.declared.outcome.Status.{Status}
 use Rattle.it_report.specs.declared.refusal.Refusal.{Refusal}
 use Rattle.it_report.specs.declared.verdict.Verdict.{Verdict}
 use Rattle.it_report.specs.declared.verdict.Verdict.TheVariants.{Accepted, Refused}

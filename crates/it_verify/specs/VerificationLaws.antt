@@ -7,7 +7,7 @@ use Rattle.it_report.specs.declared.refusal.Fault.TheVariants.{Threshold, NoProv
 use Rattle.it_report.specs.declared.refusal.Refusal.{Refusal}
 use Rattle.it_report.specs.declared.verdict.Verdict.{Verdict}
 use Rattle.it_report.specs.declared.verdict.Verdict.TheVariants.{Refused, Accepted}
-use Rattle.it_words.specs.declared.outcome.Status.{Status}
+use Rattle.it_outcome.specs.declared.outcome.Status.{Status}
 use Rattle.it_verify.specs.Documents.{Documents}
 use Rattle.it_verify.specs.Evidence.{Evidence}
 use Rattle.it_verify.specs.InputsAlike.{InputsAlike, InputsWithin}

@@ -4,8 +4,8 @@ use Rattle.it_dsse.specs.Panel.{Panel}
 use Rattle.it_report.specs.Report.{report_of}
 use Rattle.it_report.specs.declared.verdict.Verdict.{Verdict}
 use Rattle.it_report.specs.declared.verdict.Verdict.TheVariants.{Accepted, Refused as refused_for}
-use Rattle.it_words.specs.declared.outcome.Status.{Status}
-use Rattle.it_words.specs.declared.outcome.Status.TheVariants.{Refused, Good}
+use Rattle.it_outcome.specs.declared.outcome.Status.{Status}
+use Rattle.it_outcome.specs.declared.outcome.Status.TheVariants.{Refused, Good}
 use Rattle.it_verify.specs.Verdict.{IsVerdict}
 use Rattle.it_verify.specs.declared.inputs.Inputs.{Inputs}
 

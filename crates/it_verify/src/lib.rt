@@ -1,6 +1,5 @@
-//! The verification of a delivery: what it rests on and comes to, with its report. The commands
-//! beside it, the words of the command line and the report stand in crates below, and are public
-//! here too.
+//! The verification of a delivery: what it rests on, its verdict, and the report of it. The verdict
+//! and the report are defined in `it_report`, and are public here too.
 #![tactic(auto)]
 
 mod chain_refusal;
@@ -18,8 +17,6 @@ mod provenance;
 mod verification;
 mod verify_output;
 
-pub use it_commands::{check_name, run_digest, run_match, run_pae, run_sign, run_signed};
 pub use it_report::{refusal, report, verdict};
-pub use it_words::{outcome, words};
 pub use verification::verify;
 pub use verify_output::{run_verify, write_verdict};

@@ -3,17 +3,17 @@ ghost use Rattle.std.specs.Prelude.{◌≡◌, ◌≤◌, IfErr, IfOk, IsErrOf, 
 ghost use Rattle.std.specs.Io.KnownBytes.{Appends};
 ghost use Rattle.it_base.specs.Writing.{AppendsBeginning};
 ghost use Rattle.it_dsse.specs.Panel.{panel_of};
-ghost use Rattle.it_words.specs.Outcome.{IsOutputFault};
+ghost use Rattle.it_outcome.specs.Outcome.{IsOutputFault};
 ghost use Rattle.it_report.specs.Report.{report_of};
 ghost use Rattle.it_verify.specs.VerifyOutput.{IsVerifyOutput, status_of};
 
 use crate::inputs::Inputs;
 use crate::verification::verify;
-use it_commands::output::{Output, put};
 use it_dsse::check::SignatureCheck;
+use it_outcome::output::{Output, put};
+use it_outcome::{RunFault, Status};
 use it_report::report;
 use it_report::verdict::Verdict;
-use it_words::outcome::{RunFault, Status};
 use std::alloc::Global;
 use std::io::Write;
 

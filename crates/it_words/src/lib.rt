@@ -1,5 +1,4 @@
-//! The words of the command line of `itv`, and the statuses that its commands end with.
+//! The words of the command line of `itv`.
 #![tactic(auto)]
 
-pub mod outcome;
 pub mod words;

@@ -20,8 +20,8 @@ use Rattle.it_public_keys.specs.AnyCheck.{checks_of}
 use Rattle.it_public_keys.specs.Collected.{IsTableFor}
 use Rattle.it_verify.specs.VerifyOutput.{IsVerifyOutput}
 use Rattle.it_verify.specs.declared.inputs.Inputs.{Inputs}
-use Rattle.it_words.specs.declared.outcome.Status.{Status}
-use Rattle.it_words.specs.declared.outcome.Status.TheVariants.{Good}
+use Rattle.it_outcome.specs.declared.outcome.Status.{Status}
+use Rattle.it_outcome.specs.declared.outcome.Status.TheVariants.{Good}
 use Rattle.it_words.specs.declared.words.Words.{Words}
 use Rattle.it_words.specs.declared.words.Words.TheVariants.{Signed, Match, Pae, Sign, Digest}
 use Rattle.it_words.specs.declared.words.Words.TheVariants.{Verify, Link, Statement, Payload}

@@ -1,7 +1,7 @@
 -- The status that the program ends with (this profile's choice).
 use Rattle.std.specs.Prelude.{ℕ, Result, Ok, Err}
-use Rattle.it_words.specs.Outcome.{exit_status}
-use Rattle.it_words.specs.declared.outcome.Status.{Status}
+use Rattle.it_outcome.specs.Outcome.{exit_status}
+use Rattle.it_outcome.specs.declared.outcome.Status.{Status}
 use Rattle.itv.specs.declared.fault.Fault.{Fault}
 use Rattle.itv.specs.declared.fault.Fault.TheVariants.{Run}
 

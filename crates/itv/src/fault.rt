@@ -1,14 +1,14 @@
 //! Why the program stops, as its notes say it.
 ghost use Rattle.std.specs.Prelude.{◌≡◌};
-ghost use Rattle.it_words.specs.declared.outcome.RunFault.TheVariants.{OutOfMemory};
+ghost use Rattle.it_outcome.specs.declared.outcome.RunFault.TheVariants.{OutOfMemory};
 ghost use Rattle.itv.specs.Fault.{program_status};
 ghost use Rattle.itv.specs.declared.fault.Fault.TheVariants.{Run};
 
 use crate::ring_flaw::RingFlaw;
 use crate::shown::Shown;
 use it_base::text::Text;
-use it_verify::outcome::{RunFault, Status, exit_of};
-use it_verify::words::WordsFault;
+use it_outcome::{RunFault, Status, exit_of};
+use it_words::words::WordsFault;
 use std::alloc::{AllocError, AllocFailed, Global};
 use std::io;
 use thiserror::Error;

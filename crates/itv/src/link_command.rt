@@ -7,8 +7,8 @@ use crate::disk::Disk;
 use crate::fault::Fault;
 use crate::files::bytes_if_given;
 use it_making::run_link;
-use it_verify::outcome::{RunFault, Status};
-use it_verify::words::link_words::LinkWords;
+use it_outcome::{RunFault, Status};
+use it_words::words::link_words::LinkWords;
 use std::io::Write;
 
 /// Reads the digest lists that are given, and writes the body of the link.

@@ -29,7 +29,7 @@ mod verify_command;
 
 use disk::Disk;
 use fault::{Fault, exit_status};
-use it_verify::outcome::Status;
+use it_outcome::Status;
 use running::run_to;
 use std::io;
 use std::io::Write;

@@ -4,9 +4,9 @@ ghost use Rattle.std.specs.Io.KnownBytes.{Appends};
 ghost use Rattle.it_commands.specs.MatchOutput.{IsMatchOutput};
 
 use crate::fault::Fault;
-use it_verify::outcome::{RunFault, Status};
-use it_verify::run_match;
-use it_verify::words::match_words::MatchWords;
+use it_commands::run_match;
+use it_outcome::{RunFault, Status};
+use it_words::words::match_words::MatchWords;
 use std::alloc::Global;
 use std::io::Write;
 

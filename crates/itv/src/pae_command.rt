@@ -5,9 +5,9 @@ ghost use Rattle.itv.specs.Commands.{Encodes};
 
 use crate::disk::Disk;
 use crate::fault::Fault;
-use it_verify::outcome::{RunFault, Status};
-use it_verify::run_pae;
-use it_verify::words::pae_words::PaeWords;
+use it_commands::run_pae;
+use it_outcome::{RunFault, Status};
+use it_words::words::pae_words::PaeWords;
 use std::io::Write;
 
 /// Reads the body, and writes what is signed for it.

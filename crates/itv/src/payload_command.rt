@@ -6,8 +6,8 @@ ghost use Rattle.itv.specs.Commands.{ShowsPayload};
 use crate::disk::Disk;
 use crate::fault::Fault;
 use it_commands::run_payload;
-use it_verify::outcome::{RunFault, Status};
-use it_verify::words::payload_words::PayloadWords;
+use it_outcome::{RunFault, Status};
+use it_words::words::payload_words::PayloadWords;
 use std::io::Write;
 
 /// Reads the envelope, and writes its payload.

@@ -11,8 +11,8 @@ use crate::{
     digest_command, link_command, match_command, pae_command, payload_command, sign_command,
     signed_command, statement_command, verify_command,
 };
-use it_verify::outcome::{RunFault, Status};
-use it_verify::words::{Words, read_words};
+use it_outcome::{RunFault, Status};
+use it_words::words::{Words, read_words};
 use std::io::Write;
 
 #[cfg(test)]

@@ -8,9 +8,9 @@ use crate::fault::Fault;
 use crate::files::read_ring;
 use crate::shown::Shown;
 use crate::sign_onto_command;
-use it_verify::outcome::{RunFault, Status};
-use it_verify::run_sign;
-use it_verify::words::sign_words::SignWords;
+use it_commands::run_sign;
+use it_outcome::{RunFault, Status};
+use it_words::words::sign_words::SignWords;
 use std::io::Write;
 
 /// Writes the signed envelope of the body, or, where an envelope is given, that one with one

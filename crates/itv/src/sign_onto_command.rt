@@ -9,8 +9,8 @@ use crate::files::read_ring;
 use crate::shown::Shown;
 use it_commands::run_sign_onto;
 use it_dsse::signing::NewSignature;
-use it_verify::outcome::{RunFault, Status};
-use it_verify::words::sign_words::SignWords;
+use it_outcome::{RunFault, Status};
+use it_words::words::sign_words::SignWords;
 use std::alloc::{AllocError, Global};
 use std::io::Write;
 

@@ -9,11 +9,11 @@ ghost use Rattle.itv.specs.Commands.{ShowsSigners};
 use crate::disk::Disk;
 use crate::fault::Fault;
 use crate::files::read_ring;
+use it_commands::run_signed;
 use it_dsse::check::SignatureCheck;
 use it_dsse::ring::HmacRing;
-use it_verify::outcome::{RunFault, Status};
-use it_verify::run_signed;
-use it_verify::words::signed_words::SignedWords;
+use it_outcome::{RunFault, Status};
+use it_words::words::signed_words::SignedWords;
 use std::alloc::Global;
 use std::io::Write;
 

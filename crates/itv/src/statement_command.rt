@@ -10,8 +10,8 @@ use crate::fault::Fault;
 use crate::shown::Shown;
 use it_base::text::Text;
 use it_making::{StatementParts, run_statement};
-use it_verify::outcome::{RunFault, Status};
-use it_verify::words::statement_words::StatementWords;
+use it_outcome::{RunFault, Status};
+use it_words::words::statement_words::StatementWords;
 use std::alloc::{AllocError, Global};
 use std::io::Write;
 

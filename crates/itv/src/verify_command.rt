@@ -17,11 +17,11 @@ use it_base::text::Text;
 use it_dsse::check::SignatureCheck;
 use it_dsse::ring::HmacRing;
 use it_notes::verify_with_notes::verify_with_notes;
+use it_outcome::{RunFault, Status};
 use it_public_keys::any_check::{AnyCheck, checks_of};
 use it_public_keys::{PublicKeys, table_if};
 use it_verify::inputs::Inputs;
-use it_verify::outcome::{RunFault, Status};
-use it_verify::words::verify_words::VerifyWords;
+use it_words::words::verify_words::VerifyWords;
 use std::alloc::{AllocError, Global};
 use std::io::Write;
 

@@ -1,10 +1,10 @@
 -- What a verification comes to (a word of this project).
 use Rattle.std.specs.Prelude.{◌≡◌, Ok}
 use Rattle.it_dsse.specs.Panel.{Panel}
-use Rattle.it_words.specs.Outcome.{exit_status}
+use Rattle.it_outcome.specs.Outcome.{exit_status}
 use Rattle.it_verify.specs.VerifyOutput.{IsVerifyOutput}
 use Rattle.it_verify.specs.declared.inputs.Inputs.{Inputs}
-use Rattle.it_words.specs.declared.outcome.Status.{Status}
+use Rattle.it_outcome.specs.declared.outcome.Status.{Status}
 use Rattle.itv_cases.specs.declared.answer.Answer.{Answer}
 
 -- the report is that of the verdict on the inputs, and the status is the exit status that goes with

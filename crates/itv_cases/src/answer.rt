@@ -6,8 +6,8 @@ use crate::wanted::Wanted;
 use it_base::sequence::Sequence;
 use it_dsse::check::SignatureCheck;
 use it_notes::verify_with_notes::verify_with_notes;
+use it_outcome::exit_of;
 use it_verify::inputs::Inputs;
-use it_verify::outcome::exit_of;
 use std::alloc::{AllocError, Global};
 
 /// A report, the status that goes with it, and the notes.

@@ -2,8 +2,8 @@
 use Rattle.std.specs.Prelude.{◌≡◌, ℕ, List}
 use Rattle.it_digest.specs.Sums.{IsFirstBadLine, SumsOf}
 use Rattle.it_docs.specs.declared.link.Link.{Link}
-use Rattle.it_words.specs.declared.outcome.RunFault.{RunFault}
-use Rattle.it_words.specs.declared.outcome.RunFault.TheVariants.{
+use Rattle.it_outcome.specs.declared.outcome.RunFault.{RunFault}
+use Rattle.it_outcome.specs.declared.outcome.RunFault.TheVariants.{
   OutOfMemory,
   BadMaterials,
   BadProducts,

@@ -7,8 +7,8 @@ use Rattle.serde_json.specs.Written.{compact_text, has_float}
 use Rattle.it_base.specs.Document.{IsDocument}
 use Rattle.it_base.specs.Json.{Fields}
 use Rattle.it_digest.specs.Sums.{IsFirstBadLine}
-use Rattle.it_words.specs.declared.outcome.RunFault.{RunFault}
-use Rattle.it_words.specs.declared.outcome.RunFault.TheVariants.{
+use Rattle.it_outcome.specs.declared.outcome.RunFault.{RunFault}
+use Rattle.it_outcome.specs.declared.outcome.RunFault.TheVariants.{
   OutOfMemory,
   BadSubjects,
   BadParameters,

@@ -1,7 +1,7 @@
 use super::{run_to, run_words};
 use crate::fake_files::FakeFiles;
 use crate::fault::{Fault, exit_status};
-use it_verify::outcome::Status;
+use it_outcome::Status;
 use std::alloc::{AllocError, Global};
 use std::io;
 use std::io::Write;

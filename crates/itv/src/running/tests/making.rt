@@ -2,7 +2,7 @@ use super::delivery::RING;
 use super::{Row, check, each_word};
 use crate::fake_files::{FakeFiles, Node};
 use crate::running::run_words;
-use it_verify::outcome::Status;
+use it_outcome::Status;
 use std::alloc::Global;
 use std::test::Fail;
 

@@ -1,7 +1,7 @@
 //! How a command ends.
 ghost use Rattle.std.specs.Prelude.{◌≡◌};
-ghost use Rattle.it_words.specs.Outcome.{exit_status};
-ghost use Rattle.it_words.specs.declared.outcome.RunFault.TheVariants.{OutOfMemory};
+ghost use Rattle.it_outcome.specs.Outcome.{exit_status};
+ghost use Rattle.it_outcome.specs.declared.outcome.RunFault.TheVariants.{OutOfMemory};
 
 use it_digest::reader::DigestFault;
 use std::alloc::AllocError;
@@ -52,8 +52,8 @@ pub enum RunFault {
     /// This line of the subjects, counted from 1, is none of a digest list, or names a path again.
     #[error("line {0} of the subjects is no line of a digest list, or repeats a path")]
     BadSubjects(u64),
-    /// The external parameters are no JSON object.
-    #[error("the external parameters are no JSON object")]
+    /// The external parameters are no JSON object, or one that nests more than 124 levels deep.
+    #[error("the external parameters are no JSON object that nests at most 124 levels deep")]
     BadParameters,
 }
 

@@ -1,4 +1,4 @@
-//! Bytes that stand in a document as a base64 text (RFC 4648).
+//! Bytes that a document holds as a base64 text (RFC 4648).
 ghost use Rattle.std.specs.Prelude.{◌≡◌, ◌≢◌, ◌⊎◌, alloc_error, Some, IfOk, IfErr, string_bytes};
 ghost use Rattle.std.specs.List.{list_any};
 ghost use Rattle.serde_json.specs.View.{view};
@@ -15,8 +15,8 @@ use base64::engine::general_purpose::{STANDARD, URL_SAFE};
 use serde_json::Value;
 use std::alloc::{AllocError, Global};
 
-/// The bytes that the member of this name stands for, or `None` where it is missing, is no text,
-/// or is no base64 text with padding (RFC 4648 sections 4 and 5).
+/// The bytes that the member of this name encodes, or `None` where it is missing, is not text, or
+/// is not base64 with padding (RFC 4648 sections 4 and 5).
 ///
 /// # Errors
 ///

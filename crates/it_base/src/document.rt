@@ -9,8 +9,8 @@ use std::alloc::{AllocError, Global};
 
 /// Reads a JSON document from all of the bytes.
 ///
-/// The answer is the tree, or `None` where the bytes are no document: bad syntax, bad UTF-8, or
-/// nesting past 127 levels.
+/// The answer is the tree, or `None` where the bytes are not a document: bad syntax, bad UTF-8, or
+/// nesting deeper than 127 levels.
 ///
 /// # Errors
 ///

@@ -1,4 +1,4 @@
-//! Bytes that stand in a document as a hexadecimal text (RFC 4648 section 8, either case).
+//! Bytes that a document holds as a hexadecimal text (RFC 4648 section 8, either case).
 ghost use Rattle.std.specs.Prelude.{◌≡◌, IfOk};
 ghost use Rattle.serde_json.specs.View.{view};
 ghost use Rattle.it_base.specs.Finds.{Finds};
@@ -11,8 +11,8 @@ use hex::FromHexError;
 use serde_json::Value;
 use std::alloc::{AllocError, Global};
 
-/// The bytes that the member of this name stands for, or `None` where it is missing, is no text,
-/// or is no even number of hexadecimal digits.
+/// The bytes that the member of this name encodes, or `None` where it is missing, is not text, or
+/// is not an even number of hexadecimal digits.
 ///
 /// # Errors
 ///

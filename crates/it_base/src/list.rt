@@ -17,9 +17,9 @@ use std::alloc::{AllocError, AllocFailed, Global};
 /// Why a list was not read.
 #[derive(Clone, Copy, Debug, PartialEq, Eq)]
 pub enum ListFault {
-    /// The member is no list.
+    /// The member is not a list.
     NoList,
-    /// The item at this place, from 0, is the first that is no such value.
+    /// The item at this index, from 0, is the first that is not such a value.
     NoItem(usize),
     /// Memory was refused.
     OutOfMemory,

@@ -1,4 +1,4 @@
-//! Values that stand in a document, and the members that hold them.
+//! Values in a document, and the members that hold them.
 ghost use Rattle.std.specs.Prelude.{◌≡◌, IfOk};
 ghost use Rattle.serde_json.specs.Data.{Data};
 ghost use Rattle.serde_json.specs.View.{view};
@@ -10,12 +10,12 @@ use crate::document::{member, read_document};
 use serde_json::Value;
 use std::alloc::{AllocError, Global};
 
-/// A value that can stand in a document.
+/// A value that can be read from a part of a document.
 pub trait FromDocument: Drop {
     // which value a part of a document is
     ghost is_of: { Data → Self → Type 0 };
 
-    /// The value that a part of a document is, or `None` where it is none.
+    /// Reads a part of a document as such a value; `None` where it is not one.
     ///
     /// # Errors
     ///

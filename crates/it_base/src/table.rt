@@ -69,7 +69,7 @@ impl<V> Table<V> {
         &self.by_name
     }
 
-    /// The value of a name, if it stands in the map. Takes no memory.
+    /// The value of a name, if the map has the name. Takes no memory.
     pub fn get(&self, name: &str) -> Option<&V>
         ensures { option_map (λ v. v.now) result ≡ finite.get self.now name.now }
     {
@@ -83,7 +83,7 @@ impl<V> Table<V> {
         self.by_name.iter()
     }
 
-    /// Whether no name stands in the map. Takes no memory.
+    /// Whether the map is empty. Takes no memory.
     pub fn is_empty(&self) -> bool
         ensures { IsTrue result ↔ (self.now ≡ finite.empty) }
     {

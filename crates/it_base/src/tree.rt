@@ -88,7 +88,7 @@ impl Model for Members {
 }
 
 impl Tree {
-    /// Whether both trees are equal by parts: `Other` equals nothing, not itself either. Takes no
+    /// Whether both trees are equal by parts: `Other` equals nothing, not even itself. Takes no
     /// memory.
     #[cycle(equals)]
     pub fn equals(&self, other: &Tree) -> bool

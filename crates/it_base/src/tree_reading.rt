@@ -16,7 +16,7 @@ use std::collections::BTreeMap;
 impl FromDocument for Members {
     ghost is_of = { IsMembers };
 
-    /// The trees that the members of a JSON object are. Here null is a value.
+    /// Reads the members of a JSON object as trees. Here null is a value.
     fn from_document(alloc: Global, value: &Value) -> Result<Option<Members>, AllocError> {
         match value.as_object() {
             None => Ok(None),
@@ -28,7 +28,7 @@ impl FromDocument for Members {
 impl FromDocument for Tree {
     ghost is_of = { IsTree };
 
-    /// The tree that the part is. Every part is one.
+    /// Reads a part as a tree. Every part is one.
     fn from_document(alloc: Global, value: &Value) -> Result<Option<Tree>, AllocError> {
         Ok(Some(read(alloc, value)?))
     }

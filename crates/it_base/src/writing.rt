@@ -1,11 +1,11 @@
-//! The writing of bytes that are made whole beforehand.
+//! Writing bytes that are complete before the first of them is written.
 ghost use Rattle.std.specs.Prelude.{OnOk, OnErr};
 ghost use Rattle.std.specs.Io.KnownBytes.{Appends};
 ghost use Rattle.it_base.specs.Writing.{AppendsBeginning};
 
 use std::io::Write;
 
-/// A writer answered an error, or took none of the bytes that it was given.
+/// A writer returned an error, or accepted none of the bytes that it was given.
 #[derive(Clone, Copy, Debug, PartialEq, Eq)]
 pub struct WriteError;
 
@@ -14,7 +14,8 @@ pub struct WriteError;
 ///
 /// # Errors
 ///
-/// `WriteError` at the first write that answers an error, or 0; a beginning of the bytes went out.
+/// `WriteError` at the first write that returns an error or 0; part of the bytes may have been
+/// written.
 pub fn write_all_of<W: Write>(out: &mut W, bytes: &[u8]) -> Result<(), WriteError>
     ensures ok { OnOk result (Appends (W.contents out.old) (W.contents out.new) bytes.now) }
     ensures err { OnErr result

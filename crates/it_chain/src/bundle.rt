@@ -31,7 +31,7 @@ pub struct Bundle {
 /// Why a folder was not added.
 #[derive(Drop)]
 pub enum BundleFault {
-    /// A folder of that name is there. The folder that was to be added is handed back as it was.
+    /// A folder of that name is there. The folder that was to be added is returned as it was.
     NameTaken(Bundle),
     /// Memory was refused.
     OutOfMemory,
@@ -71,7 +71,7 @@ impl Bundle {
         }
     }
 
-    /// Adds a file behind those that are there, also where one of them has its name.
+    /// Adds a file after those that are there, even where one of them has its name.
     ///
     /// # Errors
     ///

@@ -74,8 +74,8 @@ fn candidate_in(alloc: Global, bytes: &[u8]) -> Result<Option<Envelope>, AllocEr
     Ok(Some(envelope))
 }
 
-/// The envelope that the bytes of a file are (DSSE v1.0, "Envelope"), or `None` where they are no
-/// envelope.
+/// Reads the bytes of a file as an envelope (DSSE v1.0, "Envelope"), or `None` where they are not
+/// one.
 ///
 /// # Errors
 ///
@@ -106,7 +106,7 @@ pub(crate) fn body_in(alloc: Global, step: &str, payload: &[u8]) -> Result<Optio
     }
 }
 
-/// The link that a payload is (in-toto 1.0 section 4.4), or `None` where it is no link.
+/// Reads a payload as a link (in-toto 1.0 section 4.4), or `None` where it is not a link.
 ///
 /// # Errors
 ///
@@ -121,7 +121,7 @@ pub fn link_in(alloc: Global, bytes: &[u8]) -> Result<Option<Link>, AllocError>
     }
 }
 
-/// The layout that a payload is (in-toto 1.0 section 4.3), or `None` where it is no layout.
+/// Reads a payload as a layout (in-toto 1.0 section 4.3), or `None` where it is not a layout.
 ///
 /// # Errors
 ///

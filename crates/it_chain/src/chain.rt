@@ -8,9 +8,9 @@ use it_digest::artifacts::Artifacts;
 pub struct StepResult {
     /// The name of the step.
     pub name: Text,
-    /// What the step took.
+    /// The materials of the step.
     pub materials: Artifacts,
-    /// What the step made.
+    /// The products of the step.
     pub products: Artifacts,
     /// How many different keys signed a body that counts for the step.
     pub keys: u64,

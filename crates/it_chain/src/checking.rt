@@ -12,7 +12,7 @@ use it_dsse::key_object::KeyObject;
 use it_dsse::meter::Meter;
 use it_dsse::signed_by;
 
-/// Tells who signed envelopes, and at which moment layouts are looked at.
+/// Decides who signed envelopes, and holds the moment at which layouts are verified.
 pub(crate) trait Checking: Drop {
     // what the panel answers, and the moment
     ghost setting: { Self → Setting };

@@ -10,12 +10,12 @@ pub fn found_is_one()
     ensures { FoundIsOne }
 {}
 
-/// A layout holds of a bundle with one list of records at most.
+/// A layout holds for a bundle with one list of records at most.
 pub fn chain_is_one()
     ensures { ChainIsOne }
 {}
 
-/// A layout that holds of a bundle has no failure over it.
+/// A layout that holds for a bundle has no failure over it.
 pub fn chain_or_first()
     ensures { ChainOrFirst }
 {}
@@ -25,7 +25,7 @@ pub fn first_is_one()
     ensures { FirstIsOne }
 {}
 
-/// A layout that holds of a bundle holds of it with the same records at every greater depth.
+/// A layout that holds for a bundle holds for it with the same records at every greater depth.
 pub fn chain_goes_deeper()
     ensures { ChainGoesDeeper }
 {}
@@ -42,13 +42,13 @@ pub fn noise_is_alike()
     ensures { NoiseIsAlike }
 {}
 
-/// Where a layout holds of a bundle, it comes over one of which less counts to the same records
+/// Where a layout holds for a bundle, it has over a bundle in which less counts the same records
 /// with no more keys, or fails at a threshold.
 pub fn withheld_chains()
     ensures { WithheldChains }
 {}
 
-/// The deciding function answers the records with which a layout holds of a bundle, or else its
+/// The deciding function answers the records with which a layout holds for a bundle, or else its
 /// first failure.
 pub fn answer_is_right()
     ensures { AnswerIsRight }
@@ -61,12 +61,12 @@ pub fn some_answers_right()
 {}
 
 /// A layout over a bundle holds with some records, or has a first failure: with `chain_or_first`,
-/// always just one of the two.
+/// always exactly one of the two.
 pub fn holds_or_fails()
     ensures { HoldsOrFails }
 {}
 
-/// A layout over a bundle costs some number of checks: with `cost_is_one`, always just one.
+/// A layout over a bundle costs some number of checks: with `cost_is_one`, always exactly one.
 pub fn has_cost()
     ensures { HasCost }
 {}
@@ -76,13 +76,13 @@ pub fn cost_is_one()
     ensures { CostIsOne }
 {}
 
-/// A layout over a bundle takes some number of checks at the least: with `fewest_is_one`, always
-/// just one.
+/// A layout over a bundle takes at least some number of checks: with `fewest_is_one`, always
+/// exactly one.
 pub fn has_fewest()
     ensures { HasFewest }
 {}
 
-/// A layout over a bundle takes one number of checks at the least.
+/// The least number of checks that a layout over a bundle takes is one number.
 pub fn fewest_is_one()
     ensures { FewestIsOne }
 {}

@@ -35,7 +35,7 @@ pub(crate) struct Level<'a> {
     pub depth: u8,
 }
 
-/// The records with which a layout holds of a bundle.
+/// The records with which a layout holds for a bundle.
 #[cycle(level)]
 pub(crate) fn verify_level<C: Checking>(
     alloc: Global,

@@ -1,4 +1,4 @@
-//! What the functions that walk a layout keep of a step.
+//! What the functions that walk a layout keep about a step.
 use it_base::text::Text;
 use it_digest::artifacts::Artifacts;
 use std::marker::Model;
@@ -6,9 +6,9 @@ use std::marker::Model;
 /// The artifacts that a body records.
 #[derive(Drop)]
 pub(crate) struct Recorded {
-    /// What the step took.
+    /// The materials of the step.
     pub materials: Artifacts,
-    /// What the step made.
+    /// The products of the step.
     pub products: Artifacts,
 }
 

@@ -1,10 +1,10 @@
-//! Why a layout does not hold of a bundle.
+//! Why a layout does not hold for a bundle.
 use it_base::sequence::Sequence;
 use it_base::text::Text;
 use it_docs::rule::Side;
 use std::alloc::{AllocError, AllocFailed};
 
-/// Whose artifact rules were judged.
+/// Whose artifact rules were applied.
 #[derive(Drop)]
 pub enum RuleItem {
     /// A step, by its name.
@@ -60,10 +60,10 @@ pub enum ChainFault {
     },
 }
 
-/// Why a layout does not hold of a bundle, and where.
+/// Why a layout does not hold for a bundle, and where.
 #[derive(Drop)]
 pub struct ChainRefusal {
-    /// The sublayouts down to the layout of which the fault speaks, the outermost first: each by
+    /// The sublayouts down to the layout that the fault is about, the outermost first: each by
     /// the name of its step and the key id that signed it. Empty for the outermost layout.
     pub at: Sequence<(Text, Text)>,
     /// What is wrong with that layout.
@@ -73,7 +73,7 @@ pub struct ChainRefusal {
 /// Why there is no chain.
 #[derive(Drop)]
 pub enum ChainError {
-    /// The layout does not hold of the bundle.
+    /// The layout does not hold for the bundle.
     Refused(ChainRefusal),
     /// Memory was refused.
     OutOfMemory,

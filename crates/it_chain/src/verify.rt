@@ -1,4 +1,4 @@
-//! Whether a layout holds of a bundle.
+//! Whether a layout holds for a bundle.
 ghost use Rattle.std.specs.Prelude.{◌≡◌, ◌≤◌, ℕ, IfOk, IfErr, map};
 ghost use Rattle.std.specs.List.{sum_by};
 ghost use Rattle.it_dsse.specs.Meter.{RaisedBy};
@@ -30,8 +30,8 @@ use std::alloc::Global;
 ///
 /// # Errors
 ///
-/// `Refused` with the first failure where the layout does not hold of the bundle, and `OutOfMemory`
-/// where memory was refused.
+/// `Refused` with the first failure where the layout does not hold for the bundle, and
+/// `OutOfMemory` where memory was refused.
 pub fn verify_chain(
     alloc: Global,
     layout: &Layout,

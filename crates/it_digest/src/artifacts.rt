@@ -64,7 +64,7 @@ impl Artifacts {
         self.by_path.insert(path, digests)
     }
 
-    /// The digests of a path, if it stands in the map.
+    /// The digests of a path, if the map has the path.
     pub fn get(&self, path: &str) -> Option<DigestSet>
         ensures { result ≡ finite.get self.now path.now }
     {
@@ -97,7 +97,7 @@ impl Artifacts {
         map_of(alloc, self.by_path.as_map())
     }
 
-    /// Whether no path stands in the map.
+    /// Whether the map is empty.
     pub fn is_empty(&self) -> bool
         ensures { IsTrue result ↔ (self.now ≡ finite.empty) }
     {

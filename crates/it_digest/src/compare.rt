@@ -18,11 +18,11 @@ pub struct DigestSet {
 /// What two digest sets say of one another.
 #[derive(Clone, Copy, Debug, PartialEq, Eq)]
 pub enum Compare {
-    /// Some algorithm stands in both, and each that does has equal values.
+    /// Both have some algorithm, and each one that both have has equal values.
     Agree,
-    /// Some algorithm stands in both with unequal values.
+    /// Both have some algorithm with unequal values.
     Differ,
-    /// No algorithm stands in both.
+    /// They have no algorithm in common.
     Apart,
 }
 

@@ -10,7 +10,7 @@ use it_base::parts::FromDocument;
 use serde_json::Value;
 use std::alloc::{AllocError, Global};
 
-/// The digest set that a JSON object is, or `None` where the part is no object, or its `sha256`,
+/// Reads a JSON object as a digest set; `None` where the part is not an object, or its `sha256`,
 /// `sha384` or `sha512` is no text of exactly the algorithm's digits. Other algorithms are not
 /// looked at.
 pub fn digest_set(value: &Value) -> Option<DigestSet>

@@ -7,7 +7,7 @@ use std::alloc::AllocError;
 /// Why no link or Statement was read.
 #[derive(Clone, Copy, Debug, PartialEq, Eq)]
 pub enum DocumentFault {
-    /// The bytes are no such document.
+    /// The bytes are not such a document.
     BadDocument,
     /// Memory was refused.
     OutOfMemory,

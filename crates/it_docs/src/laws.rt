@@ -1,5 +1,5 @@
-//! Laws of the documents: each input has at most one record, and none where a part of it
-//! fails.
+//! Laws of the documents: each input is read in at most one way, and not at all where a part of
+//! it fails.
 ghost use Rattle.it_docs.specs.Laws.{BadPartIsNoLayout, BadPartIsNoPolicy, OneLayout, OneLink};
 ghost use Rattle.it_docs.specs.Laws.{OneMoment, OnePolicy, OneRule, OneStatement};
 

@@ -11,7 +11,7 @@ use it_dsse::key_object::KeyObject;
 /// A layout.
 #[derive(Drop)]
 pub struct Layout {
-    /// The moment after which the layout holds no more, in seconds from 1970-01-01T00:00:00Z.
+    /// The moment after which the layout has expired, in seconds from 1970-01-01T00:00:00Z.
     pub expires: i64,
     /// The keys by their ids.
     pub keys: Table<KeyObject>,

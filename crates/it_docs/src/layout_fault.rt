@@ -8,21 +8,21 @@ use std::alloc::AllocError;
 /// A part of a layout, in the order in which parts are looked at.
 #[derive(Drop)]
 pub enum LayoutPart {
-    /// The whole is no JSON object.
+    /// The document is not a JSON object.
     Json,
     /// `_type` is not `layout`.
     WrongType,
-    /// `expires` is no moment.
+    /// `expires` is not a moment.
     Expires,
-    /// `keys` is no object from id to key object.
+    /// `keys` is not an object from id to key object.
     Keys,
-    /// `steps` is no list.
+    /// `steps` is not a list.
     Steps,
-    /// The step at this place, from 0, is none.
+    /// The step at this index, from 0, is not a step.
     Step(usize),
-    /// `inspect` is no list.
+    /// `inspect` is not a list.
     Inspects,
-    /// The inspection at this place, from 0, is none.
+    /// The inspection at this index, from 0, is not an inspection.
     Inspect(usize),
     /// This name is the first that equals an earlier one, steps before inspections.
     DuplicateName(Text),

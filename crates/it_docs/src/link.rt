@@ -1,4 +1,4 @@
-//! Links: what a step took and made (in-toto 1.0 section 4.4).
+//! Links: the materials and products of a step (in-toto 1.0 section 4.4).
 ghost use Rattle.std.specs.Prelude.{◌≡◌, ◌↔◌, IfOk, IsErrOf, IsTrue};
 ghost use Rattle.serde_json.specs.View.{view};
 ghost use Rattle.it_base.specs.Finds.{Finds};
@@ -11,14 +11,14 @@ use it_digest::artifacts::Artifacts;
 use serde_json::Value;
 use std::alloc::{AllocError, Global};
 
-/// What a step took and made.
+/// The materials and products of a step.
 #[derive(Drop)]
 pub struct Link {
     /// The name of the step.
     pub name: Text,
-    /// What the step took, with its digests.
+    /// The files that the step used, with their digests.
     pub materials: Artifacts,
-    /// What the step made, with its digests.
+    /// The files that the step made, with their digests.
     pub products: Artifacts,
 }
 
@@ -27,7 +27,7 @@ pub struct Link {
 ///
 /// # Errors
 ///
-/// `BadDocument` where the bytes are no link, and `OutOfMemory` where memory was refused.
+/// `BadDocument` where the bytes are not a link, and `OutOfMemory` where memory was refused.
 pub fn read_link(alloc: Global, bytes: &[u8]) -> Result<Link, DocumentFault>
     ensures ok { IfOk result (λ link. LinkOf bytes.now link) }
     ensures bad { IsErrOf result DocumentFault.BadDocument

@@ -20,7 +20,7 @@ use it_glob::Pattern;
 use serde_json::Value;
 use std::alloc::{AllocError, Global};
 
-/// A builder whose provenance is believed.
+/// A builder whose provenance is trusted.
 #[derive(Drop)]
 pub struct Builder {
     /// The builder's id, as its provenance names it.
@@ -34,9 +34,9 @@ pub struct Builder {
 /// What is expected of the provenance of some delivered files.
 #[derive(Drop)]
 pub struct Expectation {
-    /// The files that it speaks of.
+    /// The files that it applies to.
     pub files: Pattern,
-    /// Who may have built them.
+    /// The builders that may have built them.
     pub builders: Sequence<Builder>,
     /// The kind of build.
     pub build_type: Text,

@@ -7,7 +7,7 @@ use std::alloc::AllocError;
 /// A part of a policy, in the order in which parts are looked at.
 #[derive(Clone, Copy, Debug, PartialEq, Eq)]
 pub enum PolicyPart {
-    /// The whole is no JSON object.
+    /// The document is not a JSON object.
     Json,
     /// `owners` is no object from id to key object, or has no member.
     Owners,
@@ -15,7 +15,7 @@ pub enum PolicyPart {
     Deliver,
     /// `expectations` is no list.
     Expectations,
-    /// The expectation at this place, from 0, is none.
+    /// The expectation at this index, from 0, is not an expectation.
     Expectation(usize),
 }
 

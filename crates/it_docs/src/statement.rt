@@ -29,7 +29,7 @@ pub struct Provenance {
     pub parameters: Members,
 }
 
-/// What is said of some artifacts.
+/// A statement about some artifacts.
 #[derive(Drop)]
 pub struct Statement {
     /// The digests of the subjects, in order.
@@ -44,8 +44,8 @@ pub struct Statement {
 ///
 /// # Errors
 ///
-/// `BadDocument` where the bytes are no Statement, and `OutOfMemory` where memory was refused. A
-/// predicate that is no provenance is no error: the Statement then has none.
+/// `BadDocument` where the bytes are not a Statement, and `OutOfMemory` where memory was refused. A
+/// predicate that is not provenance is not an error: the Statement then has none.
 pub fn read_statement(alloc: Global, bytes: &[u8]) -> Result<Statement, DocumentFault>
     ensures ok { IfOk result (λ statement. StatementOf bytes.now statement) }
     ensures bad { IsErrOf result DocumentFault.BadDocument

@@ -1,4 +1,4 @@
-//! The check of signatures that a caller hands in.
+//! The check of signatures, which the caller supplies.
 ghost use Rattle.std.specs.Prelude.{◌≡◌};
 ghost use Rattle.it_dsse.specs.Check.{Check};
 ghost use Rattle.it_dsse.specs.Joined.{joined};
@@ -9,7 +9,8 @@ use crate::envelope::Signature;
 use crate::key_object::KeyObject;
 use crate::meter::Meter;
 
-/// Knows keys by numbers, and tells which signatures are valid. DSSE v1.0 leaves both to its user.
+/// Knows keys by numbers, and decides which signatures are valid. DSSE v1.0 leaves both to its
+/// user.
 ///
 /// Checks are asked as a panel, a list of them, in which a key is named by the place of a check and
 /// its number there. Checks at different places are taken to hold different keys: nobody compares

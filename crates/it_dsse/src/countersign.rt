@@ -1,4 +1,4 @@
-//! One signature more for an envelope.
+//! Adding a signature to an envelope.
 ghost use Rattle.std.specs.Prelude.{◌≡◌, ◌↔◌, ◌∷◌, ◌++◌, [], IfOk, IsErrOf};
 ghost use Rattle.it_dsse.specs.Countersigned.{HasOtherPayload, HasOtherType, IsCountersigned};
 ghost use Rattle.it_dsse.specs.Countersigned.{LacksKey};
@@ -17,7 +17,7 @@ pub struct NewSignature<'a> {
     pub ring: &'a HmacRing,
     /// The id of the key, which becomes the signature's hint.
     pub id: &'a str,
-    /// What the body is, as `application/vnd.in-toto+json`.
+    /// The type of the body, such as `application/vnd.in-toto+json`.
     pub kind: &'a str,
     /// The body itself.
     pub body: &'a [u8],
@@ -44,7 +44,7 @@ impl From<AllocError> for CountersignFault {
     }
 }
 
-/// The envelope with one signature more, after those that it has (DSSE v1.0, "Protocol", by which
+/// The envelope with one more signature, after those that it has (DSSE v1.0, "Protocol", by which
 /// several keys may sign one payload): the one that [`sign`](crate::sign::sign) makes of the body
 /// that the envelope holds.
 ///

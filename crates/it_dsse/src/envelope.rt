@@ -16,7 +16,7 @@ use std::alloc::{AllocError, Global};
 /// A signature of an envelope (DSSE v1.0, "Envelope").
 #[derive(Drop)]
 pub struct Signature {
-    /// A hint on the key, which nothing vouches for. Empty where there is none.
+    /// A hint about the key, which is not authenticated. Empty where there is none.
     pub keyid: Text,
     /// The bytes of the signature.
     pub sig: Sequence<u8>,
@@ -37,7 +37,7 @@ impl Signature {
 pub struct Envelope {
     /// The payload itself, decoded.
     pub payload: Sequence<u8>,
-    /// What the payload is, as `application/vnd.in-toto+json`.
+    /// The type of the payload, such as `application/vnd.in-toto+json`.
     pub payload_type: Text,
     /// The signatures, in the order of the document.
     pub signatures: Sequence<Signature>,
@@ -46,7 +46,7 @@ pub struct Envelope {
 /// Why no envelope was read.
 #[derive(Clone, Copy, Debug, PartialEq, Eq)]
 pub enum EnvelopeFault {
-    /// The bytes are no envelope.
+    /// The bytes are not an envelope.
     BadEnvelope,
     /// Memory was refused.
     OutOfMemory,
@@ -66,7 +66,8 @@ impl Envelope {
     ///
     /// # Errors
     ///
-    /// `BadEnvelope` where the bytes are no envelope, and `OutOfMemory` where memory was refused.
+    /// `BadEnvelope` where the bytes are not an envelope, and `OutOfMemory` where memory was
+    /// refused.
     pub fn read(alloc: Global, bytes: &[u8]) -> Result<Envelope, EnvelopeFault>
         ensures ok { IfOk result (λ envelope. EnvelopeOf bytes.now envelope) }
         ensures bad { IsErrOf result EnvelopeFault.BadEnvelope

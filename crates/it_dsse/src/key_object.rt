@@ -1,4 +1,4 @@
-//! What a document says of a key.
+//! What a document says about a key.
 ghost use Rattle.std.specs.Prelude.{◌≡◌, IfOk, option_map};
 ghost use Rattle.serde_json.specs.View.{view};
 ghost use Rattle.it_base.specs.Finds.{Finds};
@@ -11,12 +11,12 @@ use serde_json::Value;
 use std::alloc::{AllocError, Global};
 
 /// A key, as a layout or a policy describes it (in-toto 1.0 section 4.2). Which key it is, if any,
-/// is for a check to say.
+/// is up to a check.
 #[derive(Drop)]
 pub struct KeyObject {
-    /// The kind of key, as `ed25519`.
+    /// The kind of key, such as `ed25519`.
     pub keytype: Text,
-    /// How signatures of the key are made, as `hmac-sha256`.
+    /// How signatures of the key are made, such as `hmac-sha256`.
     pub scheme: Text,
     /// The public part of the key, in the scheme's own form.
     pub public: Text,

@@ -10,7 +10,7 @@ pub struct Meter {
 }
 
 impl Meter {
-    /// Counts one check more. At the greatest `u64` the count stays as it is.
+    /// Counts one more check. At the greatest `u64` the count stays as it is.
     pub fn raise(&mut self)
         ensures { self.new ≡ raised self.old 1 }
     {

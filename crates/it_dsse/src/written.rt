@@ -21,7 +21,7 @@ use std::io::Write;
 /// Why an envelope was not written whole.
 #[derive(Clone, Copy, Debug, PartialEq, Eq)]
 pub enum WriteFault {
-    /// The writer answered an error, or took nothing.
+    /// The writer returned an error, or accepted nothing.
     Write,
     /// Memory was refused.
     OutOfMemory,
@@ -51,9 +51,9 @@ impl Envelope {
     ///
     /// # Errors
     ///
-    /// `Write` where the writer answered an error, or 0 for bytes that it was given; a beginning of
-    /// the text went out, and no write was tried again. `OutOfMemory` where memory was refused;
-    /// nothing was written.
+    /// `Write` where the writer returned an error, or 0 for bytes that it was given; part of the
+    /// text may have been written, and no write was tried again. `OutOfMemory` where memory was
+    /// refused; nothing was written.
     pub fn write<W: Write>(&self, alloc: Global, out: &mut W) -> Result<(), WriteFault>
         ensures ok { OnOk result
             (Appends (W.contents out.old) (W.contents out.new) (written_form self.now)) }

@@ -91,7 +91,7 @@ fn is_in_body(body: &[char], character: char) -> bool
 }
 
 /// The first and the last character of the range that a body begins with, and the body after it.
-/// A character that stands for itself is a range of its own.
+/// A character that matches itself is a range of its own.
 fn split_first_range(body: &[char]) -> Option<(char, char, &[char])>
     ensures { MatchOption result (body.now ≡ []) (λ p. IsFirstRange body.now p.0 p.1 p.2.now) }
 {

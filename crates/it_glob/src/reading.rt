@@ -96,7 +96,7 @@ fn len_of_body(characters: &[char]) -> Option<usize>
     Some(end + 1)
 }
 
-/// Where the first `]` stands among these characters.
+/// The index of the first `]` among these characters.
 fn position_of_close(characters: &[char]) -> Option<usize>
     ensures { result ≡ position is_close characters.now }
 {

@@ -76,7 +76,7 @@ pub struct RuleNotes {
 }
 
 impl Notes {
-    /// The notes on the `verdict` that a verification of the `inputs` came to. Signatures are
+    /// The notes on the `verdict` of a verification of the `inputs`. Signatures are
     /// checked by the `panel`, again and after a refusal alone.
     ///
     /// # Errors

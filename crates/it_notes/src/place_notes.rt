@@ -64,7 +64,7 @@ fn file_of(
 }
 
 /// The folder of the sublayout at a place, where it is missing and a step has too few keys. Of a
-/// sublayout that lies too deep it is not told: its folder was not read.
+/// sublayout that lies too deep nothing is noted: its folder was not read.
 fn missing_folder(
     alloc: Global,
     level: &FaultLevel,

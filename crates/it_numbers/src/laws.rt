@@ -7,7 +7,7 @@ pub fn little_of_bytes()
     ensures { LittleOfBytes }
 {}
 
-/// Bytes are those of the number that they stand for, lowest first.
+/// Bytes are those of the number that they encode, lowest first.
 pub fn bytes_of_little()
     ensures { BytesOfLittle }
 {}
@@ -17,7 +17,7 @@ pub fn big_of_bytes()
     ensures { BigOfBytes }
 {}
 
-/// Bytes are those of the number that they stand for, highest first.
+/// Bytes are those of the number that they encode, highest first.
 pub fn bytes_of_big()
     ensures { BytesOfBig }
 {}

@@ -48,7 +48,7 @@ fn after_digits(line: &[u8]) -> Option<&[u8]>
     Some(text)
 }
 
-/// The bytes that 64 hexadecimal digits stand for.
+/// The bytes that 64 hexadecimal digits encode.
 #[tactic(auto, unfolding(it_base::specs::HexadecimalText::hexadecimal_decoded))]
 fn read_digits(digits: &[u8; 64]) -> Option<[u8; 32]>
     ensures { result ≡ hexadecimal_decoded digits.now }

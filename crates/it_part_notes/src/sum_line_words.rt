@@ -1,4 +1,4 @@
-//! How a note on a line of a digest list is told to people.
+//! The text of a note on a line of a digest list.
 ghost use Rattle.std.specs.Prelude.{◌≡◌, ◌++◌, OnOk};
 ghost use Rattle.it_part_notes.specs.SumLine.{fault_form, numbered_form, repeated_form, sum_line};
 ghost use Rattle.it_part_notes.specs.SumLine.{told_form};

@@ -11,7 +11,7 @@ use it_dsse::check::SignatureCheck;
 use it_dsse::envelope::{Envelope, EnvelopeFault};
 use std::alloc::{AllocError, Global};
 
-/// What a line misses. Of an empty one nothing is told.
+/// What a line lacks. An empty line gets no note.
 pub(crate) fn line_misses(
     alloc: Global,
     line: &[u8],

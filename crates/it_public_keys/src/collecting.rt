@@ -154,7 +154,7 @@ fn with_layout_in(alloc: Global, keys: PublicKeys, bytes: &[u8]) -> Result<Publi
     with_keys(keys, &layout.keys)
 }
 
-/// The table with the keys that objects stand for.
+/// The table with the keys that objects describe.
 fn with_keys(keys: PublicKeys, objects: &Table<KeyObject>) -> Result<PublicKeys, AllocError>
     ensures extends { IfOk result (Extends keys) }
     ensures holds { IfOk result (λ table. HoldsKeys table objects.now) }

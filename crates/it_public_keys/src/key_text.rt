@@ -1,4 +1,4 @@
-//! Which key objects stand for a public key.
+//! Which key objects describe a public key.
 ghost use Rattle.std.specs.Prelude.{◌≡◌};
 ghost use Rattle.it_public_keys.specs.KeyText.{bytes_in};
 

@@ -8,7 +8,7 @@ pub fn test_is_signature()
     ensures { TestIsSignature }
 {}
 
-/// No ring of secrets knows an object that stands for a public key.
+/// No ring of secrets knows an object that describes a public key.
 pub fn no_ring_knows_public_keys()
     ensures { NoRingKnowsPublicKeys }
 {}

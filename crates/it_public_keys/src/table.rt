@@ -48,7 +48,7 @@ impl PublicKeys {
         }
     }
 
-    /// The table with the key that an object stands for, if it stands for one. The keys that were
+    /// The table with the key that an object describes, if it describes one. The keys that were
     /// there keep their numbers.
     ///
     /// # Errors
@@ -130,7 +130,7 @@ impl SignatureCheck for PublicKeys {
 
     ghost meaning = { key_check };
 
-    /// The place of the key that the object stands for, whatever its id is.
+    /// The place of the key that the object describes, whatever its id is.
     fn key(&self, _id: &str, object: &KeyObject) -> Option<u32> {
         match bytes_in(object) {
             Some(bytes) => self.place_of(&bytes),

@@ -19,7 +19,7 @@ use it_docs::rule::Rule;
 use it_glob::Pattern;
 use std::alloc::{AllocError, Global};
 
-/// How many paths are told of a rule.
+/// How many paths a note on a rule names.
 const MOST_PATHS: usize = 10;
 
 /// What a rule met.

@@ -1,4 +1,4 @@
-//! What the steps of a layout come to over a bundle, whether its rules hold over it or not.
+//! The records of the steps of a layout over a bundle, whether its rules hold over it or not.
 ghost use Rattle.std.specs.Prelude.{◌≡◌, ◌≤◌, Contains, IfOk, IfSome, map};
 ghost use Rattle.it_chain.specs.StepRules.{links_in, recorded_in};
 ghost use Rattle.it_dsse.specs.Panel.{panel_of};

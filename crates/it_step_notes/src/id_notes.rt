@@ -11,7 +11,7 @@ use it_chain::bundle::File;
 use it_chain::folder_name;
 use std::alloc::{AllocError, Global};
 
-/// Adds what there is to say of each key id that the step lists.
+/// Adds the notes on each key id that the step lists.
 pub(crate) fn push_id_notes(
     alloc: Global,
     at: &StepAt,

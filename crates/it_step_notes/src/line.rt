@@ -1,4 +1,4 @@
-//! How a note is told to people.
+//! The text of a note.
 ghost use Rattle.std.specs.Prelude.{◌≡◌, ◌++◌, OnOk};
 ghost use Rattle.std.specs.List.{flat_map};
 ghost use Rattle.it_report.specs.Name.{name_form};

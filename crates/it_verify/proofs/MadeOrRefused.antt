@@ -1,4 +1,4 @@
--- Delivered files were made as laid down, or are refused: place after place.
+-- Delivered files were made as prescribed, or are refused: place after place.
 use Rattle.std.proofs.Common.{◌↔◌, ◌⊎◌, List, [], ◌∷◌, inl, inr}
 use Rattle.it_base.specs.Places.{IsFirst}
 use Rattle.it_base.proofs.Firsts.{first_stands}

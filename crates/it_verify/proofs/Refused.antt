@@ -1,4 +1,4 @@
--- What is made as laid down is never refused.
+-- What is made as prescribed is never refused.
 use Rattle.std.proofs.Common.{List, [], ◌∷◌}
 use Rattle.it_base.proofs.Firsts.{none_first}
 use Rattle.it_base.specs.Places.{NoneAt}

@@ -1,4 +1,4 @@
--- Inputs within others that were made as the owners laid down are accepted with no more keys, or
+-- Inputs within others that were made as the owners prescribed are accepted with no more keys, or
 -- refused for what is withheld.
 use Rattle.std.proofs.Common.{◌≡◌, ℕ, List, [], ◌∷◌, ◌++◌, flat_map, map, zip, Some, inl, inr, refl}
 use Rattle.std.proofs.Common.{sym, ap, subst, ⊎_elim}
@@ -176,7 +176,7 @@ module _ (panel : Panel) (less more : Inputs) (h : InputsWithin panel less more)
   verdict_withheld (Refused refusal) x = let found =
       first_stands (FailsAt panel less) stages refusal x in few found.0 refusal found.2
 
--- inputs within others that were made as laid down are only withheld from
+-- inputs within others that were made as prescribed are only withheld from
 pub withheld_inputs : (panel : Panel) (less more : Inputs) (documents : Documents)
     (evidence : Evidence) (verdict : Verdict) → InputsWithin panel less more
     → IsMadeBy panel more documents evidence → IsVerdict panel less verdict

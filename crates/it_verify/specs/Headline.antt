@@ -3,9 +3,9 @@
 -- this crate keeps the names true, and the list is kept by checks/headline.py, which writes this
 -- file.
 --
--- the delivered files were made as the owners laid down
+-- the delivered files were made as the owners prescribed
 pub use Rattle.it_verify.specs.Made.{Made}
--- the inputs read as these documents with this evidence, and all holds that was laid down: some
+-- the inputs read as these documents with this evidence, and all holds that was prescribed: some
 -- file is delivered, every owner of the policy signed the layout, the layout holds of the links and
 -- each inspection has its record, every artifact rule holds, and each delivered file has provenance
 pub use Rattle.it_verify.specs.Made.{IsMadeBy}

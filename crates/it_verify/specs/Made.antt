@@ -1,4 +1,4 @@
--- When delivered files were made as the owners laid down (in-toto 1.0 section 5.2, verifying the
+-- When delivered files were made as the owners prescribed (in-toto 1.0 section 5.2, verifying the
 -- final product; SLSA v1.0, verifying artifacts).
 use Rattle.std.specs.FinMap.{empty, keys, get}
 use Rattle.std.specs.List.{AllZip}
@@ -17,7 +17,7 @@ use Rattle.it_verify.specs.Owners.{OwnersSign}
 use Rattle.it_verify.specs.Provenance.{HasProvenance}
 use Rattle.it_verify.specs.declared.inputs.Inputs.{Inputs}
 
--- the inputs read as these documents with this evidence, and all holds that was laid down: some
+-- the inputs read as these documents with this evidence, and all holds that was prescribed: some
 -- file is delivered, every owner of the policy signed the layout, the layout holds of the links
 -- and each inspection has its record, every artifact rule holds, and each delivered file has
 -- provenance
@@ -36,7 +36,7 @@ pub record IsMadeBy (panel : Panel) (inputs : Inputs) (documents : Documents)
       → get documents.delivered path ≡ Some digests
       → HasProvenance panel inputs documents.policy.expectations path digests
 
--- the delivered files were made as the owners laid down
+-- the delivered files were made as the owners prescribed
 pub record Made (panel : Panel) (inputs : Inputs) : Type 0 where
   pub documents : Documents
   pub evidence : Evidence

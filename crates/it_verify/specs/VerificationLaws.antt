@@ -17,19 +17,19 @@ use Rattle.it_verify.specs.Verdict.{IsVerdict}
 use Rattle.it_verify.specs.VerifyOutput.{IsVerifyOutput}
 use Rattle.it_verify.specs.declared.inputs.Inputs.{Inputs}
 
--- what was made as the owners laid down has no first fault
+-- what was made as the owners prescribed has no first fault
 abbrev pub MadeNotRefused : Type 0
 MadeNotRefused =
     (panel : Panel) (inputs : Inputs) (refusal : Refusal) → Made panel inputs
     → ¬ RefusedFor panel inputs refusal
 
--- delivered files were made as the owners laid down, or there is a first fault
+-- delivered files were made as the owners prescribed, or there is a first fault
 abbrev pub MadeOrRefused : Type 0
 MadeOrRefused =
     (panel : Panel) (inputs : Inputs)
     → Made panel inputs ⊎ ((refusal : Refusal) × RefusedFor panel inputs refusal)
 
--- delivered files were made as the owners laid down exactly where no stage fails
+-- delivered files were made as the owners prescribed exactly where no stage fails
 abbrev pub MadeOrFirst : Type 0
 MadeOrFirst =
     (panel : Panel) (inputs : Inputs)
@@ -42,7 +42,7 @@ RefusalIsOne =
     (panel : Panel) (inputs : Inputs) (a b : Refusal) → RefusedFor panel inputs a
     → RefusedFor panel inputs b → a ≡ b
 
--- whatever documents and evidence show that the files were made as the owners laid down, the
+-- whatever documents and evidence show that the files were made as the owners prescribed, the
 -- verdict on it is one
 abbrev pub VerdictIsOne : Type 0
 VerdictIsOne =
@@ -81,7 +81,7 @@ OnlyWithholds (Accepted steps files) (Accepted before all) =
 OnlyWithholds (Accepted steps files) (Refused refusal) = ⊥
 OnlyWithholds (Refused refusal) before = IsWithheld refusal.fault
 
--- who takes away what counts from what was made as the owners laid down can only withhold
+-- who takes away what counts from what was made as the owners prescribed can only withhold
 abbrev pub WithheldInputs : Type 0
 WithheldInputs =
     (panel : Panel) (inputs other : Inputs) (documents : Documents) (evidence : Evidence)

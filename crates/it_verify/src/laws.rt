@@ -14,18 +14,18 @@ ghost use Rattle.it_verify.specs.VerificationLaws.{
 
 pub use it_report::laws::{first_lines_tell, forms_are_words, forms_tell, report_tells};
 
-/// What was made as the owners laid down is never refused.
+/// What was made as the owners prescribed is never refused.
 pub fn made_not_refused()
     ensures { MadeNotRefused }
 {}
 
-/// What is delivered was made as the owners laid down, or is refused: with `made_not_refused`,
+/// What is delivered was made as the owners prescribed, or is refused: with `made_not_refused`,
 /// always just one of the two.
 pub fn made_or_refused()
     ensures { MadeOrRefused }
 {}
 
-/// What is delivered was made as the owners laid down exactly where no stage of a verification
+/// What is delivered was made as the owners prescribed exactly where no stage of a verification
 /// fails.
 pub fn made_or_first()
     ensures { MadeOrFirst }
@@ -36,7 +36,7 @@ pub fn refusal_is_one()
     ensures { RefusalIsOne }
 {}
 
-/// What was made as the owners laid down is accepted with one list of steps and of files.
+/// What was made as the owners prescribed is accepted with one list of steps and of files.
 pub fn verdict_is_one()
     ensures { VerdictIsOne }
 {}
@@ -46,7 +46,7 @@ pub fn alike_inputs()
     ensures { AlikeInputs }
 {}
 
-/// Inputs in which less counts than in others that were made as the owners laid down are accepted
+/// Inputs in which less counts than in others that were made as the owners prescribed are accepted
 /// with the same steps and files, no step having more keys, or are refused for too few keys or for
 /// want of provenance.
 pub fn withheld_inputs()

@@ -26,7 +26,7 @@ use it_report::verdict::{Answer, Verdict};
 use std::alloc::{AllocError, Global};
 
 /// Verifies delivered files (in-toto 1.0 section 5.2; SLSA v1.0, verifying artifacts): were they
-/// made as the owners of the policy laid down?
+/// made as the owners of the policy prescribed?
 ///
 /// Signatures are checked by the `panel`. The verdict is `Accepted` exactly where the layout is
 /// signed by every owner and has not expired at the moment, each step has its threshold of

@@ -63,7 +63,7 @@ pub enum Words {
     Payload(PayloadWords),
     /// `itv verify --policy F --layout F --links DIR --sums F --at MOMENT [--ring F..]
     /// [--public-keys] [--provenance F] [--records DIR] [--depth N]`: whether delivered files were
-    /// made as the owners laid down.
+    /// made as the owners prescribed.
     Verify(VerifyWords),
 }
 

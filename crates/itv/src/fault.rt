@@ -189,7 +189,7 @@ fn reason_of(alloc: Global, error: &io::Error) -> Result<String, AllocError> {
     }
 }
 
-/// The status that the program ends with: that of the command, or 2 where it did not come to run.
+/// The status that the program ends with: that of the command, or 2 where it did not run.
 pub(crate) fn exit_status(outcome: &Result<Status, Fault>) -> u8
     ensures { result ≡ program_status outcome.now }
 {

@@ -1,4 +1,4 @@
-//! `itv verify`: whether delivered files were made as the owners laid down.
+//! `itv verify`: whether delivered files were made as the owners prescribed.
 ghost use Rattle.std.specs.Prelude.{◌≡◌, ◌≢◌, ◌≤◌, IfErr, IfOk, map};
 ghost use Rattle.std.specs.Io.KnownBytes.{Appends};
 ghost use Rattle.std.specs.List.{AllZip};

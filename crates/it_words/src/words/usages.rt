@@ -6,7 +6,7 @@ pub(super) const VERSION: &str = "itv 1.0.0";
 
 /// What the program does.
 pub(super) const SUMMARY: &str =
-    "decides whether delivered files were made as their owners laid down";
+    "decides whether delivered files were made as their owners prescribed";
 
 /// The usages, in the order in which they are shown.
 pub(super) static USAGES: [Usage; 9] = [

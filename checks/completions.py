@@ -82,18 +82,26 @@ def takes_files(command):
     return any(argument["kind"] == "file" for argument in command["arguments"])
 
 
+def option_names(command):
+    """The options of a command, one behind another."""
+    return " ".join(f"--{option['name']}" for option in command["options"])
+
+
 def value_lines(listed):
     """What bash offers for the value of each option, but for values that nothing is known of."""
     for command in listed["commands"]:
         for option in command["options"]:
+            named = f"        {command['name']}--{option['name']})"
             if option["kind"] in BASH:
-                yield f"        {command['name']}--{option['name']}) {BASH[option['kind']]} ;;"
+                yield f"{named} {BASH[option['kind']]} ;;"
+            elif not option["value"]:
+                yield f"{named} compgen -W '{option_names(command)}' -- \"$word\" ;;"
 
 
 def word_lines(listed):
     """What bash offers for a word of each command: its options, and files where it takes files."""
     for command in listed["commands"]:
-        names = " ".join(f"--{option['name']}" for option in command["options"])
+        names = option_names(command)
         offers = [f"compgen -W '{names}' -- \"$word\""] if names else []
         offers += [BASH["file"]] if takes_files(command) else []
         if offers:
@@ -121,9 +129,11 @@ def zsh_text(text):
 def zsh_words(command):
     """What zsh completes after the name of a command."""
     for option in command["options"]:
-        often = "*" if option["use"] == "repeated" else ""
+        often = "*" if option["use"] == "any" else ""
+        named, text = f"{often}--{option['name']}", f"[{zsh_text(option['text'])}]"
         offers = ZSH.get(option["kind"], " ")
-        yield f"'{often}--{option['name']}=[{zsh_text(option['text'])}]:{option['value']}:{offers}'"
+        value = f"=:{option['value']}:{offers}".partition(":") if option["value"] else ("", "", "")
+        yield f"'{named}{value[0]}{text}{value[1]}{value[2]}'"
     for argument in command["arguments"]:
         often = "*" if argument["value"].endswith("..") else ""
         offers = ZSH.get(argument["kind"], " ")
@@ -155,8 +165,8 @@ def fish_lines(listed):
         yield f"{start} __fish_use_subcommand -a {command['name']} -d {text}"
         seen = f"{start} '__fish_seen_subcommand_from {command['name']}'"
         for option in command["options"]:
-            offers = FISH.get(option["kind"], "-x")
-            yield f"{seen} -l {option['name']} {offers} -d {fish_text(option['text'])}"
+            offers = f" {FISH.get(option['kind'], '-x')}" if option["value"] else ""
+            yield f"{seen} -l {option['name']}{offers} -d {fish_text(option['text'])}"
         if takes_files(command):
             yield f"{seen} -F"
 

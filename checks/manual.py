@@ -57,12 +57,13 @@ def text_of(words):
 
 def option_of(option):
     """An option with its value."""
-    return f"\\-\\-{option['name']} \\fI{option['value']}\\fR"
+    value = f" \\fI{option['value']}\\fR" if option["value"] else ""
+    return f"\\-\\-{option['name']}{value}"
 
 
 def words_of(command):
     """The words after the name of a command, as a synopsis has them."""
-    forms = {"needed": "--{} {}", "repeated": "--{} {}..", "free": "[--{} {}]"}
+    forms = {"needed": "--{} {}", "any": "[--{} {}..]", "free": "[--{} {}]", "bare": "[--{}]"}
     words = [argument["value"] for argument in command["arguments"]]
     words += [forms[option["use"]].format(option["name"], option["value"])
               for option in command["options"]]
@@ -123,14 +124,15 @@ def wrapped(words, first, rest):
 
 def usage_line(program, command):
     """The words of a command as its usage has them: an option stays with its value."""
-    words = wrapped(words_of(command).replace(" --", "\n--").replace(" ", "\0").replace("\n", " "),
-                    f"{program} {command['name']} ", "    ")
+    parts = words_of(command).replace(" --", "\n--").replace(" [--", "\n[--")
+    words = wrapped(parts.replace(" ", "\0").replace("\n", " "), f"{program} {command['name']} ",
+                    "    ")
     return words.replace("\0", " ")
 
 
 def usage_text(command):
     """What a command does, and a line on each option."""
-    shown = [f"--{option['name']} {option['value']}" for option in command["options"]]
+    shown = [f"--{option['name']} {option['value']}".rstrip() for option in command["options"]]
     width = max(map(len, shown), default=0)
     lines = [wrapped(command["text"], "    ", "    ")]
     lines += [wrapped(option["text"], f"      {words:{width}}  ", " " * (width + 8))

@@ -7,6 +7,7 @@ _itv_values() {
         verify--links) compgen -d -- "$word" ;;
         verify--sums) compgen -f -- "$word" ;;
         verify--ring) compgen -f -- "$word" ;;
+        verify--public-keys) compgen -W '--policy --layout --links --sums --at --ring --public-keys --provenance --records --depth' -- "$word" ;;
         verify--provenance) compgen -f -- "$word" ;;
         verify--records) compgen -d -- "$word" ;;
         verify--depth) compgen -W '0 1 2 3 4 5 6 7 8' -- "$word" ;;
@@ -37,7 +38,7 @@ _itv() {
         offered=$(_itv_values "$command$before")
     else
         case $command in
-            verify) offered=$(compgen -W '--policy --layout --links --sums --at --ring --provenance --records --depth' -- "$word") ;;
+            verify) offered=$(compgen -W '--policy --layout --links --sums --at --ring --public-keys --provenance --records --depth' -- "$word") ;;
             signed) offered=$(compgen -W '--ring' -- "$word"; compgen -f -- "$word") ;;
             sign) offered=$(compgen -W '--ring --key --type --onto' -- "$word"; compgen -f -- "$word") ;;
             pae) offered=$(compgen -W '--type' -- "$word"; compgen -f -- "$word") ;;

@@ -195,7 +195,7 @@ fn shows_the_usage_of_a_command(rt: HostRuntime) -> Result<(), Fail> {
     check_whole(&rt, rt.alloc(), &WHOLE)
 }
 
-const BEGINNINGS: [Row; 9] = [
+const BEGINNINGS: [Row; 10] = [
     ("itv", "no command is given\n\nitv 1.0.0 decides whether "),
     (
         "itv --help",
@@ -230,6 +230,10 @@ const BEGINNINGS: [Row; 9] = [
             --ring 4 --ring 5 --ring 6 --ring 7 --ring 8 --ring 9",
         "the option '--ring <F>' is given more than 8 times\n\nitv verify --policy F ",
     ),
+    (
+        "itv verify --policy p --layout l --links d --sums s --at m",
+        "neither '--ring <F>' nor '--public-keys' is given\n\nitv verify --policy F ",
+    ),
 ];
 
 fn check_beginnings(rt: &impl Abort, alloc: Global, rows: &[Row]) -> Result<(), Fail> {
@@ -246,7 +250,7 @@ fn says_what_was_wrong_first(rt: HostRuntime) -> Result<(), Fail> {
 }
 
 const USAGES: [&str; 9] = [
-    "\n\nitv verify --policy F --layout F --links DIR --sums F --at MOMENT\n    --ring F.. [",
+    "\n\nitv verify --policy F --layout F --links DIR --sums F --at MOMENT [--ring F..]\n    [--public-keys] [",
     "\n\nitv signed ENVELOPE --ring F\n    Writes the ids ",
     "\n\nitv sign BODY --ring F --key ID --type TYPE [--onto ENVELOPE]\n    Writes the envelope ",
     "\n\nitv pae BODY --type TYPE\n    Writes what is signed ",

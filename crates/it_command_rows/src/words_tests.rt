@@ -38,8 +38,17 @@ fn shown(text: &Option<Text>) -> &str {
     }
 }
 
+// The rings, and a star where public keys are checked too.
+fn shown_checks(alloc: Global, words: &VerifyWords) -> Result<String, AllocError> {
+    let mut checks = joined(alloc, words.rings.as_slice())?;
+    if words.public_keys {
+        checks.push('*')?;
+    }
+    Ok(checks)
+}
+
 fn shown_verify(alloc: Global, words: &VerifyWords) -> Result<String, AllocError> {
-    let rings = joined(alloc, words.rings.as_slice())?;
+    let checks = shown_checks(alloc, words)?;
     let depth = format!(in alloc; "{}", words.depth)?;
     let all = [
         "verify",
@@ -48,7 +57,7 @@ fn shown_verify(alloc: Global, words: &VerifyWords) -> Result<String, AllocError
         words.links.as_str(),
         words.sums.as_str(),
         words.at.as_str(),
-        rings.as_str(),
+        checks.as_str(),
         shown(&words.provenance),
         shown(&words.records),
         depth.as_str(),
@@ -148,7 +157,7 @@ fn check_read(rt: &impl Abort, alloc: Global, rows: &[Row]) -> Result<(), Fail> 
 }
 
 // Two spaces, and a space at the end, have an empty word between or behind them.
-const COMMANDS: [Row; 22] = [
+const COMMANDS: [Row; 23] = [
     ("itv signed a --ring b", "signed a b"),
     ("itv signed --ring b a", "signed a b"),
     ("itv signed --ring=-b a", "signed a -b"),
@@ -183,6 +192,10 @@ const COMMANDS: [Row; 22] = [
         "itv verify --at=-x --ring= --sums=a=b --links=. --layout=\t --policy=é",
         "verify é \t . a=b -x  none none 4",
     ),
+    (
+        "itv verify --policy p --layout l --links d --sums s --at m --public-keys",
+        "verify p l d s m * none none 4",
+    ),
 ];
 
 #[test]
@@ -191,7 +204,7 @@ fn reads_the_words_of_each_command(rt: HostRuntime) -> Result<(), Fail> {
 }
 
 // Words behind those that a verification needs, and what the line is read as.
-const FURTHER: [Row; 8] = [
+const FURTHER: [Row; 10] = [
     ("", "verify p l d s m r none none 4"),
     (
         " --provenance v --records i --depth 0",
@@ -205,6 +218,11 @@ const FURTHER: [Row; 8] = [
     (
         " --ring=2 --ring 3 --ring=4 --ring=3 --ring=6 --ring= --ring=8",
         "verify p l d s m r+2+3+4+3+6++8 none none 4",
+    ),
+    (" --public-keys", "verify p l d s m r* none none 4"),
+    (
+        " --public-keys --ring=2 --public-keys",
+        "verify p l d s m r+2* none none 4",
     ),
 ];
 

@@ -1,6 +1,6 @@
 -- The kinds of arguments that commands take, in the parser's own terms (this profile's choice).
 use Rattle.std.specs.Prelude.{[], ◌∷◌, true, Some, codes, pos}
-use Rattle.clap.specs.declared.builder.action.ArgAction.TheVariants.{Append}
+use Rattle.clap.specs.declared.builder.action.ArgAction.TheVariants.{Append, Count}
 use Rattle.clap.specs.declared.builder.value_parser.ValueParser.TheVariants as parser
 use Rattle.clap.specs.Words.{Rule, Text, new_rule}
 
@@ -20,9 +20,13 @@ plain_option name = record (new_rule name) { long = Some name; value_names = 1 }
 abbrev pub needed_option : Text → Rule
 needed_option name = record (plain_option name) { required = true }
 
--- an option that has to be given at least once, with one value each time
-abbrev pub needed_options : Text → Rule
-needed_options name = record (needed_option name) { action = Some Append }
+-- an option that may be left out or given many times, with one value each time
+abbrev pub plain_options : Text → Rule
+plain_options name = record (plain_option name) { action = Some Append }
+
+-- an option without a value, which may be left out or given many times
+abbrev pub bare_option : Text → Rule
+bare_option name = record (new_rule name) { long = Some name; action = Some Count }
 
 -- how deep sublayouts may lie: from 0 to 8, and 4 where it is not said
 abbrev pub depth_option : Rule

@@ -2,12 +2,13 @@
 use Rattle.std.specs.Prelude.{true, codes}
 use Rattle.clap.specs.Words.{App, new_app, with_rule, with_subcommand}
 use Rattle.it_words.specs.Arguments.{
+  bare_option,
   depth_option,
   needed_option,
-  needed_options,
   needed_word,
   needed_words,
   plain_option,
+  plain_options,
 }
 
 -- signed ENVELOPE --ring F
@@ -57,19 +58,20 @@ statement_command =
 abbrev pub payload_command : App
 payload_command = with_rule (new_app (codes "payload")) (needed_word (codes "envelope"))
 
--- verify --policy F --layout F --links DIR --sums F --at MOMENT --ring F.., and what may be left
--- out: --provenance F --records DIR --depth N
+-- verify --policy F --layout F --links DIR --sums F --at MOMENT, and what may be left out:
+-- --ring F.. --public-keys --provenance F --records DIR --depth N
 abbrev pub needed_of_verify : App
 needed_of_verify =
-    with_rule (with_rule (with_rule (with_rule (with_rule (with_rule (new_app (codes "verify"))
+    with_rule (with_rule (with_rule (with_rule (with_rule (new_app (codes "verify"))
     (needed_option (codes "policy"))) (needed_option (codes "layout")))
     (needed_option (codes "links"))) (needed_option (codes "sums")))
-    (needed_option (codes "at"))) (needed_options (codes "ring"))
+    (needed_option (codes "at"))
 
 abbrev pub verify_command : App
 verify_command =
-    with_rule (with_rule (with_rule needed_of_verify (plain_option (codes "provenance")))
-    (plain_option (codes "records"))) depth_option
+    with_rule (with_rule (with_rule (with_rule (with_rule needed_of_verify
+    (plain_options (codes "ring"))) (bare_option (codes "public-keys")))
+    (plain_option (codes "provenance"))) (plain_option (codes "records"))) depth_option
 
 -- the program: a command has to be named, and no word asks for help
 abbrev pub without_command : App

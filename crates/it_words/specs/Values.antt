@@ -4,14 +4,20 @@ use Rattle.std.specs.Prelude.{
   ◌≤◌,
   ℕ,
   List,
+  [],
   length,
+  Bool,
+  ◌||◌,
+  IsTrue,
+  nat_lt,
   Option,
   Some,
   MatchOption,
   codes,
+  unwrap_or,
 }
 use Rattle.std.specs.Str.Parse.{IsNumeral, digits_value, without_leading_plus}
-use Rattle.clap.specs.Walk.{all_of}
+use Rattle.clap.specs.Walk.{all_of, count_of}
 use Rattle.clap.specs.Words.{Row, Text, first_of, one_of}
 use Rattle.it_words.specs.declared.words.digest_words.DigestWords.{DigestWords}
 use Rattle.it_words.specs.declared.words.link_words.LinkWords.{LinkWords}
@@ -77,10 +83,15 @@ pub record WritesDepth (text : Text) (depth : ℕ) : Type 0 where
 abbrev pub IsDepth : Option Text → ℕ → Type 0
 IsDepth given depth = MatchOption given ⊥ (λ text. WritesDepth text depth)
 
--- these are the rings of the words, in their order, and there are 8 at most
+-- these are the rings of the words, in their order: none where the option is not given, and 8 at
+-- most
 pub record AreRings (given : Option (List Text)) (rings : List Text) : Type 0 where
-  pub same : given ≡ Some rings
+  pub same : rings ≡ unwrap_or given []
   pub few : length rings ≤ 8
+
+-- some check of signatures is named: a ring, or that of public keys
+abbrev pub HasCheck : List Text → Bool → Type 0
+HasCheck rings public_keys = IsTrue (nat_lt 0 (length rings) || public_keys)
 
 -- the values of the command verify
 pub record IsVerify (values : List Row) (words : VerifyWords) : Type 0 where
@@ -90,6 +101,8 @@ pub record IsVerify (values : List Row) (words : VerifyWords) : Type 0 where
   pub sums : first_of (codes "sums") values ≡ Some words.sums
   pub at : first_of (codes "at") values ≡ Some words.at
   pub rings : AreRings (all_of (codes "ring") values) words.rings
+  pub public_keys : words.public_keys ≡ nat_lt 0 (count_of (codes "public-keys") values)
+  pub has_check : HasCheck words.rings words.public_keys
   pub provenance : first_of (codes "provenance") values ≡ words.provenance
   pub records : first_of (codes "records") values ≡ words.records
   pub depth : IsDepth (one_of (codes "depth") values) words.depth

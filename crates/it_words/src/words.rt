@@ -61,8 +61,9 @@ pub enum Words {
     Statement(StatementWords),
     /// `itv payload ENVELOPE`: the payload of an envelope.
     Payload(PayloadWords),
-    /// `itv verify --policy F --layout F --links DIR --sums F --at MOMENT --ring F.. [--provenance
-    /// F] [--records DIR] [--depth N]`: whether delivered files were made as the owners prescribed.
+    /// `itv verify --policy F --layout F --links DIR --sums F --at MOMENT [--ring F..]
+    /// [--public-keys] [--provenance F] [--records DIR] [--depth N]`: whether delivered files were
+    /// made as the owners prescribed.
     Verify(VerifyWords),
 }
 
@@ -89,7 +90,8 @@ impl From<AllocError> for WordsFault {
 /// The command that the words name, with its values. The first word is the program's name.
 ///
 /// No command asks for help: `--help`, `-h`, `help` and `--version` do not parse, and the fault's
-/// text shows what does. The depth of a verification is at most 8, and it has 1 to 8 rings.
+/// text shows what does. The depth of a verification is at most 8, and it has at most 8 rings, and
+/// at least one where public keys are not checked.
 ///
 /// # Errors
 ///
@@ -103,7 +105,7 @@ pub fn read_words(alloc: Global, words: &[String]) -> Result<Words, WordsFault>
     let matches = parsed(alloc, words)?;
     match named::named(alloc, &matches)? {
         Some(command) => Ok(command),
-        None => Err(note::too_many_rings(alloc)),
+        None => Err(note::unfit_checks(alloc, words)),
     }
 }
 

@@ -1,5 +1,5 @@
 -- What the commands write and find, by their words and by what stands at the paths in them.
-use Rattle.std.specs.Prelude.{◌≡◌, ℕ, List, [], ◌∷◌, ◌++◌, Option, MatchOption, map}
+use Rattle.std.specs.Prelude.{◌≡◌, ℕ, List, [], ◌∷◌, ◌++◌, Option, MatchOption}
 use Rattle.std.specs.Cmp.Lexicographic.{slice_cmp}
 use Rattle.std.specs.List.{AllZip}
 use Rattle.std.specs.List.Sorted.{IsPermutation, IsSorted}
@@ -16,6 +16,8 @@ use Rattle.it_commands.specs.SignOntoOutput.{IsSignOntoOutput}
 use Rattle.it_commands.specs.SignOutput.{IsSignOutput}
 use Rattle.it_making.specs.LinkOutput.{IsLinkOutput}
 use Rattle.it_making.specs.StatementOutput.{IsStatementOutput}
+use Rattle.it_public_keys.specs.AnyCheck.{checks_of}
+use Rattle.it_public_keys.specs.Collected.{IsTableFor}
 use Rattle.it_verify.specs.VerifyOutput.{IsVerifyOutput}
 use Rattle.it_verify.specs.declared.inputs.Inputs.{Inputs}
 use Rattle.it_outcome.specs.declared.outcome.Status.{Status}
@@ -33,14 +35,16 @@ use Rattle.it_words.specs.declared.words.verify_words.VerifyWords.{VerifyWords}
 use Rattle.itv.specs.Reading.{Holdings, AreInputs, HoldsIfGiven, HoldsRing, IsGiven}
 
 -- verify: the output of a verification of the inputs, checked by the rings in the order of the
--- words
+-- words, and then by public keys where they are asked for
 pub record Verifies (disk : Holdings) (words : VerifyWords) (text : List ℕ)
     (status : Status) : Type 0 where
   pub inputs : Inputs
   pub are_inputs : AreInputs disk words inputs
   pub rings : List (List RingEntry)
   pub holds_rings : AllZip (HoldsRing disk) words.rings rings
-  pub is_output : IsVerifyOutput (panel_of (map ring_check rings)) inputs text status
+  pub table : Option (List (List ℕ))
+  pub is_table : IsTableFor words.public_keys inputs.policy inputs.layout inputs.links table
+  pub is_output : IsVerifyOutput (panel_of (checks_of rings table)) inputs text status
 
 -- signed: which ids of the ring, in the order of their bytes, signed the envelope
 pub record ShowsSigners (disk : Holdings) (words : SignedWords) (text : List ℕ)

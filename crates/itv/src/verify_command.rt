@@ -3,7 +3,8 @@ ghost use Rattle.std.specs.Prelude.{◌≡◌, ◌≢◌, ◌≤◌, IfErr, IfOk
 ghost use Rattle.std.specs.Io.KnownBytes.{Appends};
 ghost use Rattle.std.specs.List.{AllZip};
 ghost use Rattle.it_dsse.specs.Panel.{panel_of};
-ghost use Rattle.it_dsse.specs.Ring.{ring_check};
+ghost use Rattle.it_public_keys.specs.AnyCheck.{check_of};
+ghost use Rattle.it_public_keys.specs.Collected.{IsTableFor};
 ghost use Rattle.it_verify.specs.VerifyOutput.{IsVerifyOutput};
 ghost use Rattle.itv.specs.Commands.{Verifies};
 ghost use Rattle.itv.specs.Reading.{AreInputs, HoldsIfGiven, HoldsRing};
@@ -17,13 +18,15 @@ use it_dsse::check::SignatureCheck;
 use it_dsse::ring::HmacRing;
 use it_notes::verify_with_notes::verify_with_notes;
 use it_outcome::{RunFault, Status};
+use it_public_keys::any_check::{AnyCheck, checks_of};
+use it_public_keys::{PublicKeys, table_if};
 use it_verify::inputs::Inputs;
 use it_words::words::verify_words::VerifyWords;
-use std::alloc::Global;
+use std::alloc::{AllocError, Global};
 use std::io::Write;
 
-/// Reads all files and folders and the rings, writes the report of the verdict, and then what there
-/// is to note.
+/// Reads all files and folders and the rings, makes the table of public keys where they are asked
+/// for, writes the report of the verdict, and then what there is to note.
 pub(crate) fn run<R: Disk + AllocGlobal, W: Write, N: Write>(
     rt: &R,
     words: &VerifyWords,
@@ -38,27 +41,44 @@ pub(crate) fn run<R: Disk + AllocGlobal, W: Write, N: Write>(
     let alloc = rt.alloc();
     let inputs = inputs(rt, words)?;
     let rings = read_rings(rt, words.rings.as_slice())?;
-    Ok(verify_by(alloc, &inputs, rings, out, notes)?)
+    let table = table_for(alloc, words, &inputs)?;
+    let checks = checks_of(alloc, rings, table)?;
+    Ok(verify_by(alloc, &inputs, checks, out, notes)?)
+}
+
+/// The table of all public keys that the verification could ask for, where public keys are asked
+/// for.
+fn table_for(
+    alloc: Global,
+    words: &VerifyWords,
+    inputs: &Inputs,
+) -> Result<Option<PublicKeys>, AllocError>
+    ensures { IfOk result (IsTableFor words.now.public_keys inputs.now.policy inputs.now.layout
+        inputs.now.links) }
+{
+    let policy = inputs.policy.as_slice();
+    let layout = inputs.layout.as_slice();
+    table_if(alloc, words.public_keys, policy, layout, &inputs.links)
 }
 
 /// Writes the report of the verdict on the inputs, and then the notes on it, with signatures
-/// checked by the rings.
+/// checked by the checks.
 fn verify_by<W: Write, N: Write>(
     alloc: Global,
     inputs: &Inputs,
-    rings: Vec<HmacRing>,
+    checks: Vec<AnyCheck>,
     out: &mut W,
     notes: &mut N,
 ) -> Result<Status, Fault>
     requires { inputs.now.depth ≤ 8 }
     ensures ok { IfOk result (λ status. (text : _)
-        × IsVerifyOutput (panel_of (map ring_check rings.items)) inputs.now text status
+        × IsVerifyOutput (panel_of (map check_of checks.items)) inputs.now text status
         × Appends (W.contents out.old) (W.contents out.new) text) }
     ensures nothing { IfErr result (λ fault. fault ≢ Fault.Run RunFault.Write → out.new ≡ out.old) }
 {
     let mut panel: Vec<Box<dyn SignatureCheck>> = Vec::new(alloc);
-    for ring in rings {
-        panel.push(Box::new(alloc, ring)?)?;
+    for check in checks {
+        panel.push(Box::new(alloc, check)?)?;
     }
     let panel = panel.as_slice();
     Ok(verify_with_notes(alloc, inputs, panel, out, notes)?)

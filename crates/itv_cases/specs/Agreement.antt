@@ -1,9 +1,10 @@
 -- Which cases agree (words of this project).
 use Rattle.std.specs.Prelude.{◌≡◌, ◌==◌, ◌&&◌, ℕ, List, Option, Some, None, Bool, true, IfSome}
-use Rattle.std.specs.Prelude.{map, nat_eq}
+use Rattle.std.specs.Prelude.{nat_eq}
 use Rattle.std.specs.Cmp.Lexicographic.{pointwise}
 use Rattle.it_dsse.specs.Panel.{panel_of}
-use Rattle.it_dsse.specs.Ring.{ring_check}
+use Rattle.it_public_keys.specs.AnyCheck.{checks_of}
+use Rattle.it_public_keys.specs.Collected.{IsTableFor}
 use Rattle.itv_cases.specs.Answer.{IsAnswer}
 use Rattle.itv_cases.specs.declared.answer.Answer.{Answer}
 use Rattle.itv_cases.specs.declared.case.Case.{Case}
@@ -31,9 +32,12 @@ agrees run = (run.given.status == run.wanted.status)
     && pointwise nat_eq run.given.report run.wanted.report
     && has_notes run.wanted.notes run.given.notes
 
--- the run of a case: what the case wants, and what the verification of its inputs by its rings
--- comes to
+-- the run of a case: what the case wants, and what the verification of its inputs comes to, by its
+-- rings and, where the case asks for them, by public keys
 pub record IsRunOf (case : Case) (run : Run) : Type 0 where
   pub name : run.name ≡ case.name
   pub wanted : run.wanted ≡ case.wanted
-  pub given : IsAnswer (panel_of (map ring_check case.rings)) case.inputs run.given
+  pub table : Option (List (List ℕ))
+  pub is_table : IsTableFor case.public_keys case.inputs.policy case.inputs.layout
+      case.inputs.links table
+  pub given : IsAnswer (panel_of (checks_of case.rings table)) case.inputs run.given

@@ -4,7 +4,8 @@ ghost use Rattle.serde_json.specs.View.{view};
 ghost use Rattle.it_base.specs.Parts.{IsPart, IsPartOr};
 ghost use Rattle.it_base.specs.Sequence.{IsList};
 ghost use Rattle.it_dsse.specs.Panel.{panel_of};
-ghost use Rattle.it_dsse.specs.Ring.{ring_check};
+ghost use Rattle.it_public_keys.specs.AnyCheck.{check_of};
+ghost use Rattle.it_public_keys.specs.Collected.{IsTableFor};
 ghost use Rattle.itv_cases.specs.Answer.{IsAnswer};
 ghost use Rattle.itv_cases.specs.Part.{IsBytes, IsNamed};
 ghost use Rattle.itv_cases.specs.Reading.{InputsOf};
@@ -19,6 +20,8 @@ use it_base::sequence::Sequence;
 use it_base::text::Text;
 use it_dsse::check::SignatureCheck;
 use it_dsse::ring::{HmacRing, RingFault};
+use it_public_keys::any_check::{AnyCheck, checks_of};
+use it_public_keys::{PublicKeys, table_if};
 use it_verify::inputs::Inputs;
 use serde_json::Value;
 use std::alloc::{AllocError, AllocFailed, Global};
@@ -38,6 +41,8 @@ pub(crate) struct Case {
     pub(crate) inputs: Inputs,
     /// The rings of secrets that signatures are checked with, in the order of their places.
     pub(crate) rings: Sequence<HmacRing>,
+    /// Whether signatures are checked by public keys too.
+    pub(crate) public_keys: bool,
     /// What the other implementation came to.
     pub(crate) wanted: Wanted,
     ghost within_depth: { inputs.depth ≤ 8 },
@@ -93,6 +98,7 @@ impl Case {
             name: text_part(alloc, &document, "name")?,
             inputs,
             rings: Sequence::from(rings(alloc, &document)?),
+            public_keys: public_keys(&document)?,
             wanted: Wanted::of_case(alloc, &document)?,
         })
     }
@@ -109,24 +115,43 @@ impl Case {
             name,
             inputs,
             rings,
+            public_keys,
             wanted,
         } = self;
+        let table = table_for(alloc, public_keys, &inputs)?;
+        let checks = checks_of(alloc, rings.into_vec(), table)?;
+        let given = answer_by(alloc, &inputs, checks)?;
         Ok(Run {
             name,
             wanted,
-            given: answer_by(alloc, &inputs, rings.into_vec())?,
+            given,
         })
     }
 }
 
-/// What the verification comes to, with signatures checked by the rings.
-fn answer_by(alloc: Global, inputs: &Inputs, rings: Vec<HmacRing>) -> Result<Answer, AllocError>
+/// The table of all public keys that the verification could ask for, where public keys are asked
+/// for.
+fn table_for(
+    alloc: Global,
+    is_wanted: bool,
+    inputs: &Inputs,
+) -> Result<Option<PublicKeys>, AllocError>
+    ensures { IfOk result (IsTableFor is_wanted inputs.now.policy inputs.now.layout
+        inputs.now.links) }
+{
+    let policy = inputs.policy.as_slice();
+    let layout = inputs.layout.as_slice();
+    table_if(alloc, is_wanted, policy, layout, &inputs.links)
+}
+
+/// What the verification comes to, with signatures checked by the checks.
+fn answer_by(alloc: Global, inputs: &Inputs, checks: Vec<AnyCheck>) -> Result<Answer, AllocError>
     requires { inputs.now.depth ≤ 8 }
-    ensures { IfOk result (IsAnswer (panel_of (map ring_check rings.items)) inputs.now) }
+    ensures { IfOk result (IsAnswer (panel_of (map check_of checks.items)) inputs.now) }
 {
     let mut panel: Vec<Box<dyn SignatureCheck>> = Vec::new(alloc);
-    for ring in rings {
-        panel.push(Box::new(alloc, ring)?)?;
+    for check in checks {
+        panel.push(Box::new(alloc, check)?)?;
     }
     Answer::of(alloc, inputs, panel.as_slice())
 }
@@ -170,6 +195,14 @@ fn rings(alloc: Global, case: &Value) -> Result<Vec<HmacRing>, CaseFault> {
         rings.push(read_ring(alloc, bytes.as_slice())?)?;
     }
     Ok(rings)
+}
+
+/// Whether public keys are asked for: where the member is not there, they are not.
+fn public_keys(case: &Value) -> Result<bool, CaseFault> {
+    match member(case, "public_keys") {
+        Some(value) => value.as_bool().ok_or(CaseFault::BadMember("public_keys")),
+        None => Ok(false),
+    }
 }
 
 /// The ring that the bytes are.

@@ -1,15 +1,16 @@
 //! Commands, and the kinds of arguments that they take.
-ghost use Rattle.std.specs.Prelude.{◌≡◌, All, false, fold, IfOk, map, option_map};
+ghost use Rattle.std.specs.Prelude.{◌≡◌, All, false, fold, IfOk, map, nat_lt, option_map};
 ghost use Rattle.clap.specs.Words.{app_of, found_of, new_app, with_rule};
-ghost use Rattle.clap.specs.Walk.{all_of, first_of, rows_of, rule_of};
+ghost use Rattle.clap.specs.Walk.{all_of, count_of, first_of, rows_of, rule_of};
 ghost use Rattle.clap.specs.declared.builder.command.Command.TheViews.{out-Command};
 ghost use Rattle.it_base.specs.Finds.{Finds};
 ghost use Rattle.it_words.specs.Arguments.{
+  bare_option,
   needed_option,
-  needed_options,
   needed_word,
   needed_words,
   plain_option,
+  plain_options,
 };
 ghost use Rattle.it_words.specs.inside.Twos.{AreTwo};
 
@@ -67,12 +68,20 @@ pub(super) fn needed_option<'a>(alloc: Global, name: &'a str, shown: &'a str) ->
     plain_option(alloc, name, shown).required(true)
 }
 
-/// An option that has to be given at least once, with one value each time.
-pub(super) fn needed_options<'a>(alloc: Global, name: &'a str, shown: &'a str) -> Arg<'a>
-    ensures rule { rule_of result ≡ needed_options name.entry.now }
+/// An option that may be left out or given many times, with one value each time.
+pub(super) fn plain_options<'a>(alloc: Global, name: &'a str, shown: &'a str) -> Arg<'a>
+    ensures rule { rule_of result ≡ plain_options name.entry.now }
     ensures local { result.global ≡ false }
 {
-    needed_option(alloc, name, shown).action(ArgAction::Append)
+    plain_option(alloc, name, shown).action(ArgAction::Append)
+}
+
+/// An option without a value, which may be left out or given many times.
+pub(super) fn bare_option<'a>(alloc: Global, name: &'a str) -> Arg<'a>
+    ensures rule { rule_of result ≡ bare_option name.entry.now }
+    ensures local { result.global ≡ false }
+{
+    Arg::new(alloc, name).long(name).action(ArgAction::Count)
 }
 
 /// The value that was given to an argument.
@@ -81,6 +90,13 @@ pub(super) fn value<'a>(values: &ArgMatches<'a>, name: &str) -> Option<&'a str>
         ≡ first_of name.now (rows_of (found_of values.now)) }
 {
     values.get_str(name)
+}
+
+/// Whether an option without a value was given.
+pub(super) fn is_given(values: &ArgMatches<'_>, name: &str) -> bool
+    ensures { result ≡ nat_lt 0 (count_of name.now (rows_of (found_of values.now))) }
+{
+    0 < values.get_count(name)
 }
 
 /// All values that were given to an argument, in the order of the words.

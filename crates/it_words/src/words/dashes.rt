@@ -37,7 +37,8 @@ fn option_of(word: &str) -> &str {
 
 fn shows(usage: &str, option: &str) -> bool {
     for part in usage.split_whitespace() {
-        if part.strip_prefix("[").unwrap_or(part) == option {
+        let part = part.strip_prefix("[").unwrap_or(part);
+        if part.strip_suffix("]").unwrap_or(part) == option {
             return true;
         }
     }

@@ -25,10 +25,19 @@ pub(super) fn fault_of(alloc: Global, words: &[String], error: &Error) -> WordsF
     unread(note(alloc, words, error))
 }
 
-/// The fault of words with more than 8 rings.
-pub(super) fn too_many_rings(alloc: Global) -> WordsFault {
-    let wrong = "the option '--ring <F>' is given more than 8 times";
+/// The fault of words of a verification with no check of signatures, or with more than 8 rings.
+pub(super) fn unfit_checks(alloc: Global, words: &[String]) -> WordsFault {
+    let wrong = if words.iter().any(|word| is_ring(word.as_str())) {
+        "the option '--ring <F>' is given more than 8 times"
+    } else {
+        "neither '--ring <F>' nor '--public-keys' is given"
+    };
     unread(of_one(alloc, wrong, &VERIFY))
+}
+
+/// Whether a word gives a ring, alone or with its value.
+fn is_ring(word: &str) -> bool {
+    word == "--ring" || word.starts_with("--ring=")
 }
 
 fn unread(note: Result<String, AllocError>) -> WordsFault {

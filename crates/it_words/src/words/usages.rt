@@ -16,8 +16,8 @@ pub(super) static USAGES: [Usage; 9] = [
 /// The usage of `itv verify`.
 pub(super) const VERIFY: Usage = Usage {
     name: "verify",
-    line: "itv verify --policy F --layout F --links DIR --sums F --at MOMENT
-    --ring F.. [--provenance F] [--records DIR] [--depth N]",
+    line: "itv verify --policy F --layout F --links DIR --sums F --at MOMENT [--ring F..]
+    [--public-keys] [--provenance F] [--records DIR] [--depth N]",
     text: "    Writes the report of the verification: the line accepted with each step and
     each file, or the line refused with the first thing that does not hold.
       --policy F      The policy: the owners of the layout, what may be
@@ -29,8 +29,11 @@ pub(super) const VERIFY: Usage = Usage {
                       sha256sum writes it.
       --at MOMENT     The moment at which no layout may have expired, as
                       2029-12-31T00:00:00Z.
-      --ring F        A ring of secrets. Given one to eight times; the first
-                      ring that has an id decides what its key is.
+      --ring F        A ring of secrets, at most eight of them; the first ring
+                      that has an id decides what its key is. May be left out
+                      with --public-keys.
+      --public-keys   Checks signatures by the Ed25519 public keys in the
+                      policy and in the layouts too, after the rings.
       --provenance F  The provenance, one envelope a line.
       --records DIR   The folder of the records of inspections, link bodies
                       without envelopes.

@@ -1,17 +1,18 @@
 //! The words of `itv verify`.
-ghost use Rattle.std.specs.Prelude.{◌≡◌, false, IfOk, codes, map, option_map};
+ghost use Rattle.std.specs.Prelude.{◌≡◌, ◌≤◌, ◌↔◌, [], false, IfOk, IsTrue, codes, length};
+ghost use Rattle.std.specs.Prelude.{unwrap_or};
 ghost use Rattle.clap.specs.Words.{all_of, app_of, found_of, one_of};
 ghost use Rattle.clap.specs.Walk.{rows_of, rule_of};
 ghost use Rattle.clap.specs.declared.builder.command.Command.TheViews.{out-Command};
-ghost use Rattle.it_base.specs.Finds.{Finds, FindsAs};
+ghost use Rattle.it_base.specs.Finds.{Finds};
 ghost use Rattle.it_words.specs.Arguments.{depth_option};
 ghost use Rattle.it_words.specs.Commands.{verify_command};
-ghost use Rattle.it_words.specs.Values.{AreRings, IsDepth, IsVerify};
+ghost use Rattle.it_words.specs.Values.{HasCheck, IsDepth, IsVerify};
 ghost use Rattle.it_words.specs.inside.VerifyParts.{AreInputs, AreSettings};
 
 use super::arguments::{
-    command_of, needed_option, needed_options, plain_option, text_if_given, texts, two_texts,
-    value, values as values_of,
+    bare_option, command_of, is_given, needed_option, plain_option, plain_options, text_if_given,
+    texts, two_texts, value, values as values_of,
 };
 use clap::{Arg, ArgMatches, Command, value_parser};
 use it_base::sequence::Sequence;
@@ -34,8 +35,11 @@ pub struct VerifyWords {
     pub sums: Text,
     /// The moment at which no layout may have expired.
     pub at: Text,
-    /// The paths of the rings' files, in the order of the words; there are 1 to 8.
+    /// The paths of the rings' files, in the order of the words; there are at most 8, and none only
+    /// where public keys are checked.
     pub rings: Sequence<Text>,
+    /// Whether signatures are checked by public keys too.
+    pub public_keys: bool,
     /// The path of the provenance's file, where there is one.
     pub provenance: Option<Text>,
     /// The path of the folder that the records of inspections are in, where there is one.
@@ -58,6 +62,7 @@ struct Inputs {
 #[derive(Drop)]
 struct Settings {
     rings: Sequence<Text>,
+    public_keys: bool,
     provenance: Option<Text>,
     records: Option<Text>,
     depth: u8,
@@ -74,7 +79,8 @@ pub(super) fn command<'a>(alloc: Global) -> Result<Command<'a>, AllocError>
         needed_option(alloc, "links", "DIR"),
         needed_option(alloc, "sums", "F"),
         needed_option(alloc, "at", "MOMENT"),
-        needed_options(alloc, "ring", "F"),
+        plain_options(alloc, "ring", "F"),
+        bare_option(alloc, "public-keys"),
         plain_option(alloc, "provenance", "F"),
         plain_option(alloc, "records", "DIR"),
         depth_option(alloc),
@@ -92,7 +98,8 @@ fn depth_option<'a>(alloc: Global) -> Arg<'a>
         .default_value("4")
 }
 
-/// The command's values, or `None` where one is missing or there are more than 8 rings.
+/// The command's values, or `None` where one is missing, there are more than 8 rings, or there is
+/// no ring and no public keys.
 pub(super) fn read(
     alloc: Global,
     values: &ArgMatches<'_>,
@@ -112,6 +119,7 @@ pub(super) fn read(
         sums: inputs.sums,
         at: inputs.at,
         rings: settings.rings,
+        public_keys: settings.public_keys,
         provenance: settings.provenance,
         records: settings.records,
         depth: settings.depth,
@@ -140,35 +148,44 @@ fn inputs_of(alloc: Global, values: &ArgMatches<'_>) -> Result<Option<Inputs>, A
     }))
 }
 
-/// The other values, or `None` where there is no ring, or more than 8, or no depth.
+/// The other values, or `None` where there are more than 8 rings, or none and no public keys, or no
+/// depth.
 fn settings_of(alloc: Global, values: &ArgMatches<'_>) -> Result<Option<Settings>, AllocError>
     ensures { IfOk result (Finds (AreSettings (rows_of (found_of values.now)))) }
 {
-    let Some(rings) = rings(values) else {
+    let rings = rings(alloc, values)?;
+    let public_keys = is_given(values, "public-keys");
+    if !are_checks(rings.as_slice(), public_keys) {
         return Ok(None);
-    };
+    }
     let Some(depth) = depth(values) else {
         return Ok(None);
     };
     Ok(Some(Settings {
-        rings: texts(alloc, rings)?,
+        rings,
+        public_keys,
         provenance: text_if_given(alloc, value(values, "provenance"))?,
         records: text_if_given(alloc, value(values, "records"))?,
         depth,
     }))
 }
 
-/// The rings in the order of the words, or `None` where there are none or more than 8.
-fn rings<'v, 'a>(values: &'v ArgMatches<'a>) -> Option<&'v [&'a str]>
-    ensures { FindsAs (λ texts. map (λ text. text.now) texts.now)
-        (AreRings (all_of (codes "ring") (rows_of (found_of values.now)))) result }
+/// The rings in the order of the words.
+fn rings(alloc: Global, values: &ArgMatches<'_>) -> Result<Sequence<Text>, AllocError>
+    ensures { IfOk result
+        (λ rings. rings ≡ unwrap_or (all_of (codes "ring") (rows_of (found_of values.now))) []) }
 {
-    let rings = values_of(values, "ring")?;
-    if rings.len() <= MOST_RINGS {
-        Some(rings)
-    } else {
-        None
+    match values_of(values, "ring") {
+        Some(rings) => texts(alloc, rings),
+        None => Ok(Sequence::from(Vec::new(alloc))),
     }
+}
+
+/// Whether there are at most 8 rings, and at least one where public keys are not checked.
+fn are_checks(rings: &[Text], public_keys: bool) -> bool
+    ensures { IsTrue result ↔ ((length rings.now ≤ 8) × HasCheck rings.now public_keys) }
+{
+    rings.len() <= MOST_RINGS && (!rings.is_empty() || public_keys)
 }
 
 /// The depth, or `None` where there is none of at most 8.

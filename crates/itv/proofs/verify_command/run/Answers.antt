@@ -10,7 +10,9 @@ returns-clause-ok g c =
         are_inputs = c.in_ok-inputs.ensures;
         rings = c.in_ok-rings.rings.items;
         holds_rings = search rules;
-        is_output = told.1;
+        table = c.in_ok-table.table;
+        is_table = c.in_ok-table.ensures;
+        is_output = rw c.in_ok-checks.ensures at told.1;
       },
       told.2,
     )

@@ -31,11 +31,14 @@ no_settings : (values : List Row) (found : Option Settings) → Finds (AreSettin
     → found ≡ None → (words : VerifyWords) → ¬ IsVerify values words
 no_settings values None finds none words is = finds (record {
   rings = words.rings;
+  public_keys = words.public_keys;
   provenance = words.provenance;
   records = words.records;
   depth = words.depth;
 }) (record {
   rings = is.rings;
+  public_keys = is.public_keys;
+  has_check = is.has_check;
   provenance = is.provenance;
   records = is.records;
   depth = is.depth;

@@ -1,8 +1,8 @@
 //! The commands over bytes that look at no ring of others: a pattern, what is signed, a signature
 //! and a digest.
+use crate::wanted::{Ran, ran_as};
 use it_commands::{run_digest, run_match, run_pae, run_sign};
 use it_devices::Source;
-use it_devices::wanted::{Ran, ran_as};
 use it_digest::reader::DigestFault;
 use it_dsse::ring::HmacRing;
 use it_outcome::{RunFault, Status};

@@ -15,4 +15,6 @@ mod onto_tests;
 #[cfg(test)]
 mod signed_tests;
 #[cfg(test)]
+mod wanted;
+#[cfg(test)]
 mod words_tests;

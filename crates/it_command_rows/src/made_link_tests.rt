@@ -1,5 +1,5 @@
 //! The bodies of links that are made from digest lists.
-use it_devices::wanted::{Ran, ran_as};
+use crate::wanted::{Ran, ran_as};
 use it_making::run_link;
 use it_outcome::{RunFault, Status};
 use std::alloc::Global;

@@ -1,6 +1,6 @@
 //! The bodies of Statements that are made from digest lists.
+use crate::wanted::{Ran, ran_as};
 use it_devices::nested;
-use it_devices::wanted::{Ran, ran_as};
 use it_making::{StatementParts, run_statement};
 use it_outcome::{RunFault, Status};
 use std::alloc::{AllocError, Global};

@@ -1,6 +1,6 @@
 //! What is said of words that are those of no command.
+use crate::wanted::is_text;
 use crate::words_tests::{NEEDED, note};
-use it_devices::wanted::is_text;
 use it_devices::words;
 use it_words::words::{WordsFault, read_words};
 use std::alloc::{AllocError, Global};

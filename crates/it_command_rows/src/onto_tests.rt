@@ -1,7 +1,7 @@
 //! Envelopes that two ids of a ring sign in turn, and payloads.
 use crate::signed_tests::signers;
+use crate::wanted::{Ran, ran_as};
 use it_commands::{run_payload, run_sign, run_sign_onto};
-use it_devices::wanted::{Ran, ran_as};
 use it_dsse::ring::HmacRing;
 use it_dsse::signing::NewSignature;
 use it_outcome::{RunFault, Status};

@@ -1,7 +1,7 @@
 //! Who signed an envelope, and how a command ends.
+use crate::wanted::{Ran, ran_as};
 use it_commands::run_signed;
 use it_devices::rings::DELIVERY_RING;
-use it_devices::wanted::{Ran, ran_as};
 use it_devices::{Full, Pipe};
 use it_digest::reader::DigestFault;
 use it_dsse::check::SignatureCheck;

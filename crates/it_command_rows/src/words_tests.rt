@@ -1,6 +1,6 @@
 //! What the words of each command are read as.
+use crate::wanted::is_text;
 use it_base::text::Text;
-use it_devices::wanted::is_text;
 use it_devices::words;
 use it_words::words::linking::LinkWords;
 use it_words::words::signing::SignWords;

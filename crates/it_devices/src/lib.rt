@@ -1,10 +1,8 @@
-//! What the tests share: texts, rings, digests that are known, what rows want, and readers and
-//! writers that fail.
+//! What the tests share: texts, rings, digests that are known, and readers and writers that fail.
 #![tactic(auto)]
 
 pub mod known_digests;
 pub mod rings;
-pub mod wanted;
 
 use it_base::text::Text;
 use it_digest::artifacts::Artifacts;

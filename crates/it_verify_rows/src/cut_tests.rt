@@ -2,10 +2,10 @@
 use crate::base_case::{
     ACCEPTED, LINK, MOMENT, base, filled, layout, report_of, signed_text, without_links,
 };
+use crate::wanted::is_text_at;
 use it_base::sequence::Sequence;
 use it_chain::bundle::Bundle;
 use it_devices::rings::DELIVERY_RING;
-use it_devices::wanted::is_text_at;
 use it_devices::{nested, text};
 use it_dsse::ring::{HmacRing, RingFault};
 use it_verify::inputs::Inputs;

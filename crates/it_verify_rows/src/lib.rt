@@ -24,3 +24,5 @@ mod rules_tests;
 mod signed_bodies;
 #[cfg(test)]
 mod verification_tests;
+#[cfg(test)]
+mod wanted;

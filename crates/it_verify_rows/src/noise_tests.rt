@@ -4,9 +4,9 @@ use crate::base_case::{
     ACCEPTED, IN_TOTO, LINK, STATEMENT, add, add_folder, base, filled, report_of, signed,
     signed_text, sublayout, without_links,
 };
+use crate::wanted::{is_text, is_text_at};
 use it_base::sequence::Sequence;
 use it_chain::bundle::Bundle;
-use it_devices::wanted::{is_text, is_text_at};
 use it_devices::with_changed_code;
 use it_verify::inputs::Inputs;
 use std::alloc::Global;

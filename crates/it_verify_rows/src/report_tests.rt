@@ -1,9 +1,9 @@
 //! How names are written, and what is told where a verification accepts. Reports of each fault are
 //! in the cases that `itv_cases` runs.
+use crate::wanted::is_text;
 use it_base::sequence::Sequence;
 use it_base::text::Text;
 use it_devices::text;
-use it_devices::wanted::is_text;
 use it_verify::refusal::{Fault, Refusal};
 use it_verify::report;
 use it_verify::verdict::Verdict;

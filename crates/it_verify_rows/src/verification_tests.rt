@@ -4,8 +4,8 @@ use crate::base_case::{
     ACCEPTED, LINK, add, add_folder, add_link, asked, base, bytes, filled, layout, policy,
     reported, ring, signed_text, sublayout, without_links,
 };
+use crate::wanted::{Ran, ran_as};
 use it_chain::bundle::Bundle;
-use it_devices::wanted::{Ran, ran_as};
 use it_devices::{Full, Pipe, text, with_changed_code};
 use it_dsse::check::SignatureCheck;
 use it_outcome::{RunFault, Status};

@@ -4,13 +4,13 @@ use std::process::Abort;
 
 /// How a command ended, and what it wrote.
 #[derive(Drop)]
-pub struct Ran {
-    pub outcome: Result<Status, RunFault>,
-    pub written: Vec<u8>,
+pub(crate) struct Ran {
+    pub(crate) outcome: Result<Status, RunFault>,
+    pub(crate) written: Vec<u8>,
 }
 
 /// That a command ended and wrote as a row wants. The row is named where it did not.
-pub fn ran_as(
+pub(crate) fn ran_as(
     rt: &impl Abort,
     ran: &Ran,
     outcome: Result<Status, RunFault>,
@@ -22,11 +22,6 @@ pub fn ran_as(
 }
 
 /// That a text is the one that a row wants. The row is named where it is not.
-pub fn is_text(rt: &impl Abort, found: &str, want: &str, row: &str) {
-    assert_eq!(rt; found, want, "{row}");
-}
-
-/// That a text is the one that the row with this number wants.
-pub fn is_text_at(rt: &impl Abort, found: &str, want: &str, row: usize) {
+pub(crate) fn is_text(rt: &impl Abort, found: &str, want: &str, row: &str) {
     assert_eq!(rt; found, want, "{row}");
 }

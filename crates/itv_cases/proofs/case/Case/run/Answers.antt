@@ -7,5 +7,5 @@ returns c = record {
   wanted = refl;
   table = c.in_ok-table.table;
   is_table = c.in_ok-table.ensures;
-  given = rw c.in_ok-checks.ensures at c.in_ok-given.ensures;
+  given = rw (c.in_ok-checks.ensures, c.into_vec.ensures) at c.in_ok-given.ensures;
 }

@@ -4,7 +4,7 @@
 The blocks `sh` of a page run in sequence, in one shell, with the built program as `itv`: those of a
 page of docs/ in an empty folder, those of an example in its folder. A block `text` right after one
 is what that one writes to standard output; one without writes nothing. Needs the built program
-(./build at the top), jq and openssl.
+(./build at the top), jq, openssl 3 and GNU tools.
 
     commands.py         runs the guide, the page on other signatures, and the examples
     commands.py PAGE..  runs these pages

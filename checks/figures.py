@@ -13,7 +13,7 @@ import sys
 import reach
 import tree
 
-DATA = tree.TOP / "crates" / "itv_cases" / "data"
+CRATES = tree.TOP / "crates"
 NUMBER = r"(?P<figure>\d[\d,]*)"
 # The name of each figure with the pages that give it, each with the words around it.
 PLACES = [
@@ -23,6 +23,8 @@ PLACES = [
     ("public", "docs/trusted.md", ", of {} that public contracts reach"),
     ("cases", "README.md", "among it {} whole verifications"),
     ("cases", "docs/testing.md", "- {} whole verifications,"),
+    ("vectors", "docs/testing.md", "- {} vectors of public keys"),
+    ("vectors", "CHANGELOG.md", "- {} vectors of Ed25519"),
     ("worked", "docs/testing.md", "whole verifications, {} worked out by hand"),
     ("random", "docs/testing.md", "by hand and {} changed at random"),
     ("toolchain", "README.md", "The toolchain (`{}`)"),
@@ -37,18 +39,21 @@ def lines_reached(graph, functions):
     return sum(reach.lines_by_crate(graph, reached).values())
 
 
-def cases(pattern):
-    """How many cases the files of a pattern hold."""
-    return sum(path.read_bytes().count(b"\n") for path in DATA.glob(pattern))
+def lines(program, pattern):
+    """How many lines the files of a pattern hold among the data of a program."""
+    files = (CRATES / program / "data").glob(pattern)
+    return sum(path.read_bytes().count(b"\n") for path in files)
 
 
 def counted():
     """Each figure as it is written, by its name; that of a toolchain only where there is one."""
-    graph, every, thrown = reach.Graph(), cases("*.jsonl"), cases("random-*.jsonl")
+    graph, every = reach.Graph(), lines("itv_cases", "*.jsonl")
+    thrown, vectors = lines("itv_cases", "random-*.jsonl"), lines("it_vectors", "*.jsonl")
     numbers = {"verify": lines_reached(graph, reach.VERIFY),
                "run_verify": lines_reached(graph, reach.VERIFYING),
                "public": lines_reached(graph, None),
-               "cases": every, "random": thrown, "worked": every - thrown}
+               "cases": every, "random": thrown, "worked": every - thrown,
+               "vectors": vectors}
     found = {name: f"{number:,}" for name, number in numbers.items()}
     if shutil.which("rt"):
         ran = subprocess.run(["rt", "version"], stdout=subprocess.PIPE, text=True, check=True)

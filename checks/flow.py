@@ -15,17 +15,17 @@ WIDTH, HEIGHT = 920, 480
 # The stages in order: what is asked, in lines, what is looked at for it, and the refusals.
 STAGES = [
     ("Do the policy, the digest list", "and the moment read?", "policy, sums, at", "10 – 14"),
-    ("Is the layout signed", "by every owner?", "layout, rings", "20 – 23"),
-    ("Enough keys for each step, with", "records that agree? Rules kept?", "links, rings", "30 – 35, 40"),
+    ("Is the layout signed", "by every owner?", "layout, policy", "20 – 23"),
+    ("Enough keys for each step, with", "records that agree? Rules kept?", "links, layout", "30 – 35, 40"),
     ("Does each inspection have its", "record, and keep its rules?", "records", "40, 50, 51"),
     ("Do the delivered files keep", "the policy's deliver rules?", "sums, policy", "40"),
-    ("Does each file have signed", "provenance as expected?", "provenance, rings", "60 – 61"),
+    ("Does each file have signed", "provenance as expected?", "provenance, policy", "60 – 61"),
 ]
 # Who brings what.
 SOURCES = [
     ("comes with the delivery", ["layout.envelope.json", "links/", "provenance.jsonl"], "#fff3dc"),
     ("from the delivered files", ["sums, by itv digest"], "#e6f2e6"),
-    ("is your own", ["policy.json", "ring.json", "records/", "the moment"], "#e3edf9"),
+    ("is your own", ["policy.json", "rings, where there are any", "records/", "the moment"], "#e3edf9"),
 ]
 STYLE = ("text{font-family:Helvetica,Arial,sans-serif;font-size:14px;fill:#222}"
          ".small{font-size:12px;fill:#555}.strong{font-weight:bold}"

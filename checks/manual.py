@@ -9,6 +9,7 @@ show the words of a command as the list has them.
     manual.py --write  writes the files
 """
 
+import itertools
 import json
 import sys
 import textwrap
@@ -61,12 +62,24 @@ def option_of(option):
     return f"\\-\\-{option['name']}{value}"
 
 
+def choice_of(options):
+    """Options of which those of one choice must be given, the choices parted by a bar."""
+    choices = {}
+    for option in options:
+        words = f"--{option['name']} {option['value']}"
+        choices.setdefault(option["choice"], []).append(words)
+    return "(" + " | ".join(" ".join(words) for words in choices.values()) + ")"
+
+
 def words_of(command):
     """The words after the name of a command, as a synopsis has them."""
     forms = {"needed": "--{} {}", "any": "[--{} {}..]", "free": "[--{} {}]", "bare": "[--{}]"}
     words = [argument["value"] for argument in command["arguments"]]
-    words += [forms[option["use"]].format(option["name"], option["value"])
-              for option in command["options"]]
+    for use, options in itertools.groupby(command["options"], key=lambda option: option["use"]):
+        if use == "one":
+            words.append(choice_of(options))
+        else:
+            words += [forms[use].format(option["name"], option["value"]) for option in options]
     return " ".join(words)
 
 
@@ -124,7 +137,7 @@ def wrapped(words, first, rest):
 
 def usage_line(program, command):
     """The words of a command as its usage has them: an option stays with its value."""
-    parts = words_of(command).replace(" --", "\n--").replace(" [--", "\n[--")
+    parts = words_of(command).replace(" --", "\n--").replace(" [--", "\n[--").replace(" (--", "\n(--")
     words = wrapped(parts.replace(" ", "\0").replace("\n", " "), f"{program} {command['name']} ",
                     "    ")
     return words.replace("\0", " ")

@@ -7,15 +7,20 @@ _itv_values() {
         verify--links) compgen -d -- "$word" ;;
         verify--sums) compgen -f -- "$word" ;;
         verify--ring) compgen -f -- "$word" ;;
-        verify--public-keys) compgen -W '--policy --layout --links --sums --at --ring --public-keys --provenance --records --depth' -- "$word" ;;
+        verify--public-keys) compgen -W '--policy --layout --links --sums --at --ring --public-keys --json --provenance --records --depth' -- "$word" ;;
+        verify--json) compgen -W '--policy --layout --links --sums --at --ring --public-keys --json --provenance --records --depth' -- "$word" ;;
         verify--provenance) compgen -f -- "$word" ;;
         verify--records) compgen -d -- "$word" ;;
         verify--depth) compgen -W '0 1 2 3 4 5 6 7 8' -- "$word" ;;
         signed--ring) compgen -f -- "$word" ;;
+        signed--keys) compgen -f -- "$word" ;;
         sign--ring) compgen -f -- "$word" ;;
+        sign--signature) compgen -f -- "$word" ;;
+        sign--keys) compgen -f -- "$word" ;;
         sign--type) compgen -W application/vnd.in-toto+json -- "$word" ;;
         sign--onto) compgen -f -- "$word" ;;
         pae--type) compgen -W application/vnd.in-toto+json -- "$word" ;;
+        digest--recursive) compgen -W '--recursive' -- "$word" ;;
         link--materials) compgen -f -- "$word" ;;
         link--products) compgen -f -- "$word" ;;
         statement--sums) compgen -f -- "$word" ;;
@@ -33,19 +38,20 @@ _itv() {
         before=${COMP_WORDS[COMP_CWORD - 2]}
     fi
     if [ "$COMP_CWORD" = 1 ]; then
-        offered=$(compgen -W 'verify signed sign pae digest link statement payload match' -- "$word")
+        offered=$(compgen -W 'verify signed sign pae digest link statement payload key match' -- "$word")
     elif [[ $before == --* ]]; then
         offered=$(_itv_values "$command$before")
     else
         case $command in
-            verify) offered=$(compgen -W '--policy --layout --links --sums --at --ring --public-keys --provenance --records --depth' -- "$word") ;;
-            signed) offered=$(compgen -W '--ring' -- "$word"; compgen -f -- "$word") ;;
-            sign) offered=$(compgen -W '--ring --key --type --onto' -- "$word"; compgen -f -- "$word") ;;
+            verify) offered=$(compgen -W '--policy --layout --links --sums --at --ring --public-keys --json --provenance --records --depth' -- "$word") ;;
+            signed) offered=$(compgen -W '--ring --keys' -- "$word"; compgen -f -- "$word") ;;
+            sign) offered=$(compgen -W '--ring --signature --keys --key --type --onto' -- "$word"; compgen -f -- "$word") ;;
             pae) offered=$(compgen -W '--type' -- "$word"; compgen -f -- "$word") ;;
-            digest) offered=$(compgen -f -- "$word") ;;
+            digest) offered=$(compgen -W '--recursive' -- "$word"; compgen -f -- "$word") ;;
             link) offered=$(compgen -W '--name --materials --products' -- "$word") ;;
             statement) offered=$(compgen -W '--sums --builder --build-type --parameters' -- "$word") ;;
             payload) offered=$(compgen -f -- "$word") ;;
+            key) offered=$(compgen -W '--name' -- "$word"; compgen -f -- "$word") ;;
         esac
     fi
     mapfile -t COMPREPLY < <(printf '%s' "${offered:+$offered$'\n'}")

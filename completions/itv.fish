@@ -7,16 +7,20 @@ complete -c itv -n '__fish_seen_subcommand_from verify' -l links -x -a '(__fish_
 complete -c itv -n '__fish_seen_subcommand_from verify' -l sums -r -F -d 'The digest list of the delivered files, as itv digest or sha256sum writes it.'
 complete -c itv -n '__fish_seen_subcommand_from verify' -l at -x -d 'The moment at which no layout may have expired, as 2029-12-31T00:00:00Z.'
 complete -c itv -n '__fish_seen_subcommand_from verify' -l ring -r -F -d 'A ring of secrets, at most eight of them; the first ring that has an id decides what its key is. May be left out with --public-keys.'
-complete -c itv -n '__fish_seen_subcommand_from verify' -l public-keys -d 'Checks signatures by the Ed25519 public keys in the policy and in the layouts too, after the rings.'
+complete -c itv -n '__fish_seen_subcommand_from verify' -l public-keys -d 'Checks signatures by the public keys in the policy and in the layouts too, after the rings.'
+complete -c itv -n '__fish_seen_subcommand_from verify' -l json -d 'Writes the report as one JSON object.'
 complete -c itv -n '__fish_seen_subcommand_from verify' -l provenance -r -F -d 'The provenance, one envelope a line.'
 complete -c itv -n '__fish_seen_subcommand_from verify' -l records -x -a '(__fish_complete_directories)' -d 'The folder of the records of inspections, link bodies without envelopes.'
 complete -c itv -n '__fish_seen_subcommand_from verify' -l depth -x -a '0 1 2 3 4 5 6 7 8' -d 'How deep sublayouts may lie, from 0 to 8; 4 where it is not given.'
-complete -c itv -n __fish_use_subcommand -a signed -d 'Writes the ids of the ring that signed the envelope, one a line, in byte order.'
-complete -c itv -n '__fish_seen_subcommand_from signed' -l ring -r -F -d 'The ring of secrets.'
+complete -c itv -n __fish_use_subcommand -a signed -d 'Writes the ids of the ring, or of the public keys, that signed the envelope, one a line, in byte order.'
+complete -c itv -n '__fish_seen_subcommand_from signed' -l ring -r -F -d 'The ring of secrets that signatures are checked by.'
+complete -c itv -n '__fish_seen_subcommand_from signed' -l keys -r -F -d 'The public keys that signatures are checked by, in place of a ring: an object from id to key object, as itv key writes it.'
 complete -c itv -n '__fish_seen_subcommand_from signed' -F
-complete -c itv -n __fish_use_subcommand -a sign -d 'Writes the envelope of the body, signed under the id\'s secret, and a line feed.'
+complete -c itv -n __fish_use_subcommand -a sign -d 'Writes the envelope of the body, signed under the id\'s secret or with the given signature, and a line feed.'
 complete -c itv -n '__fish_seen_subcommand_from sign' -l ring -r -F -d 'The ring of secrets.'
-complete -c itv -n '__fish_seen_subcommand_from sign' -l key -x -d 'The id whose secret signs.'
+complete -c itv -n '__fish_seen_subcommand_from sign' -l signature -r -F -d 'A signature that was made elsewhere of what itv pae writes, in place of a ring: the file of its bytes.'
+complete -c itv -n '__fish_seen_subcommand_from sign' -l keys -r -F -d 'With --signature, the public keys; it must be valid for the one under the id.'
+complete -c itv -n '__fish_seen_subcommand_from sign' -l key -x -d 'The id of the key that signs.'
 complete -c itv -n '__fish_seen_subcommand_from sign' -l type -x -a application/vnd.in-toto+json -d 'The payload type; that of layouts, links and Statements is application/vnd.in-toto+json.'
 complete -c itv -n '__fish_seen_subcommand_from sign' -l onto -r -F -d 'An envelope of the same body and type, to which the signature is added.'
 complete -c itv -n '__fish_seen_subcommand_from sign' -F
@@ -24,6 +28,7 @@ complete -c itv -n __fish_use_subcommand -a pae -d 'Writes what is signed for th
 complete -c itv -n '__fish_seen_subcommand_from pae' -l type -x -a application/vnd.in-toto+json -d 'The payload type.'
 complete -c itv -n '__fish_seen_subcommand_from pae' -F
 complete -c itv -n __fish_use_subcommand -a digest -d 'Writes a digest list: for each file the SHA-256 in hexadecimal, two spaces, the name, a line feed. Where a file cannot be read the lines before it stand, and the list is not whole.'
+complete -c itv -n '__fish_seen_subcommand_from digest' -l recursive -d 'Takes a folder for the files below it, in byte order of their paths.'
 complete -c itv -n '__fish_seen_subcommand_from digest' -F
 complete -c itv -n __fish_use_subcommand -a link -d 'Writes the body of the step\'s link, which itv sign signs. A digest list that is not given is empty.'
 complete -c itv -n '__fish_seen_subcommand_from link' -l name -x -d 'The name of the step.'
@@ -36,4 +41,7 @@ complete -c itv -n '__fish_seen_subcommand_from statement' -l build-type -x -d '
 complete -c itv -n '__fish_seen_subcommand_from statement' -l parameters -r -F -d 'The external parameters, a JSON object.'
 complete -c itv -n __fish_use_subcommand -a payload -d 'Writes the payload of the envelope. It looks at no signature.'
 complete -c itv -n '__fish_seen_subcommand_from payload' -F
+complete -c itv -n __fish_use_subcommand -a key -d 'Writes the public keys in PEM files as one JSON object from id to key object, and a line feed, as layouts, policies and --keys take it.'
+complete -c itv -n '__fish_seen_subcommand_from key' -l name -x -d 'The id of the key, with one file; else it is made from the key as securesystemslib makes it.'
+complete -c itv -n '__fish_seen_subcommand_from key' -F
 complete -c itv -n __fish_use_subcommand -a match -d 'Writes whether the pattern of an artifact rule matches the whole path: yes or no, and a line feed.'

@@ -4,15 +4,15 @@ The documents are made by bench/deliveries.py, where everybody's secret is the o
 """
 
 import json
-import pathlib
 import sys
 
-TOP = pathlib.Path(__file__).resolve().parent.parent
 sys.dont_write_bytecode = True
-sys.path.insert(0, str(TOP / "bench"))
+import lines
+
+sys.path.insert(0, str(lines.TOP / "bench"))
 from deliveries import MOMENT, compact, digest, layout, link, policy, signed, statement, step
 
-DATA = TOP / "crates" / "itv_cases" / "data"
+DATA = lines.TOP / "crates" / "itv_cases" / "data"
 PEOPLE = ["owner", "builder", "alice", "bob", "carol"]
 DELIVER = [["MATCH", "*", "WITH", "PRODUCTS", "FROM", "build"], ["DISALLOW", "*"]]
 
@@ -51,9 +51,4 @@ def case(name, report, notes, **changed):
 
 def write(name, cases):
     """Writes a file of cases, each on a line of its own; with `--check` it must be there already."""
-    lines = [json.dumps(one, ensure_ascii=False, separators=(",", ":")) for one in cases]
-    text = "".join(line + "\n" for line in lines)
-    if sys.argv[1:] != ["--check"]:
-        (DATA / name).write_text(text, encoding="utf-8")
-    elif (DATA / name).read_text(encoding="utf-8") != text:
-        sys.exit(f"{name} is not what its script writes")
+    lines.write(DATA / name, cases)

@@ -57,14 +57,25 @@ fn says_something_of_no_words(rt: HostRuntime) {
 }
 
 // A line for each, so that a missing word shows as well.
-const NO_COMMANDS: [&str; 14] = [
+const NO_COMMANDS: [&str; 25] = [
     "itv match a",
     "itv match a b c",
     "itv match -a -a",
     "itv pae b",
     "itv sign b --ring r --key k",
     "itv sign b --ring r --ring r --key k --type t",
+    "itv sign b --ring r --keys f --key k --type t",
+    "itv sign b --ring r --signature s --key k --type t",
+    "itv sign b --ring r --signature s --keys f --key k --type t",
+    "itv sign b --signature s --key k --type t",
+    "itv sign b --keys f --key k --type t",
+    "itv sign b --key k --type t",
+    "itv sign b --signature s --keys f --type t",
     "itv digest",
+    "itv digest --recursive",
+    "itv key",
+    "itv key --name i",
+    "itv key a b --name i",
     "itv verify",
     "itv verify --layout=l --links=d --sums=s --at=m --ring=r",
     "itv verify --policy=p --links=d --sums=s --at=m --ring=r",
@@ -195,27 +206,27 @@ fn shows_the_usage_of_a_command(rt: HostRuntime) -> Result<(), Fail> {
     check_whole(&rt, rt.alloc(), &WHOLE)
 }
 
-const BEGINNINGS: [Row; 10] = [
-    ("itv", "no command is given\n\nitv 1.0.0 decides whether "),
+const BEGINNINGS: [Row; 15] = [
+    ("itv", "no command is given\n\nitv 1.1.0 decides whether "),
     (
         "itv --help",
-        "help is asked for, and no command is run\n\nitv 1.0.0 decides ",
+        "help is asked for, and no command is run\n\nitv 1.1.0 decides ",
     ),
     (
         "itv -h",
-        "help is asked for, and no command is run\n\nitv 1.0.0 decides ",
+        "help is asked for, and no command is run\n\nitv 1.1.0 decides ",
     ),
     (
         "itv help sign",
-        "help is asked for, and no command is run\n\nitv 1.0.0 decides ",
+        "help is asked for, and no command is run\n\nitv 1.1.0 decides ",
     ),
     (
         "itv --version",
-        "the version is asked for, and no command is run\n\nitv 1.0.0 decides ",
+        "the version is asked for, and no command is run\n\nitv 1.1.0 decides ",
     ),
     (
         "itv frob --ring r",
-        "\"frob\" is no command\n\nitv 1.0.0 decides ",
+        "\"frob\" is no command\n\nitv 1.1.0 decides ",
     ),
     (
         "itv link --products p",
@@ -223,7 +234,7 @@ const BEGINNINGS: [Row; 10] = [
     ),
     (
         "itv sign b --key k --ring r --type t --key k",
-        "the argument '--key <ID>' cannot be used multiple times\n\nitv sign BODY --ring F ",
+        "the argument '--key <ID>' cannot be used multiple times\n\nitv sign BODY (--ring F | ",
     ),
     (
         "itv verify --policy p --layout l --links d --sums s --at m --ring 1 --ring 2 --ring 3 \
@@ -233,6 +244,26 @@ const BEGINNINGS: [Row; 10] = [
     (
         "itv verify --policy p --layout l --links d --sums s --at m",
         "neither '--ring <F>' nor '--public-keys' is given\n\nitv verify --policy F ",
+    ),
+    (
+        "itv signed a",
+        "neither '--ring <F>' nor '--keys <F>' is given\n\nitv signed ENVELOPE ",
+    ),
+    (
+        "itv signed a --keys=k --ring=r",
+        "the options '--ring <F>' and '--keys <F>' are both given\n\nitv signed ENVELOPE ",
+    ),
+    (
+        "itv sign b --key k --type t --keys=f",
+        "neither '--ring <F>' nor '--signature <SIG>' with '--keys <F>' is given\n\nitv sign ",
+    ),
+    (
+        "itv sign b --key k --type t --keys f --ring r",
+        "the option '--ring <F>' is given beside '--signature <SIG>' or '--keys <F>'\n\nitv sign ",
+    ),
+    (
+        "itv key a b --name i",
+        "the option '--name <ID>' is given with more than one file\n\nitv key FILE.. ",
     ),
 ];
 
@@ -249,15 +280,16 @@ fn says_what_was_wrong_first(rt: HostRuntime) -> Result<(), Fail> {
     check_beginnings(&rt, rt.alloc(), &BEGINNINGS)
 }
 
-const USAGES: [&str; 9] = [
-    "\n\nitv verify --policy F --layout F --links DIR --sums F --at MOMENT [--ring F..]\n    [--public-keys] [",
-    "\n\nitv signed ENVELOPE --ring F\n    Writes the ids ",
-    "\n\nitv sign BODY --ring F --key ID --type TYPE [--onto ENVELOPE]\n    Writes the envelope ",
+const USAGES: [&str; 10] = [
+    "\n\nitv verify --policy F --layout F --links DIR --sums F --at MOMENT [--ring F..]\n    [--public-keys] [--json] [",
+    "\n\nitv signed ENVELOPE (--ring F | --keys F)\n    Writes the ids ",
+    "\n\nitv sign BODY (--ring F | --signature SIG --keys F) --key ID --type TYPE\n    [--onto ",
     "\n\nitv pae BODY --type TYPE\n    Writes what is signed ",
-    "\n\nitv digest FILE..\n    Writes a digest list: ",
+    "\n\nitv digest PATH.. [--recursive]\n    Writes a digest list: ",
     "\n\nitv link --name NAME [--materials SUMS] [--products SUMS]\n    Writes the body ",
     "\n\nitv statement --sums SUMS --builder ID --build-type TYPE [--parameters F]\n    Writes ",
     "\n\nitv payload ENVELOPE\n    Writes the payload ",
+    "\n\nitv key FILE.. [--name ID]\n    Writes the public keys ",
     "\n\nitv match PATTERN PATH\n    Writes whether ",
 ];
 

@@ -2,8 +2,11 @@
 use crate::wanted::is_text;
 use it_base::text::Text;
 use it_devices::words;
+use it_words::words::digesting::DigestWords;
+use it_words::words::keys::KeyWords;
 use it_words::words::linking::LinkWords;
-use it_words::words::signing::SignWords;
+use it_words::words::signed::{SignedBy, SignedWords};
+use it_words::words::signing::{SignBy, SignWords};
 use it_words::words::stating::StatementWords;
 use it_words::words::verifying::VerifyWords;
 use it_words::words::{Words, WordsFault, read_words};
@@ -38,11 +41,15 @@ fn shown(text: &Option<Text>) -> &str {
     }
 }
 
-// The rings, and a star where public keys are checked too.
+// The rings, with a star where public keys are checked too, and a question mark where the report
+// is to be JSON.
 fn shown_checks(alloc: Global, words: &VerifyWords) -> Result<String, AllocError> {
     let mut checks = joined(alloc, words.rings.as_slice())?;
     if words.public_keys {
         checks.push('*')?;
+    }
+    if words.json {
+        checks.push('?')?;
     }
     Ok(checks)
 }
@@ -65,11 +72,28 @@ fn shown_verify(alloc: Global, words: &VerifyWords) -> Result<String, AllocError
     spaced(alloc, &all)
 }
 
+fn shown_signed(alloc: Global, words: &SignedWords) -> Result<String, AllocError> {
+    let envelope = words.envelope.as_str();
+    match &words.by {
+        SignedBy::Ring(ring) => spaced(alloc, &["signed", envelope, ring.as_str()]),
+        SignedBy::Keys(keys) => spaced(alloc, &["signed", envelope, "by", keys.as_str()]),
+    }
+}
+
+// The ring, or the signature with the keys.
+fn shown_by(alloc: Global, by: &SignBy) -> Result<String, AllocError> {
+    match by {
+        SignBy::Ring(ring) => String::from_str(alloc, ring.as_str()),
+        SignBy::Made(made) => spaced(alloc, &[made.signature.as_str(), "by", made.keys.as_str()]),
+    }
+}
+
 fn shown_sign(alloc: Global, words: &SignWords) -> Result<String, AllocError> {
+    let by = shown_by(alloc, &words.by)?;
     let all = [
         "sign",
         words.body.as_str(),
-        words.ring.as_str(),
+        by.as_str(),
         words.key.as_str(),
         words.kind.as_str(),
         shown(&words.onto),
@@ -98,19 +122,23 @@ fn shown_statement(alloc: Global, words: &StatementWords) -> Result<String, Allo
     spaced(alloc, &all)
 }
 
-fn shown_digest(alloc: Global, files: &[Text]) -> Result<String, AllocError> {
-    let files = joined(alloc, files)?;
-    spaced(alloc, &["digest", files.as_str()])
+fn shown_digest(alloc: Global, words: &DigestWords) -> Result<String, AllocError> {
+    let paths = joined(alloc, words.paths.as_slice())?;
+    if words.recursive {
+        spaced(alloc, &["below", paths.as_str()])
+    } else {
+        spaced(alloc, &["digest", paths.as_str()])
+    }
+}
+
+fn shown_key(alloc: Global, words: &KeyWords) -> Result<String, AllocError> {
+    let files = joined(alloc, words.files.as_slice())?;
+    spaced(alloc, &["key", files.as_str(), shown(&words.name)])
 }
 
 fn shown_words(alloc: Global, words: &Words) -> Result<String, AllocError> {
     match words {
-        Words::Signed(words) => {
-            spaced(
-                alloc,
-                &["signed", words.envelope.as_str(), words.ring.as_str()],
-            )
-        }
+        Words::Signed(words) => shown_signed(alloc, words),
         Words::Match(words) => {
             spaced(
                 alloc,
@@ -119,10 +147,11 @@ fn shown_words(alloc: Global, words: &Words) -> Result<String, AllocError> {
         }
         Words::Pae(words) => spaced(alloc, &["pae", words.body.as_str(), words.kind.as_str()]),
         Words::Sign(words) => shown_sign(alloc, words),
-        Words::Digest(words) => shown_digest(alloc, words.files.as_slice()),
+        Words::Digest(words) => shown_digest(alloc, words),
         Words::Link(words) => shown_link(alloc, words),
         Words::Statement(words) => shown_statement(alloc, words),
         Words::Payload(words) => spaced(alloc, &["payload", words.envelope.as_str()]),
+        Words::Key(words) => shown_key(alloc, words),
         Words::Verify(words) => shown_verify(alloc, words),
     }
 }
@@ -157,7 +186,7 @@ fn check_read(rt: &impl Abort, alloc: Global, rows: &[Row]) -> Result<(), Fail> 
 }
 
 // Two spaces, and a space at the end, have an empty word between or behind them.
-const COMMANDS: [Row; 23] = [
+const COMMANDS: [Row; 35] = [
     ("itv signed a --ring b", "signed a b"),
     ("itv signed --ring b a", "signed a b"),
     ("itv signed --ring=-b a", "signed a -b"),
@@ -196,6 +225,24 @@ const COMMANDS: [Row; 23] = [
         "itv verify --policy p --layout l --links d --sums s --at m --public-keys",
         "verify p l d s m * none none 4",
     ),
+    ("itv signed a --keys b", "signed a by b"),
+    ("itv signed --keys=-b -- --ring", "signed --ring by -b"),
+    (
+        "itv sign b --signature s --keys f --key k --type t",
+        "sign b s by f k t none",
+    ),
+    (
+        "itv sign --keys f --onto e --type t --key k --signature=-s b",
+        "sign b -s by f k t e",
+    ),
+    ("itv digest --recursive a", "below a"),
+    ("itv digest b --recursive a --recursive", "below b+a"),
+    ("itv digest -- --recursive", "digest --recursive"),
+    ("itv key a", "key a none"),
+    ("itv key b a b", "key b+a+b none"),
+    ("itv key --name i a", "key a i"),
+    ("itv key a --name=", "key a "),
+    ("itv key -- --name i", "key --name+i none"),
 ];
 
 #[test]
@@ -204,7 +251,7 @@ fn reads_the_words_of_each_command(rt: HostRuntime) -> Result<(), Fail> {
 }
 
 // Words behind those that a verification needs, and what the line is read as.
-const FURTHER: [Row; 10] = [
+const FURTHER: [Row; 12] = [
     ("", "verify p l d s m r none none 4"),
     (
         " --provenance v --records i --depth 0",
@@ -220,6 +267,11 @@ const FURTHER: [Row; 10] = [
         "verify p l d s m r+2+3+4+3+6++8 none none 4",
     ),
     (" --public-keys", "verify p l d s m r* none none 4"),
+    (" --json", "verify p l d s m r? none none 4"),
+    (
+        " --json --public-keys --json",
+        "verify p l d s m r*? none none 4",
+    ),
     (
         " --public-keys --ring=2 --public-keys",
         "verify p l d s m r+2* none none 4",

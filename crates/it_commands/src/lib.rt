@@ -13,8 +13,9 @@ mod signed_output;
 
 pub use digest_output::{check_name, run_digest};
 pub use match_output::run_match;
+pub use no_envelope::no_envelope_output;
 pub use pae_output::run_pae;
 pub use payload_output::run_payload;
 pub use sign_onto_output::run_sign_onto;
-pub use sign_output::run_sign;
-pub use signed_output::run_signed;
+pub use sign_output::{put_line, run_sign};
+pub use signed_output::{names_text, run_signed};

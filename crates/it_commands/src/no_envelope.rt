@@ -11,8 +11,12 @@ use it_report::refused_report;
 use it_report::verdict::Verdict;
 use std::alloc::{AllocError, Global};
 
-/// The report that refuses such bytes.
-pub(crate) fn no_envelope_output(alloc: Global) -> Result<Output, AllocError>
+/// The report that refuses bytes that are not an envelope, with the status `Refused`.
+///
+/// # Errors
+///
+/// `AllocError` where memory was refused.
+pub fn no_envelope_output(alloc: Global) -> Result<Output, AllocError>
     ensures { IfOk result (λ output. (output.text.items ≡ report_of (Verdict.Refused no_envelope))
         × (output.status ≡ Status.Refused)) }
 {

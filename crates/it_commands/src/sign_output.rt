@@ -68,12 +68,13 @@ fn signed(
     }
 }
 
-/// Writes an envelope and a line feed.
-pub(crate) fn put_line<W: Write>(
-    alloc: Global,
-    envelope: &Envelope,
-    out: &mut W,
-) -> Result<(), RunFault>
+/// Writes the written form of an envelope (DSSE v1.0, "Envelope", its JSON form) and a line feed.
+///
+/// # Errors
+///
+/// `OutOfMemory` where memory was refused; nothing went out. `Write` where the output could not be
+/// written; a beginning of it went out.
+pub fn put_line<W: Write>(alloc: Global, envelope: &Envelope, out: &mut W) -> Result<(), RunFault>
     ensures ok { OnOk result (Appends (W.contents out.old) (W.contents out.new)
         (written_form envelope.now ++ codes "\n")) }
     ensures write { IsErrOf result RunFault.Write

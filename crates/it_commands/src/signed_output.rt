@@ -133,7 +133,12 @@ fn status_of(names: &[String]) -> Status
     }
 }
 
-fn names_text(alloc: Global, names: &[String]) -> Result<Vec<u8>, AllocError>
+/// Names as a text: each as a report writes a name, on a line of its own.
+///
+/// # Errors
+///
+/// `AllocError` where memory was refused.
+pub fn names_text(alloc: Global, names: &[String]) -> Result<Vec<u8>, AllocError>
     ensures { IfOk result (λ text. text.items ≡ names_text (map string_bytes names.now)) }
 {
     let mut text = Vec::new(alloc);

@@ -1,4 +1,5 @@
 pub mod LayoutNotes
 pub mod MemberNames
 pub mod Places
+pub mod RuleListNotes
 pub mod UnreadMembers

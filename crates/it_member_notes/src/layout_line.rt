@@ -15,43 +15,14 @@ impl LayoutNote {
     /// `AllocError` where memory was refused; a part of the line may have been appended then.
     pub fn push_line(&self, alloc: Global, out: &mut Vec<u8>) -> Result<(), AllocError> {
         match self {
-            LayoutNote::MatchFromNoStep {
-                item,
-                side,
-                rule,
-                name,
-            } => {
-                push_rule(alloc, out, *rule)?;
-                push_side_and_source(out, *side, item, name)
+            LayoutNote::Rules { item, side, note } => {
+                note.push_subject(alloc, out, "layout")?;
+                push_side(out, *side, item)?;
+                note.push_predicate(out)
             }
             LayoutNote::NoKeyObject { step, id } => push_no_key_object(out, step, id),
-            LayoutNote::NoDisallowAtEnd { item, side } => {
-                push_rules(out, *side, item)?;
-                out.extend_from_slice(b" do not end with a DISALLOW\n")
-            }
         }
     }
-}
-
-fn push_rule(alloc: Global, out: &mut Vec<u8>, rule: usize) -> Result<(), AllocError> {
-    let words = format!(in alloc; "layout: rule {rule} on the ")?;
-    out.extend_from_slice(words.as_bytes())
-}
-
-fn push_side_and_source(
-    out: &mut Vec<u8>,
-    side: Side,
-    item: &Item,
-    name: &Text,
-) -> Result<(), AllocError> {
-    push_side(out, side, item)?;
-    push_named(out, " takes from ", name)?;
-    out.extend_from_slice(b", and no step or inspection has that name\n")
-}
-
-fn push_rules(out: &mut Vec<u8>, side: Side, item: &Item) -> Result<(), AllocError> {
-    out.extend_from_slice(b"layout: the rules on the ")?;
-    push_side(out, side, item)
 }
 
 fn push_no_key_object(out: &mut Vec<u8>, step: &Text, id: &Text) -> Result<(), AllocError> {
@@ -63,11 +34,11 @@ fn push_no_key_object(out: &mut Vec<u8>, step: &Text, id: &Text) -> Result<(), A
 fn push_side(out: &mut Vec<u8>, side: Side, item: &Item) -> Result<(), AllocError> {
     match side {
         Side::Materials => {
-            out.extend_from_slice(b"materials of ")?;
+            out.extend_from_slice(b" on the materials of ")?;
             push_item(out, item)
         }
         Side::Products => {
-            out.extend_from_slice(b"products of ")?;
+            out.extend_from_slice(b" on the products of ")?;
             push_item(out, item)
         }
     }

@@ -1,6 +1,7 @@
 //! Notes on what a layout asks for.
 ghost use Rattle.std.specs.Prelude.{◌≡◌, IfOk};
 
+use crate::rule_list_note::RuleListNote;
 use it_base::text::Text;
 use it_docs::rule::Side;
 use std::alloc::{AllocError, Global};
@@ -14,20 +15,17 @@ pub enum Item {
     Inspection(Text),
 }
 
-/// Something that a layout asks for, and that may not be what its author meant. Places count from
-/// 0.
+/// Something that a layout asks for, and that may not be what its author meant.
 #[derive(Drop)]
 pub enum LayoutNote {
-    /// A `MATCH` rule takes from a name that no step and no inspection of the layout has.
-    MatchFromNoStep {
-        /// Whose rule it is.
+    /// Something about a list of rules.
+    Rules {
+        /// Whose rules they are.
         item: Item,
-        /// The side that the rule judges.
+        /// The side that the rules judge.
         side: Side,
-        /// The rule's place in the list of that side.
-        rule: usize,
-        /// The name.
-        name: Text,
+        /// What it is.
+        note: RuleListNote,
     },
     /// A key id may sign for a step, and the layout has no key object for it.
     NoKeyObject {
@@ -35,13 +33,6 @@ pub enum LayoutNote {
         step: Text,
         /// The key id.
         id: Text,
-    },
-    /// A list of rules ends with a rule that is no `DISALLOW`.
-    NoDisallowAtEnd {
-        /// Whose rules they are.
-        item: Item,
-        /// The side that the rules judge.
-        side: Side,
     },
 }
 

@@ -5,16 +5,20 @@
 mod close_name;
 mod layout_line;
 pub mod layout_note;
+mod list_notes;
 mod member_names;
 mod notes;
 mod object_at;
 pub mod place;
 mod places;
 mod quoted;
+mod rule_list_line;
+pub mod rule_list_note;
 mod rule_notes;
 mod unread;
 mod unread_line;
 pub mod unread_member;
 
+pub use list_notes::rule_list_notes;
 pub use notes::{layout_notes, policy_notes};
 pub use rule_notes::layout_rule_notes;

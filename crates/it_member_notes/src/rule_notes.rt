@@ -1,11 +1,12 @@
 //! The notes on what a layout asks for.
-ghost use Rattle.std.specs.Prelude.{◌≡◌, ◌↔◌, All, Contains, IfOk, IsTrue, OnOk, is_some};
+ghost use Rattle.std.specs.Prelude.{◌≡◌, All, Contains, IfOk, OnOk, is_some};
 ghost use Rattle.std.specs.FinMap.{get};
-ghost use Rattle.it_member_notes.specs.LayoutNotes.{AreRulesOf, HasInspection, HasStep, Holds};
-ghost use Rattle.it_member_notes.specs.LayoutNotes.{IsDisallow, rules_of_step as step_rules};
+ghost use Rattle.it_member_notes.specs.LayoutNotes.{AreRulesOf, Holds};
 ghost use Rattle.it_member_notes.specs.LayoutNotes.{rules_of_inspection as inspection_rules};
+ghost use Rattle.it_member_notes.specs.LayoutNotes.{rules_of_step as step_rules};
 
 use crate::layout_note::{Item, LayoutNote};
+use crate::list_notes::rule_list_notes;
 use it_base::text::Text;
 use it_docs::layout::Layout;
 use it_docs::rule::{Rule, Side};
@@ -147,75 +148,12 @@ fn note_rules(
     requires before { All (Holds layout.now) notes.old.items }
     ensures { OnOk result (All (Holds layout.now) notes.new.items) }
 {
-    for (place, rule) in list.rules.iter().enumerate() {
-        if let Rule::Match { from, .. } = rule {
-            if !is_in(layout, from) {
-                notes.push(match_from_no_step(alloc, list, place, from)?)?;
-            }
-        }
-    }
-    note_end(alloc, layout, list, notes)
-}
-
-fn match_from_no_step(
-    alloc: Global,
-    list: &RuleList<'_>,
-    rule: usize,
-    name: &Text,
-) -> Result<LayoutNote, AllocError>
-    ensures { IfOk result (λ note. note
-        ≡ LayoutNote.MatchFromNoStep list.now.item list.now.side rule name.now) }
-{
-    Ok(LayoutNote::MatchFromNoStep {
-        item: list.item.copy(alloc)?,
-        side: list.side,
-        rule,
-        name: Text::copy(alloc, name.as_str())?,
-    })
-}
-
-fn note_end(
-    alloc: Global,
-    layout: &Layout,
-    list: &RuleList<'_>,
-    notes: &mut Vec<LayoutNote>,
-) -> Result<(), AllocError>
-    requires are_rules { AreRulesOf layout.now list.now.item list.now.side list.now.rules.now }
-    requires before { All (Holds layout.now) notes.old.items }
-    ensures { OnOk result (All (Holds layout.now) notes.new.items) }
-{
-    let Some((last, _front)) = list.rules.split_last() else {
-        return Ok(());
-    };
-    if !is_disallow(last) {
-        let item = list.item.copy(alloc)?;
-        notes.push(LayoutNote::NoDisallowAtEnd {
-            item,
+    for note in rule_list_notes(alloc, layout, list.rules)? {
+        notes.push(LayoutNote::Rules {
+            item: list.item.copy(alloc)?,
             side: list.side,
+            note,
         })?;
     }
     Ok(())
-}
-
-fn is_disallow(rule: &Rule) -> bool
-    ensures { IsTrue result ↔ IsDisallow rule.now }
-{
-    matches!(rule, Rule::Disallow(_))
-}
-
-/// Whether a step or an inspection of the layout has the name.
-fn is_in(layout: &Layout, name: &Text) -> bool
-    ensures steps { HasStep layout.now name.now → IsTrue result }
-    ensures inspections { HasInspection layout.now name.now → IsTrue result }
-{
-    layout
-        .steps
-        .as_slice()
-        .iter()
-        .any(|step| step.name.as_str() == name.as_str())
-        || layout
-            .inspections
-            .as_slice()
-            .iter()
-            .any(|inspection| inspection.name.as_str() == name.as_str())
 }

@@ -3,3 +3,4 @@ pub mod Level
 pub mod Notes
 pub mod PlaceNotes
 pub mod RefusalNotes
+pub mod VerifyOutputIn

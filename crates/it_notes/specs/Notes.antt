@@ -1,13 +1,17 @@
 -- What the notes on a verification say (words of this project).
 use Rattle.std.specs.Prelude.{◌≡◌, ◌⊎◌, ℕ, List, [], All, IfSome}
 use Rattle.it_docs.specs.Layout.{LayoutOf}
+use Rattle.it_docs.specs.Policy.{PolicyOf}
 use Rattle.it_docs.specs.declared.layout.Layout.{Layout}
+use Rattle.it_docs.specs.declared.policy.Policy.{Policy}
 use Rattle.it_dsse.specs.Envelope.{EnvelopeOf}
 use Rattle.it_dsse.specs.Panel.{Panel}
 use Rattle.it_dsse.specs.declared.envelope.Envelope.{Envelope}
 use Rattle.it_member_notes.specs.LayoutNotes.{Holds}
+use Rattle.it_member_notes.specs.RuleListNotes.{IsOfRules}
 use Rattle.it_member_notes.specs.UnreadMembers.{IsUnreadOfLayout, IsUnreadOfPolicy}
 use Rattle.it_member_notes.specs.declared.layout_note.LayoutNote.{LayoutNote}
+use Rattle.it_member_notes.specs.declared.rule_list_note.RuleListNote.{RuleListNote}
 use Rattle.it_report.specs.declared.verdict.Verdict.{Verdict}
 use Rattle.it_report.specs.declared.verdict.Verdict.TheVariants.{Accepted, Refused}
 use Rattle.it_verify.specs.declared.inputs.Inputs.{Inputs}
@@ -24,10 +28,19 @@ abbrev pub AreOfLayout : List ℕ → List LayoutNote → Type 0
 AreOfLayout payload notes =
     (notes ≡ []) ⊎ ((layout : Layout) × LayoutOf payload layout × All (Holds layout) notes)
 
--- the notes are true of the payload of the envelope that bytes are
-pub record TellsLayout (bytes : List ℕ) (notes : LayoutNotes) : Type 0 where
+-- the notes are true of the rules on what is delivered of the policy that bytes are, which see the
+-- layout that a payload is; where one of the two is none, there are none
+abbrev pub AreOfDelivery : List ℕ → List ℕ → List RuleListNote → Type 0
+AreOfDelivery bytes payload notes =
+    (notes ≡ []) ⊎ ((policy : Policy) × (layout : Layout) × PolicyOf bytes policy
+    × LayoutOf payload layout × All (IsOfRules layout policy.deliver) notes)
+
+-- the notes are true of the payload of the envelope that was given, and of the policy's rules that
+-- see it
+pub record TellsLayout (inputs : Inputs) (notes : LayoutNotes) : Type 0 where
   pub envelope : Envelope
-  pub is_envelope : EnvelopeOf bytes envelope
+  pub is_envelope : EnvelopeOf inputs.layout envelope
+  pub deliver : AreOfDelivery inputs.policy envelope.payload notes.deliver.items
   pub members : All (IsUnreadOfLayout envelope.payload) notes.members.items
   pub rules : AreOfLayout envelope.payload notes.rules.items
 
@@ -48,4 +61,4 @@ pub record AreTrue (panel : Panel) (inputs : Inputs) (verdict : Verdict) (notes 
   pub place : IfSome notes.place (TellsWhere panel inputs verdict)
   pub refusal : TellsVerdict panel inputs verdict notes.refusal
   pub policy : All (IsUnreadOfPolicy inputs.policy) notes.policy.items
-  pub layout : IfSome notes.layout (TellsLayout inputs.layout)
+  pub layout : IfSome notes.layout (TellsLayout inputs)

@@ -1,47 +1,75 @@
-//! What the layout has in it that may not be what its author meant.
-ghost use Rattle.std.specs.Prelude.{IfOk, IfSome};
-ghost use Rattle.it_notes.specs.Notes.{AreOfLayout, TellsLayout};
+//! What the layout, and the policy's rules that see it, have in them that may not be what their
+//! author meant.
+ghost use Rattle.std.specs.Prelude.{List, ℕ, IfOk, IfSome};
+ghost use Rattle.it_docs.specs.Layout.{LayoutOf};
+ghost use Rattle.it_notes.specs.Notes.{AreOfDelivery, AreOfLayout, TellsLayout};
 
-use crate::reading::envelope_in;
-use it_docs::layout_fault::LayoutFault;
-use it_docs::layout_reading::read_layout;
+use crate::reading::{envelope_in, policy_in};
+use it_chain::layout_in;
+use it_docs::layout::Layout;
 use it_member_notes::layout_note::LayoutNote;
+use it_member_notes::rule_list_note::RuleListNote;
 use it_member_notes::unread_member::UnreadMember;
-use it_member_notes::{layout_notes, layout_rule_notes};
+use it_member_notes::{layout_notes, layout_rule_notes, rule_list_notes};
+use it_verify::inputs::Inputs;
 use std::alloc::{AllocError, Global};
 
-/// Notes on a layout.
+/// Notes on a layout, and on the policy's rules on what is delivered, which see it.
 #[derive(Drop)]
 pub struct LayoutNotes {
-    /// The members that are not looked at.
+    /// What the policy's rules on what is delivered ask for.
+    pub deliver: Vec<RuleListNote>,
+    /// The members of the layout that are not looked at.
     pub members: Vec<UnreadMember>,
-    /// What its rules and steps ask for.
+    /// What the layout's rules and steps ask for.
     pub rules: Vec<LayoutNote>,
 }
 
 impl LayoutNotes {
-    /// The notes on the layout in the envelope that the bytes are, or `None` where they are none.
-    pub(crate) fn of(alloc: Global, bytes: &[u8]) -> Result<Option<LayoutNotes>, AllocError>
-        ensures { IfOk result (λ found. IfSome found (TellsLayout bytes.now)) }
+    /// The notes on the layout in the envelope that was given, and on the policy's rules that see
+    /// it, or `None` where there is no envelope.
+    pub(crate) fn of(alloc: Global, inputs: &Inputs) -> Result<Option<LayoutNotes>, AllocError>
+        ensures { IfOk result (λ found. IfSome found (TellsLayout inputs.now)) }
     {
-        let Some(envelope) = envelope_in(alloc, bytes)? else {
+        let Some(envelope) = envelope_in(alloc, inputs.layout.as_slice())? else {
             return Ok(None);
         };
         let payload = envelope.payload.as_slice();
+        let layout = layout_in(alloc, payload)?;
         Ok(Some(LayoutNotes {
+            deliver: delivery_notes(alloc, inputs.policy.as_slice(), &layout)?,
             members: layout_notes(alloc, payload)?,
-            rules: rule_notes(alloc, payload)?,
+            rules: rule_notes(alloc, &layout)?,
         }))
     }
 }
 
-/// The notes on what a layout asks for; none where the payload is no layout.
-fn rule_notes(alloc: Global, payload: &[u8]) -> Result<Vec<LayoutNote>, AllocError>
-    ensures { IfOk result (λ notes. AreOfLayout payload.now notes.items) }
+/// The notes on what a policy's rules on what is delivered ask for; none where the bytes are no
+/// policy, or there is no layout.
+fn delivery_notes(
+    alloc: Global,
+    bytes: &[u8],
+    layout: &Option<Layout>,
+) -> Result<Vec<RuleListNote>, AllocError>
+    ensures { (payload : List ℕ) → IfSome layout.now (LayoutOf payload)
+        → IfOk result (λ notes. AreOfDelivery bytes.now payload notes.items) }
 {
-    match read_layout(alloc, payload) {
-        Ok(layout) => layout_rule_notes(alloc, &layout),
-        Err(LayoutFault::BadLayout(_)) => Ok(Vec::new(alloc)),
-        Err(LayoutFault::OutOfMemory) => Err(AllocError),
+    let Some(layout) = layout else {
+        return Ok(Vec::new(alloc));
+    };
+    let Some(policy) = policy_in(alloc, bytes)? else {
+        return Ok(Vec::new(alloc));
+    };
+    rule_list_notes(alloc, layout, policy.deliver.as_slice())
+}
+
+/// The notes on what a layout asks for; none where there is none.
+fn rule_notes(alloc: Global, layout: &Option<Layout>) -> Result<Vec<LayoutNote>, AllocError>
+    ensures { (payload : List ℕ) → IfSome layout.now (LayoutOf payload)
+        → IfOk result (λ notes. AreOfLayout payload notes.items) }
+{
+    match layout {
+        Some(layout) => layout_rule_notes(alloc, layout),
+        None => Ok(Vec::new(alloc)),
     }
 }

@@ -20,4 +20,5 @@ mod refusal_notes;
 mod rules;
 mod steps;
 mod text;
+mod verdict_output;
 pub mod verify_with_notes;

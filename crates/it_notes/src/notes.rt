@@ -35,7 +35,8 @@ pub struct Notes {
     pub refusal: RefusalNotes,
     /// The members of the policy that are not looked at.
     pub policy: Vec<UnreadMember>,
-    /// What is odd about the layout, where the owners are known to have signed it.
+    /// What is odd about the layout and the policy's rules that see it, where the owners are known
+    /// to have signed it.
     pub layout: Option<LayoutNotes>,
 }
 
@@ -133,16 +134,17 @@ fn verdict_place(
     }
 }
 
-/// What is odd about the layout. One that the owners are not known to have signed is not read.
+/// What is odd about the layout and the policy's rules that see it. A layout that the owners are
+/// not known to have signed is not read.
 fn signed_layout_notes(
     alloc: Global,
     inputs: &Inputs,
     verdict: &Verdict,
 ) -> Result<Option<LayoutNotes>, AllocError>
-    ensures { IfOk result (λ found. IfSome found (TellsLayout inputs.now.layout)) }
+    ensures { IfOk result (λ found. IfSome found (TellsLayout inputs.now)) }
 {
     if is_signed(verdict) {
-        LayoutNotes::of(alloc, inputs.layout.as_slice())
+        LayoutNotes::of(alloc, inputs)
     } else {
         Ok(None)
     }

@@ -5,6 +5,7 @@ use crate::lines::{Line, Lines};
 use crate::notes::{Notes, RefusalNotes, RuleNotes};
 use crate::place_notes::PlaceNotes;
 use it_member_notes::layout_note::LayoutNote;
+use it_member_notes::rule_list_note::RuleListNote;
 use it_member_notes::unread_member::UnreadMember;
 use it_part_notes::part_note::PartNote;
 use it_part_notes::sum_line_note::SumLineNote;
@@ -95,6 +96,7 @@ impl RuleNotes {
 
 impl LayoutNotes {
     fn add_to(&self, lines: &mut Lines) -> Result<(), AllocError> {
+        lines.add_all(self.deliver.as_slice())?;
         lines.add_all(self.members.as_slice())?;
         lines.add_all(self.rules.as_slice())
     }
@@ -182,6 +184,14 @@ impl Line for UnreadMember {
     fn push_line(&self, text: &mut Vec<u8>) -> Result<(), AllocError> {
         let alloc = *text.allocator();
         UnreadMember::push_line(self, alloc, text)
+    }
+}
+
+/// Only the policy's rules on what is delivered have such notes of their own.
+impl Line for RuleListNote {
+    fn push_line(&self, text: &mut Vec<u8>) -> Result<(), AllocError> {
+        let alloc = *text.allocator();
+        RuleListNote::push_deliver_line(self, alloc, text)
     }
 }
 

@@ -4,19 +4,21 @@ ghost use Rattle.std.specs.Io.KnownBytes.{Appends};
 ghost use Rattle.it_base.specs.Writing.{AppendsBeginning};
 ghost use Rattle.it_dsse.specs.Panel.{panel_of};
 ghost use Rattle.it_outcome.specs.Outcome.{IsOutputFault};
-ghost use Rattle.it_verify.specs.VerifyOutput.{IsVerifyOutput};
+ghost use Rattle.it_notes.specs.VerifyOutputIn.{IsVerifyOutputIn};
 
 use crate::notes::Notes;
+use crate::verdict_output::write_in;
 use it_dsse::check::SignatureCheck;
+use it_json_report::form::ReportForm;
 use it_outcome::{RunFault, Status};
 use it_report::verdict::Verdict;
 use it_verify::inputs::Inputs;
-use it_verify::{verify, write_verdict};
+use it_verify::verify;
 use std::alloc::{AllocError, Global};
 use std::io::Write;
 
-/// Verifies delivered files and writes the report, as `run_verify` of `it_verify` does, and then
-/// writes the notes on the verdict to `notes`.
+/// Verifies delivered files, as `verify` of `it_verify` does, writes the report in this form, and
+/// then writes the notes on the verdict to `notes`.
 ///
 /// The answer is `Good` where the verdict accepts, and `Refused` where it refuses. What becomes of
 /// the notes changes neither it nor the report: where memory is refused for them there are none,
@@ -30,21 +32,22 @@ pub fn verify_with_notes<W: Write, N: Write>(
     alloc: Global,
     inputs: &Inputs,
     panel: &[Box<dyn SignatureCheck>],
+    form: ReportForm,
     out: &mut W,
     notes: &mut N,
 ) -> Result<Status, RunFault>
     requires { inputs.now.depth ≤ 8 }
     ensures ok { IfOk result (λ status. (text : _)
-        × IsVerifyOutput (panel_of (map meaning panel.now)) inputs.now text status
+        × IsVerifyOutputIn form (panel_of (map meaning panel.now)) inputs.now text status
         × Appends (W.contents out.old) (W.contents out.new) text) }
     ensures write { IsErrOf result RunFault.Write → (text : _) × (status : _)
-        × IsVerifyOutput (panel_of (map meaning panel.now)) inputs.now text status
+        × IsVerifyOutputIn form (panel_of (map meaning panel.now)) inputs.now text status
         × AppendsBeginning (W.contents out.old) (W.contents out.new) text }
     ensures memory { IsErrOf result RunFault.OutOfMemory → out.new ≡ out.old }
     ensures faults { IfErr result IsOutputFault }
 {
     let answer = verify(alloc, inputs, panel)?;
-    let outcome = write_verdict(alloc, &answer.verdict, out);
+    let outcome = write_in(alloc, form, &answer.verdict, out);
     if outcome.is_ok() {
         note(alloc, inputs, &answer.verdict, panel, notes);
     }

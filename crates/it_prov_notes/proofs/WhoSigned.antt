@@ -1,6 +1,6 @@
 -- Those of the expected builders that signed an envelope.
-use Rattle.std.proofs.Common.{◌≡◌, ℕ, zero, suc, List, [], ◌∷◌, length, map, Bor, inl}
-use Rattle.std.proofs.Common.{Contains, inr, refl, sym, ap, subst, arith, ◌∙◌}
+use Rattle.std.proofs.Common.{◌≡◌, List, [], ◌∷◌, length, Bor, inl}
+use Rattle.std.proofs.Common.{Contains, inr, sym, subst, arith}
 use Rattle.it_base.proofs.Members.{in_cases, in_head, in_none, in_tail}
 use Rattle.it_dsse.specs.Panel.{Panel}
 use Rattle.it_dsse.specs.Signed.{AreThose}

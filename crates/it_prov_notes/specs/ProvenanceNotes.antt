@@ -154,8 +154,8 @@ pub record IsParameterUnexpected (expectation : Expectation) (name : List ℕ)
   pub none_expected : field_at name expectation.parameters ≡ None
   pub not_ignored : ¬ Contains expectation.ignore name
 
--- an expected builder of the id that stands there signed with this level, and each such builder
--- has less than the wanted one
+-- an expected builder of the id that stands there signed with this level, no such builder has a
+-- greater one, and it is less than the wanted one
 pub record LevelIsLow (panel : Panel) (expectation : Expectation) (found wanted : ℕ)
     (envelope : Envelope) (provenance : Provenance) : Type 0 where
   pub builder : Builder
@@ -163,8 +163,9 @@ pub record LevelIsLow (panel : Panel) (expectation : Expectation) (found wanted 
   pub built_by : provenance.builder ≡ builder.id
   pub found_is : found ≡ builder.level
   pub wanted_is : wanted ≡ expectation.level
-  pub all_are_low : (other : Builder) → HasSigned panel expectation envelope other
-      → provenance.builder ≡ other.id → other.level < wanted
+  pub greatest : (other : Builder) → HasSigned panel expectation envelope other
+      → provenance.builder ≡ other.id → other.level ≤ found
+  pub is_low : found < wanted
 
 -- ---- the notes
 -- a line misses this

@@ -1,11 +1,12 @@
 //! Which builder the provenance names, and of what level it is.
-ghost use Rattle.std.specs.Prelude.{◌≡◌, ◌≤◌, ◌↔◌, List, ℕ, Any, IfOk, IfSome, IsTrue};
+ghost use Rattle.std.specs.Prelude.{◌≡◌, ◌≤◌, ◌↔◌, ◌⊎◌, List, ℕ, Any, IfOk, IfSome, IsTrue, Some};
 ghost use Rattle.it_digest.specs.declared.compare.DigestSet.{DigestSet};
 ghost use Rattle.it_dsse.specs.Panel.{Panel};
 ghost use Rattle.it_dsse.specs.declared.envelope.Envelope.{Envelope};
 ghost use Rattle.it_docs.specs.declared.policy.Expectation.{Expectation};
+ghost use Rattle.it_prov.specs.Best.{IsGreatest};
 ghost use Rattle.it_prov_notes.specs.ProvenanceNotes.{IsProvenanceOn, Misses};
-ghost use Rattle.it_prov_notes.specs.inside.Judged.{AreSigners};
+ghost use Rattle.it_prov_notes.specs.inside.Judged.{AreSigners, HasLevel};
 
 use crate::note::Shortfall;
 use it_base::text::Text;
@@ -43,7 +44,8 @@ fn some_has_id(signers: &[&Builder], id: &str) -> bool
     signers.iter().any(|builder| builder.id.as_str() == id)
 }
 
-/// Whether each builder that the provenance names, of those that signed, is of too low a level.
+/// Whether each builder that the provenance names, of those that signed, is of too low a level:
+/// then the greatest of these levels is told.
 pub(crate) fn low_level(
     provenance: &Provenance,
     expectation: &Expectation,
@@ -54,25 +56,37 @@ pub(crate) fn low_level(
         → AreSigners panel expectation.now envelope signers.now
         → IfSome result (Misses panel expectation.now digests line) }
 {
-    let id = provenance.builder.as_str();
     let wanted = expectation.level;
-    if some_reaches(signers, id, wanted) {
+    let Some(found) = greatest_level(signers, provenance.builder.as_str()) else {
+        return None;
+    };
+    if found >= wanted {
         return None;
     }
-    for signer in signers {
-        if signer.id.as_str() == id {
-            return Some(Shortfall::LowLevel {
-                found: signer.level,
-                wanted,
-            });
-        }
-    }
-    None
+    Some(Shortfall::LowLevel { found, wanted })
 }
 
-fn some_reaches(signers: &[&Builder], id: &str, wanted: u8) -> bool
-    ensures { IsTrue result
-        ↔ Any (λ builder. (builder.now.id ≡ id.now) × (wanted ≤ builder.now.level)) signers.now }
+/// The greatest level of a builder of this id, or `None` where there is no such builder.
+fn greatest_level(builders: &[&Builder], id: &str) -> Option<u8>
+    ensures { IsGreatest (HasLevel builders.now id.now) result }
 {
-    signers.iter().any(|builder| builder.id.as_str() == id && builder.level >= wanted)
+    let mut greatest = None;
+    for builder in builders {
+        if builder.id.as_str() == id {
+            greatest = Some(greater(greatest, builder.level));
+        }
+    }
+    greatest
+}
+
+/// The greater of two levels, of which the first may be missing.
+fn greater(found: Option<u8>, level: u8) -> u8
+    ensures one { (result ≡ level) ⊎ (found ≡ Some result) }
+    ensures level { level ≤ result }
+    ensures found { IfSome found (λ other. other ≤ result) }
+{
+    match found {
+        Some(other) if other > level => other,
+        _ => level,
+    }
 }

@@ -45,9 +45,9 @@ pub enum Shortfall {
     UnequalParameter(Text),
     /// A parameter stands under this name, under which none is expected and none is ignored.
     UnexpectedParameter(Text),
-    /// The builder that it names and that signed it is of too low a level.
+    /// Each expected builder that it names and that signed it is of too low a level.
     LowLevel {
-        /// The level that the policy trusts the builder to reach.
+        /// The greatest level that the policy trusts one of these builders to reach.
         found: u8,
         /// The least level that is expected.
         wanted: u8,

@@ -1,44 +1,46 @@
 -- What a walk over a list collects, item by item.
-use Rattle.std.proofs.Common.{◌≡◌, ℕ, List, [], ◌∷◌, ◌++◌, Contains, map, sym, ap, subst, ◌∙◌}
+use Rattle.std.proofs.Common.{◌≡◌, List, [], ◌∷◌, ◌++◌, Contains, map, sym, ap, subst, ◌∙◌}
 use Rattle.std.proofs.Common.{⊎_elim, append_assoc, append-nil, arith}
 use Rattle.std.proofs.lemmas.List.Elements.{Contains-append_cases, Contains-append_left}
 use Rattle.std.proofs.lemmas.List.Elements.{Contains-append_right, Contains-push}
 use Rattle.std.proofs.lemmas.List.Elements.{Contains-push_cases}
+use Rattle.it_public_keys.specs.Keys.{Keys}
 use Rattle.it_public_keys.specs.KeyTable.{Extends}
+use Rattle.it_public_keys.specs.declared.key.Key.{Key}
 
 -- a table extends itself, and what extends an extension extends the first
-pub Extends-refl : (keys : List (List ℕ)) → Extends keys keys
+pub Extends-refl : (keys : Keys) → Extends keys keys
 Extends-refl keys = ([], sym (append-nil keys))
 
-pub Extends-trans : (a b c : List (List ℕ)) → Extends a b → Extends b c → Extends a c
+pub Extends-trans : (a b c : Keys) → Extends a b → Extends b c → Extends a c
 Extends-trans a b c first second =
     (first.0 ++ second.0, second.1 ∙ ap (λ keys. keys ++ second.0) first.1 ∙ append_assoc a first.0 second.0)
 
 -- what a table has, each that extends it has
-pub Extends-contains : (old new : List (List ℕ)) → Extends old new → (bytes : List ℕ)
-    → Contains old bytes → Contains new bytes
-Extends-contains old new more bytes there =
-    subst (λ keys. Contains keys bytes) (sym more.1) (Contains-append_left old more.0 bytes there)
+pub Extends-contains : (old new : Keys) → Extends old new → (key : Key)
+    → Contains old key → Contains new key
+Extends-contains old new more key there =
+    subst (λ keys. Contains keys key) (sym more.1) (Contains-append_left old more.0 key there)
 
 -- what holds of a table and an item holds of each table that extends it
-abbrev pub Stays : {X : Type 0} → (List (List ℕ) → X → Type 0) → Type 0
-Stays {X = X} P = (old new : List (List ℕ)) → Extends old new → (x : X) → P old x → P new x
+abbrev pub Stays : {X : Type 0} → (Keys → X → Type 0) → Type 0
+Stays {X = X} P = (old new : Keys) → Extends old new → (x : X) → P old x → P new x
 
 -- a walk so far: the table extends the first, and P holds of each item that was seen
-pub record Collected {X : Type 0} (P : List (List ℕ) → X → Type 0) (seen : List X)
-    (old now : List (List ℕ)) : Type 0 where
+pub record Collected {X : Type 0} (P : Keys → X → Type 0) (seen : List X)
+    (old now : Keys) : Type 0 where
   pub extends : Extends old now
   pub holds : (x : X) → Contains seen x → P now x
 
 -- at the start nothing was seen
-pub collected_none : {X : Type 0} (P : List (List ℕ) → X → Type 0) (keys : List (List ℕ))
+pub collected_none : {X : Type 0} (P : Keys → X → Type 0) (keys : Keys)
     → Collected P [] keys keys
 collected_none P keys =
     record { extends = Extends-refl keys; holds = λ x there. absurd (omega (arith, there.1)) }
 
 -- one more item
-pub collected_more : {X : Type 0} (P : List (List ℕ) → X → Type 0) → Stays P → (seen : List X)
-    (x : X) (old now new : List (List ℕ)) → Collected P seen old now → Extends now new → P new x
+pub collected_more : {X : Type 0} (P : Keys → X → Type 0) → Stays P → (seen : List X)
+    (x : X) (old now new : Keys) → Collected P seen old now → Extends now new → P new x
     → Collected P (seen ++ x ∷ []) old new
 collected_more P stays seen x old now new so_far more holds = record {
   extends = Extends-trans old now new so_far.extends more;

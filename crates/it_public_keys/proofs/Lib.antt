@@ -1,5 +1,11 @@
+pub mod Ed25519Tests
 pub mod Extending
 pub mod Holding
+pub mod KeyTexts
+pub mod KeysRead
+pub mod Names
+pub mod P256Tests
+pub mod RsaTests
 pub mod Schemes
 pub mod Staying
 pub mod Tables

@@ -1,15 +1,11 @@
 -- What holds of a table holds of each table that extends it.
-use Rattle.std.proofs.Common.{ℕ, List}
-use Rattle.it_base.specs.Table.{Named}
-use Rattle.it_docs.specs.declared.policy.Expectation.{Expectation}
-use Rattle.it_dsse.specs.declared.key_object.KeyObject.{KeyObject}
 use Rattle.it_public_keys.specs.Collected.{HoldsBuilders, HoldsKeys, HoldsLayout, HoldsPolicy}
 use Rattle.it_public_keys.specs.KeyTable.{HoldsKey}
 use Rattle.it_public_keys.proofs.Extending.{Extends-contains, Stays}
 
 pub HoldsKey-stays : Stays HoldsKey
 HoldsKey-stays old new more object holds =
-    λ bytes is key. Extends-contains old new more bytes (holds bytes is key)
+    λ key is good. Extends-contains old new more key (holds key is good)
 
 pub HoldsKeys-stays : Stays HoldsKeys
 HoldsKeys-stays old new more objects holds =

@@ -1,65 +1,16 @@
--- The test of a signature beside its definition.
-use Rattle.std.proofs.Common.{◌≡◌, ◌↔◌, ℕ, ◌<◌, List, Option, Some, None, Bool, true, false, ◌&&◌}
-use Rattle.std.proofs.Common.{IsTrue, length, take, drop, option_map, refl, sym, ap, ◌∙◌, unwrap_or}
-use Rattle.std.specs.Bool.{nat_eq, nat_lt}
-use Rattle.std.specs.Str.{bytes_eq}
-use Rattle.std.proofs.lemmas.Bool.{and_from, and_parts, eq-eqb, eqb-true, lt-ltb, ltb-true}
-use Rattle.std.proofs.lemmas.Slice.Eq.{bytes_eq-Decides}
-use Rattle.it_numbers.specs.Bytes.{little}
-use Rattle.it_ed_scalar.specs.Order.{order}
-use Rattle.it_ed_point.specs.Encoding.{decoded, encoding_of}
-use Rattle.it_ed_point.specs.declared.point.Point.{Point}
-use Rattle.it_ed25519.specs.Signature.{IsSignature, challenge_of, combination_of}
-use Rattle.it_public_keys.specs.Validity.{is_signature_of, is_signature_under}
+-- The test of a signature beside its definition, by the kind of the key.
+use Rattle.std.proofs.Common.{◌↔◌, ℕ, List, IsTrue}
+use Rattle.sha2.specs.Sha256.{sha256}
+use Rattle.it_public_keys.specs.Keys.{IsSignature}
+use Rattle.it_public_keys.specs.Validity.{is_signature_of}
+use Rattle.it_public_keys.specs.declared.key.Key.{Key}
+use Rattle.it_public_keys.specs.declared.key.Key.TheVariants.{Ed25519, P256, Rsa}
+use Rattle.it_public_keys.proofs.Ed25519Tests.{ed25519_decides}
+use Rattle.it_public_keys.proofs.P256Tests.{p256_decides}
+use Rattle.it_public_keys.proofs.RsaTests.{rsa_decides}
 
--- a test that is true of the key's point shows a signature
-shown : (key message signature : List ℕ) (point : Point) → decoded key ≡ Some point
-    → is_signature_under key message signature point ≡ true → IsSignature key message signature
-unfolding is_signature_under
-shown key message signature point decodes passes =
-    let first = and_parts _ _ passes in
-    let second = and_parts _ _ first.1 in
-    record {
-      point = point;
-      decodes = decodes;
-      long = eqb-true _ _ first.0;
-      below = ltb-true _ _ second.0;
-      agrees = (bytes_eq-Decides _ _).0 second.1;
-    }
-
--- and a signature passes it
-passed : (key message signature : List ℕ) → (signed : IsSignature key message signature)
-    → is_signature_under key message signature signed.point ≡ true
-unfolding is_signature_under
-passed key message signature signed =
-    and_from _ _ (eq-eqb _ _ signed.long)
-    (and_from _ _ (lt-ltb _ _ signed.below) ((bytes_eq-Decides _ _).1 signed.agrees))
-
-test_shows : (key message signature : List ℕ) (found : Option Point) → decoded key ≡ found
-    → IsTrue (unwrap_or (option_map (is_signature_under key message signature) found) false)
-    → IsSignature key message signature
-test_shows key message signature None e passes = absurd (let bad : false ≡ true = passes in cc)
-test_shows key message signature (Some point) e passes = shown key message signature point e passes
-
-pub test_is_signature : (key message signature : List ℕ)
+pub test_is_signature : (key : Key) (message signature : List ℕ)
     → IsTrue (is_signature_of key message signature) ↔ IsSignature key message signature
-test_is_signature key message signature = (
-  λ passes. test_shows key message signature (decoded key) refl passes,
-  λ signed. rw signed.decodes (passed key message signature signed),
-)
-
-not_test : (b : Bool) → (b ≡ true → false ≡ true) → false ≡ b
-not_test true refuses = refuses refl
-not_test false refuses = refl
-
--- an answer that is true exactly of signatures is the test's
-pub answer_is_test : (key message signature : List ℕ) (answer : Bool)
-    → IsTrue answer ↔ IsSignature key message signature
-    → answer ≡ is_signature_of key message signature
-answer_is_test key message signature true both =
-    let test = test_is_signature key message signature in
-    let passes : IsTrue (is_signature_of key message signature) = test.1 (both.0 refl) in
-    sym passes
-answer_is_test key message signature false both =
-    let test = test_is_signature key message signature in
-    not_test (is_signature_of key message signature) (λ passes. both.1 (test.0 passes))
+test_is_signature (Ed25519 bytes) message signature = ed25519_decides bytes message signature
+test_is_signature (P256 key) message signature = p256_decides key (sha256 message) signature
+test_is_signature (Rsa key) message signature = rsa_decides key (sha256 message) signature

@@ -16,39 +16,40 @@ use Rattle.it_docs.specs.declared.policy.Policy.{Policy}
 use Rattle.it_dsse.specs.Envelope.{EnvelopeOf}
 use Rattle.it_dsse.specs.declared.envelope.Envelope.{Envelope}
 use Rattle.it_dsse.specs.declared.key_object.KeyObject.{KeyObject}
+use Rattle.it_public_keys.specs.Keys.{Keys}
 use Rattle.it_public_keys.specs.KeyTable.{HoldsKey, IsKeyTable}
 
 -- the table has the keys of all of these objects
-abbrev pub HoldsKeys : List (List ℕ) → Named KeyObject → Type 0
+abbrev pub HoldsKeys : Keys → Named KeyObject → Type 0
 HoldsKeys keys objects =
     (id : List ℕ) (object : KeyObject) → get objects id ≡ Some object → HoldsKey keys object
 
 -- the keys of an expectation's builders
-abbrev pub HoldsBuilders : List (List ℕ) → Expectation → Type 0
+abbrev pub HoldsBuilders : Keys → Expectation → Type 0
 HoldsBuilders keys expectation =
     (builder : Builder) → Contains expectation.builders builder → HoldsKeys keys builder.keys
 
 -- the keys of a policy: of its owners, and of its builders
-pub record HoldsPolicy (keys : List (List ℕ)) (policy : Policy) : Type 0 where
+pub record HoldsPolicy (keys : Keys) (policy : Policy) : Type 0 where
   pub owners : HoldsKeys keys policy.owners
   pub builders : (expectation : Expectation) → Contains policy.expectations expectation
       → HoldsBuilders keys expectation
 
 -- the keys of the layout that the bytes are an envelope of, if they are
-abbrev pub HoldsLayout : List (List ℕ) → List ℕ → Type 0
+abbrev pub HoldsLayout : Keys → List ℕ → Type 0
 HoldsLayout keys bytes =
     (envelope : Envelope) (layout : Layout) → EnvelopeOf bytes envelope
     → LayoutOf envelope.payload layout → HoldsKeys keys layout.keys
 
 -- all keys that a verification of these inputs could ask for
-pub record HoldsAll (keys : List (List ℕ)) (policy layout : List ℕ) (links : Contents) : Type 0
+pub record HoldsAll (keys : Keys) (policy layout : List ℕ) (links : Contents) : Type 0
   where
     pub of_policy : (read : Policy) → PolicyOf policy read → HoldsPolicy keys read
     pub of_layout : HoldsLayout keys layout
     pub of_files : (file : File) → Contains (all_files links) file → HoldsLayout keys file.bytes
 
 -- no table where none is wanted, and else one with all of these keys
-abbrev pub IsTableFor : Bool → List ℕ → List ℕ → Contents → Option (List (List ℕ)) → Type 0
+abbrev pub IsTableFor : Bool → List ℕ → List ℕ → Contents → Option Keys → Type 0
 IsTableFor false policy layout links table = table ≡ None
 IsTableFor true policy layout links table =
     MatchOption table ⊥ (λ keys. IsKeyTable keys × HoldsAll keys policy layout links)

@@ -1,13 +1,27 @@
--- Which key objects stand for a public key (in-toto 1.0 section 4.2; the form of an Ed25519 key is
--- the one of in-toto's own tools).
-use Rattle.std.specs.Prelude.{ℕ, List, Option, None, codes, if◌then◌else◌}
+-- Which key objects describe a public key (in-toto 1.0 section 4.2; the forms are those of tools of
+-- in-toto).
+use Rattle.std.specs.Prelude.{ℕ, List, Bool, false, ◌&&◌, Option, Some, None, codes}
 use Rattle.std.specs.Result.{result_ok}
 use Rattle.std.specs.Str.{bytes_eq}
 use Rattle.hex.specs.Hex.{decode_sized}
 use Rattle.it_dsse.specs.declared.key_object.KeyObject.{KeyObject}
+use Rattle.it_p256.specs.Key.{info_of as p256_info}
+use Rattle.it_pem.specs.PublicKeyText.{info_in}
+use Rattle.it_rsa.specs.Info.{info_of as rsa_info}
+use Rattle.it_public_keys.specs.declared.key.Key.{Key}
+use Rattle.it_public_keys.specs.declared.key.Key.TheVariants.{Ed25519, P256, Rsa}
 
--- the 32 bytes that an object of the scheme ed25519 writes in 64 hexadecimal digits, in either case
-abbrev pub bytes_in : KeyObject → Option (List ℕ)
-bytes_in object =
-    if bytes_eq object.scheme (codes "ed25519") then result_ok (decode_sized object.public 32)
-    else None
+-- the bytes that were found are these
+abbrev pub are_bytes : Option (List ℕ) → List ℕ → Bool
+are_bytes None bytes = false
+are_bytes (Some found) bytes = bytes_eq found bytes
+
+-- the object has the scheme of the key's kind, and writes the key: one of Ed25519 in 64 hexadecimal
+-- digits, in either case, and each other one by a PEM text of its SubjectPublicKeyInfo
+abbrev pub describes : KeyObject → Key → Bool
+describes object (Ed25519 bytes) = bytes_eq object.scheme (codes "ed25519")
+    && are_bytes (result_ok (decode_sized object.public 32)) bytes
+describes object (P256 key) = bytes_eq object.scheme (codes "ecdsa-sha2-nistp256")
+    && are_bytes (info_in object.public) (p256_info key)
+describes object (Rsa key) = bytes_eq object.scheme (codes "rsassa-pss-sha256")
+    && are_bytes (info_in object.public) (rsa_info key)

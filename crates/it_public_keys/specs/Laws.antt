@@ -1,26 +1,32 @@
 -- What is shown of these definitions.
-use Rattle.std.specs.Prelude.{◌≡◌, ◌↔◌, ℕ, List, None, IsTrue, codes}
+use Rattle.std.specs.Prelude.{◌≡◌, ◌↔◌, ◌⊎◌, ℕ, List, None, IsTrue, codes}
 use Rattle.it_dsse.specs.Ring.{ring_check}
 use Rattle.it_dsse.specs.declared.key_object.KeyObject.{KeyObject}
 use Rattle.it_dsse.specs.declared.ring_entry.RingEntry.{RingEntry}
-use Rattle.it_ed25519.specs.Signature.{IsSignature}
+use Rattle.it_public_keys.specs.Keys.{IsSignature, Keys}
 use Rattle.it_public_keys.specs.KeyTable.{key_check}
 use Rattle.it_public_keys.specs.Validity.{is_signature_of}
+use Rattle.it_public_keys.specs.declared.key.Key.{Key}
 
 -- the test is true exactly of signatures
 abbrev pub TestIsSignature : Type 0
 TestIsSignature =
-    (key message signature : List ℕ)
+    (key : Key) (message signature : List ℕ)
     → IsTrue (is_signature_of key message signature) ↔ IsSignature key message signature
 
--- no ring knows an object of the scheme of public keys
+-- one of the schemes of public keys
+abbrev pub IsPublicScheme : List ℕ → Type 0
+IsPublicScheme scheme = (scheme ≡ codes "ed25519") ⊎ (scheme ≡ codes "ecdsa-sha2-nistp256")
+    ⊎ (scheme ≡ codes "rsassa-pss-sha256")
+
+-- no ring knows an object of a scheme of public keys
 abbrev pub NoRingKnowsPublicKeys : Type 0
 NoRingKnowsPublicKeys =
     (ring : List RingEntry) (id : List ℕ) (object : KeyObject)
-    → object.scheme ≡ codes "ed25519" → (ring_check ring).key_of id object ≡ None
+    → IsPublicScheme object.scheme → (ring_check ring).key_of id object ≡ None
 
 -- and no table knows an object of a ring's, so their order in a panel makes no difference
 abbrev pub NoTableKnowsSecrets : Type 0
 NoTableKnowsSecrets =
-    (keys : List (List ℕ)) (id : List ℕ) (object : KeyObject)
+    (keys : Keys) (id : List ℕ) (object : KeyObject)
     → object.scheme ≡ codes "hmac-sha256" → (key_check keys).key_of id object ≡ None

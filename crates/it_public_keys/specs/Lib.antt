@@ -1,7 +1,11 @@
 pub mod AnyCheck
 pub mod Collected
+pub mod Ed25519Test
 pub mod KeyTable
 pub mod KeyText
+pub mod Keys
 pub mod Laws
+pub mod P256Test
+pub mod RsaTest
 pub mod Validity
 pub mod inside

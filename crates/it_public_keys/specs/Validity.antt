@@ -1,21 +1,18 @@
--- Whether a signature is valid, as a test (RFC 8032, section 5.1.7).
-use Rattle.std.specs.Prelude.{ℕ, List, Bool, false, ◌&&◌, nat_eq, nat_lt, length, take, drop}
-use Rattle.std.specs.Prelude.{option_map, unwrap_or}
-use Rattle.std.specs.Str.{bytes_eq}
-use Rattle.it_numbers.specs.Bytes.{little}
-use Rattle.it_ed_scalar.specs.Order.{order}
-use Rattle.it_ed_point.specs.Encoding.{decoded, encoding_of}
-use Rattle.it_ed_point.specs.declared.point.Point.{Point}
-use Rattle.it_ed25519.specs.Signature.{challenge_of, combination_of}
+-- Whether a signature is valid, as a test, by the kind of the key.
+use Rattle.std.specs.Prelude.{ℕ, List, Bool}
+use Rattle.sha2.specs.Sha256.{sha256}
+use Rattle.it_public_keys.specs.Ed25519Test.{is_ed25519_signature}
+use Rattle.it_public_keys.specs.P256Test.{is_p256_signature}
+use Rattle.it_public_keys.specs.RsaTest.{is_rsa_signature}
+use Rattle.it_public_keys.specs.declared.key.Key.{Key}
+use Rattle.it_public_keys.specs.declared.key.Key.TheVariants.{Ed25519, P256, Rsa}
 
--- the signature is that of the message under the key of this point and these bytes
-unfoldable pub is_signature_under : List ℕ → List ℕ → List ℕ → Point → Bool
-is_signature_under key message signature point =
-    nat_eq (length signature) 64 && (nat_lt (little (drop 32 signature)) order
-    && bytes_eq (encoding_of (combination_of point (little (drop 32 signature))
-    (challenge_of (take 32 signature) key message))) (take 32 signature))
+-- of a message, or of what has the digest, as the kind has it
+abbrev pub is_signature_with : Key → List ℕ → List ℕ → List ℕ → Bool
+is_signature_with (Ed25519 bytes) digest message sig = is_ed25519_signature bytes message sig
+is_signature_with (P256 key) digest message sig = is_p256_signature key digest sig
+is_signature_with (Rsa key) digest message sig = is_rsa_signature key digest sig
 
--- and the bytes encode such a point
-abbrev pub is_signature_of : List ℕ → List ℕ → List ℕ → Bool
-is_signature_of key message signature =
-    unwrap_or (option_map (is_signature_under key message signature) (decoded key)) false
+-- the digest is the message's SHA-256
+abbrev pub is_signature_of : Key → List ℕ → List ℕ → Bool
+is_signature_of key message sig = is_signature_with key (sha256 message) message sig

@@ -1,1 +1,3 @@
+pub mod KeyTexts
+pub mod Names
 pub mod Places

@@ -45,6 +45,22 @@ pub fn public_keys_of(
     Ok(keys)
 }
 
+impl PublicKeys {
+    /// A table of the public keys that objects describe. An object that describes none adds none.
+    ///
+    /// # Errors
+    ///
+    /// `AllocError` where memory was refused, or there are 4,294,967,295 keys.
+    pub fn of(alloc: Global, objects: &Table<KeyObject>) -> Result<PublicKeys, AllocError>
+        ensures table { IfOk result (λ keys. IsKeyTable keys) }
+        ensures holds { IfOk result (λ keys. HoldsKeys keys objects.now) }
+    {
+        let keys = with_keys(PublicKeys::new(alloc), objects)?;
+        keys.is_key_table();
+        Ok(keys)
+    }
+}
+
 /// The table of `public_keys_of`, where one is wanted.
 ///
 /// # Errors

@@ -3,8 +3,11 @@
 
 pub mod any_check;
 mod collecting;
+pub mod key;
 mod key_text;
 pub mod laws;
+mod name;
+mod prepared;
 mod table;
 
 pub use collecting::{public_keys_of, table_if};

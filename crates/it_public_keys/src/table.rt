@@ -1,35 +1,42 @@
 //! The table of public keys, and the check that it is.
-ghost use Rattle.std.specs.Prelude.{◌≡◌, ◌∷◌, ◌++◌, [], Contains, IfOk, None, false, option_map};
-ghost use Rattle.std.specs.Prelude.{position, unwrap_or};
+ghost use Rattle.std.specs.Prelude.{◌≡◌, ◌∷◌, ◌++◌, [], ℕ, List, IfOk, None, false, map};
+ghost use Rattle.std.specs.Prelude.{option_map, position, slice_get, unwrap_or};
 ghost use Rattle.std.specs.Str.{bytes_eq};
 ghost use Rattle.it_dsse.specs.Joined.{joined};
-ghost use Rattle.it_ed25519.specs.PublicKey.{IsPublicKey};
 ghost use Rattle.it_public_keys.specs.KeyTable.{Extends, HoldsKey, IsKeyTable};
-ghost use Rattle.it_public_keys.specs.Validity.{is_signature_of};
+ghost use Rattle.it_public_keys.specs.Keys.{IsKey};
+ghost use Rattle.it_public_keys.specs.Validity.{is_signature_of, is_signature_with};
+ghost use Rattle.it_public_keys.specs.inside.KeyTexts.{HoldsText, key_name};
 
-use crate::key_text::bytes_in;
+use crate::key::Key;
+use crate::key_text::{KeyText, name_in};
+use crate::name::Name;
+use crate::prepared::Prepared;
 use it_dsse::check::SignatureCheck;
+use it_dsse::envelope::Signature;
 use it_dsse::key_object::KeyObject;
 use it_dsse::meter::Meter;
-use it_ed25519::{PublicKey, is_signature};
 use std::alloc::{AllocError, Global};
 use std::collections::BTreeMap;
 use std::marker::Model;
 
-/// Public keys under numbers, which check signatures by Ed25519 (RFC 8032). A contract sees the
-/// list of the keys' bytes, in which none stands twice; a key's number is its place.
+/// Public keys under numbers, which check signatures by Ed25519 (RFC 8032), by ECDSA over P-256
+/// (FIPS 186-5) and by RSASSA-PSS (RFC 8017). A contract sees the list of the keys, in which none
+/// stands twice; a key's number is its place.
 #[derive(Drop)]
 pub struct PublicKeys {
-    keys: Vec<PublicKey>,
-    places: BTreeMap<[u8; 32], u32>,
+    keys: Vec<Key>,
+    places: BTreeMap<[u8; 560], u32>,
 }
 
 impl Model for PublicKeys {
-    ghost use Rattle.std.specs.Prelude.{◌<◌, ◌^◌, ℕ, List, length};
+    ghost use Rattle.std.specs.Prelude.{◌<◌, ◌^◌, List, length};
+    ghost use Rattle.it_public_keys.specs.declared.key.Key.{Key};
+
+    ghost Value = { List Key };
+
     ghost use Rattle.it_public_keys.specs.KeyTable.{IsKeyTable};
     ghost use Rattle.it_public_keys.specs.inside.Places.{ArePlaces};
-
-    ghost Value = { List (List ℕ) };
 
     ghost view = { λ table. table.keys.items };
 
@@ -58,30 +65,34 @@ impl PublicKeys {
         ensures holds { IfOk result (λ table. HoldsKey table object.now) }
         ensures extends { IfOk result (Extends self) }
     {
-        match bytes_in(object) {
-            Some(bytes) => self.with_bytes(&bytes),
+        match KeyText::of(object) {
+            Some(text) => self.with_text(&text),
             None => Ok(self),
         }
     }
 
     /// The table with the key of these bytes, if they are one's.
-    fn with_bytes(self, bytes: &[u8; 32]) -> Result<PublicKeys, AllocError>
-        ensures holds { IfOk result (λ table. IsPublicKey bytes.now → Contains table bytes.now) }
+    fn with_text(self, text: &KeyText) -> Result<PublicKeys, AllocError>
+        ensures holds { IfOk result (HoldsText text.now) }
         ensures extends { IfOk result (Extends self) }
     {
-        if self.places.contains_key(bytes) {
+        let Some(name) = text.name() else {
+            return Ok(self);
+        };
+        if self.places.contains_key(&name) {
             return Ok(self);
         }
-        match PublicKey::from_bytes(bytes) {
-            Some(key) => self.with_new(key),
+        match text.key() {
+            Some(key) => self.with_new(key, name),
             None => Ok(self),
         }
     }
 
     /// The table with one key more, which it does not have.
-    fn with_new(self, key: PublicKey) -> Result<PublicKeys, AllocError>
-        requires is_new { position (bytes_eq key) self ≡ None }
-        requires is_key { IsPublicKey key }
+    fn with_new(self, key: Key, name: Name) -> Result<PublicKeys, AllocError>
+        requires is_key { IsKey key }
+        requires is_name { name ≡ key_name key }
+        requires is_new { position (bytes_eq name) (map key_name self) ≡ None }
         ensures { IfOk result (λ table. table ≡ self ++ key ∷ []) }
     {
         let PublicKeys {
@@ -94,7 +105,7 @@ impl PublicKeys {
         if place == u32::MAX {
             return Err(AllocError);
         }
-        places.insert(*key.as_bytes(), place)?;
+        places.insert(name, place)?;
         keys.push(key)?;
         Ok(PublicKeys { keys, places })
     }
@@ -106,22 +117,30 @@ impl PublicKeys {
         let _count = self.keys.len();
     }
 
-    /// The place of a key.
-    fn place_of(&self, bytes: &[u8; 32]) -> Option<u32>
-        ensures { result ≡ position (bytes_eq bytes.now) self.now }
+    /// The place of the key of a name.
+    fn place_of(&self, name: &Name) -> Option<u32>
+        ensures { result ≡ position (bytes_eq name.now) (map key_name self.now) }
     {
-        self.places.get(bytes).copied()
+        self.places.get(name).copied()
     }
-}
 
-/// Whether the signature is that of the message that the parts make, under the key.
-fn is_signed_under(key: Option<&PublicKey>, message: &[&[u8]], sig: &[u8]) -> bool
-    ensures { result ≡ unwrap_or (option_map
-        (λ found. is_signature_of found.now (joined message.now) sig.now) key.entry) false }
-{
-    match key {
-        Some(key) => is_signature(key, message, sig),
-        None => false,
+    /// The key at a place, with what is computed once of a message.
+    fn prepared(&self, place: u32, message: &[&[u8]]) -> Prepared<'_>
+        ensures { (sig : List ℕ) → unwrap_or (option_map
+            (λ key. is_signature_with key.now result.digest (joined message.now) sig) result.key)
+            false ≡ unwrap_or (option_map (λ key. is_signature_of key (joined message.now) sig)
+            (slice_get self.now place)) false }
+    {
+        match self.keys.get(place as usize) {
+            Some(key) => Prepared {
+                key: Some(key),
+                digest: key.digest(message),
+            },
+            None => Prepared {
+                key: None,
+                digest: [0; 32],
+            },
+        }
     }
 }
 
@@ -132,15 +151,28 @@ impl SignatureCheck for PublicKeys {
 
     /// The place of the key that the object describes, whatever its id is.
     fn key(&self, _id: &str, object: &KeyObject) -> Option<u32> {
-        match bytes_in(object) {
-            Some(bytes) => self.place_of(&bytes),
+        self.is_key_table();
+        match name_in(object) {
+            Some(name) => self.place_of(&name),
             None => None,
         }
     }
 
-    /// Whether `sig` is the Ed25519 signature of the joined message under the key at a place.
+    /// Whether `sig` is the signature of the joined message under the key at a place, by its kind.
     fn valid(&self, key: u32, message: &[&[u8]], sig: &[u8], meter: &mut Meter) -> bool {
-        meter.raise();
-        is_signed_under(self.keys.get(key as usize), message, sig)
+        self.prepared(key, message).valid(key, message, sig, meter)
+    }
+
+    /// The message is hashed once for all the signatures.
+    fn any_valid(
+        &self,
+        key: u32,
+        message: &[&[u8]],
+        signatures: &[Signature],
+        id: &str,
+        meter: &mut Meter,
+    ) -> bool {
+        self.prepared(key, message)
+            .any_valid(key, message, signatures, id, meter)
     }
 }

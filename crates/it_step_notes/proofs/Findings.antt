@@ -1,5 +1,5 @@
 -- What was found, and what was not.
-use Rattle.std.proofs.Common.{◌≡◌, ◌↔◌, IsTrue, Option, Some, None, is_some, refl}
+use Rattle.std.proofs.Common.{◌↔◌, IsTrue, Option, Some, None, is_some, refl}
 use Rattle.it_base.specs.Finds.{Finds}
 
 -- something was found exactly where there is something to find

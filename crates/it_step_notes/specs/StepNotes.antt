@@ -2,10 +2,11 @@
 -- step is said in in-toto 1.0 sections 4.4 and 5.2).
 use Rattle.std.specs.Prelude.{◌≡◌, ◌≢◌, ℕ, List, [], ◌++◌, None, All, Any, Contains}
 use Rattle.std.specs.Prelude.{IsTrue, codes, nat_eq}
-use Rattle.std.specs.FinMap.{get}
+use Rattle.std.specs.FinMap.{get, keys}
 use Rattle.std.specs.List.{ends_with, starts_with}
 use Rattle.it_dsse.specs.Panel.{Panel}
 use Rattle.it_dsse.specs.Envelope.{EnvelopeOf}
+use Rattle.it_dsse.specs.Signed.{AreThose}
 use Rattle.it_dsse.specs.declared.envelope.Envelope.{Envelope}
 use Rattle.it_docs.specs.Layout.{LayoutOf}
 use Rattle.it_docs.specs.Link.{LinkOf}
@@ -18,7 +19,7 @@ use Rattle.it_chain.specs.ClaimedFiles.{IsClaimed}
 use Rattle.it_chain.specs.CountedBodies.{Body, BodyOf}
 use Rattle.it_chain.specs.Sublayouts.{folder_name}
 use Rattle.it_chain.specs.declared.bundle.File.{File}
-use Rattle.it_step_notes.specs.Signing.{IsSignedUnder}
+use Rattle.it_step_notes.specs.Signing.{IsNamedSigner, IsSignedUnder}
 use Rattle.it_step_notes.specs.declared.note.Finding.{Finding}
 use Rattle.it_step_notes.specs.declared.note.Finding.TheVariants.{NoEnvelope, PayloadType}
 use Rattle.it_step_notes.specs.declared.note.Finding.TheVariants.{NoSignature, Counts}
@@ -65,12 +66,12 @@ module _ (panel : Panel) (layout : Layout) (step : Step) where
     pub listed : All (Contains step.pubkeys) ids
     pub signed : All (IsSignedUnder panel layout envelope) ids
 
-  -- the envelope is signed under no id that the step lists, and is signed under these others
+  -- the envelope is signed under no id that the step lists; of the layout's ids, each of which
+  -- stands there once, these others are those that its signatures name and under which it is signed
   pub record IsUnsigned (envelope : Envelope) (others : List (List ℕ)) : Type 0 where
     pub unsigned : (id : List ℕ) → Contains step.pubkeys id
         → ¬ IsSignedUnder panel layout envelope id
-    pub unlisted : All (λ id. ¬ Contains step.pubkeys id) others
-    pub signed : All (IsSignedUnder panel layout envelope) others
+    pub others_are : AreThose (IsNamedSigner panel layout envelope) (keys layout.keys) others
 
   -- what an envelope is for the step
   abbrev pub IsFindingOf : Envelope → Finding → Type 0

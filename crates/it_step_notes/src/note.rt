@@ -10,7 +10,8 @@ pub enum Finding {
     /// The payload type of its envelope is this one, and not that of in-toto.
     PayloadType(Text),
     /// It has no valid signature of a key id that the step lists and the layout has a key for. It
-    /// is signed under these key ids of the layout, which the step does not list.
+    /// is signed under these key ids of the layout, each once, which its signatures name and the
+    /// step does not list.
     NoSignature(Sequence<Text>),
     /// Its payload is neither a link nor a layout.
     NeitherLinkNorLayout,

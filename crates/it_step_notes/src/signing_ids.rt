@@ -1,14 +1,15 @@
-//! Which key ids of a step signed an envelope.
-ghost use Rattle.std.specs.Prelude.{◌↔◌, All, IfOk, IsTrue, map};
+//! Which key ids of a step, and which other ones, signed an envelope.
+ghost use Rattle.std.specs.Prelude.{◌≡◌, ◌↔◌, Any, IfOk, IsTrue, map};
+ghost use Rattle.std.specs.FinMap.{keys};
 ghost use Rattle.it_dsse.specs.Panel.{panel_of};
 ghost use Rattle.it_dsse.specs.Signed.{AreThose};
-ghost use Rattle.it_step_notes.specs.Signing.{IsSignedUnder};
+ghost use Rattle.it_step_notes.specs.Signing.{IsNamedSigner, IsSignedUnder};
 
 use crate::step_at::StepAt;
 use it_base::text::Text;
 use it_docs::layout::Layout;
 use it_dsse::check::SignatureCheck;
-use it_dsse::envelope::Envelope;
+use it_dsse::envelope::{Envelope, Signature};
 use it_dsse::is_signer;
 use it_dsse::meter::Meter;
 use std::alloc::{AllocError, Global};
@@ -32,25 +33,46 @@ pub(crate) fn signing_ids(
     Ok(ids)
 }
 
-/// Those of the key ids that the signatures of the envelope name which signed it by the layout's
-/// keys.
+/// Those of the layout's key ids that the signatures of the envelope name and by whose keys it is
+/// signed, each once, in the order of their bytes.
 pub(crate) fn other_ids(
     alloc: Global,
     at: &StepAt,
     envelope: &Envelope,
     panel: &[Box<dyn SignatureCheck>],
 ) -> Result<Vec<Text>, AllocError>
-    ensures { IfOk result (λ ids. All (IsSignedUnder (panel_of (map meaning panel.now))
-        at.now.layout.now envelope.now) ids.items) }
+    ensures { IfOk result (λ ids. AreThose (IsNamedSigner (panel_of (map meaning panel.now))
+        at.now.layout.now envelope.now) (keys at.now.layout.now.keys) ids.items) }
 {
     let mut ids = Vec::new(alloc);
-    for signature in envelope.signatures.as_slice() {
-        let id = signature.keyid.as_str();
-        if is_signed_under(at.layout, envelope, id, panel) {
-            ids.push(Text::copy(alloc, id)?)?;
+    for (id, _) in at.layout.keys.iter() {
+        if is_named_signer(at.layout, envelope, id.as_str(), panel) {
+            ids.push(Text::copy(alloc, id.as_str())?)?;
         }
     }
     Ok(ids)
+}
+
+/// Whether a signature of the envelope names a key id of the layout under which it is signed.
+fn is_named_signer(
+    layout: &Layout,
+    envelope: &Envelope,
+    id: &str,
+    panel: &[Box<dyn SignatureCheck>],
+) -> bool
+    ensures { IsTrue result
+        ↔ IsNamedSigner (panel_of (map meaning panel.now)) layout.now envelope.now id.now }
+{
+    is_named(envelope.signatures.as_slice(), id) && is_signed_under(layout, envelope, id, panel)
+}
+
+/// Whether one of the signatures names a key id.
+fn is_named(signatures: &[Signature], id: &str) -> bool
+    ensures { IsTrue result ↔ Any (λ signature. signature.keyid ≡ id.now) signatures.now }
+{
+    signatures
+        .iter()
+        .any(|signature| signature.keyid.as_str() == id)
 }
 
 /// Whether the envelope is signed under a key id of the layout.

@@ -1,3 +1,4 @@
 pub mod Adding
 pub mod CommandLemmas
 pub mod Missing
+pub mod Only

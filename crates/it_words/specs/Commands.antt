@@ -11,11 +11,11 @@ use Rattle.it_words.specs.Arguments.{
   plain_options,
 }
 
--- signed ENVELOPE --ring F
+-- signed ENVELOPE, and one of --ring F and --keys F
 abbrev pub signed_command : App
 signed_command =
-    with_rule (with_rule (new_app (codes "signed")) (needed_word (codes "envelope")))
-    (needed_option (codes "ring"))
+    with_rule (with_rule (with_rule (new_app (codes "signed")) (needed_word (codes "envelope")))
+    (plain_option (codes "ring"))) (plain_option (codes "keys"))
 
 -- match PATTERN PATH
 abbrev pub match_command : App
@@ -29,16 +29,26 @@ pae_command =
     with_rule (with_rule (new_app (codes "pae")) (needed_word (codes "body")))
     (needed_option (codes "type"))
 
--- sign BODY --ring F --key ID --type TYPE, and what may be left out: --onto ENVELOPE
+-- sign BODY --key ID --type TYPE, either --ring F or --signature SIG --keys F, and what may be left
+-- out: --onto ENVELOPE
 abbrev pub sign_command : App
 sign_command =
-    with_rule (with_rule (with_rule (with_rule (with_rule (new_app (codes "sign"))
-    (needed_word (codes "body"))) (needed_option (codes "ring")))
+    with_rule (with_rule (with_rule (with_rule (with_rule (with_rule (with_rule
+    (new_app (codes "sign")) (needed_word (codes "body"))) (plain_option (codes "ring")))
+    (plain_option (codes "signature"))) (plain_option (codes "keys")))
     (needed_option (codes "key"))) (needed_option (codes "type"))) (plain_option (codes "onto"))
 
--- digest FILE..
+-- digest PATH.., and what may be left out: --recursive
 abbrev pub digest_command : App
-digest_command = with_rule (new_app (codes "digest")) (needed_words (codes "file"))
+digest_command =
+    with_rule (with_rule (new_app (codes "digest")) (needed_words (codes "path")))
+    (bare_option (codes "recursive"))
+
+-- key FILE.., and what may be left out: --name ID
+abbrev pub key_command : App
+key_command =
+    with_rule (with_rule (new_app (codes "key")) (needed_words (codes "file")))
+    (plain_option (codes "name"))
 
 -- link --name NAME, and what may be left out: --materials SUMS --products SUMS
 abbrev pub link_command : App
@@ -59,7 +69,7 @@ abbrev pub payload_command : App
 payload_command = with_rule (new_app (codes "payload")) (needed_word (codes "envelope"))
 
 -- verify --policy F --layout F --links DIR --sums F --at MOMENT, and what may be left out:
--- --ring F.. --public-keys --provenance F --records DIR --depth N
+-- --ring F.. --public-keys --json --provenance F --records DIR --depth N
 abbrev pub needed_of_verify : App
 needed_of_verify =
     with_rule (with_rule (with_rule (with_rule (with_rule (new_app (codes "verify"))
@@ -69,9 +79,10 @@ needed_of_verify =
 
 abbrev pub verify_command : App
 verify_command =
-    with_rule (with_rule (with_rule (with_rule (with_rule needed_of_verify
+    with_rule (with_rule (with_rule (with_rule (with_rule (with_rule needed_of_verify
     (plain_options (codes "ring"))) (bare_option (codes "public-keys")))
-    (plain_option (codes "provenance"))) (plain_option (codes "records"))) depth_option
+    (bare_option (codes "json"))) (plain_option (codes "provenance")))
+    (plain_option (codes "records"))) depth_option
 
 -- the program: a command has to be named, and no word asks for help
 abbrev pub without_command : App
@@ -83,11 +94,12 @@ without_command = record (new_app (codes "itv")) {
   };
 }
 
--- the program with the commands that read one file or two words
+-- the program with the commands that look at files alone, or at two words
 unfoldable pub reading_program : App
 reading_program =
-    with_subcommand (with_subcommand (with_subcommand (with_subcommand without_command
-    signed_command.top) match_command.top) pae_command.top) payload_command.top
+    with_subcommand (with_subcommand (with_subcommand (with_subcommand (with_subcommand
+    without_command signed_command.top) match_command.top) pae_command.top) payload_command.top)
+    key_command.top
 
 -- the program with all of its commands
 unfoldable pub program : App

@@ -12,6 +12,7 @@ use Rattle.std.specs.Prelude.{
   nat_lt,
   Option,
   Some,
+  None,
   MatchOption,
   codes,
   unwrap_or,
@@ -20,19 +21,32 @@ use Rattle.std.specs.Str.Parse.{IsNumeral, digits_value, without_leading_plus}
 use Rattle.clap.specs.Walk.{all_of, count_of}
 use Rattle.clap.specs.Words.{Row, Text, first_of, one_of}
 use Rattle.it_words.specs.declared.words.digest_words.DigestWords.{DigestWords}
+use Rattle.it_words.specs.declared.words.key_words.KeyWords.{KeyWords}
 use Rattle.it_words.specs.declared.words.link_words.LinkWords.{LinkWords}
 use Rattle.it_words.specs.declared.words.match_words.MatchWords.{MatchWords}
 use Rattle.it_words.specs.declared.words.pae_words.PaeWords.{PaeWords}
 use Rattle.it_words.specs.declared.words.payload_words.PayloadWords.{PayloadWords}
+use Rattle.it_words.specs.declared.words.sign_words.SignBy.{SignBy}
+use Rattle.it_words.specs.declared.words.sign_words.SignBy.TheVariants.{Ring as under_ring, Made}
 use Rattle.it_words.specs.declared.words.sign_words.SignWords.{SignWords}
+use Rattle.it_words.specs.declared.words.signed_words.SignedBy.{SignedBy}
+use Rattle.it_words.specs.declared.words.signed_words.SignedBy.TheVariants.{Ring as of_ring}
+use Rattle.it_words.specs.declared.words.signed_words.SignedBy.TheVariants.{Keys as of_keys}
 use Rattle.it_words.specs.declared.words.signed_words.SignedWords.{SignedWords}
 use Rattle.it_words.specs.declared.words.statement_words.StatementWords.{StatementWords}
 use Rattle.it_words.specs.declared.words.verify_words.VerifyWords.{VerifyWords}
 
+-- what checks signatures: a ring, or keys, and not both
+abbrev pub IsSignedBy : List Row → SignedBy → Type 0
+IsSignedBy values (of_ring path) =
+    (first_of (codes "ring") values ≡ Some path) × (first_of (codes "keys") values ≡ None)
+IsSignedBy values (of_keys path) =
+    (first_of (codes "ring") values ≡ None) × (first_of (codes "keys") values ≡ Some path)
+
 -- the values of the command signed
 pub record IsSigned (values : List Row) (words : SignedWords) : Type 0 where
   pub envelope : first_of (codes "envelope") values ≡ Some words.envelope
-  pub ring : first_of (codes "ring") values ≡ Some words.ring
+  pub by : IsSignedBy values words.by
 
 -- the values of the command match
 pub record IsMatch (values : List Row) (words : MatchWords) : Type 0 where
@@ -44,17 +58,28 @@ pub record IsPae (values : List Row) (words : PaeWords) : Type 0 where
   pub body : first_of (codes "body") values ≡ Some words.body
   pub kind : first_of (codes "type") values ≡ Some words.kind
 
+-- what makes a signature: a ring, or it is given with keys, and not one beside the other
+abbrev pub IsSignBy : List Row → SignBy → Type 0
+IsSignBy values (under_ring path) =
+    (first_of (codes "ring") values ≡ Some path) × (first_of (codes "signature") values ≡ None)
+    × (first_of (codes "keys") values ≡ None)
+IsSignBy values (Made paths) =
+    (first_of (codes "ring") values ≡ None)
+    × (first_of (codes "signature") values ≡ Some paths.signature)
+    × (first_of (codes "keys") values ≡ Some paths.keys)
+
 -- the values of the command sign
 pub record IsSign (values : List Row) (words : SignWords) : Type 0 where
   pub body : first_of (codes "body") values ≡ Some words.body
-  pub ring : first_of (codes "ring") values ≡ Some words.ring
+  pub by : IsSignBy values words.by
   pub key : first_of (codes "key") values ≡ Some words.key
   pub kind : first_of (codes "type") values ≡ Some words.kind
   pub onto : first_of (codes "onto") values ≡ words.onto
 
 -- the values of the command digest
 pub record IsDigest (values : List Row) (words : DigestWords) : Type 0 where
-  pub files : all_of (codes "file") values ≡ Some words.files
+  pub paths : all_of (codes "path") values ≡ Some words.paths
+  pub recursive : words.recursive ≡ nat_lt 0 (count_of (codes "recursive") values)
 
 -- the values of the command link
 pub record IsLink (values : List Row) (words : LinkWords) : Type 0 where
@@ -83,6 +108,16 @@ pub record WritesDepth (text : Text) (depth : ℕ) : Type 0 where
 abbrev pub IsDepth : Option Text → ℕ → Type 0
 IsDepth given depth = MatchOption given ⊥ (λ text. WritesDepth text depth)
 
+-- an id is given for one file alone
+abbrev pub MayBeNamed : List Text → Option Text → Type 0
+MayBeNamed files name = MatchOption name (Unit {0}) (λ id. length files ≡ 1)
+
+-- the values of the command key
+pub record IsKey (values : List Row) (words : KeyWords) : Type 0 where
+  pub files : all_of (codes "file") values ≡ Some words.files
+  pub name : first_of (codes "name") values ≡ words.name
+  pub may_be_named : MayBeNamed words.files words.name
+
 -- these are the rings of the words, in their order: none where the option is not given, and 8 at
 -- most
 pub record AreRings (given : Option (List Text)) (rings : List Text) : Type 0 where
@@ -102,6 +137,7 @@ pub record IsVerify (values : List Row) (words : VerifyWords) : Type 0 where
   pub at : first_of (codes "at") values ≡ Some words.at
   pub rings : AreRings (all_of (codes "ring") values) words.rings
   pub public_keys : words.public_keys ≡ nat_lt 0 (count_of (codes "public-keys") values)
+  pub json : words.json ≡ nat_lt 0 (count_of (codes "json") values)
   pub has_check : HasCheck words.rings words.public_keys
   pub provenance : first_of (codes "provenance") values ≡ words.provenance
   pub records : first_of (codes "records") values ≡ words.records

@@ -4,6 +4,7 @@ use Rattle.clap.specs.Words.{Row, Text, fault_of, subcommand_of}
 use Rattle.it_words.specs.Commands.{program}
 use Rattle.it_words.specs.Values.{
   IsDigest,
+  IsKey,
   IsLink,
   IsMatch,
   IsPae,
@@ -23,6 +24,7 @@ use Rattle.it_words.specs.declared.words.Words.TheVariants.{
   Link,
   Statement,
   Payload,
+  Key,
   Verify,
 }
 
@@ -36,6 +38,7 @@ IsCommand named (Digest words) = (named.0 ≡ codes "digest") × IsDigest named.
 IsCommand named (Link words) = (named.0 ≡ codes "link") × IsLink named.1 words
 IsCommand named (Statement words) = (named.0 ≡ codes "statement") × IsStatement named.1 words
 IsCommand named (Payload words) = (named.0 ≡ codes "payload") × IsPayload named.1 words
+IsCommand named (Key words) = (named.0 ≡ codes "key") × IsKey named.1 words
 IsCommand named (Verify words) = (named.0 ≡ codes "verify") × IsVerify named.1 words
 
 -- the name and the values are there, and are those of this command
@@ -57,4 +60,5 @@ GoesNoDeeper (Digest words) = Unit {0}
 GoesNoDeeper (Link words) = Unit {0}
 GoesNoDeeper (Statement words) = Unit {0}
 GoesNoDeeper (Payload words) = Unit {0}
+GoesNoDeeper (Key words) = Unit {0}
 GoesNoDeeper (Verify words) = words.depth ≤ 8

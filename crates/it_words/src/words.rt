@@ -8,6 +8,7 @@ ghost use Rattle.it_words.specs.declared.words.WordsFault.TheVariants.{OutOfMemo
 mod arguments;
 mod dashes;
 pub mod digest_words;
+pub mod key_words;
 pub mod link_words;
 pub mod match_words;
 mod named;
@@ -23,12 +24,13 @@ mod usages;
 pub mod verify_words;
 
 pub use self::{
-    digest_words as digesting, link_words as linking, match_words as matching,
+    digest_words as digesting, key_words as keys, link_words as linking, match_words as matching,
     pae_words as encoding, payload_words as unwrapping, sign_words as signing,
     signed_words as signed, statement_words as stating, verify_words as verifying,
 };
 use clap::ArgMatches;
 use digest_words::DigestWords;
+use key_words::KeyWords;
 use link_words::LinkWords;
 use match_words::MatchWords;
 use pae_words::PaeWords;
@@ -43,16 +45,16 @@ use verify_words::VerifyWords;
 /// A command with its values.
 #[derive(Drop)]
 pub enum Words {
-    /// `itv signed ENVELOPE --ring F`: who signed an envelope.
+    /// `itv signed ENVELOPE (--ring F | --keys F)`: who signed an envelope.
     Signed(SignedWords),
     /// `itv match PATTERN PATH`: whether a pattern matches a path.
     Match(MatchWords),
     /// `itv pae BODY --type TYPE`: the pre-authentication encoding of a body.
     Pae(PaeWords),
-    /// `itv sign BODY --ring F --key ID --type TYPE [--onto ENVELOPE]`: the envelope of a body,
-    /// signed, or an envelope with one signature more.
+    /// `itv sign BODY (--ring F | --signature SIG --keys F) --key ID --type TYPE [--onto
+    /// ENVELOPE]`: the envelope of a body, signed, or an envelope with one more signature.
     Sign(SignWords),
-    /// `itv digest FILE..`: the SHA-256 of each file.
+    /// `itv digest [--recursive] PATH..`: the SHA-256 of each file.
     Digest(DigestWords),
     /// `itv link --name NAME [--materials SUMS] [--products SUMS]`: the body of a step's link.
     Link(LinkWords),
@@ -61,9 +63,11 @@ pub enum Words {
     Statement(StatementWords),
     /// `itv payload ENVELOPE`: the payload of an envelope.
     Payload(PayloadWords),
+    /// `itv key FILE.. [--name ID]`: public keys as an object from id to key object.
+    Key(KeyWords),
     /// `itv verify --policy F --layout F --links DIR --sums F --at MOMENT [--ring F..]
-    /// [--public-keys] [--provenance F] [--records DIR] [--depth N]`: whether delivered files were
-    /// made as the owners prescribed.
+    /// [--public-keys] [--json] [--provenance F] [--records DIR] [--depth N]`: whether delivered
+    /// files were made as the owners prescribed.
     Verify(VerifyWords),
 }
 
@@ -105,7 +109,7 @@ pub fn read_words(alloc: Global, words: &[String]) -> Result<Words, WordsFault>
     let matches = parsed(alloc, words)?;
     match named::named(alloc, &matches)? {
         Some(command) => Ok(command),
-        None => Err(note::unfit_checks(alloc, words)),
+        None => Err(note::unfit(alloc, words)),
     }
 }
 

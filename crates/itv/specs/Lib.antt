@@ -1,5 +1,6 @@
 pub mod Commands
 pub mod Fault
+pub mod FilesBelow
 pub mod Reading
 pub mod RingFlaw
 pub mod Shown

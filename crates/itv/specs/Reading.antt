@@ -1,10 +1,15 @@
 -- What a command reads, by its words (a word of this project).
 use Rattle.std.specs.Prelude.{◌≡◌, ℕ, List, [], Option, Some, None}
+use Rattle.it_base.specs.Table.{Named}
 use Rattle.it_chain.specs.Contents.{Contents}
 use Rattle.it_dsse.specs.Ring.{RingOf}
+use Rattle.it_dsse.specs.declared.key_object.KeyObject.{KeyObject}
 use Rattle.it_dsse.specs.declared.ring_entry.RingEntry.{RingEntry}
+use Rattle.it_key_commands.specs.KeysFile.{KeysOf}
 use Rattle.it_verify.specs.declared.inputs.Inputs.{Inputs}
 use Rattle.it_words.specs.declared.words.verify_words.VerifyWords.{VerifyWords}
+use Rattle.itv.specs.declared.folders.Kind.{Kind}
+use Rattle.itv.specs.declared.listing.Listed.{Listed}
 
 -- what stands at a path. No definition knows it, so what is said of a command is said for all of
 -- these relations: of a path and what is read there.
@@ -17,6 +22,10 @@ pub record Holdings : Type 1 where
   pub links : List ℕ → ℕ → Contents → Type 0
   -- the records in the folder, each under the name of its inspection
   pub records : List ℕ → List (List ℕ × List ℕ) → Type 0
+  -- whether it is a file or a folder
+  pub kind : List ℕ → Kind → Type 0
+  -- all that stands in the folder
+  pub entries : List ℕ → List Listed → Type 0
 
 -- anything may stand anywhere
 abbrev pub anything : Holdings
@@ -25,6 +34,8 @@ anything = record {
   file = λ path bytes. Unit {0};
   links = λ folder depth links. Unit {0};
   records = λ folder records. Unit {0};
+  kind = λ path kind. Unit {0};
+  entries = λ folder entries. Unit {0};
 }
 
 -- what stands at the path, or nothing where no path is given
@@ -51,6 +62,11 @@ pub record AreInputs (disk : Holdings) (words : VerifyWords) (inputs : Inputs) :
   pub sums : disk.file words.sums inputs.sums
   pub moment : inputs.moment ≡ words.at
   pub depth : inputs.depth ≡ words.depth
+
+-- the file at the path is these key objects under their ids
+abbrev pub HoldsKeys : Holdings → List ℕ → Named KeyObject → Type 0
+HoldsKeys disk path objects =
+    (bytes : List ℕ) × disk.file path bytes × KeysOf bytes objects
 
 -- the file at the path is this ring
 abbrev pub HoldsRing : Holdings → List ℕ → List RingEntry → Type 0

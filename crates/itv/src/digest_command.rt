@@ -1,10 +1,11 @@
-//! `itv digest FILE..`.
-ghost use Rattle.std.specs.Prelude.{◌≡◌, IfOk};
+//! `itv digest [--recursive] PATH..`.
+ghost use Rattle.std.specs.Prelude.{IfOk};
 ghost use Rattle.std.specs.Io.KnownBytes.{Appends};
-ghost use Rattle.itv.specs.Commands.{IsLineOf, ListsDigests};
+ghost use Rattle.itv.specs.Commands.{AreLinesOf, IsLineOf, ListsDigests};
 
 use crate::disk::Disk;
 use crate::fault::Fault;
+use crate::files_below::files_at_each;
 use crate::remembering::Remembering;
 use crate::shown::Shown;
 use it_base::text::Text;
@@ -19,21 +20,38 @@ use std::io::Write;
 /// How many bytes a file may have.
 const MOST_BYTES: u64 = 1_099_511_627_776;
 
-/// Writes the line of each file, file by file. The lines before a file that fails stand.
+/// Writes the line of each file that the words name, file by file. With `--recursive` all folders
+/// are read before the first line is written. The lines before a file that fails stand.
 pub(crate) fn run<R: Disk + AllocGlobal, W: Write>(
     rt: &R,
     words: &DigestWords,
     out: &mut W,
 ) -> Result<Status, Fault>
-    ensures { IfOk result (λ status. (status ≡ Status.Good) × (text : _)
-        × ListsDigests R.holdings words.now.files text
+    ensures { IfOk result (λ status. (text : _) × ListsDigests R.holdings words.now text status
         × Appends (W.contents out.old) (W.contents out.new) text) }
 {
-    let files = words.files.as_slice();
+    let paths = words.paths.as_slice();
+    if words.recursive {
+        let files = files_at_each(rt, paths)?;
+        digest_files(rt, files.as_slice(), out)?;
+    } else {
+        digest_files(rt, paths, out)?;
+    }
+    Ok(Status::Good)
+}
+
+fn digest_files<R: Disk + AllocGlobal, W: Write>(
+    rt: &R,
+    files: &[Text],
+    out: &mut W,
+) -> Result<(), Fault>
+    ensures { IfOk result (λ _. (text : _) × AreLinesOf R.holdings files.now text
+        × Appends (W.contents out.old) (W.contents out.new) text) }
+{
     for file in files {
         digest_file(rt, file, out)?;
     }
-    Ok(Status::Good)
+    Ok(())
 }
 
 fn digest_file<R: Disk + AllocGlobal, W: Write>(

@@ -4,7 +4,8 @@ ghost use Rattle.itv.specs.Reading.{Holdings, anything};
 
 use crate::fault::Fault;
 use crate::files::read_file;
-use crate::folders::{read_links, read_records};
+use crate::folders::{Kind, read_links, read_records};
+use crate::listing::{Listed, kind_at, list};
 use it_base::sequence::Sequence;
 use it_base::text::Text;
 use it_chain::bundle::Bundle;
@@ -37,6 +38,14 @@ pub(crate) trait Disk {
     /// The records of inspections in a folder, each under the name of its inspection.
     fn records(&self, folder: &str) -> Result<Sequence<(Text, Sequence<u8>)>, Fault>
         ensures { IfOk result (λ records. holdings.records folder.now records) };
+
+    /// Whether a file or a folder stands at a path. A symbolic link is what it leads to.
+    fn kind(&self, path: &str) -> Result<Kind, Fault>
+        ensures { IfOk result (λ kind. holdings.kind path.now kind) };
+
+    /// All that stands in a folder, where that is files, folders and symbolic links to files.
+    fn entries(&self, folder: &str) -> Result<Sequence<Listed>, Fault>
+        ensures { IfOk result (λ entries. holdings.entries folder.now entries) };
 }
 
 impl<R: Files + AllocGlobal> Disk for R {
@@ -61,5 +70,13 @@ impl<R: Files + AllocGlobal> Disk for R {
 
     fn records(&self, folder: &str) -> Result<Sequence<(Text, Sequence<u8>)>, Fault> {
         Ok(Sequence::from(read_records(self, folder)?))
+    }
+
+    fn kind(&self, path: &str) -> Result<Kind, Fault> {
+        kind_at(self, path)
+    }
+
+    fn entries(&self, folder: &str) -> Result<Sequence<Listed>, Fault> {
+        Ok(Sequence::from(list(self, folder)?))
     }
 }

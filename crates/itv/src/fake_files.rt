@@ -20,6 +20,8 @@ pub(crate) enum Node<'a> {
     Dangling,
     // Names, each with a zero byte at its end, and so many files more, of which each is empty.
     Folder(&'a [u8], usize),
+    // A symbolic link to a folder with these names, each with a zero byte at its end.
+    LinkedFolder(&'a [u8]),
     // Neither a file nor a folder: it cannot be opened.
     Device,
 }
@@ -71,6 +73,7 @@ impl<'a> Files for FakeFiles<'a> {
     fn open_dir(&self, path: &str) -> io::Result<Names<'a>> {
         match self.node(path)? {
             Node::Folder(names, further) => Ok(Names { names, further }),
+            Node::LinkedFolder(names) => Ok(Names { names, further: 0 }),
             _ => Err(unsupported()),
         }
     }
@@ -79,14 +82,15 @@ impl<'a> Files for FakeFiles<'a> {
         Ok(match self.node(path)? {
             Node::Bytes(_) | Node::File(_) | Node::Failing(_) => Metadata::of_file(0),
             Node::Dangling => return Err(missing()),
-            Node::Folder(_, _) => Metadata::of_dir(),
+            Node::Folder(_, _) | Node::LinkedFolder(_) => Metadata::of_dir(),
             Node::Device => Metadata::of_symlink(0),
         })
     }
 
     fn symlink_metadata(&self, path: &str) -> io::Result<Metadata> {
         match self.node(path)? {
-            Node::Dangling => Ok(Metadata::of_symlink(0)),
+            Node::Dangling | Node::LinkedFolder(_) => Ok(Metadata::of_symlink(0)),
+            Node::Folder(_, _) => Ok(Metadata::of_dir()),
             _ => Err(unsupported()),
         }
     }

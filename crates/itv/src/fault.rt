@@ -7,6 +7,7 @@ ghost use Rattle.itv.specs.declared.fault.Fault.TheVariants.{Run};
 use crate::ring_flaw::RingFlaw;
 use crate::shown::Shown;
 use it_base::text::Text;
+use it_key_commands::{FileFault, KeyFault};
 use it_outcome::{RunFault, Status, exit_of};
 use it_words::words::WordsFault;
 use std::alloc::{AllocError, AllocFailed, Global};
@@ -40,12 +41,30 @@ pub(crate) enum Fault {
     /// A folder has more entries that are read than this.
     #[error("{path} has more than {limit} entries to read")]
     TooMany { path: Shown, limit: usize },
+    /// A folder below one that is listed lies deeper than this.
+    #[error("{path} lies more than {limit} folders deep")]
+    TooDeep { path: Shown, limit: u8 },
+    /// A file below a folder comes after as many as this.
+    #[error("{path} is one more than the {limit} files that a folder may have below it")]
+    TooManyFiles { path: Shown, limit: usize },
     /// A file is no ring, for this reason.
     #[error("{path} is no ring of secrets: {flaw}")]
     BadRing { path: Shown, flaw: RingFlaw },
     /// A ring has no entry with this id.
     #[error("{path} has no key {id}")]
     UnknownKey { path: Shown, id: Shown },
+    /// A file does not hold key objects under their ids.
+    #[error("{path} is not an object from id to key object, as a layout has under keys")]
+    BadKeys { path: Shown },
+    /// The key object under this id describes no public key.
+    #[error("{path} has no public key under {id} that signatures are checked by")]
+    NoPublicKey { path: Shown, id: Shown },
+    /// A file is not a public key, for this reason.
+    #[error("{path} is not a public key: it is {flaw}")]
+    BadKey { path: Shown, flaw: FileFault },
+    /// A signature that was made elsewhere is not one of the body by the key under this id.
+    #[error("{path} is not a signature of the body by {id}")]
+    BadSignature { path: Shown, id: Shown },
     /// A line of a digest list, counted from 1, is none, or names a path again.
     #[error("{path}: line {line} is no line of a digest list, or repeats a path")]
     BadLine { path: Shown, line: u64 },
@@ -162,6 +181,11 @@ impl Fault {
             path: Shown::of(alloc, path)?,
             line,
         })
+    }
+
+    /// The fault of a command on public keys, in its own words.
+    pub(crate) fn of_key(alloc: Global, fault: KeyFault) -> Result<Fault, AllocError> {
+        Ok(Fault::Words(format!(in alloc; "{fault}")?))
     }
 
     /// The fault of an output that the system did not take.

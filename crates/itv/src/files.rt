@@ -1,13 +1,16 @@
 //! Files, read up to a limit and no further.
 ghost use Rattle.std.specs.Prelude.{◌≡◌, ◌<◌, ◌≤◌, ◌-◌, ◌^◌, length, IfOk, IfSome, IsNone};
-ghost use Rattle.itv.specs.Reading.{HoldsIfGiven, HoldsRing};
+ghost use Rattle.itv.specs.Reading.{HoldsIfGiven, HoldsKeys, HoldsRing};
 
 use crate::disk::Disk;
 use crate::fault::Fault;
 use crate::ring_flaw::ring_flaw;
 use crate::shown::Shown;
+use it_base::parts::from_bytes;
 use it_base::sequence::Sequence;
+use it_base::table::Table;
 use it_base::text::Text;
+use it_dsse::key_object::KeyObject;
 use it_dsse::ring::{HmacRing, RingFault};
 use std::alloc::{AllocError, Global};
 use std::fs::OpenFile;
@@ -81,6 +84,23 @@ pub(crate) fn read_ring<R: Disk + AllocGlobal>(rt: &R, path: &str) -> Result<Hma
         Ok(ring) => Ok(ring),
         Err(RingFault::BadRing) => Err(no_ring(alloc, path, bytes.as_slice())?),
         Err(RingFault::OutOfMemory) => Err(Fault::from(AllocError)),
+    }
+}
+
+/// The key objects of a file under their ids.
+pub(crate) fn read_keys<R: Disk + AllocGlobal>(
+    rt: &R,
+    path: &str,
+) -> Result<Table<KeyObject>, Fault>
+    ensures { IfOk result (HoldsKeys R.holdings path.now) }
+{
+    let alloc = rt.alloc();
+    let bytes = rt.file(path)?;
+    match from_bytes::<Table<KeyObject>>(alloc, bytes.as_slice())? {
+        Some(keys) => Ok(keys),
+        None => Err(Fault::BadKeys {
+            path: Shown::of(alloc, path)?,
+        }),
     }
 }
 

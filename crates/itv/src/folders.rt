@@ -19,10 +19,12 @@ const MOST_ENTRIES: usize = 1_000;
 /// How the names of the files end that are read.
 const ENDING: &str = ".link";
 
-/// What an entry of a folder is read as.
+/// What is read: a file, or a folder.
 #[derive(Clone, Copy, PartialEq, Eq)]
-enum Kind {
+pub(crate) enum Kind {
+    /// The bytes of a file.
     File,
+    /// What stands in a folder.
     Folder,
 }
 
@@ -99,7 +101,7 @@ pub(crate) fn read_records<R: Files + AllocGlobal>(
 fn entries<R: Files + AllocGlobal>(rt: &R, folder: &str, depth: u8) -> Result<Vec<Entry>, Fault> {
     let alloc = rt.alloc();
     let mut entries = Vec::new(alloc);
-    for name in names(rt, folder, depth)? {
+    for name in names(rt, folder)? {
         let path = Path::new(folder).join(alloc, name.as_str())?;
         let Some(kind) = kind_of(rt, name.as_str(), path.as_str(), depth)? else {
             continue;
@@ -115,8 +117,12 @@ fn entries<R: Files + AllocGlobal>(rt: &R, folder: &str, depth: u8) -> Result<Ve
     Ok(entries)
 }
 
-/// The names in a folder that may be read, in the order of their bytes.
-fn names<R: Files + AllocGlobal>(rt: &R, folder: &str, depth: u8) -> Result<Vec<String>, Fault> {
+/// All names in a folder, in the order of their bytes.
+///
+/// # Errors
+///
+/// Where the folder cannot be read, or a name in it is not UTF-8.
+pub(crate) fn names<R: Files + AllocGlobal>(rt: &R, folder: &str) -> Result<Vec<String>, Fault> {
     let alloc = rt.alloc();
     let listing = match fs::read_dir(&rt, folder) {
         Ok(listing) => listing,
@@ -128,10 +134,7 @@ fn names<R: Files + AllocGlobal>(rt: &R, folder: &str, depth: u8) -> Result<Vec<
             Ok(entry) => entry,
             Err(error) => return Err(Fault::of_listing(alloc, folder, &error)),
         };
-        let name = entry.file_name();
-        if may_be_read(name, depth) {
-            names.push(String::from_str(alloc, name)?)?;
-        }
+        names.push(String::from_str(alloc, entry.file_name())?)?;
     }
     names.sort_unstable();
     Ok(names)
@@ -142,15 +145,18 @@ fn may_be_read(name: &str, depth: u8) -> bool {
     name.ends_with(ENDING) || depth > 0 && name.contains('.')
 }
 
-/// What an entry is read as that may be read, or `None` where it is passed over: a folder too
-/// deep, a file whose name ends otherwise, and what is neither. A symbolic link is what it leads
-/// to.
+/// What an entry is read as, or `None` where it is passed over: what its name keeps from being
+/// read, a folder too deep, a file whose name ends otherwise, and what is neither. A symbolic link
+/// is what it leads to.
 fn kind_of<R: Files + AllocGlobal>(
     rt: &R,
     name: &str,
     path: &str,
     depth: u8,
 ) -> Result<Option<Kind>, Fault> {
+    if !may_be_read(name, depth) {
+        return Ok(None);
+    }
     match fs::metadata(rt, path) {
         Ok(found) if found.is_dir() && depth > 0 => Ok(Some(Kind::Folder)),
         Ok(found) if found.is_file() && name.ends_with(ENDING) => Ok(Some(Kind::File)),
@@ -159,8 +165,8 @@ fn kind_of<R: Files + AllocGlobal>(
     }
 }
 
-/// The fault of an entry of which the system does not tell what it is.
-fn untold<R: Files + AllocGlobal>(
+/// The fault of a path of which the system does not tell what stands there.
+pub(crate) fn untold<R: Files + AllocGlobal>(
     rt: &R,
     path: &str,
     error: &io::Error,

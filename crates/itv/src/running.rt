@@ -8,8 +8,8 @@ use crate::disk::Disk;
 use crate::fault::Fault;
 use crate::remembering::Remembering;
 use crate::{
-    digest_command, link_command, match_command, pae_command, payload_command, sign_command,
-    signed_command, statement_command, verify_command,
+    digest_command, key_command, link_command, match_command, pae_command, payload_command,
+    sign_command, signed_command, statement_command, verify_command,
 };
 use it_outcome::{RunFault, Status};
 use it_words::words::{Words, read_words};
@@ -73,6 +73,7 @@ fn run_command<R: Disk + AllocGlobal, W: Write, N: Write>(
         Words::Link(words) => link_command::run(rt, words, out),
         Words::Statement(words) => statement_command::run(rt, words, out),
         Words::Payload(words) => payload_command::run(rt, words, out),
+        Words::Key(words) => key_command::run(rt, words, out),
         Words::Verify(words) => verify_command::run(rt, words, out, notes),
     }
 }

@@ -5,8 +5,8 @@ ghost use Rattle.std.specs.List.{AllZip};
 ghost use Rattle.it_dsse.specs.Panel.{panel_of};
 ghost use Rattle.it_public_keys.specs.AnyCheck.{check_of};
 ghost use Rattle.it_public_keys.specs.Collected.{IsTableFor};
-ghost use Rattle.it_verify.specs.VerifyOutput.{IsVerifyOutput};
-ghost use Rattle.itv.specs.Commands.{Verifies};
+ghost use Rattle.it_notes.specs.VerifyOutputIn.{IsVerifyOutputIn};
+ghost use Rattle.itv.specs.Commands.{Verifies, form_asked};
 ghost use Rattle.itv.specs.Reading.{AreInputs, HoldsIfGiven, HoldsRing};
 
 use crate::disk::Disk;
@@ -16,6 +16,7 @@ use it_base::sequence::Sequence;
 use it_base::text::Text;
 use it_dsse::check::SignatureCheck;
 use it_dsse::ring::HmacRing;
+use it_json_report::form::ReportForm;
 use it_notes::verify_with_notes::verify_with_notes;
 use it_outcome::{RunFault, Status};
 use it_public_keys::any_check::{AnyCheck, checks_of};
@@ -43,7 +44,19 @@ pub(crate) fn run<R: Disk + AllocGlobal, W: Write, N: Write>(
     let rings = read_rings(rt, words.rings.as_slice())?;
     let table = table_for(alloc, words, &inputs)?;
     let checks = checks_of(alloc, rings, table)?;
-    Ok(verify_by(alloc, &inputs, checks, out, notes)?)
+    let form = form_asked(words.json);
+    Ok(verify_by(alloc, &inputs, checks, form, out, notes)?)
+}
+
+/// The form that is asked for.
+fn form_asked(json: bool) -> ReportForm
+    ensures { result ≡ form_asked json }
+{
+    if json {
+        ReportForm::Json
+    } else {
+        ReportForm::Lines
+    }
 }
 
 /// The table of all public keys that the verification could ask for, where public keys are asked
@@ -67,12 +80,13 @@ fn verify_by<W: Write, N: Write>(
     alloc: Global,
     inputs: &Inputs,
     checks: Vec<AnyCheck>,
+    form: ReportForm,
     out: &mut W,
     notes: &mut N,
 ) -> Result<Status, Fault>
     requires { inputs.now.depth ≤ 8 }
     ensures ok { IfOk result (λ status. (text : _)
-        × IsVerifyOutput (panel_of (map check_of checks.items)) inputs.now text status
+        × IsVerifyOutputIn form (panel_of (map check_of checks.items)) inputs.now text status
         × Appends (W.contents out.old) (W.contents out.new) text) }
     ensures nothing { IfErr result (λ fault. fault ≢ Fault.Run RunFault.Write → out.new ≡ out.old) }
 {
@@ -81,7 +95,7 @@ fn verify_by<W: Write, N: Write>(
         panel.push(Box::new(alloc, check)?)?;
     }
     let panel = panel.as_slice();
-    Ok(verify_with_notes(alloc, inputs, panel, out, notes)?)
+    Ok(verify_with_notes(alloc, inputs, panel, form, out, notes)?)
 }
 
 /// The rings at the paths, in their order.

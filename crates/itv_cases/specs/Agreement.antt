@@ -5,6 +5,7 @@ use Rattle.std.specs.Cmp.Lexicographic.{pointwise}
 use Rattle.it_dsse.specs.Panel.{panel_of}
 use Rattle.it_public_keys.specs.AnyCheck.{checks_of}
 use Rattle.it_public_keys.specs.Collected.{IsTableFor}
+use Rattle.it_public_keys.specs.Keys.{Keys}
 use Rattle.itv_cases.specs.Answer.{IsAnswer}
 use Rattle.itv_cases.specs.declared.answer.Answer.{Answer}
 use Rattle.itv_cases.specs.declared.case.Case.{Case}
@@ -37,7 +38,7 @@ agrees run = (run.given.status == run.wanted.status)
 pub record IsRunOf (case : Case) (run : Run) : Type 0 where
   pub name : run.name ≡ case.name
   pub wanted : run.wanted ≡ case.wanted
-  pub table : Option (List (List ℕ))
+  pub table : Option Keys
   pub is_table : IsTableFor case.public_keys case.inputs.policy case.inputs.layout
       case.inputs.links table
   pub given : IsAnswer (panel_of (checks_of case.rings table)) case.inputs run.given

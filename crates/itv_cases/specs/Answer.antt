@@ -1,8 +1,9 @@
 -- What a verification comes to (a word of this project).
 use Rattle.std.specs.Prelude.{◌≡◌, Ok}
 use Rattle.it_dsse.specs.Panel.{Panel}
+use Rattle.it_json_report.specs.declared.form.ReportForm.TheVariants.{Lines}
+use Rattle.it_notes.specs.VerifyOutputIn.{IsVerifyOutputIn}
 use Rattle.it_outcome.specs.Outcome.{exit_status}
-use Rattle.it_verify.specs.VerifyOutput.{IsVerifyOutput}
 use Rattle.it_verify.specs.declared.inputs.Inputs.{Inputs}
 use Rattle.it_outcome.specs.declared.outcome.Status.{Status}
 use Rattle.itv_cases.specs.declared.answer.Answer.{Answer}
@@ -11,5 +12,5 @@ use Rattle.itv_cases.specs.declared.answer.Answer.{Answer}
 -- it; the notes are left open
 pub record IsAnswer (panel : Panel) (inputs : Inputs) (answer : Answer) : Type 0 where
   pub found : Status
-  pub is_output : IsVerifyOutput panel inputs answer.report found
+  pub is_output : IsVerifyOutputIn Lines panel inputs answer.report found
   pub status_is : answer.status ≡ exit_status (Ok found)

@@ -5,6 +5,7 @@ ghost use Rattle.it_dsse.specs.Panel.{panel_of};
 use crate::wanted::Wanted;
 use it_base::sequence::Sequence;
 use it_dsse::check::SignatureCheck;
+use it_json_report::form::ReportForm;
 use it_notes::verify_with_notes::verify_with_notes;
 use it_outcome::exit_of;
 use it_verify::inputs::Inputs;
@@ -60,7 +61,14 @@ impl Answer {
     {
         let mut report = Vec::new(alloc);
         let mut notes = Vec::new(alloc);
-        match verify_with_notes(alloc, inputs, panel, &mut report, &mut notes) {
+        match verify_with_notes(
+            alloc,
+            inputs,
+            panel,
+            ReportForm::Lines,
+            &mut report,
+            &mut notes,
+        ) {
             Ok(status) => Ok(Answer {
                 report: Sequence::from(report),
                 status: exit_of(&Ok(status)),

@@ -1,6 +1,6 @@
 -- What the functions that judge a line go by, in the words of the definitions. Nothing that is
 -- trusted stands here.
-use Rattle.std.specs.Prelude.{◌↔◌, List, Any, Bool, IsTrue, map}
+use Rattle.std.specs.Prelude.{◌≡◌, ℕ, List, Any, Contains, map}
 use Rattle.std.specs.Borrow.{Bor}
 use Rattle.it_digest.specs.Compare.{Agree}
 use Rattle.it_digest.specs.declared.compare.DigestSet.{DigestSet}
@@ -21,6 +21,11 @@ lent_builders lent = map (λ builder. builder.now) lent
 abbrev pub AreSigners : Panel → Expectation → Envelope → List (Bor Builder) → Type 0
 AreSigners panel expectation envelope signers =
     AreThose (SignedByBuilder panel envelope) expectation.builders (lent_builders signers)
+
+-- one of the lent builders has this id, and is of this level
+abbrev pub HasLevel : List (Bor Builder) → List ℕ → ℕ → Type 0
+HasLevel lent id level = (builder : Bor Builder) × Contains lent builder × (builder.now.id ≡ id)
+    × (level ≡ builder.now.level)
 
 -- the payload of an envelope is a Statement of which a subject has the digests
 abbrev pub IsAbout : DigestSet → Envelope → Type 0

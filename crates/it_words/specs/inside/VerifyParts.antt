@@ -19,6 +19,7 @@ pub record AreSettings (values : List Row) (words : Settings) : Type 0 where
   pub rings : AreRings (all_of (codes "ring") values) words.rings
   pub public_keys : words.public_keys ≡ nat_lt 0 (count_of (codes "public-keys") values)
   pub has_check : HasCheck words.rings words.public_keys
+  pub json : words.json ≡ nat_lt 0 (count_of (codes "json") values)
   pub provenance : first_of (codes "provenance") values ≡ words.provenance
   pub records : first_of (codes "records") values ≡ words.records
   pub depth : IsDepth (one_of (codes "depth") values) words.depth

@@ -12,6 +12,21 @@ pub(super) fn asks_help(words: &[String]) -> bool {
     false
 }
 
+/// Whether the words of a command give an option, alone or with its value after `=`. All words
+/// after `--` are taken as they are.
+pub(super) fn gives(words: &[String], option: &str) -> bool {
+    for word in words {
+        let word = word.as_str();
+        if word == "--" {
+            return false;
+        }
+        if option_of(word) == option {
+            return true;
+        }
+    }
+    false
+}
+
 /// Whether one of a command's words begins with a dash and is no option that its usage shows. All
 /// words after `--` are taken as they are.
 pub(super) fn has_dashed_value(words: &[String], usage: &str) -> bool {
@@ -37,10 +52,16 @@ fn option_of(word: &str) -> &str {
 
 fn shows(usage: &str, option: &str) -> bool {
     for part in usage.split_whitespace() {
-        let part = part.strip_prefix("[").unwrap_or(part);
-        if part.strip_suffix("]").unwrap_or(part) == option {
+        if without_brackets(part) == option {
             return true;
         }
     }
     false
+}
+
+/// A part of a usage without the brackets before and behind it.
+fn without_brackets(part: &str) -> &str {
+    let part = part.strip_prefix("[").unwrap_or(part);
+    let part = part.strip_prefix("(").unwrap_or(part);
+    part.strip_suffix("]").unwrap_or(part)
 }

@@ -7,7 +7,9 @@ ghost use Rattle.it_base.specs.Finds.{Finds};
 ghost use Rattle.it_words.specs.Commands.{digest_command};
 ghost use Rattle.it_words.specs.Values.{IsDigest};
 
-use super::arguments::{needed_words, texts, values as values_of};
+use super::arguments::{
+    bare_option, command_of, is_given, needed_words, texts, values as values_of,
+};
 use clap::{ArgMatches, Command};
 use it_base::sequence::Sequence;
 use it_base::text::Text;
@@ -16,8 +18,10 @@ use std::alloc::{AllocError, Global};
 /// The values of `itv digest`.
 #[derive(Drop)]
 pub struct DigestWords {
-    /// The paths of the files, in the order of the words; there is one at least.
-    pub files: Sequence<Text>,
+    /// The paths, in the order of the words; there is at least one.
+    pub paths: Sequence<Text>,
+    /// Whether a folder is taken for the files below it.
+    pub recursive: bool,
 }
 
 /// The command, as the parser takes it.
@@ -25,20 +29,25 @@ pub(super) fn command<'a>(alloc: Global) -> Result<Command<'a>, AllocError>
     ensures app { IfOk result (λ command. app_of command ≡ digest_command) }
     ensures local { IfOk result (λ command. (out-Command command).has_globals ≡ false) }
 {
-    Command::new(alloc, "digest").arg(needed_words(alloc, "file", "FILE"))
+    let arguments = vec![in alloc;
+        needed_words(alloc, "path", "PATH"),
+        bare_option(alloc, "recursive"),
+    ]?;
+    command_of(alloc, "digest", arguments)
 }
 
-/// The command's values, or `None` where there is no file.
+/// The command's values, or `None` where there is no path.
 pub(super) fn read(
     alloc: Global,
     values: &ArgMatches<'_>,
 ) -> Result<Option<DigestWords>, AllocError>
     ensures { IfOk result (Finds (IsDigest (rows_of (found_of values.now)))) }
 {
-    let Some(files) = values_of(values, "file") else {
+    let Some(paths) = values_of(values, "path") else {
         return Ok(None);
     };
     Ok(Some(DigestWords {
-        files: texts(alloc, files)?,
+        paths: texts(alloc, paths)?,
+        recursive: is_given(values, "recursive"),
     }))
 }

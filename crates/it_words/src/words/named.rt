@@ -6,7 +6,7 @@ ghost use Rattle.it_base.specs.Finds.{Finds};
 ghost use Rattle.it_words.specs.Words.{IsCommand, NamesCommand};
 
 use super::{
-    Words, digest_words, link_words, match_words, pae_words, payload_words, sign_words,
+    Words, digest_words, key_words, link_words, match_words, pae_words, payload_words, sign_words,
     signed_words, statement_words, verify_words,
 };
 use clap::ArgMatches;
@@ -25,6 +25,7 @@ pub(super) fn named(alloc: Global, matches: &ArgMatches<'_>) -> Result<Option<Wo
         Some(("link", values)) => link(alloc, values),
         Some(("statement", values)) => statement(alloc, values),
         Some(("payload", values)) => payload(alloc, values),
+        Some(("key", values)) => key(alloc, values),
         Some(("verify", values)) => verify(alloc, values),
         _ => Ok(None),
     }
@@ -76,6 +77,12 @@ fn payload(alloc: Global, values: &ArgMatches<'_>) -> Result<Option<Words>, Allo
     ensures { IfOk result (Finds (IsCommand (codes "payload", rows_of (found_of values.now)))) }
 {
     Ok(payload_words::read(alloc, values)?.map(Words::Payload))
+}
+
+fn key(alloc: Global, values: &ArgMatches<'_>) -> Result<Option<Words>, AllocError>
+    ensures { IfOk result (Finds (IsCommand (codes "key", rows_of (found_of values.now)))) }
+{
+    Ok(key_words::read(alloc, values)?.map(Words::Key))
 }
 
 fn verify(alloc: Global, values: &ArgMatches<'_>) -> Result<Option<Words>, AllocError>

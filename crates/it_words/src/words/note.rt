@@ -3,9 +3,8 @@ ghost use Rattle.std.specs.Prelude.{◌≡◌};
 ghost use Rattle.clap.specs.Words.{kind_of};
 
 use super::WordsFault;
-use super::dashes::{asks_help, has_dashed_value};
+use super::dashes::{asks_help, gives, has_dashed_value};
 use super::usage::{Usage, of_all, of_one, usage_of};
-use super::usages::VERIFY;
 use clap::Error;
 use clap::error::ErrorKind;
 use std::alloc::{AllocError, Global};
@@ -25,19 +24,30 @@ pub(super) fn fault_of(alloc: Global, words: &[String], error: &Error) -> WordsF
     unread(note(alloc, words, error))
 }
 
-/// The fault of words of a verification with no check of signatures, or with more than 8 rings.
-pub(super) fn unfit_checks(alloc: Global, words: &[String]) -> WordsFault {
-    let wrong = if words.iter().any(|word| is_ring(word.as_str())) {
-        "the option '--ring <F>' is given more than 8 times"
-    } else {
-        "neither '--ring <F>' nor '--public-keys' is given"
+/// The fault of words that parse and do not fit together.
+pub(super) fn unfit(alloc: Global, words: &[String]) -> WordsFault {
+    let [_, command, values @ ..] = words else {
+        return unread(of_all(alloc, "no command is given"));
     };
-    unread(of_one(alloc, wrong, &VERIFY))
+    match usage_of(command.as_str()) {
+        Some(usage) => unread(of_one(alloc, misfit(usage.name, values), usage)),
+        None => unread(note_on_command(alloc, command.as_str())),
+    }
 }
 
-/// Whether a word gives a ring, alone or with its value.
-fn is_ring(word: &str) -> bool {
-    word == "--ring" || word.starts_with("--ring=")
+/// What does not fit together in the values of a command.
+fn misfit(command: &str, values: &[String]) -> &'static str {
+    match (command, gives(values, "--ring")) {
+        ("verify", true) => "the option '--ring <F>' is given more than 8 times",
+        ("verify", false) => "neither '--ring <F>' nor '--public-keys' is given",
+        ("signed", true) => "the options '--ring <F>' and '--keys <F>' are both given",
+        ("signed", false) => "neither '--ring <F>' nor '--keys <F>' is given",
+        ("sign", true) =>
+            "the option '--ring <F>' is given beside '--signature <SIG>' or '--keys <F>'",
+        ("sign", false) =>
+            "neither '--ring <F>' nor '--signature <SIG>' with '--keys <F>' is given",
+        _ => "the option '--name <ID>' is given with more than one file",
+    }
 }
 
 fn unread(note: Result<String, AllocError>) -> WordsFault {

@@ -5,8 +5,8 @@ ghost use Rattle.clap.specs.declared.builder.command.Command.TheViews.{out-Comma
 ghost use Rattle.it_words.specs.Commands.{program, reading_program, without_command};
 
 use super::{
-    digest_words, link_words, match_words, pae_words, payload_words, sign_words, signed_words,
-    statement_words, verify_words,
+    digest_words, key_words, link_words, match_words, pae_words, payload_words, sign_words,
+    signed_words, statement_words, verify_words,
 };
 use clap::Command;
 use std::alloc::{AllocError, Global};
@@ -23,14 +23,15 @@ pub(super) fn command<'a>(alloc: Global) -> Result<Command<'a>, AllocError>
     with_command(program, verify_words::command(alloc))
 }
 
-/// The program with the commands that read one file or two words.
+/// The program with the commands that look at files alone, or at two words.
 fn reading_command<'a>(alloc: Global) -> Result<Command<'a>, AllocError>
     ensures { IfOk result (λ command. app_of command ≡ reading_program) }
 {
     let program = with_command(without_command(alloc), signed_words::command(alloc))?;
     let program = with_command(program, match_words::command(alloc))?;
     let program = with_command(program, pae_words::command(alloc))?;
-    with_command(program, payload_words::command(alloc))
+    let program = with_command(program, payload_words::command(alloc))?;
+    with_command(program, key_words::command(alloc))
 }
 
 /// The program with no command: one has to be named, and no word asks for help.

@@ -5,9 +5,9 @@ ghost use Rattle.clap.specs.Walk.{rows_of};
 ghost use Rattle.clap.specs.declared.builder.command.Command.TheViews.{out-Command};
 ghost use Rattle.it_base.specs.Finds.{Finds};
 ghost use Rattle.it_words.specs.Commands.{signed_command};
-ghost use Rattle.it_words.specs.Values.{IsSigned};
+ghost use Rattle.it_words.specs.Values.{IsSigned, IsSignedBy};
 
-use super::arguments::{command_of, needed_option, needed_word, value};
+use super::arguments::{command_of, needed_word, plain_option, value};
 use clap::{ArgMatches, Command};
 use it_base::text::Text;
 use std::alloc::{AllocError, Global};
@@ -17,8 +17,17 @@ use std::alloc::{AllocError, Global};
 pub struct SignedWords {
     /// The path of the envelope's file.
     pub envelope: Text,
-    /// The path of the ring's file.
-    pub ring: Text,
+    /// What signatures are checked by.
+    pub by: SignedBy,
+}
+
+/// What the signatures of an envelope are checked by.
+#[derive(Drop)]
+pub enum SignedBy {
+    /// The ring of secrets in the file at this path.
+    Ring(Text),
+    /// The public keys in the file at this path.
+    Keys(Text),
 }
 
 /// The command, as the parser takes it.
@@ -28,7 +37,8 @@ pub(super) fn command<'a>(alloc: Global) -> Result<Command<'a>, AllocError>
 {
     let arguments = vec![in alloc;
         needed_word(alloc, "envelope", "ENVELOPE"),
-        needed_option(alloc, "ring", "F"),
+        plain_option(alloc, "ring", "F"),
+        plain_option(alloc, "keys", "F"),
     ]?;
     command_of(alloc, "signed", arguments)
 }
@@ -43,11 +53,22 @@ pub(super) fn read(
     let Some(envelope) = value(values, "envelope") else {
         return Ok(None);
     };
-    let Some(ring) = value(values, "ring") else {
+    let Some(by) = signed_by(alloc, values)? else {
         return Ok(None);
     };
     Ok(Some(SignedWords {
         envelope: Text::copy(alloc, envelope)?,
-        ring: Text::copy(alloc, ring)?,
+        by,
     }))
+}
+
+/// What signatures are checked by, or `None` where neither a ring nor keys are given, or both.
+fn signed_by(alloc: Global, values: &ArgMatches<'_>) -> Result<Option<SignedBy>, AllocError>
+    ensures { IfOk result (Finds (IsSignedBy (rows_of (found_of values.now)))) }
+{
+    match (value(values, "ring"), value(values, "keys")) {
+        (Some(ring), None) => Ok(Some(SignedBy::Ring(Text::copy(alloc, ring)?))),
+        (None, Some(keys)) => Ok(Some(SignedBy::Keys(Text::copy(alloc, keys)?))),
+        _ => Ok(None),
+    }
 }

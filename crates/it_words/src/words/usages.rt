@@ -2,22 +2,22 @@
 use super::usage::Usage;
 
 /// The program with its version.
-pub(super) const VERSION: &str = "itv 1.0.0";
+pub(super) const VERSION: &str = "itv 1.1.0";
 
 /// What the program does.
 pub(super) const SUMMARY: &str =
     "decides whether delivered files were made as their owners prescribed";
 
 /// The usages, in the order in which they are shown.
-pub(super) static USAGES: [Usage; 9] = [
-    VERIFY, SIGNED, SIGN, PAE, DIGEST, LINK, STATEMENT, PAYLOAD, MATCH,
+pub(super) static USAGES: [Usage; 10] = [
+    VERIFY, SIGNED, SIGN, PAE, DIGEST, LINK, STATEMENT, PAYLOAD, KEY, MATCH,
 ];
 
 /// The usage of `itv verify`.
 pub(super) const VERIFY: Usage = Usage {
     name: "verify",
     line: "itv verify --policy F --layout F --links DIR --sums F --at MOMENT [--ring F..]
-    [--public-keys] [--provenance F] [--records DIR] [--depth N]",
+    [--public-keys] [--json] [--provenance F] [--records DIR] [--depth N]",
     text: "    Writes the report of the verification: the line accepted with each step and
     each file, or the line refused with the first thing that does not hold.
       --policy F      The policy: the owners of the layout, what may be
@@ -32,8 +32,9 @@ pub(super) const VERIFY: Usage = Usage {
       --ring F        A ring of secrets, at most eight of them; the first ring
                       that has an id decides what its key is. May be left out
                       with --public-keys.
-      --public-keys   Checks signatures by the Ed25519 public keys in the
-                      policy and in the layouts too, after the rings.
+      --public-keys   Checks signatures by the public keys in the policy and in
+                      the layouts too, after the rings.
+      --json          Writes the report as one JSON object.
       --provenance F  The provenance, one envelope a line.
       --records DIR   The folder of the records of inspections, link bodies
                       without envelopes.
@@ -44,20 +45,27 @@ pub(super) const VERIFY: Usage = Usage {
 /// The usage of `itv signed`.
 pub(super) const SIGNED: Usage = Usage {
     name: "signed",
-    line: "itv signed ENVELOPE --ring F",
-    text: "    Writes the ids of the ring that signed the envelope, one a line, in byte
-    order.
-      --ring F  The ring of secrets.",
+    line: "itv signed ENVELOPE (--ring F | --keys F)",
+    text: "    Writes the ids of the ring, or of the public keys, that signed the
+    envelope, one a line, in byte order.
+      --ring F  The ring of secrets that signatures are checked by.
+      --keys F  The public keys that signatures are checked by, in place of a
+                ring: an object from id to key object, as itv key writes it.",
 };
 
 /// The usage of `itv sign`.
 pub(super) const SIGN: Usage = Usage {
     name: "sign",
-    line: "itv sign BODY --ring F --key ID --type TYPE [--onto ENVELOPE]",
-    text: "    Writes the envelope of the body, signed under the id's secret, and a line
-    feed.
+    line: "itv sign BODY (--ring F | --signature SIG --keys F) --key ID --type TYPE
+    [--onto ENVELOPE]",
+    text: "    Writes the envelope of the body, signed under the id's secret or with the
+    given signature, and a line feed.
       --ring F         The ring of secrets.
-      --key ID         The id whose secret signs.
+      --signature SIG  A signature that was made elsewhere of what itv pae
+                       writes, in place of a ring: the file of its bytes.
+      --keys F         With --signature, the public keys; it must be valid for
+                       the one under the id.
+      --key ID         The id of the key that signs.
       --type TYPE      The payload type; that of layouts, links and Statements
                        is application/vnd.in-toto+json.
       --onto ENVELOPE  An envelope of the same body and type, to which the
@@ -76,10 +84,12 @@ pub(super) const PAE: Usage = Usage {
 /// The usage of `itv digest`.
 pub(super) const DIGEST: Usage = Usage {
     name: "digest",
-    line: "itv digest FILE..",
+    line: "itv digest PATH.. [--recursive]",
     text: "    Writes a digest list: for each file the SHA-256 in hexadecimal, two spaces,
     the name, a line feed. Where a file cannot be read the lines before it
-    stand, and the list is not whole.",
+    stand, and the list is not whole.
+      --recursive  Takes a folder for the files below it, in byte order of
+                   their paths.",
 };
 
 /// The usage of `itv link`.
@@ -111,6 +121,16 @@ pub(super) const PAYLOAD: Usage = Usage {
     name: "payload",
     line: "itv payload ENVELOPE",
     text: "    Writes the payload of the envelope. It looks at no signature.",
+};
+
+/// The usage of `itv key`.
+pub(super) const KEY: Usage = Usage {
+    name: "key",
+    line: "itv key FILE.. [--name ID]",
+    text: "    Writes the public keys in PEM files as one JSON object from id to key
+    object, and a line feed, as layouts, policies and --keys take it.
+      --name ID  The id of the key, with one file; else it is made from the key
+                 as securesystemslib makes it.",
 };
 
 /// The usage of `itv match`.

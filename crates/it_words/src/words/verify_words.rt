@@ -40,6 +40,8 @@ pub struct VerifyWords {
     pub rings: Sequence<Text>,
     /// Whether signatures are checked by public keys too.
     pub public_keys: bool,
+    /// Whether the report is written as JSON.
+    pub json: bool,
     /// The path of the provenance's file, where there is one.
     pub provenance: Option<Text>,
     /// The path of the folder that the records of inspections are in, where there is one.
@@ -63,6 +65,7 @@ struct Inputs {
 struct Settings {
     rings: Sequence<Text>,
     public_keys: bool,
+    json: bool,
     provenance: Option<Text>,
     records: Option<Text>,
     depth: u8,
@@ -81,6 +84,7 @@ pub(super) fn command<'a>(alloc: Global) -> Result<Command<'a>, AllocError>
         needed_option(alloc, "at", "MOMENT"),
         plain_options(alloc, "ring", "F"),
         bare_option(alloc, "public-keys"),
+        bare_option(alloc, "json"),
         plain_option(alloc, "provenance", "F"),
         plain_option(alloc, "records", "DIR"),
         depth_option(alloc),
@@ -120,6 +124,7 @@ pub(super) fn read(
         at: inputs.at,
         rings: settings.rings,
         public_keys: settings.public_keys,
+        json: settings.json,
         provenance: settings.provenance,
         records: settings.records,
         depth: settings.depth,
@@ -164,6 +169,7 @@ fn settings_of(alloc: Global, values: &ArgMatches<'_>) -> Result<Option<Settings
     Ok(Some(Settings {
         rings,
         public_keys,
+        json: is_given(values, "json"),
         provenance: text_if_given(alloc, value(values, "provenance"))?,
         records: text_if_given(alloc, value(values, "records"))?,
         depth,

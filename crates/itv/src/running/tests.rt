@@ -1,5 +1,5 @@
 use super::{run_to, run_words};
-use crate::fake_files::FakeFiles;
+use crate::fake_files::{FakeFiles, Node};
 use crate::fault::{Fault, exit_status};
 use it_outcome::Status;
 use std::alloc::{AllocError, Global};
@@ -8,43 +8,65 @@ use std::io::Write;
 use std::process::Abort;
 use std::test::Fail;
 
+mod below;
 mod changes;
 mod delivery;
+mod keys;
 mod making;
 mod notes;
 
 use delivery::FILES;
 
-// What goes out of a command, and the fault where it stops.
-fn outcome(alloc: Global, words: &[String], out: &mut Vec<u8>) -> Result<Status, Fault> {
+// What stands at which path.
+type Nodes<'a> = &'a [(&'a str, Node<'a>)];
+
+// What goes out of a command over these files, and the fault where it stops.
+fn outcome(
+    alloc: Global,
+    nodes: Nodes<'_>,
+    words: &[String],
+    out: &mut Vec<u8>,
+) -> Result<Status, Fault> {
     let mut notes: Vec<u8> = Vec::new(alloc);
-    let disk = FakeFiles {
-        nodes: FILES.as_slice(),
-    };
-    run_words(&(disk, alloc), words, out, &mut notes)
+    run_words(&(FakeFiles { nodes }, alloc), words, out, &mut notes)
 }
 
 // What went out, with the note where the command stopped, and the status of the program.
-fn ran(alloc: Global, words: &[String]) -> Result<(Vec<u8>, u8), AllocError> {
+fn ran(alloc: Global, nodes: Nodes<'_>, words: &[String]) -> Result<(Vec<u8>, u8), AllocError> {
     let mut out: Vec<u8> = Vec::new(alloc);
-    let outcome = outcome(alloc, words, &mut out);
+    let outcome = outcome(alloc, nodes, words, &mut out);
     if let Err(fault) = &outcome {
         out.extend_from_slice(format!(in alloc; "{fault}")?.as_bytes())?;
     }
     Ok((out, exit_status(&outcome)))
 }
 
-// Whether a command comes to this text and status.
-fn comes_to(alloc: Global, words: &str, text: &str, status: u8) -> Result<bool, AllocError> {
+// Whether a command over these files comes to this text and status.
+fn comes_to(
+    alloc: Global,
+    nodes: Nodes<'_>,
+    words: &str,
+    text: &str,
+    status: u8,
+) -> Result<bool, AllocError> {
     let words = each_word(alloc, words)?;
-    let (found, found_status) = ran(alloc, words.as_slice())?;
+    let (found, found_status) = ran(alloc, nodes, words.as_slice())?;
     Ok(found.as_slice() == text.as_bytes() && found_status == status)
 }
 
 fn check(rt: &impl Abort, alloc: Global, rows: &[Row]) -> Result<(), AllocError> {
+    check_over(rt, alloc, FILES.as_slice(), rows)
+}
+
+fn check_over(
+    rt: &impl Abort,
+    alloc: Global,
+    nodes: Nodes<'_>,
+    rows: &[Row],
+) -> Result<(), AllocError> {
     for row in rows {
         assert!(rt;
-            comes_to(alloc, row.words, row.text, row.status)?,
+            comes_to(alloc, nodes, row.words, row.text, row.status)?,
             "{}",
             row.words
         );

@@ -1,31 +1,19 @@
-use Rattle.std.proofs.Common.{length, refl}
-use Rattle.std.proofs.lemmas.List.Elements.{All-push}
-use Rattle.std.proofs.lemmas.Option.{slice_get_read}
-use Rattle.it_member_notes.specs.LayoutNotes.{HasInspection, HasStep, Holds}
-use Rattle.it_member_notes.proofs.Noting.{not_so}
+use Rattle.std.proofs.lemmas.List.Elements.{All-head, All-push, All-tail}
+use Rattle.it_member_notes.specs.LayoutNotes.{Holds}
+use Rattle.it_member_notes.specs.RuleListNotes.{IsOfRules}
 use Rattle.it_member_notes.proofs.rule_notes.note_rules.Goals as goal
-use Rattle.it_member_notes.proofs.rule_notes.note_rules.Goals.{in-Match+then-not-is_in+in_ok-match_from_no_step+in_ok-push, in-Match+else-not-is_in, in_default}
 
-pub loop-place-preserved : goal.loop-place-preserved
-loop-place-preserved c =
-    let rules = c.args.list.now.rules.now in
-    elim c.match-rule.branch [
-      | in-Match+then-not-is_in+in_ok-match_from_no_step+in_ok-push w ↦
-          rw (w.notes-is, w.in_ok-push.ensures.items)
-          (All-push (Holds c.args.layout.now) _ _ c.loop-place.invariant
-          (rw w.in_ok-match_from_no_step.ensures
+pub loop-note-preserved : goal.loop-note-preserved
+loop-note-preserved c =
+    let left = rw c.in-Some.ensures.steps.0 at c.loop-note.invariant.left in
+    let P = IsOfRules c.args.layout.now c.args.list.now.rules.now in
+    record {
+      made = rw c.in_ok-push.ensures.items
+          (All-push (Holds c.args.layout.now) _ _ c.loop-note.invariant.made
           (record {
-            rules = rules;
-            are_rules = c.requires.are_rules;
-            rule = c.rule-item.result;
-            stands = slice_get_read rules (length rules) c.loop-place.place c.rule-item.result refl
-                c.loop-place-test.true c.rule-item.is;
-            is_match = (rw w.in-Match.is refl);
-            no_step = not_so w.is_in.result (HasStep c.args.layout.now w.in-Match.from)
-                w.is_in.ensures.steps w.if-not-is_in.true;
-            no_inspection = not_so w.is_in.result (HasInspection c.args.layout.now w.in-Match.from)
-                w.is_in.ensures.inspections w.if-not-is_in.true;
-          })))
-      | in-Match+else-not-is_in w ↦ rw w.notes-is c.loop-place.invariant
-      | in_default w ↦ rw w.notes-is c.loop-place.invariant
-    ]
+            rules = c.args.list.now.rules.now;
+            are_rules = rw c.in_ok-copy.ensures c.requires.are_rules;
+            is_so = All-head P c.in-Some.note _ left;
+          }));
+      left = All-tail P c.in-Some.note _ left;
+    }

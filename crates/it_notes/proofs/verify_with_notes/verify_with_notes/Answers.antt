@@ -1,13 +1,13 @@
 use Rattle.std.proofs.Common.{refl}
 use Rattle.std.proofs.lemmas.Result.{IfOk-weaker}
-use Rattle.it_report.specs.Report.{report_of}
+use Rattle.it_json_report.specs.Form.{form_of}
 use Rattle.it_verify.specs.VerifyOutput.{status_of}
 use Rattle.it_notes.proofs.verify_with_notes.verify_with_notes.Goals as goal
 
 pub returns-clause-ok : goal.returns-clause-ok
 returns-clause-ok g c =
-    IfOk-weaker c.write_verdict-outcome.result _ _ (λ status written. (
-      report_of c.in_ok-answer.answer.verdict,
+    IfOk-weaker c.write_in-outcome.result _ _ (λ status written. (
+      form_of c.args.form c.in_ok-answer.answer.verdict,
       record {
         verdict = c.in_ok-answer.answer.verdict;
         is_verdict = c.in_ok-answer.ensures.answers;
@@ -15,11 +15,11 @@ returns-clause-ok g c =
         status_is = written.0;
       },
       written.1,
-    )) c.write_verdict-outcome.ensures.ok
+    )) c.write_in-outcome.ensures.ok
 
 pub returns-clause-write : goal.returns-clause-write
 returns-clause-write g c = λ failed. (
-  report_of c.in_ok-answer.answer.verdict,
+  form_of c.args.form c.in_ok-answer.answer.verdict,
   status_of c.in_ok-answer.answer.verdict,
   record {
     verdict = c.in_ok-answer.answer.verdict;
@@ -27,5 +27,5 @@ returns-clause-write g c = λ failed. (
     text_is = refl;
     status_is = refl;
   },
-  c.write_verdict-outcome.ensures.write failed,
+  c.write_in-outcome.ensures.write failed,
 )

@@ -1,4 +1,4 @@
-use Rattle.std.proofs.Common.{take, map}
+use Rattle.std.proofs.Common.{take}
 use Rattle.it_public_keys.specs.Collected.{HoldsLayout}
 use Rattle.it_public_keys.proofs.Extending.{Collected}
 use Rattle.it_public_keys.proofs.collecting.with_files.Given as goal

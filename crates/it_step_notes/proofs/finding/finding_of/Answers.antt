@@ -1,5 +1,4 @@
-use Rattle.std.proofs.Common.{◌≡◌, ◌∙◌, ◌==◌, [], Contains, ap, length, map, rules, sym, true}
-use Rattle.std.proofs.lemmas.List.Elements.{All-weaker}
+use Rattle.std.proofs.Common.{◌≡◌, ◌∙◌, ◌==◌, [], ap, length, map, rules, sym, true}
 use Rattle.it_dsse.specs.Panel.{panel_of}
 use Rattle.it_chain.proofs.Walks.{nil_of}
 use Rattle.it_step_notes.specs.Signing.{IsSignedUnder}
@@ -18,9 +17,7 @@ returns-then-is_empty g c =
     let unsigned = none_holds P pubkeys c.in_ok-ids.ids.items c.in_ok-ids.ensures none in
     rw c.from.ensures (record {
       unsigned = unsigned;
-      unlisted = All-weaker P (λ id. ¬ Contains pubkeys id) (λ id signed listed.
-          unsigned id listed signed) c.in_ok-others.others.items c.in_ok-others.ensures;
-      signed = c.in_ok-others.ensures;
+      others_are = c.in_ok-others.ensures;
     })
 
 pub returns-in-None : goal.returns-in-None

@@ -1,10 +1,17 @@
-use Rattle.std.proofs.Common.{All, map}
+use Rattle.std.proofs.Common.{◌≡◌, ℕ, List, ◌++◌, map}
+use Rattle.std.specs.FinMap.{entries}
+use Rattle.it_base.specs.Table.{named_entries}
 use Rattle.it_dsse.specs.Panel.{panel_of}
-use Rattle.it_step_notes.specs.Signing.{IsSignedUnder}
+use Rattle.it_dsse.specs.Signed.{AreThose}
+use Rattle.it_dsse.specs.declared.key_object.KeyObject.{KeyObject}
+use Rattle.it_step_notes.specs.Signing.{IsNamedSigner}
 use Rattle.it_step_notes.proofs.signing_ids.other_ids.Given as goal
 
--- each id so far signed
-abbrev pub invariant-loop-signature : goal.invariant-loop-signature
-invariant-loop-signature g l = All (IsSignedUnder (panel_of
+-- those of the layout's ids so far that signed, and the keys that are left
+abbrev pub invariant-loop-id : goal.invariant-loop-id
+invariant-loop-id g l =
+    (done : List (List ℕ × KeyObject))
+    × (entries l.at.layout.now.keys ≡ done ++ named_entries l.id-iterator)
+    × AreThose (IsNamedSigner (panel_of
     (map (λ check. (goal.SignatureCheck-dyn g (check.vtable, check.value)).meaning check.value)
-    l.panel)) l.at.layout.now l.envelope) l.ids.items
+    l.panel)) l.at.layout.now l.envelope) (map (λ e. e.0) done) l.ids.items

@@ -1,31 +1,32 @@
-use Rattle.std.proofs.Common.{◌≡◌, ◌∙◌, ◌+◌, ◌++◌, ◌∷◌, [], take, refl, sym, ap, subst}
-use Rattle.std.proofs.KnownBytes.{Appends-nil, Appends-trans}
-use Rattle.std.proofs.lemmas.List.{take_all, take_more}
-use Rattle.itv.specs.Commands.{ListsDigests, no_line, one_more}
+use Rattle.std.proofs.Common.{refl}
 use Rattle.itv.proofs.digest_command.run.Goals as goal
-
-pub loop-file-init : goal.loop-file-init
-loop-file-init g c = ([], no_line, Appends-nil _)
-
-pub loop-file-preserved : goal.loop-file-preserved
-loop-file-preserved g c =
-    let files = c.as_slice-files.result.now in
-    let i = c.loop-file.file-index in
-    let more : take (i + 1) files ≡ take i files ++ c.file-item.result ∷ [] =
-    take_more files i c.file-item.result c.loop-file-test.true
-    ∙ ap (λ x. take i files ++ x ∷ []) (sym c.file-item.is) in
-    let before = c.loop-file.invariant in
-    let told = c.in_ok-digest_file.ensures in (
-      before.0 ++ told.0,
-      subst (λ paths. ListsDigests g.R.Disk.holdings paths (before.0 ++ told.0))
-          (sym more) (one_more before.1 told.1),
-      Appends-trans _ _ _ before.0 told.0 before.2 told.2,
-    )
+use Rattle.itv.proofs.digest_command.run.Goals.{then-words+in_ok-files+in_ok-digest_files}
+use Rattle.itv.proofs.digest_command.run.Goals.{else-words+in_ok-digest_files-2}
 
 pub returns : goal.returns
 returns g c =
-    let files = c.as_slice-files.result.now in
-    let told = c.loop-file.invariant in
-    let all : take c.loop-file.file-index files ≡ c.args.words.now.files =
-    take_all c.loop-file.file-index files c.loop-file-test.false ∙ c.as_slice-files.ensures in
-    (refl, told.0, subst (λ paths. ListsDigests g.R.Disk.holdings paths told.0) all told.1, told.2)
+    elim c.if-words.branch [
+      | then-words+in_ok-files+in_ok-digest_files w ↦
+          let told = w.in_ok-digest_files.ensures in (
+            told.0,
+            record {
+              files = w.in_ok-files.files.items;
+              are_named = rw w.if-words.true
+                  (rw c.as_slice-paths.ensures at w.in_ok-files.ensures);
+              are_lines = rw w.as_slice.ensures.value at told.1;
+              status_is = refl;
+            },
+            rw w.out-is told.2,
+          )
+      | else-words+in_ok-digest_files-2 w ↦
+          let told = w.in_ok-digest_files-2.ensures in (
+            told.0,
+            record {
+              files = c.args.words.now.paths;
+              are_named = rw w.if-words.false refl;
+              are_lines = rw c.as_slice-paths.ensures at told.1;
+              status_is = refl;
+            },
+            rw w.out-is told.2,
+          )
+    ]

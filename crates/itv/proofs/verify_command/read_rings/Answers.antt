@@ -1,16 +1,8 @@
-use Rattle.std.proofs.Common.{◌≡◌, ◌∙◌, ◌+◌, ◌++◌, List, [], ◌∷◌, take, ap, sym}
+use Rattle.std.proofs.Common.{◌≡◌, ◌∙◌, ◌+◌, ◌++◌, [], ◌∷◌, take, ap, sym}
 use Rattle.std.proofs.lemmas.List.{take_more}
-use Rattle.std.specs.List.{AllZip}
 use Rattle.itv.specs.Reading.{HoldsRing}
+use Rattle.itv.proofs.Pairs.{with_last}
 use Rattle.itv.proofs.verify_command.read_rings.Goals as goal
-
--- one more at the end of both lists
-with_last : {A B : Type 0} (R : A → B → Type 0) (xs : List A) (ys : List B) (x : A) (y : B)
-    → AllZip R xs ys → R x y → AllZip R (xs ++ x ∷ []) (ys ++ y ∷ [])
-with_last R [] [] x y each last = (last, tt)
-with_last R [] (b ∷ ys) x y each last = absurd each
-with_last R (a ∷ xs) [] x y each last = absurd each
-with_last R (a ∷ xs) (b ∷ ys) x y each last = (each.0, with_last R xs ys x y each.1 last)
 
 pub loop-path-preserved : goal.loop-path-preserved
 loop-path-preserved g c =

@@ -12,7 +12,7 @@ returns-clause-ok g c =
         holds_rings = search rules;
         table = c.in_ok-table.table;
         is_table = c.in_ok-table.ensures;
-        is_output = rw c.in_ok-checks.ensures at told.1;
+        is_output = rw (c.in_ok-checks.ensures, c.form_asked-form.ensures) at told.1;
       },
       told.2,
     )

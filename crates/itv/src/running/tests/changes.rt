@@ -1,4 +1,5 @@
 use super::comes_to;
+use super::delivery::FILES;
 use std::alloc::{AllocError, Global};
 use std::test::Fail;
 
@@ -17,7 +18,7 @@ struct Change {
     status: u8,
 }
 
-static CHANGES: [Change; 23] = [
+static CHANGES: [Change; 27] = [
     Change {
         from: "--depth 1",
         to: "--depth 1",
@@ -156,11 +157,38 @@ static CHANGES: [Change; 23] = [
         text: "policy is no ring of secrets: it is no JSON list",
         status: 2,
     },
+    Change {
+        from: "--ring ring",
+        to: "--ring ring --public-keys",
+        text: ACCEPTED,
+        status: 0,
+    },
+    Change {
+        from: "--ring ring",
+        to: "--public-keys",
+        text: "refused 22 OwnerMissing\nat -\nkey owner\n",
+        status: 1,
+    },
+    Change {
+        from: "--depth 1",
+        to: "--json",
+        text: "{\"verdict\":\"accepted\",\"steps\":[{\"name\":\"build\",\"keys\":2}],\
+            \"files\":[\"app\"]}\n",
+        status: 0,
+    },
+    Change {
+        from: "--depth 1",
+        to: "--depth 0 --json",
+        text: "{\"verdict\":\"refused\",\"number\":32,\"name\":\"TooDeep\",\
+            \"at\":[{\"step\":\"build\",\"key\":\"bob\"}]}\n",
+        status: 1,
+    },
 ];
 
 fn comes_to_as_said(alloc: Global, change: &Change) -> Result<bool, AllocError> {
     let words = VERIFY.replace(alloc, change.from, change.to)?;
-    comes_to(alloc, words.as_str(), change.text, change.status)
+    let nodes = FILES.as_slice();
+    comes_to(alloc, nodes, words.as_str(), change.text, change.status)
 }
 
 #[test]

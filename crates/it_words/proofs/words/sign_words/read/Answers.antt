@@ -1,10 +1,6 @@
 use Rattle.it_words.proofs.Missing.{missing}
 use Rattle.it_words.proofs.words.sign_words.read.Goals as goal
 
-pub returns-in_default : goal.returns-in_default
-returns-in_default c = λ words is. missing _ _ _ c.in_ok-body.field-0 c.in_ok-body.ensures
-    c.in_default.is words.body words.ring is.body is.ring
-
 pub returns-in_default-2 : goal.returns-in_default-2
 returns-in_default-2 c = λ words is. missing _ _ _ c.in_ok-key.field-0 c.in_ok-key.ensures
     c.in_default-2.is words.key words.kind is.key is.kind

@@ -32,6 +32,7 @@ no_settings : (values : List Row) (found : Option Settings) → Finds (AreSettin
 no_settings values None finds none words is = finds (record {
   rings = words.rings;
   public_keys = words.public_keys;
+  json = words.json;
   provenance = words.provenance;
   records = words.records;
   depth = words.depth;
@@ -39,6 +40,7 @@ no_settings values None finds none words is = finds (record {
   rings = is.rings;
   public_keys = is.public_keys;
   has_check = is.has_check;
+  json = is.json;
   provenance = is.provenance;
   records = is.records;
   depth = is.depth;

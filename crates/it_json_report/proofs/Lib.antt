@@ -1,0 +1,10 @@
+pub mod Beginning
+pub mod FaultMembers
+pub mod ListForms
+pub mod MemberForms
+pub mod NamesDiffering
+pub mod NumberForms
+pub mod OneLine
+pub mod OneLineVerdicts
+pub mod Telling
+pub mod TextForms

@@ -1,0 +1,4 @@
+pub mod Form
+pub mod Json
+pub mod JsonLaws
+pub mod JsonReport

@@ -1,0 +1,13 @@
+//! The report of a verdict as JSON (RFC 8259), beside the report in lines.
+#![tactic(auto)]
+
+mod fault_members;
+pub mod form;
+pub mod laws;
+mod lists;
+mod members;
+mod parts;
+mod reporting;
+mod texts;
+
+pub use reporting::json_report;

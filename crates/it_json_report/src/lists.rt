@@ -1,0 +1,87 @@
+//! Lists in JSON (RFC 8259, section 5), and what stands in those of a report.
+ghost use Rattle.std.specs.Prelude.{◌≡◌, ◌++◌, ℕ, List, OnOk};
+ghost use Rattle.it_json_report.specs.Json.{further, json_list, json_text};
+ghost use Rattle.it_json_report.specs.JsonReport.{step_object, sublayout_object};
+
+use crate::members::{push_number_member, push_text_member};
+use crate::texts::push_text;
+use it_base::text::Text;
+use std::alloc::{AllocError, Global};
+
+/// A value that has a form in JSON.
+pub(crate) trait JsonItem {
+    // what stands in JSON for the value
+    ghost form: { Self → List ℕ };
+
+    /// Appends the form.
+    fn push_item(&self, alloc: Global, json: &mut Vec<u8>) -> Result<(), AllocError>
+        ensures { OnOk result (json.new.items ≡ json.old.items ++ form self.now) };
+}
+
+impl JsonItem for Text {
+    ghost form = { json_text };
+
+    /// A name or a path, as a text.
+    fn push_item(&self, _alloc: Global, json: &mut Vec<u8>) -> Result<(), AllocError> {
+        push_text(json, self.as_str())
+    }
+}
+
+impl JsonItem for (Text, u64) {
+    ghost form = { step_object };
+
+    /// A step that held, and how many different keys signed for it.
+    fn push_item(&self, alloc: Global, json: &mut Vec<u8>) -> Result<(), AllocError> {
+        json.extend_from_slice(b"{\"name\":")?;
+        push_text(json, self.0.as_str())?;
+        push_number_member(alloc, json, "keys", self.1)?;
+        json.push(b'}')?;
+        Ok(())
+    }
+}
+
+impl JsonItem for (Text, Text) {
+    ghost form = { sublayout_object };
+
+    /// A sublayout by its step and key id.
+    fn push_item(&self, _alloc: Global, json: &mut Vec<u8>) -> Result<(), AllocError> {
+        json.extend_from_slice(b"{\"step\":")?;
+        push_text(json, self.0.as_str())?;
+        push_text_member(json, "key", self.1.as_str())?;
+        json.push(b'}')?;
+        Ok(())
+    }
+}
+
+/// Appends a list of the forms of its items.
+pub(super) fn push_list<T: JsonItem>(
+    alloc: Global,
+    json: &mut Vec<u8>,
+    items: &[T],
+) -> Result<(), AllocError>
+    ensures { OnOk result (json.new.items ≡ json.old.items ++ json_list T.form items.now) }
+{
+    let Some((first, rest)) = items.split_first() else {
+        return json.extend_from_slice(b"[]");
+    };
+    json.push(b'[')?;
+    first.push_item(alloc, json)?;
+    push_further_items(alloc, json, rest)?;
+    json.push(b']')?;
+    Ok(())
+}
+
+fn push_further_items<T: JsonItem>(
+    alloc: Global,
+    json: &mut Vec<u8>,
+    items: &[T],
+) -> Result<(), AllocError>
+    ensures { OnOk result (json.new.items
+        ≡ json.old.items ++ further T.form items.now) }
+{
+    for item in items {
+        json.push(b',')?;
+        item.push_item(alloc, json)?;
+    }
+    Ok(())
+}

@@ -1,0 +1,56 @@
+//! A text in JSON (RFC 8259, section 7).
+ghost use Rattle.std.specs.Prelude.{◌≡◌, ◌++◌, ◌<◌, OnOk};
+ghost use Rattle.std.specs.List.{flat_map};
+ghost use Rattle.it_report.specs.Name.{digit_form};
+ghost use Rattle.it_json_report.specs.Json.{escaped, is_special, json_text};
+
+use std::alloc::AllocError;
+
+pub(super) fn push_text(json: &mut Vec<u8>, text: &str) -> Result<(), AllocError>
+    ensures { OnOk result (json.new.items ≡ json.old.items ++ json_text text.now) }
+{
+    json.push(b'"')?;
+    push_bytes(json, text.as_bytes())?;
+    json.push(b'"')?;
+    Ok(())
+}
+
+fn push_bytes(json: &mut Vec<u8>, bytes: &[u8]) -> Result<(), AllocError>
+    ensures { OnOk result (json.new.items ≡ json.old.items ++ flat_map escaped bytes.now) }
+{
+    for byte in bytes {
+        push_byte(json, *byte)?;
+    }
+    Ok(())
+}
+
+fn push_byte(json: &mut Vec<u8>, byte: u8) -> Result<(), AllocError>
+    ensures { OnOk result (json.new.items ≡ json.old.items ++ escaped byte) }
+{
+    if byte < b' ' {
+        let form = [b'\\', b'u', b'0', b'0', digit(byte / 16), digit(byte % 16)];
+        return json.extend_from_slice(&form);
+    }
+    if is_special(byte) {
+        json.push(b'\\')?;
+    }
+    json.push(byte)?;
+    Ok(())
+}
+
+fn is_special(byte: u8) -> bool
+    ensures { result ≡ is_special byte }
+{
+    byte == b'"' || byte == b'\\'
+}
+
+fn digit(value: u8) -> u8
+    requires { value < 16 }
+    ensures { result ≡ digit_form value }
+{
+    if value < 10 {
+        b'0' + value
+    } else {
+        b'a' + (value - 10)
+    }
+}

@@ -1,0 +1,5 @@
+pub mod Checked
+pub mod FilesRead
+pub mod KeysRead
+pub mod KeysWritten
+pub mod Naming

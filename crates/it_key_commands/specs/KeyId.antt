@@ -1,0 +1,28 @@
+-- The ids of keys, as the tools of in-toto have them (securesystemslib, which in-toto 1.0 leaves
+-- them to): the SHA-256 of a canonical JSON text.
+use Rattle.std.specs.Prelude.{ℕ, List, [], ◌∷◌, ◌++◌, ◌==◌, ◌||◌, codes, if◌then◌else◌}
+use Rattle.std.specs.List.{flat_map}
+use Rattle.hex.specs.Hex.{encode_lower}
+use Rattle.sha2.specs.Sha256.{sha256}
+use Rattle.it_dsse.specs.declared.key_object.KeyObject.{KeyObject}
+
+-- a byte of a text: a quotation mark or a backslash has a backslash before it, and no other
+abbrev pub escaped : ℕ → List ℕ
+escaped byte = if byte == 34 || byte == 92 then 92 ∷ byte ∷ [] else byte ∷ []
+
+-- a text between quotation marks
+unfoldable pub quoted : List ℕ → List ℕ
+quoted text = codes "\"" ++ flat_map escaped text ++ codes "\""
+
+-- the canonical JSON text of a key object: its members and the hash algorithms of its id, in the
+-- order of their bytes, with no space
+unfoldable pub id_text : KeyObject → List ℕ
+id_text object =
+    codes "{\"keyid_hash_algorithms\":[\"sha256\",\"sha512\"],\"keytype\":"
+    ++ quoted object.keytype
+    ++ codes ",\"keyval\":{\"public\":" ++ quoted object.public
+    ++ codes "},\"scheme\":" ++ quoted object.scheme ++ codes "}"
+
+-- the id of a key object, in lower-case hexadecimal digits
+unfoldable pub key_id : KeyObject → List ℕ
+key_id object = encode_lower (sha256 (id_text object))

@@ -1,0 +1,9 @@
+pub mod KeyFile
+pub mod KeyId
+pub mod KeyOutput
+pub mod KeysFile
+pub mod SignMadeOntoOutput
+pub mod SignMadeOutput
+pub mod SignedByKeysOutput
+pub mod Signers
+pub mod inside

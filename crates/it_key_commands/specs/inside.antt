@@ -1,0 +1,5 @@
+pub mod BodyFaults
+pub mod FilesFaults
+pub mod ReadKeys
+pub mod SignatureFaults
+pub mod SignerNames

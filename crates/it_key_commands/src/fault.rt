@@ -1,0 +1,82 @@
+//! Why a command on public keys stops.
+ghost use Rattle.std.specs.Prelude.{◌≡◌};
+ghost use Rattle.it_key_commands.specs.declared.fault.KeyFault.TheVariants.{Run};
+ghost use Rattle.it_outcome.specs.declared.outcome.RunFault.TheVariants.{OutOfMemory};
+
+use it_outcome::RunFault;
+use std::alloc::AllocError;
+use thiserror::Error;
+
+/// Why a command on public keys stopped before its whole output went out.
+#[derive(Clone, Copy, Debug, PartialEq, Eq, Error)]
+pub enum KeyFault {
+    /// What other commands stop for as well.
+    #[error("{0}")]
+    Run(RunFault),
+    /// No key object has the id.
+    #[error("there is no key with that id")]
+    UnknownId,
+    /// The key object of the id describes no public key.
+    #[error("the key with that id is not a public key that signatures are checked by")]
+    NoPublicKey,
+    /// The signature is not valid for the key of the id.
+    #[error("the signature is not one of the body by the key with that id")]
+    BadSignature,
+    /// A name was given, and there is not just one file.
+    #[error("a name is taken with one file only")]
+    NotOneFile,
+    /// The file at this place, counted from 0, is not a public key, for this reason.
+    #[error("file {0}, counted from 0, is not a public key: it is {1}")]
+    BadFile(usize, FileFault),
+}
+
+/// Why a file is not a public key.
+#[derive(Clone, Copy, Debug, PartialEq, Eq, Error)]
+pub enum FileFault {
+    /// It is not the PEM text of a public key (RFC 7468, section 13).
+    #[error("not the PEM text of a public key")]
+    NotPem,
+    /// It is a PEM text of another label.
+    #[error("{0}")]
+    Other(OtherText),
+    /// It is a public key of another kind than Ed25519.
+    #[error("a public key of another kind than Ed25519")]
+    OtherKind,
+    /// It has the form of a public key, and its point is not a key: RFC 8032, section 5.1.3,
+    /// decodes none, or one of small order.
+    #[error("a public key whose point is not on the curve, or of small order")]
+    BadPoint,
+}
+
+/// What a PEM text is that is not a public key, by its label (RFC 7468, section 2).
+#[derive(Clone, Copy, Debug, PartialEq, Eq, Error)]
+pub enum OtherText {
+    /// A private key, in one of its forms.
+    #[error("a private key")]
+    PrivateKey,
+    /// An RSA public key in its older form (RFC 8017, appendix A.1.1).
+    #[error("an RSA public key in its older form, without its algorithm")]
+    RsaPublicKey,
+    /// A certificate.
+    #[error("a certificate")]
+    Certificate,
+    /// A PEM text of any other label.
+    #[error("a PEM text of another label")]
+    Unknown,
+}
+
+impl From<AllocError> for KeyFault {
+    ghost from_gives = { λ _ fault. fault ≡ Run OutOfMemory };
+
+    fn from(_error: AllocError) -> KeyFault {
+        KeyFault::Run(RunFault::OutOfMemory)
+    }
+}
+
+impl From<RunFault> for KeyFault {
+    ghost from_gives = { λ fault whole. whole ≡ Run fault };
+
+    fn from(fault: RunFault) -> KeyFault {
+        KeyFault::Run(fault)
+    }
+}

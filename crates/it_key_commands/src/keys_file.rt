@@ -1,0 +1,71 @@
+//! The file of keys, written.
+ghost use Rattle.std.specs.Prelude.{◌≡◌, IfOk, OnOk};
+ghost use Rattle.serde_json.specs.Data.{put, string};
+ghost use Rattle.serde_json.specs.View.{members_view, view};
+ghost use Rattle.it_key_commands.specs.KeysFile.{KeysOf, key_document, keys_form};
+ghost use Rattle.it_making.specs.ArtifactDocuments.{table_document};
+
+use it_base::table::Table;
+use it_dsse::key_object::KeyObject;
+use serde_json::{Map, Value};
+use std::alloc::{AllocError, Global};
+
+/// The text of a file of keys: one JSON object, compact, and a line feed.
+pub(crate) fn keys_text(alloc: Global, keys: &Table<KeyObject>) -> Result<Vec<u8>, AllocError>
+    ensures form { IfOk result (λ text. text.items ≡ keys_form keys.now) }
+    ensures reads_back { IfOk result (λ text. KeysOf text.items keys.now) }
+{
+    let value = keys_value(alloc, keys)?;
+    let mut text = value.to_vec(alloc)?;
+    text.push(b'\n')?;
+    Ok(text)
+}
+
+fn keys_value(alloc: Global, keys: &Table<KeyObject>) -> Result<Value, AllocError>
+    ensures { IfOk result (λ value. view value ≡ table_document key_document keys.now) }
+{
+    let mut members = Map::new(alloc);
+    for (id, key) in keys.iter() {
+        let value = key_value(alloc, key)?;
+        put_member(alloc, &mut members, id.as_str(), value)?;
+    }
+    Ok(Value::from(members))
+}
+
+fn key_value(alloc: Global, key: &KeyObject) -> Result<Value, AllocError>
+    ensures { IfOk result (λ value. view value ≡ key_document key.now) }
+{
+    let mut members = Map::new(alloc);
+    put_text(alloc, &mut members, "keytype", key.keytype.as_str())?;
+    let mut keyval = Map::new(alloc);
+    put_text(alloc, &mut keyval, "public", key.public.as_str())?;
+    put_member(alloc, &mut members, "keyval", Value::from(keyval))?;
+    put_text(alloc, &mut members, "scheme", key.scheme.as_str())?;
+    Ok(Value::from(members))
+}
+
+/// Puts a text under a name.
+fn put_text(
+    alloc: Global,
+    members: &mut Map<String, Value>,
+    name: &str,
+    text: &str,
+) -> Result<(), AllocError>
+    ensures { OnOk result (members_view members.new.entries
+        ≡ put name.now (string text.now) (members_view members.old.entries)) }
+{
+    put_member(alloc, members, name, Value::try_from_str(alloc, text)?)
+}
+
+/// Puts a value under a name.
+fn put_member(
+    alloc: Global,
+    members: &mut Map<String, Value>,
+    name: &str,
+    value: Value,
+) -> Result<(), AllocError>
+    ensures { OnOk result (members_view members.new.entries
+        ≡ put name.now (view value) (members_view members.old.entries)) }
+{
+    serde_json::put(members, alloc, name, value)
+}

@@ -1,0 +1,58 @@
+//! Signatures that were made elsewhere.
+ghost use Rattle.std.specs.Prelude.{◌≡◌, ◌≢◌, IfErr, IfOk, OnOk};
+ghost use Rattle.it_key_commands.specs.SignMadeOutput.{IsMadeUnder, IsSignMadeFault};
+ghost use Rattle.it_key_commands.specs.SignMadeOutput.{made_signature};
+
+use crate::fault::KeyFault;
+use crate::signer::check_signature;
+use it_base::sequence::Sequence;
+use it_base::table::Table;
+use it_base::text::Text;
+use it_dsse::envelope::Signature;
+use it_dsse::key_object::KeyObject;
+use it_dsse::pae;
+use it_outcome::RunFault;
+use it_public_keys::PublicKeys;
+use std::alloc::{AllocError, Global};
+
+/// A signature that was made elsewhere: of which body, and by which key.
+#[derive(Clone, Copy)]
+pub struct MadeSignature<'a> {
+    /// The id of the key, which becomes the signature's hint.
+    pub id: &'a str,
+    /// The type of the body, such as `application/vnd.in-toto+json`.
+    pub kind: &'a str,
+    /// The body itself.
+    pub body: &'a [u8],
+    /// The bytes of the signature, as the key's scheme has them: of Ed25519, 64 bytes.
+    pub signature: &'a [u8],
+}
+
+impl MadeSignature<'_> {
+    /// Checks that the signature is one of the body by the key that `objects` has under the id.
+    pub(crate) fn check(&self, alloc: Global, objects: &Table<KeyObject>) -> Result<(), KeyFault>
+        ensures ok { let m = self.now in OnOk result
+            (IsMadeUnder objects.now m.id.now m.kind.now m.body.now m.signature.now) }
+        ensures err { let m = self.now in IfErr result
+            (IsSignMadeFault objects.now m.id.now m.kind.now m.body.now m.signature.now) }
+        ensures unwritten { IfErr result (λ fault. fault ≢ KeyFault.Run RunFault.Write) }
+    {
+        let Some(object) = objects.get(self.id) else {
+            return Err(KeyFault::UnknownId);
+        };
+        let keys = PublicKeys::of(alloc, objects)?;
+        let message = pae(alloc, self.kind, self.body)?;
+        check_signature(&keys, object, message.as_slice(), self.signature)
+    }
+
+    /// The signature as an envelope holds it.
+    pub(crate) fn in_envelope(&self, alloc: Global) -> Result<Signature, AllocError>
+        ensures { let m = self.now in IfOk result
+            (λ signature. signature ≡ made_signature m.id.now m.signature.now) }
+    {
+        Ok(Signature {
+            keyid: Text::copy(alloc, self.id)?,
+            sig: Sequence::from(Vec::from_slice(alloc, self.signature)?),
+        })
+    }
+}

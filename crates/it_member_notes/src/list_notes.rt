@@ -1,0 +1,80 @@
+//! The notes on a list of artifact rules.
+ghost use Rattle.std.specs.Prelude.{◌≡◌, ◌↔◌, All, IfOk, IsTrue};
+ghost use Rattle.it_member_notes.specs.RuleListNotes.{EndsOpen, HasInspection, HasStep};
+ghost use Rattle.it_member_notes.specs.RuleListNotes.{IsDisallow, IsOfRules};
+
+use crate::rule_list_note::RuleListNote;
+use it_base::text::Text;
+use it_docs::layout::Layout;
+use it_docs::rule::Rule;
+use std::alloc::{AllocError, Global};
+
+/// The notes on a list of artifact rules that may take from the steps and the inspections of the
+/// `layout`, as those of its steps and inspections and the policy's rules on what is delivered do:
+/// on each rule in its order, and then on the end of the list. Each note is true.
+///
+/// # Errors
+///
+/// `AllocError` where memory was refused.
+pub fn rule_list_notes(
+    alloc: Global,
+    layout: &Layout,
+    rules: &[Rule],
+) -> Result<Vec<RuleListNote>, AllocError>
+    ensures { IfOk result (λ notes. All (IsOfRules layout.now rules.now) notes.items) }
+{
+    let mut notes = Vec::new(alloc);
+    for (place, rule) in rules.iter().enumerate() {
+        if let Rule::Match { from, .. } = rule {
+            if !is_in(layout, from) {
+                notes.push(match_from_no_step(alloc, place, from)?)?;
+            }
+        }
+    }
+    if ends_open(rules) {
+        notes.push(RuleListNote::NoDisallowAtEnd)?;
+    }
+    Ok(notes)
+}
+
+fn match_from_no_step(alloc: Global, rule: usize, name: &Text) -> Result<RuleListNote, AllocError>
+    ensures { IfOk result (λ note. note ≡ RuleListNote.MatchFromNoStep rule name.now) }
+{
+    Ok(RuleListNote::MatchFromNoStep {
+        rule,
+        name: Text::copy(alloc, name.as_str())?,
+    })
+}
+
+/// Whether there are rules, and the last is no `DISALLOW`.
+fn ends_open(rules: &[Rule]) -> bool
+    ensures { IsTrue result → EndsOpen rules.now }
+{
+    match rules.split_last() {
+        Some((last, _front)) => !is_disallow(last),
+        None => false,
+    }
+}
+
+fn is_disallow(rule: &Rule) -> bool
+    ensures { IsTrue result ↔ IsDisallow rule.now }
+{
+    matches!(rule, Rule::Disallow(_))
+}
+
+/// Whether a step or an inspection of the layout has the name.
+fn is_in(layout: &Layout, name: &Text) -> bool
+    ensures steps { HasStep layout.now name.now → IsTrue result }
+    ensures inspections { HasInspection layout.now name.now → IsTrue result }
+{
+    layout
+        .steps
+        .as_slice()
+        .iter()
+        .any(|step| step.name.as_str() == name.as_str())
+        || layout
+            .inspections
+            .as_slice()
+            .iter()
+            .any(|inspection| inspection.name.as_str() == name.as_str())
+}

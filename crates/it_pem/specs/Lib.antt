@@ -1,0 +1,3 @@
+pub mod Label
+pub mod PublicKeyText
+pub mod inside

@@ -1,0 +1,15 @@
+use Rattle.std.proofs.Common.{◌∙◌, ◌&&◌}
+use Rattle.std.specs.List.{filter, list_any}
+use Rattle.it_dsse.specs.Meter.{raised}
+use Rattle.it_dsse.specs.Signed.{first_place, is_admitted}
+use Rattle.it_public_keys.proofs.table.PublicKeysSignatureCheck.any_valid.Goals as goal
+
+pub returns-clause-answer : goal.returns-clause-answer
+returns-clause-answer c = c.any_valid.ensures.answer
+    ∙ (λ i. list_any (λ signature. is_admitted c.args.id.now signature
+    && c.prepared.ensures signature.sig i) c.args.signatures.now)
+
+pub returns-clause-counted : goal.returns-clause-counted
+returns-clause-counted c = c.any_valid.ensures.counted
+    ∙ (λ i. raised c.args.meter.now (first_place (λ signature. c.prepared.ensures signature.sig i)
+    (filter (is_admitted c.args.id.now) c.args.signatures.now)))

@@ -1,0 +1,38 @@
+//! The check of one message by one key.
+ghost use Rattle.std.specs.Prelude.{None, false, option_map, unwrap_or};
+ghost use Rattle.it_public_keys.specs.Validity.{is_signature_with};
+
+use crate::key::Key;
+use it_dsse::check::SignatureCheck;
+use it_dsse::key_object::KeyObject;
+use it_dsse::meter::Meter;
+
+/// The key that is asked for, where there is one, and the digest that it needs of the message. It
+/// is computed before the signatures are tried, and so once however many they are.
+#[derive(Drop)]
+pub(crate) struct Prepared<'k> {
+    pub(crate) key: Option<&'k Key>,
+    pub(crate) digest: [u8; 32],
+}
+
+impl<'k> SignatureCheck for Prepared<'k> {
+    ghost meaning = { λ prepared. record {
+      key_of = λ id object. None;
+      is_valid = λ n message sig. unwrap_or (option_map
+          (λ key. is_signature_with key.now prepared.digest message sig) prepared.key) false;
+    } };
+
+    /// No key, since the message is that of one key.
+    fn key(&self, _id: &str, _object: &KeyObject) -> Option<u32> {
+        None
+    }
+
+    /// Whether `sig` is the key's signature of the message.
+    fn valid(&self, _key: u32, message: &[&[u8]], sig: &[u8], meter: &mut Meter) -> bool {
+        meter.raise();
+        match self.key {
+            Some(key) => key.is_signature_with(&self.digest, message, sig),
+            None => false,
+        }
+    }
+}

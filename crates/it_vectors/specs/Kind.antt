@@ -1,0 +1,10 @@
+-- The names of the kinds of keys in a vector (a format of this project).
+use Rattle.std.specs.Prelude.{ℕ, List, codes}
+use Rattle.it_vectors.specs.declared.kind.Kind.{Kind}
+use Rattle.it_vectors.specs.declared.kind.Kind.TheVariants.{Ed25519, P256, P256Digest, Rsa}
+
+abbrev pub name_of : Kind → List ℕ
+name_of Ed25519 = codes "ed25519"
+name_of P256 = codes "p256"
+name_of P256Digest = codes "p256-digest"
+name_of Rsa = codes "rsa"

@@ -1,0 +1,6 @@
+pub mod Agreement
+pub mod Key
+pub mod Kind
+pub mod Line
+pub mod Signature
+pub mod Status

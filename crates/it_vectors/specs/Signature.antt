@@ -1,0 +1,26 @@
+-- Which bytes are a signature of a message under a public key of a kind.
+use Rattle.std.specs.Prelude.{◌≡◌, ℕ, List, length}
+use Rattle.it_ed25519.specs.PublicKey.{IsPublicKey}
+use Rattle.it_ed25519.specs.Signature.{IsSignature as IsEd25519Signature}
+use Rattle.it_p256.specs.Key.{Key as P256Key}
+use Rattle.it_p256.specs.Signature.{IsSignature as IsP256Signature, IsSignatureOfDigest}
+use Rattle.it_rsa.specs.Key.{Key as RsaKey}
+use Rattle.it_rsa.specs.Signature.{IsSignature as IsRsaSignature}
+use Rattle.it_vectors.specs.Key.{IsP256Info, IsRsaInfo}
+use Rattle.it_vectors.specs.declared.kind.Kind.{Kind}
+use Rattle.it_vectors.specs.declared.kind.Kind.TheVariants.{Ed25519, P256, P256Digest, Rsa}
+
+-- the bytes are a key of P-256, and its signature of what has the 32 bytes of this digest
+abbrev pub IsSignedDigest : (info digest signature : List ℕ) → Type 0
+IsSignedDigest info digest signature = (length digest ≡ 32)
+    × ((key : P256Key) × IsP256Info info key × IsSignatureOfDigest key digest signature)
+
+-- the bytes are a public key of the kind, and its signature of the message
+abbrev pub IsSignatureOf : Kind → (key message signature : List ℕ) → Type 0
+IsSignatureOf Ed25519 key message signature =
+    IsPublicKey key × IsEd25519Signature key message signature
+IsSignatureOf P256 info message signature =
+    (key : P256Key) × IsP256Info info key × IsP256Signature key message signature
+IsSignatureOf P256Digest info digest signature = IsSignedDigest info digest signature
+IsSignatureOf Rsa info message signature =
+    (key : RsaKey) × IsRsaInfo info key × IsRsaSignature key message signature

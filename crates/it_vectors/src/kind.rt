@@ -1,0 +1,63 @@
+//! The kinds of public keys.
+ghost use Rattle.std.specs.Prelude.{◌≡◌, ◌↔◌, IsTrue};
+ghost use Rattle.it_base.specs.Finds.{Finds};
+ghost use Rattle.it_vectors.specs.Key.{IsKeyOf};
+ghost use Rattle.it_vectors.specs.Kind.{name_of};
+ghost use Rattle.it_vectors.specs.Signature.{IsSignatureOf};
+
+use crate::ed25519::{is_ed25519_key, is_ed25519_signature};
+use crate::p256::{is_p256_key, is_p256_signature, is_p256_signature_of_digest};
+use crate::rsa::{is_rsa_key, is_rsa_signature};
+
+/// What a vector's key and signature are of.
+#[derive(Clone, Copy)]
+pub(crate) enum Kind {
+    /// Ed25519 (RFC 8032). A key is its 32 bytes.
+    Ed25519,
+    /// ECDSA over P-256 with SHA-256 (FIPS 186-5). A key is a SubjectPublicKeyInfo.
+    P256,
+    /// The same, where the message's SHA-256 stands for the message.
+    P256Digest,
+    /// RSASSA-PSS with SHA-256 (RFC 8017). A key is a SubjectPublicKeyInfo.
+    Rsa,
+}
+
+impl Kind {
+    /// The kind that a vector names so, or `None` where none has that name.
+    pub(crate) fn named(name: &str) -> Option<Kind>
+        ensures { Finds (λ kind. name_of kind ≡ name.now) result }
+    {
+        match name {
+            "ed25519" => Some(Kind::Ed25519),
+            "p256" => Some(Kind::P256),
+            "p256-digest" => Some(Kind::P256Digest),
+            "rsa" => Some(Kind::Rsa),
+            _ => None,
+        }
+    }
+
+    /// Whether the bytes are a public key of this kind, by the library of the kind.
+    pub(crate) fn takes_key(self, key: &[u8]) -> bool
+        ensures { IsTrue result ↔ IsKeyOf self key.now }
+    {
+        match self {
+            Kind::Ed25519 => is_ed25519_key(key),
+            Kind::P256 => is_p256_key(key),
+            Kind::P256Digest => is_p256_key(key),
+            Kind::Rsa => is_rsa_key(key),
+        }
+    }
+
+    /// Whether the bytes are a public key of this kind and its signature of the message, by the
+    /// library of the kind.
+    pub(crate) fn takes_signature(self, key: &[u8], message: &[u8], signature: &[u8]) -> bool
+        ensures { IsTrue result ↔ IsSignatureOf self key.now message.now signature.now }
+    {
+        match self {
+            Kind::Ed25519 => is_ed25519_signature(key, message, signature),
+            Kind::P256 => is_p256_signature(key, message, signature),
+            Kind::P256Digest => is_p256_signature_of_digest(key, message, signature),
+            Kind::Rsa => is_rsa_signature(key, message, signature),
+        }
+    }
+}

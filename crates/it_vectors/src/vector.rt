@@ -1,0 +1,74 @@
+//! A vector: a key, a message and a signature, and what other implementations say of them.
+ghost use Rattle.std.specs.Prelude.{◌↔◌, IsTrue};
+ghost use Rattle.it_vectors.specs.Agreement.{Holds};
+
+use crate::kind::Kind;
+use crate::outcome::Outcome;
+use it_base::sequence::Sequence;
+use it_base::text::Text;
+
+/// A key and what is tried with it, and whether that is to hold.
+#[derive(Drop)]
+pub(crate) struct Vector {
+    /// The name, which tells vectors apart for the reader.
+    pub(crate) name: Text,
+    /// What the key and the signature are of.
+    pub(crate) kind: Kind,
+    /// The bytes of the key.
+    pub(crate) key: Sequence<u8>,
+    /// What is tried.
+    pub(crate) tried: Tried,
+    /// Whether it is to hold.
+    pub(crate) wanted: bool,
+}
+
+/// What is tried.
+#[derive(Drop)]
+pub(crate) enum Tried {
+    /// Whether the bytes are a key.
+    KeyAlone,
+    /// Whether these bytes are the key's signature of a message.
+    Signature(Signed),
+}
+
+/// A message with the bytes that could be its signature.
+#[derive(Drop)]
+pub(crate) struct Signed {
+    /// The bytes of the message.
+    pub(crate) message: Sequence<u8>,
+    /// The bytes of the signature.
+    pub(crate) signature: Sequence<u8>,
+}
+
+impl Vector {
+    ghost use Rattle.it_vectors.specs.Agreement.{Agrees, IsOutcomeOf};
+
+    /// Tries the vector.
+    pub(crate) fn outcome(self) -> Outcome
+        ensures { IsOutcomeOf self result }
+    {
+        Outcome {
+            agrees: self.agrees(),
+            name: self.name,
+        }
+    }
+
+    /// Whether what is tried holds exactly where that is wanted.
+    fn agrees(&self) -> bool
+        ensures { IsTrue result ↔ Agrees self.now }
+    {
+        holds(self.kind, self.key.as_slice(), &self.tried) == self.wanted
+    }
+}
+
+/// Whether what is tried holds, by the library of the kind.
+fn holds(kind: Kind, key: &[u8], tried: &Tried) -> bool
+    ensures { IsTrue result ↔ Holds kind key.now tried.now }
+{
+    match tried {
+        Tried::KeyAlone => kind.takes_key(key),
+        Tried::Signature(signed) => {
+            kind.takes_signature(key, signed.message.as_slice(), signed.signature.as_slice())
+        }
+    }
+}

@@ -1,0 +1,3 @@
+pub mod FilesFound
+pub mod Pairs
+pub mod SortedTexts

@@ -7,7 +7,7 @@ import sys
 import tree
 
 CITATION = re.compile(
-    r"\b[TDWR][0-9]+\b|\b[Rr]ow [0-9]+|\bdocument 0[1-4]\b|/work/|/opt/|/home/"
+    r"\b[TDWR][0-9]+\b|\b[Rr]ow [0-9]+|\bdocument 0[1-4]\b|/(?:work|opt|home)/"
 )
 # What looks so and is none: base64, hexadecimal digits, and the time of day in a moment.
 ALLOWED = [

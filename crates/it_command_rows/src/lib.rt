@@ -5,6 +5,8 @@
 #[cfg(test)]
 mod command_tests;
 #[cfg(test)]
+mod key_tests;
+#[cfg(test)]
 mod made_link_tests;
 #[cfg(test)]
 mod made_statement_tests;

@@ -1,18 +1,29 @@
--- Public keys that are read from the infos of files.
-use Rattle.std.proofs.Common.{◌≡◌, ◌∙◌, ℕ, List, length, Some, Ok, refl, ap, subst}
+-- Public keys that are read from the texts of files.
+use Rattle.std.proofs.Common.{◌≡◌, ◌∙◌, ℕ, List, [], length, Ok, refl, sym, ap, subst, inr}
+use Rattle.std.specs.Str.{trim_end}
 use Rattle.std.proofs.lemmas.Slice.Eq.{bytes_eq-Decides}
 use Rattle.hex.specs.Hex.{decode_sized, encode_lower}
 use Rattle.it_ed25519.specs.PublicKey.{IsPublicKey}
-use Rattle.it_public_keys.specs.declared.key.Key.TheVariants as KeyOf
-use Rattle.it_key_commands.specs.KeyFile.{IsKeyFile, ed25519_object}
+use Rattle.it_pem.specs.PublicKeyText.{info_in}
+use Rattle.it_public_keys.specs.declared.key.Key.TheVariants.{Ed25519}
+use Rattle.it_key_commands.specs.KeyFile.{IsKeyFile, IsLinesFault, key_object, without_returns}
 use Rattle.it_key_commands.specs.Signers.{Describes}
+use Rattle.it_key_commands.specs.declared.fault.FileFault.{FileFault}
+use Rattle.it_key_commands.specs.declared.fault.FileFault.TheVariants.{
+  NotPem,
+  Other,
+  OtherKind,
+  BadPoint,
+  BadCurveKey,
+  BadRsaKey,
+}
 use Rattle.it_key_commands.specs.declared.key_file.FileKey.{FileKey}
-use Rattle.it_key_commands.specs.declared.key_file.FileKey.TheVariants.{Ed25519}
-use Rattle.it_key_commands.specs.inside.ReadKeys.{DescribesRead, IsReadKey, object_of}
+use Rattle.it_key_commands.specs.inside.ReadKeys.{IsReadKey, IsTextFault}
 
 -- the key object of a key whose digits read back describes the key
 pub described : (key : List ℕ) → IsPublicKey key
-    → decode_sized (encode_lower key) (length key) ≡ Ok key → Describes (ed25519_object key) (KeyOf.Ed25519 key)
+    → decode_sized (encode_lower key) (length key) ≡ Ok key
+    → Describes (key_object [] (Ed25519 key)) (Ed25519 key)
 described key is reads =
     let sized : decode_sized (encode_lower key) 32 ≡ Ok key =
     subst (λ n. decode_sized (encode_lower key) n ≡ Ok key) is.long reads in
@@ -22,11 +33,24 @@ described key is reads =
     }
 
 -- a file that is read as a key is that key
-pub read_file : (file : List ℕ) (key : FileKey) → IsReadKey file key → DescribesRead key
-    → IsKeyFile file (object_of key)
-read_file file (Ed25519 key) read describes = record {
-  key = key;
-  info_is = read.1 ∙ ap (λ i. Some i) read.2.0;
-  object_is = refl;
+pub read_file : (file : List ℕ) (read : FileKey) → IsReadKey (without_returns file) read
+    → Describes (key_object read.text.now read.key) read.key
+    → IsKeyFile file (key_object read.text.now read.key)
+read_file file read is describes = record {
+  key = read.key;
+  info_is = ap info_in (sym is.text_is) ∙ is.of_text.info_is;
+  object_is = ap (λ text. key_object text read.key) is.text_is;
   describes = describes;
 }
+
+-- what is wrong with a text is wrong with its lines
+pub text_fails : (lines text : List ℕ) (fault : FileFault) → text ≡ trim_end lines
+    → IsTextFault text fault → IsLinesFault lines fault
+text_fails lines text NotPem is fails =
+    inr (subst (λ t. IsTextFault t NotPem) is fails)
+text_fails lines text (Other other) is fails =
+    subst (λ t. IsTextFault t (Other other)) is fails
+text_fails lines text OtherKind is fails = absurd fails
+text_fails lines text BadPoint is fails = absurd fails
+text_fails lines text BadCurveKey is fails = absurd fails
+text_fails lines text BadRsaKey is fails = absurd fails

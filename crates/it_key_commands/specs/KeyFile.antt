@@ -1,14 +1,18 @@
 -- Public keys in files: PEM texts (RFC 7468, section 13) of a SubjectPublicKeyInfo, and the key
 -- objects that are made of them.
-use Rattle.std.specs.Prelude.{◌≡◌, ◌≢◌, ◌⊎◌, ℕ, List, [], ◌∷◌, ◌++◌, ◌||◌, Some, None, IsUtf8}
-use Rattle.std.specs.Prelude.{codes, length, if◌then◌else◌, Bool}
-use Rattle.std.specs.Str.{bytes_eq}
+use Rattle.std.specs.Prelude.{◌≡◌, ◌≢◌, ◌⊎◌, ◌==◌, ◌||◌, ℕ, List, Some, None, Bool, not, IsTrue}
+use Rattle.std.specs.Prelude.{IsFalse, IsUtf8, codes, length, if◌then◌else◌}
+use Rattle.std.specs.List.{filter}
+use Rattle.std.specs.Str.{bytes_eq, trim_end}
 use Rattle.hex.specs.Hex.{encode_lower}
 use Rattle.it_dsse.specs.declared.key_object.KeyObject.{KeyObject}
 use Rattle.it_ed25519.specs.PublicKey.{IsPublicKey}
 use Rattle.it_pem.specs.Label.{HasLabel}
 use Rattle.it_pem.specs.PublicKeyText.{info_in}
-use Rattle.it_public_keys.specs.declared.key.Key.TheVariants.{Ed25519}
+use Rattle.it_public_keys.specs.declared.key.Key.{Key}
+use Rattle.it_public_keys.specs.declared.key.Key.TheVariants.{Ed25519, P256, Rsa}
+use Rattle.it_key_commands.specs.KeyInfo.{IsNoKeyInfo, ed25519_info, key_info, names_curves}
+use Rattle.it_key_commands.specs.KeyInfo.{names_rsa}
 use Rattle.it_key_commands.specs.Signers.{Describes}
 use Rattle.it_key_commands.specs.declared.fault.FileFault.{FileFault}
 use Rattle.it_key_commands.specs.declared.fault.FileFault.TheVariants.{
@@ -16,6 +20,8 @@ use Rattle.it_key_commands.specs.declared.fault.FileFault.TheVariants.{
   Other,
   OtherKind,
   BadPoint,
+  BadCurveKey,
+  BadRsaKey,
 }
 use Rattle.it_key_commands.specs.declared.fault.OtherText.{OtherText}
 use Rattle.it_key_commands.specs.declared.fault.OtherText.TheVariants.{
@@ -25,30 +31,39 @@ use Rattle.it_key_commands.specs.declared.fault.OtherText.TheVariants.{
   Unknown,
 }
 
--- the SubjectPublicKeyInfo of an Ed25519 key (RFC 8410, section 4), in DER: two lengths, the
--- algorithm 1.3.101.112, and the 32 bytes of the key
-abbrev pub ed25519_info : List ℕ → List ℕ
-ed25519_info key =
-    (48 ∷ 42 ∷ 48 ∷ 5 ∷ 6 ∷ 3 ∷ 43 ∷ 101 ∷ 112 ∷ 3 ∷ 33 ∷ 0 ∷ []) ++ key
+-- a file whose lines end with line feeds alone
+abbrev pub without_returns : List ℕ → List ℕ
+without_returns file = filter (λ byte. not (byte == 13)) file
 
--- the key object of an Ed25519 key, in the form of in-toto's own tools
-abbrev pub ed25519_object : List ℕ → KeyObject
-ed25519_object key = record {
+-- the text of a file: such lines, and no white space at the end
+abbrev pub text_of : List ℕ → List ℕ
+text_of file = trim_end (without_returns file)
+
+-- the key object of a key with this text, in the form of in-toto's own tools: an Ed25519 key is
+-- written in hexadecimal digits, and each other one as its text
+abbrev pub key_object : List ℕ → Key → KeyObject
+key_object text (Ed25519 key) = record {
   keytype = codes "ed25519";
   scheme = codes "ed25519";
   public = encode_lower key;
 }
+key_object text (P256 key) = record {
+  keytype = codes "ecdsa";
+  scheme = codes "ecdsa-sha2-nistp256";
+  public = text;
+}
+key_object text (Rsa key) = record {
+  keytype = codes "rsa";
+  scheme = codes "rsassa-pss-sha256";
+  public = text;
+}
 
--- the file is an Ed25519 key, and the object is its key object, which describes it
-pub record IsEd25519File (file : List ℕ) (object : KeyObject) : Type 0 where
-  pub key : List ℕ
-  pub info_is : info_in file ≡ Some (ed25519_info key)
-  pub object_is : object ≡ ed25519_object key
-  pub describes : Describes object (Ed25519 key)
-
--- the file is a public key of a kind that is taken, and the object is its key object
-abbrev pub IsKeyFile : List ℕ → KeyObject → Type 0
-IsKeyFile = IsEd25519File
+-- the file is a public key, and the object is its key object, which describes it
+pub record IsKeyFile (file : List ℕ) (object : KeyObject) : Type 0 where
+  pub key : Key
+  pub info_is : info_in (text_of file) ≡ Some (key_info key)
+  pub object_is : object ≡ key_object (text_of file) key
+  pub describes : Describes object key
 
 -- the label of public keys (RFC 7468, section 13)
 abbrev pub public_label : List ℕ
@@ -69,32 +84,55 @@ other_text label =
     else (if bytes_eq label (codes "RSA PUBLIC KEY") then RsaPublicKey
     else (if bytes_eq label (codes "CERTIFICATE") then Certificate else Unknown))
 
--- the file is a text that has no info between the marks of a public key, and no other label
-pub record IsNoPem (file : List ℕ) : Type 0 where
-  pub no_info : info_in file ≡ None
-  pub no_other : HasLabel file public_label ⊎ ((label : List ℕ) → ¬ HasLabel file label)
+-- the text has no info between the marks of a public key, and no other label
+pub record IsNoPem (text : List ℕ) : Type 0 where
+  pub no_info : info_in text ≡ None
+  pub no_other : HasLabel text public_label ⊎ ((label : List ℕ) → ¬ HasLabel text label)
 
--- the file is a text of another label
-pub record IsOtherText (file : List ℕ) (text : OtherText) : Type 0 where
+-- the text has another label
+pub record IsOtherText (text : List ℕ) (other : OtherText) : Type 0 where
   pub label : List ℕ
-  pub labelled : HasLabel file label
-  pub other : label ≢ public_label
-  pub text_is : text ≡ other_text label
+  pub labelled : HasLabel text label
+  pub not_public : label ≢ public_label
+  pub other_is : other ≡ other_text label
 
--- the file has this SubjectPublicKeyInfo, of another kind
-pub record IsOtherKind (file info : List ℕ) : Type 0 where
-  pub info_is : info_in file ≡ Some info
-  pub other : (key : List ℕ) → length key ≡ 32 → info ≢ ed25519_info key
-
--- the file has the form of an Ed25519 key, of 32 bytes that are not a key
-pub record IsBadPoint (file bytes : List ℕ) : Type 0 where
-  pub info_is : info_in file ≡ Some (ed25519_info bytes)
+-- the info has the form of an Ed25519 key, of 32 bytes that are not a key
+pub record IsBadPoint (info : List ℕ) : Type 0 where
+  pub bytes : List ℕ
   pub long : length bytes ≡ 32
+  pub info_is : info ≡ ed25519_info bytes
   pub bad : ¬ IsPublicKey bytes
 
--- why a file is not a public key
+-- the info is that of no key, and names neither RSA nor elliptic curves
+pub record IsOfOtherKind (info : List ℕ) : Type 0 where
+  pub no_key : IsNoKeyInfo info
+  pub no_rsa : IsFalse (names_rsa info)
+  pub no_curves : IsFalse (names_curves info)
+
+-- the info names elliptic curves, and is not that of a key: its curve is another one than P-256,
+-- its point is not on the curve, or is not written uncompressed
+pub record IsBadCurveKey (info : List ℕ) : Type 0 where
+  pub no_key : IsNoKeyInfo info
+  pub curves : IsTrue (names_curves info)
+
+-- the info names RSA, and is not that of a key: its modulus or its exponent is not taken
+pub record IsBadRsaKey (info : List ℕ) : Type 0 where
+  pub no_key : IsNoKeyInfo info
+  pub rsa : IsTrue (names_rsa info)
+
+-- a text has an info of which P holds
+abbrev pub HasInfo : List ℕ → (List ℕ → Type 0) → Type 0
+HasInfo text P = (info : List ℕ) × (info_in text ≡ Some info) × P info
+
+-- why lines are not a public key
+abbrev pub IsLinesFault : List ℕ → FileFault → Type 0
+IsLinesFault lines NotPem = ¬ IsUtf8 lines ⊎ IsNoPem (trim_end lines)
+IsLinesFault lines (Other other) = IsOtherText (trim_end lines) other
+IsLinesFault lines OtherKind = HasInfo (trim_end lines) IsOfOtherKind
+IsLinesFault lines BadPoint = HasInfo (trim_end lines) IsBadPoint
+IsLinesFault lines BadCurveKey = HasInfo (trim_end lines) IsBadCurveKey
+IsLinesFault lines BadRsaKey = HasInfo (trim_end lines) IsBadRsaKey
+
+-- why a file is not a public key: its lines are not
 abbrev pub IsFileFault : List ℕ → FileFault → Type 0
-IsFileFault file NotPem = ¬ IsUtf8 file ⊎ IsNoPem file
-IsFileFault file (Other text) = IsOtherText file text
-IsFileFault file OtherKind = (info : List ℕ) × IsOtherKind file info
-IsFileFault file BadPoint = (bytes : List ℕ) × IsBadPoint file bytes
+IsFileFault file fault = IsLinesFault (without_returns file) fault

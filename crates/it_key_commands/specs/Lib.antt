@@ -1,5 +1,6 @@
 pub mod KeyFile
 pub mod KeyId
+pub mod KeyInfo
 pub mod KeyOutput
 pub mod KeysFile
 pub mod SignMadeOntoOutput

@@ -39,26 +39,34 @@ pub enum FileFault {
     /// It is a PEM text of another label.
     #[error("{0}")]
     Other(OtherText),
-    /// It is a public key of another kind than Ed25519.
-    #[error("a public key of another kind than Ed25519")]
+    /// It is a public key of another kind than Ed25519, ECDSA over P-256 and RSA.
+    #[error("a public key of another kind than Ed25519, ECDSA over P-256 and RSA")]
     OtherKind,
-    /// It has the form of a public key, and its point is not a key: RFC 8032, section 5.1.3,
+    /// It has the form of an Ed25519 key, and its point is not a key: RFC 8032, section 5.1.3,
     /// decodes none, or one of small order.
-    #[error("a public key whose point is not on the curve, or of small order")]
+    #[error("an Ed25519 key whose point is not on the curve, or of small order")]
     BadPoint,
+    /// It is a key of an elliptic curve, and not one of P-256 whose point is on the curve and
+    /// written uncompressed (RFC 5480, section 2.2).
+    #[error("a key of an elliptic curve that is not an uncompressed point on P-256")]
+    BadCurveKey,
+    /// It is an RSA key, and its modulus does not have 2,048 to 4,096 bits that fill its bytes, or
+    /// its exponent is not an odd number from 3 to 2,147,483,647.
+    #[error("an RSA key not of 2,048, 2,056, .. 4,096 bits, or of an exponent that is not taken")]
+    BadRsaKey,
 }
 
 /// What a PEM text is that is not a public key, by its label (RFC 7468, section 2).
 #[derive(Clone, Copy, Debug, PartialEq, Eq, Error)]
 pub enum OtherText {
     /// A private key, in one of its forms.
-    #[error("a private key")]
+    #[error("a private key (openssl pkey -pubout writes its public key)")]
     PrivateKey,
     /// An RSA public key in its older form (RFC 8017, appendix A.1.1).
-    #[error("an RSA public key in its older form, without its algorithm")]
+    #[error("an RSA key in its older form (openssl rsa -RSAPublicKey_in -pubout writes the newer)")]
     RsaPublicKey,
     /// A certificate.
-    #[error("a certificate")]
+    #[error("a certificate (openssl x509 -noout -pubkey writes its public key)")]
     Certificate,
     /// A PEM text of any other label.
     #[error("a PEM text of another label")]

@@ -1,44 +1,56 @@
 //! Public keys in files.
-ghost use Rattle.std.specs.Prelude.{◌≡◌, ◌++◌, ℕ, List, IfErr, IfOk, MatchOption, MatchResult};
-ghost use Rattle.std.specs.Prelude.{None, length};
+ghost use Rattle.std.specs.Prelude.{◌≡◌, [], IfOk, MatchResult, None, length};
+ghost use Rattle.std.specs.Str.{trim_end};
 ghost use Rattle.hex.specs.Hex.{decode_sized, encode_lower};
-ghost use Rattle.it_ed25519.specs.PublicKey.{IsPublicKey};
-ghost use Rattle.it_pem.specs.PublicKeyText.{info_in};
-ghost use Rattle.it_key_commands.specs.KeyFile.{IsFileFault, ed25519_info, ed25519_object};
-ghost use Rattle.it_key_commands.specs.KeyFile.{other_text};
-ghost use Rattle.it_public_keys.specs.declared.key.Key.TheVariants.{Ed25519};
+ghost use Rattle.it_key_commands.specs.KeyFile.{IsLinesFault, key_object, other_text};
+ghost use Rattle.it_key_commands.specs.KeyFile.{without_returns};
 ghost use Rattle.it_key_commands.specs.Signers.{Describes};
-ghost use Rattle.it_key_commands.specs.inside.ReadKeys.{DescribesRead, IsInfoFault, IsKeyInfo};
-ghost use Rattle.it_key_commands.specs.inside.ReadKeys.{IsReadKey, IsTextFault, object_of};
+ghost use Rattle.it_key_commands.specs.inside.ReadKeys.{IsOfItsText, IsReadKey, IsTextFault};
+ghost use Rattle.it_pem.specs.PublicKeyText.{info_in};
+ghost use Rattle.it_public_keys.specs.declared.key.Key.TheVariants.{Ed25519};
 
 use crate::fault::{FileFault, OtherText};
+use crate::key_info::key_of;
 use it_base::text::Text;
 use it_dsse::key_object::KeyObject;
-use it_ed25519::PublicKey;
 use it_pem::{label_of, public_key_info};
+use it_public_keys::key::Key;
 use std::alloc::{AllocError, Global};
 
-/// A public key that a file is.
+/// A public key, and the text that it was read from.
 #[derive(Drop)]
-pub(crate) enum FileKey {
-    /// An Ed25519 key.
-    Ed25519(PublicKey),
+pub(crate) struct FileKey<'t> {
+    key: Key,
+    text: &'t str,
 }
 
-/// What a SubjectPublicKeyInfo of an Ed25519 key has before the 32 bytes of the key (RFC 8410,
-/// section 4).
-const ED25519_PREFIX: [u8; 12] = [48, 42, 48, 5, 6, 3, 43, 101, 112, 3, 33, 0];
-
-/// The public key that a file is.
-pub(crate) fn key_in(file: &[u8]) -> Result<FileKey, FileFault>
-    ensures { MatchResult result (IsReadKey file.now) (IsFileFault file.now) }
+/// The lines of a file, each ended by a line feed alone.
+pub(crate) fn lines_of(alloc: Global, file: &[u8]) -> Result<Vec<u8>, AllocError>
+    ensures { IfOk result (λ lines. lines.items ≡ without_returns file.now) }
 {
-    let Ok(text) = str::from_utf8(file) else {
+    let mut lines = Vec::new(alloc);
+    for byte in file {
+        if *byte != b'\r' {
+            lines.push(*byte)?;
+        }
+    }
+    Ok(lines)
+}
+
+/// The public key that lines are.
+pub(crate) fn key_in(lines: &[u8]) -> Result<FileKey<'_>, FileFault>
+    ensures { MatchResult result (IsReadKey lines.now) (IsLinesFault lines.now) }
+{
+    let Ok(text) = str::from_utf8(lines) else {
         return Err(FileFault::NotPem);
     };
-    match public_key_info(text) {
-        Some(info) => key_of(info.as_bytes()),
-        None => Err(text_fault(text)),
+    let text = text.trim_end();
+    let Some(info) = public_key_info(text) else {
+        return Err(text_fault(text));
+    };
+    match key_of(info.as_bytes()) {
+        Ok(key) => Ok(FileKey { key, text }),
+        Err(fault) => Err(fault),
     }
 }
 
@@ -70,53 +82,48 @@ fn other_text(label: &str) -> OtherText
     }
 }
 
-/// The public key of a SubjectPublicKeyInfo.
-fn key_of(info: &[u8]) -> Result<FileKey, FileFault>
-    ensures { MatchResult result (IsKeyInfo info.now) (IsInfoFault info.now) }
-{
-    let Some(bytes) = ed25519_bytes(info) else {
-        return Err(FileFault::OtherKind);
-    };
-    match PublicKey::from_bytes(&bytes) {
-        Some(key) => Ok(FileKey::Ed25519(key)),
-        None => Err(FileFault::BadPoint),
-    }
-}
-
-/// The 32 bytes of the key in a SubjectPublicKeyInfo of an Ed25519 key.
-fn ed25519_bytes(info: &[u8]) -> Option<[u8; 32]>
-    ensures { MatchOption result
-        ((key : List ℕ) → length key ≡ 32 → ¬ info.now ≡ ed25519_info key)
-        (λ key. info.now ≡ ed25519_info key) }
-{
-    if info.len() != 44 {
-        return None;
-    }
-    let (prefix, bytes) = info.split_at(12);
-    if prefix != ED25519_PREFIX.as_slice() {
-        return None;
-    }
-    let mut key = [0; 32];
-    key.copy_from_slice(bytes);
-    Some(key)
-}
-
-impl FileKey {
+impl FileKey<'_> {
     /// The key object of the key, which describes it.
     pub(crate) fn object(&self, alloc: Global) -> Result<KeyObject, AllocError>
-        ensures object { IfOk result (λ object. object ≡ object_of self.now) }
-        ensures describes { IfOk result (λ _. DescribesRead self.now) }
+        requires { IsOfItsText self.now }
+        ensures object { IfOk result
+            (λ object. object ≡ key_object self.now.text.now self.now.key) }
+        ensures describes { IfOk result
+            (λ _. Describes (key_object self.now.text.now self.now.key) self.now.key) }
     {
-        match self {
-            FileKey::Ed25519(key) => ed25519_object(alloc, key),
+        match &self.key {
+            Key::Ed25519(key) => ed25519_object(alloc, key),
+            Key::P256(_) => text_object(alloc, "ecdsa", "ecdsa-sha2-nistp256", self.text),
+            Key::Rsa(_) => text_object(alloc, "rsa", "rsassa-pss-sha256", self.text),
         }
     }
 }
 
+/// The key object of a key that is written as its text.
+fn text_object(
+    alloc: Global,
+    keytype: &str,
+    scheme: &str,
+    text: &str,
+) -> Result<KeyObject, AllocError>
+    ensures { IfOk result (λ object. object ≡ record {
+      keytype = keytype.now;
+      scheme = scheme.now;
+      public = text.now;
+    }) }
+{
+    Ok(KeyObject {
+        keytype: Text::copy(alloc, keytype)?,
+        scheme: Text::copy(alloc, scheme)?,
+        public: Text::copy(alloc, text)?,
+    })
+}
+
 /// The key object of an Ed25519 key, as in-toto's own tools write it.
-fn ed25519_object(alloc: Global, key: &PublicKey) -> Result<KeyObject, AllocError>
-    ensures object { IfOk result (λ object. object ≡ ed25519_object key.now) }
-    ensures describes { IfOk result (λ _. Describes (ed25519_object key.now) (Ed25519 key.now)) }
+fn ed25519_object(alloc: Global, key: &it_ed25519::PublicKey) -> Result<KeyObject, AllocError>
+    ensures object { IfOk result (λ object. object ≡ key_object [] (Ed25519 key.now)) }
+    ensures describes { IfOk result
+        (λ _. Describes (key_object [] (Ed25519 key.now)) (Ed25519 key.now)) }
 {
     Ok(KeyObject {
         keytype: Text::copy(alloc, "ed25519")?,

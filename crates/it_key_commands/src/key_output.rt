@@ -8,11 +8,13 @@ ghost use Rattle.it_key_commands.specs.KeyFile.{IsKeyFile};
 ghost use Rattle.it_key_commands.specs.KeyOutput.{IsKeyOutput, IsKeyOutputFault, IsNotOne};
 ghost use Rattle.it_key_commands.specs.KeyOutput.{id_under, keys_of};
 ghost use Rattle.it_key_commands.specs.inside.FilesFaults.{IsFilesFault};
-ghost use Rattle.it_key_commands.specs.inside.ReadKeys.{DescribesRead, object_of};
+ghost use Rattle.it_key_commands.specs.KeyFile.{key_object};
+ghost use Rattle.it_key_commands.specs.Signers.{Describes};
+ghost use Rattle.it_key_commands.specs.inside.ReadKeys.{IsOfItsText};
 
 use crate::canonical_id::key_id;
 use crate::fault::KeyFault;
-use crate::key_file::{FileKey, key_in};
+use crate::key_file::{FileKey, key_in, lines_of};
 use crate::keys_file::keys_text;
 use it_base::table::Table;
 use it_dsse::key_object::KeyObject;
@@ -72,7 +74,8 @@ fn objects_in(alloc: Global, files: &[&[u8]]) -> Result<Vec<KeyObject>, KeyFault
 {
     let mut objects = Vec::new(alloc);
     for (place, file) in files.iter().enumerate() {
-        match key_in(file) {
+        let lines = lines_of(alloc, file)?;
+        match key_in(lines.as_slice()) {
             Ok(key) => push_object(alloc, &mut objects, &key)?,
             Err(fault) => return Err(KeyFault::BadFile(place, fault)),
         }
@@ -81,9 +84,16 @@ fn objects_in(alloc: Global, files: &[&[u8]]) -> Result<Vec<KeyObject>, KeyFault
 }
 
 /// Appends the key object of a key.
-fn push_object(alloc: Global, objects: &mut Vec<KeyObject>, key: &FileKey) -> Result<(), AllocError>
-    ensures items { OnOk result (objects.new.items ≡ objects.old.items ++ object_of key.now ∷ []) }
-    ensures describes { OnOk result (DescribesRead key.now) }
+fn push_object(
+    alloc: Global,
+    objects: &mut Vec<KeyObject>,
+    key: &FileKey<'_>,
+) -> Result<(), AllocError>
+    requires { IsOfItsText key.now }
+    ensures items { OnOk result (objects.new.items
+        ≡ objects.old.items ++ key_object key.now.text.now key.now.key ∷ []) }
+    ensures describes { OnOk result
+        (Describes (key_object key.now.text.now key.now.key) key.now.key) }
 {
     objects.push(key.object(alloc)?)?;
     Ok(())

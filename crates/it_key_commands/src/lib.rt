@@ -5,6 +5,7 @@
 mod canonical_id;
 mod fault;
 mod key_file;
+mod key_info;
 mod key_output;
 mod keys_file;
 mod made_signature;

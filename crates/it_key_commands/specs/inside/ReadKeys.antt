@@ -1,44 +1,40 @@
--- Public keys that are read from files.
-use Rattle.std.specs.Prelude.{◌≡◌, ◌≢◌, ℕ, List, Some, length}
-use Rattle.it_dsse.specs.declared.key_object.KeyObject.{KeyObject}
-use Rattle.it_ed25519.specs.PublicKey.{IsPublicKey}
+-- Public keys that are read from the texts of files.
+use Rattle.std.specs.Prelude.{◌≡◌, ℕ, List, Some}
+use Rattle.std.specs.Str.{trim_end}
 use Rattle.it_pem.specs.PublicKeyText.{info_in}
-use Rattle.it_public_keys.specs.declared.key.Key.TheVariants as KeyOf
-use Rattle.it_key_commands.specs.KeyFile.{IsNoPem, IsOtherText, ed25519_info, ed25519_object}
-use Rattle.it_key_commands.specs.Signers.{Describes}
+use Rattle.it_public_keys.specs.Keys.{IsKey}
+use Rattle.it_key_commands.specs.KeyFile.{IsBadCurveKey, IsBadPoint, IsBadRsaKey, IsNoPem}
+use Rattle.it_key_commands.specs.KeyFile.{IsOfOtherKind, IsOtherText}
+use Rattle.it_key_commands.specs.KeyInfo.{key_info}
 use Rattle.it_key_commands.specs.declared.fault.FileFault.{FileFault}
 use Rattle.it_key_commands.specs.declared.fault.FileFault.TheVariants.{
   NotPem,
   Other,
   OtherKind,
   BadPoint,
+  BadCurveKey,
+  BadRsaKey,
 }
 use Rattle.it_key_commands.specs.declared.key_file.FileKey.{FileKey}
-use Rattle.it_key_commands.specs.declared.key_file.FileKey.TheVariants.{Ed25519}
 
--- the info is that of the key
-abbrev pub IsKeyInfo : List ℕ → FileKey → Type 0
-IsKeyInfo info (Ed25519 key) = (info ≡ ed25519_info key) × IsPublicKey key
+-- the key is that of its text
+pub record IsOfItsText (read : FileKey) : Type 0 where
+  pub is_key : IsKey read.key
+  pub info_is : info_in read.text.now ≡ Some (key_info read.key)
 
--- the file has the info of the key
-abbrev pub IsReadKey : List ℕ → FileKey → Type 0
-IsReadKey file key = (info : List ℕ) × (info_in file ≡ Some info) × IsKeyInfo info key
-
--- the key object of a key
-abbrev pub object_of : FileKey → KeyObject
-object_of (Ed25519 key) = ed25519_object key
-
--- the key object of a key describes it
-abbrev pub DescribesRead : FileKey → Type 0
-DescribesRead (Ed25519 key) = Describes (ed25519_object key) (KeyOf.Ed25519 key)
+-- lines are a key's text, but for white space at their end
+pub record IsReadKey (lines : List ℕ) (read : FileKey) : Type 0 where
+  pub of_text : IsOfItsText read
+  pub text_is : read.text.now ≡ trim_end lines
 
 -- why an info is not that of a key
 abbrev pub IsInfoFault : List ℕ → FileFault → Type 0
 IsInfoFault info NotPem = ⊥
 IsInfoFault info (Other text) = ⊥
-IsInfoFault info OtherKind = (key : List ℕ) → length key ≡ 32 → info ≢ ed25519_info key
-IsInfoFault info BadPoint = (key : List ℕ) × (info ≡ ed25519_info key) × (length key ≡ 32)
-    × ¬ IsPublicKey key
+IsInfoFault info OtherKind = IsOfOtherKind info
+IsInfoFault info BadPoint = IsBadPoint info
+IsInfoFault info BadCurveKey = IsBadCurveKey info
+IsInfoFault info BadRsaKey = IsBadRsaKey info
 
 -- why a text without an info is not a public key
 abbrev pub IsTextFault : List ℕ → FileFault → Type 0
@@ -46,3 +42,5 @@ IsTextFault text NotPem = IsNoPem text
 IsTextFault text (Other other) = IsOtherText text other
 IsTextFault text OtherKind = ⊥
 IsTextFault text BadPoint = ⊥
+IsTextFault text BadCurveKey = ⊥
+IsTextFault text BadRsaKey = ⊥

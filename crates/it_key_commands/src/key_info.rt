@@ -1,0 +1,103 @@
+//! Public keys as a SubjectPublicKeyInfo.
+ghost use Rattle.std.specs.Prelude.{◌≡◌, ℕ, List, MatchOption, MatchResult, length};
+ghost use Rattle.it_key_commands.specs.KeyInfo.{IsNoKeyInfo, contents_of, ed25519_info, key_info};
+ghost use Rattle.it_key_commands.specs.KeyInfo.{names_algorithm};
+ghost use Rattle.it_key_commands.specs.inside.ReadKeys.{IsInfoFault};
+ghost use Rattle.it_public_keys.specs.Keys.{IsKey};
+
+use crate::fault::FileFault;
+use it_public_keys::key::Key;
+
+/// What a SubjectPublicKeyInfo of an Ed25519 key has before the 32 bytes of the key (RFC 8410,
+/// section 4).
+const ED25519_PREFIX: [u8; 12] = [48, 42, 48, 5, 6, 3, 43, 101, 112, 3, 33, 0];
+
+/// The object identifier of RSA keys, 1.2.840.113549.1.1.1 (RFC 3279, section 2.3.1).
+const RSA_IDENTIFIER: [u8; 11] = [6, 9, 42, 134, 72, 134, 247, 13, 1, 1, 1];
+
+/// The object identifier of keys of elliptic curves, 1.2.840.10045.2.1 (RFC 5480, section 2.1.1).
+const CURVES_IDENTIFIER: [u8; 9] = [6, 7, 42, 134, 72, 206, 61, 2, 1];
+
+/// The public key of a SubjectPublicKeyInfo.
+pub(crate) fn key_of(info: &[u8]) -> Result<Key, FileFault>
+    ensures { MatchResult result (λ key. IsKey key × (info.now ≡ key_info key))
+        (IsInfoFault info.now) }
+{
+    if let Some(bytes) = ed25519_bytes(info) {
+        return ed25519_key(&bytes);
+    }
+    if let Some(key) = it_p256::PublicKey::from_info(info) {
+        return Ok(Key::P256(key));
+    }
+    match it_rsa::PublicKey::from_info(info) {
+        Some(key) => Ok(Key::Rsa(key)),
+        None => Err(other_fault(info)),
+    }
+}
+
+/// The 32 bytes of the key in a SubjectPublicKeyInfo of an Ed25519 key.
+fn ed25519_bytes(info: &[u8]) -> Option<[u8; 32]>
+    ensures { MatchOption result
+        ((key : List ℕ) → length key ≡ 32 → ¬ info.now ≡ ed25519_info key)
+        (λ key. info.now ≡ ed25519_info key) }
+{
+    if info.len() != 44 {
+        return None;
+    }
+    let (prefix, bytes) = info.split_at(12);
+    if prefix != ED25519_PREFIX.as_slice() {
+        return None;
+    }
+    let mut key = [0; 32];
+    key.copy_from_slice(bytes);
+    Some(key)
+}
+
+/// The Ed25519 key of 32 bytes.
+fn ed25519_key(bytes: &[u8; 32]) -> Result<Key, FileFault>
+    ensures { MatchResult result
+        (λ key. IsKey key × (ed25519_info bytes.now ≡ key_info key))
+        (IsInfoFault (ed25519_info bytes.now)) }
+{
+    match it_ed25519::PublicKey::from_bytes(bytes) {
+        Some(key) => Ok(Key::Ed25519(key)),
+        None => Err(FileFault::BadPoint),
+    }
+}
+
+/// Why a SubjectPublicKeyInfo that is not that of a key is none.
+fn other_fault(info: &[u8]) -> FileFault
+    requires { IsNoKeyInfo info.now }
+    ensures { IsInfoFault info.now result }
+{
+    if names_algorithm(info, RSA_IDENTIFIER.as_slice()) {
+        return FileFault::BadRsaKey;
+    }
+    if names_algorithm(info, CURVES_IDENTIFIER.as_slice()) {
+        return FileFault::BadCurveKey;
+    }
+    FileFault::OtherKind
+}
+
+/// Whether the algorithm of a SubjectPublicKeyInfo has this object identifier.
+fn names_algorithm(info: &[u8], identifier: &[u8]) -> bool
+    ensures { result ≡ names_algorithm info.now identifier.now }
+{
+    contents_of(contents_of(info)).starts_with(identifier)
+}
+
+/// What follows the tag and the length with which bytes begin (X.690, section 8.1.3).
+#[tactic(auto, unfolding(crate::specs::KeyInfo::contents_of))]
+fn contents_of(bytes: &[u8]) -> &[u8]
+    ensures { result.now ≡ contents_of bytes.now }
+{
+    let header = match bytes.get(1) {
+        Some(129) => 3,
+        Some(130) => 4,
+        _ => 2,
+    };
+    if bytes.len() < header {
+        return &[];
+    }
+    &bytes[header..]
+}

@@ -93,18 +93,24 @@ const FAULTS: [(&str, FileFault); 11] = [
 
 /// How the command ended, and what it wrote.
 #[derive(Drop)]
-struct Made {
+struct Ended {
     outcome: Result<Status, KeyFault>,
     written: Vec<u8>,
 }
 
-fn made(alloc: Global, files: &[&[u8]], name: Option<&str>) -> Made {
+fn made(alloc: Global, files: &[&[u8]], name: Option<&str>) -> Ended {
     let mut written = Vec::new(alloc);
     let outcome = run_key(alloc, files, name, &mut written);
-    Made { outcome, written }
+    Ended { outcome, written }
 }
 
-fn made_as(rt: &impl Abort, made: &Made, outcome: Result<Status, KeyFault>, want: &str, row: &str) {
+fn made_as(
+    rt: &impl Abort,
+    made: &Ended,
+    outcome: Result<Status, KeyFault>,
+    want: &str,
+    row: &str,
+) {
     assert_eq!(rt; made.outcome, outcome, "{row}");
     assert_eq!(rt; made.written.as_slice(), want.as_bytes(), "{row}");
 }

@@ -60,7 +60,7 @@ pub(crate) enum Fault {
     #[error("{path} has no public key under {id} that signatures are checked by")]
     NoPublicKey { path: Shown, id: Shown },
     /// A file is not a public key, for this reason.
-    #[error("{path} is not a public key: it is {flaw}")]
+    #[error("{path} is not a public key that is taken: it is {flaw}")]
     BadKey { path: Shown, flaw: FileFault },
     /// A signature that was made elsewhere is not one of the body by the key under this id.
     #[error("{path} is not a signature of the body by {id}")]

@@ -1,14 +1,13 @@
 //! Files and folders, as the commands read them by their paths.
 ghost use Rattle.std.specs.Prelude.{◌≤◌, length, IfOk};
-ghost use Rattle.itv.specs.Reading.{Holdings, anything};
+ghost use Rattle.itv.specs.Reading.{AreLimited, Holdings, anything};
 
 use crate::fault::Fault;
 use crate::files::read_file;
-use crate::folders::{Kind, read_links, read_records};
+use crate::folders::{Kind, Links, read_links, read_records};
 use crate::listing::{Listed, kind_at, list};
 use it_base::sequence::Sequence;
 use it_base::text::Text;
-use it_chain::bundle::Bundle;
 use std::fs;
 use std::io::Read;
 use std::rt::Files;
@@ -31,9 +30,12 @@ pub(crate) trait Disk {
         ensures holds { IfOk result (λ bytes. holdings.file path.now bytes.items) }
         ensures within { IfOk result (λ bytes. length bytes.items ≤ 8388608) };
 
-    /// The links of a folder, down to `depth` levels below it.
-    fn links(&self, folder: &str, depth: u8) -> Result<Bundle, Fault>
-        ensures { IfOk result (λ links. holdings.links folder.now depth links) };
+    /// The links of a folder, down to `depth` levels below it. Where signatures are `limited`, files
+    /// whose envelopes have too many are left out.
+    fn links(&self, folder: &str, depth: u8, limited: bool) -> Result<Links, Fault>
+        ensures holds { IfOk result
+            (λ links. holdings.links folder.now depth limited links.bundle) }
+        ensures within { IfOk result (λ links. AreLimited limited links.bundle) };
 
     /// The records of inspections in a folder, each under the name of its inspection.
     fn records(&self, folder: &str) -> Result<Sequence<(Text, Sequence<u8>)>, Fault>
@@ -64,8 +66,8 @@ impl<R: Files + AllocGlobal> Disk for R {
         read_file(self, path)
     }
 
-    fn links(&self, folder: &str, depth: u8) -> Result<Bundle, Fault> {
-        read_links(self, folder, depth)
+    fn links(&self, folder: &str, depth: u8, limited: bool) -> Result<Links, Fault> {
+        read_links(self, folder, depth, limited)
     }
 
     fn records(&self, folder: &str) -> Result<Sequence<(Text, Sequence<u8>)>, Fault> {

@@ -1,11 +1,18 @@
 //! Folders of links and of records, read as far as they count and no further.
+ghost use Rattle.std.specs.Prelude.{◌≡◌, IfOk, IsTrue, OnOk};
+ghost use Rattle.it_limits.specs.Limit.{IsWithinLimit};
+ghost use Rattle.it_limits.specs.Links.{AreFilesWithin};
+ghost use Rattle.itv.specs.Reading.{AreLimited};
+
 use crate::fault::Fault;
 use crate::files::read_file;
+use crate::left_out::LeftOut;
 use crate::shown::Shown;
 use it_base::sequence::Sequence;
 use it_base::text::Text;
 use it_chain::bundle::{Bundle, BundleFault};
-use std::alloc::AllocError;
+use it_limits::signatures_over_limit;
+use std::alloc::{AllocError, Global};
 use std::path::{Path, PathBuf};
 use std::rt::Files;
 use std::{fs, io};
@@ -28,6 +35,44 @@ pub(crate) enum Kind {
     Folder,
 }
 
+/// Which names in a folder are looked at.
+#[derive(Clone, Copy)]
+pub(crate) enum Wanted {
+    /// All of them.
+    All,
+    /// Those under which files of links are read, and folders too where they are read.
+    OfLinks { folders: bool },
+}
+
+impl Wanted {
+    fn has(self, name: &str) -> bool {
+        match self {
+            Wanted::All => true,
+            Wanted::OfLinks { folders } => name.ends_with(ENDING) || folders && name.contains('.'),
+        }
+    }
+}
+
+/// What is read of a folder of links.
+#[derive(Drop)]
+pub(crate) struct Links {
+    /// The links.
+    pub(crate) bundle: Bundle,
+    /// The files that are left out, in the order in which they are met.
+    pub(crate) left_out: Vec<LeftOut>,
+}
+
+impl Links {
+    fn new(alloc: Global) -> Links
+        ensures { AreFilesWithin result.bundle }
+    {
+        Links {
+            bundle: Bundle::new(alloc),
+            left_out: Vec::new(alloc),
+        }
+    }
+}
+
 /// An entry of a folder that is read.
 #[derive(Drop)]
 struct Entry {
@@ -37,42 +82,76 @@ struct Entry {
 }
 
 /// The files of a folder whose names end in `.link`, and its folders whose names hold a full stop,
-/// read in the same way, down to `depth` levels below it.
+/// read in the same way, down to `depth` levels below it. Where signatures are `limited`, a file
+/// whose envelope has too many is left out.
 pub(crate) fn read_links<R: Files + AllocGlobal>(
     rt: &R,
     folder: &str,
     depth: u8,
-) -> Result<Bundle, Fault> {
-    let mut links = Bundle::new(rt.alloc());
+    limited: bool,
+) -> Result<Links, Fault>
+    ensures { IfOk result (λ links. AreLimited limited links.bundle) }
+{
+    let mut links = Links::new(rt.alloc());
     for entry in entries(rt, folder, depth)? {
         match depth.checked_sub(1) {
             Some(below) if entry.kind == Kind::Folder => {
-                let inner = read_links(rt, entry.path.as_str(), below)?;
-                add_folder(rt, &mut links, entry, inner)?;
+                let inner = read_links(rt, entry.path.as_str(), below, limited)?;
+                add_folder(rt.alloc(), &mut links, entry, inner)?;
             }
-            _ => add_file(rt, &mut links, entry)?,
+            _ => add_file(rt, &mut links, entry, limited)?,
         }
     }
     Ok(links)
 }
 
-fn add_file<R: Files + AllocGlobal>(rt: &R, links: &mut Bundle, entry: Entry) -> Result<(), Fault> {
+/// Reads a file, and adds it to the links or leaves it out.
+fn add_file<R: Files + AllocGlobal>(
+    rt: &R,
+    links: &mut Links,
+    entry: Entry,
+    limited: bool,
+) -> Result<(), Fault>
+    ensures { OnOk result (AreLimited limited links.old.bundle
+        → AreLimited limited links.new.bundle) }
+{
+    let alloc = rt.alloc();
     let bytes = read_file(rt, entry.path.as_str())?;
-    links.add_file(entry.name, bytes)?;
+    match too_many(alloc, bytes.as_slice(), limited)? {
+        Some(signatures) => {
+            let path = Shown::of(alloc, entry.path.as_str())?;
+            links.left_out.push(LeftOut::File { path, signatures })?;
+        }
+        None => links.bundle.add_file(entry.name, bytes)?,
+    }
     Ok(())
 }
 
-fn add_folder<R: Files + AllocGlobal>(
-    rt: &R,
-    links: &mut Bundle,
-    entry: Entry,
-    inner: Bundle,
-) -> Result<(), Fault> {
-    match links.add_dir(entry.name, inner) {
+/// How many signatures a file has, where they are limited and too many.
+fn too_many(alloc: Global, bytes: &[u8], limited: bool) -> Result<Option<usize>, AllocError>
+    ensures { result ≡ Ok None → IsTrue limited → IsWithinLimit bytes.now }
+{
+    if limited {
+        signatures_over_limit(alloc, bytes)
+    } else {
+        Ok(None)
+    }
+}
+
+/// Adds the links of a folder, and what is left out of it.
+fn add_folder(alloc: Global, links: &mut Links, entry: Entry, inner: Links) -> Result<(), Fault>
+    ensures { OnOk result ((limited : _) → AreLimited limited links.old.bundle
+        → AreLimited limited inner.bundle → AreLimited limited links.new.bundle) }
+{
+    let Links { bundle, left_out } = inner;
+    for file in left_out {
+        links.left_out.push(file)?;
+    }
+    match links.bundle.add_dir(entry.name, bundle) {
         Ok(()) => Ok(()),
         Err(BundleFault::NameTaken(_)) => {
             let path = entry.path.as_str();
-            Err(Fault::unread(rt.alloc(), path, "its name stands twice")?)
+            Err(Fault::unread(alloc, path, "its name stands twice")?)
         }
         Err(BundleFault::OutOfMemory) => Err(Fault::from(AllocError)),
     }
@@ -101,7 +180,7 @@ pub(crate) fn read_records<R: Files + AllocGlobal>(
 fn entries<R: Files + AllocGlobal>(rt: &R, folder: &str, depth: u8) -> Result<Vec<Entry>, Fault> {
     let alloc = rt.alloc();
     let mut entries = Vec::new(alloc);
-    for name in names(rt, folder)? {
+    for name in names(rt, folder, Wanted::OfLinks { folders: depth > 0 })? {
         let path = Path::new(folder).join(alloc, name.as_str())?;
         let Some(kind) = kind_of(rt, name.as_str(), path.as_str(), depth)? else {
             continue;
@@ -117,12 +196,16 @@ fn entries<R: Files + AllocGlobal>(rt: &R, folder: &str, depth: u8) -> Result<Ve
     Ok(entries)
 }
 
-/// All names in a folder, in the order of their bytes.
+/// The names in a folder that are wanted, in the order of their bytes. The others are not kept.
 ///
 /// # Errors
 ///
-/// Where the folder cannot be read, or a name in it is not UTF-8.
-pub(crate) fn names<R: Files + AllocGlobal>(rt: &R, folder: &str) -> Result<Vec<String>, Fault> {
+/// Where the folder cannot be read, or a name in it is not UTF-8, wanted or not.
+pub(crate) fn names<R: Files + AllocGlobal>(
+    rt: &R,
+    folder: &str,
+    wanted: Wanted,
+) -> Result<Vec<String>, Fault> {
     let alloc = rt.alloc();
     let listing = match fs::read_dir(&rt, folder) {
         Ok(listing) => listing,
@@ -134,29 +217,22 @@ pub(crate) fn names<R: Files + AllocGlobal>(rt: &R, folder: &str) -> Result<Vec<
             Ok(entry) => entry,
             Err(error) => return Err(Fault::of_listing(alloc, folder, &error)),
         };
-        names.push(String::from_str(alloc, entry.file_name())?)?;
+        if wanted.has(entry.file_name()) {
+            names.push(String::from_str(alloc, entry.file_name())?)?;
+        }
     }
     names.sort_unstable();
     Ok(names)
 }
 
-/// Whether an entry of this name is read, if it is a file or a folder.
-fn may_be_read(name: &str, depth: u8) -> bool {
-    name.ends_with(ENDING) || depth > 0 && name.contains('.')
-}
-
-/// What an entry is read as, or `None` where it is passed over: what its name keeps from being
-/// read, a folder too deep, a file whose name ends otherwise, and what is neither. A symbolic link
-/// is what it leads to.
+/// What an entry is read as, or `None` where it is passed over: a folder too deep, a file whose name
+/// ends otherwise, and what is neither. A symbolic link is what it leads to.
 fn kind_of<R: Files + AllocGlobal>(
     rt: &R,
     name: &str,
     path: &str,
     depth: u8,
 ) -> Result<Option<Kind>, Fault> {
-    if !may_be_read(name, depth) {
-        return Ok(None);
-    }
     match fs::metadata(rt, path) {
         Ok(found) if found.is_dir() && depth > 0 => Ok(Some(Kind::Folder)),
         Ok(found) if found.is_file() && name.ends_with(ENDING) => Ok(Some(Kind::File)),

@@ -1,6 +1,6 @@
 //! Folders, listed whole.
 use crate::fault::Fault;
-use crate::folders::{Kind, names, untold};
+use crate::folders::{Kind, Wanted, names, untold};
 use it_base::text::Text;
 use std::fs;
 use std::path::Path;
@@ -25,7 +25,7 @@ pub(crate) struct Listed {
 pub(crate) fn list<R: Files + AllocGlobal>(rt: &R, folder: &str) -> Result<Vec<Listed>, Fault> {
     let alloc = rt.alloc();
     let mut entries = Vec::new(alloc);
-    for name in names(rt, folder)? {
+    for name in names(rt, folder, Wanted::All)? {
         let path = Path::new(folder).join(alloc, name.as_str())?;
         let kind = kind_in(rt, path.as_str())?;
         let name = Text::from(name);

@@ -13,6 +13,7 @@ mod files;
 mod files_below;
 mod folders;
 mod key_command;
+mod left_out;
 mod link_command;
 mod listing;
 mod made_fault;

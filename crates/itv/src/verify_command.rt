@@ -1,5 +1,5 @@
 //! `itv verify`: whether delivered files were made as the owners prescribed.
-ghost use Rattle.std.specs.Prelude.{◌≡◌, ◌≢◌, ◌≤◌, IfErr, IfOk, map};
+ghost use Rattle.std.specs.Prelude.{◌≡◌, ◌≢◌, ◌≤◌, IfErr, IfOk, IsTrue, map};
 ghost use Rattle.std.specs.Io.KnownBytes.{Appends};
 ghost use Rattle.std.specs.List.{AllZip};
 ghost use Rattle.it_dsse.specs.Panel.{panel_of};
@@ -7,16 +7,20 @@ ghost use Rattle.it_public_keys.specs.AnyCheck.{check_of};
 ghost use Rattle.it_public_keys.specs.Collected.{IsTableFor};
 ghost use Rattle.it_notes.specs.VerifyOutputIn.{IsVerifyOutputIn};
 ghost use Rattle.itv.specs.Commands.{Verifies, form_asked};
-ghost use Rattle.itv.specs.Reading.{AreInputs, HoldsIfGiven, HoldsRing};
+ghost use Rattle.it_limits.specs.Limit.{IsWithinLimit};
+ghost use Rattle.itv.specs.Reading.{AreInputs, HoldsIfGiven, HoldsLookedAt, HoldsRing};
 
 use crate::disk::Disk;
 use crate::fault::Fault;
 use crate::files::{bytes, bytes_if_given, read_ring};
+use crate::folders::Links;
+use crate::left_out::{LeftOut, TooMany, note_left_out};
 use it_base::sequence::Sequence;
 use it_base::text::Text;
 use it_dsse::check::SignatureCheck;
 use it_dsse::ring::HmacRing;
 use it_json_report::form::ReportForm;
+use it_limits::{lines_within_limit, signatures_over_limit};
 use it_notes::verify_with_notes::verify_with_notes;
 use it_outcome::{RunFault, Status};
 use it_public_keys::any_check::{AnyCheck, checks_of};
@@ -26,8 +30,15 @@ use it_words::words::verify_words::VerifyWords;
 use std::alloc::{AllocError, Global};
 use std::io::Write;
 
+/// What is read for a verification.
+#[derive(Drop)]
+struct Taken {
+    inputs: Inputs,
+    left_out: Vec<LeftOut>,
+}
+
 /// Reads all files and folders and the rings, makes the table of public keys where they are asked
-/// for, writes the report of the verdict, and then what there is to note.
+/// for, notes what is left out, writes the report of the verdict, and then what there is to note.
 pub(crate) fn run<R: Disk + AllocGlobal, W: Write, N: Write>(
     rt: &R,
     words: &VerifyWords,
@@ -40,11 +51,12 @@ pub(crate) fn run<R: Disk + AllocGlobal, W: Write, N: Write>(
     ensures nothing { IfErr result (λ fault. fault ≢ Fault.Run RunFault.Write → out.new ≡ out.old) }
 {
     let alloc = rt.alloc();
-    let inputs = inputs(rt, words)?;
+    let Taken { inputs, left_out } = inputs(rt, words)?;
     let rings = read_rings(rt, words.rings.as_slice())?;
     let table = table_for(alloc, words, &inputs)?;
     let checks = checks_of(alloc, rings, table)?;
     let form = form_asked(words.json);
+    note_left_out(alloc, left_out.as_slice(), notes);
     Ok(verify_by(alloc, &inputs, checks, form, out, notes)?)
 }
 
@@ -109,21 +121,67 @@ fn read_rings<R: Disk + AllocGlobal>(rt: &R, paths: &[Text]) -> Result<Vec<HmacR
     Ok(rings)
 }
 
-/// What stands at the paths of the options. What no path is given for is empty.
-fn inputs<R: Disk + AllocGlobal>(rt: &R, words: &VerifyWords) -> Result<Inputs, Fault>
-    ensures { IfOk result (AreInputs R.holdings words.now) }
+/// What stands at the paths of the options. What no path is given for is empty. With public keys,
+/// what has too many signatures is left out.
+fn inputs<R: Disk + AllocGlobal>(rt: &R, words: &VerifyWords) -> Result<Taken, Fault>
+    ensures { IfOk result (λ taken. AreInputs R.holdings words.now taken.inputs) }
 {
     let moment = String::from_str(rt.alloc(), words.at.as_str())?;
-    Ok(Inputs {
-        policy: bytes(rt, &words.policy)?,
-        layout: bytes(rt, &words.layout)?,
-        links: rt.links(words.links.as_str(), words.depth)?,
+    let policy = bytes(rt, &words.policy)?;
+    let layout = layout(rt, words)?;
+    let links = rt.links(words.links.as_str(), words.depth, words.public_keys)?;
+    let Links {
+        bundle,
+        mut left_out,
+    } = links;
+    let inputs = Inputs {
+        policy,
+        layout,
+        links: bundle,
         records: records(rt, &words.records)?,
-        provenance: bytes_if_given(rt, &words.provenance)?,
+        provenance: provenance(rt, words, &mut left_out)?,
         sums: bytes(rt, &words.sums)?,
         moment: Text::from(moment),
         depth: words.depth,
-    })
+    };
+    Ok(Taken { inputs, left_out })
+}
+
+/// The layout, which with public keys may not have too many signatures.
+fn layout<R: Disk + AllocGlobal>(rt: &R, words: &VerifyWords) -> Result<Sequence<u8>, Fault>
+    ensures holds { IfOk result (λ layout. R.holdings.file words.now.layout layout) }
+    ensures limited { IfOk result
+        (λ layout. IsTrue words.now.public_keys → IsWithinLimit layout) }
+{
+    let layout = bytes(rt, &words.layout)?;
+    if words.public_keys {
+        let over = signatures_over_limit(rt.alloc(), layout.as_slice())?;
+        if let Some(count) = over {
+            return Err(TooMany(count).in_file(rt.alloc(), words.layout.as_str())?);
+        }
+    }
+    Ok(layout)
+}
+
+/// The provenance, or none where no file is given. With public keys its lines that have too many
+/// signatures are added to what is left out.
+fn provenance<R: Disk + AllocGlobal>(
+    rt: &R,
+    words: &VerifyWords,
+    left_out: &mut Vec<LeftOut>,
+) -> Result<Sequence<u8>, Fault>
+    ensures { IfOk result (HoldsLookedAt R.holdings.file words.now.provenance
+        words.now.public_keys) }
+{
+    let read = bytes_if_given(rt, &words.provenance)?;
+    if !words.public_keys {
+        return Ok(read);
+    }
+    let within = lines_within_limit(rt.alloc(), read.as_slice())?;
+    for over in within.left_out.as_slice() {
+        left_out.push(LeftOut::Line(*over))?;
+    }
+    Ok(within.lines)
 }
 
 /// The records in a folder, or none where no folder is given.

@@ -167,7 +167,7 @@ fn nested(alloc: Global, depth: u8) -> Result<Bundle, Fault>
     let disk = FakeFiles {
         nodes: NESTED.as_slice(),
     };
-    read_links(&(disk, alloc), "d", depth)
+    Ok(read_links(&(disk, alloc), "d", depth, false)?.bundle)
 }
 
 // How many of the folders one inside the other were read.

@@ -12,6 +12,7 @@ mod below;
 mod changes;
 mod delivery;
 mod keys;
+mod limits;
 mod making;
 mod notes;
 

@@ -40,7 +40,7 @@ const UNSIGNED: &[u8] = br#"{"payload":"e30=","payloadType":"t","signatures":[]}
 // "expected_products":[["CREATE","app"],["DISALLOW","*"]]}],
 // "inspect":[{"name":"look","expected_materials":[["REQUIRE","app"]]},
 // {"name":"scan","expected_products":[["REQUIRE","found"]]}]}
-const LAYOUT: &[u8] = b"{\"payloadType\":\"application/vnd.in-toto+json\",\"payload\":\"\
+pub(super) const LAYOUT: &[u8] = b"{\"payloadType\":\"application/vnd.in-toto+json\",\"payload\":\"\
     eyJfdHlwZSI6ImxheW91dCIsImV4cGlyZXMiOiIyMDMwLTAxLTAxVDAwOjAwOjAwWiIsImtleXMiOnsiYWxpY2UiOnsi\
     c2NoZW1lIjoiaG1hYy1zaGEyNTYifSwiYm9iIjp7InNjaGVtZSI6ImhtYWMtc2hhMjU2In19LCJzdGVwcyI6W3sibmFt\
     ZSI6ImJ1aWxkIiwidGhyZXNob2xkIjoyLCJwdWJrZXlzIjpbImFsaWNlIiwiYm9iIl0sImV4cGVjdGVkX3Byb2R1Y3Rz\
@@ -51,7 +51,7 @@ const LAYOUT: &[u8] = b"{\"payloadType\":\"application/vnd.in-toto+json\",\"payl
 
 // Signed by alice, on one line:
 // {"_type":"link","name":"build","products":{"app":{"sha256":"A"}}}
-const LINK: &[u8] = b"{\"payloadType\":\"application/vnd.in-toto+json\",\"payload\":\"\
+pub(super) const LINK: &[u8] = b"{\"payloadType\":\"application/vnd.in-toto+json\",\"payload\":\"\
     eyJfdHlwZSI6ImxpbmsiLCJuYW1lIjoiYnVpbGQiLCJwcm9kdWN0cyI6eyJhcHAiOnsic2hhMjU2IjoiYmE3ODE2YmY4\
     ZjAxY2ZlYTQxNDE0MGRlNWRhZTIyMjNiMDAzNjFhMzk2MTc3YTljYjQxMGZmNjFmMjAwMTVhZCJ9fX0=\
     \",\"signatures\":[{\"sig\":\"uqDTx3e11ee7Cw4oDwVREwkknv88QEdonLjA0l2tgOw=\"}]}";
@@ -66,7 +66,7 @@ const SUBLAYOUT: &[u8] = b"{\"payloadType\":\"application/vnd.in-toto+json\",\"p
 
 // Signed by dave, on one line:
 // {"_type":"link","name":"make","products":{"app":{"sha256":"A"}}}
-const INNER: &[u8] = b"{\"payloadType\":\"application/vnd.in-toto+json\",\"payload\":\"\
+pub(super) const INNER: &[u8] = b"{\"payloadType\":\"application/vnd.in-toto+json\",\"payload\":\"\
     eyJfdHlwZSI6ImxpbmsiLCJuYW1lIjoibWFrZSIsInByb2R1Y3RzIjp7ImFwcCI6eyJzaGEyNTYiOiJiYTc4MTZiZjhm\
     MDFjZmVhNDE0MTQwZGU1ZGFlMjIyM2IwMDM2MWEzOTYxNzdhOWNiNDEwZmY2MWYyMDAxNWFkIn19fQ==\
     \",\"signatures\":[{\"sig\":\"qWpiFAlrIJxCOUCKYobSC726FhRsOux3hBwRm45rBqU=\"}]}";
@@ -75,7 +75,8 @@ const INNER: &[u8] = b"{\"payloadType\":\"application/vnd.in-toto+json\",\"paylo
 // {"_type":"https://in-toto.io/Statement/v1","subject":[{"digest":{"sha256":"A"}}],
 // "predicateType":"https://slsa.dev/provenance/v1",
 // "predicate":{"buildDefinition":{"buildType":"make"},"runDetails":{"builder":{"id":"ci"}}}}
-const PROVENANCE: &[u8] = b"{\"payloadType\":\"application/vnd.in-toto+json\",\"payload\":\"\
+pub(super) const PROVENANCE: &[u8] =
+    b"{\"payloadType\":\"application/vnd.in-toto+json\",\"payload\":\"\
     eyJfdHlwZSI6Imh0dHBzOi8vaW4tdG90by5pby9TdGF0ZW1lbnQvdjEiLCJzdWJqZWN0IjpbeyJkaWdlc3QiOnsic2hh\
     MjU2IjoiYmE3ODE2YmY4ZjAxY2ZlYTQxNDE0MGRlNWRhZTIyMjNiMDAzNjFhMzk2MTc3YTljYjQxMGZmNjFmMjAwMTVh\
     ZCJ9fV0sInByZWRpY2F0ZVR5cGUiOiJodHRwczovL3Nsc2EuZGV2L3Byb3ZlbmFuY2UvdjEiLCJwcmVkaWNhdGUiOnsi\

@@ -1,0 +1,31 @@
+use Rattle.std.proofs.Common.{◌≡◌, ◌<◌, ℕ, List, Option, Some, None, Err, length, ap, sym, ◌∙◌}
+use Rattle.it_base.specs.Finds.{Finds}
+use Rattle.it_dsse.specs.Envelope.{EnvelopeOf}
+use Rattle.it_dsse.specs.declared.envelope.Envelope.{Envelope}
+use Rattle.it_chain.proofs.Documents.{envelope_same}
+use Rattle.it_limits.specs.Limit.{IsOverLimit, most_signatures}
+use Rattle.it_limits.proofs.signatures.signatures_over_limit.Goals as goal
+
+-- what is found of the number of signatures holds of the bytes
+found_of : (bytes : List ℕ) (envelope : Envelope) (count : ℕ) (found : Option ℕ)
+    → EnvelopeOf bytes envelope → count ≡ length envelope.signatures
+    → Finds (λ over. (over ≡ count) × (most_signatures < over)) found
+    → Finds (IsOverLimit bytes) found
+found_of bytes envelope count None reads is none = λ over h.
+    let same = envelope_same bytes h.envelope envelope h.reads reads in
+    none over (h.count_is ∙ ap (λ (e : Envelope). length e.signatures) same ∙ sym is, h.is_over)
+found_of bytes envelope count (Some over) reads is some = record {
+  envelope = envelope;
+  reads = reads;
+  count_is = some.0 ∙ is;
+  is_over = some.1;
+}
+
+pub returns-in-Ok : goal.returns-in-Ok
+returns-in-Ok c =
+    found_of c.args.bytes.now c.in-Ok.envelope _ c.over_limit.result c.in-Ok.ensures.ok
+    (ap length c.as_slice.ensures) c.over_limit.ensures
+
+pub returns-in-Err-BadEnvelope : goal.returns-in-Err-BadEnvelope
+returns-in-Err-BadEnvelope c = λ count h.
+    c.in-Err-BadEnvelope.ensures.bad (ap Err c.in-Err-BadEnvelope.field-0-is) h.envelope h.reads

@@ -1,0 +1,37 @@
+//! Envelopes with more signatures than are looked at.
+ghost use Rattle.std.specs.Prelude.{◌≡◌, ◌<◌, IfOk, length};
+ghost use Rattle.it_base.specs.Finds.{Finds};
+ghost use Rattle.it_limits.specs.Limit.{IsOverLimit, most_signatures};
+
+use it_dsse::envelope::{Envelope, EnvelopeFault};
+use std::alloc::{AllocError, Global};
+
+/// How many signatures of an envelope are looked at, at the most (this profile's choice).
+pub const MOST_SIGNATURES: usize = 64;
+
+/// How many signatures the envelope has that the bytes are, where these are more than
+/// `MOST_SIGNATURES`; `None` where the bytes are an envelope with no more, or no envelope.
+///
+/// # Errors
+///
+/// `AllocError` where memory was refused.
+pub fn signatures_over_limit(alloc: Global, bytes: &[u8]) -> Result<Option<usize>, AllocError>
+    ensures { IfOk result (Finds (IsOverLimit bytes.now)) }
+{
+    match Envelope::read(alloc, bytes) {
+        Ok(envelope) => Ok(over_limit(envelope.signatures.as_slice().len())),
+        Err(EnvelopeFault::BadEnvelope) => Ok(None),
+        Err(EnvelopeFault::OutOfMemory) => Err(AllocError),
+    }
+}
+
+/// A number, where it is above the limit.
+fn over_limit(count: usize) -> Option<usize>
+    ensures { Finds (λ over. (over ≡ count) × (most_signatures < over)) result }
+{
+    if count > MOST_SIGNATURES {
+        Some(count)
+    } else {
+        None
+    }
+}

@@ -1,0 +1,33 @@
+use super::{LeftOut, text_of};
+use it_limits::LineOver;
+use std::alloc::{AllocError, Global};
+use std::test::Fail;
+
+// The notes on so many lines of a provenance, each with 65 signatures.
+fn notes_on(alloc: Global, count: u8) -> Result<String, AllocError> {
+    let mut left_out = Vec::new(alloc);
+    for line in 1..=count {
+        left_out.push(LeftOut::Line(LineOver {
+            line: line as usize,
+            signatures: 65,
+        }))?;
+    }
+    text_of(alloc, left_out.as_slice())
+}
+
+// Whether there are so many notes, and the last ends so.
+fn are(text: &str, count: usize, last: &str) -> bool {
+    text.split('\n').count() == count + 1 && text.ends_with(last)
+}
+
+const LAST: &str = "provenance line 40 is left out: its envelope has 65 signatures, and with \
+    --public-keys at most 64 are looked at\n";
+
+#[test]
+fn writes_forty_notes_at_most(rt: HostRuntime) -> Result<(), Fail> {
+    assert!(rt; notes_on(rt.alloc(), 0)?.is_empty());
+    assert!(rt; are(notes_on(rt.alloc(), 40)?.as_str(), 40, LAST));
+    let further = "\n2 further files and lines are left out\n";
+    assert!(rt; are(notes_on(rt.alloc(), 41)?.as_str(), 40, further));
+    Ok(())
+}

@@ -87,25 +87,31 @@ def option_names(command):
     return " ".join(f"--{option['name']}" for option in command["options"])
 
 
+def offers_of(command):
+    """What bash offers for a word of a command: its options, and files where it takes files."""
+    names = option_names(command)
+    offers = [f"compgen -W '{names}' -- \"$word\""] if names else []
+    return "; ".join(offers + ([BASH["file"]] if takes_files(command) else []))
+
+
 def value_lines(listed):
-    """What bash offers for the value of each option, but for values that nothing is known of."""
+    """What bash offers after each option: for its value, if anything is known of that; where it has
+    none, for a word of the command."""
     for command in listed["commands"]:
         for option in command["options"]:
             named = f"        {command['name']}--{option['name']})"
             if option["kind"] in BASH:
                 yield f"{named} {BASH[option['kind']]} ;;"
             elif not option["value"]:
-                yield f"{named} compgen -W '{option_names(command)}' -- \"$word\" ;;"
+                yield f"{named} {offers_of(command)} ;;"
 
 
 def word_lines(listed):
-    """What bash offers for a word of each command: its options, and files where it takes files."""
+    """What bash offers for a word of each command."""
     for command in listed["commands"]:
-        names = option_names(command)
-        offers = [f"compgen -W '{names}' -- \"$word\""] if names else []
-        offers += [BASH["file"]] if takes_files(command) else []
+        offers = offers_of(command)
         if offers:
-            yield f"            {command['name']}) offered=$({'; '.join(offers)}) ;;"
+            yield f"            {command['name']}) offered=$({offers}) ;;"
 
 
 def bash(listed):

@@ -7,7 +7,7 @@ from pathlib import Path
 TOP = Path(__file__).resolve().parent.parent
 
 # Crates of tests alone, and of what tests share.
-TEST_CRATES = {"it_rows", "it_verify_rows", "it_command_rows", "it_devices"}
+TEST_CRATES = {"it_rows", "it_verify_rows", "it_command_rows", "it_json_rows", "it_devices"}
 
 
 def crate_names():

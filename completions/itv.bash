@@ -20,7 +20,7 @@ _itv_values() {
         sign--type) compgen -W application/vnd.in-toto+json -- "$word" ;;
         sign--onto) compgen -f -- "$word" ;;
         pae--type) compgen -W application/vnd.in-toto+json -- "$word" ;;
-        digest--recursive) compgen -W '--recursive' -- "$word" ;;
+        digest--recursive) compgen -W '--recursive' -- "$word"; compgen -f -- "$word" ;;
         link--materials) compgen -f -- "$word" ;;
         link--products) compgen -f -- "$word" ;;
         statement--sums) compgen -f -- "$word" ;;

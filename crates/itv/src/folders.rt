@@ -213,8 +213,8 @@ pub(crate) fn names<R: Files + AllocGlobal>(
     Ok(names)
 }
 
-/// What an entry is read as, or `None` where it is passed over: a folder too deep, a file whose name
-/// ends otherwise, and what is neither. A symbolic link is what it leads to.
+/// What an entry is read as, or `None` where it is passed over: a folder too deep, a file whose
+/// name ends otherwise, and what is neither. A symbolic link is what it leads to.
 fn kind_of<R: Files + AllocGlobal>(
     rt: &R,
     name: &str,

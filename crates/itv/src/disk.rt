@@ -30,8 +30,8 @@ pub(crate) trait Disk {
         ensures holds { IfOk result (λ bytes. holdings.file path.now bytes.items) }
         ensures within { IfOk result (λ bytes. length bytes.items ≤ 8388608) };
 
-    /// The links of a folder, down to `depth` levels below it. Where signatures are `limited`, files
-    /// whose envelopes have too many are left out.
+    /// The links of a folder, down to `depth` levels below it. Where signatures are `limited`, the
+    /// files are left out whose envelopes have too many.
     fn links(&self, folder: &str, depth: u8, limited: bool) -> Result<Links, Fault>
         ensures holds { IfOk result
             (λ links. holdings.links folder.now depth limited links.bundle) }

@@ -1,17 +1,15 @@
 //! Folders of links and of records, read as far as they count and no further.
-ghost use Rattle.std.specs.Prelude.{◌≡◌, IfOk, IsTrue, OnOk};
-ghost use Rattle.it_limits.specs.Limit.{IsWithinLimit};
+ghost use Rattle.std.specs.Prelude.{◌≡◌, IfOk, OnOk};
 ghost use Rattle.it_limits.specs.Links.{AreFilesWithin};
 ghost use Rattle.itv.specs.Reading.{AreLimited};
 
 use crate::fault::Fault;
 use crate::files::read_file;
-use crate::left_out::LeftOut;
+use crate::left_out::{LeftOut, too_many};
 use crate::shown::Shown;
 use it_base::sequence::Sequence;
 use it_base::text::Text;
 use it_chain::bundle::{Bundle, BundleFault};
-use it_limits::signatures_over_limit;
 use std::alloc::{AllocError, Global};
 use std::path::{Path, PathBuf};
 use std::rt::Files;
@@ -127,26 +125,16 @@ fn add_file<R: Files + AllocGlobal>(
     Ok(())
 }
 
-/// How many signatures a file has, where they are limited and too many.
-fn too_many(alloc: Global, bytes: &[u8], limited: bool) -> Result<Option<usize>, AllocError>
-    ensures { result ≡ Ok None → IsTrue limited → IsWithinLimit bytes.now }
-{
-    if limited {
-        signatures_over_limit(alloc, bytes)
-    } else {
-        Ok(None)
-    }
-}
-
 /// Adds the links of a folder, and what is left out of it.
 fn add_folder(alloc: Global, links: &mut Links, entry: Entry, inner: Links) -> Result<(), Fault>
     ensures { OnOk result ((limited : _) → AreLimited limited links.old.bundle
         → AreLimited limited inner.bundle → AreLimited limited links.new.bundle) }
 {
-    let Links { bundle, left_out } = inner;
-    for file in left_out {
-        links.left_out.push(file)?;
-    }
+    let Links {
+        bundle,
+        mut left_out,
+    } = inner;
+    links.left_out.append(&mut left_out)?;
     match links.bundle.add_dir(entry.name, bundle) {
         Ok(()) => Ok(()),
         Err(BundleFault::NameTaken(_)) => {
@@ -225,8 +213,8 @@ pub(crate) fn names<R: Files + AllocGlobal>(
     Ok(names)
 }
 
-/// What an entry is read as, or `None` where it is passed over: a folder too deep, a file whose name
-/// ends otherwise, and what is neither. A symbolic link is what it leads to.
+/// What an entry is read as, or `None` where it is passed over: a folder too deep, a file whose
+/// name ends otherwise, and what is neither. A symbolic link is what it leads to.
 fn kind_of<R: Files + AllocGlobal>(
     rt: &R,
     name: &str,

@@ -1,8 +1,11 @@
 //! What is left out of a verification by public keys because it has too many signatures, and the
 //! notes on it.
+ghost use Rattle.std.specs.Prelude.{IfOk, IsNone, IsTrue};
+ghost use Rattle.it_limits.specs.Limit.{IsWithinLimit};
+
 use crate::fault::Fault;
 use crate::shown::Shown;
-use it_limits::{LineOver, MOST_SIGNATURES};
+use it_limits::{LineOver, MOST_SIGNATURES, signatures_over_limit};
 use std::alloc::{AllocError, Global};
 use std::fmt;
 use std::fmt::{Display, Formatter};
@@ -33,6 +36,22 @@ impl Display for TooMany {
             f,
             "and with --public-keys at most {MOST_SIGNATURES} are looked at"
         )
+    }
+}
+
+/// How many signatures the envelope has that bytes are, where signatures are limited and these are
+/// too many.
+pub(crate) fn too_many(
+    alloc: Global,
+    bytes: &[u8],
+    limited: bool,
+) -> Result<Option<usize>, AllocError>
+    ensures { IfOk result (λ over. IsNone over → IsTrue limited → IsWithinLimit bytes.now) }
+{
+    if limited {
+        signatures_over_limit(alloc, bytes)
+    } else {
+        Ok(None)
     }
 }
 

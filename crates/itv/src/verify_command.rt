@@ -8,19 +8,20 @@ ghost use Rattle.it_public_keys.specs.Collected.{IsTableFor};
 ghost use Rattle.it_notes.specs.VerifyOutputIn.{IsVerifyOutputIn};
 ghost use Rattle.itv.specs.Commands.{Verifies, form_asked};
 ghost use Rattle.it_limits.specs.Limit.{IsWithinLimit};
-ghost use Rattle.itv.specs.Reading.{AreInputs, HoldsIfGiven, HoldsLookedAt, HoldsRing};
+ghost use Rattle.itv.specs.Reading.{AreInputs, AreLimited, HoldsIfGiven, HoldsLookedAt};
+ghost use Rattle.itv.specs.Reading.{HoldsRing};
 
 use crate::disk::Disk;
 use crate::fault::Fault;
 use crate::files::{bytes, bytes_if_given, read_ring};
-use crate::folders::Links;
-use crate::left_out::{LeftOut, TooMany, note_left_out};
+use crate::left_out::{LeftOut, TooMany, note_left_out, too_many};
 use it_base::sequence::Sequence;
 use it_base::text::Text;
+use it_chain::bundle::Bundle;
 use it_dsse::check::SignatureCheck;
 use it_dsse::ring::HmacRing;
 use it_json_report::form::ReportForm;
-use it_limits::{lines_within_limit, signatures_over_limit};
+use it_limits::lines_within_limit;
 use it_notes::verify_with_notes::verify_with_notes;
 use it_outcome::{RunFault, Status};
 use it_public_keys::any_check::{AnyCheck, checks_of};
@@ -29,13 +30,6 @@ use it_verify::inputs::Inputs;
 use it_words::words::verify_words::VerifyWords;
 use std::alloc::{AllocError, Global};
 use std::io::Write;
-
-/// What is read for a verification.
-#[derive(Drop)]
-struct Taken {
-    inputs: Inputs,
-    left_out: Vec<LeftOut>,
-}
 
 /// Reads all files and folders and the rings, makes the table of public keys where they are asked
 /// for, notes what is left out, writes the report of the verdict, and then what there is to note.
@@ -51,7 +45,8 @@ pub(crate) fn run<R: Disk + AllocGlobal, W: Write, N: Write>(
     ensures nothing { IfErr result (λ fault. fault ≢ Fault.Run RunFault.Write → out.new ≡ out.old) }
 {
     let alloc = rt.alloc();
-    let Taken { inputs, left_out } = inputs(rt, words)?;
+    let mut left_out = Vec::new(alloc);
+    let inputs = inputs(rt, words, &mut left_out)?;
     let rings = read_rings(rt, words.rings.as_slice())?;
     let table = table_for(alloc, words, &inputs)?;
     let checks = checks_of(alloc, rings, table)?;
@@ -122,29 +117,25 @@ fn read_rings<R: Disk + AllocGlobal>(rt: &R, paths: &[Text]) -> Result<Vec<HmacR
 }
 
 /// What stands at the paths of the options. What no path is given for is empty. With public keys,
-/// what has too many signatures is left out.
-fn inputs<R: Disk + AllocGlobal>(rt: &R, words: &VerifyWords) -> Result<Taken, Fault>
-    ensures { IfOk result (λ taken. AreInputs R.holdings words.now taken.inputs) }
+/// links and lines of the provenance that have too many signatures are added to what is left out.
+fn inputs<R: Disk + AllocGlobal>(
+    rt: &R,
+    words: &VerifyWords,
+    left_out: &mut Vec<LeftOut>,
+) -> Result<Inputs, Fault>
+    ensures { IfOk result (AreInputs R.holdings words.now) }
 {
     let moment = String::from_str(rt.alloc(), words.at.as_str())?;
-    let policy = bytes(rt, &words.policy)?;
-    let layout = layout(rt, words)?;
-    let links = rt.links(words.links.as_str(), words.depth, words.public_keys)?;
-    let Links {
-        bundle,
-        mut left_out,
-    } = links;
-    let inputs = Inputs {
-        policy,
-        layout,
-        links: bundle,
+    Ok(Inputs {
+        policy: bytes(rt, &words.policy)?,
+        layout: layout(rt, words)?,
+        links: links(rt, words, left_out)?,
         records: records(rt, &words.records)?,
-        provenance: provenance(rt, words, &mut left_out)?,
+        provenance: provenance(rt, words, left_out)?,
         sums: bytes(rt, &words.sums)?,
         moment: Text::from(moment),
         depth: words.depth,
-    };
-    Ok(Taken { inputs, left_out })
+    })
 }
 
 /// The layout, which with public keys may not have too many signatures.
@@ -154,13 +145,25 @@ fn layout<R: Disk + AllocGlobal>(rt: &R, words: &VerifyWords) -> Result<Sequence
         (λ layout. IsTrue words.now.public_keys → IsWithinLimit layout) }
 {
     let layout = bytes(rt, &words.layout)?;
-    if words.public_keys {
-        let over = signatures_over_limit(rt.alloc(), layout.as_slice())?;
-        if let Some(count) = over {
-            return Err(TooMany(count).in_file(rt.alloc(), words.layout.as_str())?);
-        }
+    match too_many(rt.alloc(), layout.as_slice(), words.public_keys)? {
+        Some(count) => Err(TooMany(count).in_file(rt.alloc(), words.layout.as_str())?),
+        None => Ok(layout),
     }
-    Ok(layout)
+}
+
+/// The links. With public keys those that have too many signatures are added to what is left out.
+fn links<R: Disk + AllocGlobal>(
+    rt: &R,
+    words: &VerifyWords,
+    left_out: &mut Vec<LeftOut>,
+) -> Result<Bundle, Fault>
+    ensures holds { IfOk result (λ links. R.holdings.links words.now.links words.now.depth
+        words.now.public_keys links) }
+    ensures limited { IfOk result (λ links. AreLimited words.now.public_keys links) }
+{
+    let mut links = rt.links(words.links.as_str(), words.depth, words.public_keys)?;
+    left_out.append(&mut links.left_out)?;
+    Ok(links.bundle)
 }
 
 /// The provenance, or none where no file is given. With public keys its lines that have too many

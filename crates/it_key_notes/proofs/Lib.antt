@@ -1,0 +1,2 @@
+pub mod Describing
+pub mod Noting

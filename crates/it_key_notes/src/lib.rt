@@ -3,6 +3,7 @@
 
 mod keep;
 mod known;
+pub mod laws;
 mod line;
 pub mod reason;
 mod reasons;

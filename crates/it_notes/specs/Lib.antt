@@ -1,4 +1,5 @@
 pub mod FileDetails
+pub mod KeyNotes
 pub mod Level
 pub mod Notes
 pub mod PlaceNotes

@@ -15,6 +15,7 @@ use Rattle.it_member_notes.specs.declared.rule_list_note.RuleListNote.{RuleListN
 use Rattle.it_report.specs.declared.verdict.Verdict.{Verdict}
 use Rattle.it_report.specs.declared.verdict.Verdict.TheVariants.{Accepted, Refused}
 use Rattle.it_verify.specs.declared.inputs.Inputs.{Inputs}
+use Rattle.it_notes.specs.KeyNotes.{TellsKeys}
 use Rattle.it_notes.specs.PlaceNotes.{TellsPlace}
 use Rattle.it_notes.specs.RefusalNotes.{Tells}
 use Rattle.it_notes.specs.declared.layout_notes.LayoutNotes.{LayoutNotes}
@@ -60,5 +61,6 @@ pub record AreTrue (panel : Panel) (inputs : Inputs) (verdict : Verdict) (notes 
     : Type 0 where
   pub place : IfSome notes.place (TellsWhere panel inputs verdict)
   pub refusal : TellsVerdict panel inputs verdict notes.refusal
+  pub keys : TellsKeys panel inputs verdict notes.keys.items
   pub policy : All (IsUnreadOfPolicy inputs.policy) notes.policy.items
   pub layout : IfSome notes.layout (TellsLayout inputs)

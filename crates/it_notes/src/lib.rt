@@ -7,6 +7,7 @@ mod details;
 mod expiry;
 pub mod fault_level;
 pub mod file_detail;
+mod key_notes;
 pub mod layout_notes;
 mod level_notes;
 mod lines;

@@ -1,13 +1,16 @@
 //! The notes on a verification.
 ghost use Rattle.std.specs.Prelude.{IfOk, IfSome, map};
 ghost use Rattle.it_dsse.specs.Panel.{panel_of};
+ghost use Rattle.it_notes.specs.KeyNotes.{TellsKeys};
 ghost use Rattle.it_notes.specs.Notes.{AreTrue, TellsLayout, TellsVerdict, TellsWhere};
 
 use crate::file_detail::DetailedNote;
+use crate::key_notes::key_notes;
 use crate::layout_notes::LayoutNotes;
 use crate::place_notes::{PlaceNotes, place_notes};
 use crate::refusal_notes::refusal_notes;
 use it_dsse::check::SignatureCheck;
+use it_key_notes::unknown_key::UnknownKey;
 use it_member_notes::policy_notes;
 use it_member_notes::unread_member::UnreadMember;
 use it_part_notes::part_note::PartNote;
@@ -33,6 +36,8 @@ pub struct Notes {
     pub place: Option<PlaceNotes>,
     /// Why the delivery was refused.
     pub refusal: RefusalNotes,
+    /// The key objects that no check knows, of those on which the refusal turns.
+    pub keys: Vec<UnknownKey>,
     /// The members of the policy that are not looked at.
     pub policy: Vec<UnreadMember>,
     /// What is odd about the layout and the policy's rules that see it, where the owners are known
@@ -94,9 +99,11 @@ impl Notes {
         let policy = policy_notes(alloc, inputs.policy.as_slice())?;
         let layout = signed_layout_notes(alloc, inputs, verdict)?;
         let place = verdict_place(alloc, inputs, verdict, panel)?;
+        let keys = verdict_keys(alloc, inputs, verdict, panel)?;
         Ok(Notes {
             place,
             refusal: verdict_notes(alloc, inputs, verdict, panel)?,
+            keys,
             policy,
             layout,
         })
@@ -115,6 +122,22 @@ fn verdict_notes(
     match verdict {
         Verdict::Accepted { .. } => Ok(RefusalNotes::Nothing),
         Verdict::Refused(refusal) => refusal_notes(alloc, inputs, refusal, panel),
+    }
+}
+
+/// The key objects that no check knows, of those on which the verdict turns, if it refuses.
+fn verdict_keys(
+    alloc: Global,
+    inputs: &Inputs,
+    verdict: &Verdict,
+    panel: &[Box<dyn SignatureCheck>],
+) -> Result<Vec<UnknownKey>, AllocError>
+    ensures { IfOk result (λ notes.
+        TellsKeys (panel_of (map meaning panel.now)) inputs.now verdict.now notes.items) }
+{
+    match verdict {
+        Verdict::Accepted { .. } => Ok(Vec::new(alloc)),
+        Verdict::Refused(refusal) => key_notes(alloc, inputs, refusal, panel),
     }
 }
 

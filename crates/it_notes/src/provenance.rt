@@ -50,7 +50,7 @@ pub(crate) fn provenance_told(
 }
 
 /// The expectation that speaks of the file at a path.
-fn speaking<'a>(expectations: &'a [Expectation], path: &str) -> Option<&'a Expectation>
+pub(crate) fn speaking<'a>(expectations: &'a [Expectation], path: &str) -> Option<&'a Expectation>
     ensures { IfSome result (λ expectation. Fits expectations.now path.now expectation.now) }
 {
     let place = fitting(expectations, path)?;

@@ -34,7 +34,7 @@ pub(crate) fn step_told(
 }
 
 /// The step of this name.
-fn step_named<'a>(steps: &'a [Step], name: &str) -> Option<&'a Step>
+pub(crate) fn step_named<'a>(steps: &'a [Step], name: &str) -> Option<&'a Step>
     ensures { IfSome result (λ step. Contains steps.now step.now × (step.now.name ≡ name.now)) }
 {
     for step in steps {

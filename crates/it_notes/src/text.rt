@@ -4,6 +4,7 @@ use crate::layout_notes::LayoutNotes;
 use crate::lines::{Line, Lines};
 use crate::notes::{Notes, RefusalNotes, RuleNotes};
 use crate::place_notes::PlaceNotes;
+use it_key_notes::unknown_key::UnknownKey;
 use it_member_notes::layout_note::LayoutNote;
 use it_member_notes::rule_list_note::RuleListNote;
 use it_member_notes::unread_member::UnreadMember;
@@ -35,6 +36,7 @@ impl Notes {
             place.add_to(&mut lines)?;
         }
         self.refusal.add_to(&mut lines)?;
+        lines.add_all(self.keys.as_slice())?;
         lines.add_all(self.policy.as_slice())?;
         if let Some(layout) = &self.layout {
             layout.add_to(&mut lines)?;
@@ -165,6 +167,12 @@ impl Line for ExpiryNote {
 impl Line for OwnerNote {
     fn push_line(&self, text: &mut Vec<u8>) -> Result<(), AllocError> {
         OwnerNote::push_line(self, text)
+    }
+}
+
+impl Line for UnknownKey {
+    fn push_line(&self, text: &mut Vec<u8>) -> Result<(), AllocError> {
+        UnknownKey::push_line(self, text)
     }
 }
 

@@ -4,6 +4,7 @@ pub returns : goal.returns
 returns g c = record {
   place = c.in_ok-place.ensures;
   refusal = c.in_ok-verdict_notes.ensures;
+  keys = c.in_ok-keys.ensures;
   policy = rw (← c.as_slice.ensures) c.in_ok-policy.ensures;
   layout = c.in_ok-layout.ensures;
 }

@@ -1,0 +1,4 @@
+pub mod Laws
+pub mod Line
+pub mod Reasons
+pub mod UnknownKeys

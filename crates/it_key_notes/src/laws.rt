@@ -1,0 +1,9 @@
+//! A law about the definitions of notes on key objects: a function that does nothing, and whose
+//! contract says what was proved.
+ghost use Rattle.it_key_notes.specs.Laws.{AskedKeysAreKnown};
+
+/// Where a table of public keys has the key that an object describes, there is no note on the
+/// object: that public keys are to be asked for is said where they are not.
+pub fn asked_keys_are_known()
+    ensures { AskedKeysAreKnown }
+{}

@@ -1,0 +1,30 @@
+use Rattle.std.proofs.Common.{Contains, map}
+use Rattle.std.proofs.lemmas.List.Elements.{All-weaker}
+use Rattle.it_dsse.specs.Panel.{panel_of}
+use Rattle.it_key_notes.specs.UnknownKeys.{IsUnknownUnder}
+use Rattle.it_notes.specs.KeyNotes.{IsOfStep}
+use Rattle.it_notes.specs.Level.{IsLevel}
+use Rattle.it_notes.proofs.key_notes.step_keys.Goals as goal
+
+pub returns : goal.returns
+returns g c =
+    let panel = panel_of
+    (map (λ check. (goal.SignatureCheck-dyn g (check.vtable, check.value)).meaning check.value)
+    c.args.panel.now) in
+    let inputs = c.args.inputs.now in
+    let level = c.in-Some.level in
+    let step = c.in-Some-step_named.step.now in
+    let reached : IsLevel panel inputs c.args.at.now level =
+    rw c.in-Some.is at c.in_ok-level.ensures in
+    let stands : Contains level.signed.layout.steps step =
+    rw (← c.as_slice.ensures) c.in-Some-step_named.ensures.0 in
+    All-weaker (IsUnknownUnder panel step.pubkeys level.signed.layout.keys)
+    (IsOfStep panel inputs c.args.at.now c.args.name.now)
+    (λ note is. record {
+      level = level;
+      step = step;
+      is_level = reached;
+      in_layout = stands;
+      name_is = c.in-Some-step_named.ensures.1;
+      is_unknown = is;
+    }) _ (rw c.as_slice-2.ensures at c.in_ok-notes.ensures)

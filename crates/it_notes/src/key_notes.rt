@@ -1,0 +1,95 @@
+//! Which key objects no check knows, of those on which a refusal turns.
+ghost use Rattle.std.specs.Prelude.{All, IfOk, map};
+ghost use Rattle.it_dsse.specs.Panel.{panel_of};
+ghost use Rattle.it_notes.specs.KeyNotes.{IsOfBuilder, IsOfOwner, IsOfStep, TellsKey};
+
+use crate::fault_level::level_at;
+use crate::provenance::speaking;
+use crate::reading::policy_in;
+use crate::steps::step_named;
+use it_base::text::Text;
+use it_dsse::check::SignatureCheck;
+use it_key_notes::unknown_key::UnknownKey;
+use it_key_notes::{unknown_in, unknown_of_builders, unknown_under};
+use it_report::refusal::{Fault, Refusal};
+use it_verify::inputs::Inputs;
+use std::alloc::{AllocError, Global};
+
+/// Notes on the key objects that no check knows, of those on which a refusal turns: the owners',
+/// those of the step for which too few keys signed, or those of the expected builders.
+pub(crate) fn key_notes(
+    alloc: Global,
+    inputs: &Inputs,
+    refusal: &Refusal,
+    panel: &[Box<dyn SignatureCheck>],
+) -> Result<Vec<UnknownKey>, AllocError>
+    ensures { IfOk result (λ notes. All (TellsKey (panel_of (map meaning panel.now)) inputs.now
+        refusal.now.at refusal.now.fault) notes.items) }
+{
+    match &refusal.fault {
+        Fault::OwnerMissing(_) => owner_keys(alloc, inputs, panel),
+        Fault::Threshold { step, .. } => {
+            step_keys(alloc, inputs, refusal.at.as_slice(), step.as_str(), panel)
+        }
+        Fault::NoProvenance(path, _) => builder_keys(alloc, inputs, path.as_str(), panel),
+        _ => Ok(Vec::new(alloc)),
+    }
+}
+
+/// Those of the policy's owners.
+fn owner_keys(
+    alloc: Global,
+    inputs: &Inputs,
+    panel: &[Box<dyn SignatureCheck>],
+) -> Result<Vec<UnknownKey>, AllocError>
+    ensures { IfOk result (λ notes. All
+        (IsOfOwner (panel_of (map meaning panel.now)) inputs.now) notes.items) }
+{
+    let Some(policy) = policy_in(alloc, inputs.policy.as_slice())? else {
+        return Ok(Vec::new(alloc));
+    };
+    let notes = unknown_in(alloc, &policy.owners, panel)?;
+    Ok(notes)
+}
+
+/// Those under the key ids of the step of this name, of the layout to which the places lead.
+fn step_keys(
+    alloc: Global,
+    inputs: &Inputs,
+    at: &[(Text, Text)],
+    name: &str,
+    panel: &[Box<dyn SignatureCheck>],
+) -> Result<Vec<UnknownKey>, AllocError>
+    ensures { IfOk result (λ notes. All
+        (IsOfStep (panel_of (map meaning panel.now)) inputs.now at.now name.now) notes.items) }
+{
+    let Some(level) = level_at(alloc, inputs, at, panel)? else {
+        return Ok(Vec::new(alloc));
+    };
+    let layout = &level.signed.layout;
+    let Some(step) = step_named(layout.steps.as_slice(), name) else {
+        return Ok(Vec::new(alloc));
+    };
+    let notes = unknown_under(alloc, step.pubkeys.as_slice(), &layout.keys, panel)?;
+    Ok(notes)
+}
+
+/// Those of the builders of the expectation that speaks of the file at a path.
+fn builder_keys(
+    alloc: Global,
+    inputs: &Inputs,
+    path: &str,
+    panel: &[Box<dyn SignatureCheck>],
+) -> Result<Vec<UnknownKey>, AllocError>
+    ensures { IfOk result (λ notes. All
+        (IsOfBuilder (panel_of (map meaning panel.now)) inputs.now path.now) notes.items) }
+{
+    let Some(policy) = policy_in(alloc, inputs.policy.as_slice())? else {
+        return Ok(Vec::new(alloc));
+    };
+    let Some(expectation) = speaking(policy.expectations.as_slice(), path) else {
+        return Ok(Vec::new(alloc));
+    };
+    let notes = unknown_of_builders(alloc, expectation.builders.as_slice(), panel)?;
+    Ok(notes)
+}

@@ -11,5 +11,5 @@ returns-in-Threshold g c =
 
 pub returns-in-NoProvenance : goal.returns-in-NoProvenance
 returns-in-NoProvenance g c =
-    let path : c.as_str.result.now ≡ c.in-NoProvenance.field-0 = search rules in
+    let path : c.as_str-in-NoProvenance.result.now ≡ c.in-NoProvenance.path = search rules in
     rw c.in-NoProvenance.is (rw path at c.builder_keys.ensures)

@@ -15,9 +15,9 @@ fn notes_on(alloc: Global, count: u8) -> Result<String, AllocError> {
     text_of(alloc, left_out.as_slice())
 }
 
-// Whether there are so many notes, and the last ends so.
-fn are(text: &str, count: usize, last: &str) -> bool {
-    text.split('\n').count() == count + 1 && text.ends_with(last)
+// Whether line feeds part a text into so many parts, and it ends so.
+fn has_parts(text: &str, parts: usize, last: &str) -> bool {
+    text.split('\n').count() == parts && text.ends_with(last)
 }
 
 const LAST: &str = "provenance line 40 is left out: its envelope has 65 signatures, and with \
@@ -26,8 +26,8 @@ const LAST: &str = "provenance line 40 is left out: its envelope has 65 signatur
 #[test]
 fn writes_forty_notes_at_most(rt: HostRuntime) -> Result<(), Fail> {
     assert!(rt; notes_on(rt.alloc(), 0)?.is_empty());
-    assert!(rt; are(notes_on(rt.alloc(), 40)?.as_str(), 40, LAST));
+    assert!(rt; has_parts(notes_on(rt.alloc(), 40)?.as_str(), 41, LAST));
     let further = "\n2 further files and lines are left out\n";
-    assert!(rt; are(notes_on(rt.alloc(), 41)?.as_str(), 40, further));
+    assert!(rt; has_parts(notes_on(rt.alloc(), 41)?.as_str(), 41, further));
     Ok(())
 }

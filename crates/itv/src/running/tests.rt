@@ -12,7 +12,6 @@ mod below;
 mod changes;
 mod delivery;
 mod keys;
-mod limits;
 mod making;
 mod notes;
 

@@ -27,9 +27,9 @@ PLACES = [
     ("vectors", "CHANGELOG.md", "- {} vectors of Ed25519"),
     ("worked", "docs/testing.md", "whole verifications, {} worked out by hand"),
     ("random", "docs/testing.md", "by hand and {} changed at random"),
-    ("toolchain", "README.md", "The toolchain (`{}`)"),
-    ("toolchain", "docs/trusted.md", "The toolchain (`{}`)"),
-    ("toolchain", "CONTRIBUTING.md", "`rt version` prints `{}`"),
+    ("logic", "README.md", "The toolchain (a `rattle-kit-13` of `logic {}`)"),
+    ("logic", "docs/trusted.md", "The toolchain (a `rattle-kit-13` of `logic {}`)"),
+    ("logic", "CONTRIBUTING.md", "`rt version` prints a `rattle-kit-13` and `logic {}`"),
 ]
 
 
@@ -46,7 +46,10 @@ def lines(program, pattern):
 
 
 def counted():
-    """Each figure as it is written, by its name; that of a toolchain only where there is one."""
+    """Each figure as it is written, by its name; the toolchain's logic only where there is one.
+
+    Kits of one logic prove the same, so the letter of the kit does not matter.
+    """
     graph, every = reach.Graph(), lines("itv_cases", "*.jsonl")
     thrown, vectors = lines("itv_cases", "random-*.jsonl"), lines("it_vectors", "*.jsonl")
     numbers = {"verify": lines_reached(graph, reach.VERIFY),
@@ -57,13 +60,13 @@ def counted():
     found = {name: f"{number:,}" for name, number in numbers.items()}
     if shutil.which("rt"):
         ran = subprocess.run(["rt", "version"], stdout=subprocess.PIPE, text=True, check=True)
-        found["toolchain"] = ran.stdout.strip()
+        found["logic"] = ran.stdout.split()[-1]
     return found
 
 
 def pattern_of(name, words):
     """What finds a figure among the words around it."""
-    figure = r"(?P<figure>[^`]+)" if name == "toolchain" else NUMBER
+    figure = r"(?P<figure>[0-9a-f]+)" if name == "logic" else NUMBER
     before, after = (re.escape(part) for part in words.split("{}"))
     return re.compile(f"(?<={before}){figure}(?={after})")
 

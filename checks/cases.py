@@ -1,5 +1,5 @@
 #!/usr/bin/env python3
-"""Whether the cases of what is noted are those that the scripts in conformance/ write."""
+"""Whether cases and rows are those that the quick scripts in conformance/ write."""
 
 import pathlib
 import subprocess
@@ -10,7 +10,7 @@ CONFORMANCE = pathlib.Path(__file__).resolve().parent.parent / "conformance"
 
 def main():
     """Runs each script, and answers the exit status."""
-    scripts = sorted(CONFORMANCE.glob("notes_of_*"))
+    scripts = sorted(CONFORMANCE.glob("*_of_*"))
     failed = [path.name for path in scripts
               if subprocess.run([sys.executable, path, "--check"], check=False).returncode]
     return 1 if failed or not scripts else 0

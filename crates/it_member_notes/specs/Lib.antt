@@ -1,5 +1,7 @@
+pub mod KeyMembers
 pub mod LayoutNotes
 pub mod MemberNames
+pub mod MemberNotes
 pub mod Places
 pub mod RuleListNotes
 pub mod UnreadMembers

@@ -27,6 +27,12 @@ key_at (keys.TheVariants.Builder expectation builder id) d =
     option_and_then (inner_at (codes "keys") id) (builder_at expectation builder d)
 key_at (keys.TheVariants.Layout id) d = inner_at (codes "keys") id d
 
+-- the id under which the key object at a place stands
+abbrev pub id_of : keys.KeyPlace → List ℕ
+id_of (keys.TheVariants.Owner id) = id
+id_of (keys.TheVariants.Builder expectation builder id) = id
+id_of (keys.TheVariants.Layout id) = id
+
 -- what stands at a place of a document
 abbrev pub object_at : places.Place → Data → Option Data
 object_at places.TheVariants.Policy d = Some d

@@ -3,13 +3,18 @@
 #![tactic(auto)]
 
 mod close_name;
+mod key_member_line;
+pub mod key_member_note;
+mod key_notes;
 mod layout_line;
 pub mod layout_note;
 mod list_notes;
 mod member_names;
+pub mod member_notes;
 mod notes;
 mod object_at;
 pub mod place;
+mod place_words;
 mod places;
 mod quoted;
 mod rule_list_line;

@@ -1,5 +1,6 @@
 //! The places of a policy and a layout at which objects stand whose members have a meaning.
 ghost use Rattle.std.specs.Prelude.{◌≡◌, IfOk};
+ghost use Rattle.it_member_notes.specs.Places.{id_of};
 
 use it_base::text::Text;
 use std::alloc::{AllocError, Global};
@@ -77,6 +78,16 @@ impl Place {
 }
 
 impl KeyPlace {
+    /// The id under which the key object stands. Takes no memory.
+    pub(crate) fn id(&self) -> &str
+        ensures { result.now ≡ id_of self.now }
+    {
+        match self {
+            KeyPlace::Owner(id) | KeyPlace::Layout(id) => id.as_str(),
+            KeyPlace::Builder { id, .. } => id.as_str(),
+        }
+    }
+
     /// A copy of the place, in memory of `alloc`.
     ///
     /// # Errors

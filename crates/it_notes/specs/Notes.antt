@@ -8,8 +8,8 @@ use Rattle.it_dsse.specs.Envelope.{EnvelopeOf}
 use Rattle.it_dsse.specs.Panel.{Panel}
 use Rattle.it_dsse.specs.declared.envelope.Envelope.{Envelope}
 use Rattle.it_member_notes.specs.LayoutNotes.{Holds}
+use Rattle.it_member_notes.specs.MemberNotes.{TellsLayoutMembers, TellsPolicyMembers}
 use Rattle.it_member_notes.specs.RuleListNotes.{IsOfRules}
-use Rattle.it_member_notes.specs.UnreadMembers.{IsUnreadOfLayout, IsUnreadOfPolicy}
 use Rattle.it_member_notes.specs.declared.layout_note.LayoutNote.{LayoutNote}
 use Rattle.it_member_notes.specs.declared.rule_list_note.RuleListNote.{RuleListNote}
 use Rattle.it_report.specs.declared.verdict.Verdict.{Verdict}
@@ -42,7 +42,7 @@ pub record TellsLayout (inputs : Inputs) (notes : LayoutNotes) : Type 0 where
   pub envelope : Envelope
   pub is_envelope : EnvelopeOf inputs.layout envelope
   pub deliver : AreOfDelivery inputs.policy envelope.payload notes.deliver.items
-  pub members : All (IsUnreadOfLayout envelope.payload) notes.members.items
+  pub members : TellsLayoutMembers envelope.payload notes.members
   pub rules : AreOfLayout envelope.payload notes.rules.items
 
 -- the notes on a refusal are true of it; an accepted delivery has none
@@ -62,5 +62,5 @@ pub record AreTrue (panel : Panel) (inputs : Inputs) (verdict : Verdict) (notes 
   pub place : IfSome notes.place (TellsWhere panel inputs verdict)
   pub refusal : TellsVerdict panel inputs verdict notes.refusal
   pub keys : TellsKeys panel inputs verdict notes.keys.items
-  pub policy : All (IsUnreadOfPolicy inputs.policy) notes.policy.items
+  pub policy : TellsPolicyMembers inputs.policy notes.policy
   pub layout : IfSome notes.layout (TellsLayout inputs)

@@ -8,8 +8,8 @@ use crate::reading::{envelope_in, policy_in};
 use it_chain::layout_in;
 use it_docs::layout::Layout;
 use it_member_notes::layout_note::LayoutNote;
+use it_member_notes::member_notes::MemberNotes;
 use it_member_notes::rule_list_note::RuleListNote;
-use it_member_notes::unread_member::UnreadMember;
 use it_member_notes::{layout_notes, layout_rule_notes, rule_list_notes};
 use it_verify::inputs::Inputs;
 use std::alloc::{AllocError, Global};
@@ -19,8 +19,8 @@ use std::alloc::{AllocError, Global};
 pub struct LayoutNotes {
     /// What the policy's rules on what is delivered ask for.
     pub deliver: Vec<RuleListNote>,
-    /// The members of the layout that are not looked at.
-    pub members: Vec<UnreadMember>,
+    /// The members of the layout that are not looked at, or that may not be meant.
+    pub members: MemberNotes,
     /// What the layout's rules and steps ask for.
     pub rules: Vec<LayoutNote>,
 }

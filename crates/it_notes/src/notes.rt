@@ -11,8 +11,8 @@ use crate::place_notes::{PlaceNotes, place_notes};
 use crate::refusal_notes::refusal_notes;
 use it_dsse::check::SignatureCheck;
 use it_key_notes::unknown_key::UnknownKey;
+use it_member_notes::member_notes::MemberNotes;
 use it_member_notes::policy_notes;
-use it_member_notes::unread_member::UnreadMember;
 use it_part_notes::part_note::PartNote;
 use it_part_notes::sum_line_note::SumLineNote;
 use it_prov_notes::note::ProvenanceNote;
@@ -38,8 +38,8 @@ pub struct Notes {
     pub refusal: RefusalNotes,
     /// The key objects that no check knows, of those on which the refusal turns.
     pub keys: Vec<UnknownKey>,
-    /// The members of the policy that are not looked at.
-    pub policy: Vec<UnreadMember>,
+    /// The members of the policy that are not looked at, or that may not be meant.
+    pub policy: MemberNotes,
     /// What is odd about the layout and the policy's rules that see it, where the owners are known
     /// to have signed it.
     pub layout: Option<LayoutNotes>,

@@ -5,7 +5,9 @@ use crate::lines::{Line, Lines};
 use crate::notes::{Notes, RefusalNotes, RuleNotes};
 use crate::place_notes::PlaceNotes;
 use it_key_notes::unknown_key::UnknownKey;
+use it_member_notes::key_member_note::KeyMemberNote;
 use it_member_notes::layout_note::LayoutNote;
+use it_member_notes::member_notes::MemberNotes;
 use it_member_notes::rule_list_note::RuleListNote;
 use it_member_notes::unread_member::UnreadMember;
 use it_part_notes::part_note::PartNote;
@@ -37,7 +39,7 @@ impl Notes {
         }
         self.refusal.add_to(&mut lines)?;
         lines.add_all(self.keys.as_slice())?;
-        lines.add_all(self.policy.as_slice())?;
+        add_members(&mut lines, &self.policy)?;
         if let Some(layout) = &self.layout {
             layout.add_to(&mut lines)?;
         }
@@ -99,9 +101,15 @@ impl RuleNotes {
 impl LayoutNotes {
     fn add_to(&self, lines: &mut Lines) -> Result<(), AllocError> {
         lines.add_all(self.deliver.as_slice())?;
-        lines.add_all(self.members.as_slice())?;
+        add_members(lines, &self.members)?;
         lines.add_all(self.rules.as_slice())
     }
+}
+
+/// Adds the notes on members: those on key objects after the others.
+fn add_members(lines: &mut Lines, notes: &MemberNotes) -> Result<(), AllocError> {
+    lines.add_all(notes.unread.as_slice())?;
+    lines.add_all(notes.keys.as_slice())
 }
 
 /// That the provenance is one envelope over several lines.
@@ -192,6 +200,13 @@ impl Line for UnreadMember {
     fn push_line(&self, text: &mut Vec<u8>) -> Result<(), AllocError> {
         let alloc = *text.allocator();
         UnreadMember::push_line(self, alloc, text)
+    }
+}
+
+impl Line for KeyMemberNote {
+    fn push_line(&self, text: &mut Vec<u8>) -> Result<(), AllocError> {
+        let alloc = *text.allocator();
+        KeyMemberNote::push_line(self, alloc, text)
     }
 }
 

@@ -1,0 +1,109 @@
+//! The notes on members of key objects.
+ghost use Rattle.std.specs.Prelude.{◌≡◌, All, Contains, IfOk, IfSome};
+ghost use Rattle.serde_json.specs.View.{view};
+ghost use Rattle.it_base.specs.Parts.{IsPart};
+ghost use Rattle.it_base.specs.Text.{IsText};
+ghost use Rattle.it_member_notes.specs.KeyMembers.{HasKeyMember, IsKeyMember, place_of};
+
+use crate::key_member_note::KeyMemberNote;
+use crate::object_at::object_at;
+use crate::place::{KeyPlace, Place};
+use it_base::document::member;
+use it_base::text::Text;
+use serde_json::Value;
+use std::alloc::{AllocError, Global};
+
+/// The notes on the members of the key objects at these places of a document, place by place.
+pub(crate) fn key_notes_at(
+    alloc: Global,
+    document: &Value,
+    places: &[Place],
+) -> Result<Vec<KeyMemberNote>, AllocError>
+    ensures { IfOk result (λ notes. All (λ note.
+        IsKeyMember (view document.now) note × Contains places.now (place_of note)) notes.items) }
+{
+    let mut notes = Vec::new(alloc);
+    for place in places {
+        if let Some(note) = key_note_at(alloc, document, place)? {
+            notes.push(note)?;
+        }
+    }
+    Ok(notes)
+}
+
+fn key_note_at(
+    alloc: Global,
+    document: &Value,
+    place: &Place,
+) -> Result<Option<KeyMemberNote>, AllocError>
+    ensures { IfOk result (λ found. IfSome found
+        (λ note. IsKeyMember (view document.now) note × (place_of note ≡ place.now))) }
+{
+    match object_at(document, place) {
+        None => Ok(None),
+        Some(object) => key_note_of(alloc, object, place),
+    }
+}
+
+fn key_note_of(
+    alloc: Global,
+    object: &Value,
+    place: &Place,
+) -> Result<Option<KeyMemberNote>, AllocError>
+    ensures { IfOk result (λ found. IfSome found
+        (λ note. HasKeyMember (view object.now) note × (place_of note ≡ place.now))) }
+{
+    match place {
+        Place::Key(key) => other_key_id(alloc, object, key),
+        Place::KeyValue(key) => private_key(alloc, object, key),
+        _ => Ok(None),
+    }
+}
+
+/// The note on the `keyid` of a key object, if it is a text that is not the object's id.
+fn other_key_id(
+    alloc: Global,
+    object: &Value,
+    key: &KeyPlace,
+) -> Result<Option<KeyMemberNote>, AllocError>
+    ensures { IfOk result (λ found. IfSome found
+        (λ note. HasKeyMember (view object.now) note × (place_of note ≡ Place.Key key.now))) }
+{
+    let Some(keyid) = text_at(object, "keyid") else {
+        return Ok(None);
+    };
+    if keyid == key.id() {
+        return Ok(None);
+    }
+    Ok(Some(KeyMemberNote::OtherKeyId {
+        key: key.copy(alloc)?,
+        keyid: Text::copy(alloc, keyid)?,
+    }))
+}
+
+/// The note on the `private` of a `keyval`, if it is a text that is not empty.
+fn private_key(
+    alloc: Global,
+    keyval: &Value,
+    key: &KeyPlace,
+) -> Result<Option<KeyMemberNote>, AllocError>
+    ensures { IfOk result (λ found. IfSome found
+        (λ note. HasKeyMember (view keyval.now) note × (place_of note ≡ Place.KeyValue key.now))) }
+{
+    let Some(private) = text_at(keyval, "private") else {
+        return Ok(None);
+    };
+    if private.is_empty() {
+        return Ok(None);
+    }
+    Ok(Some(KeyMemberNote::PrivateKey {
+        key: key.copy(alloc)?,
+    }))
+}
+
+/// The text that the member of this name is, if it is one.
+fn text_at<'v>(object: &'v Value, name: &str) -> Option<&'v str>
+    ensures { IfSome result (λ text. IsPart IsText name.now (view object.now) text.now) }
+{
+    member(object, name)?.as_str()
+}

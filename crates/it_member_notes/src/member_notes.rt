@@ -1,0 +1,53 @@
+//! What there is to say of the members of a policy or a layout.
+ghost use Rattle.std.specs.Prelude.{◌≡◌, [], All, Contains, IfOk};
+ghost use Rattle.serde_json.specs.View.{view};
+ghost use Rattle.it_member_notes.specs.KeyMembers.{IsKeyMember, place_of};
+ghost use Rattle.it_member_notes.specs.UnreadMembers.{IsUnread};
+
+use crate::key_member_note::KeyMemberNote;
+use crate::key_notes::key_notes_at;
+use crate::place::Place;
+use crate::unread::unread_at;
+use crate::unread_member::UnreadMember;
+use serde_json::Value;
+use std::alloc::{AllocError, Global};
+
+/// The notes on the members of a policy or a layout.
+#[derive(Drop)]
+pub struct MemberNotes {
+    /// The members that are not looked at, and that no standard knows.
+    pub unread: Vec<UnreadMember>,
+    /// The members of key objects that may not be meant.
+    pub keys: Vec<KeyMemberNote>,
+}
+
+impl MemberNotes {
+    /// No notes. Takes no memory.
+    pub(crate) fn none(alloc: Global) -> MemberNotes
+        ensures unread { result.unread.items ≡ [] }
+        ensures keys { result.keys.items ≡ [] }
+    {
+        MemberNotes {
+            unread: Vec::new(alloc),
+            keys: Vec::new(alloc),
+        }
+    }
+
+    /// The notes on the members of the objects at these places of a document.
+    pub(crate) fn at(
+        alloc: Global,
+        document: &Value,
+        places: &[Place],
+    ) -> Result<MemberNotes, AllocError>
+        ensures unread { IfOk result (λ notes. All (λ note.
+            IsUnread (view document.now) note × Contains places.now note.place)
+            notes.unread.items) }
+        ensures keys { IfOk result (λ notes. All (λ note.
+            IsKeyMember (view document.now) note × Contains places.now (place_of note))
+            notes.keys.items) }
+    {
+        let unread = unread_at(alloc, document, places)?;
+        let keys = key_notes_at(alloc, document, places)?;
+        Ok(MemberNotes { unread, keys })
+    }
+}

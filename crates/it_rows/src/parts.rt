@@ -9,7 +9,7 @@ use it_tables::{RowFault, bytes_in, member_in, text_in};
 use serde_json::Value;
 use std::alloc::{AllocError, Global};
 
-/// What a call on the part `a` of the document of a row answers.
+/// What a call on a part of a document answers.
 pub(crate) fn answer(alloc: Global, call: &str, row: &Value) -> Result<String, RowFault> {
     match call {
         "text" => text(alloc, row),

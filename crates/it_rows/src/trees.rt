@@ -34,13 +34,23 @@ fn equal(alloc: Global, row: &Value) -> Result<String, RowFault> {
     Ok(one.equals(&other).to_string(alloc)?)
 }
 
-/// The members with a whole number alone.
+/// The members with a whole number alone, and the one of them that is asked for.
 fn member(alloc: Global, row: &Value) -> Result<String, RowFault> {
     let mut by_name = BTreeMap::new(alloc);
     let name = String::from_str(alloc, text_in(row, "name")?)?;
     let number = Tree::Whole(i128::from(number_in(row, "whole")?));
     drop(by_name.insert(name, number)?);
-    Ok(members_told(alloc, &Members::from(by_name))?)
+    let members = Members::from(by_name);
+    Ok(lent(alloc, &members, text_in(row, "get")?)?)
+}
+
+/// The members with their names, and the one of a name, or `none`.
+fn lent(alloc: Global, members: &Members, name: &str) -> Result<String, AllocError> {
+    let all = members_told(alloc, members)?;
+    match members.get(name) {
+        Some(tree) => format!(in alloc; "{all} {}", tree_told(alloc, tree)?),
+        None => format!(in alloc; "{all} none"),
+    }
 }
 
 /// The members with their names.

@@ -1,97 +1,77 @@
-//! What the tables share: verdicts of the texts of a row, and the check that a report is its line.
-use crate::wrong::{Wrong, fault_of};
+//! The verdicts that rows describe.
+use crate::faults::fault_in;
 use it_base::sequence::Sequence;
 use it_base::text::Text;
-use it_json_report::json_report;
 use it_report::refusal::Refusal;
 use it_report::verdict::Verdict;
-use std::alloc::{AllocError, Global};
-use std::process::Abort;
-use std::test::Fail;
+use it_tables::{RowFault, list_in, number_in, text_in};
+use serde_json::Value;
+use std::alloc::Global;
 
-/// The sublayouts down to a fault, each by its step and key id; the fault; and the line of JSON.
-pub(crate) type Row = (&'static [(&'static str, &'static str)], Wrong, &'static str);
-
-fn place(alloc: Global, step: &str, id: &str) -> Result<(Text, Text), AllocError> {
-    let step = Text::copy(alloc, step)?;
-    let id = Text::copy(alloc, id)?;
-    Ok((step, id))
-}
-
-fn places(alloc: Global, rows: &[(&str, &str)]) -> Result<Sequence<(Text, Text)>, AllocError> {
-    let mut places = Vec::new(alloc);
-    for (step, id) in rows {
-        places.push(place(alloc, step, id)?)?;
-    }
-    Ok(Sequence::from(places))
-}
-
-/// The refusal of what is wrong at a place.
-pub(crate) fn refused(
-    alloc: Global,
-    at: &[(&str, &str)],
-    wrong: Wrong,
-) -> Result<Verdict, AllocError> {
-    let at = places(alloc, at)?;
-    let fault = fault_of(alloc, wrong)?;
-    Ok(Verdict::Refused(Refusal { at, fault }))
-}
-
-/// The text of a report.
-pub(crate) fn text_of(bytes: Vec<u8>) -> Result<String, Fail> {
-    match String::from_utf8(bytes) {
-        Ok(text) => Ok(text),
-        Err(_) => Err(Fail::from("a report that is no text")),
+/// The verdict of a row, as its member `verdict` says.
+///
+/// # Errors
+///
+/// `BadMember` where a member is missing or unfit; `OutOfMemory` where memory was refused.
+pub(crate) fn verdict_in(alloc: Global, row: &Value) -> Result<Verdict, RowFault> {
+    match text_in(row, "verdict")? {
+        "accepted" => accepted_in(alloc, row),
+        "refused" => refused_in(alloc, row),
+        _ => Err(RowFault::BadMember("verdict")),
     }
 }
 
-/// That the report of a verdict as JSON is one line and a line feed.
-pub(crate) fn is_line(
-    rt: &impl Abort,
-    alloc: Global,
-    verdict: &Verdict,
-    want: &str,
-) -> Result<(), Fail> {
-    let report = text_of(json_report(alloc, verdict)?)?;
-    assert_eq!(rt; report.as_str().strip_suffix('\n'), Some(want), "{want}");
-    Ok(())
+fn accepted_in(alloc: Global, row: &Value) -> Result<Verdict, RowFault> {
+    let steps = steps_in(alloc, row)?;
+    let files = files_in(alloc, row)?;
+    Ok(Verdict::Accepted { steps, files })
 }
 
-/// That each refusal is told as its row wants.
-pub(crate) fn are_refused(rt: &impl Abort, alloc: Global, rows: &[Row]) -> Result<(), Fail> {
-    for (at, wrong, want) in rows {
-        is_line(rt, alloc, &refused(alloc, at, *wrong)?, want)?;
-    }
-    Ok(())
-}
-
-fn step(alloc: Global, name: &str, keys: u64) -> Result<(Text, u64), AllocError> {
-    Ok((Text::copy(alloc, name)?, keys))
-}
-
-fn steps(alloc: Global, rows: &[(&str, u64)]) -> Result<Sequence<(Text, u64)>, AllocError> {
+/// The steps of a row, each with its number of keys.
+fn steps_in(alloc: Global, row: &Value) -> Result<Sequence<(Text, u64)>, RowFault> {
     let mut steps = Vec::new(alloc);
-    for (name, keys) in rows {
-        steps.push(step(alloc, name, *keys)?)?;
+    for step in list_in(row, "steps")? {
+        let keys = number_in(step, "keys")?;
+        steps.push((named(alloc, step, "name")?, keys))?;
     }
     Ok(Sequence::from(steps))
 }
 
-fn files(alloc: Global, paths: &[&str]) -> Result<Sequence<Text>, AllocError> {
+fn files_in(alloc: Global, row: &Value) -> Result<Sequence<Text>, RowFault> {
     let mut files = Vec::new(alloc);
-    for path in paths {
+    for path in list_in(row, "files")? {
+        let path = path.as_str().ok_or(RowFault::BadMember("files"))?;
         files.push(Text::copy(alloc, path)?)?;
     }
     Ok(Sequence::from(files))
 }
 
-/// The verdict that accepts, with these steps and files.
-pub(crate) fn accepted(
-    alloc: Global,
-    rows: &[(&str, u64)],
-    paths: &[&str],
-) -> Result<Verdict, AllocError> {
-    let steps = steps(alloc, rows)?;
-    let files = files(alloc, paths)?;
-    Ok(Verdict::Accepted { steps, files })
+fn refused_in(alloc: Global, row: &Value) -> Result<Verdict, RowFault> {
+    let at = places_in(alloc, row)?;
+    let fault = fault_in(alloc, row)?;
+    Ok(Verdict::Refused(Refusal { at, fault }))
+}
+
+/// The sublayouts down to the fault of a row, each by its step and its key id.
+fn places_in(alloc: Global, row: &Value) -> Result<Sequence<(Text, Text)>, RowFault> {
+    let mut places = Vec::new(alloc);
+    for place in list_in(row, "at")? {
+        places.push(place_of(alloc, place)?)?;
+    }
+    Ok(Sequence::from(places))
+}
+
+fn place_of(alloc: Global, place: &Value) -> Result<(Text, Text), RowFault> {
+    let step = named(alloc, place, "step")?;
+    let key = named(alloc, place, "key")?;
+    Ok((step, key))
+}
+
+/// The text of the member of this name.
+///
+/// # Errors
+///
+/// `BadMember` where there is none; `OutOfMemory` where memory was refused.
+pub(crate) fn named(alloc: Global, row: &Value, name: &'static str) -> Result<Text, RowFault> {
+    Ok(Text::copy(alloc, text_in(row, name)?)?)
 }

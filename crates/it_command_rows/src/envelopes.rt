@@ -82,8 +82,16 @@ fn name_signers(
     let envelope = text_in(row, "envelope")?;
     let ring = ring_of(alloc, row)?;
     let ids = ring.ids(alloc)?;
-    let panel: [Box<dyn SignatureCheck>; 1] = [Box::new(alloc, ring)?];
-    Ok(run_signed(alloc, envelope.as_bytes(), ids.as_slice(), &panel, pipe))
+    let mut panel: Vec<Box<dyn SignatureCheck>> = Vec::new(alloc);
+    panel.push(Box::new(alloc, ring)?)?;
+    let outcome = run_signed(
+        alloc,
+        envelope.as_bytes(),
+        ids.as_slice(),
+        panel.as_slice(),
+        pipe,
+    );
+    Ok(outcome)
 }
 
 /// How it ends where the payload of the `envelope` is written.

@@ -3,6 +3,9 @@
 //!
 //! The member `call` of a row says what is called, and its other members are the arguments. What a
 //! command gives is a line of how it ended, and then what it wrote.
+//!
+//! The keys were written by OpenSSL; their ids and the files of them, the signatures, and the links
+//! and Statements by other programs.
 #![tactic(auto)]
 
 mod bodies;

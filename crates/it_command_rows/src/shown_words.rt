@@ -1,0 +1,158 @@
+//! The values of a command as a row says them.
+use it_base::text::Text;
+use it_words::words::Words;
+use it_words::words::digesting::DigestWords;
+use it_words::words::keys::KeyWords;
+use it_words::words::linking::LinkWords;
+use it_words::words::signed::{SignedBy, SignedWords};
+use it_words::words::signing::{SignBy, SignWords};
+use it_words::words::stating::StatementWords;
+use it_words::words::verifying::VerifyWords;
+use std::alloc::{AllocError, Global};
+
+/// Each two words with a space between them.
+fn spaced(alloc: Global, words: &[&str]) -> Result<String, AllocError> {
+    words.join(alloc, " ")
+}
+
+/// The texts with a plus sign between each two.
+fn joined(alloc: Global, texts: &[Text]) -> Result<String, AllocError> {
+    let mut joined = String::new(alloc);
+    for (index, text) in texts.iter().enumerate() {
+        if index > 0 {
+            joined.push('+')?;
+        }
+        joined.push_str(text.as_str())?;
+    }
+    Ok(joined)
+}
+
+/// The text, or `none`.
+fn shown_or_none(text: &Option<Text>) -> &str {
+    match text {
+        Some(text) => text.as_str(),
+        None => "none",
+    }
+}
+
+/// The rings, with a star where public keys are checked too, and a question mark where the report
+/// is to be JSON.
+fn shown_checks(alloc: Global, words: &VerifyWords) -> Result<String, AllocError> {
+    let mut checks = joined(alloc, words.rings.as_slice())?;
+    if words.public_keys {
+        checks.push('*')?;
+    }
+    if words.json {
+        checks.push('?')?;
+    }
+    Ok(checks)
+}
+
+fn shown_verify(alloc: Global, words: &VerifyWords) -> Result<String, AllocError> {
+    let checks = shown_checks(alloc, words)?;
+    let depth = format!(in alloc; "{}", words.depth)?;
+    let all = [
+        "verify",
+        words.policy.as_str(),
+        words.layout.as_str(),
+        words.links.as_str(),
+        words.sums.as_str(),
+        words.at.as_str(),
+        checks.as_str(),
+        shown_or_none(&words.provenance),
+        shown_or_none(&words.records),
+        depth.as_str(),
+    ];
+    spaced(alloc, &all)
+}
+
+fn shown_signed(alloc: Global, words: &SignedWords) -> Result<String, AllocError> {
+    let envelope = words.envelope.as_str();
+    match &words.by {
+        SignedBy::Ring(ring) => spaced(alloc, &["signed", envelope, ring.as_str()]),
+        SignedBy::Keys(keys) => spaced(alloc, &["signed", envelope, "by", keys.as_str()]),
+    }
+}
+
+/// The ring, or the signature with the keys.
+fn shown_by(alloc: Global, by: &SignBy) -> Result<String, AllocError> {
+    match by {
+        SignBy::Ring(ring) => String::from_str(alloc, ring.as_str()),
+        SignBy::Made(made) => spaced(alloc, &[made.signature.as_str(), "by", made.keys.as_str()]),
+    }
+}
+
+fn shown_sign(alloc: Global, words: &SignWords) -> Result<String, AllocError> {
+    let by = shown_by(alloc, &words.by)?;
+    let all = [
+        "sign",
+        words.body.as_str(),
+        by.as_str(),
+        words.key.as_str(),
+        words.kind.as_str(),
+        shown_or_none(&words.onto),
+    ];
+    spaced(alloc, &all)
+}
+
+fn shown_link(alloc: Global, words: &LinkWords) -> Result<String, AllocError> {
+    let all = [
+        "link",
+        words.name.as_str(),
+        shown_or_none(&words.materials),
+        shown_or_none(&words.products),
+    ];
+    spaced(alloc, &all)
+}
+
+fn shown_statement(alloc: Global, words: &StatementWords) -> Result<String, AllocError> {
+    let all = [
+        "statement",
+        words.sums.as_str(),
+        words.builder.as_str(),
+        words.build_type.as_str(),
+        shown_or_none(&words.parameters),
+    ];
+    spaced(alloc, &all)
+}
+
+fn shown_digest(alloc: Global, words: &DigestWords) -> Result<String, AllocError> {
+    let paths = joined(alloc, words.paths.as_slice())?;
+    if words.recursive {
+        spaced(alloc, &["below", paths.as_str()])
+    } else {
+        spaced(alloc, &["digest", paths.as_str()])
+    }
+}
+
+fn shown_key(alloc: Global, words: &KeyWords) -> Result<String, AllocError> {
+    let files = joined(alloc, words.files.as_slice())?;
+    spaced(alloc, &["key", files.as_str(), shown_or_none(&words.name)])
+}
+
+/// The name of a command and its values in the order of its type's fields, with a space between
+/// each two. Several paths have plus signs between them, and a value that is not there is `none`.
+/// Keys come after `by`, and `digest --recursive` is `below`.
+///
+/// # Errors
+///
+/// `AllocError` where memory was refused.
+pub(crate) fn shown(alloc: Global, words: &Words) -> Result<String, AllocError> {
+    match words {
+        Words::Signed(words) => shown_signed(alloc, words),
+        Words::Match(words) => {
+            spaced(
+                alloc,
+                &["match", words.pattern.as_str(), words.path.as_str()],
+            )
+        }
+        Words::Pae(words) => spaced(alloc, &["pae", words.body.as_str(), words.kind.as_str()]),
+        Words::Sign(words) => shown_sign(alloc, words),
+        Words::Digest(words) => shown_digest(alloc, words),
+        Words::Link(words) => shown_link(alloc, words),
+        Words::Statement(words) => shown_statement(alloc, words),
+        Words::Payload(words) => spaced(alloc, &["payload", words.envelope.as_str()]),
+        Words::Key(words) => shown_key(alloc, words),
+        Words::Verify(words) => shown_verify(alloc, words),
+    }
+}

@@ -1,0 +1,17 @@
+use Rattle.std.proofs.Common.{◌≡◌, ◌∙◌, ◌+◌, ◌++◌, [], ◌∷◌, take, ap, sym}
+use Rattle.std.proofs.lemmas.List.{take_more}
+use Rattle.it_program.specs.Reading.{HoldsRing}
+use Rattle.it_program.proofs.Pairs.{with_last}
+use Rattle.it_program.proofs.verify_command.read_rings.Goals as goal
+
+pub loop-path-preserved : goal.loop-path-preserved
+loop-path-preserved g c =
+    let paths = c.args.paths.now in
+    let i = c.loop-path.path-index in
+    let held = rw c.as_str.ensures at c.in_ok-read_ring.ensures in
+    let more : take (i + 1) paths ≡ take i paths ++ c.path-item.result ∷ [] =
+    take_more paths i c.path-item.result c.loop-path-test.true ∙ ap (λ x. take i paths ++ x ∷ [])
+    (sym c.path-item.is) in
+    rw (c.in_ok-push.ensures.items, more)
+    (with_last (HoldsRing g.R.Disk.holdings) (take i paths) c.loop-path.rings.items
+    c.path-item.result c.in_ok-read_ring.field-0 c.loop-path.invariant held)

@@ -1,0 +1,98 @@
+//! `itv digest [--recursive] PATH..`.
+ghost use Rattle.std.specs.Prelude.{IfOk};
+ghost use Rattle.std.specs.Io.KnownBytes.{Appends};
+ghost use Rattle.it_program.specs.Commands.{AreLinesOf, IsLineOf, ListsDigests};
+
+use crate::disk::Disk;
+use crate::fault::Fault;
+use crate::files_below::files_at_each;
+use crate::remembering::Remembering;
+use crate::shown::Shown;
+use it_base::text::Text;
+use it_commands::{check_name, run_digest};
+use it_digest::reader::DigestFault;
+use it_outcome::{RunFault, Status};
+use it_words::words::digest_words::DigestWords;
+use std::alloc::{AllocError, Global};
+use std::io;
+use std::io::Write;
+
+/// How many bytes a file may have.
+const MOST_BYTES: u64 = 1_099_511_627_776;
+
+/// Writes the line of each file that the words name, file by file. With `--recursive` all folders
+/// are read before the first line is written. The lines before a file that fails stand.
+pub(crate) fn run<R: Disk + AllocGlobal, W: Write>(
+    rt: &R,
+    words: &DigestWords,
+    out: &mut W,
+) -> Result<Status, Fault>
+    ensures { IfOk result (λ status. (text : _) × ListsDigests R.holdings words.now text status
+        × Appends (W.contents out.old) (W.contents out.new) text) }
+{
+    let paths = words.paths.as_slice();
+    if words.recursive {
+        let files = files_at_each(rt, paths)?;
+        digest_files(rt, files.as_slice(), out)?;
+    } else {
+        digest_files(rt, paths, out)?;
+    }
+    Ok(Status::Good)
+}
+
+fn digest_files<R: Disk + AllocGlobal, W: Write>(
+    rt: &R,
+    files: &[Text],
+    out: &mut W,
+) -> Result<(), Fault>
+    ensures { IfOk result (λ _. (text : _) × AreLinesOf R.holdings files.now text
+        × Appends (W.contents out.old) (W.contents out.new) text) }
+{
+    for file in files {
+        digest_file(rt, file, out)?;
+    }
+    Ok(())
+}
+
+fn digest_file<R: Disk + AllocGlobal, W: Write>(
+    rt: &R,
+    file: &Text,
+    out: &mut W,
+) -> Result<(), Fault>
+    ensures { IfOk result (λ _. (line : _) × IsLineOf R.holdings file.now line
+        × Appends (W.contents out.old) (W.contents out.new) line) }
+{
+    let alloc = rt.alloc();
+    let path = file.as_str();
+    if let Err(fault) = check_name(path) {
+        return Err(told(alloc, path, fault, None)?);
+    }
+    let mut input = Remembering::new(rt.open(path)?);
+    match run_digest(alloc, path, &mut input, MOST_BYTES, out) {
+        Ok(_) => Ok(()),
+        Err(fault) => Err(told(alloc, path, fault, input.error())?),
+    }
+}
+
+/// The fault of a file that has no line, with the error that its reader answered last.
+fn told(
+    alloc: Global,
+    path: &str,
+    fault: RunFault,
+    error: Option<io::Error>,
+) -> Result<Fault, AllocError> {
+    match fault {
+        RunFault::BadName => Ok(Fault::Unlistable {
+            path: Shown::of(alloc, path)?,
+        }),
+        RunFault::Digest(DigestFault::TooLarge) => Ok(Fault::TooLarge {
+            path: Shown::of(alloc, path)?,
+            limit: MOST_BYTES,
+        }),
+        RunFault::Digest(DigestFault::Read) => {
+            let error = error.unwrap_or(io::Error::from(io::ErrorKind::Other));
+            Fault::unreadable(alloc, path, &error)
+        }
+        fault => Ok(Fault::Run(fault)),
+    }
+}

@@ -1,0 +1,89 @@
+//! A command, run by its words.
+ghost use Rattle.std.specs.Prelude.{IfOk, map, string_bytes};
+ghost use Rattle.std.specs.Io.KnownBytes.{Appends};
+ghost use Rattle.it_words.specs.Words.{AreWordsOf, GoesNoDeeper};
+ghost use Rattle.it_program.specs.Commands.{IsOutputOf};
+
+use crate::disk::Disk;
+use crate::fault::Fault;
+use crate::remembering::Remembering;
+use crate::{
+    digest_command, key_command, link_command, match_command, pae_command, payload_command,
+    sign_command, signed_command, statement_command, verify_command,
+};
+use it_outcome::{RunFault, Status};
+use it_words::words::{Words, read_words};
+use std::io::Write;
+
+#[cfg(test)]
+mod tests;
+
+/// Runs the command that the words name, and says why the system did not take its output where that
+/// is so. What there is to say beside the output goes to `notes`. The first word is the program's
+/// name.
+///
+/// # Errors
+///
+/// As those of `run_words`, but `Fault::Unwritable` where the system said why it did not take the
+/// output.
+pub fn run_to<R: Disk + AllocGlobal, W: Write + Drop, N: Write>(
+    rt: &R,
+    words: &[String],
+    out: W,
+    notes: &mut N,
+) -> Result<Status, Fault> {
+    let mut out = Remembering::new(out);
+    let outcome = run_words(rt, words, &mut out, notes);
+    match (outcome, out.error()) {
+        (Err(Fault::Run(RunFault::Write)), Some(error)) => {
+            Err(Fault::of_output(rt.alloc(), &error))
+        }
+        (outcome, _) => outcome,
+    }
+}
+
+/// Runs the command that the words name. What there is to say beside its output goes to `notes`.
+/// The first word is the program's name.
+///
+/// # Errors
+///
+/// `Fault::Words` where the words do not parse, `Fault::Run` where the command stopped, and else
+/// what is said of the file, folder, line or key that kept it from running.
+pub fn run_words<R: Disk + AllocGlobal, W: Write, N: Write>(
+    rt: &R,
+    words: &[String],
+    out: &mut W,
+    notes: &mut N,
+) -> Result<Status, Fault>
+    ensures { IfOk result (λ status. (command : _) × (text : _)
+        × AreWordsOf (map string_bytes words.now) command
+        × IsOutputOf R.holdings command text status
+        × Appends (W.contents out.old) (W.contents out.new) text) }
+{
+    let command = read_words(rt.alloc(), words)?;
+    run_command(rt, &command, out, notes)
+}
+
+fn run_command<R: Disk + AllocGlobal, W: Write, N: Write>(
+    rt: &R,
+    command: &Words,
+    out: &mut W,
+    notes: &mut N,
+) -> Result<Status, Fault>
+    requires { GoesNoDeeper command.now }
+    ensures { IfOk result (λ status. (text : _) × IsOutputOf R.holdings command.now text status
+        × Appends (W.contents out.old) (W.contents out.new) text) }
+{
+    match command {
+        Words::Signed(words) => signed_command::run(rt, words, out),
+        Words::Match(words) => match_command::run(rt.alloc(), words, out),
+        Words::Pae(words) => pae_command::run(rt, words, out),
+        Words::Sign(words) => sign_command::run(rt, words, out),
+        Words::Digest(words) => digest_command::run(rt, words, out),
+        Words::Link(words) => link_command::run(rt, words, out),
+        Words::Statement(words) => statement_command::run(rt, words, out),
+        Words::Payload(words) => payload_command::run(rt, words, out),
+        Words::Key(words) => key_command::run(rt, words, out),
+        Words::Verify(words) => verify_command::run(rt, words, out, notes),
+    }
+}

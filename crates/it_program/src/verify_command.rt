@@ -1,0 +1,201 @@
+//! `itv verify`: whether delivered files were made as the owners prescribed.
+ghost use Rattle.std.specs.Prelude.{◌≡◌, ◌≢◌, ◌≤◌, IfErr, IfOk, IsTrue, map};
+ghost use Rattle.std.specs.Io.KnownBytes.{Appends};
+ghost use Rattle.std.specs.List.{AllZip};
+ghost use Rattle.it_dsse.specs.Panel.{panel_of};
+ghost use Rattle.it_public_keys.specs.AnyCheck.{check_of};
+ghost use Rattle.it_public_keys.specs.Collected.{IsTableFor};
+ghost use Rattle.it_notes.specs.VerifyOutputIn.{IsVerifyOutputIn};
+ghost use Rattle.it_program.specs.Commands.{Verifies, form_asked};
+ghost use Rattle.it_limits.specs.Limit.{IsWithinLimit};
+ghost use Rattle.it_program.specs.Reading.{AreInputs, AreLimited, HoldsIfGiven, HoldsLookedAt};
+ghost use Rattle.it_program.specs.Reading.{HoldsRing};
+
+use crate::disk::Disk;
+use crate::fault::Fault;
+use crate::files::{bytes, bytes_if_given, read_ring};
+use crate::left_out::{LeftOut, TooMany, note_left_out, too_many};
+use it_base::sequence::Sequence;
+use it_base::text::Text;
+use it_chain::bundle::Bundle;
+use it_dsse::check::SignatureCheck;
+use it_dsse::ring::HmacRing;
+use it_json_report::form::ReportForm;
+use it_limits::lines_within_limit;
+use it_notes::verify_with_notes::verify_with_notes;
+use it_outcome::{RunFault, Status};
+use it_public_keys::any_check::{AnyCheck, checks_of};
+use it_public_keys::{PublicKeys, table_if};
+use it_verify::inputs::Inputs;
+use it_words::words::verify_words::VerifyWords;
+use std::alloc::{AllocError, Global};
+use std::io::Write;
+
+/// Reads all files and folders and the rings, makes the table of public keys where they are asked
+/// for, notes what is left out, writes the report of the verdict, and then what there is to note.
+pub(crate) fn run<R: Disk + AllocGlobal, W: Write, N: Write>(
+    rt: &R,
+    words: &VerifyWords,
+    out: &mut W,
+    notes: &mut N,
+) -> Result<Status, Fault>
+    requires { words.now.depth ≤ 8 }
+    ensures ok { IfOk result (λ status. (text : _) × Verifies R.holdings words.now text status
+        × Appends (W.contents out.old) (W.contents out.new) text) }
+    ensures nothing { IfErr result (λ fault. fault ≢ Fault.Run RunFault.Write → out.new ≡ out.old) }
+{
+    let alloc = rt.alloc();
+    let mut left_out = Vec::new(alloc);
+    let inputs = inputs(rt, words, &mut left_out)?;
+    let rings = read_rings(rt, words.rings.as_slice())?;
+    let table = table_for(alloc, words, &inputs)?;
+    let checks = checks_of(alloc, rings, table)?;
+    let form = form_asked(words.json);
+    note_left_out(alloc, left_out.as_slice(), notes);
+    Ok(verify_by(alloc, &inputs, checks, form, out, notes)?)
+}
+
+/// The form that is asked for.
+fn form_asked(json: bool) -> ReportForm
+    ensures { result ≡ form_asked json }
+{
+    if json {
+        ReportForm::Json
+    } else {
+        ReportForm::Lines
+    }
+}
+
+/// The table of all public keys that the verification could ask for, where public keys are asked
+/// for.
+fn table_for(
+    alloc: Global,
+    words: &VerifyWords,
+    inputs: &Inputs,
+) -> Result<Option<PublicKeys>, AllocError>
+    ensures { IfOk result (IsTableFor words.now.public_keys inputs.now.policy inputs.now.layout
+        inputs.now.links) }
+{
+    let policy = inputs.policy.as_slice();
+    let layout = inputs.layout.as_slice();
+    table_if(alloc, words.public_keys, policy, layout, &inputs.links)
+}
+
+/// Writes the report of the verdict on the inputs, and then the notes on it, with signatures
+/// checked by the checks.
+fn verify_by<W: Write, N: Write>(
+    alloc: Global,
+    inputs: &Inputs,
+    checks: Vec<AnyCheck>,
+    form: ReportForm,
+    out: &mut W,
+    notes: &mut N,
+) -> Result<Status, Fault>
+    requires { inputs.now.depth ≤ 8 }
+    ensures ok { IfOk result (λ status. (text : _)
+        × IsVerifyOutputIn form (panel_of (map check_of checks.items)) inputs.now text status
+        × Appends (W.contents out.old) (W.contents out.new) text) }
+    ensures nothing { IfErr result (λ fault. fault ≢ Fault.Run RunFault.Write → out.new ≡ out.old) }
+{
+    let mut panel: Vec<Box<dyn SignatureCheck>> = Vec::new(alloc);
+    for check in checks {
+        panel.push(Box::new(alloc, check)?)?;
+    }
+    let panel = panel.as_slice();
+    Ok(verify_with_notes(alloc, inputs, panel, form, out, notes)?)
+}
+
+/// The rings at the paths, in their order.
+fn read_rings<R: Disk + AllocGlobal>(rt: &R, paths: &[Text]) -> Result<Vec<HmacRing>, Fault>
+    ensures { IfOk result (λ rings. AllZip (HoldsRing R.holdings) paths.now rings.items) }
+{
+    let mut rings = Vec::new(rt.alloc());
+    for path in paths {
+        rings.push(read_ring(rt, path.as_str())?)?;
+    }
+    Ok(rings)
+}
+
+/// What stands at the paths of the options. What no path is given for is empty. With public keys,
+/// links and lines of the provenance that have too many signatures are added to what is left out.
+fn inputs<R: Disk + AllocGlobal>(
+    rt: &R,
+    words: &VerifyWords,
+    left_out: &mut Vec<LeftOut>,
+) -> Result<Inputs, Fault>
+    ensures { IfOk result (AreInputs R.holdings words.now) }
+{
+    let moment = String::from_str(rt.alloc(), words.at.as_str())?;
+    Ok(Inputs {
+        policy: bytes(rt, &words.policy)?,
+        layout: layout(rt, words)?,
+        links: links(rt, words, left_out)?,
+        records: records(rt, &words.records)?,
+        provenance: provenance(rt, words, left_out)?,
+        sums: bytes(rt, &words.sums)?,
+        moment: Text::from(moment),
+        depth: words.depth,
+    })
+}
+
+/// The layout, which with public keys may not have too many signatures.
+fn layout<R: Disk + AllocGlobal>(rt: &R, words: &VerifyWords) -> Result<Sequence<u8>, Fault>
+    ensures holds { IfOk result (λ layout. R.holdings.file words.now.layout layout) }
+    ensures limited { IfOk result
+        (λ layout. IsTrue words.now.public_keys → IsWithinLimit layout) }
+{
+    let layout = bytes(rt, &words.layout)?;
+    match too_many(rt.alloc(), layout.as_slice(), words.public_keys)? {
+        Some(count) => Err(TooMany(count).in_file(rt.alloc(), words.layout.as_str())?),
+        None => Ok(layout),
+    }
+}
+
+/// The links. With public keys those that have too many signatures are added to what is left out.
+fn links<R: Disk + AllocGlobal>(
+    rt: &R,
+    words: &VerifyWords,
+    left_out: &mut Vec<LeftOut>,
+) -> Result<Bundle, Fault>
+    ensures holds { IfOk result (λ links. R.holdings.links words.now.links words.now.depth
+        words.now.public_keys links) }
+    ensures limited { IfOk result (λ links. AreLimited words.now.public_keys links) }
+{
+    let mut links = rt.links(words.links.as_str(), words.depth, words.public_keys)?;
+    left_out.append(&mut links.left_out)?;
+    Ok(links.bundle)
+}
+
+/// The provenance, or none where no file is given. With public keys its lines that have too many
+/// signatures are added to what is left out.
+fn provenance<R: Disk + AllocGlobal>(
+    rt: &R,
+    words: &VerifyWords,
+    left_out: &mut Vec<LeftOut>,
+) -> Result<Sequence<u8>, Fault>
+    ensures { IfOk result (HoldsLookedAt R.holdings.file words.now.provenance
+        words.now.public_keys) }
+{
+    let read = bytes_if_given(rt, &words.provenance)?;
+    if !words.public_keys {
+        return Ok(read);
+    }
+    let within = lines_within_limit(rt.alloc(), read.as_slice())?;
+    for over in within.left_out.as_slice() {
+        left_out.push(LeftOut::Line(*over))?;
+    }
+    Ok(within.lines)
+}
+
+/// The records in a folder, or none where no folder is given.
+fn records<R: Disk + AllocGlobal>(
+    rt: &R,
+    folder: &Option<Text>,
+) -> Result<Sequence<(Text, Sequence<u8>)>, Fault>
+    ensures { IfOk result (λ records. HoldsIfGiven R.holdings.records folder.now records) }
+{
+    match folder {
+        Some(folder) => rt.records(folder.as_str()),
+        None => Ok(Sequence::from(Vec::new(rt.alloc()))),
+    }
+}

@@ -1,8 +1,0 @@
-use Rattle.std.proofs.Common.{take}
-use Rattle.std.specs.List.{AllZip}
-use Rattle.itv.specs.Reading.{HoldsRing}
-use Rattle.itv.proofs.verify_command.read_rings.Given as goal
-
-abbrev pub invariant-loop-path : goal.invariant-loop-path
-invariant-loop-path g l = AllZip (HoldsRing g.R.Disk.holdings) (take l.path-index l.paths)
-    l.rings.items

@@ -7,7 +7,8 @@ from pathlib import Path
 TOP = Path(__file__).resolve().parent.parent
 
 # Crates of tests alone, and of what tests share.
-TEST_CRATES = {"it_rows", "it_verify_rows", "it_command_rows", "it_json_rows", "it_devices"}
+TEST_CRATES = {"it_rows", "it_verify_rows", "it_command_rows", "it_json_rows", "it_runs",
+               "it_devices"}
 
 
 def crate_names():
@@ -38,7 +39,7 @@ def name_of(path):
 def is_test(path):
     """Whether a file holds tests alone."""
     parts = path.relative_to(TOP).parts
-    is_of_tests = "tests" in parts or path.stem in {"tests", "fake_files"}
+    is_of_tests = "tests" in parts or path.stem == "tests"
     return is_of_tests or (parts[0] == "crates" and parts[1] in TEST_CRATES)
 
 

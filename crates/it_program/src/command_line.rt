@@ -4,9 +4,6 @@ use std::env::FillError;
 use std::rt::Env;
 use std::{env, io};
 
-#[cfg(test)]
-mod tests;
-
 /// The words of the command line, the program's name first.
 ///
 /// # Errors

@@ -15,9 +15,6 @@ use it_base::text::Text;
 use std::alloc::{AllocError, Global};
 use std::path::Path;
 
-#[cfg(test)]
-mod tests;
-
 /// How many folders may lie one inside the other below the one that a path names.
 const MOST_LEVELS: u8 = 32;
 

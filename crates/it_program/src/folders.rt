@@ -15,9 +15,6 @@ use std::path::{Path, PathBuf};
 use std::rt::Files;
 use std::{fs, io};
 
-#[cfg(test)]
-mod tests;
-
 /// How many entries of one folder may be read.
 const MOST_ENTRIES: usize = 1_000;
 

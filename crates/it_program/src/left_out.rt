@@ -11,9 +11,6 @@ use std::fmt;
 use std::fmt::{Display, Formatter};
 use std::io::Write;
 
-#[cfg(test)]
-mod tests;
-
 /// How many lines are written of these notes, at the most.
 const MOST_LINES: usize = 40;
 

@@ -14,8 +14,6 @@
 mod command_line;
 mod digest_command;
 mod disk;
-#[cfg(test)]
-mod fake_files;
 mod fault;
 mod files;
 mod files_below;
@@ -36,8 +34,6 @@ mod sign_command;
 mod sign_onto_command;
 mod signed_command;
 mod statement_command;
-#[cfg(test)]
-mod tests;
 mod verify_command;
 
 pub use command_line::words;

@@ -13,9 +13,6 @@ use std::alloc::{AllocError, Global};
 use std::collections::BTreeSet;
 use thiserror::Error;
 
-#[cfg(test)]
-mod tests;
-
 /// The greatest number of entries that a ring has.
 const MOST_ENTRIES: usize = 65536;
 

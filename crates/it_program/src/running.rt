@@ -15,9 +15,6 @@ use it_outcome::{RunFault, Status};
 use it_words::words::{Words, read_words};
 use std::io::Write;
 
-#[cfg(test)]
-mod tests;
-
 /// Runs the command that the words name, and says why the system did not take its output where that
 /// is so. What there is to say beside the output goes to `notes`. The first word is the program's
 /// name.

@@ -15,6 +15,8 @@ import tree
 
 CRATES = tree.TOP / "crates"
 NUMBER = r"(?P<figure>\d[\d,]*)"
+# The programs that try tables of rows.
+OF_ROWS = ("it_rows", "it_verify_rows", "it_command_rows", "it_json_rows", "it_runs")
 # The name of each figure with the pages that give it, each with the words around it.
 PLACES = [
     ("verify", "README.md", "the definitions, {} lines of them for the verdict"),
@@ -27,6 +29,11 @@ PLACES = [
     ("vectors", "CHANGELOG.md", "- {} vectors of Ed25519"),
     ("worked", "docs/testing.md", "whole verifications, {} worked out by hand"),
     ("random", "docs/testing.md", "by hand and {} changed at random"),
+    ("it_rows", "docs/testing.md", "envelopes, rings and documents, in {} rows"),
+    ("it_verify_rows", "docs/testing.md", "that `itv_cases` cannot show, in {} rows"),
+    ("it_command_rows", "docs/testing.md", "commands over bytes, in {} rows"),
+    ("it_json_rows", "docs/testing.md", "reports as JSON, in {} rows"),
+    ("it_runs", "docs/testing.md", "in some rows the notes, in {} rows"),
     ("logic", "README.md", "The toolchain (a `rattle-kit-13` of `logic {}`)"),
     ("logic", "docs/trusted.md", "The toolchain (a `rattle-kit-13` of `logic {}`)"),
     ("logic", "CONTRIBUTING.md", "`rt version` prints a `rattle-kit-13` and `logic {}`"),
@@ -56,7 +63,7 @@ def counted():
                "run_verify": lines_reached(graph, reach.VERIFYING),
                "public": lines_reached(graph, None),
                "cases": every, "random": thrown, "worked": every - thrown,
-               "vectors": vectors}
+               "vectors": vectors, **{name: lines(name, "*.jsonl") for name in OF_ROWS}}
     found = {name: f"{number:,}" for name, number in numbers.items()}
     if shutil.which("rt"):
         ran = subprocess.run(["rt", "version"], stdout=subprocess.PIPE, text=True, check=True)

@@ -6,9 +6,8 @@ from pathlib import Path
 
 TOP = Path(__file__).resolve().parent.parent
 
-# Crates of tests alone, and of what tests share.
-TEST_CRATES = {"it_rows", "it_verify_rows", "it_command_rows", "it_json_rows", "it_runs",
-               "it_devices"}
+# Crates of what the programs share that try tables.
+SHARED_BY_TESTS = {"it_devices"}
 
 
 def crate_names():
@@ -37,10 +36,9 @@ def name_of(path):
 
 
 def is_test(path):
-    """Whether a file holds tests alone."""
+    """Whether a file holds only what tests share."""
     parts = path.relative_to(TOP).parts
-    is_of_tests = "tests" in parts or path.stem == "tests"
-    return is_of_tests or (parts[0] == "crates" and parts[1] in TEST_CRATES)
+    return parts[0] == "crates" and parts[1] in SHARED_BY_TESTS
 
 
 def words_of(text):

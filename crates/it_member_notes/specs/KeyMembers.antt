@@ -30,8 +30,8 @@ pub record HasPrivateKey (keyval : Data) : Type 0 where
 
 -- the note is true of the object that has the member
 abbrev pub HasKeyMember : Data → KeyMemberNote → Type 0
-HasKeyMember object (OtherKeyId key keyid) = HasOtherKeyId object (id_of key) keyid
-HasKeyMember object (PrivateKey key) = HasPrivateKey object
+HasKeyMember d (OtherKeyId key keyid) = HasOtherKeyId d (id_of key) keyid
+HasKeyMember d (PrivateKey key) = HasPrivateKey d
 
 -- at the note's place in a document stands an object of which the note is true
 pub record IsKeyMember (d : Data) (note : KeyMemberNote) : Type 0 where

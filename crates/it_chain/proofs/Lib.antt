@@ -1,3 +1,4 @@
+pub mod AlikePanels
 pub mod Alikes
 pub mod AllFiles
 pub mod Asking
@@ -13,6 +14,7 @@ pub mod Documents
 pub mod Entries
 pub mod Excludes
 pub mod Ids
+pub mod Images
 pub mod Judging
 pub mod LevelAnswers
 pub mod LevelAsking
@@ -29,6 +31,7 @@ pub mod Orders
 pub mod Others
 pub mod Outcomes
 pub mod Records
+pub mod Sides
 pub mod SignerLists
 pub mod SignerWalks
 pub mod SoFar

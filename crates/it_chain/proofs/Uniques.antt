@@ -54,7 +54,7 @@ module _ {K : Type 0} (eq : K → K → Bool) (same : (a b : K) → Decides (eq 
       (is_member-Decides same xs x).1 (subst (Contains xs) (sym ((same x y).0 is)) c) in cc
   unlike x y xs false is out c = refl
 
-  all_unlike : (x : K) (xs : List K) → ((y : K) → Contains xs y → eq x y ≡ false)
+  pub all_unlike : (x : K) (xs : List K) → ((y : K) → Contains xs y → eq x y ≡ false)
       → AllByRecursion (λ y. eq x y ≡ false) xs
   all_unlike x [] each = tt
   all_unlike x (y ∷ ys) each =

@@ -65,14 +65,14 @@ HasCopies setting layout bundle other =
     (step : Step) (id payload : List ℕ) → Contains layout.steps step
     → (counted : Counted setting layout bundle step id payload) → HasCopy other step counted.file
 
--- a layout comes to the same over both bundles: the same records, the same first failure, and in
--- each step the same number of different keys
-pub record ComesToTheSame (setting : Setting) (depth : ℕ) (layout : Layout)
-    (bundle other : Contents) : Type 0 where
+-- a layout comes to the same in two settings, each over its bundle: the same records, the same
+-- first failure, and in each step the same number of different keys
+pub record ComesToTheSame (depth : ℕ) (layout : Layout) (setting : Setting) (bundle : Contents)
+    (another : Setting) (other : Contents) : Type 0 where
   pub chain : (results : List StepResult)
-      → Chain setting depth layout bundle results ↔ Chain setting depth layout other results
+      → Chain setting depth layout bundle results ↔ Chain another depth layout other results
   pub first : (refusal : ChainRefusal)
       → FirstChainFailure setting depth layout bundle refusal
-      ↔ FirstChainFailure setting depth layout other refusal
+      ↔ FirstChainFailure another depth layout other refusal
   pub found : (step : Step) (found : ℕ) → Contains layout.steps step
-      → Found setting layout bundle step found ↔ Found setting layout other step found
+      → Found setting layout bundle step found ↔ Found another layout other step found

@@ -1,4 +1,5 @@
 pub mod Alike
+pub mod AlikePanels
 pub mod AllFiles
 pub mod Answer
 pub mod BundleCode

@@ -1,6 +1,7 @@
 //! Laws about the definitions of chains: functions that do nothing, and whose contracts say what is
 //! true of every layout, bundle and panel of checks.
-ghost use Rattle.it_chain.specs.Laws.{AlikeChains, AnswerIsRight, ChainGoesDeeper, ChainIsOne};
+ghost use Rattle.it_chain.specs.Laws.{AlikeChains, AlikePanelChains, AnswerIsRight};
+ghost use Rattle.it_chain.specs.Laws.{ChainGoesDeeper, ChainIsOne};
 ghost use Rattle.it_chain.specs.Laws.{ChainOrFirst, CostIsOne, FewestIsOne, FirstIsOne, FoundIsOne};
 ghost use Rattle.it_chain.specs.Laws.{HasCost, HasFewest, HoldsOrFails, NoiseIsAlike};
 ghost use Rattle.it_chain.specs.Laws.{SomeAnswersRight, WithheldChains};
@@ -34,6 +35,12 @@ pub fn chain_goes_deeper()
 /// the same first failure.
 pub fn alike_chains()
     ensures { AlikeChains }
+{}
+
+/// Checked by panels that are alike on its keys, and on those of the layouts in the files, a layout
+/// has the same result, whatever numbers the panels give the keys.
+pub fn alike_panel_chains()
+    ensures { AlikePanelChains }
 {}
 
 /// Files that are reordered, repeated or renamed under a name that is claimed, and files that don't

@@ -1,3 +1,4 @@
+pub mod AnyTable
 pub mod FilesFound
 pub mod Pairs
 pub mod SortedTexts

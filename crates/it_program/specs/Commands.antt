@@ -60,7 +60,8 @@ form_asked false = Lines
 form_asked true = Json
 
 -- verify: the output of a verification of the inputs, checked by the rings in the order of the
--- words, and then by public keys where they are asked for
+-- words, and then by public keys where they are asked for; there is a table of these, and with
+-- whichever has all that could be asked for, the output is this one
 pub record Verifies (disk : Holdings) (words : VerifyWords) (text : List ℕ)
     (status : Status) : Type 0 where
   pub inputs : Inputs
@@ -69,8 +70,9 @@ pub record Verifies (disk : Holdings) (words : VerifyWords) (text : List ℕ)
   pub holds_rings : AllZip (HoldsRing disk) words.rings rings
   pub table : Option Keys
   pub is_table : IsTableFor words.public_keys inputs.policy inputs.layout inputs.links table
-  pub is_output : IsVerifyOutputIn (form_asked words.json) (panel_of (checks_of rings table)) inputs
-      text status
+  pub is_output : (any : Option Keys)
+      → IsTableFor words.public_keys inputs.policy inputs.layout inputs.links any
+      → IsVerifyOutputIn (form_asked words.json) (panel_of (checks_of rings any)) inputs text status
 
 -- signed: which ids of the ring, in the order of their bytes, signed the envelope
 pub record ShowsRingSigners (disk : Holdings) (path envelope text : List ℕ)

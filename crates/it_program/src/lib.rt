@@ -19,6 +19,7 @@ mod files;
 mod files_below;
 mod folders;
 mod key_command;
+pub mod laws;
 mod left_out;
 mod link_command;
 mod listing;

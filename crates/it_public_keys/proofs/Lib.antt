@@ -1,3 +1,4 @@
+pub mod AlikeTables
 pub mod Ed25519Tests
 pub mod Extending
 pub mod Holding
@@ -5,6 +6,7 @@ pub mod KeyTexts
 pub mod KeysRead
 pub mod Names
 pub mod P256Tests
+pub mod PanelKeys
 pub mod RsaTests
 pub mod Schemes
 pub mod Staying

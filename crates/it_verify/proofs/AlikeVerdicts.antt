@@ -65,7 +65,7 @@ alike_back panel a b h =
           (same.1, same.0);
     }
 
-fits_stands : (expectations : List Expectation) (path : List ℕ) (expectation : Expectation)
+pub fits_stands : (expectations : List Expectation) (path : List ℕ) (expectation : Expectation)
     → Fits expectations path expectation → Contains expectations expectation
 fits_stands expectations path expectation fits =
     subst (λ es. Contains es expectation) (sym fits.they_are)
@@ -106,14 +106,15 @@ meets_attested panel inputs expectation digests envelope builder m given = recor
 
 -- some line of the provenance meets an expectation in all but the level with a builder of this
 -- level
-abbrev HasLevel : Panel → Inputs → Expectation → DigestSet → ℕ → Type 0
+abbrev pub HasLevel : Panel → Inputs → Expectation → DigestSet → ℕ → Type 0
 HasLevel panel inputs expectation digests level = (envelope : Envelope)
     × IsProvenanceLine inputs envelope × MeetsAtLevel panel expectation digests envelope level
 
 -- ---- from inputs to alike ones
 module _ (panel : Panel) (a b : Inputs) (h : InputsAlike panel a b) (documents : Documents)
     (read : ReadAs a documents) where
-  chains : ChainsCome (setting_of panel documents) a.depth documents.layout a.links b.links
+  chains : ChainsCome a.depth documents.layout (setting_of panel documents) a.links
+      (setting_of panel documents) b.links
   chains = alike_chains (setting_of panel documents) a.depth documents.layout a.links b.links
       (h.bundles documents read)
 
@@ -325,7 +326,7 @@ module _ (panel : Panel) (a b : Inputs) (h : InputsAlike panel a b) where
   }
 
 -- alike inputs come to the same
-pub alike_inputs : (panel : Panel) (a b : Inputs) → InputsAlike panel a b → ComesToTheSame panel a b
+pub alike_inputs : (panel : Panel) (a b : Inputs) → InputsAlike panel a b → ComesToTheSame panel a panel b
 alike_inputs panel a b h =
     let back = alike_back panel a b h in
     record {

@@ -8,6 +8,7 @@ pub mod InputsAlike
 pub mod Inspections
 pub mod Made
 pub mod Owners
+pub mod PanelsAlike
 pub mod Provenance
 pub mod Refusals
 pub mod RefusedFor

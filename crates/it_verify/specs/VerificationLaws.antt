@@ -12,6 +12,7 @@ use Rattle.it_verify.specs.Documents.{Documents}
 use Rattle.it_verify.specs.Evidence.{Evidence}
 use Rattle.it_verify.specs.InputsAlike.{InputsAlike, InputsWithin}
 use Rattle.it_verify.specs.Made.{IsMadeBy, Made, verdict_of}
+use Rattle.it_verify.specs.PanelsAlike.{PanelsAlikeFor}
 use Rattle.it_verify.specs.RefusedFor.{Stage, FailsAt, RefusedFor}
 use Rattle.it_verify.specs.Verdict.{IsVerdict}
 use Rattle.it_verify.specs.VerifyOutput.{IsVerifyOutput}
@@ -50,18 +51,26 @@ VerdictIsOne =
     → IsMadeBy panel inputs documents evidence → IsMadeBy panel inputs other given
     → verdict_of documents evidence ≡ verdict_of other given
 
--- inputs come to the same: whatever is the verdict on the first is that on the others, and so is
--- its report
-pub record ComesToTheSame (panel : Panel) (inputs other : Inputs) : Type 0 where
-  pub verdict : (verdict : Verdict) → IsVerdict panel inputs verdict ↔ IsVerdict panel other verdict
+-- a verification comes to the same as another: whatever is the verdict of the first is that of the
+-- other, and so is its report
+pub record ComesToTheSame (panel : Panel) (inputs : Inputs) (another : Panel) (other : Inputs)
+    : Type 0 where
+  pub verdict : (verdict : Verdict)
+      → IsVerdict panel inputs verdict ↔ IsVerdict another other verdict
   pub report : (text : List ℕ) (status : Status)
-      → IsVerifyOutput panel inputs text status ↔ IsVerifyOutput panel other text status
+      → IsVerifyOutput panel inputs text status ↔ IsVerifyOutput another other text status
 
 -- inputs in which the same counts come to the same
 abbrev pub AlikeInputs : Type 0
 AlikeInputs =
     (panel : Panel) (inputs other : Inputs) → InputsAlike panel inputs other
-    → ComesToTheSame panel inputs other
+    → ComesToTheSame panel inputs panel other
+
+-- inputs come to the same by panels that are alike on every key that could be asked for
+abbrev pub AlikePanels : Type 0
+AlikePanels =
+    (panel other : Panel) (inputs : Inputs) → PanelsAlikeFor panel other inputs
+    → ComesToTheSame panel inputs other inputs
 
 -- the same step, with no more different keys
 abbrev pub HasNoMoreKeys : List ℕ × ℕ → List ℕ × ℕ → Type 0

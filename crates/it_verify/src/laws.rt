@@ -4,6 +4,7 @@
 ghost use Rattle.it_verify.specs.CostLaws.{InputsHaveCost, InputsHaveOneCost};
 ghost use Rattle.it_verify.specs.VerificationLaws.{
   AlikeInputs,
+  AlikePanels,
   MadeNotRefused,
   MadeOrFirst,
   MadeOrRefused,
@@ -44,6 +45,12 @@ pub fn verdict_is_one()
 /// Inputs in which the same counts have the same verdict, and the same report.
 pub fn alike_inputs()
     ensures { AlikeInputs }
+{}
+
+/// By panels of checks that are alike on every key that could be asked for, inputs have the same
+/// verdict, and the same report, whatever numbers the panels give the keys.
+pub fn alike_panels()
+    ensures { AlikePanels }
 {}
 
 /// Inputs in which less counts than in others that were made as the owners prescribed are accepted

@@ -1,4 +1,5 @@
 use Rattle.std.proofs.Common.{rules}
+use Rattle.it_program.proofs.AnyTable.{any_output}
 use Rattle.it_program.proofs.verify_command.run.Goals as goal
 
 pub returns-clause-ok : goal.returns-clause-ok
@@ -12,7 +13,9 @@ returns-clause-ok g c =
         holds_rings = search rules;
         table = c.in_ok-table.table;
         is_table = c.in_ok-table.ensures;
-        is_output = rw (c.in_ok-checks.ensures, c.form_asked-form.ensures) at told.1;
+        is_output = λ any is. any_output c.args.words.now.public_keys c.in_ok-rings.rings.items
+            c.in_ok-inputs.inputs c.in_ok-table.table any _ told.0 _ c.in_ok-table.ensures is
+            (rw (c.in_ok-checks.ensures, c.form_asked-form.ensures) at told.1);
       },
       told.2,
     )

@@ -1,0 +1,57 @@
+-- What is shown of these definitions.
+use Rattle.std.specs.Prelude.{ℕ, List, Bool, Option}
+use Rattle.it_dsse.specs.Panel.{Panel, panel_of}
+use Rattle.it_dsse.specs.declared.ring_entry.RingEntry.{RingEntry}
+use Rattle.it_public_keys.specs.AnyCheck.{checks_of}
+use Rattle.it_public_keys.specs.Collected.{IsTableFor}
+use Rattle.it_public_keys.specs.Keys.{Keys}
+use Rattle.it_report.specs.declared.verdict.Verdict.{Verdict}
+use Rattle.it_report.specs.declared.verdict.Verdict.TheVariants.{Accepted}
+use Rattle.it_verify.specs.InputsAlike.{InputsAlike, InputsWithin}
+use Rattle.it_verify.specs.Verdict.{IsVerdict}
+use Rattle.it_verify.specs.VerificationLaws.{ComesToTheSame, OnlyWithholds}
+use Rattle.it_verify.specs.declared.inputs.Inputs.{Inputs}
+
+-- a table that has every key which a verification of these inputs could ask for, where one is
+-- wanted
+abbrev pub IsTableOf : Bool → Inputs → Option Keys → Type 0
+IsTableOf wanted inputs = IsTableFor wanted inputs.policy inputs.layout inputs.links
+
+-- the panel of the rings, and of the table
+abbrev pub panel_with : List (List RingEntry) → Option Keys → Panel
+panel_with rings table = panel_of (checks_of rings table)
+
+-- by whichever table has every key that could be asked for, a verification comes to the same
+abbrev pub AnyTable : Type 0
+AnyTable =
+    (wanted : Bool) (rings : List (List RingEntry)) (inputs : Inputs) (one other : Option Keys)
+    → IsTableOf wanted inputs one → IsTableOf wanted inputs other
+    → ComesToTheSame (panel_with rings one) inputs (panel_with rings other) inputs
+
+-- the tables of two verifications, and one that has the keys of both
+pub record AreTables (wanted : Bool) (inputs other : Inputs) (one two both : Option Keys)
+    : Type 0 where
+  pub of_first : IsTableOf wanted inputs one
+  pub of_second : IsTableOf wanted other two
+  pub also_of_first : IsTableOf wanted inputs both
+  pub also_of_second : IsTableOf wanted other both
+
+-- inputs in which the same counts come to the same, each by its own table
+abbrev pub AlikeByTables : Type 0
+AlikeByTables =
+    (wanted : Bool) (rings : List (List RingEntry)) (inputs other : Inputs)
+    (one two both : Option Keys) → AreTables wanted inputs other one two both
+    → InputsAlike (panel_with rings both) inputs other
+    → ComesToTheSame (panel_with rings one) inputs (panel_with rings two) other
+
+-- who takes away what counts from what is accepted can only withhold, each verification going by
+-- its own table
+abbrev pub WithheldByTables : Type 0
+WithheldByTables =
+    (wanted : Bool) (rings : List (List RingEntry)) (inputs other : Inputs)
+    (one two both : Option Keys) (steps : List (List ℕ × ℕ)) (files : List (List ℕ))
+    (verdict : Verdict) → AreTables wanted inputs other one two both
+    → InputsWithin (panel_with rings both) inputs other
+    → IsVerdict (panel_with rings two) other (Accepted steps files)
+    → IsVerdict (panel_with rings one) inputs verdict
+    → OnlyWithholds verdict (Accepted steps files)

@@ -1,0 +1,22 @@
+-- Panels of checks that are alike on every key that a verification can ask for (a word of this
+-- project; no standard speaks of it).
+use Rattle.std.specs.Prelude.{Contains}
+use Rattle.it_dsse.specs.Panel.{Panel}
+use Rattle.it_docs.specs.Policy.{PolicyOf}
+use Rattle.it_docs.specs.declared.policy.Builder.{Builder}
+use Rattle.it_docs.specs.declared.policy.Expectation.{Expectation}
+use Rattle.it_docs.specs.declared.policy.Policy.{Policy}
+use Rattle.it_chain.specs.AlikePanels.{PanelsAlike, PanelsAlikeOver}
+use Rattle.it_verify.specs.Documents.{Documents, ReadAs}
+use Rattle.it_verify.specs.declared.inputs.Inputs.{Inputs}
+
+-- two panels are alike on the keys of the owners and of the builders, and on those of the layout
+-- and of every layout in a file of the links
+pub record PanelsAlikeFor (panel other : Panel) (inputs : Inputs) : Type 0 where
+  pub owners : (policy : Policy) → PolicyOf inputs.policy policy
+      → PanelsAlike panel other policy.owners
+  pub builders : (policy : Policy) (expectation : Expectation) (builder : Builder)
+      → PolicyOf inputs.policy policy → Contains policy.expectations expectation
+      → Contains expectation.builders builder → PanelsAlike panel other builder.keys
+  pub layouts : (documents : Documents) → ReadAs inputs documents
+      → PanelsAlikeOver panel other documents.layout inputs.links

@@ -1,4 +1,2 @@
 pub mod AnyTable
-pub mod FilesFound
 pub mod Pairs
-pub mod SortedTexts

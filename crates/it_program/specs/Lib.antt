@@ -1,7 +1,4 @@
 pub mod Commands
-pub mod Fault
-pub mod FilesBelow
+pub mod Inputs
 pub mod Laws
-pub mod Reading
-pub mod RingFlaw
-pub mod Shown
+pub mod Status

@@ -1,5 +1,5 @@
 //! The words of the command line, as the system gives them.
-use crate::fault::Fault;
+use it_disk::Fault;
 use std::env::FillError;
 use std::rt::Env;
 use std::{env, io};

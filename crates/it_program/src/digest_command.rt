@@ -3,14 +3,11 @@ ghost use Rattle.std.specs.Prelude.{IfOk};
 ghost use Rattle.std.specs.Io.KnownBytes.{Appends};
 ghost use Rattle.it_program.specs.Commands.{AreLinesOf, IsLineOf, ListsDigests};
 
-use crate::disk::Disk;
-use crate::fault::Fault;
-use crate::files_below::files_at_each;
 use crate::remembering::Remembering;
-use crate::shown::Shown;
 use it_base::text::Text;
 use it_commands::{check_name, run_digest};
 use it_digest::reader::DigestFault;
+use it_disk::{Disk, Fault, Shown, files_at_each};
 use it_outcome::{RunFault, Status};
 use it_words::words::digest_words::DigestWords;
 use std::alloc::{AllocError, Global};

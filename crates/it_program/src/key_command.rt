@@ -4,12 +4,9 @@ ghost use Rattle.std.specs.Io.KnownBytes.{Appends};
 ghost use Rattle.std.specs.List.{AllZip};
 ghost use Rattle.it_program.specs.Commands.{MakesKeys};
 
-use crate::disk::Disk;
-use crate::fault::Fault;
-use crate::files::bytes;
-use crate::shown::Shown;
 use it_base::sequence::Sequence;
 use it_base::text::Text;
+use it_disk::{Disk, Fault, Shown, bytes};
 use it_key_commands::{KeyFault, run_key};
 use it_outcome::{RunFault, Status};
 use it_words::words::key_words::KeyWords;

@@ -3,9 +3,7 @@ ghost use Rattle.std.specs.Prelude.{◌≡◌, ◌≢◌, IfErr, IfOk};
 ghost use Rattle.std.specs.Io.KnownBytes.{Appends};
 ghost use Rattle.it_program.specs.Commands.{MakesLink};
 
-use crate::disk::Disk;
-use crate::fault::Fault;
-use crate::files::bytes_if_given;
+use it_disk::{Disk, Fault, bytes_if_given};
 use it_making::run_link;
 use it_outcome::{RunFault, Status};
 use it_words::words::link_words::LinkWords;

@@ -1,8 +1,7 @@
 //! Why a signature that was made elsewhere is not written.
 ghost use Rattle.std.specs.Prelude.{◌≡◌};
 
-use crate::fault::Fault;
-use crate::shown::Shown;
+use it_disk::{Fault, Shown};
 use it_key_commands::KeyFault;
 use it_outcome::RunFault;
 use it_words::words::sign_words::{MadePaths, SignWords};

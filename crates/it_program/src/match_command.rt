@@ -3,8 +3,8 @@ ghost use Rattle.std.specs.Prelude.{◌≡◌, ◌≢◌, IfErr, IfOk};
 ghost use Rattle.std.specs.Io.KnownBytes.{Appends};
 ghost use Rattle.it_commands.specs.MatchOutput.{IsMatchOutput};
 
-use crate::fault::Fault;
 use it_commands::run_match;
+use it_disk::Fault;
 use it_outcome::{RunFault, Status};
 use it_words::words::match_words::MatchWords;
 use std::alloc::Global;

@@ -3,9 +3,8 @@ ghost use Rattle.std.specs.Prelude.{◌≡◌, ◌≢◌, IfErr, IfOk};
 ghost use Rattle.std.specs.Io.KnownBytes.{Appends};
 ghost use Rattle.it_program.specs.Commands.{Encodes};
 
-use crate::disk::Disk;
-use crate::fault::Fault;
 use it_commands::run_pae;
+use it_disk::{Disk, Fault};
 use it_outcome::{RunFault, Status};
 use it_words::words::pae_words::PaeWords;
 use std::io::Write;

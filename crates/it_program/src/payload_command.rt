@@ -3,9 +3,8 @@ ghost use Rattle.std.specs.Prelude.{◌≡◌, ◌≢◌, IfErr, IfOk};
 ghost use Rattle.std.specs.Io.KnownBytes.{Appends};
 ghost use Rattle.it_program.specs.Commands.{ShowsPayload};
 
-use crate::disk::Disk;
-use crate::fault::Fault;
 use it_commands::run_payload;
+use it_disk::{Disk, Fault};
 use it_outcome::{RunFault, Status};
 use it_words::words::payload_words::PayloadWords;
 use std::io::Write;

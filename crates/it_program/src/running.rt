@@ -4,13 +4,12 @@ ghost use Rattle.std.specs.Io.KnownBytes.{Appends};
 ghost use Rattle.it_words.specs.Words.{AreWordsOf, GoesNoDeeper};
 ghost use Rattle.it_program.specs.Commands.{IsOutputOf};
 
-use crate::disk::Disk;
-use crate::fault::Fault;
 use crate::remembering::Remembering;
 use crate::{
     digest_command, key_command, link_command, match_command, pae_command, payload_command,
     sign_command, signed_command, statement_command, verify_command,
 };
+use it_disk::{Disk, Fault};
 use it_outcome::{RunFault, Status};
 use it_words::words::{Words, read_words};
 use std::io::Write;

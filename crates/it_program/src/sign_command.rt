@@ -3,14 +3,11 @@ ghost use Rattle.std.specs.Prelude.{◌≡◌, ◌≢◌, IfErr, IfOk};
 ghost use Rattle.std.specs.Io.KnownBytes.{Appends};
 ghost use Rattle.it_program.specs.Commands.{SignsAsAsked, SignsAsMade, SignsBy, SignsByRing};
 
-use crate::disk::Disk;
-use crate::fault::Fault;
-use crate::files::{read_keys, read_ring};
 use crate::made_fault::made_fault;
-use crate::shown::Shown;
 use crate::sign_onto_command;
 use crate::sign_onto_command::Onto;
 use it_commands::run_sign;
+use it_disk::{Disk, Fault, Shown, read_keys, read_ring};
 use it_key_commands::{MadeSignature, run_sign_made};
 use it_outcome::{RunFault, Status};
 use it_words::words::sign_words::{MadePaths, SignBy, SignWords};

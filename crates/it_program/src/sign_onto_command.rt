@@ -3,12 +3,9 @@ ghost use Rattle.std.specs.Prelude.{◌≡◌, ◌≢◌, IfErr, IfOk};
 ghost use Rattle.std.specs.Io.KnownBytes.{Appends};
 ghost use Rattle.it_program.specs.Commands.{SignsOnto, SignsOntoAsMade, SignsOntoByRing};
 
-use crate::disk::Disk;
-use crate::fault::Fault;
-use crate::files::{read_keys, read_ring};
 use crate::made_fault::made_fault;
-use crate::shown::Shown;
 use it_commands::run_sign_onto;
+use it_disk::{Disk, Fault, Shown, read_keys, read_ring};
 use it_dsse::signing::NewSignature;
 use it_key_commands::{KeyFault, MadeSignature, run_sign_made_onto};
 use it_outcome::{RunFault, Status};

@@ -6,10 +6,8 @@ ghost use Rattle.it_dsse.specs.Ring.{ring_check};
 ghost use Rattle.it_commands.specs.SignedOutput.{IsSignedOutput};
 ghost use Rattle.it_program.specs.Commands.{ShowsKeySigners, ShowsRingSigners, ShowsSigners};
 
-use crate::disk::Disk;
-use crate::fault::Fault;
-use crate::files::{read_keys, read_ring};
 use it_commands::run_signed;
+use it_disk::{Disk, Fault, read_keys, read_ring};
 use it_dsse::check::SignatureCheck;
 use it_dsse::ring::HmacRing;
 use it_key_commands::run_signed_by_keys;

@@ -5,10 +5,8 @@ ghost use Rattle.std.specs.Option.{option_copied};
 ghost use Rattle.it_making.specs.StatementOutput.{IsStatementOutput};
 ghost use Rattle.it_program.specs.Commands.{MakesStatement};
 
-use crate::disk::Disk;
-use crate::fault::Fault;
-use crate::shown::Shown;
 use it_base::text::Text;
+use it_disk::{Disk, Fault, Shown};
 use it_making::{StatementParts, run_statement};
 use it_outcome::{RunFault, Status};
 use it_words::words::statement_words::StatementWords;

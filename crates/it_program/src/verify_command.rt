@@ -8,16 +8,15 @@ ghost use Rattle.it_public_keys.specs.Collected.{IsTableFor};
 ghost use Rattle.it_notes.specs.VerifyOutputIn.{IsVerifyOutputIn};
 ghost use Rattle.it_program.specs.Commands.{Verifies, form_asked};
 ghost use Rattle.it_limits.specs.Limit.{IsWithinLimit};
-ghost use Rattle.it_program.specs.Reading.{AreInputs, AreLimited, HoldsIfGiven, HoldsLookedAt};
-ghost use Rattle.it_program.specs.Reading.{HoldsRing};
+ghost use Rattle.it_disk.specs.Reading.{AreLimited, HoldsIfGiven, HoldsRing};
+ghost use Rattle.it_program.specs.Inputs.{AreInputs, HoldsLookedAt};
 
-use crate::disk::Disk;
-use crate::fault::Fault;
-use crate::files::{bytes, bytes_if_given, read_ring};
-use crate::left_out::{LeftOut, TooMany, note_left_out, too_many};
 use it_base::sequence::Sequence;
 use it_base::text::Text;
 use it_chain::bundle::Bundle;
+use it_disk::{
+    Disk, Fault, LeftOut, TooMany, bytes, bytes_if_given, note_left_out, read_ring, too_many,
+};
 use it_dsse::check::SignatureCheck;
 use it_dsse::ring::HmacRing;
 use it_json_report::form::ReportForm;

@@ -13,7 +13,7 @@ mod ran;
 mod runs;
 
 use it_base::document::read_document;
-use it_program::{Disk, Fault};
+use it_disk::{Disk, Fault};
 use it_tables::run_tables;
 use runs::Runs;
 use serde_json::Value;

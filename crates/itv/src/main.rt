@@ -4,8 +4,9 @@
 //! ends with its status.
 #![tactic(auto)]
 
+use it_disk::{Disk, Fault};
 use it_outcome::Status;
-use it_program::{Disk, Fault, exit_status, run_to, words};
+use it_program::{exit_status, run_to, words};
 use std::io;
 use std::io::Write;
 use std::process::ExitCode;

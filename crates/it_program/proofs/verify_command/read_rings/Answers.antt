@@ -1,6 +1,6 @@
 use Rattle.std.proofs.Common.{◌≡◌, ◌∙◌, ◌+◌, ◌++◌, [], ◌∷◌, take, ap, sym}
 use Rattle.std.proofs.lemmas.List.{take_more}
-use Rattle.it_program.specs.Reading.{HoldsRing}
+use Rattle.it_disk.specs.Reading.{HoldsRing}
 use Rattle.it_program.proofs.Pairs.{with_last}
 use Rattle.it_program.proofs.verify_command.read_rings.Goals as goal
 

@@ -1,6 +1,6 @@
 use Rattle.std.proofs.Common.{take}
 use Rattle.std.specs.List.{AllZip}
-use Rattle.it_program.specs.Reading.{HoldsRing}
+use Rattle.it_disk.specs.Reading.{HoldsRing}
 use Rattle.it_program.proofs.verify_command.read_rings.Given as goal
 
 abbrev pub invariant-loop-path : goal.invariant-loop-path

@@ -1,0 +1,2 @@
+pub mod FilesFound
+pub mod SortedTexts

@@ -1,0 +1,8 @@
+use Rattle.std.proofs.Common.{take}
+use Rattle.it_disk.specs.FilesBelow.{AreFilesAtEach}
+use Rattle.it_disk.proofs.files_below.files_at_each.Given as goal
+
+-- the files of the paths so far
+abbrev pub invariant-loop-path : goal.invariant-loop-path
+invariant-loop-path g l = AreFilesAtEach g.R.Disk.holdings (take l.path-index l.paths)
+    l.files.items

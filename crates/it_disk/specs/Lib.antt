@@ -1,0 +1,4 @@
+pub mod FilesBelow
+pub mod Reading
+pub mod RingFlaw
+pub mod Shown

@@ -1,0 +1,87 @@
+//! Files and folders, as the commands read them by their paths.
+ghost use Rattle.std.specs.Prelude.{◌≤◌, length, IfOk};
+ghost use Rattle.it_disk.specs.Reading.{AreLimited, Holdings, anything};
+
+use crate::fault::Fault;
+use crate::files::read_file;
+use crate::folders::{Kind, Links, read_links, read_records};
+use crate::listing::{Listed, kind_at, list};
+use it_base::sequence::Sequence;
+use it_base::text::Text;
+use std::fs;
+use std::io::Read;
+use std::rt::Files;
+
+/// What commands read, by paths. No contract can say what a path holds, so a command is proved for
+/// whatever stands where: what it takes from one path it cannot have taken from another.
+///
+/// All that gives files and memory is one. Each method answers a fault that names the path where
+/// the system does not give what stands there, or that is beyond the limits of a file or a folder.
+pub trait Disk {
+    // what stands at which path
+    ghost holdings: { Holdings };
+
+    /// A file that is read as it comes.
+    type File: Read + Drop;
+
+    /// Opens a file.
+    fn open(&self, path: &str) -> Result<Self::File, Fault>
+        ensures { IfOk result (λ file. holdings.left path.now (Self.File.remaining file)) };
+
+    /// The bytes of a file, 8,388,608 at most.
+    fn file(&self, path: &str) -> Result<Vec<u8>, Fault>
+        ensures holds { IfOk result (λ bytes. holdings.file path.now bytes.items) }
+        ensures within { IfOk result (λ bytes. length bytes.items ≤ 8388608) };
+
+    /// The links of a folder, down to `depth` levels below it. Where signatures are `limited`, the
+    /// files are left out whose envelopes have too many.
+    fn links(&self, folder: &str, depth: u8, limited: bool) -> Result<Links, Fault>
+        ensures holds { IfOk result
+            (λ links. holdings.links folder.now depth limited links.bundle) }
+        ensures within { IfOk result (λ links. AreLimited limited links.bundle) };
+
+    /// The records of inspections in a folder, each under the name of its inspection.
+    fn records(&self, folder: &str) -> Result<Sequence<(Text, Sequence<u8>)>, Fault>
+        ensures { IfOk result (λ records. holdings.records folder.now records) };
+
+    /// Whether a file or a folder stands at a path. A symbolic link is what it leads to.
+    fn kind(&self, path: &str) -> Result<Kind, Fault>
+        ensures { IfOk result (λ kind. holdings.kind path.now kind) };
+
+    /// All that stands in a folder, where that is files, folders and symbolic links to files.
+    fn entries(&self, folder: &str) -> Result<Sequence<Listed>, Fault>
+        ensures { IfOk result (λ entries. holdings.entries folder.now entries) };
+}
+
+impl<R: Files + AllocGlobal> Disk for R {
+    ghost holdings = { anything };
+
+    type File = R::File;
+
+    fn open(&self, path: &str) -> Result<R::File, Fault> {
+        match fs::open(self, path) {
+            Ok(file) => Ok(file),
+            Err(error) => Err(Fault::of_file(self.alloc(), path, &error)),
+        }
+    }
+
+    fn file(&self, path: &str) -> Result<Vec<u8>, Fault> {
+        read_file(self, path)
+    }
+
+    fn links(&self, folder: &str, depth: u8, limited: bool) -> Result<Links, Fault> {
+        read_links(self, folder, depth, limited)
+    }
+
+    fn records(&self, folder: &str) -> Result<Sequence<(Text, Sequence<u8>)>, Fault> {
+        Ok(Sequence::from(read_records(self, folder)?))
+    }
+
+    fn kind(&self, path: &str) -> Result<Kind, Fault> {
+        kind_at(self, path)
+    }
+
+    fn entries(&self, folder: &str) -> Result<Sequence<Listed>, Fault> {
+        Ok(Sequence::from(list(self, folder)?))
+    }
+}

@@ -1,0 +1,222 @@
+//! Why the program stops, as its notes say it.
+ghost use Rattle.std.specs.Prelude.{◌≡◌};
+ghost use Rattle.it_outcome.specs.declared.outcome.RunFault.TheVariants.{OutOfMemory};
+ghost use Rattle.it_disk.specs.declared.fault.Fault.TheVariants.{Run};
+
+use crate::ring_flaw::RingFlaw;
+use crate::shown::Shown;
+use it_base::text::Text;
+use it_key_commands::{FileFault, KeyFault};
+use it_outcome::RunFault;
+use it_words::words::WordsFault;
+use std::alloc::{AllocError, AllocFailed, Global};
+use std::io;
+use thiserror::Error;
+
+/// Why the program stops.
+#[derive(Debug, Drop, Error)]
+pub enum Fault {
+    /// The words do not parse, for this reason.
+    #[error("{0}")]
+    Words(String),
+    /// The name under which the program runs is not UTF-8.
+    #[error("the program's name is not UTF-8")]
+    BadProgramName,
+    /// The word at this place, counted from 1 after the program's name, is not UTF-8.
+    #[error("word {0} after the program's name is not UTF-8")]
+    BadWord(usize),
+    /// A file cannot be read, for this reason.
+    #[error("cannot read {path}: {reason}")]
+    Unreadable { path: Shown, reason: String },
+    /// A file has more bytes than this.
+    #[error("{path} is larger than {limit} bytes")]
+    TooLarge { path: Shown, limit: u64 },
+    /// A file's name has a line feed.
+    #[error("{path} has a line feed in its name, which a digest list cannot hold")]
+    Unlistable { path: Shown },
+    /// A folder has a name in it that is not UTF-8.
+    #[error("cannot read {path}: a name in it is not UTF-8")]
+    BadName { path: Shown },
+    /// A folder has more entries that are read than this.
+    #[error("{path} has more than {limit} entries to read")]
+    TooMany { path: Shown, limit: usize },
+    /// A folder below one that is listed lies deeper than this.
+    #[error("{path} lies more than {limit} folders deep")]
+    TooDeep { path: Shown, limit: u8 },
+    /// A file below a folder comes after as many as this.
+    #[error("{path} is one more than the {limit} files that a folder may have below it")]
+    TooManyFiles { path: Shown, limit: usize },
+    /// A file is no ring, for this reason.
+    #[error("{path} is no ring of secrets: {flaw}")]
+    BadRing { path: Shown, flaw: RingFlaw },
+    /// A ring has no entry with this id.
+    #[error("{path} has no key {id}")]
+    UnknownKey { path: Shown, id: Shown },
+    /// A file does not hold key objects under their ids.
+    #[error("{path} is not an object from id to key object, as a layout has under keys")]
+    BadKeys { path: Shown },
+    /// The key object under this id describes no public key.
+    #[error("{path} has no public key under {id} that signatures are checked by")]
+    NoPublicKey { path: Shown, id: Shown },
+    /// A file is not a public key, for this reason.
+    #[error("{path} is not a public key that is taken: it is {flaw}")]
+    BadKey { path: Shown, flaw: FileFault },
+    /// A signature that was made elsewhere is not one of the body by the key under this id.
+    #[error("{path} is not a signature of the body by {id}")]
+    BadSignature { path: Shown, id: Shown },
+    /// A line of a digest list, counted from 1, is none, or names a path again.
+    #[error("{path}: line {line} is no line of a digest list, or repeats a path")]
+    BadLine { path: Shown, line: u64 },
+    /// The external parameters are no JSON object, or one that nests too deep.
+    #[error("{path} is no JSON object that nests at most 124 levels deep")]
+    BadParameters { path: Shown },
+    /// What a signature is to be added to is no envelope.
+    #[error("{path} is no DSSE envelope")]
+    NoEnvelope { path: Shown },
+    /// An envelope that a signature is to be added to has another payload than the body.
+    #[error("{path} has another payload than {body}")]
+    OtherPayload { path: Shown, body: Shown },
+    /// An envelope that a signature is to be added to has another payload type.
+    #[error("{path} has another payload type than {kind}")]
+    OtherType { path: Shown, kind: Shown },
+    /// The output cannot be written, for this reason.
+    #[error("cannot write the output: {reason}")]
+    Unwritable { reason: String },
+    /// The command stopped.
+    #[error("{0}")]
+    Run(RunFault),
+}
+
+impl From<AllocError> for Fault {
+    ghost from_gives = { λ _ fault. fault ≡ Run OutOfMemory };
+
+    fn from(_error: AllocError) -> Fault {
+        Fault::Run(RunFault::OutOfMemory)
+    }
+}
+
+impl<T: Drop> From<AllocFailed<T>> for Fault {
+    fn from(_error: AllocFailed<T>) -> Fault {
+        Fault::Run(RunFault::OutOfMemory)
+    }
+}
+
+impl From<RunFault> for Fault {
+    ghost from_gives = { λ reason fault. fault ≡ Run reason };
+
+    fn from(fault: RunFault) -> Fault {
+        Fault::Run(fault)
+    }
+}
+
+impl From<WordsFault> for Fault {
+    fn from(fault: WordsFault) -> Fault {
+        match fault {
+            WordsFault::Unread(reason) => Fault::Words(reason),
+            WordsFault::OutOfMemory => Fault::Run(RunFault::OutOfMemory),
+        }
+    }
+}
+
+impl Fault {
+    /// The fault of words that the system did not give.
+    pub fn of_words(alloc: Global, error: &io::Error) -> Fault {
+        match error.kind() {
+            io::ErrorKind::OutOfMemory => Fault::from(AllocError),
+            _ => said(alloc, "the words cannot be read"),
+        }
+    }
+
+    /// The fault of a file that cannot be read.
+    pub(crate) fn of_file(alloc: Global, path: &str, error: &io::Error) -> Fault {
+        if error.kind() == io::ErrorKind::OutOfMemory {
+            return Fault::from(AllocError);
+        }
+        match Fault::unreadable(alloc, path, error) {
+            Ok(fault) => fault,
+            Err(error) => Fault::from(error),
+        }
+    }
+
+    /// The fault of a folder of which an entry cannot be read.
+    pub(crate) fn of_listing(alloc: Global, path: &str, error: &io::Error) -> Fault {
+        if error.kind() != io::ErrorKind::InvalidFilename {
+            return Fault::of_file(alloc, path, error);
+        }
+        match Shown::of(alloc, path) {
+            Ok(path) => Fault::BadName { path },
+            Err(error) => Fault::from(error),
+        }
+    }
+
+    /// The fault of a file that cannot be read, for the system's reason.
+    ///
+    /// # Errors
+    ///
+    /// `AllocError` where memory was refused.
+    pub fn unreadable(alloc: Global, path: &str, error: &io::Error) -> Result<Fault, AllocError> {
+        Ok(Fault::Unreadable {
+            path: Shown::of(alloc, path)?,
+            reason: reason_of(alloc, error)?,
+        })
+    }
+
+    /// The fault of a file that cannot be read, for a reason in the program's own words.
+    ///
+    /// # Errors
+    ///
+    /// `AllocError` where memory was refused.
+    pub fn unread(alloc: Global, path: &str, reason: &str) -> Result<Fault, AllocError> {
+        Ok(Fault::Unreadable {
+            path: Shown::of(alloc, path)?,
+            reason: String::from_str(alloc, reason)?,
+        })
+    }
+
+    /// The fault of a digest list with a bad line, counted from 1. Where no list was given it has
+    /// no line.
+    ///
+    /// # Errors
+    ///
+    /// `AllocError` where memory was refused.
+    pub fn bad_line(alloc: Global, path: &Option<Text>, line: u64) -> Result<Fault, AllocError> {
+        let path = path.as_ref().map_or("", |path| path.as_str());
+        Ok(Fault::BadLine {
+            path: Shown::of(alloc, path)?,
+            line,
+        })
+    }
+
+    /// The fault of a command on public keys, in its own words.
+    ///
+    /// # Errors
+    ///
+    /// `AllocError` where memory was refused.
+    pub fn of_key(alloc: Global, fault: KeyFault) -> Result<Fault, AllocError> {
+        Ok(Fault::Words(format!(in alloc; "{fault}")?))
+    }
+
+    /// The fault of an output that the system did not take.
+    pub fn of_output(alloc: Global, error: &io::Error) -> Fault {
+        match reason_of(alloc, error) {
+            Ok(reason) => Fault::Unwritable { reason },
+            Err(error) => Fault::from(error),
+        }
+    }
+}
+
+fn said(alloc: Global, reason: &str) -> Fault {
+    match String::from_str(alloc, reason) {
+        Ok(reason) => Fault::Words(reason),
+        Err(error) => Fault::from(error),
+    }
+}
+
+/// The system's own words, without the number of the error.
+fn reason_of(alloc: Global, error: &io::Error) -> Result<String, AllocError> {
+    let text = format!(in alloc; "{error}")?;
+    match text.as_str().split_once(" (os error ") {
+        Some((reason, _)) => String::from_str(alloc, reason),
+        None => Ok(text),
+    }
+}

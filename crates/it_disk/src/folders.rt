@@ -1,0 +1,244 @@
+//! Folders of links and of records, read as far as they count and no further.
+ghost use Rattle.std.specs.Prelude.{◌≡◌, IfOk, OnOk};
+ghost use Rattle.it_limits.specs.Links.{AreFilesWithin};
+ghost use Rattle.it_disk.specs.Reading.{AreLimited};
+
+use crate::fault::Fault;
+use crate::files::read_file;
+use crate::left_out::{LeftOut, too_many};
+use crate::shown::Shown;
+use it_base::sequence::Sequence;
+use it_base::text::Text;
+use it_chain::bundle::{Bundle, BundleFault};
+use std::alloc::{AllocError, Global};
+use std::path::{Path, PathBuf};
+use std::rt::Files;
+use std::{fs, io};
+
+/// How many entries of one folder may be read.
+const MOST_ENTRIES: usize = 1_000;
+
+/// How the names of the files end that are read.
+const ENDING: &str = ".link";
+
+/// What is read: a file, or a folder.
+#[derive(Clone, Copy, PartialEq, Eq)]
+pub enum Kind {
+    /// The bytes of a file.
+    File,
+    /// What stands in a folder.
+    Folder,
+}
+
+/// Which names in a folder are looked at.
+#[derive(Clone, Copy)]
+pub(crate) enum Wanted {
+    /// All of them.
+    All,
+    /// Those under which files of links are read, and folders too where they are read.
+    OfLinks { folders: bool },
+}
+
+impl Wanted {
+    fn has(self, name: &str) -> bool {
+        match self {
+            Wanted::All => true,
+            Wanted::OfLinks { folders } => name.ends_with(ENDING) || folders && name.contains('.'),
+        }
+    }
+}
+
+/// What is read of a folder of links.
+#[derive(Drop)]
+pub struct Links {
+    /// The links.
+    pub bundle: Bundle,
+    /// The files that are left out, in the order in which they are met.
+    pub left_out: Vec<LeftOut>,
+}
+
+impl Links {
+    fn new(alloc: Global) -> Links
+        ensures { AreFilesWithin result.bundle }
+    {
+        Links {
+            bundle: Bundle::new(alloc),
+            left_out: Vec::new(alloc),
+        }
+    }
+}
+
+/// An entry of a folder that is read.
+#[derive(Drop)]
+struct Entry {
+    name: String,
+    path: PathBuf,
+    kind: Kind,
+}
+
+/// The files of a folder whose names end in `.link`, and its folders whose names hold a full stop,
+/// read in the same way, down to `depth` levels below it. Where signatures are `limited`, a file
+/// whose envelope has too many is left out.
+pub(crate) fn read_links<R: Files + AllocGlobal>(
+    rt: &R,
+    folder: &str,
+    depth: u8,
+    limited: bool,
+) -> Result<Links, Fault>
+    ensures { IfOk result (λ links. AreLimited limited links.bundle) }
+{
+    let mut links = Links::new(rt.alloc());
+    for entry in entries(rt, folder, depth)? {
+        match depth.checked_sub(1) {
+            Some(below) if entry.kind == Kind::Folder => {
+                let inner = read_links(rt, entry.path.as_str(), below, limited)?;
+                add_folder(rt.alloc(), &mut links, entry, inner)?;
+            }
+            _ => add_file(rt, &mut links, entry, limited)?,
+        }
+    }
+    Ok(links)
+}
+
+/// Reads a file, and adds it to the links or leaves it out.
+fn add_file<R: Files + AllocGlobal>(
+    rt: &R,
+    links: &mut Links,
+    entry: Entry,
+    limited: bool,
+) -> Result<(), Fault>
+    ensures { OnOk result (AreLimited limited links.old.bundle
+        → AreLimited limited links.new.bundle) }
+{
+    let alloc = rt.alloc();
+    let bytes = read_file(rt, entry.path.as_str())?;
+    match too_many(alloc, bytes.as_slice(), limited)? {
+        Some(signatures) => {
+            let path = Shown::of(alloc, entry.path.as_str())?;
+            links.left_out.push(LeftOut::File { path, signatures })?;
+        }
+        None => links.bundle.add_file(entry.name, bytes)?,
+    }
+    Ok(())
+}
+
+/// Adds the links of a folder, and what is left out of it.
+fn add_folder(alloc: Global, links: &mut Links, entry: Entry, inner: Links) -> Result<(), Fault>
+    ensures { OnOk result ((limited : _) → AreLimited limited links.old.bundle
+        → AreLimited limited inner.bundle → AreLimited limited links.new.bundle) }
+{
+    let Links {
+        bundle,
+        mut left_out,
+    } = inner;
+    links.left_out.append(&mut left_out)?;
+    match links.bundle.add_dir(entry.name, bundle) {
+        Ok(()) => Ok(()),
+        Err(BundleFault::NameTaken(_)) => {
+            let path = entry.path.as_str();
+            Err(Fault::unread(alloc, path, "its name stands twice")?)
+        }
+        Err(BundleFault::OutOfMemory) => Err(Fault::from(AllocError)),
+    }
+}
+
+/// The records of inspections in a folder: its files whose names end in `.link`, each under what
+/// stands before that.
+pub(crate) fn read_records<R: Files + AllocGlobal>(
+    rt: &R,
+    folder: &str,
+) -> Result<Vec<(Text, Sequence<u8>)>, Fault> {
+    let alloc = rt.alloc();
+    let mut records = Vec::new(alloc);
+    for entry in entries(rt, folder, 0)? {
+        let name = entry.name.as_str();
+        let inspection = name.strip_suffix(ENDING).unwrap_or(name);
+        let bytes = read_file(rt, entry.path.as_str())?;
+        let record = (Text::copy(alloc, inspection)?, Sequence::from(bytes));
+        records.push(record)?;
+    }
+    Ok(records)
+}
+
+/// What is read of a folder, in the order of the names' bytes. Folders are read where `depth` is
+/// not 0.
+fn entries<R: Files + AllocGlobal>(rt: &R, folder: &str, depth: u8) -> Result<Vec<Entry>, Fault> {
+    let alloc = rt.alloc();
+    let mut entries = Vec::new(alloc);
+    for name in names(rt, folder, Wanted::OfLinks { folders: depth > 0 })? {
+        let path = Path::new(folder).join(alloc, name.as_str())?;
+        let Some(kind) = kind_of(rt, name.as_str(), path.as_str(), depth)? else {
+            continue;
+        };
+        if entries.len() == MOST_ENTRIES {
+            return Err(Fault::TooMany {
+                path: Shown::of(alloc, folder)?,
+                limit: MOST_ENTRIES,
+            });
+        }
+        entries.push(Entry { name, path, kind })?;
+    }
+    Ok(entries)
+}
+
+/// The names in a folder that are wanted, in the order of their bytes. The others are not kept.
+///
+/// # Errors
+///
+/// Where the folder cannot be read, or a name in it is not UTF-8, wanted or not.
+pub(crate) fn names<R: Files + AllocGlobal>(
+    rt: &R,
+    folder: &str,
+    wanted: Wanted,
+) -> Result<Vec<String>, Fault> {
+    let alloc = rt.alloc();
+    let listing = match fs::read_dir(&rt, folder) {
+        Ok(listing) => listing,
+        Err(error) => return Err(Fault::of_file(alloc, folder, &error)),
+    };
+    let mut names = Vec::new(alloc);
+    for entry in listing {
+        let entry = match entry {
+            Ok(entry) => entry,
+            Err(error) => return Err(Fault::of_listing(alloc, folder, &error)),
+        };
+        if wanted.has(entry.file_name()) {
+            names.push(String::from_str(alloc, entry.file_name())?)?;
+        }
+    }
+    names.sort_unstable();
+    Ok(names)
+}
+
+/// What an entry is read as, or `None` where it is passed over: a folder too deep, a file whose
+/// name ends otherwise, and what is neither. A symbolic link is what it leads to.
+fn kind_of<R: Files + AllocGlobal>(
+    rt: &R,
+    name: &str,
+    path: &str,
+    depth: u8,
+) -> Result<Option<Kind>, Fault> {
+    match fs::metadata(rt, path) {
+        Ok(found) if found.is_dir() && depth > 0 => Ok(Some(Kind::Folder)),
+        Ok(found) if found.is_file() && name.ends_with(ENDING) => Ok(Some(Kind::File)),
+        Ok(_) => Ok(None),
+        Err(error) => Err(untold(rt, path, &error)?),
+    }
+}
+
+/// The fault of a path of which the system does not tell what stands there.
+pub(crate) fn untold<R: Files + AllocGlobal>(
+    rt: &R,
+    path: &str,
+    error: &io::Error,
+) -> Result<Fault, AllocError> {
+    if error.kind() != io::ErrorKind::NotFound {
+        return Ok(Fault::of_file(rt.alloc(), path, error));
+    }
+    match fs::symlink_metadata(rt, path) {
+        Ok(found) if found.is_symlink() => {
+            Fault::unread(rt.alloc(), path, "it is a symbolic link that leads nowhere")
+        }
+        _ => Ok(Fault::of_file(rt.alloc(), path, error)),
+    }
+}

@@ -1,8 +1,0 @@
-use Rattle.std.proofs.Common.{take}
-use Rattle.it_program.specs.FilesBelow.{AreFilesAtEach}
-use Rattle.it_program.proofs.files_below.files_at_each.Given as goal
-
--- the files of the paths so far
-abbrev pub invariant-loop-path : goal.invariant-loop-path
-invariant-loop-path g l = AreFilesAtEach g.R.Disk.holdings (take l.path-index l.paths)
-    l.files.items

@@ -1,0 +1,19 @@
+//! The status that the program ends with.
+ghost use Rattle.std.specs.Prelude.{◌≡◌};
+ghost use Rattle.it_program.specs.Status.{program_status};
+
+use it_disk::Fault;
+use it_outcome::{Status, exit_of};
+
+/// The status that the program ends with: that of the command, or 2 where it did not run.
+///
+/// `outcome` is what `run_to` or `words` came to.
+pub fn exit_status(outcome: &Result<Status, Fault>) -> u8
+    ensures { result ≡ program_status outcome.now }
+{
+    match outcome {
+        Ok(status) => exit_of(&Ok(*status)),
+        Err(Fault::Run(fault)) => exit_of(&Err(*fault)),
+        Err(_) => 2,
+    }
+}

@@ -240,7 +240,7 @@ class Reader:
 def read_crate(crate):
     """The source files of a crate but those of tests."""
     opened = public_names(crate) if tree.is_library(crate) else None
-    paths = [path for path in tree.folder_files(crate, "src", ".rt") if not tree.is_test(path)]
+    paths = tree.folder_files(crate, "src", ".rt")
     readers = [Reader(crate, path, opened) for path in paths]
     types = {}
     for reader in readers:

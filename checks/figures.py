@@ -15,8 +15,8 @@ import tree
 
 CRATES = tree.TOP / "crates"
 NUMBER = r"(?P<figure>\d[\d,]*)"
-# The programs that try tables of rows.
-OF_ROWS = ("it_rows", "it_verify_rows", "it_command_rows", "it_json_rows", "it_runs")
+# The folders of tables that it_rows tries, beside the cases.
+OF_ROWS = ("values", "verify", "reports", "commands", "runs")
 # The name of each figure with the pages that give it, each with the words around it.
 PLACES = [
     ("verify", "README.md", "the definitions, {} lines of them for the verdict"),
@@ -29,11 +29,11 @@ PLACES = [
     ("vectors", "CHANGELOG.md", "- {} vectors of Ed25519"),
     ("worked", "docs/testing.md", "whole verifications, {} worked out by hand"),
     ("random", "docs/testing.md", "by hand and {} changed at random"),
-    ("it_rows", "docs/testing.md", "envelopes, rings and documents, in {} rows"),
-    ("it_verify_rows", "docs/testing.md", "that `itv_cases` cannot show, in {} rows"),
-    ("it_command_rows", "docs/testing.md", "commands over bytes, in {} rows"),
-    ("it_json_rows", "docs/testing.md", "reports as JSON, in {} rows"),
-    ("it_runs", "docs/testing.md", "in some rows the notes, in {} rows"),
+    ("rows of values", "docs/testing.md", "envelopes, rings and documents, in {} rows"),
+    ("rows of verify", "docs/testing.md", "that the cases cannot show, in {} rows"),
+    ("rows of commands", "docs/testing.md", "commands over bytes, in {} rows"),
+    ("rows of reports", "docs/testing.md", "reports, most as JSON, in {} rows"),
+    ("rows of runs", "docs/testing.md", "in some rows the notes, in {} rows"),
     ("logic", "README.md", "The toolchain (a `rattle-kit-13` of `logic {}`)"),
     ("logic", "docs/trusted.md", "The toolchain (a `rattle-kit-13` of `logic {}`)"),
     ("logic", "CONTRIBUTING.md", "`rt version` prints a `rattle-kit-13` and `logic {}`"),
@@ -57,13 +57,14 @@ def counted():
 
     Kits of one logic prove the same, so the letter of the kit does not matter.
     """
-    graph, every = reach.Graph(), lines("itv_cases", "*.jsonl")
-    thrown, vectors = lines("itv_cases", "random-*.jsonl"), lines("it_vectors", "*.jsonl")
+    graph, every = reach.Graph(), lines("it_rows", "cases/*.jsonl")
+    thrown, vectors = lines("it_rows", "cases/random-*.jsonl"), lines("it_vectors", "*.jsonl")
     numbers = {"verify": lines_reached(graph, reach.VERIFY),
                "run_verify": lines_reached(graph, reach.VERIFYING),
                "public": lines_reached(graph, None),
                "cases": every, "random": thrown, "worked": every - thrown,
-               "vectors": vectors, **{name: lines(name, "*.jsonl") for name in OF_ROWS}}
+               "vectors": vectors,
+               **{f"rows of {name}": lines("it_rows", f"{name}/*.jsonl") for name in OF_ROWS}}
     found = {name: f"{number:,}" for name, number in numbers.items()}
     if shutil.which("rt"):
         ran = subprocess.run(["rt", "version"], stdout=subprocess.PIPE, text=True, check=True)

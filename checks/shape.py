@@ -19,9 +19,8 @@ FUNCTION = re.compile(r"( *)(?:pub(?:\([a-z]+\))? )?(?:unsafe )?(?:const )?fn (\
 
 
 def product_files(crate):
-    """The files of src/ and specs/, but for those of tests."""
-    files = tree.folder_files(crate, "src", ".rt") + tree.folder_files(crate, "specs", ".antt")
-    return [path for path in files if not tree.is_test(path)]
+    """The files of src/ and specs/."""
+    return tree.folder_files(crate, "src", ".rt") + tree.folder_files(crate, "specs", ".antt")
 
 
 def long_file(path, lines):

@@ -6,9 +6,6 @@ from pathlib import Path
 
 TOP = Path(__file__).resolve().parent.parent
 
-# Crates of what the programs share that try tables.
-SHARED_BY_TESTS = {"it_devices"}
-
 
 def crate_names():
     """The names of the crates, in the order of crates.txt."""
@@ -33,12 +30,6 @@ def folder_files(crate, folder, ending):
 def name_of(path):
     """A path as it is told: from the top of the repository."""
     return str(path.relative_to(TOP))
-
-
-def is_test(path):
-    """Whether a file holds only what tests share."""
-    parts = path.relative_to(TOP).parts
-    return parts[0] == "crates" and parts[1] in SHARED_BY_TESTS
 
 
 def words_of(text):

@@ -114,5 +114,5 @@ def base(**changed):
     inputs = {"policy": filled(POLICY), "layout": layout(),
               "links": folder([("build.alice.link", link("alice"))]),
               "provenance": signed("builder", filled(STATEMENT)) + "\n",
-              "sums": SUMS, "at": MOMENT, "depth": 4}
+              "sums": SUMS, "at": MOMENT, "depth": 4, "records": []}
     return {**inputs, **changed}

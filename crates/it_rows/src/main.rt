@@ -1,62 +1,28 @@
-//! `it_rows FILE..`: whether the libraries of patterns, digests, envelopes and documents answer
-//! each row of some tables as the row says.
+//! `it_rows TABLE..`: whether the libraries, the commands, whole runs of the program and whole
+//! verifications come to what the lines of tables say.
 //!
-//! A row's member `call` names the call, first its subject; the other members are what it takes.
+//! A line is a row, whose member `call` names what is called, or a case, which is a whole
+//! verification. Writes each line that differs, and how many agree.
 #![tactic(auto)]
 
-mod artifacts;
-mod codes;
-mod digests;
-mod documents;
-mod envelopes;
-mod layouts;
-mod links;
-mod parts;
-mod patterns;
-mod policies;
-mod rings;
-mod rules;
-mod signers;
-mod statements;
-mod told;
-mod trees;
-mod writing;
+mod calls;
+mod cases;
+mod commands;
+mod devices;
+mod fault;
+mod outcome;
+mod reports;
+mod row;
+mod row_fault;
+mod runs;
+mod tables;
+mod values;
+mod verify;
 
-use it_tables::{Answers, RowFault, run_tables, text_in};
-use serde_json::Value;
-use std::alloc::Global;
+use runs::Runs;
 use std::process::ExitCode;
+use tables::run_tables;
 
 fn main(rt: HostRuntime) -> ExitCode {
-    run_tables(&rt, "it_rows", &Rows)
-}
-
-/// Answers the rows by the libraries.
-struct Rows;
-
-impl Answers for Rows {
-    fn answer(&self, alloc: Global, row: &Value) -> Result<String, RowFault> {
-        let (subject, call) = text_in(row, "call")?
-            .split_once(' ')
-            .ok_or(RowFault::UnknownCall)?;
-        match subject {
-            "pattern" => patterns::answer(alloc, call, row),
-            "document" => documents::answer(alloc, call, row),
-            "part" => parts::answer(alloc, call, row),
-            "writing" => writing::answer(alloc, call, row),
-            "digest" => digests::answer(alloc, call, row),
-            "artifacts" => artifacts::answer(alloc, call, row),
-            "envelope" => envelopes::answer(alloc, call, row),
-            "code" => codes::answer(alloc, call, row),
-            "ring" => rings::answer(alloc, call, row),
-            "signers" => signers::answer(alloc, call, row),
-            "rule" => rules::answer(alloc, call, row),
-            "link" => links::answer(alloc, call, row),
-            "layout" => layouts::answer(alloc, call, row),
-            "policy" => policies::answer(alloc, call, row),
-            "statement" => statements::answer(alloc, call, row),
-            "tree" => trees::answer(alloc, call, row),
-            _ => Err(RowFault::UnknownCall),
-        }
-    }
+    run_tables(&rt, &Runs::of(&rt))
 }

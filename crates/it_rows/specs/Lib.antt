@@ -1,0 +1,7 @@
+pub mod Agreement
+pub mod Answer
+pub mod Notes
+pub mod Outcome
+pub mod Part
+pub mod Reading
+pub mod Status

@@ -1,0 +1,48 @@
+//! The files and folders of a case.
+use crate::cases::parts::pair;
+use crate::row::bytes_of;
+use crate::row_fault::RowFault;
+use it_base::document::member;
+use it_chain::bundle::{Bundle, BundleFault};
+use serde_json::Value;
+use std::alloc::Global;
+
+/// How deep folders may lie.
+const MOST_DEPTH: u8 = 32;
+
+const BAD: RowFault = RowFault::BadMember("links");
+
+/// The files and folders that the member `links` of a case tells.
+pub(crate) fn read_links(alloc: Global, links: &Value) -> Result<Bundle, RowFault> {
+    read_folder(alloc, links, MOST_DEPTH)
+}
+
+/// What one folder holds, down to `depth` levels below it.
+fn read_folder(alloc: Global, folder: &Value, depth: u8) -> Result<Bundle, RowFault> {
+    let mut bundle = Bundle::new(alloc);
+    add_files(alloc, &mut bundle, folder)?;
+    for item in list(folder, "folders")? {
+        let (name, inner) = pair(item).ok_or(BAD)?;
+        let below = depth.checked_sub(1).ok_or(BAD)?;
+        let inner = read_folder(alloc, inner, below)?;
+        match bundle.add_dir(String::from_str(alloc, name)?, inner) {
+            Ok(()) => {}
+            Err(BundleFault::NameTaken(_)) => return Err(BAD),
+            Err(BundleFault::OutOfMemory) => return Err(RowFault::OutOfMemory),
+        }
+    }
+    Ok(bundle)
+}
+
+fn add_files(alloc: Global, bundle: &mut Bundle, folder: &Value) -> Result<(), RowFault> {
+    for item in list(folder, "files")? {
+        let (name, content) = pair(item).ok_or(BAD)?;
+        let bytes = bytes_of(alloc, content)?.ok_or(BAD)?;
+        bundle.add_file(String::from_str(alloc, name)?, bytes.into_vec())?;
+    }
+    Ok(())
+}
+
+fn list<'v>(folder: &'v Value, name: &str) -> Result<&'v Vec<Value>, RowFault> {
+    member(folder, name).and_then(Value::as_array).ok_or(BAD)
+}

@@ -1,0 +1,86 @@
+//! The commands that look at no documents: a pattern, what is signed, and a digest.
+use crate::commands::devices::{ended, pipe_of};
+use crate::devices::Source;
+use crate::row::{bytes_in, number_in, text_in};
+use crate::row_fault::RowFault;
+use it_commands::{run_digest, run_match, run_pae};
+use serde_json::Value;
+use std::alloc::Global;
+use std::str;
+
+/// How it ends where it is asked whether the `pattern` matches the `path`.
+///
+/// # Errors
+///
+/// `BadMember` where a member is missing or unfit; `OutOfMemory` where memory was refused.
+pub(crate) fn matches(alloc: Global, row: &Value) -> Result<String, RowFault> {
+    let pattern = text_in(row, "pattern")?;
+    let path = text_in(row, "path")?;
+    let mut pipe = pipe_of(alloc, row)?;
+    let outcome = run_match(alloc, pattern, path, &mut pipe);
+    ended(alloc, &outcome, &pipe)
+}
+
+/// How it ends where what is signed is written, for the `type` and the `body`.
+///
+/// # Errors
+///
+/// `BadMember` where a member is missing or unfit; `OutOfMemory` where memory was refused.
+pub(crate) fn pae(alloc: Global, row: &Value) -> Result<String, RowFault> {
+    let kind = text_in(row, "type")?;
+    let body = bytes_in(alloc, row, "body")?;
+    let mut pipe = pipe_of(alloc, row)?;
+    let outcome = run_pae(alloc, kind, body.as_slice(), &mut pipe);
+    ended(alloc, &outcome, &pipe)
+}
+
+/// How it ends where the line is written of the file with this `path`, which holds the `input`,
+/// where files may have so many bytes: the `limit`.
+///
+/// # Errors
+///
+/// `BadMember` where a member is missing or unfit; `OutOfMemory` where memory was refused.
+pub(crate) fn digest(alloc: Global, row: &Value) -> Result<String, RowFault> {
+    let path = text_in(row, "path")?;
+    let limit = number_in(row, "limit")?;
+    let input = bytes_in(alloc, row, "input")?;
+    let mut pipe = pipe_of(alloc, row)?;
+    let outcome = run_digest(alloc, path, &mut input.as_slice(), limit, &mut pipe);
+    ended(alloc, &outcome, &pipe)
+}
+
+/// What is left of the `input` where its line is written, or is not.
+///
+/// # Errors
+///
+/// `BadMember` where a member is missing or unfit; `OutOfMemory` where memory was refused.
+pub(crate) fn digest_unread(alloc: Global, row: &Value) -> Result<String, RowFault> {
+    let path = text_in(row, "path")?;
+    let limit = number_in(row, "limit")?;
+    let mut input = text_in(row, "input")?.as_bytes();
+    let mut pipe = pipe_of(alloc, row)?;
+    let _ = run_digest(alloc, path, &mut input, limit, &mut pipe);
+    let left = str::from_utf8(input)
+        .ok()
+        .ok_or(RowFault::BadMember("input"))?;
+    Ok(String::from_str(alloc, left)?)
+}
+
+/// How it ends where the file's reader fails at the read with the number `fails_at`, counted from
+/// 1.
+///
+/// # Errors
+///
+/// `BadMember` where a member is missing or unfit; `OutOfMemory` where memory was refused.
+pub(crate) fn digest_of_broken(alloc: Global, row: &Value) -> Result<String, RowFault> {
+    let path = text_in(row, "path")?;
+    let limit = number_in(row, "limit")?;
+    let mut input = Source {
+        bytes: number_in(row, "bytes")?,
+        reads: 0,
+        fails_at: Some(number_in(row, "fails_at")?),
+    };
+    let mut pipe = pipe_of(alloc, row)?;
+    let outcome = run_digest(alloc, path, &mut input, limit, &mut pipe);
+    ended(alloc, &outcome, &pipe)
+}

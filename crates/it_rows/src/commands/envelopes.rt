@@ -1,0 +1,108 @@
+//! The commands on envelopes: their signing, who signed them, and their payloads.
+use crate::commands::devices::{ended, pipe_of};
+use crate::devices::Pipe;
+use crate::row::{bytes_in, text_in};
+use crate::row_fault::RowFault;
+use it_commands::{run_payload, run_sign, run_sign_onto, run_signed};
+use it_dsse::check::SignatureCheck;
+use it_dsse::ring::{HmacRing, RingFault};
+use it_dsse::signing::NewSignature;
+use it_outcome::{RunFault, Status};
+use serde_json::Value;
+use std::alloc::Global;
+
+/// The `ring` of a row.
+fn ring_of(alloc: Global, row: &Value) -> Result<HmacRing, RowFault> {
+    match HmacRing::read(alloc, text_in(row, "ring")?.as_bytes()) {
+        Ok(ring) => Ok(ring),
+        Err(RingFault::OutOfMemory) => Err(RowFault::OutOfMemory),
+        Err(RingFault::BadRing) => Err(RowFault::BadMember("ring")),
+    }
+}
+
+/// How it ends where the `body` of the `type` is signed under the `id` of the `ring`.
+///
+/// # Errors
+///
+/// `BadMember` where a member is missing or unfit; `OutOfMemory` where memory was refused.
+pub(crate) fn sign(alloc: Global, row: &Value) -> Result<String, RowFault> {
+    let ring = ring_of(alloc, row)?;
+    let body = bytes_in(alloc, row, "body")?;
+    let id = text_in(row, "id")?;
+    let kind = text_in(row, "type")?;
+    let mut pipe = pipe_of(alloc, row)?;
+    let outcome = run_sign(alloc, &ring, id, kind, body.as_slice(), &mut pipe);
+    ended(alloc, &outcome, &pipe)
+}
+
+/// How it ends where the signature under the `id` of the `ring` is added to the `envelope` of the
+/// `body` of the `type`.
+///
+/// # Errors
+///
+/// `BadMember` where a member is missing or unfit; `OutOfMemory` where memory was refused.
+pub(crate) fn onto(alloc: Global, row: &Value) -> Result<String, RowFault> {
+    let mut pipe = pipe_of(alloc, row)?;
+    let outcome = add_signature(alloc, row, &mut pipe)?;
+    ended(alloc, &outcome, &pipe)
+}
+
+fn add_signature(
+    alloc: Global,
+    row: &Value,
+    pipe: &mut Pipe,
+) -> Result<Result<Status, RunFault>, RowFault> {
+    let envelope = text_in(row, "envelope")?;
+    let body = bytes_in(alloc, row, "body")?;
+    let ring = ring_of(alloc, row)?;
+    let signature = NewSignature {
+        ring: &ring,
+        id: text_in(row, "id")?,
+        kind: text_in(row, "type")?,
+        body: body.as_slice(),
+    };
+    Ok(run_sign_onto(alloc, &signature, envelope.as_bytes(), pipe))
+}
+
+/// How it ends where it is asked who of the `ring` signed the `envelope`.
+///
+/// # Errors
+///
+/// `BadMember` where a member is missing or unfit; `OutOfMemory` where memory was refused.
+pub(crate) fn signed(alloc: Global, row: &Value) -> Result<String, RowFault> {
+    let mut pipe = pipe_of(alloc, row)?;
+    let outcome = name_signers(alloc, row, &mut pipe)?;
+    ended(alloc, &outcome, &pipe)
+}
+
+fn name_signers(
+    alloc: Global,
+    row: &Value,
+    pipe: &mut Pipe,
+) -> Result<Result<Status, RunFault>, RowFault> {
+    let envelope = text_in(row, "envelope")?;
+    let ring = ring_of(alloc, row)?;
+    let ids = ring.ids(alloc)?;
+    let mut panel: Vec<Box<dyn SignatureCheck>> = Vec::new(alloc);
+    panel.push(Box::new(alloc, ring)?)?;
+    let outcome = run_signed(
+        alloc,
+        envelope.as_bytes(),
+        ids.as_slice(),
+        panel.as_slice(),
+        pipe,
+    );
+    Ok(outcome)
+}
+
+/// How it ends where the payload of the `envelope` is written.
+///
+/// # Errors
+///
+/// `BadMember` where a member is missing or unfit; `OutOfMemory` where memory was refused.
+pub(crate) fn payload(alloc: Global, row: &Value) -> Result<String, RowFault> {
+    let envelope = text_in(row, "envelope")?;
+    let mut pipe = pipe_of(alloc, row)?;
+    let outcome = run_payload(alloc, envelope.as_bytes(), &mut pipe);
+    ended(alloc, &outcome, &pipe)
+}

@@ -1,0 +1,65 @@
+//! Members of a row that may be missing, and lists of texts.
+use crate::row::{bytes_in, list_in, number_in, text_in};
+use crate::row_fault::RowFault;
+use it_base::document::member;
+use serde_json::Value;
+use std::alloc::Global;
+
+/// The text that the member of this name is, where there is one.
+///
+/// # Errors
+///
+/// `BadMember` where it is no text.
+pub(crate) fn text_if<'r>(row: &'r Value, name: &'static str) -> Result<Option<&'r str>, RowFault> {
+    match member(row, name) {
+        Some(_) => Ok(Some(text_in(row, name)?)),
+        None => Ok(None),
+    }
+}
+
+/// The bytes that the member of this name is, where there is one.
+///
+/// # Errors
+///
+/// `BadMember` where it is neither a text nor hexadecimal digits; `OutOfMemory` where memory was
+/// refused.
+pub(crate) fn bytes_if(
+    alloc: Global,
+    row: &Value,
+    name: &'static str,
+) -> Result<Option<Vec<u8>>, RowFault> {
+    match member(row, name) {
+        Some(_) => Ok(Some(bytes_in(alloc, row, name)?)),
+        None => Ok(None),
+    }
+}
+
+/// The number of bytes that the member of this name is, or the greatest where there is none.
+///
+/// # Errors
+///
+/// `BadMember` where it is no number.
+pub(crate) fn count_or_most(row: &Value, name: &'static str) -> Result<usize, RowFault> {
+    match member(row, name) {
+        Some(_) => Ok(number_in(row, name)? as usize),
+        None => Ok(usize::MAX),
+    }
+}
+
+/// Copies of the texts that the items of the member of this name are.
+///
+/// # Errors
+///
+/// `BadMember` where there is none, or an item is no text; `OutOfMemory` where memory was refused.
+pub(crate) fn texts_in(
+    alloc: Global,
+    row: &Value,
+    name: &'static str,
+) -> Result<Vec<String>, RowFault> {
+    let mut texts = Vec::new(alloc);
+    for item in list_in(row, name)? {
+        let text = item.as_str().ok_or(RowFault::BadMember(name))?;
+        texts.push(String::from_str(alloc, text)?)?;
+    }
+    Ok(texts)
+}

@@ -1,0 +1,106 @@
+//! Digests: how sets of them compare, and the SHA-256 of what a reader gives.
+use crate::devices::Source;
+use crate::row::{bytes_in, member_in, number_in};
+use crate::row_fault::RowFault;
+use it_base::document::member;
+use it_digest::compare::DigestSet;
+use it_digest::digest::digest_set;
+use it_digest::reader::sha256_of_reader;
+use serde_json::Value;
+use std::alloc::{AllocError, Global};
+
+/// What a call on digests answers.
+pub(crate) fn answer(alloc: Global, call: &str, row: &Value) -> Result<String, RowFault> {
+    match call {
+        "compare" => compare(alloc, digests_in(row, "one")?, digests_in(row, "other")?),
+        "compare filled" => compare(alloc, filled_in(row, "one")?, filled_in(row, "other")?),
+        "of bytes" => of_bytes(alloc, row),
+        "of source" => of_source(alloc, row),
+        _ => Err(RowFault::UnknownCall),
+    }
+}
+
+/// The digest set that a member is.
+///
+/// # Errors
+///
+/// `BadMember` where it is none.
+pub(crate) fn digests_in(row: &Value, name: &'static str) -> Result<DigestSet, RowFault> {
+    digest_set(member_in(row, name)?).ok_or(RowFault::BadMember(name))
+}
+
+/// The digest set whose digests are filled each with the byte that the member says.
+fn filled_in(row: &Value, name: &'static str) -> Result<DigestSet, RowFault> {
+    let set = member_in(row, name)?;
+    Ok(DigestSet {
+        sha256: filled::<32>(set, "sha256"),
+        sha384: filled::<48>(set, "sha384"),
+        sha512: filled::<64>(set, "sha512"),
+    })
+}
+
+fn filled<const N: usize>(set: &Value, name: &str) -> Option<[u8; N]> {
+    let byte = u8::try_from(member(set, name)?.as_u64()?).ok()?;
+    Some([byte; N])
+}
+
+/// How two sets compare, each with the other: once where that is the same.
+fn compare(alloc: Global, one: DigestSet, other: DigestSet) -> Result<String, RowFault> {
+    let there = one.compare(&other);
+    let back = other.compare(&one);
+    if there == back {
+        Ok(format!(in alloc; "{there:?}")?)
+    } else {
+        Ok(format!(in alloc; "{there:?} and {back:?}")?)
+    }
+}
+
+/// The digests of a set, each with its algorithm.
+///
+/// # Errors
+///
+/// Memory was refused.
+pub(crate) fn told(alloc: Global, set: &DigestSet) -> Result<String, AllocError> {
+    let mut text = String::new(alloc);
+    push_digest(alloc, &mut text, " sha256=", &set.sha256)?;
+    push_digest(alloc, &mut text, " sha384=", &set.sha384)?;
+    push_digest(alloc, &mut text, " sha512=", &set.sha512)?;
+    Ok(text)
+}
+
+fn push_digest<const N: usize>(
+    alloc: Global,
+    text: &mut String,
+    name: &str,
+    digest: &Option<[u8; N]>,
+) -> Result<(), AllocError> {
+    if let Some(bytes) = digest {
+        text.push_str(name)?;
+        text.push_str(hex::encode(alloc, bytes.as_slice())?.as_str())?;
+    }
+    Ok(())
+}
+
+/// The SHA-256 of some bytes, as many times as the row says, by a reader with a limit.
+fn of_bytes(alloc: Global, row: &Value) -> Result<String, RowFault> {
+    let times = member(row, "times").and_then(Value::as_u64).unwrap_or(1);
+    let bytes = bytes_in(alloc, row, "bytes")?
+        .as_slice()
+        .repeat(alloc, times as usize)?;
+    let mut reader = bytes.as_slice();
+    match sha256_of_reader(&mut reader, number_in(row, "limit")?) {
+        Ok(digest) => Ok(hex::encode(alloc, digest.as_slice())?),
+        Err(fault) => Ok(format!(in alloc; "{fault:?}")?),
+    }
+}
+
+/// The fault of reading a source of so many bytes with a limit, and how many reads there were.
+fn of_source(alloc: Global, row: &Value) -> Result<String, RowFault> {
+    let mut source = Source {
+        bytes: number_in(row, "bytes")?,
+        reads: 0,
+        fails_at: member(row, "fails_at").and_then(Value::as_u64),
+    };
+    let fault = sha256_of_reader(&mut source, number_in(row, "limit")?).err();
+    Ok(format!(in alloc; "{fault:?} at read {}", source.reads)?)
+}

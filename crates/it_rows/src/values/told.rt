@@ -1,0 +1,46 @@
+//! Answers in words, and what several calls take.
+use crate::row::list_in;
+use crate::row_fault::RowFault;
+use serde_json::Value;
+use std::alloc::Global;
+
+/// The text that was found, or `none`.
+pub(crate) fn text_or_none(alloc: Global, found: Option<&str>) -> Result<String, RowFault> {
+    Ok(String::from_str(alloc, found.unwrap_or("none"))?)
+}
+
+/// The hexadecimal digits of the bytes that were found, or `none`.
+pub(crate) fn digits_or_none(alloc: Global, found: Option<&[u8]>) -> Result<String, RowFault> {
+    match found {
+        Some(bytes) => Ok(hex::encode(alloc, bytes)?),
+        None => text_or_none(alloc, None),
+    }
+}
+
+/// The texts, each with a semicolon behind it.
+pub(crate) fn joined(alloc: Global, texts: &[String]) -> Result<String, RowFault> {
+    let mut all = String::new(alloc);
+    for text in texts {
+        write!(all, "{text};")?;
+    }
+    Ok(all)
+}
+
+/// The texts of a list.
+///
+/// # Errors
+///
+/// `BadMember` where the member of this name is no list of texts; `OutOfMemory` where memory was
+/// refused.
+pub(crate) fn texts_in(
+    alloc: Global,
+    row: &Value,
+    name: &'static str,
+) -> Result<Vec<String>, RowFault> {
+    let mut texts = Vec::new(alloc);
+    for item in list_in(row, name)? {
+        let text = item.as_str().ok_or(RowFault::BadMember(name))?;
+        texts.push(String::from_str(alloc, text)?)?;
+    }
+    Ok(texts)
+}

@@ -1,4 +1,0 @@
-use Rattle.itv_cases.proofs.links.+read_folder.Given as goal
-
-abbrev pub decreases-read_folder : goal.decreases-read_folder
-decreases-read_folder l = l.depth

@@ -1,4 +1,3 @@
-pub mod FilesBelow
 pub mod Reading
 pub mod RingFlaw
 pub mod Shown

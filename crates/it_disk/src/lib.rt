@@ -1,5 +1,5 @@
 //! What stands at the paths that a command names: files up to a limit, rings and key objects,
-//! folders of links and of records, and all files below a folder; and why the program stops.
+//! folders of links and of records, and what stands in a folder; and why the program stops.
 //!
 //! No contract can say what a path holds. So what reads is generic in `Disk`, and a command above
 //! is proved for every relation between paths and what is read there (`Holdings`).
@@ -7,14 +7,12 @@
 //! ```
 //! let links = rt.links("links", 8, true)?;
 //! let ring = read_ring(rt, "ring.json")?;
-//! let files = files_at_each(rt, paths)?;
 //! ```
 #![tactic(auto)]
 
 mod disk;
 mod fault;
 mod files;
-mod files_below;
 mod folders;
 mod left_out;
 mod listing;
@@ -24,7 +22,6 @@ mod shown;
 pub use disk::Disk;
 pub use fault::Fault;
 pub use files::{bytes, bytes_if_given, read_keys, read_limited, read_ring};
-pub use files_below::files_at_each;
 pub use folders::{Kind, Links};
 pub use left_out::{LeftOut, TooMany, note_left_out, too_many};
 pub use listing::Listed;

@@ -50,8 +50,8 @@ use Rattle.it_words.specs.declared.words.sign_words.SignBy.{SignBy}
 use Rattle.it_words.specs.declared.words.sign_words.SignBy.TheVariants.{Ring as under_ring, Made}
 use Rattle.it_words.specs.declared.words.sign_words.SignWords.{SignWords}
 use Rattle.it_words.specs.declared.words.verify_words.VerifyWords.{VerifyWords}
-use Rattle.it_disk.specs.FilesBelow.{AreFilesAtEach}
 use Rattle.it_disk.specs.Reading.{Holdings, HoldsIfGiven, HoldsKeys, HoldsRing, IsGiven}
+use Rattle.it_files_below.specs.FilesBelow.{AreFilesAtEach}
 use Rattle.it_program.specs.Inputs.{AreInputs}
 
 -- the form that is asked for

@@ -1,7 +1,7 @@
 use Rattle.std.proofs.Common.{◌≡◌, ◌∙◌, ◌+◌, ◌∷◌, ◌++◌, [], ap, subst, sym, take}
 use Rattle.std.proofs.lemmas.List.{take_all, take_more}
-use Rattle.it_disk.specs.FilesBelow.{AreFilesAtEach, and_path, no_path}
-use Rattle.it_disk.proofs.files_below.files_at_each.Goals as goal
+use Rattle.it_files_below.specs.FilesBelow.{AreFilesAtEach, and_path, no_path}
+use Rattle.it_files_below.proofs.files_below.files_at_each.Goals as goal
 
 pub loop-path-init : goal.loop-path-init
 loop-path-init g c = rw c.new-files.ensures.items no_path

@@ -2,11 +2,11 @@ use Rattle.std.proofs.Common.{◌≡◌, ◌∙◌, ◌+◌, ◌∷◌, ◌++◌
 use Rattle.std.proofs.Common.{sym, take}
 use Rattle.std.proofs.lemmas.List.{take_more}
 use Rattle.std.specs.Path.{path_join}
-use Rattle.it_disk.specs.FilesBelow.{nothing}
-use Rattle.it_disk.proofs.FilesFound.{added_more, with_file, with_folder}
-use Rattle.it_disk.proofs.files_below.+find_files.Goals as goal
-use Rattle.it_disk.proofs.files_below.+find_files.Goals.{in-File+in_ok-add_file-in-File}
-use Rattle.it_disk.proofs.files_below.+find_files.Goals.{in-Folder+in-Some+in_ok-find_files-in-Folder}
+use Rattle.it_files_below.specs.FilesBelow.{nothing}
+use Rattle.it_files_below.proofs.FilesFound.{added_more, with_file, with_folder}
+use Rattle.it_files_below.proofs.files_below.+find_files.Goals as goal
+use Rattle.it_files_below.proofs.files_below.+find_files.Goals.{in-File+in_ok-add_file-in-File}
+use Rattle.it_files_below.proofs.files_below.+find_files.Goals.{in-Folder+in-Some+in_ok-find_files-in-Folder}
 
 pub loop-entry-init : goal.loop-entry-init
 loop-entry-init g t c = ([], nothing, sym (append-nil _))

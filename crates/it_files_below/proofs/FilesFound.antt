@@ -1,7 +1,7 @@
 -- One more entry of a folder, with its files.
 use Rattle.std.proofs.Common.{◌≡◌, ◌∙◌, ◌∷◌, ◌++◌, ℕ, List, [], append_assoc, ap, subst, sym}
 use Rattle.std.specs.Path.{path_join}
-use Rattle.it_disk.specs.FilesBelow.{HasFiles, HoldsFiles, and_file, and_folder}
+use Rattle.it_files_below.specs.FilesBelow.{HasFiles, HoldsFiles, and_file, and_folder}
 use Rattle.it_disk.specs.Reading.{Holdings}
 use Rattle.it_disk.specs.declared.folders.Kind.TheVariants.{File, Folder}
 use Rattle.it_disk.specs.declared.listing.Listed.{Listed}

@@ -1,6 +1,6 @@
 use Rattle.std.proofs.Common.{◌≡◌, ◌++◌, map, string_bytes}
 use Rattle.std.specs.Vec.Iter.{into_iter_items}
-use Rattle.it_disk.proofs.files_below.add_texts.Given as goal
+use Rattle.it_files_below.proofs.files_below.add_texts.Given as goal
 
 -- the texts that were yielded stand at the end
 abbrev pub invariant-loop-text : goal.invariant-loop-text

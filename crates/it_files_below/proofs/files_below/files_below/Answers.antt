@@ -1,5 +1,5 @@
 use Rattle.std.proofs.Common.{◌≡◌, ◌∙◌, ◌++◌, ◌↔◌, Contains, ap, map, string_bytes, subst}
-use Rattle.it_disk.proofs.files_below.files_below.Goals as goal
+use Rattle.it_files_below.proofs.files_below.files_below.Goals as goal
 
 pub returns : goal.returns
 returns g c =

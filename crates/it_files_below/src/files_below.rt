@@ -5,13 +5,10 @@ ghost use Rattle.std.specs.Cmp.Lexicographic.{slice_cmp};
 ghost use Rattle.std.specs.List.Sorted.{IsStrictlySortedBy};
 ghost use Rattle.std.specs.Ordering.{nat_cmp};
 ghost use Rattle.std.specs.Path.{path_join};
-ghost use Rattle.it_disk.specs.FilesBelow.{AreBelow, AreFilesAt, AreFilesAtEach, HoldsFiles};
+ghost use Rattle.it_files_below.specs.FilesBelow.{AreBelow, AreFilesAt, AreFilesAtEach, HoldsFiles};
 
-use crate::disk::Disk;
-use crate::fault::Fault;
-use crate::folders::Kind;
-use crate::shown::Shown;
 use it_base::text::Text;
+use it_disk::{Disk, Fault, Kind, Shown};
 use std::alloc::{AllocError, Global};
 use std::path::Path;
 

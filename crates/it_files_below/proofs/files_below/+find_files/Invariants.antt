@@ -1,6 +1,6 @@
 use Rattle.std.proofs.Common.{◌≡◌, ◌++◌, ℕ, List, map, string_bytes, take}
-use Rattle.it_disk.specs.FilesBelow.{HasFiles}
-use Rattle.it_disk.proofs.files_below.+find_files.Given as goal
+use Rattle.it_files_below.specs.FilesBelow.{HasFiles}
+use Rattle.it_files_below.proofs.files_below.+find_files.Given as goal
 
 abbrev pub decreases-find_files : goal.decreases-find_files
 decreases-find_files g l = l.levels

@@ -46,9 +46,14 @@ pub(crate) fn number_in(row: &Value, name: &'static str) -> Result<u64, RowFault
         .ok_or(RowFault::BadMember(name))
 }
 
+/// The whole number below 2^64 that the member of this name is, or `None` where there is none.
+pub(crate) fn number_if(row: &Value, name: &str) -> Option<u64> {
+    member(row, name)?.as_u64()
+}
+
 /// Whether the member of this name is there and true.
 pub(crate) fn is_set(row: &Value, name: &str) -> bool {
-    member(row, name).and_then(Value::as_bool) == Some(true)
+    matches!(member(row, name), Some(Value::Bool(true)))
 }
 
 /// The bytes that the member of this name is.

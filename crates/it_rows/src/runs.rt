@@ -47,7 +47,7 @@ impl Runs {
     /// What answers rows in the folder of the tables.
     pub(crate) fn of<R: Disk + AllocGlobal>(rt: &R) -> Runs {
         Runs {
-            shared: shared_files(rt).unwrap_or_default(),
+            shared: shared_files(rt).ok().flatten(),
         }
     }
 
@@ -159,7 +159,9 @@ fn shown(alloc: Global, ran: &Ran, lines: &str) -> Result<String, RowFault> {
 }
 
 fn text_of(bytes: &[u8]) -> Result<&str, RowFault> {
-    str::from_utf8(bytes).map_err(|_| RowFault::BadMember("gives"))
+    str::from_utf8(bytes)
+        .ok()
+        .ok_or(RowFault::BadMember("gives"))
 }
 
 /// What is said of a command whose output goes where nothing is taken, after its exit status.
@@ -199,7 +201,9 @@ fn told_words(alloc: Global, row: &Value) -> Result<String, RowFault> {
 /// What is read of a file up to a limit, or that it has too many bytes.
 fn told_read(alloc: Global, row: &Value) -> Result<String, RowFault> {
     let limit = number_in(row, "limit")?;
-    let limit = u32::try_from(limit).map_err(|_| RowFault::BadMember("limit"))?;
+    let limit = u32::try_from(limit)
+        .ok()
+        .ok_or(RowFault::BadMember("limit"))?;
     let room = number_in(row, "room")? as usize;
     let Node::File(file) = node_in(alloc, &[], row)? else {
         return Err(RowFault::BadMember("kind"));

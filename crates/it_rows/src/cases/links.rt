@@ -1,8 +1,7 @@
 //! The files and folders of a case.
 use crate::cases::parts::pair;
-use crate::row::bytes_of;
+use crate::row::{bytes_of, list_in};
 use crate::row_fault::RowFault;
-use it_base::document::member;
 use it_chain::bundle::{Bundle, BundleFault};
 use serde_json::Value;
 use std::alloc::Global;
@@ -21,7 +20,7 @@ pub(crate) fn read_links(alloc: Global, links: &Value) -> Result<Bundle, RowFaul
 fn read_folder(alloc: Global, folder: &Value, depth: u8) -> Result<Bundle, RowFault> {
     let mut bundle = Bundle::new(alloc);
     add_files(alloc, &mut bundle, folder)?;
-    for item in list(folder, "folders")? {
+    for item in list_in(folder, "folders")? {
         let (name, inner) = pair(item).ok_or(BAD)?;
         let below = depth.checked_sub(1).ok_or(BAD)?;
         let inner = read_folder(alloc, inner, below)?;
@@ -35,14 +34,10 @@ fn read_folder(alloc: Global, folder: &Value, depth: u8) -> Result<Bundle, RowFa
 }
 
 fn add_files(alloc: Global, bundle: &mut Bundle, folder: &Value) -> Result<(), RowFault> {
-    for item in list(folder, "files")? {
+    for item in list_in(folder, "files")? {
         let (name, content) = pair(item).ok_or(BAD)?;
         let bytes = bytes_of(alloc, content)?.ok_or(BAD)?;
         bundle.add_file(String::from_str(alloc, name)?, bytes.into_vec())?;
     }
     Ok(())
-}
-
-fn list<'v>(folder: &'v Value, name: &str) -> Result<&'v Vec<Value>, RowFault> {
-    member(folder, name).and_then(Value::as_array).ok_or(BAD)
 }

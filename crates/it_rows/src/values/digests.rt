@@ -1,6 +1,6 @@
 //! Digests: how sets of them compare, and the SHA-256 of what a reader gives.
 use crate::devices::Source;
-use crate::row::{bytes_in, member_in, number_in};
+use crate::row::{bytes_in, member_in, number_if, number_in};
 use crate::row_fault::RowFault;
 use it_base::document::member;
 use it_digest::compare::DigestSet;
@@ -83,7 +83,7 @@ fn push_digest<const N: usize>(
 
 /// The SHA-256 of some bytes, as many times as the row says, by a reader with a limit.
 fn of_bytes(alloc: Global, row: &Value) -> Result<String, RowFault> {
-    let times = member(row, "times").and_then(Value::as_u64).unwrap_or(1);
+    let times = number_if(row, "times").unwrap_or(1);
     let bytes = bytes_in(alloc, row, "bytes")?
         .as_slice()
         .repeat(alloc, times as usize)?;
@@ -99,7 +99,7 @@ fn of_source(alloc: Global, row: &Value) -> Result<String, RowFault> {
     let mut source = Source {
         bytes: number_in(row, "bytes")?,
         reads: 0,
-        fails_at: member(row, "fails_at").and_then(Value::as_u64),
+        fails_at: number_if(row, "fails_at"),
     };
     let fault = sha256_of_reader(&mut source, number_in(row, "limit")?).err();
     Ok(format!(in alloc; "{fault:?} at read {}", source.reads)?)

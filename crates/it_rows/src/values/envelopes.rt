@@ -54,7 +54,7 @@ fn signatures_told(alloc: Global, signatures: &[Signature]) -> Result<String, Al
 fn envelope_in(alloc: Global, row: &Value) -> Result<Envelope, RowFault> {
     let text = text_in(row, "text")?;
     let envelope = Envelope::read(alloc, text.as_bytes());
-    envelope.map_err(|_| RowFault::BadMember("text"))
+    envelope.ok().ok_or(RowFault::BadMember("text"))
 }
 
 fn written(alloc: Global, envelope: &Envelope) -> Result<String, RowFault> {

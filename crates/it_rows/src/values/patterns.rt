@@ -1,7 +1,6 @@
 //! Patterns: what they match, in how many steps, and what they lend.
-use crate::row::{number_in, text_in};
+use crate::row::{number_if, number_in, text_in};
 use crate::row_fault::RowFault;
-use it_base::document::member;
 use it_glob::Pattern;
 use serde_json::Value;
 use std::alloc::Global;
@@ -22,7 +21,7 @@ pub(crate) fn answer(alloc: Global, call: &str, row: &Value) -> Result<String, R
 
 /// The text of a member, as many times as the row's `times` says, or once.
 fn repeated(alloc: Global, row: &Value, name: &'static str) -> Result<String, RowFault> {
-    let times = member(row, "times").and_then(Value::as_u64).unwrap_or(1);
+    let times = number_if(row, "times").unwrap_or(1);
     Ok(text_in(row, name)?.repeat(alloc, times as usize)?)
 }
 

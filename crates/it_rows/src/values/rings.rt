@@ -35,7 +35,7 @@ fn ids(alloc: Global, text: &str) -> Result<String, RowFault> {
 ///
 /// `OutOfMemory` where memory was refused.
 pub(crate) fn known_ring(alloc: Global) -> Result<HmacRing, RowFault> {
-    ring_of(alloc, RING).map_err(|_| RowFault::OutOfMemory)
+    ring_of(alloc, RING).ok().ok_or(RowFault::OutOfMemory)
 }
 
 /// The number of the key of an id in a ring, under a scheme.
@@ -89,7 +89,9 @@ fn signature(alloc: Global, row: &Value) -> Result<String, RowFault> {
     let mut meter = Meter {
         asked: number_in(row, "asked")?,
     };
-    let key = u32::try_from(number_in(row, "key")?).map_err(|_| RowFault::BadMember("key"))?;
+    let key = u32::try_from(number_in(row, "key")?)
+        .ok()
+        .ok_or(RowFault::BadMember("key"))?;
     let valid = ring.valid(key, message.as_slice(), sig.as_slice(), &mut meter);
     Ok(format!(in alloc; "{valid}, {} asked", meter.asked)?)
 }

@@ -37,7 +37,7 @@ fn ring_named(alloc: Global, name: &Value) -> Result<HmacRing, RowFault> {
         Some("carol and another alice") => CAROL_AND_ANOTHER_ALICE,
         _ => return Err(RowFault::BadMember("panel")),
     };
-    ring_of(alloc, text).map_err(|_| RowFault::OutOfMemory)
+    ring_of(alloc, text).ok().ok_or(RowFault::OutOfMemory)
 }
 
 /// The code of the body under a secret.

@@ -12,6 +12,7 @@ mod devices;
 mod fault;
 mod outcome;
 mod reports;
+mod rings;
 mod row;
 mod row_fault;
 mod runs;

@@ -107,3 +107,21 @@ pub(crate) fn list_in<'r>(row: &'r Value, name: &'static str) -> Result<&'r [Val
         None => Err(RowFault::BadMember(name)),
     }
 }
+
+/// Copies of the texts that the items of the member of this name are.
+///
+/// # Errors
+///
+/// `BadMember` where there is none, or an item is no text; `OutOfMemory` where memory was refused.
+pub(crate) fn texts_in(
+    alloc: Global,
+    row: &Value,
+    name: &'static str,
+) -> Result<Vec<String>, RowFault> {
+    let mut texts = Vec::new(alloc);
+    for item in list_in(row, name)? {
+        let text = item.as_str().ok_or(RowFault::BadMember(name))?;
+        texts.push(String::from_str(alloc, text)?)?;
+    }
+    Ok(texts)
+}

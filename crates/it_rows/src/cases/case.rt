@@ -15,13 +15,14 @@ use crate::cases::links::read_links;
 use crate::cases::parts::{named_part, number_part, text_part};
 use crate::cases::run::Run;
 use crate::cases::wanted::Wanted;
+use crate::rings::read_ring;
 use crate::row::{bytes_of, bytes_part, member_in};
 use crate::row_fault::RowFault;
 use it_base::document::member;
 use it_base::sequence::Sequence;
 use it_base::text::Text;
 use it_dsse::check::SignatureCheck;
-use it_dsse::ring::{HmacRing, RingFault};
+use it_dsse::ring::HmacRing;
 use it_public_keys::any_check::{AnyCheck, checks_of};
 use it_public_keys::{PublicKeys, table_if};
 use it_verify::inputs::Inputs;
@@ -184,7 +185,7 @@ fn rings(alloc: Global, case: &Value) -> Result<Vec<HmacRing>, RowFault> {
     let mut rings = Vec::new(alloc);
     for ring in member_in(case, "rings")?.as_array().ok_or(BAD_RINGS)? {
         let bytes = bytes_of(alloc, ring)?.ok_or(BAD_RINGS)?;
-        rings.push(read_ring(alloc, bytes.as_slice())?)?;
+        rings.push(read_ring(alloc, bytes.as_slice(), "rings")?)?;
     }
     Ok(rings)
 }
@@ -194,14 +195,5 @@ fn public_keys(case: &Value) -> Result<bool, RowFault> {
     match member(case, "public_keys") {
         Some(value) => value.as_bool().ok_or(RowFault::BadMember("public_keys")),
         None => Ok(false),
-    }
-}
-
-/// The ring that the bytes are.
-fn read_ring(alloc: Global, bytes: &[u8]) -> Result<HmacRing, RowFault> {
-    match HmacRing::read(alloc, bytes) {
-        Ok(ring) => Ok(ring),
-        Err(RingFault::BadRing) => Err(BAD_RINGS),
-        Err(RingFault::OutOfMemory) => Err(RowFault::OutOfMemory),
     }
 }

@@ -1,24 +1,15 @@
 //! The commands on envelopes: their signing, who signed them, and their payloads.
 use crate::commands::devices::{ended, pipe_of};
 use crate::devices::Pipe;
+use crate::rings::ring_in;
 use crate::row::{bytes_in, text_in};
 use crate::row_fault::RowFault;
 use it_commands::{run_payload, run_sign, run_sign_onto, run_signed};
 use it_dsse::check::SignatureCheck;
-use it_dsse::ring::{HmacRing, RingFault};
 use it_dsse::signing::NewSignature;
 use it_outcome::{RunFault, Status};
 use serde_json::Value;
 use std::alloc::Global;
-
-/// The `ring` of a row.
-fn ring_of(alloc: Global, row: &Value) -> Result<HmacRing, RowFault> {
-    match HmacRing::read(alloc, text_in(row, "ring")?.as_bytes()) {
-        Ok(ring) => Ok(ring),
-        Err(RingFault::OutOfMemory) => Err(RowFault::OutOfMemory),
-        Err(RingFault::BadRing) => Err(RowFault::BadMember("ring")),
-    }
-}
 
 /// How it ends where the `body` of the `type` is signed under the `id` of the `ring`.
 ///
@@ -26,7 +17,7 @@ fn ring_of(alloc: Global, row: &Value) -> Result<HmacRing, RowFault> {
 ///
 /// `BadMember` where a member is missing or unfit; `OutOfMemory` where memory was refused.
 pub(crate) fn sign(alloc: Global, row: &Value) -> Result<String, RowFault> {
-    let ring = ring_of(alloc, row)?;
+    let ring = ring_in(alloc, row)?;
     let body = bytes_in(alloc, row, "body")?;
     let id = text_in(row, "id")?;
     let kind = text_in(row, "type")?;
@@ -54,7 +45,7 @@ fn add_signature(
 ) -> Result<Result<Status, RunFault>, RowFault> {
     let envelope = text_in(row, "envelope")?;
     let body = bytes_in(alloc, row, "body")?;
-    let ring = ring_of(alloc, row)?;
+    let ring = ring_in(alloc, row)?;
     let signature = NewSignature {
         ring: &ring,
         id: text_in(row, "id")?,
@@ -81,7 +72,7 @@ fn name_signers(
     pipe: &mut Pipe,
 ) -> Result<Result<Status, RunFault>, RowFault> {
     let envelope = text_in(row, "envelope")?;
-    let ring = ring_of(alloc, row)?;
+    let ring = ring_in(alloc, row)?;
     let ids = ring.ids(alloc)?;
     let mut panel: Vec<Box<dyn SignatureCheck>> = Vec::new(alloc);
     panel.push(Box::new(alloc, ring)?)?;

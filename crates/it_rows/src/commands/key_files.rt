@@ -1,6 +1,7 @@
 //! The file of keys that `itv key` writes.
 use crate::commands::devices::{ended, pipe_of};
-use crate::commands::members::{text_if, texts_in};
+use crate::commands::members::text_if;
+use crate::row::texts_in;
 use crate::row_fault::RowFault;
 use it_key_commands::run_key;
 use serde_json::Value;

@@ -1,5 +1,5 @@
-//! Members of a row that may be missing, and lists of texts.
-use crate::row::{bytes_in, list_in, number_in, text_in};
+//! Members of a row that may be missing.
+use crate::row::{bytes_in, number_in, text_in};
 use crate::row_fault::RowFault;
 use it_base::document::member;
 use serde_json::Value;
@@ -44,22 +44,4 @@ pub(crate) fn count_or_most(row: &Value, name: &'static str) -> Result<usize, Ro
         Some(_) => Ok(number_in(row, name)? as usize),
         None => Ok(usize::MAX),
     }
-}
-
-/// Copies of the texts that the items of the member of this name are.
-///
-/// # Errors
-///
-/// `BadMember` where there is none, or an item is no text; `OutOfMemory` where memory was refused.
-pub(crate) fn texts_in(
-    alloc: Global,
-    row: &Value,
-    name: &'static str,
-) -> Result<Vec<String>, RowFault> {
-    let mut texts = Vec::new(alloc);
-    for item in list_in(row, name)? {
-        let text = item.as_str().ok_or(RowFault::BadMember(name))?;
-        texts.push(String::from_str(alloc, text)?)?;
-    }
-    Ok(texts)
 }

@@ -1,8 +1,8 @@
 //! Who signed an envelope, as a panel of rings finds it.
-use crate::row::{list_in, text_in};
+use crate::row::{list_in, text_in, texts_in};
 use crate::row_fault::RowFault;
 use crate::values::signing_ring::{RING, object_of, ring_of};
-use crate::values::told::{joined, texts_in};
+use crate::values::told::joined;
 use it_base::sequence::Sequence;
 use it_base::text::Text;
 use it_dsse::check::SignatureCheck;

@@ -1,7 +1,5 @@
-//! Answers in words, and what several calls take.
-use crate::row::list_in;
+//! Answers in words.
 use crate::row_fault::RowFault;
-use serde_json::Value;
 use std::alloc::Global;
 
 /// The text that was found, or `none`.
@@ -24,23 +22,4 @@ pub(crate) fn joined(alloc: Global, texts: &[String]) -> Result<String, RowFault
         write!(all, "{text};")?;
     }
     Ok(all)
-}
-
-/// The texts of a list.
-///
-/// # Errors
-///
-/// `BadMember` where the member of this name is no list of texts; `OutOfMemory` where memory was
-/// refused.
-pub(crate) fn texts_in(
-    alloc: Global,
-    row: &Value,
-    name: &'static str,
-) -> Result<Vec<String>, RowFault> {
-    let mut texts = Vec::new(alloc);
-    for item in list_in(row, name)? {
-        let text = item.as_str().ok_or(RowFault::BadMember(name))?;
-        texts.push(String::from_str(alloc, text)?)?;
-    }
-    Ok(texts)
 }

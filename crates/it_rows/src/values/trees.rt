@@ -1,7 +1,6 @@
 //! What trees are equal, and what small types lend.
-use crate::row::{number_in, text_in};
+use crate::row::{number_in, text_in, texts_in};
 use crate::row_fault::RowFault;
-use crate::values::told::texts_in;
 use it_base::document::read_document;
 use it_base::parts::FromDocument;
 use it_docs::table::Table;

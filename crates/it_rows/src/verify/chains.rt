@@ -1,8 +1,9 @@
 //! What a chain holds, and where a refusal lies.
 use crate::cases::case::depth_in;
+use crate::rings::ring_in;
 use crate::row::{number_in, text_in};
 use crate::row_fault::RowFault;
-use crate::verify::inputs::{folder_in, ring_in};
+use crate::verify::inputs::folder_in;
 use it_chain::chain::{Chain, StepResult};
 use it_chain::refusal::{ChainError, ChainFault, ChainRefusal};
 use it_chain::verify_chain;

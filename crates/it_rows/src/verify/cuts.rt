@@ -2,9 +2,10 @@
 ghost use Rattle.std.specs.Prelude.{◌≡◌, OnOk};
 
 use crate::cases::case::inputs_in;
+use crate::rings::ring_in;
 use crate::row::text_in;
 use crate::row_fault::RowFault;
-use crate::verify::inputs::{length_in, ring_in};
+use crate::verify::inputs::length_in;
 use crate::verify::verifications::report_of;
 use it_base::sequence::Sequence;
 use it_base::text::Text;

@@ -1,9 +1,8 @@
-//! What rows give to verifications: lengths, folders of links, and rings.
+//! What rows give to verifications: lengths, and folders of links.
 use crate::cases::links::read_links;
-use crate::row::{member_in, number_in, text_in};
+use crate::row::{member_in, number_in};
 use crate::row_fault::RowFault;
 use it_chain::bundle::Bundle;
-use it_dsse::ring::HmacRing;
 use serde_json::Value;
 use std::alloc::Global;
 
@@ -12,14 +11,6 @@ pub(crate) fn length_in(row: &Value, name: &'static str) -> Result<usize, RowFau
     usize::try_from(number_in(row, name)?)
         .ok()
         .ok_or(RowFault::BadMember(name))
-}
-
-/// The ring of a row.
-pub(crate) fn ring_in(alloc: Global, row: &Value) -> Result<HmacRing, RowFault> {
-    let text = text_in(row, "ring")?;
-    HmacRing::read(alloc, text.as_bytes())
-        .ok()
-        .ok_or(RowFault::BadMember("ring"))
 }
 
 /// The files and folders that a member of a row tells, as a case does.

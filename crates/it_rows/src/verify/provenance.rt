@@ -1,7 +1,7 @@
 //! Which envelope the search for provenance finds, and how many signatures it tries.
+use crate::rings::ring_in;
 use crate::row::{list_in, text_in};
 use crate::row_fault::RowFault;
-use crate::verify::inputs::ring_in;
 use it_digest::compare::DigestSet;
 use it_docs::policy_reading::read_policy;
 use it_dsse::check::SignatureCheck;

@@ -2,9 +2,9 @@
 ghost use Rattle.std.specs.Prelude.{◌≤◌};
 
 use crate::cases::case::inputs_in;
+use crate::rings::ring_in;
 use crate::row::text_in;
 use crate::row_fault::RowFault;
-use crate::verify::inputs::ring_in;
 use crate::verify::verifications::report_by;
 use it_dsse::check::SignatureCheck;
 use it_dsse::key_object::KeyObject;

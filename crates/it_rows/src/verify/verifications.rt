@@ -2,8 +2,8 @@
 ghost use Rattle.std.specs.Prelude.{◌≤◌};
 
 use crate::cases::case::inputs_in;
+use crate::rings::ring_in;
 use crate::row_fault::RowFault;
-use crate::verify::inputs::ring_in;
 use it_dsse::check::SignatureCheck;
 use it_dsse::ring::HmacRing;
 use it_outcome::exit_of;

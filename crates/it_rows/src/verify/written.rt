@@ -1,9 +1,9 @@
 //! What is written where the output fails.
 use crate::cases::case::inputs_in;
 use crate::devices::{Full, Pipe};
+use crate::rings::ring_in;
 use crate::row::text_in;
 use crate::row_fault::RowFault;
-use crate::verify::inputs::ring_in;
 use crate::verify::verifications::text_of;
 use it_dsse::check::SignatureCheck;
 use it_outcome::{RunFault, Status};

@@ -10,7 +10,7 @@ use Rattle.it_public_keys.specs.AnyCheck.{checks_of}
 use Rattle.it_public_keys.specs.Collected.{IsTableFor}
 use Rattle.it_public_keys.specs.Keys.{Keys}
 use Rattle.it_rows.specs.Answer.{IsAnswer}
-use Rattle.it_rows.specs.Reading.{CaseOf}
+use Rattle.it_rows.specs.Cases.{CaseOf}
 use Rattle.it_rows.specs.declared.cases.answer.Answer.{Answer}
 use Rattle.it_rows.specs.declared.cases.case.Case.{Case}
 use Rattle.it_rows.specs.declared.cases.run.Run.{Run}

@@ -1,5 +1,6 @@
 pub mod Agreement
 pub mod Answer
+pub mod Cases
 pub mod Notes
 pub mod Outcome
 pub mod Part

@@ -7,7 +7,6 @@ use Rattle.it_base.specs.Text.{IsText}
 use Rattle.it_verify.specs.declared.inputs.Inputs.{Inputs}
 use Rattle.it_rows.specs.Notes.{IsNotes}
 use Rattle.it_rows.specs.Part.{IsBytes, IsNamed, IsNumber}
-use Rattle.it_rows.specs.declared.cases.case.Case.{Case}
 use Rattle.it_rows.specs.declared.cases.wanted.Wanted.{Wanted}
 
 -- the inputs, but for the files and folders, which the relation leaves open
@@ -25,9 +24,3 @@ pub record WantedOf (d : Data) (wanted : Wanted) : Type 0 where
   pub report : IsPart IsBytes (codes "report") d wanted.report
   pub status : IsPart IsNumber (codes "status") d wanted.status
   pub notes : IsPartOr IsNotes None (codes "notes") d wanted.notes
-
--- the case that a document is, but for the files and folders, and the rings
-pub record CaseOf (d : Data) (case : Case) : Type 0 where
-  pub name : IsPart IsText (codes "name") d case.name
-  pub inputs : InputsOf d case.inputs
-  pub wanted : WantedOf d case.wanted

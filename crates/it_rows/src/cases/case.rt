@@ -52,7 +52,7 @@ pub(crate) struct Case {
 
 impl Case {
     ghost use Rattle.it_rows.specs.Agreement.{IsRunOf};
-    ghost use Rattle.it_rows.specs.Reading.{CaseOf};
+    ghost use Rattle.it_rows.specs.Cases.{CaseOf};
 
     /// The case that a document is.
     ///

@@ -15,8 +15,9 @@ import tree
 
 CRATES = tree.TOP / "crates"
 NUMBER = r"(?P<figure>\d[\d,]*)"
-# The folders of tables that it_rows tries, beside the cases.
-OF_ROWS = ("values", "verify", "reports", "commands", "runs")
+# The folders of tables of rows, with the program that tries them.
+OF_ROWS = {"values": "it_rows", "reports": "it_rows", "commands": "it_rows",
+           "verify": "itv_cases", "runs": "itv_cases"}
 # The name of each figure with the pages that give it, each with the words around it.
 PLACES = [
     ("verify", "README.md", "the definitions, {} lines of them for the verdict"),
@@ -57,14 +58,15 @@ def counted():
 
     Kits of one logic prove the same, so the letter of the kit does not matter.
     """
-    graph, every = reach.Graph(), lines("it_rows", "cases/*.jsonl")
-    thrown, vectors = lines("it_rows", "cases/random-*.jsonl"), lines("it_vectors", "*.jsonl")
+    graph, every = reach.Graph(), lines("itv_cases", "cases/*.jsonl")
+    thrown, vectors = lines("itv_cases", "cases/random-*.jsonl"), lines("it_vectors", "*.jsonl")
     numbers = {"verify": lines_reached(graph, reach.VERIFY),
                "run_verify": lines_reached(graph, reach.VERIFYING),
                "public": lines_reached(graph, None),
                "cases": every, "random": thrown, "worked": every - thrown,
                "vectors": vectors,
-               **{f"rows of {name}": lines("it_rows", f"{name}/*.jsonl") for name in OF_ROWS}}
+               **{f"rows of {folder}": lines(program, f"{folder}/*.jsonl")
+                  for folder, program in OF_ROWS.items()}}
     found = {name: f"{number:,}" for name, number in numbers.items()}
     if shutil.which("rt"):
         ran = subprocess.run(["rt", "version"], stdout=subprocess.PIPE, text=True, check=True)

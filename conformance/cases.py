@@ -12,7 +12,7 @@ import lines
 sys.path.insert(0, str(lines.TOP / "bench"))
 from deliveries import MOMENT, compact, digest, layout, link, policy, signed, statement, step
 
-DATA = lines.TOP / "crates" / "it_rows" / "data" / "cases"
+DATA = lines.TOP / "crates" / "itv_cases" / "data" / "cases"
 PEOPLE = ["owner", "builder", "alice", "bob", "carol"]
 DELIVER = [["MATCH", "*", "WITH", "PRODUCTS", "FROM", "build"], ["DISALLOW", "*"]]
 

@@ -1,6 +1,7 @@
 pub mod Alphabets
 pub mod Decided
 pub mod Documents
+pub mod Elements
 pub mod Firsts
 pub mod Items
 pub mod ListDecided

@@ -6,8 +6,6 @@ use Rattle.std.proofs.Common.{inr, Contains, refl, sym, ap, subst, ◌∙◌, ar
 use Rattle.std.specs.FinMap.{get}
 use Rattle.std.specs.Bool.{◌==◌}
 use Rattle.std.proofs.lemmas.Bool.Decides.{Decides-eqb}
-use Rattle.std.specs.List.{AllZip}
-use Rattle.std.proofs.lemmas.List.{take_more}
 use Rattle.std.proofs.lemmas.Option.{same_Some}
 use Rattle.it_base.specs.Places.{IsFirst, NoneAt}
 use Rattle.it_base.proofs.Firsts.{first_before, first_behind, none_append}
@@ -105,20 +103,6 @@ module _ {P : Type 0} (At : P → ChainRefusal → Type 0) where
         → FailsAt At (flat_map f xs) e
     fails_at xs i x e below is before next =
         fails_next xs i x e below before (subst (λ y. FailsAt At (f y) e) is next)
-
-zip_snoc : {X Y : Type 0} (R : X → Y → Type 0) (xs : List X) (ys : List Y) (x : X) (y : Y)
-    → AllZip R xs ys → R x y → AllZip R (xs ++ x ∷ []) (ys ++ y ∷ [])
-zip_snoc R [] [] x y h r = (r, tt)
-zip_snoc R [] (z ∷ ys) x y h r = absurd h
-zip_snoc R (w ∷ xs) [] x y h r = absurd h
-zip_snoc R (w ∷ xs) (z ∷ ys) x y h r = (h.0, zip_snoc R xs ys x y h.1 r)
-
-pub zip_more : {X Y : Type 0} (R : X → Y → Type 0) (xs : List X) (i : ℕ) (x : X) (ys : List Y)
-    (y : Y) → i < length xs → x ≡ get_or xs i x → AllZip R (take i xs) ys → R x y
-    → AllZip R (take (i + 1) xs) (ys ++ y ∷ [])
-zip_more R xs i x ys y below is h r =
-    subst (λ zs. AllZip R zs (ys ++ y ∷ [])) (ap (λ z. take i xs ++ z ∷ []) is
-    ∙ sym (take_more xs i x below)) (zip_snoc R (take i xs) ys x y h r)
 
 -- ---- the level below
 module _ (setting : Setting) where

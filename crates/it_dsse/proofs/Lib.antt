@@ -7,7 +7,6 @@ pub mod Places
 pub mod RingIds
 pub mod Rings
 pub mod SignerSettled
-pub mod Sorting
 pub mod Tries
 pub mod Trying
 pub mod Vouching

@@ -1,26 +1,18 @@
 -- Values that are sorted by a text of theirs, and then freed from repeats.
-use Rattle.std.proofs.Common.{◌≡◌, ◌∙◌, ◌↔◌, ◌+◌, ◌<◌, ℕ, List, [], ◌∷◌, Bool, true, false, cond}
-use Rattle.std.proofs.Common.{Contains, IsPermutation, arith, length, map, nat_cmp, nat_eq, refl}
-use Rattle.std.proofs.Common.{ap, sym, subst}
+use Rattle.std.proofs.Common.{◌≡◌, ◌∙◌, ◌↔◌, ℕ, List, [], ◌∷◌, Bool, true, false, cond}
+use Rattle.std.proofs.Common.{Contains, IsPermutation, map, nat_cmp, nat_eq, refl}
+use Rattle.std.proofs.Common.{sym, subst}
 use Rattle.std.specs.Cmp.Lexicographic.{pointwise, slice_cmp, texts_ties}
 use Rattle.std.specs.Cmp.Lexicographic.{nat_list_cmp_total, nat_list_eq_equiv}
 use Rattle.std.specs.List.{dedup, dedup_from}
-use Rattle.std.specs.List.Sorted.{IsSorted, IsSortedBy, IsStrictlySortedBy}
+use Rattle.std.specs.List.Sorted.{IsSortedBy, IsStrictlySortedBy}
 use Rattle.std.specs.Ordering.{is_lt}
-use Rattle.std.proofs.lemmas.List.{get_or-map, length-map}
 use Rattle.std.proofs.lemmas.List.Kept.{Contains-dedup, Contains-from_dedup}
 use Rattle.std.proofs.lemmas.List.Kept.{IsStrictlySortedBy-dedup}
 use Rattle.std.proofs.lemmas.List.Sorted.{Contains-permutation, IsPermutation-map}
 use Rattle.std.proofs.lemmas.List.Sorted.{IsPermutation-sym}
 use Rattle.std.proofs.lemmas.Slice.Eq.{bytes_eq-Decides}
-
-sorted_map : {X Y : Type 0} (f : X → Y) (lt : Y → Y → Bool) (xs : List X)
-    → IsSortedBy (λ a b. lt (f a) (f b)) xs → IsSortedBy lt (map f xs)
-sorted_map f lt [] h k d low high = absurd (omega arith)
-sorted_map f lt (x ∷ xs) h k d low high =
-    let top : k + 1 < length (x ∷ xs) = rw length-map at high in
-    let here : k < length (x ∷ xs) = omega arith in
-    rw (get_or-map f (x ∷ xs) (k + 1) x d top, get_or-map f (x ∷ xs) k x d here) (h k x low top)
+use Rattle.it_base.proofs.Elements.{sorted_map}
 
 module _ {X Y : Type 0} (f : X → Y) (same : Y → Y → Bool) where
   map_either : (b : Bool) (xs ys : List X) → map f (cond b xs ys) ≡ cond b (map f xs) (map f ys)

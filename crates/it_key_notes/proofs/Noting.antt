@@ -1,9 +1,7 @@
 -- What makes the notes on key objects true.
-use Rattle.std.proofs.Common.{◌≡◌, ◌<◌, [], ◌∷◌, ◌++◌, ℕ, List, Option, Some, None, All, Contains}
-use Rattle.std.proofs.Common.{IfSome, MatchOption, get_or, length, subst, sym}
-use Rattle.std.specs.List.{cons_option}
+use Rattle.std.proofs.Common.{◌≡◌, ◌∷◌, ◌++◌, ℕ, List, Option, Some, None, Contains}
+use Rattle.std.proofs.Common.{IfSome, MatchOption, subst, sym}
 use Rattle.std.specs.FinMap.{entries, get}
-use Rattle.std.proofs.lemmas.List.Elements.{All-append, All-nil, All-push}
 use Rattle.std.proofs.lemmas.List.Elements.{Contains-append_right}
 use Rattle.it_base.proofs.Members.{in_head}
 use Rattle.it_base.specs.Table.{Named}
@@ -32,19 +30,8 @@ unknown_there panel objects id object note there is = record {
   is_unknown = subst (λ at. IsUnknown panel at object note) (sym is.id_is) is;
 }
 
--- a note more, where there is one
-pub kept_all : {X : Type 0} (P : X → Type 0) (xs : List X) (found : Option X) → All P xs
-    → IfSome found P → All P (xs ++ cons_option found [])
-kept_all P xs None all h = All-append P xs [] all (All-nil P)
-kept_all P xs (Some x) all h = All-push P xs x all h
-
 -- what is said of a note that there may be
 pub weaker_if : {X : Type 0} (P Q : X → Type 0) (known : Type 0) (found : Option X)
     → ((x : X) → P x → Q x) → MatchOption found known P → IfSome found Q
 weaker_if P Q known None more h = tt
 weaker_if P Q known (Some x) more h = more x h
-
--- an item that is read of a list stands in it
-pub contains_read : {X : Type 0} (xs : List X) (i : ℕ) (x : X) → i < length xs → x ≡ get_or xs i x
-    → Contains xs x
-contains_read xs i x below here = (i, below, sym here)

@@ -1,6 +1,6 @@
 -- What makes the notes on a layout true.
-use Rattle.std.proofs.Common.{◌≡◌, ℕ, ◌<◌, List, length, get_or, Option, Some, None, Bool, true}
-use Rattle.std.proofs.Common.{false, is_some, Contains, refl, sym}
+use Rattle.std.proofs.Common.{◌≡◌, List, Option, Some, None, Bool, true}
+use Rattle.std.proofs.Common.{false, is_some, Contains, refl}
 use Rattle.it_docs.specs.declared.layout.Layout.{Layout}
 use Rattle.it_docs.specs.declared.rule.Rule.{Rule}
 use Rattle.it_docs.specs.declared.rule.Side.{Side}
@@ -17,11 +17,6 @@ none_is (Some x) e = absurd (cc)
 -- what a test would have found does not hold where it fails
 pub not_so : (b : Bool) (P : Type 0) → (P → b ≡ true) → b ≡ false → ¬ P
 not_so b P found fails p = let finds = found p in absurd (cc)
-
--- an item that is read of a list stands in it
-pub contains_read : {X : Type 0} (xs : List X) (i : ℕ) (x : X) → i < length xs → x ≡ get_or xs i x
-    → Contains xs x
-contains_read xs i x below here = (i, below, sym here)
 
 -- the rules of a step, with all of it by its own name
 pub are_rules_of_step : (layout : Layout) (item : Item) (side of_side : Side) (rules : List Rule)

@@ -6,6 +6,7 @@ use Rattle.std.proofs.Math.Seq.{take-append_seam}
 use Rattle.std.proofs.lemmas.List.{length-append}
 use Rattle.std.specs.List.{slice_get}
 use Rattle.std.specs.Str.{IsUtf8}
+use Rattle.it_base.proofs.Elements.{at_length}
 use Rattle.it_base.specs.HexadecimalText.{hexadecimal_decoded}
 use Rattle.it_digest.specs.DigestSet.{only_sha256}
 use Rattle.it_digest.specs.Sums.{lines_of}
@@ -20,11 +21,6 @@ pub record Begins (bytes : List ℕ) (number : ℕ) (rest : List ℕ) : Type 0 w
 
 pub begins_first : (bytes : List ℕ) → Begins bytes 1 bytes
 begins_first bytes = record { before = []; lines_are = refl; number_is = refl }
-
-at_length : (before : List (List ℕ)) (line : List ℕ) (after : List (List ℕ))
-    → slice_get (before ++ line ∷ after) (length before) ≡ Some line
-at_length [] line after = refl
-at_length (x ∷ before) line after = at_length before line after
 
 module _ (bytes rest line after : List ℕ) (number : ℕ) (so_far : Begins bytes number rest)
     (next : lines_of rest ≡ line ∷ lines_of after) where

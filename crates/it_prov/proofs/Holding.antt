@@ -1,29 +1,12 @@
 -- Lists that stand side by side.
-use Rattle.std.proofs.Common.{◌≡◌, ◌+◌, ◌++◌, ◌<◌, ℕ, zero, suc, List, [], ◌∷◌, length, get_or}
-use Rattle.std.proofs.Common.{take, Some, inl, inr, Contains, refl, sym, ap}
-use Rattle.std.proofs.Common.{subst, arith, ◌∙◌}
+use Rattle.std.proofs.Common.{◌≡◌, ◌<◌, ℕ, zero, suc, List, [], ◌∷◌, length, get_or}
+use Rattle.std.proofs.Common.{Some, inl, inr, Contains, refl, sym, ap}
+use Rattle.std.proofs.Common.{subst, arith}
 use Rattle.std.specs.List.{AllZip, slice_get}
-use Rattle.std.proofs.lemmas.List.{take_more}
 use Rattle.std.proofs.lemmas.Option.{same_Some, slice_get_cases}
 use Rattle.it_base.proofs.Members.{in_cases, in_head, in_none, in_tail}
 
 module _ {A B : Type 0} (R : A → B → Type 0) where
-  zip_push : (xs : List A) (ys : List B) (x : A) (y : B) → AllZip R xs ys → R x y
-      → AllZip R (xs ++ x ∷ []) (ys ++ y ∷ [])
-  zip_push [] [] x y h r = (r, tt)
-  zip_push [] (b ∷ ys) x y h r = absurd h
-  zip_push (a ∷ xs) [] x y h r = absurd h
-  zip_push (a ∷ xs) (b ∷ ys) x y h r = (h.0, zip_push xs ys x y h.1 r)
-
-  -- R holds side by side up to a place, and at it
-  pub zip_more : (xs : List A) (ys : List B) (i : ℕ) (x : A) (y : B) → i < length xs
-      → x ≡ get_or xs i x → AllZip R (take i xs) ys → R x y
-      → AllZip R (take (i + 1) xs) (ys ++ y ∷ [])
-  zip_more xs ys i x y below here h r =
-      let more : take (i + 1) xs ≡ take i xs ++ x ∷ [] = take_more xs i x below
-      ∙ ap (λ z. take i xs ++ z ∷ []) (sym here) in
-      subst (λ zs. AllZip R zs (ys ++ y ∷ [])) (sym more) (zip_push (take i xs) ys x y h r)
-
   pub zip_length : (xs : List A) (ys : List B) → AllZip R xs ys → length ys ≡ length xs
   zip_length [] [] h = refl
   zip_length [] (y ∷ ys) h = absurd h

@@ -1,8 +1,9 @@
 -- The lines of the provenance, one after another.
-use Rattle.std.proofs.Common.{◌≡◌, ℕ, ◌+◌, suc, List, [], ◌∷◌, ◌++◌, length, Some, refl, sym, ap}
+use Rattle.std.proofs.Common.{◌≡◌, ℕ, ◌+◌, List, [], ◌∷◌, ◌++◌, length, sym, ap}
 use Rattle.std.proofs.Common.{append_assoc, arith, ◌∙◌}
 use Rattle.std.proofs.lemmas.List.{length-append}
 use Rattle.std.specs.List.{slice_get}
+use Rattle.it_base.proofs.Elements.{at_length}
 use Rattle.it_digest.specs.Sums.{lines_of}
 use Rattle.it_prov_notes.specs.ProvenanceNotes.{IsLine}
 
@@ -11,11 +12,6 @@ pub record Follows (provenance : List ℕ) (number : ℕ) (rest : List ℕ) : Ty
   pub before : List (List ℕ)
   pub lines_are : lines_of provenance ≡ before ++ lines_of rest
   pub number_is : number ≡ length before
-
-at_length : (before : List (List ℕ)) (line : List ℕ) (after : List (List ℕ))
-    → slice_get (before ++ line ∷ after) (length before) ≡ Some line
-at_length [] line after = refl
-at_length (x ∷ before) line after = at_length before line after
 
 module _ (provenance rest line after : List ℕ) (number : ℕ)
     (so_far : Follows provenance number rest)

@@ -13,7 +13,7 @@ mod key_files;
 mod members;
 mod shown_words;
 
-use crate::row_fault::RowFault;
+use it_tables::RowFault;
 use serde_json::Value;
 use std::alloc::Global;
 

@@ -4,10 +4,10 @@ mod parts;
 mod verdicts;
 
 use crate::reports::verdicts::{refusal_in, verdict_in};
-use crate::row_fault::RowFault;
 use it_json_report::form::{ReportForm, report_in};
 use it_json_report::json_report;
 use it_report::verdict::Verdict;
+use it_tables::RowFault;
 use serde_json::Value;
 use std::alloc::Global;
 

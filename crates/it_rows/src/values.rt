@@ -19,7 +19,7 @@ mod told;
 mod trees;
 mod writing;
 
-use crate::row_fault::RowFault;
+use it_tables::RowFault;
 use serde_json::Value;
 use std::alloc::Global;
 

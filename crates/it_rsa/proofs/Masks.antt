@@ -1,6 +1,6 @@
 -- Masks, block by block.
-use Rattle.std.proofs.Common.{◌≡◌, ℕ, zero, suc, ◌+◌, ◌-◌, ◌*◌, ◌/◌, ◌%◌, ◌^◌, ◌<◌, ◌≤◌, List, [], ◌∷◌, ◌++◌, length, get_or, take, set, refl, sym, ap, ◌∙◌, arith, bit_xor, length-append, below_more, ◌≢◌}
-use Rattle.std.proofs.lemmas.List.{length-take-le, get_or-append_right, get_or_append_left, get_or-take, get_or-set_same, get_or-set_other}
+use Rattle.std.proofs.Common.{◌≡◌, ℕ, zero, suc, ◌+◌, ◌-◌, ◌*◌, ◌/◌, ◌%◌, ◌^◌, ◌<◌, ◌≤◌, List, [], ◌∷◌, ◌++◌, length, get_or, set, refl, sym, ap, ◌∙◌, arith, bit_xor, length-append, ◌≢◌}
+use Rattle.std.proofs.lemmas.List.{length-take-le, get_or-append_right, get_or_append_left, get_or-take, get_or-set_other}
 use Rattle.std.proofs.lemmas.Grind.{same_number_lists}
 use Rattle.std.proofs.lemmas.Bool.{cases_lt}
 use Rattle.std.proofs.Common.{◌⊎◌, inl, inr}
@@ -80,9 +80,3 @@ low_bits_set (x ∷ xs) n h = refl
 pub set_rest : (bs old : List ℕ) (i v : ℕ) → ((j : ℕ) → i ≤ j → get_or bs j 0 ≡ get_or old j 0)
     → (j : ℕ) → i + 1 ≤ j → get_or (set bs i v) j 0 ≡ get_or old j 0
 set_rest bs old i v before j p = let ne : j ≢ i = omega arith in rw get_or-set_other (before j (omega arith))
-
-pub set_more : (bs : List ℕ) (i v : ℕ) (f : ℕ → ℕ) → i < length bs → ((j : ℕ) → j < i → get_or bs j 0 ≡ f j) → v ≡ f i
-    → (j : ℕ) → j < i + 1 → get_or (set bs i v) j 0 ≡ f j
-set_more bs i v f h before e = below_more _ _
-    (λ k p. let ne : k ≢ i = omega arith in rw get_or-set_other (before k p))
-    (rw get_or-set_same e)

@@ -1,2 +1,1 @@
 pub mod OneKey
-pub mod Outcomes

@@ -1,9 +1,10 @@
 -- Which vectors agree (words of this project).
-use Rattle.std.specs.Prelude.{◌≡◌, ◌↔◌, ℕ, List, [], ◌∷◌, IsTrue}
+use Rattle.std.specs.Prelude.{◌↔◌, ℕ, List, Option, String, IsTrue, MatchOption}
+use Rattle.std.specs.declared.alloc.Global.{Global}
+use Rattle.serde_json.specs.Data.{Data}
 use Rattle.it_vectors.specs.Key.{IsKeyOf}
-use Rattle.it_vectors.specs.Line.{VectorOf}
+use Rattle.it_vectors.specs.Line.{IsVector}
 use Rattle.it_vectors.specs.Signature.{IsSignatureOf}
-use Rattle.it_vectors.specs.declared.outcome.Outcome.{Outcome}
 use Rattle.it_vectors.specs.declared.vector.Tried.{Tried}
 use Rattle.it_vectors.specs.declared.vector.Tried.TheVariants.{KeyAlone, Signature}
 use Rattle.it_vectors.specs.declared.vector.Vector.{Vector}
@@ -18,21 +19,8 @@ Holds kind key (Signature signed) = IsSignatureOf kind key signed.message signed
 abbrev pub Agrees : Vector → Type 0
 Agrees vector = IsTrue vector.wanted ↔ Holds vector.kind vector.key vector.tried
 
--- the outcome is that of a vector
-pub record IsOutcomeOf (vector : Vector) (outcome : Outcome) : Type 0 where
-  pub name : outcome.name ≡ vector.name
-  pub agrees : IsTrue outcome.agrees ↔ Agrees vector
-
--- the line is a vector, whose outcome it is
-pub record IsOutcomeOfLine (line : List ℕ) (outcome : Outcome) : Type 0 where
+-- how a document differs: it is a vector, and differs not at all where that agrees
+pub record IsDifference (document : Data) (difference : Option (String Global)) : Type 0 where
   pub vector : Vector
-  pub is_vector : VectorOf line vector
-  pub is_outcome : IsOutcomeOf vector outcome
-
--- each line has its outcome, in order
-abbrev pub AreOutcomesOf : List (List ℕ) → List Outcome → Type 0
-AreOutcomesOf [] [] = Unit {0}
-AreOutcomesOf [] (outcome ∷ outcomes) = ⊥
-AreOutcomesOf (line ∷ lines) [] = ⊥
-AreOutcomesOf (line ∷ lines) (outcome ∷ outcomes) =
-    IsOutcomeOfLine line outcome × AreOutcomesOf lines outcomes
+  pub is_vector : IsVector document vector
+  pub none_where : MatchOption difference (Agrees vector) (λ _. ¬ Agrees vector)

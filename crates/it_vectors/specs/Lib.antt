@@ -3,4 +3,3 @@ pub mod Key
 pub mod Kind
 pub mod Line
 pub mod Signature
-pub mod Status

@@ -1,8 +1,8 @@
--- Which vector a line is (a format of this project).
-use Rattle.std.specs.Prelude.{◌≡◌, ℕ, List, Bool, Some, None, codes}
+-- Which vector a document is (a format of this project).
+use Rattle.std.specs.Prelude.{◌≡◌, Bool, Some, None, codes}
 use Rattle.serde_json.specs.Data.{Data}
 use Rattle.serde_json.specs.Find.{as_bool}
-use Rattle.it_base.specs.Document.{OfDocument, member_at}
+use Rattle.it_base.specs.Document.{member_at}
 use Rattle.it_base.specs.HexadecimalText.{IsHexadecimal}
 use Rattle.it_base.specs.Parts.{IsPart}
 use Rattle.it_base.specs.Text.{IsText}
@@ -39,7 +39,3 @@ pub record IsVector (d : Data) (vector : Vector) : Type 0 where
   pub kind : IsPart IsKind (codes "kind") d vector.kind
   pub key : IsPart IsHexadecimal (codes "key") d vector.key
   pub tries : Tries d vector.tried vector.wanted
-
--- the vector that a line is
-abbrev pub VectorOf : List ℕ → Vector → Type 0
-VectorOf line vector = OfDocument IsVector line vector

@@ -3,7 +3,6 @@ ghost use Rattle.std.specs.Prelude.{◌↔◌, IsTrue};
 ghost use Rattle.it_vectors.specs.Agreement.{Holds};
 
 use crate::kind::Kind;
-use crate::outcome::Outcome;
 use it_base::sequence::Sequence;
 use it_base::text::Text;
 
@@ -41,20 +40,10 @@ pub(crate) struct Signed {
 }
 
 impl Vector {
-    ghost use Rattle.it_vectors.specs.Agreement.{Agrees, IsOutcomeOf};
-
-    /// Tries the vector.
-    pub(crate) fn outcome(self) -> Outcome
-        ensures { IsOutcomeOf self result }
-    {
-        Outcome {
-            agrees: self.agrees(),
-            name: self.name,
-        }
-    }
+    ghost use Rattle.it_vectors.specs.Agreement.{Agrees};
 
     /// Whether what is tried holds exactly where that is wanted.
-    fn agrees(&self) -> bool
+    pub(crate) fn agrees(&self) -> bool
         ensures { IsTrue result ↔ Agrees self.now }
     {
         holds(self.kind, self.key.as_slice(), &self.tried) == self.wanted

@@ -4,6 +4,7 @@ use Rattle.std.proofs.Common.{subst, unwrap_or, length, take, take_all, arith}
 use Rattle.std.specs.FinMap.{keys}
 use Rattle.std.proofs.lemmas.List.Elements.{Contains-get_or}
 use Rattle.std.proofs.lemmas.Result.{err_from_is_err_and}
+use Rattle.it_base.proofs.Elements.{zip_more}
 use Rattle.it_chain.specs.inside.Asked.{GivenFewest, RaisedAtLeast, RaisedWithin, RecordsFewest}
 use Rattle.it_chain.specs.inside.Asked.{SignaturesIn, cost_below, fewest_below, key_total}
 use Rattle.it_chain.specs.Answer.{signers as signers_of, with_record}
@@ -37,7 +38,6 @@ use Rattle.it_chain.proofs.SignerWalks.{walked_fail, walked_more, walked_none}
 use Rattle.it_chain.proofs.Walks.{folder_or, level_below, nil_of, not_when, fails_before, fails_at}
 use Rattle.it_chain.proofs.Walks.{none_counts, none_more, one_counts, one_below, apart_below}
 use Rattle.it_chain.proofs.Walks.{two_count, walks_behind, walks_given, walks_record, walks_two}
-use Rattle.it_chain.proofs.Walks.{zip_more}
 use Rattle.it_chain.specs.inside.Scope.{LevelAnswers, LevelAsks, LevelTakes}
 use Rattle.it_chain.proofs.+level.Goals as goal
 use Rattle.it_chain.proofs.+level.Goals.{id_records::verify_ids-in-Some+in_ok-push}

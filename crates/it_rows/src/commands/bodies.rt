@@ -1,11 +1,11 @@
 //! The bodies that are made from digest lists.
 use crate::commands::devices::{ended, pipe_of};
 use crate::commands::members::bytes_if;
-use crate::devices::Pipe;
-use crate::row::text_in;
-use crate::row_fault::RowFault;
 use it_making::{StatementParts, run_link, run_statement};
 use it_outcome::{RunFault, Status};
+use it_tables::RowFault;
+use it_tables::devices::Pipe;
+use it_tables::row::text_in;
 use serde_json::Value;
 use std::alloc::Global;
 

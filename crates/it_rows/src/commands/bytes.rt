@@ -1,9 +1,9 @@
 //! The commands that look at no documents: a pattern, what is signed, and a digest.
 use crate::commands::devices::{ended, pipe_of};
-use crate::devices::Source;
-use crate::row::{bytes_in, number_in, text_in};
-use crate::row_fault::RowFault;
 use it_commands::{run_digest, run_match, run_pae};
+use it_tables::RowFault;
+use it_tables::devices::Source;
+use it_tables::row::{bytes_in, number_in, text_in};
 use serde_json::Value;
 use std::alloc::Global;
 use std::str;

@@ -1,7 +1,7 @@
 //! What words are read as, and what is said of those that are no command.
 use crate::commands::shown_words::shown;
-use crate::row::{text_in, texts_in};
-use crate::row_fault::RowFault;
+use it_tables::RowFault;
+use it_tables::row::{text_in, texts_in};
 use it_words::words::{Words, WordsFault, read_words};
 use serde_json::Value;
 use std::alloc::{AllocError, Global};

@@ -1,8 +1,8 @@
 //! What the commands of rows write to, and how they ended.
 use crate::commands::members::count_or_most;
-use crate::devices::{Full, Pipe};
-use crate::row::is_set;
-use crate::row_fault::RowFault;
+use it_tables::RowFault;
+use it_tables::devices::{Full, Pipe};
+use it_tables::row::is_set;
 use serde_json::Value;
 use std::alloc::Global;
 use std::fmt::Debug;

@@ -1,13 +1,13 @@
 //! The commands on envelopes: their signing, who signed them, and their payloads.
 use crate::commands::devices::{ended, pipe_of};
-use crate::devices::Pipe;
-use crate::rings::ring_in;
-use crate::row::{bytes_in, text_in};
-use crate::row_fault::RowFault;
 use it_commands::{run_payload, run_sign, run_sign_onto, run_signed};
 use it_dsse::check::SignatureCheck;
 use it_dsse::signing::NewSignature;
 use it_outcome::{RunFault, Status};
+use it_tables::RowFault;
+use it_tables::devices::Pipe;
+use it_tables::rings::ring_in;
+use it_tables::row::{bytes_in, text_in};
 use serde_json::Value;
 use std::alloc::Global;
 

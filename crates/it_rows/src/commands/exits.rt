@@ -1,8 +1,8 @@
 //! The status that the program ends with.
-use crate::row::text_in;
-use crate::row_fault::RowFault;
 use it_digest::reader::DigestFault;
 use it_outcome::{RunFault, Status, exit_of};
+use it_tables::RowFault;
+use it_tables::row::text_in;
 use serde_json::Value;
 use std::alloc::Global;
 

@@ -1,9 +1,9 @@
 //! The file of keys that `itv key` writes.
 use crate::commands::devices::{ended, pipe_of};
 use crate::commands::members::text_if;
-use crate::row::texts_in;
-use crate::row_fault::RowFault;
 use it_key_commands::run_key;
+use it_tables::RowFault;
+use it_tables::row::texts_in;
 use serde_json::Value;
 use std::alloc::{AllocError, Global};
 

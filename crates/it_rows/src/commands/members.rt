@@ -1,7 +1,7 @@
 //! Members of a row that may be missing.
-use crate::row::{bytes_in, number_in, text_in};
-use crate::row_fault::RowFault;
 use it_base::document::member;
+use it_tables::RowFault;
+use it_tables::row::{bytes_in, number_in, text_in};
 use serde_json::Value;
 use std::alloc::Global;
 

@@ -1,10 +1,10 @@
 //! The faults that rows describe: the name of each, and its details.
 use crate::reports::parts::{item_in, layout_part_in, policy_part_in, side_in};
 use crate::reports::verdicts::named;
-use crate::row::{number_in, text_in};
-use crate::row_fault::RowFault;
 use it_base::document::member;
 use it_report::refusal::Fault;
+use it_tables::RowFault;
+use it_tables::row::{number_in, text_in};
 use serde_json::Value;
 use std::alloc::Global;
 

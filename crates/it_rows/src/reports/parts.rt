@@ -1,11 +1,11 @@
 //! The parts of policies and layouts that rows describe, and whose rules.
 use crate::reports::verdicts::named;
-use crate::row::{number_in, text_in};
-use crate::row_fault::RowFault;
 use it_chain::refusal::RuleItem;
 use it_docs::layout_fault::LayoutPart;
 use it_docs::policy_fault::PolicyPart;
 use it_docs::rule::Side;
+use it_tables::RowFault;
+use it_tables::row::{number_in, text_in};
 use serde_json::Value;
 use std::alloc::Global;
 

@@ -1,11 +1,11 @@
 //! The verdicts that rows describe.
 use crate::reports::faults::fault_in;
-use crate::row::{list_in, number_in, text_in};
-use crate::row_fault::RowFault;
 use it_base::sequence::Sequence;
 use it_base::text::Text;
 use it_report::refusal::Refusal;
 use it_report::verdict::Verdict;
+use it_tables::RowFault;
+use it_tables::row::{list_in, number_in, text_in};
 use serde_json::Value;
 use std::alloc::Global;
 

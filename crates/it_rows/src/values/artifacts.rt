@@ -1,10 +1,10 @@
 //! Maps from paths to digests, and the lists of digests that they are read from.
-use crate::row::{bytes_in, list_in, text_in};
-use crate::row_fault::RowFault;
 use crate::values::digests;
 use it_digest::artifacts::Artifacts;
 use it_digest::compare::DigestSet;
 use it_digest::sums::read_sums;
+use it_tables::RowFault;
+use it_tables::row::{bytes_in, list_in, text_in};
 use serde_json::Value;
 use std::alloc::{AllocError, Global};
 

@@ -1,7 +1,7 @@
 //! The bytes that are signed, and the codes that stand for a signature.
-use crate::row::{bytes_in, list_in, number_in, text_in};
-use crate::row_fault::RowFault;
 use it_dsse::{hmac_sha256, hmac_sha256_parts, pae};
+use it_tables::RowFault;
+use it_tables::row::{bytes_in, list_in, number_in, text_in};
 use serde_json::Value;
 use std::alloc::Global;
 

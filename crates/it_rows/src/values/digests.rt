@@ -1,11 +1,11 @@
 //! Digests: how sets of them compare, and the SHA-256 of what a reader gives.
-use crate::devices::Source;
-use crate::row::{bytes_in, member_in, number_if, number_in};
-use crate::row_fault::RowFault;
 use it_base::document::member;
 use it_digest::compare::DigestSet;
 use it_digest::digest::digest_set;
 use it_digest::reader::sha256_of_reader;
+use it_tables::RowFault;
+use it_tables::devices::Source;
+use it_tables::row::{bytes_in, member_in, number_if, number_in};
 use serde_json::Value;
 use std::alloc::{AllocError, Global};
 

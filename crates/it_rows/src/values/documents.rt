@@ -1,12 +1,12 @@
 //! JSON documents, and the moments and texts that they hold.
-use crate::devices::nested;
-use crate::row::{bytes_in, member_in, number_in, text_in};
-use crate::row_fault::RowFault;
 use crate::values::told::text_or_none;
 use it_base::document::{member, read_document};
 use it_base::parts::from_bytes;
 use it_base::text::Text;
 use it_docs::moment::read_moment;
+use it_tables::RowFault;
+use it_tables::devices::nested;
+use it_tables::row::{bytes_in, member_in, number_in, text_in};
 use serde_json::Value;
 use std::alloc::Global;
 

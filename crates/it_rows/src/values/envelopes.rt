@@ -1,7 +1,4 @@
 //! How envelopes are read, signed and written.
-use crate::devices::{Full, Pipe};
-use crate::row::text_in;
-use crate::row_fault::RowFault;
 use crate::values::rings::known_ring;
 use crate::values::told::text_or_none;
 use crate::values::writing::full_in;
@@ -10,6 +7,9 @@ use it_dsse::envelope::{Envelope, Signature};
 use it_dsse::key_object::KeyObject;
 use it_dsse::signing::sign;
 use it_dsse::written::WriteFault;
+use it_tables::RowFault;
+use it_tables::devices::{Full, Pipe};
+use it_tables::row::text_in;
 use serde_json::Value;
 use std::alloc::{AllocError, Global};
 

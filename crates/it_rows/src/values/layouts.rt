@@ -1,6 +1,4 @@
 //! How layouts are read.
-use crate::row::member_in;
-use crate::row_fault::RowFault;
 use crate::values::envelopes::object_told;
 use crate::values::parts::texts_told;
 use crate::values::rules;
@@ -10,6 +8,8 @@ use it_docs::layout_fault::{LayoutFault, LayoutPart};
 use it_docs::layout_reading::read_layout;
 use it_docs::step::{Inspection, Step};
 use it_dsse::key_object::KeyObject;
+use it_tables::RowFault;
+use it_tables::row::member_in;
 use serde_json::Value;
 use std::alloc::{AllocError, Global};
 

@@ -1,8 +1,8 @@
 //! How links are read.
-use crate::row::member_in;
-use crate::row_fault::RowFault;
 use crate::values::artifacts;
 use it_docs::link::{Link, read_link};
+use it_tables::RowFault;
+use it_tables::row::member_in;
 use serde_json::Value;
 use std::alloc::{AllocError, Global};
 

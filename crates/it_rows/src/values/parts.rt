@@ -1,12 +1,12 @@
 //! The parts of a document: texts, lists of texts, and bytes in base64 or hexadecimal.
-use crate::row::{bytes_in, member_in, text_in};
-use crate::row_fault::RowFault;
 use crate::values::told::{digits_or_none, text_or_none};
 use it_base::base64_text::{base64_part, base64_text_of};
 use it_base::hexadecimal_text::hexadecimal_part;
 use it_base::parts::{part, part_or};
 use it_base::sequence::Sequence;
 use it_base::text::Text;
+use it_tables::RowFault;
+use it_tables::row::{bytes_in, member_in, text_in};
 use serde_json::Value;
 use std::alloc::{AllocError, Global};
 

@@ -1,7 +1,7 @@
 //! Patterns: what they match, in how many steps, and what they lend.
-use crate::row::{number_if, number_in, text_in};
-use crate::row_fault::RowFault;
 use it_glob::Pattern;
+use it_tables::RowFault;
+use it_tables::row::{number_if, number_in, text_in};
 use serde_json::Value;
 use std::alloc::Global;
 

@@ -1,12 +1,12 @@
 //! How policies are read.
-use crate::row::member_in;
-use crate::row_fault::RowFault;
 use crate::values::layouts::keys_told;
 use crate::values::parts::texts_told;
 use crate::values::rules;
 use crate::values::trees::members_told;
 use it_docs::policy::{Builder, Expectation, Policy};
 use it_docs::policy_reading::read_policy;
+use it_tables::RowFault;
+use it_tables::row::member_in;
 use serde_json::Value;
 use std::alloc::{AllocError, Global};
 

@@ -1,12 +1,12 @@
 //! Rings of secrets: how they are read, and what they say of keys and signatures.
-use crate::row::{bytes_in, number_in, text_in};
-use crate::row_fault::RowFault;
 use crate::values::codes::parts_in;
 use crate::values::signing_ring::{RING, object_of, ring_of};
 use crate::values::told::joined;
 use it_dsse::check::SignatureCheck;
 use it_dsse::meter::Meter;
 use it_dsse::ring::HmacRing;
+use it_tables::RowFault;
+use it_tables::row::{bytes_in, number_in, text_in};
 use serde_json::Value;
 use std::alloc::{AllocError, Global};
 

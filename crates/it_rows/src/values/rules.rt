@@ -1,9 +1,9 @@
 //! Artifact rules: how they are read, and their words.
-use crate::devices::words;
-use crate::row::text_in;
-use crate::row_fault::RowFault;
 use crate::values::told::text_or_none;
 use it_docs::rule::{Rule, Side, read_rule};
+use it_tables::RowFault;
+use it_tables::devices::words;
+use it_tables::row::text_in;
 use serde_json::Value;
 use std::alloc::{AllocError, Global};
 

@@ -1,6 +1,4 @@
 //! Who signed an envelope, as a panel of rings finds it.
-use crate::row::{list_in, text_in, texts_in};
-use crate::row_fault::RowFault;
 use crate::values::signing_ring::{RING, object_of, ring_of};
 use crate::values::told::joined;
 use it_base::sequence::Sequence;
@@ -10,6 +8,8 @@ use it_dsse::envelope::{Envelope, Signature};
 use it_dsse::meter::Meter;
 use it_dsse::ring::HmacRing;
 use it_dsse::{hmac_sha256, pae, signed_by, signed_ids};
+use it_tables::RowFault;
+use it_tables::row::{list_in, text_in, texts_in};
 use serde_json::Value;
 use std::alloc::{AllocError, Global};
 

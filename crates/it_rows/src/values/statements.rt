@@ -1,10 +1,10 @@
 //! How Statements are read.
-use crate::row::member_in;
-use crate::row_fault::RowFault;
 use crate::values::digests;
 use crate::values::trees::members_told;
 use it_digest::compare::DigestSet;
 use it_docs::statement::{Provenance, Statement, read_statement};
+use it_tables::RowFault;
+use it_tables::row::member_in;
 use serde_json::Value;
 use std::alloc::{AllocError, Global};
 

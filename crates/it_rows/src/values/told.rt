@@ -1,5 +1,5 @@
 //! Answers in words.
-use crate::row_fault::RowFault;
+use it_tables::RowFault;
 use std::alloc::Global;
 
 /// The text that was found, or `none`.

@@ -1,10 +1,10 @@
 //! What trees are equal, and what small types lend.
-use crate::row::{number_in, text_in, texts_in};
-use crate::row_fault::RowFault;
 use it_base::document::read_document;
 use it_base::parts::FromDocument;
 use it_docs::table::Table;
 use it_docs::tree::{Members, Tree, Trees};
+use it_tables::RowFault;
+use it_tables::row::{number_in, text_in, texts_in};
 use serde_json::Value;
 use std::alloc::{AllocError, Global};
 use std::collections::BTreeMap;

@@ -1,8 +1,8 @@
 //! The writing of bytes to a pipe that has room for some of them.
-use crate::devices::{Full, Pipe};
-use crate::row::{number_in, text_in};
-use crate::row_fault::RowFault;
 use it_base::writing::write_all_of;
+use it_tables::RowFault;
+use it_tables::devices::{Full, Pipe};
+use it_tables::row::{number_in, text_in};
 use serde_json::Value;
 use std::alloc::Global;
 

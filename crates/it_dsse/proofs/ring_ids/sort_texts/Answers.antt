@@ -3,7 +3,7 @@ use Rattle.std.proofs.lemmas.List.Sorted.{IsPermutation-map}
 use Rattle.std.proofs.lemmas.Result.{on_ok_weaker}
 use Rattle.std.specs.Cmp.Lexicographic.{slice_cmp}
 use Rattle.std.specs.Ordering.{is_lt, nat_cmp}
-use Rattle.it_dsse.proofs.Sorting.{sorted_map}
+use Rattle.it_base.proofs.Elements.{sorted_map}
 use Rattle.it_dsse.proofs.ring_ids.sort_texts.Goals as goal
 
 pub returns-clause-same : goal.returns-clause-same

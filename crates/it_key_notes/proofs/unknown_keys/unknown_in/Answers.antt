@@ -1,10 +1,11 @@
 use Rattle.std.proofs.Common.{◌≡◌, ◌∙◌, ◌++◌, [], ◌∷◌, ℕ, List, ap, append_assoc, map, string_bytes}
 use Rattle.std.specs.FinMap.{entries}
+use Rattle.it_base.proofs.Elements.{kept_all}
 use Rattle.it_base.specs.Table.{named_entries}
 use Rattle.it_dsse.specs.Panel.{panel_of}
 use Rattle.it_dsse.specs.declared.key_object.KeyObject.{KeyObject}
 use Rattle.it_key_notes.specs.UnknownKeys.{IsUnknown, IsUnknownIn}
-use Rattle.it_key_notes.proofs.Noting.{kept_all, stands_next, unknown_there, weaker_if}
+use Rattle.it_key_notes.proofs.Noting.{stands_next, unknown_there, weaker_if}
 use Rattle.it_key_notes.proofs.unknown_keys.unknown_in.Goals as goal
 
 pub loop-id-preserved : goal.loop-id-preserved

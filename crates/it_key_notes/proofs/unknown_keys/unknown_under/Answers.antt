@@ -1,8 +1,8 @@
 use Rattle.std.proofs.Common.{Contains, map, subst, sym}
 use Rattle.std.proofs.lemmas.Option.{IfSome_then}
+use Rattle.it_base.proofs.Elements.{contains_at, kept_all}
 use Rattle.it_dsse.specs.Panel.{panel_of}
 use Rattle.it_key_notes.specs.UnknownKeys.{IsUnknownUnder}
-use Rattle.it_key_notes.proofs.Noting.{contains_read, kept_all}
 use Rattle.it_key_notes.proofs.unknown_keys.unknown_under.Goals as goal
 
 pub loop-id-preserved : goal.loop-id-preserved
@@ -11,7 +11,7 @@ loop-id-preserved g c =
     (map (λ check. (goal.SignatureCheck-dyn g (check.vtable, check.value)).meaning check.value)
     c.args.panel.now) in
     let ids = c.args.ids.now in
-    let stands = contains_read ids c.loop-id.id-index c.id-item.result c.loop-id-test.true
+    let stands = contains_at ids c.loop-id.id-index c.id-item.result c.loop-id-test.true
     c.id-item.is in
     rw c.in_ok-keep.ensures
     (kept_all (IsUnknownUnder panel ids c.args.objects.now) _ _ c.loop-id.invariant

@@ -1,9 +1,9 @@
 use Rattle.std.proofs.Common.{◌≡◌, Contains, IfSome, subst, sym}
 use Rattle.std.proofs.lemmas.List.Elements.{All-push}
 use Rattle.serde_json.specs.View.{view}
+use Rattle.it_base.proofs.Elements.{contains_at}
 use Rattle.it_member_notes.specs.KeyMembers.{IsKeyMember, place_of}
 use Rattle.it_member_notes.specs.declared.key_member_note.KeyMemberNote.{KeyMemberNote}
-use Rattle.it_member_notes.proofs.Noting.{contains_read}
 use Rattle.it_member_notes.proofs.key_notes.key_notes_at.Goals as goal
 use Rattle.it_member_notes.proofs.key_notes.key_notes_at.Goals.{in-Some+in_ok-push, in_default}
 
@@ -12,7 +12,7 @@ loop-place-preserved c =
     let d = view c.args.document.now in
     let places = c.args.places.now in
     let place = c.place-item.result in
-    let stands = contains_read places c.loop-place.place-index place c.loop-place-test.true
+    let stands = contains_at places c.loop-place.place-index place c.loop-place-test.true
     c.place-item.is in
     elim c.match-branch-2.branch [
       | in-Some+in_ok-push w ↦

@@ -1,7 +1,8 @@
 use Rattle.std.proofs.Common.{refl, sym, ◌∙◌}
 use Rattle.std.proofs.lemmas.List.Elements.{All-push}
+use Rattle.it_base.proofs.Elements.{contains_at}
 use Rattle.it_member_notes.specs.LayoutNotes.{Holds}
-use Rattle.it_member_notes.proofs.Noting.{none_is, contains_read}
+use Rattle.it_member_notes.proofs.Noting.{none_is}
 use Rattle.it_member_notes.proofs.rule_notes.note_keys.Goals as goal
 use Rattle.it_member_notes.proofs.rule_notes.note_keys.Goals.{then-not-has_key_object+in_ok-no_key_object+in_ok-push, else-not-has_key_object}
 
@@ -18,7 +19,7 @@ loop-id-preserved c =
             of = c.args.step.now;
             in_layout = c.requires.in_layout;
             named = refl;
-            may_sign = contains_read c.args.step.now.pubkeys _ _ below here;
+            may_sign = contains_at c.args.step.now.pubkeys _ _ below here;
             no_object = none_is _ (sym c.has_key_object.ensures ∙ w.if-not-has_key_object.true);
           })))
       | else-not-has_key_object w ↦ rw w.notes-is c.loop-id.invariant

@@ -1,9 +1,9 @@
 use Rattle.std.proofs.Common.{◌≡◌, Contains}
 use Rattle.std.proofs.lemmas.List.Elements.{All-append, All-weaker}
 use Rattle.serde_json.specs.View.{view}
+use Rattle.it_base.proofs.Elements.{contains_at}
 use Rattle.it_member_notes.specs.UnreadMembers.{IsUnread}
 use Rattle.it_member_notes.specs.declared.unread_member.UnreadMember.{UnreadMember}
-use Rattle.it_member_notes.proofs.Noting.{contains_read}
 use Rattle.it_member_notes.proofs.unread.unread_at.Goals as goal
 
 pub loop-place-preserved : goal.loop-place-preserved
@@ -11,7 +11,7 @@ loop-place-preserved c =
     let d = view c.args.document.now in
     let places = c.args.places.now in
     let place = c.place-item.result in
-    let stands = contains_read places c.loop-place.place-index place c.loop-place-test.true
+    let stands = contains_at places c.loop-place.place-index place c.loop-place-test.true
     c.place-item.is in
     rw c.in_ok-append.ensures.items
     (All-append (λ (n : UnreadMember). IsUnread d n × Contains places n.place) _ _

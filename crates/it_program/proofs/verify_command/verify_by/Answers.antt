@@ -1,18 +1,11 @@
-use Rattle.std.proofs.Common.{◌≡◌, List, ◌∷◌, [], ◌++◌, ◌∙◌, ap, map, refl, append_assoc}
+use Rattle.std.proofs.Common.{◌≡◌, ◌∷◌, [], ◌∙◌, ap, refl, append_assoc}
 use Rattle.std.specs.Vec.Iter.{into_iter_items}
-use Rattle.std.proofs.lemmas.List.{map-append}
 use denote.Param.Object.{read_made}
+use Rattle.it_base.proofs.Elements.{map_more}
 use Rattle.it_dsse.specs.Check.{Check}
 use Rattle.it_public_keys.specs.AnyCheck.{check_of}
 use Rattle.it_program.proofs.verify_command.verify_by.OwnLists.{at-1-1, own-1}
 use Rattle.it_program.proofs.verify_command.verify_by.Goals as goal
-
--- one more at the end of two lists that mean the same
-one_more : {A B C : Type 0} (f : A → C) (g : B → C) (held : List A) (last : A) (now : List A)
-    (seen : List B) (x : B) → now ≡ held ++ last ∷ [] → map f held ≡ map g seen → f last ≡ g x
-    → map f now ≡ map g (seen ++ x ∷ [])
-one_more f g held last now seen x is before same =
-    rw (is, map-append, map-append, before, same) refl
 
 pub loop-check-preserved : goal.loop-check-preserved
 loop-check-preserved g c =
@@ -27,6 +20,6 @@ loop-check-preserved g c =
     boxed.result.vtable boxed.result.value c.in_ok-new.field-0.value boxed.ensures.1 in
     let means = read ∙ ap check_of c.in_ok-new.ensures.ok in (
       append_assoc at.yielded (check ∷ []) _ ∙ rw (← steps) at.invariant.0,
-      one_more (λ held. (own-1.entry held.vtable).1.meaning held.value) check_of at.panel.items
+      map_more (λ held. (own-1.entry held.vtable).1.meaning held.value) check_of at.panel.items
           boxed.result _ at.yielded check c.in_ok-push.ensures.items at.invariant.1 means,
     )

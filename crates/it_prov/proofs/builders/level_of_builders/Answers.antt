@@ -2,6 +2,7 @@ use Rattle.std.proofs.Common.{◌≡◌, ◌∙◌, ◌+◌, ◌*◌, ◌≤◌,
 use Rattle.std.proofs.Common.{arith}
 use Rattle.std.specs.FinMap.{len}
 use Rattle.std.proofs.lemmas.Slice.Eq.{bytes_eq-Decides}
+use Rattle.it_base.proofs.Elements.{contains_at}
 use Rattle.it_dsse.specs.Meter.{RaisedBy}
 use Rattle.it_prov.specs.Answered.{IsAskedOfBuilder}
 use Rattle.it_prov.specs.Asked.{AtLeast}
@@ -13,7 +14,6 @@ use Rattle.it_prov.proofs.Asking.{raised_none, raised_still}
 use Rattle.it_prov.proofs.Greatest.{Step, enough_or_greatest, short_or, so_far_all, so_far_more}
 use Rattle.it_prov.proofs.Greatest.{so_far_none, step_past}
 use Rattle.it_prov.proofs.Meeting.{built_greatest}
-use Rattle.it_prov.proofs.Searching.{stands_at}
 use Rattle.it_prov.proofs.builders.level_of_builders.Goals as goal
 use Rattle.it_prov.proofs.builders.level_of_builders.Goals.{
   then-eq+then-recall+else-builder-wanted,
@@ -37,7 +37,7 @@ returns-then-builder-wanted-clause-answer c = λ panel envelope are.
     sym ((bytes_eq-Decides _ _).0 (sym c.eq.ensures ∙ c.if-eq.true)) ∙ c.as_str.ensures in (
       (
         c.index-builders-index.result,
-        stands_at c.args.builders.now c.loop-index.index c.index-builders-index.result
+        contains_at c.args.builders.now c.loop-index.index c.index-builders-index.result
             c.loop-index-test.true c.index-builders-index.is,
         record {
           id_is = id;
@@ -70,7 +70,7 @@ returns-then-builder-wanted-clause-at_least c = λ panel envelope are.
     let builder = c.index-builders-index.result in
     let id : c.args.id.now ≡ builder.id =
     sym ((bytes_eq-Decides _ _).0 (sym c.eq.ensures ∙ c.if-eq.true)) ∙ c.as_str.ensures in
-    let stands = stands_at c.args.builders.now c.loop-index.index builder
+    let stands = contains_at c.args.builders.now c.loop-index.index builder
     c.loop-index-test.true c.index-builders-index.is in
     let of_one = IsAskedOfBuilder panel envelope builder in
     let of_all = IsAskedOfBuilders panel envelope c.args.builders.now c.args.id.now c.args.wanted in

@@ -2,14 +2,14 @@ use Rattle.std.proofs.Common.{Contains, List, map, subst}
 use Rattle.it_dsse.specs.Panel.{panel_of}
 use Rattle.it_chain.specs.declared.bundle.File.{File}
 use Rattle.it_step_notes.specs.StepNotes.{Holds}
-use Rattle.it_step_notes.proofs.Kept.{kept_all, stands_at}
+use Rattle.it_base.proofs.Elements.{contains_at, kept_all}
 use Rattle.it_step_notes.proofs.file_notes.push_file_notes.Goals as goal
 
 pub file_note-requires : goal.file_note-requires
 file_note-requires g c =
     let files = c.files-file-items.result.now in
     subst (λ (all : List File). Contains all c.file-item.result) c.files-file-items.ensures
-    (stands_at files c.loop-file.file-index c.file-item.result c.loop-file-test.true c.file-item.is)
+    (contains_at files c.loop-file.file-index c.file-item.result c.loop-file-test.true c.file-item.is)
 
 pub loop-file-preserved : goal.loop-file-preserved
 loop-file-preserved g c =

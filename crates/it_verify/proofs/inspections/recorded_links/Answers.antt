@@ -1,6 +1,6 @@
 use Rattle.std.proofs.Common.{◌∙◌, Bor, List, ℕ, Ok, Err, option_map, subst}
 use Rattle.std.proofs.lemmas.Result.{err_from_is_err_and}
-use Rattle.it_chain.proofs.Walks.{zip_more}
+use Rattle.it_base.proofs.Elements.{zip_more}
 use Rattle.it_verify.specs.inside.Inspections.{IsRecord}
 use Rattle.it_verify.specs.Inspections.{HasRecorded}
 use Rattle.it_verify.proofs.FirstRecords.{found_first}

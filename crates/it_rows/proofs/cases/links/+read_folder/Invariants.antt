@@ -1,4 +1,0 @@
-use Rattle.it_rows.proofs.cases.links.+read_folder.Given as goal
-
-abbrev pub decreases-read_folder : goal.decreases-read_folder
-decreases-read_folder l = l.depth

@@ -1,8 +1,0 @@
-use Rattle.std.proofs.Common.{take}
-use Rattle.serde_json.specs.View.{items_view}
-use Rattle.it_base.specs.Sequence.{AreEach}
-use Rattle.it_rows.specs.Part.{IsNamed}
-use Rattle.it_rows.proofs.cases.parts.each_named.Given as goal
-
-abbrev pub invariant-loop-item : goal.invariant-loop-item
-invariant-loop-item l = AreEach IsNamed (items_view (take l.item-index l.items.items)) l.named.items

@@ -1,0 +1,4 @@
+pub mod Comparison
+pub mod Outcome
+pub mod Part
+pub mod Status

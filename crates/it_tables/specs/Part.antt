@@ -1,0 +1,15 @@
+-- What the parts of a row stand for (a format of this project).
+use Rattle.std.specs.Prelude.{◌≡◌, ℕ, List, Some, MatchOption, codes, option_and_then}
+use Rattle.serde_json.specs.Data.{Data}
+use Rattle.serde_json.specs.Find.{as_number, as_str, as_u64}
+use Rattle.it_base.specs.HexadecimalText.{IsHexadecimal}
+use Rattle.it_base.specs.Parts.{IsPart}
+
+-- the part is a text with these bytes, or an object whose member `hex` stands for them
+abbrev pub IsBytes : Data → List ℕ → Type 0
+IsBytes d bytes = MatchOption (as_str d) (IsPart IsHexadecimal (codes "hex") d bytes)
+    (λ text. text ≡ bytes)
+
+-- the part is this number
+abbrev pub IsNumber : Data → ℕ → Type 0
+IsNumber d n = option_and_then as_u64 (as_number d) ≡ Some n

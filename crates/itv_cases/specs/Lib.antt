@@ -1,0 +1,6 @@
+pub mod Agreement
+pub mod Answer
+pub mod Cases
+pub mod Notes
+pub mod Part
+pub mod Reading

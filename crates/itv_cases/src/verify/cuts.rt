@@ -1,0 +1,92 @@
+//! Each document of a verification cut to each shorter beginning, the others staying whole.
+ghost use Rattle.std.specs.Prelude.{◌≡◌, OnOk};
+
+use crate::cases::case::inputs_in;
+use crate::verify::inputs::length_in;
+use crate::verify::verifications::report_of;
+use it_base::sequence::Sequence;
+use it_base::text::Text;
+use it_chain::bundle::Bundle;
+use it_dsse::ring::HmacRing;
+use it_tables::RowFault;
+use it_tables::rings::ring_in;
+use it_tables::row::text_in;
+use it_verify::inputs::Inputs;
+use serde_json::Value;
+use std::alloc::Global;
+
+/// The lengths of which a row speaks are longer than what is cut.
+const TOO_LONG: RowFault = RowFault::BadMember("to");
+
+/// What comes of the document that a row names, cut to each length from `from` to below `to`: one
+/// answer for all of them, or the first that is another, after its length.
+pub(crate) fn answer_of_cuts(alloc: Global, row: &Value) -> Result<String, RowFault> {
+    let from = length_in(row, "from")?;
+    let answer = answer_of_cut(alloc, row, from)?;
+    for kept in from..length_in(row, "to")? {
+        let other = answer_of_cut(alloc, row, kept)?;
+        if other.as_str() != answer.as_str() {
+            return Ok(format!(in alloc; "{kept}: {}", other.as_str())?);
+        }
+    }
+    Ok(answer)
+}
+
+/// Of a ring that is cut to this length the fault, and of another document the report.
+fn answer_of_cut(alloc: Global, row: &Value, kept: usize) -> Result<String, RowFault> {
+    match text_in(row, "cut")? {
+        "ring" => fault_of_cut_ring(alloc, row, kept),
+        part => report_of_cut(alloc, row, part, kept),
+    }
+}
+
+fn fault_of_cut_ring(alloc: Global, row: &Value, kept: usize) -> Result<String, RowFault> {
+    let ring = text_in(row, "ring")?.get(..kept).ok_or(TOO_LONG)?;
+    match HmacRing::read(alloc, ring.as_bytes()) {
+        Ok(_) => Ok(String::from_str(alloc, "a ring")?),
+        Err(fault) => Ok(format!(in alloc; "{fault:?}")?),
+    }
+}
+
+fn report_of_cut(alloc: Global, row: &Value, part: &str, kept: usize) -> Result<String, RowFault> {
+    let mut inputs = inputs_in(alloc, row)?;
+    cut(alloc, &mut inputs, part, kept)?;
+    report_of(alloc, &inputs, ring_in(alloc, row)?)
+}
+
+/// Cuts the document of this name to this length.
+fn cut(alloc: Global, inputs: &mut Inputs, part: &str, kept: usize) -> Result<(), RowFault>
+    ensures { OnOk result (inputs.new.depth ≡ inputs.old.depth) }
+{
+    match part {
+        "policy" => inputs.policy = beginning(alloc, &inputs.policy, kept)?,
+        "layout" => inputs.layout = beginning(alloc, &inputs.layout, kept)?,
+        "link" => inputs.links = cut_links(alloc, &inputs.links, kept)?,
+        "provenance" => inputs.provenance = beginning(alloc, &inputs.provenance, kept)?,
+        "sums" => inputs.sums = beginning(alloc, &inputs.sums, kept)?,
+        "at" => inputs.moment = beginning_of_text(alloc, &inputs.moment, kept)?,
+        _ => return Err(RowFault::BadMember("cut")),
+    }
+    Ok(())
+}
+
+fn beginning(alloc: Global, whole: &Sequence<u8>, kept: usize) -> Result<Sequence<u8>, RowFault> {
+    let bytes = whole.as_slice().get(..kept).ok_or(TOO_LONG)?;
+    Ok(Sequence::from(bytes.to_vec(alloc)?))
+}
+
+fn beginning_of_text(alloc: Global, whole: &Text, kept: usize) -> Result<Text, RowFault> {
+    let text = whole.as_str().get(..kept).ok_or(TOO_LONG)?;
+    Ok(Text::copy(alloc, text)?)
+}
+
+/// The files, each cut.
+fn cut_links(alloc: Global, links: &Bundle, kept: usize) -> Result<Bundle, RowFault> {
+    let mut cut = Bundle::new(alloc);
+    for file in links.files() {
+        let name = String::from_str(alloc, file.name.as_str())?;
+        let bytes = beginning(alloc, &file.bytes, kept)?;
+        cut.add_file(name, bytes.into_vec())?;
+    }
+    Ok(cut)
+}

@@ -11,7 +11,7 @@ use Rattle.base64.specs.GeneralPurpose.{decoded_of, encode_of}
 abbrev pub is_url_mark : ℕ → Bool
 is_url_mark byte = byte == 45 || byte == 95
 
--- the bytes that a text stands for: one mark selects the alphabet for the whole text (this
+-- the bytes that a text encodes: one mark selects the alphabet for the whole text (this
 -- profile's choice; DSSE v1.0 allows either alphabet)
 unfoldable pub base64_decoded : List ℕ → Option (List ℕ)
 base64_decoded text = decoded_of (if list_any is_url_mark text then url_safe else standard) text
@@ -20,6 +20,6 @@ base64_decoded text = decoded_of (if list_any is_url_mark text then url_safe els
 unfoldable pub base64_encoded : List ℕ → List ℕ
 base64_encoded bytes = encode_of standard bytes
 
--- the part is a text that stands for these bytes
+-- the part is a text that encodes these bytes
 abbrev pub IsBase64 : Data → List ℕ → Type 0
 IsBase64 d bytes = option_and_then base64_decoded (as_str d) ≡ Some bytes

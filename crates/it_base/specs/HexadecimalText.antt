@@ -5,10 +5,10 @@ use Rattle.hex.specs.Hex.{decode_of}
 use Rattle.serde_json.specs.Data.{Data}
 use Rattle.serde_json.specs.Find.{as_str}
 
--- the bytes that a text of two digits a byte stands for
+-- the bytes that a text encodes by two digits a byte
 unfoldable pub hexadecimal_decoded : List ℕ → Option (List ℕ)
 hexadecimal_decoded text = result_ok (decode_of text)
 
--- the part is a text that stands for these bytes
+-- the part is a text that encodes these bytes
 abbrev pub IsHexadecimal : Data → List ℕ → Type 0
 IsHexadecimal d bytes = option_and_then hexadecimal_decoded (as_str d) ≡ Some bytes

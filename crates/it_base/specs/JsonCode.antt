@@ -1,4 +1,4 @@
--- The codes of lists of trees and of members: marks and texts, from which they can be told.
+-- The codes of lists of trees and of members: marks and texts, from which they can be read back.
 use Rattle.std.specs.Prelude.{◌≡◌, ℕ, ℤ, pos, Bool, false, List, [], ◌∷◌, refl}
 use base.Stored.{coded_via}
 use Rattle.std.specs.Coded.{Coded, coded×, coded_ℕ, coded_ℤ, coded_bool, coded_list}

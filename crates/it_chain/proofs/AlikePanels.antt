@@ -16,7 +16,7 @@ use Rattle.it_dsse.specs.declared.key_object.KeyObject.{KeyObject}
 use Rattle.it_docs.specs.Layout.{LayoutOf}
 use Rattle.it_docs.specs.declared.layout.Layout.{Layout}
 use Rattle.it_docs.specs.declared.step.Step.{Step}
-use Rattle.it_chain.specs.Alike.{ComesToTheSame}
+use Rattle.it_chain.specs.Alike.{HasSameOutcome}
 use Rattle.it_chain.specs.AlikePanels.{IsOneKey, PanelsAlike, PanelsAlikeOver}
 use Rattle.it_chain.specs.AllFiles.{all_files, folder_files}
 use Rattle.it_chain.specs.Contents.{Contents, contents_of, empty, files_of, folder, folder_in}
@@ -294,7 +294,7 @@ panels_come (suc depth) here there moment layout bundle over =
 -- by panels that are alike on all those keys a layout comes to the same
 pub alike_panel_chains : (here there : Setting) (depth : ℕ) (layout : Layout) (bundle : Contents)
     → here.moment ≡ there.moment → PanelsAlikeOver here.panel there.panel layout bundle
-    → ComesToTheSame depth layout here bundle there bundle
+    → HasSameOutcome depth layout here bundle there bundle
 alike_panel_chains here there depth layout bundle moment over =
     let alike = over.of_layout in
     let back = over_back here.panel there.panel layout bundle over in

@@ -7,7 +7,7 @@ use Rattle.it_dsse.specs.Panel.{KeyNumber}
 use Rattle.it_docs.specs.Layout.{LayoutOf}
 use Rattle.it_docs.specs.declared.layout.Layout.{Layout}
 use Rattle.it_docs.specs.declared.step.Step.{Step}
-use Rattle.it_chain.specs.Alike.{ChainAlike, Comparing, ComesToTheSame, FoldersCompare, HasCopies}
+use Rattle.it_chain.specs.Alike.{ChainAlike, Comparing, HasSameOutcome, FoldersCompare, HasCopies}
 use Rattle.it_chain.specs.Alike.{LevelWithin, ChainWithin, any_two, deeper_alike}
 use Rattle.it_chain.specs.Contents.{Contents}
 use Rattle.it_chain.specs.CountedBodies.{Setting, Counted}
@@ -111,7 +111,7 @@ bodies_within setting (suc depth) layout a b h step c id payload = h.bodies step
 
 -- alike bundles come to the same
 pub alike_chains : (setting : Setting) (depth : ℕ) (layout : Layout) (a b : Contents)
-    → ChainAlike setting depth layout a b → ComesToTheSame depth layout setting a setting b
+    → ChainAlike setting depth layout a b → HasSameOutcome depth layout setting a setting b
 alike_chains setting depth layout a b h =
     let to = transports setting depth layout a b h in
     let from = transports setting depth layout b a (h.1, h.0) in

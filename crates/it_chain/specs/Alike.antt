@@ -65,9 +65,9 @@ HasCopies setting layout bundle other =
     (step : Step) (id payload : List ℕ) → Contains layout.steps step
     → (counted : Counted setting layout bundle step id payload) → HasCopy other step counted.file
 
--- a layout comes to the same in two settings, each over its bundle: the same records, the same
+-- a layout has one outcome in two settings, each over its bundle: the same records, the same
 -- first failure, and in each step the same number of different keys
-pub record ComesToTheSame (depth : ℕ) (layout : Layout) (setting : Setting) (bundle : Contents)
+pub record HasSameOutcome (depth : ℕ) (layout : Layout) (setting : Setting) (bundle : Contents)
     (another : Setting) (other : Contents) : Type 0 where
   pub chain : (results : List StepResult)
       → Chain setting depth layout bundle results ↔ Chain another depth layout other results

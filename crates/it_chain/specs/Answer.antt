@@ -1,4 +1,4 @@
--- Deciding functions, beside the definitions: what a layout over a bundle comes to, of one level
+-- Deciding functions, beside the definitions: the result of a layout over a bundle, of one level
 -- with its sublayouts' answers given, and then of every depth. Nothing that is trusted stands here.
 use Rattle.std.specs.Prelude.{ℕ, zero, suc, List, [], ◌∷◌, map, filter, if◌then◌else◌, Option, Some}
 use Rattle.std.specs.Prelude.{None, option_map, Result, Ok, Err, nat_lt, codes}
@@ -95,7 +95,7 @@ unless_inspected [] answer = answer
 unless_inspected (inspection ∷ inspections) answer = Err (here InspectionInSublayout)
 
 module _ (sub : Answering) (bundle : Contents) where
-  -- the artifacts that a body comes to
+  -- the artifacts that a body yields
   abbrev pub body_answer : Step → List ℕ → Body → Result Recorded ChainRefusal
   body_answer step id (of_link link) =
       Ok (record { materials = link.materials; products = link.products })
@@ -203,7 +203,7 @@ module _ (lower : Lower) (setting : Setting) where
       (steps_answer sub layout bundle layout.steps >>= λ results. rules_answer
       (links_in results) layout.steps results >>= λ _. Ok results)
 
-  -- what a layout over a bundle comes to, down to a depth of sublayouts
+  -- the result of a layout over a bundle, down to a depth of sublayouts
   unfoldable pub answer : ℕ → Answering
   answer zero = level_answer no_deeper
   answer (suc depth) =

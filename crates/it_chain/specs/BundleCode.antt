@@ -1,4 +1,4 @@
--- The code of `Contents`: a list of marks, from which the contents can be told.
+-- The code of `Contents`: a list of marks, from which the contents can be read back.
 use Rattle.std.specs.Prelude.{◌≡◌, ℕ, List, [], ◌∷◌, refl}
 use base.Stored.{coded_via}
 use Rattle.std.specs.Coded.{Coded, code_by, coded×, coded_ℕ, coded_list}

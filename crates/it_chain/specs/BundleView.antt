@@ -1,4 +1,4 @@
--- Which contents the fields of a bundle stand for.
+-- Which contents the fields of a bundle represent.
 use Rattle.std.specs.Prelude.{ℕ, suc, ◌+◌, ◌≤◌, max, List, [], ◌∷◌, map, String, string_bytes}
 use Rattle.std.proofs.Common.{arith}
 use denote.Param.Weighed.{most}

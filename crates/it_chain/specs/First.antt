@@ -134,7 +134,7 @@ module _ (sub : Holding) (fails : Failing) (setting : Setting) (layout : Layout)
       (index : ℕ) × (path : List ℕ) × RulesFail step side index path
       × (refusal ≡ here (RuleFailed (of_step step.name) side index path))
 
--- the first failure of a layout, what its sublayouts come to being given
+-- the first failure of a layout, given the results of its sublayouts
 abbrev pub LevelFails : Holding → Failing → Setting → Failing
 LevelFails sub fails setting layout bundle refusal =
     IsFirst (StandsInChain sub fails setting layout bundle) (places layout) refusal

@@ -3,7 +3,7 @@ use Rattle.std.specs.Prelude.{◌≡◌, ◌⊎◌, ℕ, suc, ◌≤◌, List, M
 use Rattle.std.specs.List.{AllZip}
 use Rattle.it_docs.specs.declared.layout.Layout.{Layout}
 use Rattle.it_docs.specs.declared.step.Step.{Step}
-use Rattle.it_chain.specs.Alike.{ChainAlike, ComesToTheSame, FoldersCompare, HasCopies, ChainWithin}
+use Rattle.it_chain.specs.Alike.{ChainAlike, HasSameOutcome, FoldersCompare, HasCopies, ChainWithin}
 use Rattle.it_chain.specs.Alike.{deeper_alike}
 use Rattle.it_chain.specs.AlikePanels.{PanelsAlikeOver}
 use Rattle.it_chain.specs.Answer.{answer}
@@ -55,21 +55,21 @@ ChainGoesDeeper =
     (setting : Setting) (depth : ℕ) (layout : Layout) (bundle : Contents) (m : List StepResult)
     → Chain setting depth layout bundle m → Chain setting (suc depth) layout bundle m
 
--- over bundles that are alike a layout comes to the same
+-- over bundles that are alike a layout has one outcome
 abbrev pub AlikeChains : Type 0
 AlikeChains =
     (setting : Setting) (depth : ℕ) (layout : Layout) (bundle other : Contents)
     → ChainAlike setting depth layout bundle other
-    → ComesToTheSame depth layout setting bundle setting other
+    → HasSameOutcome depth layout setting bundle setting other
 
 -- checked by panels that are alike on its keys, and on those of the layouts in the files, a layout
--- comes to the same
+-- has one outcome
 abbrev pub AlikePanelChains : Type 0
 AlikePanelChains =
     (setting another : Setting) (depth : ℕ) (layout : Layout) (bundle : Contents)
     → setting.moment ≡ another.moment
     → PanelsAlikeOver setting.panel another.panel layout bundle
-    → ComesToTheSame depth layout setting bundle another bundle
+    → HasSameOutcome depth layout setting bundle another bundle
 
 -- bundles are alike that have copies of each other's files that count, whatever else is in them, if
 -- the folders of sublayouts are alike

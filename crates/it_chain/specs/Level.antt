@@ -1,5 +1,5 @@
--- When one layout holds of a bundle, what its sublayouts come to being given (in-toto 1.0 section
--- 5.2, verifying the final product).
+-- When one layout holds of a bundle, given the results of its sublayouts (in-toto 1.0 section 5.2,
+-- verifying the final product).
 use Rattle.std.specs.Prelude.{◌≡◌, ℕ, ◌≤◌, List, []}
 use Rattle.std.specs.List.{AllZip}
 use Rattle.it_docs.specs.declared.layout.Layout.{Layout}
@@ -18,8 +18,8 @@ use Rattle.it_chain.specs.Expiry.{IsExpired}
 abbrev pub Holding : Type 1
 Holding = Layout → Contents → List StepResult → Type 0
 
--- a body of a key id comes to these artifacts: a link to what it records, a sublayout without
--- inspections to the summary of its steps over its own folder
+-- a body of a key id yields these artifacts: a link what it records, a sublayout without
+-- inspections the summary of its steps over its own folder
 abbrev pub Records : Holding → Contents → List ℕ → List ℕ → Body → Recorded → Type 0
 Records sub bundle step id (of_link link) recorded =
     recorded ≡ record { materials = link.materials; products = link.products }
@@ -28,7 +28,7 @@ Records sub bundle step id (of_layout layout) recorded =
     × sub layout (folder_of step id bundle) results × (recorded ≡ summary results)
 
 module _ (sub : Holding) (setting : Setting) (layout : Layout) (bundle : Contents) where
-  -- a key id has these artifacts recorded for a step: they are what a body comes to that counts
+  -- a key id has these artifacts recorded for a step: a body that counts yields them
   pub record HasRecord (step : Step) (id : List ℕ) (recorded : Recorded) : Type 0 where
     pub payload : List ℕ
     pub body : Body
@@ -36,7 +36,7 @@ module _ (sub : Holding) (setting : Setting) (layout : Layout) (bundle : Content
     pub reads : BodyOf step.name payload body
     pub records : Records sub bundle step.name id body recorded
 
-  -- a step holds with this record: no id has two bodies, each body that counts comes to the record,
+  -- a step holds with this record: no id has two bodies, each body that counts yields the record,
   -- and enough different keys signed (that all agree, also beyond the threshold, is this profile's
   -- choice)
   pub record StepHolds (step : Step) (result : StepResult) : Type 0 where

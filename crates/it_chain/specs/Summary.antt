@@ -1,4 +1,4 @@
--- What a sublayout stands for in the step that it was signed for (in-toto 1.0 section 4.3,
+-- The artifacts that a sublayout gives the step that it was signed for (in-toto 1.0 section 4.3,
 -- sublayouts).
 use Rattle.std.specs.Prelude.{List, [], ◌∷◌}
 use Rattle.std.specs.FinMap.{empty}
@@ -6,7 +6,7 @@ use Rattle.it_digest.specs.Artifacts.{ArtifactMap}
 use Rattle.it_rules.specs.Item.{Recorded}
 use Rattle.it_chain.specs.declared.chain.StepResult.{StepResult}
 
--- what a sublayout stands for: the materials of its first step and the products of its last, and
+-- what a sublayout gives: the materials of its first step and the products of its last, and
 -- nothing where it has no steps
 abbrev pub first_materials : List StepResult → ArtifactMap
 first_materials [] = empty

@@ -4,7 +4,7 @@ use Rattle.std.specs.Prelude.{◌≡◌, ℕ, ◌<◌, ◌≤◌, List, length, 
 use Rattle.std.specs.Io.KnownBytes.{Consumes, IsAtEnd}
 use Rattle.sha2.specs.Sha256.{sha256}
 
--- the reader came to its end, gave at most limit bytes on the way, and this is their digest
+-- the reader reached its end, gave at most limit bytes on the way, and this is their digest
 pub record IsDigestOfRest (old new : Option (List ℕ)) (limit : ℕ) (digest : List ℕ) : Type 0 where
   pub bytes : List ℕ
   pub given : Consumes old new bytes

@@ -22,7 +22,7 @@ pub record IsMarkedPath (text path : List ℕ) : Type 0 where
   pub named : path ≢ []
   pub in_utf8 : IsUtf8 path
 
--- a line gives this path the SHA-256 that its 64 digits stand for
+-- a line gives this path the SHA-256 that its 64 digits encode
 pub record IsSum (line : List ℕ) (entry : List ℕ × DigestSet) : Type 0 where
   pub digits : List ℕ
   pub text : List ℕ
@@ -38,7 +38,7 @@ pub record AreSums (lines : List (List ℕ)) (entries : List (List ℕ × Digest
   pub each_gives : AllZip IsSum lines entries
   pub paths_differ : AllPairs (λ e f. e.0 ≢ f.0) entries
 
--- the map that a digest list stands for
+-- the map that a digest list describes
 pub record SumsOf (bytes : List ℕ) (sums : ArtifactMap) : Type 0 where
   pub entries : List (List ℕ × DigestSet)
   pub are_sums : AreSums (lines_of bytes) entries

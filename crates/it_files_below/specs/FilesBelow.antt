@@ -1,4 +1,4 @@
--- The files that a path stands for (this profile's choice).
+-- The files at or below a path (this profile's choice).
 use Rattle.std.specs.Prelude.{◌≡◌, ◌↔◌, ℕ, List, [], ◌∷◌, ◌++◌, Contains}
 use Rattle.std.specs.Cmp.Lexicographic.{slice_cmp}
 use Rattle.std.specs.List.Sorted.{IsStrictlySortedBy}
@@ -39,11 +39,11 @@ abbrev pub AreFilesOf : Holdings → List ℕ → Kind → List (List ℕ) → T
 AreFilesOf disk path File files = files ≡ path ∷ []
 AreFilesOf disk path Folder files = AreBelow disk path files
 
--- the files that a path stands for
+-- the files at or below a path
 abbrev pub AreFilesAt : Holdings → List ℕ → List (List ℕ) → Type 0
 AreFilesAt disk path files = (kind : Kind) × disk.kind path kind × AreFilesOf disk path kind files
 
--- all files that each path stands for, path by path
+-- all files at or below each path, path by path
 pub data AreFilesAtEach (disk : Holdings) : List (List ℕ) → List (List ℕ) → Type 0 where
   no_path : AreFilesAtEach disk [] []
   and_path : {paths files : List (List ℕ)} → AreFilesAtEach disk paths files → (path : List ℕ)

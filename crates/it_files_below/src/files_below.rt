@@ -1,4 +1,4 @@
-//! The files that a path stands for.
+//! The files at or below a path.
 ghost use Rattle.std.specs.Prelude.{◌≡◌, ◌∷◌, ◌++◌, ◌↔◌, [], Contains, IfOk, OnOk, map};
 ghost use Rattle.std.specs.Prelude.{string_bytes};
 ghost use Rattle.std.specs.Cmp.Lexicographic.{slice_cmp};
@@ -18,7 +18,7 @@ const MOST_LEVELS: u8 = 32;
 /// How many files may lie below the folder that a path names.
 const MOST_FILES: usize = 1_000_000;
 
-/// The paths of all files that each path stands for, path by path.
+/// The paths of all files at or below each path, path by path.
 ///
 /// # Errors
 ///
@@ -43,8 +43,7 @@ fn add_texts(texts: &mut Vec<Text>, more: Vec<String>) -> Result<(), AllocError>
     Ok(())
 }
 
-/// The paths of the files that a path stands for: of the file itself, or of all files below the
-/// folder.
+/// The paths of the files at or below a path: of the file itself, or of all files below the folder.
 fn files_at<R: Disk + AllocGlobal>(rt: &R, path: &str) -> Result<Vec<String>, Fault>
     ensures { IfOk result (λ files. AreFilesAt R.holdings path.now (map string_bytes files.items)) }
 {

@@ -1,4 +1,4 @@
-//! The files that paths stand for: a file for itself, and a folder for all files below it.
+//! The files at or below paths: a file itself, and all files below a folder.
 //!
 //! ```
 //! let files = files_at_each(rt, paths)?;

@@ -30,7 +30,7 @@ impl Model for Pattern {
 }
 
 impl Pattern {
-    /// Reads a pattern's text. Every text is a pattern: what begins no item of its own stands for
+    /// Reads a pattern's text. Every text is a pattern: what begins no item of its own matches
     /// itself. The pattern keeps a copy of the text. The one error is that memory ran out.
     pub fn read(alloc: Global, text: &str) -> Result<Pattern, AllocError>
         ensures { IfOk result (λ p. p ≡ text.now) }

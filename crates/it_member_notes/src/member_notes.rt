@@ -1,4 +1,4 @@
-//! What there is to say of the members of a policy or a layout.
+//! Notes on the members of a policy or a layout.
 ghost use Rattle.std.specs.Prelude.{◌≡◌, [], All, Contains, IfOk};
 ghost use Rattle.serde_json.specs.View.{view};
 ghost use Rattle.it_member_notes.specs.KeyMembers.{IsKeyMember, place_of};

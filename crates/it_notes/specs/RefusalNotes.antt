@@ -61,7 +61,7 @@ pub record TellsMetAt (panel : Panel) (depth : ℕ) (level : FaultLevel) (place 
   pub is_true : TellsMet (setting_of panel level.moment) depth level.signed.layout level.links.now
       note
 
--- what a file or a key id is for a step of a layout, and what more there is to say of the file
+-- what a file or a key id is for a step of a layout, with the details of the file
 pub record TellsDetailed (panel : Panel) (level : FaultLevel) (step : Step) (told : DetailedNote)
     : Type 0 where
   pub note : TellsStep panel level.signed.layout level.links.now step told.note

@@ -18,7 +18,7 @@ use it_part_notes::part_note::PartNote;
 use it_step_notes::note::{Finding, StepNote};
 use std::alloc::{AllocError, Global};
 
-/// The notes on a step over a bundle, each with what more there is to say of its file.
+/// The notes on a step over a bundle, each with the details of its file.
 pub(crate) fn with_details(
     alloc: Global,
     bundle: &Bundle,
@@ -37,7 +37,7 @@ pub(crate) fn with_details(
     Ok(told)
 }
 
-/// What more there is to say of the file that a note speaks of: of files of one name, of the first.
+/// The details of the file that a note speaks of: of files of one name, of the first.
 fn detail_of(
     alloc: Global,
     bundle: &Bundle,
@@ -71,7 +71,7 @@ fn file_named<'a>(files: &'a [File], name: &str) -> Option<&'a File>
     None
 }
 
-/// What more there is to say of bytes, by what they are found to be for a step. A payload that no
+/// The details of bytes, by what they are found to be for a step. A payload that no
 /// key of the step signed is not looked into.
 fn detail_in(
     alloc: Global,

@@ -1,4 +1,4 @@
-//! What more there is to say of a file of a step.
+//! The details of a file of a step.
 ghost use Rattle.std.specs.Prelude.{◌≡◌, ◌++◌, OnOk};
 ghost use Rattle.std.specs.List.{flat_map};
 ghost use Rattle.it_notes.specs.FileDetails.{detail_form, detail_line, id_form, tried_form};
@@ -11,21 +11,21 @@ use it_report::name::push_name;
 use it_step_notes::note::StepNote;
 use std::alloc::AllocError;
 
-/// A note on a step, and what more there is to say of the file that it speaks of.
+/// A note on a step, and the details of the file that it speaks of.
 #[derive(Drop)]
 pub struct DetailedNote {
     /// The note on the step.
     pub note: StepNote,
-    /// What more there is to say, if there is something.
+    /// The details, if there are any.
     pub detail: Option<FileDetail>,
 }
 
-/// What more there is to say of a file that does not count for a step.
+/// The details of a file that does not count for a step.
 #[derive(Drop)]
 pub struct FileDetail {
     /// The name of the file.
     pub name: Text,
-    /// What there is to say.
+    /// Which detail it is.
     pub detail: Detail,
 }
 

@@ -1,4 +1,4 @@
-//! What there is to say of the layout at which a delivery was refused.
+//! Notes on the layout at which a delivery was refused.
 ghost use Rattle.std.specs.Prelude.{IfOk, IfSome, map};
 ghost use Rattle.it_dsse.specs.Panel.{panel_of};
 ghost use Rattle.it_notes.specs.RefusalNotes.{TellsAt, TellsLevel};
@@ -14,7 +14,7 @@ use it_report::refusal::{Fault, Refusal};
 use it_verify::inputs::Inputs;
 use std::alloc::{AllocError, Global};
 
-/// What there is to say of the layout that a refusal speaks of, or `None` where that is none.
+/// The notes on the layout that a refusal speaks of, or `None` where that is none.
 pub(crate) fn level_told(
     alloc: Global,
     inputs: &Inputs,
@@ -31,7 +31,7 @@ pub(crate) fn level_told(
     Ok(Some(told))
 }
 
-/// What there is to say of a fault of a layout.
+/// The notes on a fault of a layout.
 fn level_notes(
     alloc: Global,
     inputs: &Inputs,

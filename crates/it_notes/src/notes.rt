@@ -29,7 +29,7 @@ use std::alloc::{AllocError, Global};
 /// The number of the last fault of what is looked at before the layout is read.
 const OWNER_MISSING: u8 = 22;
 
-/// What there is to say to people of a verification. Each note is true.
+/// The notes for people on a verification. Each note is true.
 #[derive(Drop)]
 pub struct Notes {
     /// Where the sublayout is of which the refusal speaks.

@@ -13,7 +13,7 @@ use it_report::refusal::{Fault, Refusal};
 use it_verify::inputs::Inputs;
 use std::alloc::{AllocError, Global};
 
-/// What there is to say of a refusal, by its fault.
+/// The notes on a refusal, by its fault.
 pub(crate) fn refusal_notes(
     alloc: Global,
     inputs: &Inputs,
@@ -43,7 +43,7 @@ fn is_of_level(fault: &Fault) -> bool {
     )
 }
 
-/// What there is to say of a fault of the documents that were given.
+/// The notes on a fault of the documents that were given.
 fn input_notes(
     alloc: Global,
     inputs: &Inputs,

@@ -13,7 +13,7 @@ use it_dsse::check::SignatureCheck;
 use it_step_notes::threshold_notes;
 use std::alloc::{AllocError, Global};
 
-/// What there is to say of the step of this name, for which too few keys signed.
+/// The notes on the step of this name, for which too few keys signed.
 pub(crate) fn step_told(
     alloc: Global,
     level: &FaultLevel,

@@ -14,7 +14,7 @@ use Rattle.it_report.specs.declared.verdict.Verdict.TheVariants.{Accepted}
 use Rattle.it_verify.specs.InputsAlike.{InputsAlike, InputsWithin}
 use Rattle.it_verify.specs.PanelsAlike.{PanelsAlikeFor}
 use Rattle.it_verify.specs.Verdict.{IsVerdict}
-use Rattle.it_verify.specs.VerificationLaws.{ComesToTheSame, OnlyWithholds}
+use Rattle.it_verify.specs.VerificationLaws.{HasSameOutcome, OnlyWithholds}
 use Rattle.it_verify.specs.declared.inputs.Inputs.{Inputs}
 use Rattle.it_verify.proofs.AlikePanels.{alike_panels}
 use Rattle.it_verify.proofs.AlikeVerdicts.{alike_inputs}
@@ -46,7 +46,7 @@ module _ (rings : List (List RingEntry)) (inputs : Inputs) where
   }
 
   the_same : (table : Option Keys)
-      → ComesToTheSame (panel_with rings table) inputs (panel_with rings table) inputs
+      → HasSameOutcome (panel_with rings table) inputs (panel_with rings table) inputs
   the_same table = record {
     verdict = λ verdict. (λ x. x, λ x. x);
     report = λ text status. (λ x. x, λ x. x);
@@ -54,9 +54,9 @@ module _ (rings : List (List RingEntry)) (inputs : Inputs) where
 
 pub any_table : (wanted : Bool) (rings : List (List RingEntry)) (inputs : Inputs)
     (one other : Option Keys) → IsTableOf wanted inputs one → IsTableOf wanted inputs other
-    → ComesToTheSame (panel_with rings one) inputs (panel_with rings other) inputs
+    → HasSameOutcome (panel_with rings one) inputs (panel_with rings other) inputs
 any_table false rings inputs one other is also =
-    subst (λ table. ComesToTheSame (panel_with rings one) inputs (panel_with rings table) inputs)
+    subst (λ table. HasSameOutcome (panel_with rings one) inputs (panel_with rings table) inputs)
     (is ∙ sym also) (the_same rings inputs one)
 any_table true rings inputs None other is also = absurd is
 any_table true rings inputs (Some one) None is also = absurd also
@@ -80,8 +80,8 @@ any_output wanted rings inputs one other form text status is also output = recor
 }
 
 -- what comes to the same as another, which comes to the same as a third, does so as the third
-same_as_third : (a b c : Panel) (inputs other third : Inputs) → ComesToTheSame a inputs b other
-    → ComesToTheSame b other c third → ComesToTheSame a inputs c third
+same_as_third : (a b c : Panel) (inputs other third : Inputs) → HasSameOutcome a inputs b other
+    → HasSameOutcome b other c third → HasSameOutcome a inputs c third
 same_as_third a b c inputs other third h k = record {
   verdict = λ verdict. (
     λ x. (k.verdict verdict).0 ((h.verdict verdict).0 x),
@@ -97,7 +97,7 @@ module _ (wanted : Bool) (rings : List (List RingEntry)) (inputs other : Inputs)
     (one two both : Option Keys) where
   pub alike_by_tables : AreTables wanted inputs other one two both
       → InputsAlike (panel_with rings both) inputs other
-      → ComesToTheSame (panel_with rings one) inputs (panel_with rings two) other
+      → HasSameOutcome (panel_with rings one) inputs (panel_with rings two) other
   alike_by_tables are alike =
       same_as_third (panel_with rings one) (panel_with rings both) (panel_with rings two) inputs
       inputs other (any_table wanted rings inputs one both are.of_first are.also_of_first)

@@ -222,8 +222,8 @@ pub data AreLinesOf (disk : Holdings) : List (List ℕ) → List ℕ → Type 0 
       → IsLineOf disk file line
       → AreLinesOf disk (files ++ file ∷ []) (text ++ line)
 
--- digest: the files that the words name: those at the paths, or with --recursive all files that
--- each path stands for
+-- digest: the files that the words name: those at the paths, or with --recursive all files at or
+-- below each path
 abbrev pub AreNamed : Holdings → DigestWords → List (List ℕ) → Type 0
 AreNamed disk words files = MatchBool words.recursive (AreFilesAtEach disk words.paths files)
     (files ≡ words.paths)

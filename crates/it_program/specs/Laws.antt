@@ -9,7 +9,7 @@ use Rattle.it_report.specs.declared.verdict.Verdict.{Verdict}
 use Rattle.it_report.specs.declared.verdict.Verdict.TheVariants.{Accepted}
 use Rattle.it_verify.specs.InputsAlike.{InputsAlike, InputsWithin}
 use Rattle.it_verify.specs.Verdict.{IsVerdict}
-use Rattle.it_verify.specs.VerificationLaws.{ComesToTheSame, OnlyWithholds}
+use Rattle.it_verify.specs.VerificationLaws.{HasSameOutcome, OnlyWithholds}
 use Rattle.it_verify.specs.declared.inputs.Inputs.{Inputs}
 
 -- a table that has every key which a verification of these inputs could ask for, where one is
@@ -21,12 +21,12 @@ IsTableOf wanted inputs = IsTableFor wanted inputs.policy inputs.layout inputs.l
 abbrev pub panel_with : List (List RingEntry) → Option Keys → Panel
 panel_with rings table = panel_of (checks_of rings table)
 
--- by whichever table has every key that could be asked for, a verification comes to the same
+-- by whichever table has every key that could be asked for, a verification has one outcome
 abbrev pub AnyTable : Type 0
 AnyTable =
     (wanted : Bool) (rings : List (List RingEntry)) (inputs : Inputs) (one other : Option Keys)
     → IsTableOf wanted inputs one → IsTableOf wanted inputs other
-    → ComesToTheSame (panel_with rings one) inputs (panel_with rings other) inputs
+    → HasSameOutcome (panel_with rings one) inputs (panel_with rings other) inputs
 
 -- the tables of two verifications, and one that has the keys of both
 pub record AreTables (wanted : Bool) (inputs other : Inputs) (one two both : Option Keys)
@@ -36,13 +36,13 @@ pub record AreTables (wanted : Bool) (inputs other : Inputs) (one two both : Opt
   pub also_of_first : IsTableOf wanted inputs both
   pub also_of_second : IsTableOf wanted other both
 
--- inputs in which the same counts come to the same, each by its own table
+-- inputs in which the same counts have one outcome, each by its own table
 abbrev pub AlikeByTables : Type 0
 AlikeByTables =
     (wanted : Bool) (rings : List (List RingEntry)) (inputs other : Inputs)
     (one two both : Option Keys) → AreTables wanted inputs other one two both
     → InputsAlike (panel_with rings both) inputs other
-    → ComesToTheSame (panel_with rings one) inputs (panel_with rings two) other
+    → HasSameOutcome (panel_with rings one) inputs (panel_with rings two) other
 
 -- who takes away what counts from what is accepted can only withhold, each verification going by
 -- its own table

@@ -15,7 +15,7 @@ use it_words::words::{Words, read_words};
 use std::io::Write;
 
 /// Runs the command that the words name, and says why the system did not take its output where that
-/// is so. What there is to say beside the output goes to `notes`. The first word is the program's
+/// is so. Notes beside the output go to `notes`. The first word is the program's
 /// name.
 ///
 /// # Errors
@@ -38,7 +38,7 @@ pub fn run_to<R: Disk + AllocGlobal, W: Write + Drop, N: Write>(
     }
 }
 
-/// Runs the command that the words name. What there is to say beside its output goes to `notes`.
+/// Runs the command that the words name. Notes beside its output go to `notes`.
 /// The first word is the program's name.
 ///
 /// # Errors

@@ -7,7 +7,7 @@ use it_outcome::{Status, exit_of};
 
 /// The status that the program ends with: that of the command, or 2 where it did not run.
 ///
-/// `outcome` is what `run_to` or `words` came to.
+/// `outcome` is the answer of `run_to` or of `words`.
 pub fn exit_status(outcome: &Result<Status, Fault>) -> u8
     ensures { result ≡ program_status outcome.now }
 {

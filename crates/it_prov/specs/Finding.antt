@@ -1,4 +1,4 @@
--- What the search for the provenance of a delivered file comes to (SLSA v1.0, verifying artifacts).
+-- What the search for the provenance of a delivered file finds (SLSA v1.0, verifying artifacts).
 use Rattle.std.specs.Prelude.{◌≡◌, ℕ, List, Option, Some, take, Contains}
 use Rattle.std.specs.List.{slice_get}
 use Rattle.it_digest.specs.declared.compare.DigestSet.{DigestSet}

@@ -91,7 +91,7 @@ NoneSigned panel expectation envelope = (builder : Builder)
 abbrev pub IsOfOtherType : List ℕ → Envelope → Type 0
 IsOfOtherType found envelope = (found ≡ envelope.payload_type) × (found ≢ in_toto_type)
 
--- its payload is no Statement; its type is this one, where a type is told
+-- its payload is no Statement; its type is this one, where one is named
 pub record HasNoStatement (found : Option (List ℕ)) (envelope : Envelope) : Type 0 where
   pub none : (statement : Statement) → ¬ StatementOf envelope.payload statement
   pub type_is : IfSome found (λ text. IsDocumentThat (IsTyped text) envelope.payload)

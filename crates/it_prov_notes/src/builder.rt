@@ -45,7 +45,7 @@ fn some_has_id(signers: &[&Builder], id: &str) -> bool
 }
 
 /// Whether each builder that the provenance names, of those that signed, is of too low a level:
-/// then the greatest of these levels is told.
+/// then the greatest of these levels is named.
 pub(crate) fn low_level(
     provenance: &Provenance,
     expectation: &Expectation,

@@ -19,8 +19,8 @@ use it_dsse::envelope::Envelope;
 use it_dsse::payload_type::IN_TOTO;
 use std::alloc::{AllocError, Global};
 
-/// What an envelope misses. Of one that no expected builder signed it is told only where it speaks
-/// of the file.
+/// What an envelope misses. One that no expected builder signed is noted only where it speaks of
+/// the file.
 pub(crate) fn envelope_misses(
     alloc: Global,
     envelope: &Envelope,

@@ -3,7 +3,7 @@ use Rattle.std.specs.Prelude.{ℕ, ◌+◌, ◌-◌, ◌/◌, ◌%◌, List, [],
 use Rattle.std.specs.Prelude.{nat_le, nat_lt, if◌then◌else◌, codes}
 use Rattle.std.specs.List.{flat_map}
 
--- a byte that stands for itself: a character of ASCII that is seen, but no backslash
+-- a byte that is written as it is: a character of ASCII that is seen, but no backslash
 abbrev pub is_plain : ℕ → Bool
 is_plain byte = nat_le 0x21 byte && nat_le byte 0x7e && not (byte == 0x5c)
 

@@ -84,7 +84,7 @@ abbrev pub best_lines : Option ℕ → List ℕ
 best_lines None = []
 best_lines (Some level) = line (codes "best") (decimal level)
 
--- what is told of a fault, line by line
+-- the details of a fault, line by line
 abbrev pub fault_lines : Fault → List ℕ
 fault_lines (BadPolicy part) = line (codes "part") (policy_part_form part)
 fault_lines (BadSums n) = line (codes "line") (decimal n)
@@ -118,7 +118,7 @@ first_line (Accepted steps files) = codes "accepted\n"
 first_line (Refused refusal) =
     line (codes "refused") (decimal (number_of refusal.fault) ++ codes " " ++ name_of refusal.fault)
 
--- the other lines: what was accepted, or where the refusal comes from and what is told of its fault
+-- the other lines: what was accepted, or where the refusal comes from and the details of its fault
 abbrev pub further_lines : Verdict → List ℕ
 further_lines (Accepted steps files) = flat_map step_line steps ++ flat_map file_line files
 further_lines (Refused refusal) =

@@ -1,4 +1,4 @@
--- A layout without rules: what its steps come to is what those of the layout come to before their
+-- A layout without rules: its steps have the records that those of the layout have before their
 -- rules are judged (in-toto 1.0 section 5.2, verifying the final product).
 use Rattle.std.specs.Prelude.{◌≡◌, ℕ, List, []}
 use Rattle.std.specs.List.{AllZip}

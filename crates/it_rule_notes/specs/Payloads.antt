@@ -24,7 +24,7 @@ pub record TellsPayloads (setting : Setting) (layout : Layout) (bundle : Content
   pub second_counts : FileCounts setting layout bundle step note.id second
   pub differ : first.payload ≢ second.payload
 
--- two files of which this is told (this project's words)
+-- how two files are named (this project's words)
 unfoldable pub files_form : List ℕ → List ℕ → List ℕ
 files_form first second =
     told_form (codes " the files ") first []

@@ -1,4 +1,4 @@
-//! What there is to say of a step for which too few keys signed.
+//! The notes on a step for which too few keys signed.
 ghost use Rattle.std.specs.Prelude.{All, IfOk, map};
 ghost use Rattle.it_dsse.specs.Panel.{panel_of};
 ghost use Rattle.it_step_notes.specs.StepNotes.{Holds};

@@ -1,11 +1,11 @@
--- What the parts of a row stand for (a format of this project).
+-- What the parts of a row mean (a format of this project).
 use Rattle.std.specs.Prelude.{◌≡◌, ℕ, List, Some, MatchOption, codes, option_and_then}
 use Rattle.serde_json.specs.Data.{Data}
 use Rattle.serde_json.specs.Find.{as_number, as_str, as_u64}
 use Rattle.it_base.specs.HexadecimalText.{IsHexadecimal}
 use Rattle.it_base.specs.Parts.{IsPart}
 
--- the part is a text with these bytes, or an object whose member `hex` stands for them
+-- the part is a text with these bytes, or an object whose member `hex` encodes them
 abbrev pub IsBytes : Data → List ℕ → Type 0
 IsBytes d bytes = MatchOption (as_str d) (IsPart IsHexadecimal (codes "hex") d bytes)
     (λ text. text ≡ bytes)

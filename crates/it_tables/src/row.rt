@@ -65,7 +65,7 @@ pub fn is_set(row: &Value, name: &str) -> bool {
 ///
 /// # Errors
 ///
-/// `BadMember` where there is none, or it stands for no bytes; `OutOfMemory` where memory was
+/// `BadMember` where there is none, or it is no bytes; `OutOfMemory` where memory was
 /// refused.
 pub fn bytes_part(alloc: Global, row: &Value, name: &'static str) -> Result<Sequence<u8>, RowFault>
     ensures { IfOk result (IsPart IsBytes name.now (view row.now)) }
@@ -73,7 +73,7 @@ pub fn bytes_part(alloc: Global, row: &Value, name: &'static str) -> Result<Sequ
     bytes_of(alloc, member_in(row, name)?)?.ok_or(RowFault::BadMember(name))
 }
 
-/// The bytes that a value is: those of a text, or what the member `hex` of an object stands for.
+/// The bytes that a value is: those of a text, or those that the member `hex` of an object encodes.
 /// `None` where it is neither.
 pub fn bytes_of(alloc: Global, value: &Value) -> Result<Option<Sequence<u8>>, AllocError>
     ensures { IfOk result (Finds (IsBytes (view value.now))) }

@@ -16,7 +16,7 @@ pub(crate) enum Kind {
     Ed25519,
     /// ECDSA over P-256 with SHA-256 (FIPS 186-5). A key is a SubjectPublicKeyInfo.
     P256,
-    /// The same, where the message's SHA-256 stands for the message.
+    /// The same, where the message's SHA-256 is given in its place.
     P256Digest,
     /// RSASSA-PSS with SHA-256 (RFC 8017). A key is a SubjectPublicKeyInfo.
     Rsa,

@@ -13,7 +13,7 @@ use Rattle.it_docs.specs.Policy.{PolicyOf}
 use Rattle.it_docs.specs.declared.policy.Builder.{Builder}
 use Rattle.it_docs.specs.declared.policy.Expectation.{Expectation}
 use Rattle.it_docs.specs.declared.policy.Policy.{Policy}
-use Rattle.it_chain.specs.Alike.{ComesToTheSame as ChainsCome}
+use Rattle.it_chain.specs.Alike.{HasSameOutcome as ChainsCome}
 use Rattle.it_chain.specs.AlikePanels.{PanelsAlike}
 use Rattle.it_chain.proofs.AlikePanels.{alike_panel_chains, over_back, panels_back, signed_there}
 use Rattle.it_chain.proofs.Entries.{entry_known}
@@ -34,7 +34,7 @@ use Rattle.it_verify.specs.RefusedFor.{at_inspections, at_layout, at_links, at_m
 use Rattle.it_verify.specs.RefusedFor.{at_payload_type, at_policy, at_provenance, at_records, at_sums}
 use Rattle.it_verify.specs.RefusedFor.{stages}
 use Rattle.it_verify.specs.Verdict.{IsVerdict}
-use Rattle.it_verify.specs.VerificationLaws.{ComesToTheSame}
+use Rattle.it_verify.specs.VerificationLaws.{HasSameOutcome}
 use Rattle.it_verify.specs.VerifyOutput.{IsVerifyOutput}
 use Rattle.it_verify.specs.declared.inputs.Inputs.{Inputs}
 use Rattle.it_verify.proofs.AlikeVerdicts.{HasLevel, fits_stands}
@@ -245,7 +245,7 @@ module _ (panel other : Panel) (inputs : Inputs) (alike : PanelsAlikeFor panel o
 
 -- by alike panels inputs come to the same
 pub alike_panels : (panel other : Panel) (inputs : Inputs) → PanelsAlikeFor panel other inputs
-    → ComesToTheSame panel inputs other inputs
+    → HasSameOutcome panel inputs other inputs
 alike_panels panel other inputs alike =
     let back = panels_for_back panel other inputs alike in
     record {

@@ -11,7 +11,7 @@ use Rattle.it_dsse.specs.declared.envelope.Envelope.{Envelope}
 use Rattle.it_docs.specs.Statement.{StatementOf}
 use Rattle.it_docs.specs.declared.policy.Builder.{Builder}
 use Rattle.it_docs.specs.declared.policy.Expectation.{Expectation}
-use Rattle.it_chain.specs.Alike.{ChainAlike, ComesToTheSame as ChainsCome}
+use Rattle.it_chain.specs.Alike.{ChainAlike, HasSameOutcome as ChainsCome}
 use Rattle.it_chain.specs.Chain.{Chain}
 use Rattle.it_chain.specs.First.{FirstChainFailure as ChainFirst}
 use Rattle.it_chain.proofs.Alikes.{alike_chains}
@@ -30,7 +30,7 @@ use Rattle.it_verify.specs.Inspections.{HasRecorded}
 use Rattle.it_verify.specs.Made.{IsMadeBy}
 use Rattle.it_verify.specs.Verdict.{IsVerdict}
 use Rattle.it_verify.specs.VerifyOutput.{IsVerifyOutput}
-use Rattle.it_verify.specs.VerificationLaws.{ComesToTheSame}
+use Rattle.it_verify.specs.VerificationLaws.{HasSameOutcome}
 use Rattle.it_verify.specs.declared.inputs.Inputs.{Inputs}
 use Rattle.it_outcome.specs.declared.outcome.Status.{Status}
 use Rattle.it_report.specs.declared.refusal.Refusal.{Refusal}
@@ -326,7 +326,7 @@ module _ (panel : Panel) (a b : Inputs) (h : InputsAlike panel a b) where
   }
 
 -- alike inputs come to the same
-pub alike_inputs : (panel : Panel) (a b : Inputs) → InputsAlike panel a b → ComesToTheSame panel a panel b
+pub alike_inputs : (panel : Panel) (a b : Inputs) → InputsAlike panel a b → HasSameOutcome panel a panel b
 alike_inputs panel a b h =
     let back = alike_back panel a b h in
     record {

@@ -88,14 +88,14 @@ pub use Rattle.it_chain.specs.Level.{Holding}
 pub use Rattle.it_chain.specs.Level.{LevelHolds}
 -- told by its equation
 pub use Rattle.it_chain.specs.Expiry.{IsExpired}
--- a step holds with this record: no id has two bodies, each body that counts comes to the record,
--- and enough different keys signed (that all agree, also beyond the threshold, is this profile's
+-- a step holds with this record: no id has two bodies, each body that counts yields the record, and
+-- enough different keys signed (that all agree, also beyond the threshold, is this profile's
 -- choice)
 pub use Rattle.it_chain.specs.Level.{StepHolds}
--- a key id has these artifacts recorded for a step: they are what a body comes to that counts
+-- a key id has these artifacts recorded for a step: a body that counts yields them
 pub use Rattle.it_chain.specs.Level.{HasRecord}
--- a body of a key id comes to these artifacts: a link to what it records, a sublayout without
--- inspections to the summary of its steps over its own folder
+-- a body of a key id yields these artifacts: a link what it records, a sublayout without
+-- inspections the summary of its steps over its own folder
 pub use Rattle.it_chain.specs.Level.{Records}
 -- the rules of a step hold of its record on both sides
 pub use Rattle.it_chain.specs.StepRules.{StepRulesHold}
@@ -105,8 +105,8 @@ pub use Rattle.it_chain.specs.StepRules.{links_in}
 pub use Rattle.it_chain.specs.StepRules.{recorded_in as chain_recorded_in}
 -- both: what a sublayout stands for
 pub use Rattle.it_chain.specs.Summary.{summary}
--- what a sublayout stands for: the materials of its first step and the products of its last, and
--- nothing where it has no steps
+-- what a sublayout gives: the materials of its first step and the products of its last, and nothing
+-- where it has no steps
 pub use Rattle.it_chain.specs.Summary.{first_materials}
 -- the products of the last step
 pub use Rattle.it_chain.specs.Summary.{last_products}

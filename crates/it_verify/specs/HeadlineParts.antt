@@ -186,11 +186,11 @@ pub use Rattle.it_docs.specs.Policy.{IsBuilderOf}
 pub use Rattle.it_docs.specs.Level.{IsLevelPart}
 -- a level: a whole number from 0 to 3
 pub use Rattle.it_docs.specs.Level.{IsLevel}
--- the map that a digest list stands for
+-- the map that a digest list describes
 pub use Rattle.it_digest.specs.Sums.{SumsOf}
 -- the lines give these entries, one each, and no path stands twice
 pub use Rattle.it_digest.specs.Sums.{AreSums}
--- a line gives this path the SHA-256 that its 64 digits stand for
+-- a line gives this path the SHA-256 that its 64 digits encode
 pub use Rattle.it_digest.specs.Sums.{IsSum}
 -- what follows the digits: two spaces, or a space and a star, and a path, which is not empty
 pub use Rattle.it_digest.specs.Sums.{IsMarkedPath}
@@ -225,12 +225,12 @@ pub use Rattle.it_base.specs.Table.{Stands as base_Stands}
 pub use Rattle.it_base.specs.Table.{Named}
 -- a value of which P holds, or none where P holds of no value
 pub use Rattle.it_base.specs.Finds.{Finds}
--- the part is a text that stands for these bytes
+-- the part is a text that encodes these bytes
 pub use Rattle.it_base.specs.Base64Text.{IsBase64}
--- the bytes that a text stands for: one mark selects the alphabet for the whole text (this
--- profile's choice; DSSE v1.0 allows either alphabet)
+-- the bytes that a text encodes: one mark selects the alphabet for the whole text (this profile's
+-- choice; DSSE v1.0 allows either alphabet)
 pub use Rattle.it_base.specs.Base64Text.{base64_decoded}
 -- a byte that only the alphabet for URLs and file names has: a dash or an underscore
 pub use Rattle.it_base.specs.Base64Text.{is_url_mark}
--- the bytes that a text of two digits a byte stands for
+-- the bytes that a text encodes by two digits a byte
 pub use Rattle.it_base.specs.HexadecimalText.{hexadecimal_decoded}

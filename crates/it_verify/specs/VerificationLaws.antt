@@ -51,26 +51,26 @@ VerdictIsOne =
     → IsMadeBy panel inputs documents evidence → IsMadeBy panel inputs other given
     → verdict_of documents evidence ≡ verdict_of other given
 
--- a verification comes to the same as another: whatever is the verdict of the first is that of the
+-- a verification has the outcome of another: whatever is the verdict of the first is that of the
 -- other, and so is its report
-pub record ComesToTheSame (panel : Panel) (inputs : Inputs) (another : Panel) (other : Inputs)
+pub record HasSameOutcome (panel : Panel) (inputs : Inputs) (another : Panel) (other : Inputs)
     : Type 0 where
   pub verdict : (verdict : Verdict)
       → IsVerdict panel inputs verdict ↔ IsVerdict another other verdict
   pub report : (text : List ℕ) (status : Status)
       → IsVerifyOutput panel inputs text status ↔ IsVerifyOutput another other text status
 
--- inputs in which the same counts come to the same
+-- inputs in which the same counts have one outcome
 abbrev pub AlikeInputs : Type 0
 AlikeInputs =
     (panel : Panel) (inputs other : Inputs) → InputsAlike panel inputs other
-    → ComesToTheSame panel inputs panel other
+    → HasSameOutcome panel inputs panel other
 
--- inputs come to the same by panels that are alike on every key that could be asked for
+-- inputs have one outcome by panels that are alike on every key that could be asked for
 abbrev pub AlikePanels : Type 0
 AlikePanels =
     (panel other : Panel) (inputs : Inputs) → PanelsAlikeFor panel other inputs
-    → ComesToTheSame panel inputs other inputs
+    → HasSameOutcome panel inputs other inputs
 
 -- the same step, with no more different keys
 abbrev pub HasNoMoreKeys : List ℕ × ℕ → List ℕ × ℕ → Type 0

@@ -23,7 +23,7 @@ abbrev pub Meets : Wanted → Answer → Type 0
 Meets wanted answer = (answer.status ≡ wanted.status) × (answer.report ≡ wanted.report)
     × IfSome wanted.notes (λ notes. answer.notes ≡ notes)
 
--- the verification came to what is wanted
+-- the verification gave what is wanted
 abbrev pub Agrees : Run → Type 0
 Agrees run = Meets run.wanted run.given
 
@@ -32,13 +32,13 @@ abbrev pub has_notes : Option (List ℕ) → List ℕ → Bool
 has_notes None notes = true
 has_notes (Some wanted) notes = pointwise nat_eq notes wanted
 
--- the verification came to what is wanted, as a truth value
+-- the verification gave what is wanted, as a truth value
 abbrev pub agrees : Run → Bool
 agrees run = (run.given.status == run.wanted.status)
     && pointwise nat_eq run.given.report run.wanted.report
     && has_notes run.wanted.notes run.given.notes
 
--- the run of a case: what the case wants, and what the verification of its inputs comes to, by its
+-- the run of a case: what the case wants, and what the verification of its inputs gives, by its
 -- rings and, where the case asks for them, by public keys
 pub record IsRunOf (case : Case) (run : Run) : Type 0 where
   pub name : run.name ≡ case.name

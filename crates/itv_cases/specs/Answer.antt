@@ -1,4 +1,4 @@
--- What a verification comes to (a word of this project).
+-- The answer of a verification (a word of this project).
 use Rattle.std.specs.Prelude.{◌≡◌, Ok}
 use Rattle.it_dsse.specs.Panel.{Panel}
 use Rattle.it_json_report.specs.declared.form.ReportForm.TheVariants.{Lines}

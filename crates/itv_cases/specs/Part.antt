@@ -1,4 +1,4 @@
--- What the parts of a case stand for (a format of this project).
+-- What the parts of a case mean (a format of this project).
 use Rattle.std.specs.Prelude.{◌≡◌, ℕ, List, Some}
 use Rattle.serde_json.specs.Data.{Data, item, no_items}
 use Rattle.serde_json.specs.Find.{as_array, as_str}

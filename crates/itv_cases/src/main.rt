@@ -1,5 +1,5 @@
 //! `itv_cases TABLE..`: whether whole verifications, whole runs of the program, and the parts of a
-//! verification come to what the lines of tables say.
+//! verification give what the lines of tables say.
 //!
 //! A line is a case, which is a whole verification, or a row, whose member `call` names what is
 //! called. Writes each line that differs, and how many agree.

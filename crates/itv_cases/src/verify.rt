@@ -1,4 +1,4 @@
-//! What rules, folders of links, chains, provenance and whole verifications come to. What whole
+//! The outcomes of rules, folders of links, chains, provenance and whole verifications. What whole
 //! verifications report is in the cases.
 mod chains;
 mod cuts;

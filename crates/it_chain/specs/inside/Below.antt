@@ -1,4 +1,4 @@
--- What the sublayouts of a level come to. Nothing that is trusted stands here.
+-- The results of the sublayouts of a level. Nothing that is trusted stands here.
 use Rattle.std.specs.Prelude.{ℕ, zero, suc}
 use Rattle.it_docs.specs.declared.layout.Layout.{Layout}
 use Rattle.it_chain.specs.Chain.{Chain, none_holds}

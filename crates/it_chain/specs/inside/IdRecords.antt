@@ -41,7 +41,7 @@ module _ (sub : Holding) (setting : Setting) (layout : Layout) (bundle : Content
         × Contains records r × IsGiven sub setting layout bundle step id r
     pub in_order : InOrder records
 
--- the record of an id whose body came to this
+-- the record of an id whose body yielded this
 abbrev pub IsRecordOf : List ℕ → KeyNumber → Result Recorded ChainError
     → Result (Option IdRecord) ChainError → Type 0
 IsRecordOf id key (Ok recorded) (Ok given) =

@@ -54,7 +54,7 @@ module _ (scope : Scope) where
   abbrev pub StandsIn : ChainPlace → ChainRefusal → Type 0
   StandsIn = StandsAt scope.setting scope.depth scope.layout scope.bundle
 
-  -- what the sublayouts of the level come to, what they cost, and what they take at the least
+  -- the results of the level's sublayouts, what they cost, and what they take at the least
   abbrev pub below_holds : Holding
   below_holds = holds_below scope.setting scope.depth
 

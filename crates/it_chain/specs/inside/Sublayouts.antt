@@ -1,4 +1,4 @@
--- What a sublayout, and so a body, comes to. Nothing that is trusted stands here.
+-- The result of a sublayout, and so of a body. Nothing that is trusted stands here.
 use Rattle.std.specs.Prelude.{◌≡◌, ℕ, List, [], Result, Ok, Err, ⊤}
 use Rattle.it_docs.specs.declared.layout.Layout.{Layout}
 use Rattle.it_rules.specs.Item.{Recorded}

@@ -1,4 +1,4 @@
--- What the functions that make the index come to. Nothing that is trusted stands here.
+-- The answers of the functions that make the index. Nothing that is trusted stands here.
 use Rattle.std.specs.Prelude.{◌≡◌, ◌≢◌, ◌<◌, ◌-◌, ℕ, List, [], ◌∷◌, ◌++◌, Some, Contains}
 use Rattle.std.specs.Prelude.{if◌then◌else◌, length, slice_get, false}
 use Rattle.std.specs.BTreeMap.{BTreeMap}

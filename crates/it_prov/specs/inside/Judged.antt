@@ -1,4 +1,4 @@
--- What the functions that judge an envelope come to, in the words of the definitions. Nothing
+-- The answers of the functions that judge an envelope, in the words of the definitions. Nothing
 -- that is trusted stands here.
 use Rattle.std.specs.Prelude.{◌≡◌, ◌*◌, ◌<◌, ◌≤◌, ℕ, List, Option, Some, None, Contains}
 use Rattle.std.specs.Prelude.{Any, IfSome, length, slice_get}

@@ -1,4 +1,4 @@
--- What a search among envelopes comes to. Nothing that is trusted stands here.
+-- The answers of a search among envelopes. Nothing that is trusted stands here.
 use Rattle.std.specs.Prelude.{◌*◌, ◌≤◌, ℕ, List, Contains, IfErr, IfOk, Result}
 use Rattle.it_digest.specs.declared.compare.DigestSet.{DigestSet}
 use Rattle.it_dsse.specs.Meter.{RaisedBy}

@@ -1,4 +1,4 @@
-//! The bytes that are signed, and the codes that stand for a signature.
+//! The bytes that are signed, and the codes of a signature.
 use it_dsse::{hmac_sha256, hmac_sha256_parts, pae};
 use it_tables::RowFault;
 use it_tables::row::{bytes_in, list_in, number_in, text_in};

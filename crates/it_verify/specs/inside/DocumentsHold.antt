@@ -1,4 +1,4 @@
--- What the reading of the documents comes to.
+-- The answers of the reading of the documents.
 use Rattle.std.specs.FinMap.{empty}
 use Rattle.std.specs.Prelude.{◌≢◌, List, [], ◌∷◌}
 use Rattle.it_dsse.specs.Panel.{Panel}

@@ -1,4 +1,4 @@
--- What the functions on inspections come to.
+-- The answers of the functions on inspections.
 use Rattle.std.specs.BTreeMap.{BTreeMap, get_by}
 use Rattle.std.specs.Borrow.{Bor}
 use Rattle.std.specs.Cmp.Lexicographic.{slice_cmp}

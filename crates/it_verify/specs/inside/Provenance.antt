@@ -1,4 +1,4 @@
--- What the functions on provenance come to.
+-- The answers of the functions on provenance.
 use Rattle.std.specs.Prelude.{◌≡◌, ◌⊎◌, ℕ, List, [], ◌∷◌, Option}
 use Rattle.it_digest.specs.declared.compare.DigestSet.{DigestSet}
 use Rattle.it_dsse.specs.Envelope.{EnvelopeOf}

@@ -1,4 +1,4 @@
-//! What a verification comes to.
+//! The answer of a verification.
 ghost use Rattle.std.specs.Prelude.{◌≡◌, ◌≤◌, ◌↔◌, IsTrue, IfOk, IfSome, map};
 ghost use Rattle.it_dsse.specs.Panel.{panel_of};
 
@@ -46,7 +46,7 @@ impl Answer {
         }
     }
 
-    /// What `verify_with_notes` comes to.
+    /// The answer of `verify_with_notes`.
     ///
     /// # Errors
     ///

@@ -1,4 +1,4 @@
-//! A case: the inputs of a verification, and what another implementation came to.
+//! A case: the inputs of a verification, and the answer of another implementation.
 ghost use Rattle.std.specs.Prelude.{◌≤◌, [], codes, IfOk, map};
 ghost use Rattle.serde_json.specs.View.{view};
 ghost use Rattle.it_base.specs.Parts.{IsPart, IsPartOr};
@@ -46,7 +46,7 @@ pub(crate) struct Case {
     pub(crate) rings: Sequence<HmacRing>,
     /// Whether signatures are checked by public keys too.
     pub(crate) public_keys: bool,
-    /// What the other implementation came to.
+    /// The answer of the other implementation.
     pub(crate) wanted: Wanted,
     ghost within_depth: { inputs.depth ≤ 8 },
 }
@@ -114,7 +114,7 @@ fn table_for(
     table_if(alloc, is_wanted, policy, layout, &inputs.links)
 }
 
-/// What the verification comes to, with signatures checked by the checks.
+/// The answer of the verification, with signatures checked by the checks.
 fn answer_by(alloc: Global, inputs: &Inputs, checks: Vec<AnyCheck>) -> Result<Answer, AllocError>
     requires { inputs.now.depth ≤ 8 }
     ensures { IfOk result (IsAnswer (panel_of (map check_of checks.items)) inputs.now) }

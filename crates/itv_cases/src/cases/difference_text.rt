@@ -1,4 +1,4 @@
-//! What is told of a case that differs.
+//! How a case differs, in words.
 use crate::cases::run::Run;
 use it_base::sequence::Sequence;
 use std::alloc::{AllocError, Global};

@@ -5,21 +5,21 @@ use crate::cases::answer::Answer;
 use crate::cases::wanted::Wanted;
 use it_base::text::Text;
 
-/// What a case wants, and what the verification came to.
+/// What a case wants, and what the verification gave.
 #[derive(Drop)]
 pub(crate) struct Run {
     /// The name of the case.
     pub(crate) name: Text,
-    /// What the other implementation came to.
+    /// The answer of the other implementation.
     pub(crate) wanted: Wanted,
-    /// What `verify_with_notes` came to.
+    /// The answer of `verify_with_notes`.
     pub(crate) given: Answer,
 }
 
 impl Run {
     ghost use Rattle.itv_cases.specs.Agreement.{Agrees, agrees};
 
-    /// Whether the verification came to what is wanted.
+    /// Whether the verification gave what is wanted.
     pub(crate) fn agrees(&self) -> bool
         ensures equal { IsTrue result ↔ Agrees self.now }
         ensures value { result ≡ agrees self.now }

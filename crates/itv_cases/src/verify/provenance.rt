@@ -25,7 +25,7 @@ const DIGESTS: DigestSet = DigestSet {
     sha512: None,
 };
 
-/// What the search comes to for the path of a row, and how many signatures it tries.
+/// What the search finds for the path of a row, and how many signatures it tries.
 pub(crate) fn provenance(alloc: Global, row: &Value) -> Result<String, RowFault> {
     let policy = read_policy(alloc, text_in(row, "policy")?.as_bytes())
         .ok()
@@ -59,7 +59,7 @@ fn envelope(alloc: Global, text: &Value) -> Option<Envelope> {
     Envelope::read(alloc, text.as_str()?.as_bytes()).ok()
 }
 
-/// What the search came to, in words.
+/// What the search found, in words.
 fn told(alloc: Global, found: &Result<usize, ProvError>) -> Result<String, AllocError> {
     match found {
         Ok(place) => format!(in alloc; "envelope {place}"),

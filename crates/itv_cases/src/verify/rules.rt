@@ -67,7 +67,7 @@ fn artifacts(alloc: Global, words: &str) -> Result<Artifacts, RowFault> {
     Ok(artifacts)
 }
 
-/// The digests that a word stands for: A and B differ in their SHA-256, S has a SHA-512 alone, and
+/// The digests that a word means: A and B differ in their SHA-256, S has a SHA-512 alone, and
 /// AS both.
 fn digest_set(word: &str) -> DigestSet {
     let (sha256, sha512) = match word {
@@ -119,7 +119,7 @@ pub(crate) fn first_fault(alloc: Global, row: &Value) -> Result<String, RowFault
     }
 }
 
-/// What the rules of a row come to, over the link `build` and, where there is one, `test`.
+/// The outcome of the rules of a row, over the link `build` and, where there is one, `test`.
 fn fault_in(alloc: Global, row: &Value) -> Result<Option<RuleFault>, RowFault> {
     let rules = rules_in(alloc, row)?;
     let side = side_in(row)?;

@@ -48,7 +48,7 @@ module _ (sub : Costing) (setting : Setting) (layout : Layout) (bundle : Content
         (λ body. CostsIfFound (LayoutOf body.1)
         (λ sublayout. sub sublayout (folder_of step.name body.0 bundle))) bodies n
 
-  -- a step costs a panel for each of its ids and each signature, and what its sublayouts cost
+  -- a step costs a check for each of its ids and each signature, and what its sublayouts cost
   pub record StepCosts (step : Step) (n : ℕ) : Type 0 where
     pub signatures : ℕ
     pub sublayouts : ℕ

@@ -1,5 +1,5 @@
--- The artifacts that a sublayout gives the step that it was signed for (in-toto 1.0 section 4.3,
--- sublayouts).
+-- The artifacts that a sublayout gives the step that it was signed for (in-toto 1.0 section 5.2,
+-- verifying the final product).
 use Rattle.std.specs.Prelude.{List, [], ◌∷◌}
 use Rattle.std.specs.FinMap.{empty}
 use Rattle.it_digest.specs.Artifacts.{ArtifactMap}

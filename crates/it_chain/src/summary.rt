@@ -1,4 +1,4 @@
-//! What a sublayout gives the step that it was signed for (in-toto 1.0 section 4.3).
+//! What a sublayout gives the step that it was signed for (in-toto 1.0 section 5.2).
 ghost use Rattle.std.specs.Prelude.{◌≡◌};
 ghost use Rattle.it_chain.specs.Summary.{summary};
 

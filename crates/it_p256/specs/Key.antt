@@ -9,7 +9,7 @@ pub record Key : Type 0 where
   pub x : ℕ
   pub y : ℕ
 
--- they are below the prime, and the point is on the curve (SP 800-56A, section 5.6.2.3.4, whose
+-- they are below the prime, and the point is on the curve (SP 800-56A, section 5.6.2.3.3, whose
 -- last test P-256 needs not: its order is prime)
 pub record IsKey (key : Key) : Type 0 where
   pub x_below : key.x < prime

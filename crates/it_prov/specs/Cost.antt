@@ -1,5 +1,5 @@
--- How many checks of validity the search for provenance may ask for (a word of this project; no
--- standard speaks of it).
+-- The most checks of validity that the search for provenance counts. Who signed what is found out
+-- before it, and not counted (a word of this project; no standard speaks of it).
 use Rattle.std.specs.Prelude.{ℕ, List, length}
 use Rattle.std.specs.List.{sum_by}
 use Rattle.std.specs.FinMap.{len}

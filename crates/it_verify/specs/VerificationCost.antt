@@ -1,4 +1,4 @@
--- How many checks of validity a verification may ask for (a word of this project; no standard
+-- The most checks of validity that a verification counts (a word of this project; no standard
 -- speaks of it).
 use Rattle.std.specs.FinMap.{keys, len}
 use Rattle.std.specs.Prelude.{◌≡◌, ℕ, List, ◌+◌, ◌*◌, length}

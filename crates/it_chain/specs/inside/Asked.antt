@@ -98,7 +98,7 @@ module _ (sub : Costing) (setting : Setting) (layout : Layout) (bundle : Content
   SublayoutFewest id =
       CostsIfFound (CountsFor id) (λ sublayout. sub sublayout (folder_of step.name id bundle))
 
-  -- a key id that counts takes one panel, and what its sublayout takes, if it has one
+  -- a key id that counts takes one check, and what its sublayout takes, if it has one
   abbrev pub IdFewest : List ℕ → ℕ → Type 0
   IdFewest id n = (m : ℕ) × SublayoutFewest id m × (n ≡ m + 1)
 

@@ -1,7 +1,7 @@
 -- What the parts of a row mean (a format of this project).
-use Rattle.std.specs.Prelude.{◌≡◌, ℕ, List, Some, MatchOption, codes, option_and_then}
+use Rattle.std.specs.Prelude.{◌≡◌, ℕ, List, Bool, Some, MatchOption, codes, option_and_then}
 use Rattle.serde_json.specs.Data.{Data}
-use Rattle.serde_json.specs.Find.{as_number, as_str, as_u64}
+use Rattle.serde_json.specs.Find.{as_bool, as_number, as_str, as_u64}
 use Rattle.it_base.specs.HexadecimalText.{IsHexadecimal}
 use Rattle.it_base.specs.Parts.{IsPart}
 
@@ -13,3 +13,7 @@ IsBytes d bytes = MatchOption (as_str d) (IsPart IsHexadecimal (codes "hex") d b
 -- the part is this number
 abbrev pub IsNumber : Data → ℕ → Type 0
 IsNumber d n = option_and_then as_u64 (as_number d) ≡ Some n
+
+-- the part is this truth value
+abbrev pub IsBoolean : Data → Bool → Type 0
+IsBoolean d b = as_bool d ≡ Some b

@@ -1,21 +1,17 @@
 -- Which vector a document is (a format of this project).
 use Rattle.std.specs.Prelude.{◌≡◌, Bool, Some, None, codes}
 use Rattle.serde_json.specs.Data.{Data}
-use Rattle.serde_json.specs.Find.{as_bool}
 use Rattle.it_base.specs.Document.{member_at}
 use Rattle.it_base.specs.HexadecimalText.{IsHexadecimal}
 use Rattle.it_base.specs.Parts.{IsPart}
 use Rattle.it_base.specs.Text.{IsText}
+use Rattle.it_tables.specs.Part.{IsBoolean}
 use Rattle.it_vectors.specs.Kind.{name_of}
 use Rattle.it_vectors.specs.declared.kind.Kind.{Kind}
 use Rattle.it_vectors.specs.declared.vector.Signed.{Signed}
 use Rattle.it_vectors.specs.declared.vector.Tried.{Tried}
 use Rattle.it_vectors.specs.declared.vector.Tried.TheVariants.{KeyAlone, Signature}
 use Rattle.it_vectors.specs.declared.vector.Vector.{Vector}
-
--- the part is this truth value
-abbrev pub IsBoolean : Data → Bool → Type 0
-IsBoolean d b = as_bool d ≡ Some b
 
 -- the part is the name of this kind
 abbrev pub IsKind : Data → Kind → Type 0

@@ -4,7 +4,8 @@ ghost use Rattle.serde_json.specs.View.{view};
 ghost use Rattle.it_base.specs.Document.{member_at};
 ghost use Rattle.it_base.specs.Finds.{Finds};
 ghost use Rattle.it_base.specs.Parts.{IsPart};
-ghost use Rattle.it_vectors.specs.Line.{IsBoolean, IsKind, IsSigned, Tries};
+ghost use Rattle.it_tables.specs.Part.{IsBoolean};
+ghost use Rattle.it_vectors.specs.Line.{IsKind, IsSigned, Tries};
 
 use crate::kind::Kind;
 use crate::vector::{Signed, Tried, Vector};

@@ -1,12 +1,12 @@
 //! A case: the inputs of a verification, and the answer of another implementation.
-ghost use Rattle.std.specs.Prelude.{◌≤◌, [], codes, IfOk, map};
+ghost use Rattle.std.specs.Prelude.{◌≤◌, [], false, codes, IfOk, map};
 ghost use Rattle.serde_json.specs.View.{view};
 ghost use Rattle.it_base.specs.Parts.{IsPart, IsPartOr};
 ghost use Rattle.it_base.specs.Sequence.{IsList};
 ghost use Rattle.it_dsse.specs.Panel.{panel_of};
 ghost use Rattle.it_public_keys.specs.AnyCheck.{check_of};
 ghost use Rattle.it_public_keys.specs.Collected.{IsTableFor};
-ghost use Rattle.it_tables.specs.Part.{IsBytes, IsNumber};
+ghost use Rattle.it_tables.specs.Part.{IsBoolean, IsBytes, IsNumber};
 ghost use Rattle.itv_cases.specs.Answer.{IsAnswer};
 ghost use Rattle.itv_cases.specs.Part.{IsNamed};
 ghost use Rattle.itv_cases.specs.Reading.{InputsOf};
@@ -192,7 +192,9 @@ fn rings(alloc: Global, case: &Value) -> Result<Vec<HmacRing>, RowFault> {
 }
 
 /// Whether public keys are asked for: where the member is not there, they are not.
-fn public_keys(case: &Value) -> Result<bool, RowFault> {
+fn public_keys(case: &Value) -> Result<bool, RowFault>
+    ensures { IfOk result (IsPartOr IsBoolean false (codes "public_keys") (view case.now)) }
+{
     match member(case, "public_keys") {
         Some(value) => value.as_bool().ok_or(RowFault::BadMember("public_keys")),
         None => Ok(false),

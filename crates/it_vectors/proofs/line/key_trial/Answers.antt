@@ -3,7 +3,8 @@ use Rattle.serde_json.specs.Data.{Data}
 use Rattle.serde_json.specs.View.{view}
 use Rattle.it_base.specs.Document.{member_at}
 use Rattle.it_base.specs.Parts.{IsPart}
-use Rattle.it_vectors.specs.Line.{IsBoolean, Tries}
+use Rattle.it_tables.specs.Part.{IsBoolean}
+use Rattle.it_vectors.specs.Line.{Tries}
 use Rattle.it_vectors.specs.declared.vector.Tried.{Tried}
 use Rattle.it_vectors.specs.declared.vector.Tried.TheVariants.{KeyAlone, Signature}
 use Rattle.it_vectors.proofs.line.key_trial.Goals as goal

@@ -2,6 +2,13 @@
 use Rattle.std.specs.Prelude.{◌≡◌, ℕ, List, ◌++◌, Option, codes, Contains}
 use Rattle.hex.specs.Hex.{encode_lower}
 use Rattle.it_digest.specs.Reader.{IsDigestOfRest}
+use Rattle.it_outcome.specs.declared.outcome.RunFault.{RunFault}
+use Rattle.it_outcome.specs.declared.outcome.RunFault.TheVariants.{
+  BadName,
+  Digest,
+  OutOfMemory,
+  Write,
+}
 
 -- the digest in lower-case hexadecimal digits, two spaces, the name as it is given, a line feed
 abbrev pub digest_line : List ℕ → List ℕ → List ℕ
@@ -18,3 +25,11 @@ pub record IsDigestLine (old new : Option (List ℕ)) (limit : ℕ) (name text :
   pub digest_is : IsDigestOfRest old new limit digest
   pub text_is : text ≡ digest_line digest name
   pub listable : ¬ HasLineFeed name
+
+-- a fault that the command may have: one of its output, or that the name or the file has no line
+abbrev pub IsDigestFault : RunFault → Type 0
+IsDigestFault Write = Unit {0}
+IsDigestFault OutOfMemory = Unit {0}
+IsDigestFault BadName = Unit {0}
+IsDigestFault (Digest fault) = Unit {0}
+IsDigestFault other = ⊥

@@ -3,7 +3,8 @@ ghost use Rattle.std.specs.Prelude.{◌≡◌, ◌≢◌, ◌↔◌, IfErr, IfOk
 ghost use Rattle.std.specs.Io.KnownBytes.{Appends};
 ghost use Rattle.it_base.specs.Writing.{AppendsBeginning};
 ghost use Rattle.it_digest.specs.Reader.{GaveAtMost, GaveMoreThan};
-ghost use Rattle.it_commands.specs.DigestOutput.{HasLineFeed, IsDigestLine, digest_line};
+ghost use Rattle.it_commands.specs.DigestOutput.{HasLineFeed, IsDigestFault, IsDigestLine};
+ghost use Rattle.it_commands.specs.DigestOutput.{digest_line};
 
 use it_digest::reader::{DigestFault, sha256_of_reader};
 use it_outcome::output::{Output, put};
@@ -58,6 +59,7 @@ pub fn run_digest<R: Read, W: Write>(
     ensures read { result ≡ Err (RunFault.Digest DigestFault.Read)
         → GaveAtMost (R.remaining input.old) (R.remaining input.new) limit }
     ensures known { IfErr result (λ fault. fault ≢ RunFault.UnknownKey) }
+    ensures faults { IfErr result IsDigestFault }
 {
     check_name(name)?;
     let digest = match sha256_of_reader(input, limit) {

@@ -1,11 +1,11 @@
 -- What a walk over a list collects, item by item.
 use Rattle.std.proofs.Common.{◌≡◌, List, [], ◌∷◌, ◌++◌, Contains, map, sym, ap, subst, ◌∙◌}
-use Rattle.std.proofs.Common.{⊎_elim, append_assoc, append-nil, arith}
+use Rattle.std.proofs.Common.{⊎_elim, inl, inr, append_assoc, append-nil, arith}
 use Rattle.std.proofs.lemmas.List.Elements.{Contains-append_cases, Contains-append_left}
 use Rattle.std.proofs.lemmas.List.Elements.{Contains-append_right, Contains-push}
 use Rattle.std.proofs.lemmas.List.Elements.{Contains-push_cases}
 use Rattle.it_public_keys.specs.Keys.{Keys}
-use Rattle.it_public_keys.specs.KeyTable.{Extends}
+use Rattle.it_public_keys.specs.KeyTable.{AddsOnly, Extends}
 use Rattle.it_public_keys.specs.declared.key.Key.{Key}
 
 -- a table extends itself, and what extends an extension extends the first
@@ -21,6 +21,18 @@ pub Extends-contains : (old new : Keys) → Extends old new → (key : Key)
     → Contains old key → Contains new key
 Extends-contains old new more key there =
     subst (λ keys. Contains keys key) (sym more.1) (Contains-append_left old more.0 key there)
+
+-- one key more, of which P holds
+pub AddsOnly-push : (P : Key → Type 0) (keys : Keys) (one : Key) → P one
+    → AddsOnly P keys (keys ++ one ∷ [])
+AddsOnly-push P keys one is = λ key there.
+    ⊎_elim inl (λ same. inr (subst P same is)) (Contains-push_cases keys one key there)
+
+-- what holds of the keys that were added
+pub AddsOnly-weaker : (P Q : Key → Type 0) → ((key : Key) → P key → Q key) → (old new : Keys)
+    → AddsOnly P old new → AddsOnly Q old new
+AddsOnly-weaker P Q weaker old new only = λ key there.
+    ⊎_elim inl (λ is. inr (weaker key is)) (only key there)
 
 -- what holds of a table and an item holds of each table that extends it
 abbrev pub Stays : {X : Type 0} → (Keys → X → Type 0) → Type 0

@@ -4,6 +4,7 @@ pub mod LinkFaults
 pub mod LinkWritten
 pub mod Nestings
 pub mod ParametersGiven
+pub mod PrintedLines
 pub mod StatementFaults
 pub mod StatementWritten
 pub mod TablesWritten

@@ -103,6 +103,7 @@ is_statement_output sums build_type builder given text m d trees sums_are given_
       subjects_are = sums_are;
       parameters_are = given_are;
       reads = read;
+      one_line = written.one_line;
       text_is = λ whole. written.text_is (no_float m build_type builder d whole);
       reads_back = back;
       only = λ other h.

@@ -1,10 +1,13 @@
 -- What `itv statement` writes: a Statement (in-toto Attestation, Statement v1) that carries
 -- provenance (SLSA Provenance v1).
 use Rattle.std.specs.Prelude.{◌≡◌, ℕ, ◌≤◌, List, ◌++◌, map, codes, false, Option, Some, None}
+use Rattle.std.specs.Prelude.{Contains}
 use Rattle.std.specs.FinMap.{entries, values}
+use Rattle.json.specs.Lex.{tokens}
+use Rattle.json.specs.Print.{print}
 use Rattle.serde_json.specs.Data.{Data, array, depth, member, no_members, object, string}
 use Rattle.serde_json.specs.View.{items_of}
-use Rattle.serde_json.specs.Written.{compact_text, has_float}
+use Rattle.serde_json.specs.Written.{IsInOrder, compact_text, has_float}
 use Rattle.it_base.specs.Document.{IsDocument}
 use Rattle.it_base.specs.Json.{Fields, no_fields}
 use Rattle.it_base.specs.TreeOf.{IsMembers}
@@ -76,9 +79,18 @@ AreParameters None d parameters = (d ≡ object no_members) × (parameters ≡ n
 AreParameters (Some bytes) d parameters =
     IsDocument bytes d × IsMembers d parameters × (depth d ≤ 124)
 
+-- the text is one line, and a line feed: a JSON text with no space between its tokens, and with the
+-- items and the members of the document, each once and in order
+pub record IsCompactLine (text : List ℕ) (document : Data) : Type 0 where
+  pub line : List ℕ
+  pub text_is : text ≡ line ++ codes "\n"
+  pub no_feed : ¬ Contains line 10
+  pub compact : line ≡ print (tokens line)
+  pub in_order : IsInOrder line document
+
 -- the text is a JSON text of the Statement of this digest list, builder, build type and parameters,
--- and a line feed, and reads back as that Statement and no other; where no parameter is a number
--- with a fraction or an exponent, or past 64 bits, it is the text with no space
+-- on one line with no space, and reads back as that Statement and no other; where no parameter is a
+-- number with a fraction or an exponent, or past 64 bits, no byte of it is open
 pub record IsStatementOutput (sums build_type builder : List ℕ) (given : Option (List ℕ))
     (text : List ℕ) : Type 0 where
   pub subjects : ArtifactMap
@@ -87,6 +99,8 @@ pub record IsStatementOutput (sums build_type builder : List ℕ) (given : Optio
   pub subjects_are : SumsOf sums subjects
   pub parameters_are : AreParameters given document parameters
   pub reads : IsDocument text
+      (statement_document subjects (provenance_document build_type builder document))
+  pub one_line : IsCompactLine text
       (statement_document subjects (provenance_document build_type builder document))
   pub text_is : has_float document ≡ false → text ≡ compact_text
       (statement_document subjects (provenance_document build_type builder document)) ++ codes "\n"

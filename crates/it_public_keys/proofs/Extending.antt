@@ -1,11 +1,11 @@
 -- What a walk over a list collects, item by item.
-use Rattle.std.proofs.Common.{◌≡◌, List, [], ◌∷◌, ◌++◌, Contains, map, sym, ap, subst, ◌∙◌}
-use Rattle.std.proofs.Common.{⊎_elim, append_assoc, append-nil, arith}
+use Rattle.std.proofs.Common.{◌≡◌, List, [], ◌∷◌, ◌++◌, All, Contains, get_or, map, sym, ap, subst, ◌∙◌}
+use Rattle.std.proofs.Common.{⊎_elim, inl, inr, append_assoc, append-nil, arith}
 use Rattle.std.proofs.lemmas.List.Elements.{Contains-append_cases, Contains-append_left}
-use Rattle.std.proofs.lemmas.List.Elements.{Contains-append_right, Contains-push}
+use Rattle.std.proofs.lemmas.List.Elements.{Contains-append_right, Contains-get_or, Contains-push}
 use Rattle.std.proofs.lemmas.List.Elements.{Contains-push_cases}
 use Rattle.it_public_keys.specs.Keys.{Keys}
-use Rattle.it_public_keys.specs.KeyTable.{Extends}
+use Rattle.it_public_keys.specs.KeyTable.{AddsOnly, Extends}
 use Rattle.it_public_keys.specs.declared.key.Key.{Key}
 
 -- a table extends itself, and what extends an extension extends the first
@@ -21,6 +21,24 @@ pub Extends-contains : (old new : Keys) → Extends old new → (key : Key)
     → Contains old key → Contains new key
 Extends-contains old new more key there =
     subst (λ keys. Contains keys key) (sym more.1) (Contains-append_left old more.0 key there)
+
+-- one key more, of which P holds
+pub AddsOnly-push : (P : Key → Type 0) (keys : Keys) (one : Key) → P one
+    → AddsOnly P keys (keys ++ one ∷ [])
+AddsOnly-push P keys one is = λ key there.
+    ⊎_elim inl (λ same. inr (subst P same is)) (Contains-push_cases keys one key there)
+
+-- what holds of the keys that were added
+pub AddsOnly-weaker : (P Q : Key → Type 0) → ((key : Key) → P key → Q key) → (old new : Keys)
+    → AddsOnly P old new → AddsOnly Q old new
+AddsOnly-weaker P Q weaker old new only = λ key there.
+    ⊎_elim inl (λ is. inr (weaker key is)) (only key there)
+
+-- all keys of a table that was begun without keys
+pub All-added : (P : Key → Type 0) (keys : Keys) → AddsOnly P [] keys → All P keys
+All-added P keys only = λ i d within.
+    ⊎_elim (λ none. absurd (omega (arith, none.1))) (λ is. is)
+    (only (get_or keys i d) (Contains-get_or keys i d within))
 
 -- what holds of a table and an item holds of each table that extends it
 abbrev pub Stays : {X : Type 0} → (Keys → X → Type 0) → Type 0
@@ -47,6 +65,23 @@ collected_more P stays seen x old now new so_far more holds = record {
   holds = λ y there. ⊎_elim (λ before. stays now new more y (so_far.holds y before))
       (λ same. subst (P new) same holds) (Contains-push_cases seen x y there);
 }
+
+-- one of the items that were seen gave the key
+abbrev pub Gave : {X : Type 0} → (X → Key → Type 0) → List X → Key → Type 0
+Gave {X = X} Q seen key = (x : X) × Contains seen x × Q x key
+
+-- at the start no key was added
+pub added_none : (P : Key → Type 0) (keys : Keys) → AddsOnly P keys keys
+added_none P keys = λ key there. inl there
+
+-- and one more item adds what it gives
+pub added_more : {X : Type 0} (Q : X → Key → Type 0) (seen : List X) (x : X)
+    (old now new : Keys) → AddsOnly (Gave Q seen) old now → AddsOnly (Q x) now new
+    → AddsOnly (Gave Q (seen ++ x ∷ [])) old new
+added_more Q seen x old now new so_far more = λ key there.
+    ⊎_elim (λ before. ⊎_elim inl (λ gave. inr
+    (gave.0, Contains-append_left seen (x ∷ []) gave.0 gave.1, gave.2)) (so_far key before))
+    (λ is. inr (x, Contains-push seen x, is)) (more key there)
 
 -- what stands in the image of a list is the image of what stands in the list
 pub contains_map : {X Y : Type 0} (f : X → Y) (xs : List X) (y : Y) → Contains (map f xs) y

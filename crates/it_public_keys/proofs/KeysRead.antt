@@ -13,7 +13,7 @@ use Rattle.it_rsa.specs.Info.{info_of as rsa_info}
 use Rattle.it_rsa.specs.Key.{Key as RsaKey, IsKey as IsRsaKey}
 use Rattle.it_public_keys.specs.Keys.{IsKey, Keys}
 use Rattle.it_public_keys.specs.KeyTable.{HoldsKey}
-use Rattle.it_public_keys.specs.KeyText.{are_bytes}
+use Rattle.it_public_keys.specs.KeyText.{are_bytes, describes}
 use Rattle.it_public_keys.specs.declared.key.Key.{Key}
 use Rattle.it_public_keys.specs.declared.key.Key.TheVariants.{Ed25519, P256, Rsa}
 use Rattle.it_public_keys.specs.declared.key_text.KeyText.{KeyText}
@@ -84,3 +84,9 @@ pub no_text : (object : KeyObject) (keys : Keys) → text_in object ≡ None →
 no_text object keys none = λ key fit is.
     absurd (let clash : false ≡ true = ap (λ t. fits_in t key) (sym none)
     ∙ sym (describes_is object key) ∙ fit in cc)
+
+-- a key that its text is, the object describes
+pub described : (object : KeyObject) (text : KeyText) → text_in object ≡ Some text → (key : Key)
+    → IsTrue (fits text key) → IsTrue (describes object key)
+described object text there key fit =
+    describes_is object key ∙ ap (λ t. fits_in t key) there ∙ fit

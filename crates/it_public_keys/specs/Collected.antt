@@ -1,7 +1,7 @@
 -- Which keys a verification could ask for: those of the policy, of the layout, and of each layout
 -- that stands in a file of the links, at every depth (this profile's choice).
 use Rattle.std.specs.Prelude.{◌≡◌, ℕ, List, Contains, Bool, true, false, Option, Some, None}
-use Rattle.std.specs.Prelude.{MatchOption}
+use Rattle.std.specs.Prelude.{IsTrue, MatchOption}
 use Rattle.std.specs.FinMap.{get}
 use Rattle.it_base.specs.Table.{Named}
 use Rattle.it_chain.specs.AllFiles.{all_files}
@@ -18,11 +18,18 @@ use Rattle.it_dsse.specs.declared.envelope.Envelope.{Envelope}
 use Rattle.it_dsse.specs.declared.key_object.KeyObject.{KeyObject}
 use Rattle.it_public_keys.specs.Keys.{Keys}
 use Rattle.it_public_keys.specs.KeyTable.{HoldsKey, IsKeyTable}
+use Rattle.it_public_keys.specs.KeyText.{describes}
+use Rattle.it_public_keys.specs.declared.key.Key.{Key}
 
 -- the table has the keys of all of these objects
 abbrev pub HoldsKeys : Keys → Named KeyObject → Type 0
 HoldsKeys keys objects =
     (id : List ℕ) (object : KeyObject) → get objects id ≡ Some object → HoldsKey keys object
+
+-- one of these objects describes the key
+abbrev pub IsKeyOf : Named KeyObject → Key → Type 0
+IsKeyOf objects key = (id : List ℕ) × (object : KeyObject) × (get objects id ≡ Some object)
+    × IsTrue (describes object key)
 
 -- the keys of an expectation's builders
 abbrev pub HoldsBuilders : Keys → Expectation → Type 0

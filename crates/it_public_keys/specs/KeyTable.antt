@@ -1,6 +1,6 @@
 -- A table of public keys, and the check that it is (this profile's choice). A key's number is its
 -- place in the table.
-use Rattle.std.specs.Prelude.{◌≡◌, ◌≢◌, IsTrue, ◌++◌, All, AllPairs, Contains, false}
+use Rattle.std.specs.Prelude.{◌≡◌, ◌≢◌, ◌⊎◌, IsTrue, ◌++◌, All, AllPairs, Contains, false}
 use Rattle.std.specs.Prelude.{option_map, position, slice_get, unwrap_or}
 use Rattle.it_dsse.specs.Check.{Check}
 use Rattle.it_dsse.specs.declared.key_object.KeyObject.{KeyObject}
@@ -30,3 +30,7 @@ HoldsKey keys object = (key : Key) → IsTrue (describes object key) → IsKey k
 -- what stood in the old table stands in the new one at the same place
 abbrev pub Extends : Keys → Keys → Type 0
 Extends old new = (more : Keys) × (new ≡ old ++ more)
+
+-- each key of the new table stood in the old one, or P holds of it
+abbrev pub AddsOnly : (Key → Type 0) → Keys → Keys → Type 0
+AddsOnly P old new = (key : Key) → Contains new key → Contains old key ⊎ P key

@@ -1,5 +1,5 @@
 //! The keys that a verification could ask for.
-ghost use Rattle.std.specs.Prelude.{Contains, IfOk, map};
+ghost use Rattle.std.specs.Prelude.{All, Contains, IfOk, map};
 ghost use Rattle.it_base.specs.Finds.{Finds};
 ghost use Rattle.it_docs.specs.Policy.{PolicyOf};
 ghost use Rattle.it_docs.specs.declared.policy.Builder.{Builder};
@@ -7,8 +7,8 @@ ghost use Rattle.it_docs.specs.declared.policy.Expectation.{Expectation};
 ghost use Rattle.it_docs.specs.declared.policy.Policy.{Policy as PolicyRead};
 ghost use Rattle.it_chain.specs.declared.bundle.File.{File as FileRead};
 ghost use Rattle.it_public_keys.specs.Collected.{HoldsAll, HoldsBuilders, HoldsKeys, HoldsLayout};
-ghost use Rattle.it_public_keys.specs.Collected.{HoldsPolicy, IsTableFor};
-ghost use Rattle.it_public_keys.specs.KeyTable.{Extends, IsKeyTable};
+ghost use Rattle.it_public_keys.specs.Collected.{HoldsPolicy, IsKeyOf, IsTableFor};
+ghost use Rattle.it_public_keys.specs.KeyTable.{AddsOnly, Extends, IsKeyTable};
 
 use crate::table::PublicKeys;
 use it_base::table::Table;
@@ -54,6 +54,7 @@ impl PublicKeys {
     pub fn of(alloc: Global, objects: &Table<KeyObject>) -> Result<PublicKeys, AllocError>
         ensures table { IfOk result (λ keys. IsKeyTable keys) }
         ensures holds { IfOk result (λ keys. HoldsKeys keys objects.now) }
+        ensures only { IfOk result (All (IsKeyOf objects.now)) }
     {
         let keys = with_keys(PublicKeys::new(alloc), objects)?;
         keys.is_key_table();
@@ -174,6 +175,7 @@ fn with_layout_in(alloc: Global, keys: PublicKeys, bytes: &[u8]) -> Result<Publi
 fn with_keys(keys: PublicKeys, objects: &Table<KeyObject>) -> Result<PublicKeys, AllocError>
     ensures extends { IfOk result (Extends keys) }
     ensures holds { IfOk result (λ table. HoldsKeys table objects.now) }
+    ensures only { IfOk result (AddsOnly (IsKeyOf objects.now) keys) }
 {
     let mut table = keys;
     for (_, object) in objects.iter() {

@@ -1,12 +1,13 @@
 //! The table of public keys, and the check that it is.
 ghost use Rattle.std.specs.Prelude.{◌≡◌, ◌∷◌, ◌++◌, [], ℕ, List, IfOk, None, false, map};
-ghost use Rattle.std.specs.Prelude.{option_map, position, slice_get, unwrap_or};
+ghost use Rattle.std.specs.Prelude.{IsTrue, option_map, position, slice_get, unwrap_or};
 ghost use Rattle.std.specs.Str.{bytes_eq};
 ghost use Rattle.it_dsse.specs.Joined.{joined};
-ghost use Rattle.it_public_keys.specs.KeyTable.{Extends, HoldsKey, IsKeyTable};
+ghost use Rattle.it_public_keys.specs.KeyTable.{AddsOnly, Extends, HoldsKey, IsKeyTable};
+ghost use Rattle.it_public_keys.specs.KeyText.{describes};
 ghost use Rattle.it_public_keys.specs.Keys.{IsKey};
 ghost use Rattle.it_public_keys.specs.Validity.{is_signature_of, is_signature_with};
-ghost use Rattle.it_public_keys.specs.inside.KeyTexts.{HoldsText, key_name};
+ghost use Rattle.it_public_keys.specs.inside.KeyTexts.{HoldsText, fits, key_name};
 
 use crate::key::Key;
 use crate::key_text::{KeyText, name_in};
@@ -55,8 +56,8 @@ impl PublicKeys {
         }
     }
 
-    /// The table with the key that an object describes, if it describes one. The keys that were
-    /// there keep their numbers.
+    /// The table with the key that an object describes, if it describes one, and with no other that
+    /// was not there. The keys that were there keep their numbers.
     ///
     /// # Errors
     ///
@@ -64,6 +65,7 @@ impl PublicKeys {
     pub fn with(self, object: &KeyObject) -> Result<PublicKeys, AllocError>
         ensures holds { IfOk result (λ table. HoldsKey table object.now) }
         ensures extends { IfOk result (Extends self) }
+        ensures only { IfOk result (AddsOnly (λ key. IsTrue (describes object.now key)) self) }
     {
         match KeyText::of(object) {
             Some(text) => self.with_text(&text),
@@ -75,6 +77,7 @@ impl PublicKeys {
     fn with_text(self, text: &KeyText) -> Result<PublicKeys, AllocError>
         ensures holds { IfOk result (HoldsText text.now) }
         ensures extends { IfOk result (Extends self) }
+        ensures only { IfOk result (AddsOnly (λ key. IsTrue (fits text.now key)) self) }
     {
         let Some(name) = text.name() else {
             return Ok(self);

@@ -13,7 +13,7 @@ use Rattle.it_outcome.specs.declared.outcome.RunFault.TheVariants.{
   BadSubjects,
   BadParameters,
 }
-use Rattle.it_making.specs.StatementOutput.{AreParameters}
+use Rattle.it_making.specs.StatementOutput.{AreParameters, IsCompactLine}
 
 -- what is given are parameters, as this JSON
 abbrev pub GivesParameters : Option (List ℕ) → Data → Type 0
@@ -32,9 +32,10 @@ IsParametersFault given BadParameters =
     (d : Data) (parameters : Fields) → ¬ AreParameters given d parameters
 IsParametersFault given other = ⊥
 
--- the text is written of this document, which reads back where it is not too deep
+-- the text is written of this document in one line, and reads back where it is not too deep
 pub record IsWritten (text : List ℕ) (d : Data) : Type 0 where
   pub reads : depth d ≤ max_depth → IsDocument text d
+  pub one_line : IsCompactLine text d
   pub text_is : has_float d ≡ false → text ≡ compact_text d ++ codes "\n"
 
 -- an object that is not too deep

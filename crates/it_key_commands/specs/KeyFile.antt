@@ -11,8 +11,8 @@ use Rattle.it_pem.specs.Label.{HasLabel}
 use Rattle.it_pem.specs.PublicKeyText.{info_in}
 use Rattle.it_public_keys.specs.declared.key.Key.{Key}
 use Rattle.it_public_keys.specs.declared.key.Key.TheVariants.{Ed25519, P256, Rsa}
-use Rattle.it_key_commands.specs.KeyInfo.{IsNoKeyInfo, ed25519_info, key_info, names_curves}
-use Rattle.it_key_commands.specs.KeyInfo.{names_rsa}
+use Rattle.it_key_commands.specs.KeyInfo.{IsNoEd25519Info, IsNoKeyInfo, ed25519_info}
+use Rattle.it_key_commands.specs.KeyInfo.{key_info, names_curves, names_rsa}
 use Rattle.it_key_commands.specs.Signers.{Describes}
 use Rattle.it_key_commands.specs.declared.fault.FileFault.{FileFault}
 use Rattle.it_key_commands.specs.declared.fault.FileFault.TheVariants.{
@@ -103,9 +103,11 @@ pub record IsBadPoint (info : List ℕ) : Type 0 where
   pub info_is : info ≡ ed25519_info bytes
   pub bad : ¬ IsPublicKey bytes
 
--- the info is that of no key, and names neither RSA nor elliptic curves
+-- the info is that of no key, does not have the form of an Ed25519 key, and names neither RSA nor
+-- elliptic curves
 pub record IsOfOtherKind (info : List ℕ) : Type 0 where
   pub no_key : IsNoKeyInfo info
+  pub no_ed25519 : IsNoEd25519Info info
   pub no_rsa : IsFalse (names_rsa info)
   pub no_curves : IsFalse (names_curves info)
 

@@ -1,6 +1,6 @@
 -- Public keys as a SubjectPublicKeyInfo (RFC 5280, section 4.1.2.7), in DER (X.690).
-use Rattle.std.specs.Prelude.{◌≢◌, ◌==◌, ℕ, List, [], ◌∷◌, ◌++◌, Bool, drop, if◌then◌else◌, nat_eq}
-use Rattle.std.specs.Prelude.{slice_index}
+use Rattle.std.specs.Prelude.{◌≡◌, ◌≢◌, ◌==◌, ℕ, List, [], ◌∷◌, ◌++◌, Bool, drop, if◌then◌else◌}
+use Rattle.std.specs.Prelude.{length, nat_eq, slice_index}
 use Rattle.std.specs.List.{starts_with}
 use Rattle.it_p256.specs.Key.{info_of as p256_info, key_identifier}
 use Rattle.it_rsa.specs.Info.{info_of as rsa_info}
@@ -23,6 +23,10 @@ key_info (Rsa key) = rsa_info key
 -- it is that of no key
 abbrev pub IsNoKeyInfo : List ℕ → Type 0
 IsNoKeyInfo info = (key : Key) → IsKey key → info ≢ key_info key
+
+-- it does not have the form of an Ed25519 key
+abbrev pub IsNoEd25519Info : List ℕ → Type 0
+IsNoEd25519Info info = (bytes : List ℕ) → length bytes ≡ 32 → info ≢ ed25519_info bytes
 
 -- how many bytes a tag and a length take (X.690, section 8.1.3): two, or one or two more where 129
 -- or 130 says that the length has so many bytes of its own

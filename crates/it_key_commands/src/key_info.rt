@@ -1,7 +1,7 @@
 //! Public keys as a SubjectPublicKeyInfo.
-ghost use Rattle.std.specs.Prelude.{◌≡◌, ℕ, List, MatchOption, MatchResult, length};
-ghost use Rattle.it_key_commands.specs.KeyInfo.{IsNoKeyInfo, contents_of, ed25519_info, key_info};
-ghost use Rattle.it_key_commands.specs.KeyInfo.{names_algorithm};
+ghost use Rattle.std.specs.Prelude.{◌≡◌, MatchOption, MatchResult};
+ghost use Rattle.it_key_commands.specs.KeyInfo.{IsNoEd25519Info, IsNoKeyInfo, contents_of};
+ghost use Rattle.it_key_commands.specs.KeyInfo.{ed25519_info, key_info, names_algorithm};
 ghost use Rattle.it_key_commands.specs.inside.ReadKeys.{IsInfoFault};
 ghost use Rattle.it_public_keys.specs.Keys.{IsKey};
 
@@ -37,8 +37,7 @@ pub(crate) fn key_of(info: &[u8]) -> Result<Key, FileFault>
 
 /// The 32 bytes of the key in a SubjectPublicKeyInfo of an Ed25519 key.
 fn ed25519_bytes(info: &[u8]) -> Option<[u8; 32]>
-    ensures { MatchOption result
-        ((key : List ℕ) → length key ≡ 32 → ¬ info.now ≡ ed25519_info key)
+    ensures { MatchOption result (IsNoEd25519Info info.now)
         (λ key. info.now ≡ ed25519_info key) }
 {
     if info.len() != 44 {
@@ -68,7 +67,7 @@ fn ed25519_key(bytes: &[u8; 32]) -> Result<Key, FileFault>
 /// Why a SubjectPublicKeyInfo that is not that of a key is none.
 fn other_fault(info: &[u8]) -> FileFault
     requires { IsNoKeyInfo info.now }
-    ensures { IsInfoFault info.now result }
+    ensures { IsNoEd25519Info info.now → IsInfoFault info.now result }
 {
     if names_algorithm(info, RSA_IDENTIFIER.as_slice()) {
         return FileFault::BadRsaKey;

@@ -1,6 +1,6 @@
 -- What a walk over a list collects, item by item.
 use Rattle.std.proofs.Common.{◌≡◌, List, [], ◌∷◌, ◌++◌, All, Contains, get_or, map, sym, ap, subst, ◌∙◌}
-use Rattle.std.proofs.Common.{⊎_elim, inl, inr, append_assoc, append-nil, arith}
+use Rattle.std.proofs.Common.{◌⊎◌, ⊎_elim, inl, inr, append_assoc, append-nil, arith}
 use Rattle.std.proofs.lemmas.List.Elements.{Contains-append_cases, Contains-append_left}
 use Rattle.std.proofs.lemmas.List.Elements.{Contains-append_right, Contains-get_or, Contains-push}
 use Rattle.std.proofs.lemmas.List.Elements.{Contains-push_cases}
@@ -33,6 +33,13 @@ pub AddsOnly-weaker : (P Q : Key → Type 0) → ((key : Key) → P key → Q ke
     → AddsOnly P old new → AddsOnly Q old new
 AddsOnly-weaker P Q weaker old new only = λ key there.
     ⊎_elim inl (λ is. inr (weaker key is)) (only key there)
+
+-- what two steps added
+pub AddsOnly-then : (P Q : Key → Type 0) (a b c : Keys) → AddsOnly P a b → AddsOnly Q b c
+    → AddsOnly (λ key. P key ⊎ Q key) a c
+AddsOnly-then P Q a b c first second = λ key there.
+    ⊎_elim (λ before. ⊎_elim inl (λ is. inr (inl is)) (first key before)) (λ is. inr (inr is))
+    (second key there)
 
 -- all keys of a table that was begun without keys
 pub All-added : (P : Key → Type 0) (keys : Keys) → AddsOnly P [] keys → All P keys
@@ -95,3 +102,16 @@ contains_map f (x ∷ xs) y there =
     (λ later. let found = contains_map f xs y later in
     (found.0, Contains-append_right (x ∷ []) xs found.0 found.1, found.2))
     (Contains-append_cases (f x ∷ []) (map f xs) y there)
+
+-- and the image of what stands in a list stands in the image of the list
+pub map_contains : {X Y : Type 0} (f : X → Y) (xs : List X) (x : X) → Contains xs x
+    → Contains (map f xs) (f x)
+map_contains f [] x there = absurd (omega (arith, there.1))
+map_contains f (y ∷ xs) x there =
+    ⊎_elim
+    (λ first. ⊎_elim (λ none. absurd (omega (arith, none.1)))
+    (λ same. subst (λ z. Contains (map f (y ∷ xs)) (f z)) same
+    (Contains-append_left (f y ∷ []) (map f xs) (f y) (Contains-push [] (f y))))
+    (Contains-push_cases [] y x first))
+    (λ later. Contains-append_right (f y ∷ []) (map f xs) (f x) (map_contains f xs x later))
+    (Contains-append_cases (y ∷ []) xs x there)

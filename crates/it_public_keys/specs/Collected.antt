@@ -1,7 +1,7 @@
 -- Which keys a verification could ask for: those of the policy, of the layout, and of each layout
 -- that stands in a file of the links, at every depth (this profile's choice).
 use Rattle.std.specs.Prelude.{◌≡◌, ℕ, List, Contains, Bool, true, false, Option, Some, None}
-use Rattle.std.specs.Prelude.{IsTrue, MatchOption}
+use Rattle.std.specs.Prelude.{◌⊎◌, IsTrue, MatchOption}
 use Rattle.std.specs.FinMap.{get}
 use Rattle.it_base.specs.Table.{Named}
 use Rattle.it_chain.specs.AllFiles.{all_files}
@@ -47,6 +47,27 @@ abbrev pub HoldsLayout : Keys → List ℕ → Type 0
 HoldsLayout keys bytes =
     (envelope : Envelope) (layout : Layout) → EnvelopeOf bytes envelope
     → LayoutOf envelope.payload layout → HoldsKeys keys layout.keys
+
+-- an object of one of these builders describes the key
+abbrev pub IsBuilderKey : List Builder → Key → Type 0
+IsBuilderKey builders key =
+    (builder : Builder) × Contains builders builder × IsKeyOf builder.keys key
+
+-- an object of the policy's owners, or of one of its builders, describes it
+abbrev pub IsPolicyKey : Policy → Key → Type 0
+IsPolicyKey policy key = IsKeyOf policy.owners key ⊎ ((expectation : Expectation)
+    × Contains policy.expectations expectation × IsBuilderKey expectation.builders key)
+
+-- an object of the layout that the bytes are an envelope of describes it
+abbrev pub IsLayoutKey : List ℕ → Key → Type 0
+IsLayoutKey bytes key = (envelope : Envelope) × (layout : Layout) × EnvelopeOf bytes envelope
+    × LayoutOf envelope.payload layout × IsKeyOf layout.keys key
+
+-- an object of the policy, of the layout, or of a layout in a file of the links describes it
+abbrev pub IsAskedKey : (policy layout : List ℕ) → Contents → Key → Type 0
+IsAskedKey policy layout links key =
+    ((read : Policy) × PolicyOf policy read × IsPolicyKey read key) ⊎ (IsLayoutKey layout key
+    ⊎ ((file : File) × Contains (all_files links) file × IsLayoutKey file.bytes key))
 
 -- all keys that a verification of these inputs could ask for
 pub record HoldsAll (keys : Keys) (policy layout : List ℕ) (links : Contents) : Type 0

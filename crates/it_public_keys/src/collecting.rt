@@ -1,5 +1,5 @@
 //! The keys that a verification could ask for.
-ghost use Rattle.std.specs.Prelude.{All, Contains, IfOk, map};
+ghost use Rattle.std.specs.Prelude.{All, Contains, IfOk, IfSome, map};
 ghost use Rattle.it_base.specs.Finds.{Finds};
 ghost use Rattle.it_docs.specs.Policy.{PolicyOf};
 ghost use Rattle.it_docs.specs.declared.policy.Builder.{Builder};
@@ -7,7 +7,8 @@ ghost use Rattle.it_docs.specs.declared.policy.Expectation.{Expectation};
 ghost use Rattle.it_docs.specs.declared.policy.Policy.{Policy as PolicyRead};
 ghost use Rattle.it_chain.specs.declared.bundle.File.{File as FileRead};
 ghost use Rattle.it_public_keys.specs.Collected.{HoldsAll, HoldsBuilders, HoldsKeys, HoldsLayout};
-ghost use Rattle.it_public_keys.specs.Collected.{HoldsPolicy, IsKeyOf, IsTableFor};
+ghost use Rattle.it_public_keys.specs.Collected.{HoldsPolicy, IsAskedKey, IsBuilderKey};
+ghost use Rattle.it_public_keys.specs.Collected.{IsKeyOf, IsLayoutKey, IsPolicyKey, IsTableFor};
 ghost use Rattle.it_public_keys.specs.KeyTable.{AddsOnly, Extends, IsKeyTable};
 
 use crate::table::PublicKeys;
@@ -22,8 +23,8 @@ use std::alloc::{AllocError, Global};
 
 /// A table of all public keys that a verification of these inputs could ask for: of the owners and
 /// the builders of the policy, of the layout, and of each layout in a file of the links, at every
-/// depth. A document that does not read has no keys. What stands in the table has no authority by
-/// that: a verification asks for the keys that the policy and the layouts list.
+/// depth. It has no other key. A document that does not read has no keys. What stands in the table
+/// has no authority by that: a verification asks for the keys that the policy and the layouts list.
 ///
 /// # Errors
 ///
@@ -36,6 +37,7 @@ pub fn public_keys_of(
 ) -> Result<PublicKeys, AllocError>
     ensures table { IfOk result (λ keys. IsKeyTable keys) }
     ensures holds { IfOk result (λ keys. HoldsAll keys policy.now layout.now links.now) }
+    ensures only { IfOk result (All (IsAskedKey policy.now layout.now links.now)) }
 {
     let files = links.all_files(alloc)?;
     let keys = with_policy_in(alloc, PublicKeys::new(alloc), policy)?;
@@ -46,7 +48,8 @@ pub fn public_keys_of(
 }
 
 impl PublicKeys {
-    /// A table of the public keys that objects describe. An object that describes none adds none.
+    /// A table of the public keys that objects describe, and of no other. An object that describes
+    /// none adds none.
     ///
     /// # Errors
     ///
@@ -74,7 +77,9 @@ pub fn table_if(
     layout: &[u8],
     links: &Bundle,
 ) -> Result<Option<PublicKeys>, AllocError>
-    ensures { IfOk result (IsTableFor is_wanted policy.now layout.now links.now) }
+    ensures table { IfOk result (IsTableFor is_wanted policy.now layout.now links.now) }
+    ensures only { IfOk result (λ table. IfSome table
+        (All (IsAskedKey policy.now layout.now links.now))) }
 {
     if !is_wanted {
         return Ok(None);
@@ -87,6 +92,8 @@ fn with_files(alloc: Global, keys: PublicKeys, files: &[&File]) -> Result<Public
     ensures extends { IfOk result (Extends keys) }
     ensures holds { IfOk result (λ table. (file : FileRead)
         → Contains (map (λ each. each.now) files.now) file → HoldsLayout table file.bytes) }
+    ensures only { IfOk result (AddsOnly (λ key. (file : FileRead)
+        × Contains (map (λ each. each.now) files.now) file × IsLayoutKey file.bytes key) keys) }
 {
     let mut table = keys;
     for file in files {
@@ -100,6 +107,8 @@ fn with_policy_in(alloc: Global, keys: PublicKeys, bytes: &[u8]) -> Result<Publi
     ensures extends { IfOk result (Extends keys) }
     ensures holds { IfOk result (λ table. (policy : PolicyRead) → PolicyOf bytes.now policy
         → HoldsPolicy table policy) }
+    ensures only { IfOk result (AddsOnly (λ key. (policy : PolicyRead)
+        × PolicyOf bytes.now policy × IsPolicyKey policy key) keys) }
 {
     match policy_in(alloc, bytes)? {
         Some(policy) => with_policy(keys, &policy),
@@ -122,6 +131,7 @@ fn policy_in(alloc: Global, bytes: &[u8]) -> Result<Option<Policy>, AllocError>
 fn with_policy(keys: PublicKeys, policy: &Policy) -> Result<PublicKeys, AllocError>
     ensures extends { IfOk result (Extends keys) }
     ensures holds { IfOk result (λ table. HoldsPolicy table policy.now) }
+    ensures only { IfOk result (AddsOnly (IsPolicyKey policy.now) keys) }
 {
     let table = with_keys(keys, &policy.owners)?;
     let table = with_expectations(table, policy.expectations.as_slice())?;
@@ -136,6 +146,8 @@ fn with_expectations(
     ensures extends { IfOk result (Extends keys) }
     ensures holds { IfOk result (λ table. (expectation : Expectation)
         → Contains expectations.now expectation → HoldsBuilders table expectation) }
+    ensures only { IfOk result (AddsOnly (λ key. (expectation : Expectation)
+        × Contains expectations.now expectation × IsBuilderKey expectation.builders key) keys) }
 {
     let mut table = keys;
     for expectation in expectations {
@@ -149,6 +161,7 @@ fn with_builders(keys: PublicKeys, builders: &[Builder]) -> Result<PublicKeys, A
     ensures extends { IfOk result (Extends keys) }
     ensures holds { IfOk result (λ table. (builder : Builder) → Contains builders.now builder
         → HoldsKeys table builder.keys) }
+    ensures only { IfOk result (AddsOnly (IsBuilderKey builders.now) keys) }
 {
     let mut table = keys;
     for builder in builders {
@@ -161,6 +174,7 @@ fn with_builders(keys: PublicKeys, builders: &[Builder]) -> Result<PublicKeys, A
 fn with_layout_in(alloc: Global, keys: PublicKeys, bytes: &[u8]) -> Result<PublicKeys, AllocError>
     ensures extends { IfOk result (Extends keys) }
     ensures holds { IfOk result (λ table. HoldsLayout table bytes.now) }
+    ensures only { IfOk result (AddsOnly (IsLayoutKey bytes.now) keys) }
 {
     let Some(envelope) = envelope_in(alloc, bytes)? else {
         return Ok(keys);

@@ -1,3 +1,4 @@
+use Rattle.std.proofs.Common.{⊎_elim, inl, inr}
 use Rattle.std.proofs.lemmas.Result.{IfOk-weaker}
 use Rattle.it_public_keys.proofs.Holding.{no_envelope, no_layout, one_layout}
 use Rattle.it_public_keys.proofs.collecting.with_layout_in.Goals as goal
@@ -17,3 +18,14 @@ returns-clause-holds c = IfOk-weaker c.with_keys.result _ _
     (rw c.in-Some.is at c.in_ok-envelope.ensures)
     (rw (c.as_slice.ensures, c.in-Some-2.is) at c.in_ok-layout.ensures) holds)
     c.with_keys.ensures.holds
+
+pub returns-clause-only : goal.returns-clause-only
+returns-clause-only c = IfOk-weaker c.with_keys.result _ _
+    (λ table only key there. ⊎_elim inl (λ is. inr (
+      c.in-Some.envelope,
+      c.in-Some-2.layout,
+      rw c.in-Some.is at c.in_ok-envelope.ensures,
+      rw (c.as_slice.ensures, c.in-Some-2.is) at c.in_ok-layout.ensures,
+      is,
+    )) (only key there))
+    c.with_keys.ensures.only

@@ -1,6 +1,6 @@
 //! Down to a sublayout (in-toto 1.0 sections 4.4 and 5.2).
-ghost use Rattle.std.specs.Prelude.{◌≡◌, ◌≢◌, ◌↔◌, All, Contains, IfOk, IfSome, IsTrue, MatchOption};
-ghost use Rattle.std.specs.Prelude.{map, option_map};
+ghost use Rattle.std.specs.Prelude.{◌≡◌, ◌≢◌, ◌↔◌, All, Contains, IfOk, IfSome, IsTrue};
+ghost use Rattle.std.specs.Prelude.{MatchOption, map, option_map};
 ghost use Rattle.it_base.specs.Finds.{Finds, FindsAs};
 ghost use Rattle.it_dsse.specs.Panel.{panel_of};
 ghost use Rattle.it_chain.specs.Contents.{folder_at};

@@ -6,7 +6,7 @@ use Rattle.it_docs.specs.declared.rule.Rule.TheVariants.{Match, Create, Delete, 
 use Rattle.it_docs.specs.declared.rule.Rule.TheVariants.{Disallow, Require}
 use Rattle.it_docs.specs.declared.rule.Side.{Side}
 use Rattle.it_docs.specs.declared.rule.Side.TheVariants.{Materials, Products}
-use Rattle.it_rule_notes.specs.inside.RuleWords.{prefix_words, side_word, words_of_rule}
+use Rattle.it_rule_notes.specs.RuleWords.{prefix_words, side_word, words_of_rule}
 
 prefix-is : (prefix : List ℕ) → IsPrefix (prefix_words prefix) prefix
 prefix-is [] = refl

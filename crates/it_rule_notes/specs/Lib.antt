@@ -11,5 +11,6 @@ pub mod Owner
 pub mod Payloads
 pub mod Rule
 pub mod RulePlace
+pub mod RuleWords
 pub mod Sublayout
 pub mod inside

@@ -29,6 +29,13 @@ module _ (panel : Panel) (envelope : Envelope) (owners : Named KeyObject) where
   TellsOwner (Signed id) = HasSigned id
   TellsOwner (Unsigned id) = HasNotSigned id
 
+-- the note is on this owner, an id with its key object, and says whether that key signed
+abbrev pub IsOnOwner : Panel → Envelope → List ℕ × KeyObject → OwnerNote → Type 0
+IsOnOwner panel envelope owner (Signed id) =
+    (id ≡ owner.0) × IsSigner panel envelope owner.1 owner.0
+IsOnOwner panel envelope owner (Unsigned id) =
+    (id ≡ owner.0) × ¬ IsSigner panel envelope owner.1 owner.0
+
 -- the line of a note (this project's words)
 abbrev pub owner_line : OwnerNote → List ℕ
 owner_line (Signed id) = told_form (codes "layout: owner ") id (codes " signed the layout\n")

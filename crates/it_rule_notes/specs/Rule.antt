@@ -6,10 +6,11 @@ use Rattle.it_docs.specs.declared.layout.Layout.{Layout}
 use Rattle.it_docs.specs.declared.rule.Rule.{Rule}
 use Rattle.it_report.specs.Name.{name_form}
 use Rattle.it_rule_notes.specs.RulePlace.{AreRulesAt, place_form}
+use Rattle.it_rule_notes.specs.RuleWords.{words_of_rule}
 use Rattle.it_rule_notes.specs.declared.rule_note.RuleNote.{RuleNote}
 use Rattle.it_rule_notes.specs.declared.rule_place.RulePlace.{RulePlace}
 
--- the words are the rule that stands at a place
+-- the words are the rule that stands at a place, as the standard writes it
 pub record AreWordsAt (layout : Layout) (deliver : List Rule) (place : RulePlace)
     (words : List (List ℕ)) : Type 0 where
   pub rules : List Rule
@@ -17,6 +18,7 @@ pub record AreWordsAt (layout : Layout) (deliver : List Rule) (place : RulePlace
   pub are_rules : AreRulesAt layout deliver place.item place.side rules
   pub is_rule : slice_get rules place.index ≡ Some rule
   pub are_words : RuleOf words rule
+  pub as_written : words ≡ words_of_rule rule
 
 -- the sentence of a note on a rule
 abbrev pub TellsRule : Layout → List Rule → RuleNote → Type 0

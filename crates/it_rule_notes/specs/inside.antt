@@ -1,3 +1,2 @@
 pub mod CountingFile
 pub mod JudgedRules
-pub mod RuleWords

@@ -1,10 +1,9 @@
 //! When an expired layout expired.
-ghost use Rattle.std.specs.Prelude.{◌≡◌, ◌++◌, IfOk, IfSome, OnOk, codes};
+ghost use Rattle.std.specs.Prelude.{◌≡◌, ◌↔◌, ◌++◌, IfOk, IsTrue, OnOk, codes};
 ghost use Rattle.it_base.specs.Document.{OfDocument};
 ghost use Rattle.it_base.specs.Finds.{Finds};
 ghost use Rattle.it_base.specs.Parts.{IsPart};
 ghost use Rattle.it_base.specs.Text.{IsText};
-ghost use Rattle.std.specs.Bool.{OnTrue};
 ghost use Rattle.it_rule_notes.specs.Expiry.{IsBefore, TellsExpiry, expiry_line};
 
 use crate::line::push_told;
@@ -37,7 +36,7 @@ pub fn expiry_note(
     body: &[u8],
     moment: &str,
 ) -> Result<Option<ExpiryNote>, AllocError>
-    ensures { IfOk result (λ found. IfSome found (TellsExpiry body.now moment.now)) }
+    ensures { IfOk result (Finds (TellsExpiry body.now moment.now)) }
 {
     let Some(expires) = expires_in(alloc, body)? else {
         return Ok(None);
@@ -61,7 +60,7 @@ fn expires_in(alloc: Global, body: &[u8]) -> Result<Option<Text>, AllocError>
 
 /// Whether both texts are moments, and the first is before the second.
 fn is_before(expires: &str, moment: &str) -> bool
-    ensures { OnTrue result (IsBefore expires.now moment.now) }
+    ensures { IsTrue result ↔ IsBefore expires.now moment.now }
 {
     match (read_moment(expires), read_moment(moment)) {
         (Ok(expires), Ok(moment)) => expires < moment,

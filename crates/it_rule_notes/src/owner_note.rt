@@ -1,10 +1,9 @@
 //! Which owners of a policy signed the layout.
-ghost use Rattle.std.specs.FinMap.{get};
-ghost use Rattle.std.specs.Prelude.{◌≡◌, ◌++◌, All, IfOk, OnOk, Some, map};
-ghost use Rattle.it_base.specs.Table.{Named as Table};
+ghost use Rattle.std.specs.FinMap.{entries};
+ghost use Rattle.std.specs.List.{AllZip};
+ghost use Rattle.std.specs.Prelude.{◌≡◌, ◌++◌, All, IfOk, OnOk, map};
 ghost use Rattle.it_dsse.specs.Panel.{panel_of};
-ghost use Rattle.it_dsse.specs.declared.key_object.KeyObject.{KeyObject as Object};
-ghost use Rattle.it_rule_notes.specs.Owner.{TellsOwner, owner_line};
+ghost use Rattle.it_rule_notes.specs.Owner.{IsOnOwner, TellsOwner, owner_line};
 
 use crate::line::push_told;
 use it_base::table::Table;
@@ -40,7 +39,10 @@ pub fn owner_notes(
     envelope: &Envelope,
     panel: &[Box<dyn SignatureCheck>],
 ) -> Result<Vec<OwnerNote>, AllocError>
-    ensures { IfOk result (λ notes. All
+    ensures each { IfOk result (λ notes. AllZip
+        (IsOnOwner (panel_of (map meaning panel.now)) envelope.now)
+        (entries owners.now) notes.items) }
+    ensures told { IfOk result (λ notes. All
         (TellsOwner (panel_of (map meaning panel.now)) envelope.now owners.now) notes.items) }
 {
     let mut notes = Vec::new(alloc);
@@ -58,8 +60,8 @@ fn owner_note(
     envelope: &Envelope,
     panel: &[Box<dyn SignatureCheck>],
 ) -> Result<OwnerNote, AllocError>
-    ensures { IfOk result (λ note. (owners : Table Object) → get owners id.now ≡ Some object.now
-        → TellsOwner (panel_of (map meaning panel.now)) envelope.now owners note) }
+    ensures { IfOk result (IsOnOwner (panel_of (map meaning panel.now)) envelope.now
+        (id.now, object.now)) }
 {
     let mut meter = Meter { asked: 0 };
     let signed = is_signer(envelope, id, object, panel, &mut meter);

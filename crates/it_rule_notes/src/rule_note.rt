@@ -1,6 +1,7 @@
 //! The text of a rule that failed.
-ghost use Rattle.std.specs.Prelude.{◌≡◌, ◌++◌, IfOk, IfSome, OnOk};
+ghost use Rattle.std.specs.Prelude.{◌≡◌, ◌++◌, IfOk, OnOk};
 ghost use Rattle.std.specs.List.{flat_map};
+ghost use Rattle.it_base.specs.Finds.{Finds};
 ghost use Rattle.it_rule_notes.specs.Rule.{AreWordsAt, TellsRule, rule_line, word_form};
 
 use crate::rule_place::{RuleBook, RulePlace, copy_of, push_place, rules_at};
@@ -36,7 +37,7 @@ pub fn rule_note(
     side: Side,
     index: usize,
 ) -> Result<Option<RuleNote>, AllocError>
-    ensures { IfOk result (λ found. IfSome found (λ note.
+    ensures { IfOk result (Finds (λ note.
         (note.place ≡ record { item = item.now; side = side; index = index })
         × TellsRule book.now.layout.now book.now.deliver.now note)) }
 {
@@ -56,7 +57,7 @@ fn words_at(
     side: Side,
     index: usize,
 ) -> Result<Option<Sequence<Text>>, AllocError>
-    ensures { IfOk result (λ found. IfSome found (AreWordsAt book.now.layout.now
+    ensures { IfOk result (Finds (AreWordsAt book.now.layout.now
         book.now.deliver.now (record { item = item.now; side = side; index = index }))) }
 {
     let Some(rules) = rules_at(book, item, side) else {

@@ -1,5 +1,6 @@
 //! Where artifact rules stand.
-ghost use Rattle.std.specs.Prelude.{◌≡◌, ◌++◌, Contains, IfOk, IfSome, OnOk};
+ghost use Rattle.std.specs.Prelude.{◌≡◌, ◌≢◌, ◌++◌, All, Contains, IfOk, MatchOption, OnOk};
+ghost use Rattle.it_base.specs.Finds.{FindsAs};
 ghost use Rattle.it_report.specs.Report.{side_form};
 ghost use Rattle.it_rule_notes.specs.RulePlace.{AreRulesAt, document_form, inspection_rules};
 ghost use Rattle.it_rule_notes.specs.RulePlace.{item_form, place_form};
@@ -35,8 +36,8 @@ pub struct RulePlace {
 
 /// The rules of an item on a side.
 pub(crate) fn rules_at<'a>(book: &RuleBook<'a>, item: &RuleItem, side: Side) -> Option<&'a [Rule]>
-    ensures { IfSome result (λ rules.
-        AreRulesAt book.now.layout.now book.now.deliver.now item.now side rules.now) }
+    ensures { FindsAs (λ rules. rules.now)
+        (AreRulesAt book.now.layout.now book.now.deliver.now item.now side) result }
 {
     match item {
         RuleItem::Step(name) => {
@@ -57,7 +58,8 @@ pub(crate) fn rules_at<'a>(book: &RuleBook<'a>, item: &RuleItem, side: Side) -> 
 
 /// A step of this name.
 pub(crate) fn step_named<'a>(steps: &'a [Step], name: &str) -> Option<&'a Step>
-    ensures { IfSome result (λ step. Contains steps.now step.now × (step.now.name ≡ name.now)) }
+    ensures { MatchOption result (All (λ step. step.name ≢ name.now) steps.now)
+        (λ step. Contains steps.now step.now × (step.now.name ≡ name.now)) }
 {
     for step in steps {
         if step.name.as_str() == name {
@@ -79,7 +81,8 @@ pub(crate) fn rules_of_step(step: &Step, side: Side) -> &[Rule]
 
 /// An inspection of this name.
 fn inspection_named<'a>(inspections: &'a [Inspection], name: &str) -> Option<&'a Inspection>
-    ensures { IfSome result (λ inspection. Contains inspections.now inspection.now
+    ensures { MatchOption result (All (λ inspection. inspection.name ≢ name.now) inspections.now)
+        (λ inspection. Contains inspections.now inspection.now
         × (inspection.now.name ≡ name.now)) }
 {
     for inspection in inspections {

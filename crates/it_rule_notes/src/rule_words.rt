@@ -1,8 +1,8 @@
 //! The words of artifact rules (in-toto 1.0, section 4.3.3).
 ghost use Rattle.std.specs.Prelude.{◌≡◌, ◌++◌, ◌∷◌, [], IfOk, OnOk, codes};
 ghost use Rattle.it_docs.specs.Rule.{RuleOf};
-ghost use Rattle.it_rule_notes.specs.inside.RuleWords.{prefix_words, side_word, words_of_rule};
-ghost use Rattle.it_rule_notes.specs.inside.RuleWords.{source_words, target_words};
+ghost use Rattle.it_rule_notes.specs.RuleWords.{prefix_words, side_word, source_words};
+ghost use Rattle.it_rule_notes.specs.RuleWords.{target_words, words_of_rule};
 
 use it_base::sequence::Sequence;
 use it_base::text::Text;
@@ -17,7 +17,8 @@ use std::alloc::{AllocError, Global};
 ///
 /// `AllocError` where memory was refused.
 pub fn words_of(alloc: Global, rule: &Rule) -> Result<Sequence<Text>, AllocError>
-    ensures { IfOk result (λ words. RuleOf words rule.now) }
+    ensures are_words { IfOk result (λ words. words ≡ words_of_rule rule.now) }
+    ensures is_rule { IfOk result (λ words. RuleOf words rule.now) }
 {
     Ok(Sequence::from(written_rule(alloc, rule)?))
 }

@@ -1,5 +1,6 @@
 pub mod Findings
 pub mod Kept
+pub mod OneName
 pub mod Outcomes
 pub mod Telling
 pub mod Those

@@ -12,6 +12,17 @@ module _ {X : Type 0} (P Q : X → Type 0) (more : (x : X) → P x → Q x) wher
   ok_some_weaker (Ok found) h = some_weaker found h
   ok_some_weaker (Err e) h = h
 
+  -- the same is found where each says the other
+  module _ (back : (x : X) → Q x → P x) where
+    finds_alike : (found : Option X) → Finds P found → Finds Q found
+    finds_alike None h = λ x q. h x (back x q)
+    finds_alike (Some x) h = more x h
+
+    pub ok_finds_alike : {E : Type 0} (r : Result (Option X) E) → IfOk r (Finds P)
+        → IfOk r (Finds Q)
+    ok_finds_alike (Ok found) h = finds_alike found h
+    ok_finds_alike (Err e) h = h
+
   pub ok_found : {E : Type 0} (r : Result (Option X) E) → IfOk r (Finds P)
       → IfOk r (λ found. IfSome found Q)
   ok_found (Ok None) h = tt

@@ -1,5 +1,6 @@
 //! The folder of a sublayout, where it is missing.
-ghost use Rattle.std.specs.Prelude.{◌≡◌, ◌++◌, IfOk, IfSome, OnOk};
+ghost use Rattle.std.specs.Prelude.{◌≡◌, ◌++◌, IfOk, OnOk};
+ghost use Rattle.it_base.specs.Finds.{Finds};
 ghost use Rattle.it_step_notes.specs.Folder.{LacksFolder, folder_line};
 
 use it_base::text::Text;
@@ -29,7 +30,7 @@ pub fn folder_note(
     step: &str,
     id: &str,
 ) -> Result<Option<FolderNote>, AllocError>
-    ensures { IfOk result (λ found. IfSome found (LacksFolder bundle.now step.now id.now)) }
+    ensures { IfOk result (Finds (LacksFolder bundle.now step.now id.now)) }
 {
     let name = folder_name(alloc, step, id)?;
     if bundle.dir(name.as_str()).is_some() {

@@ -1,5 +1,6 @@
 //! A layout in its envelope.
-ghost use Rattle.std.specs.Prelude.{◌≡◌, IfOk, IfSome};
+ghost use Rattle.std.specs.Prelude.{◌≡◌, IfOk};
+ghost use Rattle.it_base.specs.Finds.{Finds};
 ghost use Rattle.it_docs.specs.Layout.{LayoutOf};
 ghost use Rattle.it_step_notes.specs.SignedLayout.{IsSignedLayout};
 
@@ -25,7 +26,7 @@ impl SignedLayout {
     ///
     /// `AllocError` where memory was refused.
     pub fn read(alloc: Global, bytes: &[u8]) -> Result<Option<SignedLayout>, AllocError>
-        ensures { IfOk result (λ found. IfSome found (IsSignedLayout bytes.now)) }
+        ensures { IfOk result (Finds (IsSignedLayout bytes.now)) }
     {
         let Some(envelope) = envelope_in(alloc, bytes)? else {
             return Ok(None);
@@ -38,7 +39,7 @@ impl SignedLayout {
         alloc: Global,
         envelope: Envelope,
     ) -> Result<Option<SignedLayout>, AllocError>
-        ensures { IfOk result (λ found. IfSome found (λ signed. (signed.envelope ≡ envelope)
+        ensures { IfOk result (Finds (λ signed. (signed.envelope ≡ envelope)
             × LayoutOf envelope.payload signed.layout)) }
     {
         let Some(layout) = layout_in(alloc, envelope.payload.as_slice())? else {

@@ -1,5 +1,7 @@
 //! Down to a sublayout (in-toto 1.0 sections 4.4 and 5.2).
-ghost use Rattle.std.specs.Prelude.{◌≡◌, Contains, IfOk, IfSome, IsTrue, map, option_map};
+ghost use Rattle.std.specs.Prelude.{◌≡◌, ◌≢◌, ◌↔◌, All, Contains, IfOk, IfSome, IsTrue};
+ghost use Rattle.std.specs.Prelude.{MatchOption, map, option_map};
+ghost use Rattle.it_base.specs.Finds.{Finds, FindsAs};
 ghost use Rattle.it_dsse.specs.Panel.{panel_of};
 ghost use Rattle.it_chain.specs.Contents.{folder_at};
 ghost use Rattle.it_chain.specs.Sublayouts.{folder_name as folder_name_of};
@@ -43,9 +45,9 @@ pub fn sublayout_at<'a>(
     place: &(Text, Text),
     panel: &[Box<dyn SignatureCheck>],
 ) -> Result<Option<Sublayout<'a>>, AllocError>
-    ensures leads { IfOk result (λ found. IfSome found (λ below.
-        LeadsDown (panel_of (map meaning panel.now)) layout.now bundle.now place.now.0 place.now.1
-        below.signed)) }
+    ensures leads { IfOk result (FindsAs (λ below. below.signed)
+        (LeadsDown (panel_of (map meaning panel.now)) layout.now bundle.now place.now.0
+        place.now.1)) }
     ensures folder { IfOk result (λ found. IfSome found (λ below.
         option_map (λ folder. folder.now) below.folder
         ≡ folder_at (folder_name_of place.now.0 place.now.1) bundle.now)) }
@@ -70,8 +72,8 @@ pub fn sublayout_at<'a>(
 }
 
 fn step_named<'a>(steps: &'a [Step], name: &str) -> Option<&'a Step>
-    ensures stands { IfSome result (λ step. Contains steps.now step.now) }
-    ensures named { IfSome result (λ step. step.now.name ≡ name.now) }
+    ensures { MatchOption result (All (λ step. step.name ≢ name.now) steps.now)
+        (λ step. Contains steps.now step.now × (step.now.name ≡ name.now)) }
 {
     for step in steps {
         if step.name.as_str() == name {
@@ -88,7 +90,7 @@ fn sublayout_of(
     id: &str,
     panel: &[Box<dyn SignatureCheck>],
 ) -> Result<Option<SignedLayout>, AllocError>
-    ensures { IfOk result (λ found. IfSome found (IsSublayoutOf (panel_of (map meaning panel.now))
+    ensures { IfOk result (Finds (IsSublayoutOf (panel_of (map meaning panel.now))
         at.now.layout.now at.now.bundle.now at.now.step.now id.now)) }
 {
     if !is_listed(at.step.pubkeys.as_slice(), id) {
@@ -103,14 +105,9 @@ fn sublayout_of(
 }
 
 fn is_listed(ids: &[Text], id: &str) -> bool
-    ensures { IsTrue result → Contains ids.now id.now }
+    ensures { IsTrue result ↔ Contains ids.now id.now }
 {
-    for listed in ids {
-        if listed.as_str() == id {
-            return true;
-        }
-    }
-    false
+    ids.iter().any(|listed| listed.as_str() == id)
 }
 
 /// The sublayout that a file holds, where a key id signed it for the step.
@@ -121,7 +118,7 @@ fn sublayout_in(
     file: &File,
     panel: &[Box<dyn SignatureCheck>],
 ) -> Result<Option<SignedLayout>, AllocError>
-    ensures { IfOk result (λ found. IfSome found (IsSublayoutIn (panel_of (map meaning panel.now))
+    ensures { IfOk result (Finds (IsSublayoutIn (panel_of (map meaning panel.now))
         at.now.layout.now at.now.step.now id.now file.now)) }
 {
     if !is_claimed(at.step.name.as_str(), file.name.as_str()) {
@@ -138,7 +135,7 @@ fn signed_layout(
     bytes: &[u8],
     panel: &[Box<dyn SignatureCheck>],
 ) -> Result<Option<SignedLayout>, AllocError>
-    ensures { IfOk result (λ found. IfSome found (HoldsLayout (panel_of (map meaning panel.now))
+    ensures { IfOk result (Finds (HoldsLayout (panel_of (map meaning panel.now))
         layout.now id.now bytes.now)) }
 {
     let Some(envelope) = envelope_in(alloc, bytes)? else {

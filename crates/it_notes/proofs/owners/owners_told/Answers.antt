@@ -9,5 +9,5 @@ returns g c = λ id. record {
   fault_is = refl;
   is_policy = search rules;
   is_envelope = search rules;
-  are_true = c.in_ok-notes.ensures;
+  are_true = c.in_ok-notes.ensures.told;
 }

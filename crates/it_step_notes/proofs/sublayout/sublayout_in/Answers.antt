@@ -1,7 +1,7 @@
 use Rattle.std.proofs.Common.{map, refl}
 use Rattle.it_dsse.specs.Panel.{panel_of}
 use Rattle.it_step_notes.specs.Sublayout.{HoldsLayout, IsSublayoutIn}
-use Rattle.it_step_notes.proofs.Outcomes.{ok_some_weaker}
+use Rattle.it_step_notes.proofs.Outcomes.{ok_finds_alike}
 use Rattle.it_step_notes.proofs.sublayout.sublayout_in.Goals as goal
 
 pub returns : goal.returns
@@ -11,10 +11,10 @@ returns g c =
     c.args.panel.now) in
     let at = c.args.at.now in
     let file = c.args.file.now in
-    ok_some_weaker (HoldsLayout panel at.layout.now c.args.id.now file.bytes)
+    ok_finds_alike (HoldsLayout panel at.layout.now c.args.id.now file.bytes)
     (IsSublayoutIn panel at.layout.now at.step.now c.args.id.now file)
     (λ below holds. record {
       claimed = rw (c.as_str.ensures, c.as_str-2.ensures) at
           (c.if-not-is_claimed.ensures.0 refl);
       holds = holds;
-    }) c.signed_layout.result (rw c.as_slice.ensures at c.signed_layout.ensures)
+    }) (λ below is. is.holds) c.signed_layout.result (rw c.as_slice.ensures at c.signed_layout.ensures)

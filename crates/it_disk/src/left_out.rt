@@ -2,6 +2,7 @@
 //! notes on it.
 ghost use Rattle.std.specs.Prelude.{IfOk, IfSome, IsNone, IsTrue};
 ghost use Rattle.it_limits.specs.Limit.{IsOverLimit, IsWithinLimit};
+ghost use Rattle.it_disk.specs.Faults.{IsUnreadable};
 
 use crate::fault::Fault;
 use crate::shown::Shown;
@@ -24,7 +25,9 @@ impl TooMany {
     /// # Errors
     ///
     /// `AllocError` where memory was refused.
-    pub fn in_file(self, alloc: Global, path: &str) -> Result<Fault, AllocError> {
+    pub fn in_file(self, alloc: Global, path: &str) -> Result<Fault, AllocError>
+        ensures { IfOk result (IsUnreadable path.now) }
+    {
         Fault::unread(alloc, path, format!(in alloc; "{self}")?.as_str())
     }
 }

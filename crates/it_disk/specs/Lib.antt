@@ -1,3 +1,5 @@
+pub mod Faults
 pub mod Reading
 pub mod RingFlaw
 pub mod Shown
+pub mod inside

@@ -2,7 +2,8 @@
 use Rattle.std.specs.Prelude.{◌≡◌, ℕ, ◌+◌, ◌<◌, List, Some, None, codes}
 use Rattle.serde_json.specs.Data.{Data, Items}
 use Rattle.serde_json.specs.Events.{items_len}
-use Rattle.serde_json.specs.Find.{as_object, get_item}
+use Rattle.serde_json.specs.Find.{as_array, as_object, get_item}
+use Rattle.it_base.specs.Document.{IsDocument, OfDocument}
 use Rattle.it_base.specs.HexadecimalText.{IsHexadecimal}
 use Rattle.it_base.specs.Parts.{IsPart}
 use Rattle.it_base.specs.Text.{IsText}
@@ -41,3 +42,14 @@ IsItemsFlaw items TooMany = 65536 < items_len items
 IsItemsFlaw items (NoEntry place flaw) = IsFlawAt items place flaw
 IsItemsFlaw items (Repeats place id) = Unit {0}
 IsItemsFlaw items Other = Unit {0}
+
+-- what is said of a document is so
+abbrev pub IsDocumentFlaw : Data → RingFlaw → Type 0
+IsDocumentFlaw d NoDocument = ⊥
+IsDocumentFlaw d NoList = as_array d ≡ None
+IsDocumentFlaw d flaw = (items : Items) × (as_array d ≡ Some items) × IsItemsFlaw items flaw
+
+-- what is said of the bytes is so
+abbrev pub IsRingFlaw : List ℕ → RingFlaw → Type 0
+IsRingFlaw bytes NoDocument = (d : Data) → ¬ IsDocument bytes d
+IsRingFlaw bytes flaw = OfDocument IsDocumentFlaw bytes flaw

@@ -1,5 +1,6 @@
 //! Files and folders, as the commands read them by their paths.
-ghost use Rattle.std.specs.Prelude.{◌≤◌, length, IfOk};
+ghost use Rattle.std.specs.Prelude.{◌≤◌, length, IfErr, IfOk};
+ghost use Rattle.it_disk.specs.Faults.{IsFileFault};
 ghost use Rattle.it_disk.specs.Reading.{AreLimited, Holdings, anything};
 
 use crate::fault::Fault;
@@ -31,7 +32,8 @@ pub trait Disk {
     /// The bytes of a file, 8,388,608 at most.
     fn file(&self, path: &str) -> Result<Vec<u8>, Fault>
         ensures holds { IfOk result (λ bytes. holdings.file path.now bytes.items) }
-        ensures within { IfOk result (λ bytes. length bytes.items ≤ 8388608) };
+        ensures within { IfOk result (λ bytes. length bytes.items ≤ 8388608) }
+        ensures faults { IfErr result (IsFileFault path.now) };
 
     /// The links of a folder, down to `depth` levels below it. Where signatures are `limited`, the
     /// files are left out whose envelopes have too many.

@@ -1,6 +1,10 @@
 //! Why the program stops, as its notes say it.
-ghost use Rattle.std.specs.Prelude.{◌≡◌};
+ghost use Rattle.std.specs.Prelude.{◌≡◌, ◌≢◌, ◌⊎◌, [], IfOk, codes, unwrap_or};
+ghost use Rattle.std.specs.IoError.{error_kind};
 ghost use Rattle.it_outcome.specs.declared.outcome.RunFault.TheVariants.{OutOfMemory};
+ghost use Rattle.it_disk.specs.Faults.{IsBadLine, IsReadFault, IsUnreadFor, IsUnreadable};
+ghost use Rattle.it_disk.specs.Faults.{IsUnwritable, IsWords, SaysOfWords, fault_of_words};
+ghost use Rattle.it_disk.specs.inside.Listing.{IsBadName};
 ghost use Rattle.it_disk.specs.declared.fault.Fault.TheVariants.{Run};
 
 use crate::ring_flaw::RingFlaw;
@@ -11,6 +15,7 @@ use it_outcome::RunFault;
 use it_words::words::WordsFault;
 use std::alloc::{AllocError, AllocFailed, Global};
 use std::io;
+use std::io::ErrorKind;
 use thiserror::Error;
 
 /// Why the program stops.
@@ -96,6 +101,8 @@ impl From<AllocError> for Fault {
 }
 
 impl<T: Drop> From<AllocFailed<T>> for Fault {
+    ghost from_gives = { λ _ fault. fault ≡ Run OutOfMemory };
+
     fn from(_error: AllocFailed<T>) -> Fault {
         Fault::Run(RunFault::OutOfMemory)
     }
@@ -110,6 +117,8 @@ impl From<RunFault> for Fault {
 }
 
 impl From<WordsFault> for Fault {
+    ghost from_gives = { λ words fault. fault ≡ fault_of_words words };
+
     fn from(fault: WordsFault) -> Fault {
         match fault {
             WordsFault::Unread(reason) => Fault::Words(reason),
@@ -120,16 +129,26 @@ impl From<WordsFault> for Fault {
 
 impl Fault {
     /// The fault of words that the system did not give.
-    pub fn of_words(alloc: Global, error: &io::Error) -> Fault {
-        match error.kind() {
-            io::ErrorKind::OutOfMemory => Fault::from(AllocError),
-            _ => said(alloc, "the words cannot be read"),
+    pub fn of_words(alloc: Global, error: &io::Error) -> Fault
+        ensures memory { error_kind error.now ≡ ErrorKind.OutOfMemory → result ≡ Run OutOfMemory }
+        ensures other { SaysOfWords (codes "the words cannot be read") result
+            ⊎ (result ≡ Run OutOfMemory) }
+    {
+        if error.kind() == ErrorKind::OutOfMemory {
+            return Fault::from(AllocError);
+        }
+        match String::from_str(alloc, "the words cannot be read") {
+            Ok(reason) => Fault::Words(reason),
+            Err(error) => Fault::from(error),
         }
     }
 
     /// The fault of a file that cannot be read.
-    pub(crate) fn of_file(alloc: Global, path: &str, error: &io::Error) -> Fault {
-        if error.kind() == io::ErrorKind::OutOfMemory {
+    pub(crate) fn of_file(alloc: Global, path: &str, error: &io::Error) -> Fault
+        ensures memory { error_kind error.now ≡ ErrorKind.OutOfMemory → result ≡ Run OutOfMemory }
+        ensures other { IsReadFault path.now result }
+    {
+        if error.kind() == ErrorKind::OutOfMemory {
             return Fault::from(AllocError);
         }
         match Fault::unreadable(alloc, path, error) {
@@ -139,8 +158,14 @@ impl Fault {
     }
 
     /// The fault of a folder of which an entry cannot be read.
-    pub(crate) fn of_listing(alloc: Global, path: &str, error: &io::Error) -> Fault {
-        if error.kind() != io::ErrorKind::InvalidFilename {
+    pub(crate) fn of_listing(alloc: Global, path: &str, error: &io::Error) -> Fault
+        ensures memory { error_kind error.now ≡ ErrorKind.OutOfMemory → result ≡ Run OutOfMemory }
+        ensures name { error_kind error.now ≡ ErrorKind.InvalidFilename
+            → IsBadName path.now result ⊎ (result ≡ Run OutOfMemory) }
+        ensures other { error_kind error.now ≢ ErrorKind.InvalidFilename
+            → IsReadFault path.now result }
+    {
+        if error.kind() != ErrorKind::InvalidFilename {
             return Fault::of_file(alloc, path, error);
         }
         match Shown::of(alloc, path) {
@@ -154,7 +179,9 @@ impl Fault {
     /// # Errors
     ///
     /// `AllocError` where memory was refused.
-    pub fn unreadable(alloc: Global, path: &str, error: &io::Error) -> Result<Fault, AllocError> {
+    pub fn unreadable(alloc: Global, path: &str, error: &io::Error) -> Result<Fault, AllocError>
+        ensures { IfOk result (IsUnreadable path.now) }
+    {
         Ok(Fault::Unreadable {
             path: Shown::of(alloc, path)?,
             reason: reason_of(alloc, error)?,
@@ -166,7 +193,9 @@ impl Fault {
     /// # Errors
     ///
     /// `AllocError` where memory was refused.
-    pub fn unread(alloc: Global, path: &str, reason: &str) -> Result<Fault, AllocError> {
+    pub fn unread(alloc: Global, path: &str, reason: &str) -> Result<Fault, AllocError>
+        ensures { IfOk result (IsUnreadFor path.now reason.now) }
+    {
         Ok(Fault::Unreadable {
             path: Shown::of(alloc, path)?,
             reason: String::from_str(alloc, reason)?,
@@ -179,7 +208,9 @@ impl Fault {
     /// # Errors
     ///
     /// `AllocError` where memory was refused.
-    pub fn bad_line(alloc: Global, path: &Option<Text>, line: u64) -> Result<Fault, AllocError> {
+    pub fn bad_line(alloc: Global, path: &Option<Text>, line: u64) -> Result<Fault, AllocError>
+        ensures { IfOk result (IsBadLine (unwrap_or path.now []) line) }
+    {
         let path = path.as_ref().map_or("", |path| path.as_str());
         Ok(Fault::BadLine {
             path: Shown::of(alloc, path)?,
@@ -192,23 +223,20 @@ impl Fault {
     /// # Errors
     ///
     /// `AllocError` where memory was refused.
-    pub fn of_key(alloc: Global, fault: KeyFault) -> Result<Fault, AllocError> {
+    pub fn of_key(alloc: Global, fault: KeyFault) -> Result<Fault, AllocError>
+        ensures { IfOk result IsWords }
+    {
         Ok(Fault::Words(format!(in alloc; "{fault}")?))
     }
 
     /// The fault of an output that the system did not take.
-    pub fn of_output(alloc: Global, error: &io::Error) -> Fault {
+    pub fn of_output(alloc: Global, error: &io::Error) -> Fault
+        ensures { IsUnwritable result ⊎ (result ≡ Run OutOfMemory) }
+    {
         match reason_of(alloc, error) {
             Ok(reason) => Fault::Unwritable { reason },
             Err(error) => Fault::from(error),
         }
-    }
-}
-
-fn said(alloc: Global, reason: &str) -> Fault {
-    match String::from_str(alloc, reason) {
-        Ok(reason) => Fault::Words(reason),
-        Err(error) => Fault::from(error),
     }
 }
 

@@ -1,5 +1,7 @@
 //! Files, read up to a limit and no further.
-ghost use Rattle.std.specs.Prelude.{◌≡◌, ◌<◌, ◌≤◌, ◌-◌, ◌^◌, length, IfOk, IfSome, IsNone};
+ghost use Rattle.std.specs.Prelude.{◌≡◌, ◌<◌, ◌≤◌, ◌-◌, ◌^◌, ◌⊎◌, length};
+ghost use Rattle.std.specs.Prelude.{IfErr, IfOk, IfSome, IsNone};
+ghost use Rattle.it_disk.specs.Faults.{IsFileFault, IsNoKeys, IsNoRing};
 ghost use Rattle.it_disk.specs.Reading.{HoldsIfGiven, HoldsKeys, HoldsRing};
 
 use crate::disk::Disk;
@@ -23,7 +25,8 @@ pub(crate) const MOST_BYTES: u64 = 8_388_608;
 
 /// The bytes of a file, up to the limit.
 pub(crate) fn read_file<R: Files + AllocGlobal>(rt: &R, path: &str) -> Result<Vec<u8>, Fault>
-    ensures { IfOk result (λ bytes. length bytes.items ≤ 8388608) }
+    ensures within { IfOk result (λ bytes. length bytes.items ≤ 8388608) }
+    ensures faults { IfErr result (IsFileFault path.now) }
 {
     let alloc = rt.alloc();
     let bytes = match fs::open(rt, path) {
@@ -88,13 +91,18 @@ pub fn bytes_if_given<R: Disk + AllocGlobal>(
 ///
 /// As of `bytes`, and `BadRing` with the first thing that keeps the bytes from being a ring.
 pub fn read_ring<R: Disk + AllocGlobal>(rt: &R, path: &str) -> Result<HmacRing, Fault>
-    ensures { IfOk result (HoldsRing R.holdings path.now) }
+    ensures ok { IfOk result (HoldsRing R.holdings path.now) }
+    ensures faults { IfErr result (λ fault. IsFileFault path.now fault
+        ⊎ IsNoRing R.holdings path.now fault) }
 {
     let alloc = rt.alloc();
     let bytes = rt.file(path)?;
     match HmacRing::read(alloc, bytes.as_slice()) {
         Ok(ring) => Ok(ring),
-        Err(RingFault::BadRing) => Err(no_ring(alloc, path, bytes.as_slice())?),
+        Err(RingFault::BadRing) => Err(Fault::BadRing {
+            path: Shown::of(alloc, path)?,
+            flaw: ring_flaw(alloc, bytes.as_slice())?,
+        }),
         Err(RingFault::OutOfMemory) => Err(Fault::from(AllocError)),
     }
 }
@@ -105,7 +113,9 @@ pub fn read_ring<R: Disk + AllocGlobal>(rt: &R, path: &str) -> Result<HmacRing, 
 ///
 /// As of `bytes`, and `BadKeys` where the bytes are no object from id to key object.
 pub fn read_keys<R: Disk + AllocGlobal>(rt: &R, path: &str) -> Result<Table<KeyObject>, Fault>
-    ensures { IfOk result (HoldsKeys R.holdings path.now) }
+    ensures ok { IfOk result (HoldsKeys R.holdings path.now) }
+    ensures faults { IfErr result (λ fault. IsFileFault path.now fault
+        ⊎ IsNoKeys R.holdings path.now fault) }
 {
     let alloc = rt.alloc();
     let bytes = rt.file(path)?;
@@ -115,14 +125,6 @@ pub fn read_keys<R: Disk + AllocGlobal>(rt: &R, path: &str) -> Result<Table<KeyO
             path: Shown::of(alloc, path)?,
         }),
     }
-}
-
-/// The fault of a file that is no ring.
-fn no_ring(alloc: Global, path: &str, bytes: &[u8]) -> Result<Fault, AllocError> {
-    Ok(Fault::BadRing {
-        path: Shown::of(alloc, path)?,
-        flaw: ring_flaw(alloc, bytes)?,
-    })
 }
 
 /// All bytes of a reader, or `None` where there are more than `limit`. Reads one byte beyond the

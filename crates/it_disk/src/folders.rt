@@ -1,6 +1,7 @@
 //! Folders of links and of records, read as far as they count and no further.
 ghost use Rattle.std.specs.Prelude.{◌≡◌, IfOk, OnOk};
 ghost use Rattle.it_limits.specs.Links.{AreFilesWithin};
+ghost use Rattle.it_disk.specs.Faults.{IsReadFault};
 ghost use Rattle.it_disk.specs.Reading.{AreLimited};
 
 use crate::fault::Fault;
@@ -231,7 +232,9 @@ pub(crate) fn untold<R: Files + AllocGlobal>(
     rt: &R,
     path: &str,
     error: &io::Error,
-) -> Result<Fault, AllocError> {
+) -> Result<Fault, AllocError>
+    ensures { IfOk result (IsReadFault path.now) }
+{
     if error.kind() != io::ErrorKind::NotFound {
         return Ok(Fault::of_file(rt.alloc(), path, error));
     }

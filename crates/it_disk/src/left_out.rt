@@ -1,7 +1,8 @@
 //! What is left out of a verification by public keys because it has too many signatures, and the
 //! notes on it.
-ghost use Rattle.std.specs.Prelude.{IfOk, IsNone, IsTrue};
-ghost use Rattle.it_limits.specs.Limit.{IsWithinLimit};
+ghost use Rattle.std.specs.Prelude.{IfOk, IfSome, IsNone, IsTrue};
+ghost use Rattle.it_limits.specs.Limit.{IsOverLimit, IsWithinLimit};
+ghost use Rattle.it_disk.specs.Faults.{IsUnreadable};
 
 use crate::fault::Fault;
 use crate::shown::Shown;
@@ -24,7 +25,9 @@ impl TooMany {
     /// # Errors
     ///
     /// `AllocError` where memory was refused.
-    pub fn in_file(self, alloc: Global, path: &str) -> Result<Fault, AllocError> {
+    pub fn in_file(self, alloc: Global, path: &str) -> Result<Fault, AllocError>
+        ensures { IfOk result (IsUnreadable path.now) }
+    {
         Fault::unread(alloc, path, format!(in alloc; "{self}")?.as_str())
     }
 }
@@ -47,7 +50,9 @@ impl Display for TooMany {
 ///
 /// `AllocError` where memory was refused.
 pub fn too_many(alloc: Global, bytes: &[u8], limited: bool) -> Result<Option<usize>, AllocError>
-    ensures { IfOk result (λ over. IsNone over → IsTrue limited → IsWithinLimit bytes.now) }
+    ensures within { IfOk result (λ over. IsNone over → IsTrue limited → IsWithinLimit bytes.now) }
+    ensures over { IfOk result
+        (λ over. IfSome over (λ count. IsTrue limited × IsOverLimit bytes.now count)) }
 {
     if limited {
         signatures_over_limit(alloc, bytes)

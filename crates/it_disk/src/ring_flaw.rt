@@ -1,7 +1,7 @@
 //! Why bytes are no ring of secrets, for the note that says so.
 ghost use Rattle.std.specs.Prelude.{IfOk, IfSome};
 ghost use Rattle.serde_json.specs.View.{items_view, view};
-ghost use Rattle.it_disk.specs.RingFlaw.{IsEntryFlaw, IsItemsFlaw};
+ghost use Rattle.it_disk.specs.RingFlaw.{IsEntryFlaw, IsItemsFlaw, IsRingFlaw};
 
 use crate::shown::Shown;
 use it_base::document::{member, read_document};
@@ -54,7 +54,9 @@ pub enum EntryFlaw {
 }
 
 /// What keeps the bytes from being a ring. They are read again, for the note alone.
-pub(crate) fn ring_flaw(alloc: Global, bytes: &[u8]) -> Result<RingFlaw, AllocError> {
+pub(crate) fn ring_flaw(alloc: Global, bytes: &[u8]) -> Result<RingFlaw, AllocError>
+    ensures { IfOk result (IsRingFlaw bytes.now) }
+{
     let Some(document) = read_document(alloc, bytes)? else {
         return Ok(RingFlaw::NoDocument);
     };

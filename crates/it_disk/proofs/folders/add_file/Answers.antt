@@ -11,7 +11,7 @@ returns g c = λ before limited. elim c.match-branch-3.branch [
       rw (ap (λ l. l.bundle) w.links-is) (before limited)
   | in-None+in_ok-add_file-in-None w ↦
       let within = subst (λ (over : Option ℕ). IsNone over → IsTrue c.args.limited
-      → IsWithinLimit c.as_slice.result.now) w.in-None.is c.in_ok-signatures.ensures refl limited in
+      → IsWithinLimit c.as_slice.result.now) w.in-None.is c.in_ok-signatures.ensures.within refl limited in
       rw (ap (λ l. l.bundle) w.links-is, w.in_ok-add_file-in-None.ensures.ok)
       (file_within _ _ (subst IsWithinLimit c.as_slice.ensures.value within) (before limited))
 ]

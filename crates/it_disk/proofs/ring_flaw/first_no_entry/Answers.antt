@@ -1,4 +1,4 @@
-use Rattle.std.proofs.Common.{◌≡◌, ◌∙◌, Some, refl, sym, ap}
+use Rattle.std.proofs.Common.{◌∙◌, Some, refl, sym, ap}
 use Rattle.serde_json.specs.View.{view}
 use Rattle.serde_json.proofs.Views.{get_item_within}
 use Rattle.it_disk.proofs.ring_flaw.first_no_entry.Goals as goal

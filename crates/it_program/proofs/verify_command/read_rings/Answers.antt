@@ -8,7 +8,7 @@ pub loop-path-preserved : goal.loop-path-preserved
 loop-path-preserved g c =
     let paths = c.args.paths.now in
     let i = c.loop-path.path-index in
-    let held = rw c.as_str.ensures at c.in_ok-read_ring.ensures in
+    let held = rw c.as_str.ensures at c.in_ok-read_ring.ensures.ok in
     let more : take (i + 1) paths ≡ take i paths ++ c.path-item.result ∷ [] =
     take_more paths i c.path-item.result c.loop-path-test.true ∙ ap (λ x. take i paths ++ x ∷ [])
     (sym c.path-item.is) in

@@ -1,2 +1,3 @@
 pub mod AnyTable
 pub mod Pairs
+pub mod Stopping

@@ -1,7 +1,8 @@
 //! `itv digest [--recursive] PATH..`.
-ghost use Rattle.std.specs.Prelude.{IfOk};
+ghost use Rattle.std.specs.Prelude.{◌≡◌, ◌≢◌, ◌⊎◌, Ok, IfErr, IfOk, take};
 ghost use Rattle.std.specs.Io.KnownBytes.{Appends};
 ghost use Rattle.it_program.specs.Commands.{AreLinesOf, IsLineOf, ListsDigests};
+ghost use Rattle.it_program.specs.Stopped.{ListsFirst};
 
 use crate::remembering::Remembering;
 use it_base::text::Text;
@@ -25,8 +26,11 @@ pub(crate) fn run<R: Disk + AllocGlobal, W: Write>(
     words: &DigestWords,
     out: &mut W,
 ) -> Result<Status, Fault>
-    ensures { IfOk result (λ status. (text : _) × ListsDigests R.holdings words.now text status
+    ensures ok { IfOk result (λ status. (text : _) × ListsDigests R.holdings words.now text status
         × Appends (W.contents out.old) (W.contents out.new) text) }
+    ensures stopped { IfErr result (λ fault. fault ≢ Fault.Run RunFault.Write
+        → (out.new ≡ out.old) ⊎ ListsFirst R.holdings words.now (W.contents out.old)
+        (W.contents out.new)) }
 {
     let paths = words.paths.as_slice();
     if words.recursive {
@@ -43,7 +47,10 @@ fn digest_files<R: Disk + AllocGlobal, W: Write>(
     files: &[Text],
     out: &mut W,
 ) -> Result<(), Fault>
-    ensures { IfOk result (λ _. (text : _) × AreLinesOf R.holdings files.now text
+    ensures ok { IfOk result (λ _. (text : _) × AreLinesOf R.holdings files.now text
+        × Appends (W.contents out.old) (W.contents out.new) text) }
+    ensures stopped { IfErr result (λ fault. fault ≢ Fault.Run RunFault.Write
+        → (count : _) × (text : _) × AreLinesOf R.holdings (take count files.now) text
         × Appends (W.contents out.old) (W.contents out.new) text) }
 {
     for file in files {
@@ -57,8 +64,9 @@ fn digest_file<R: Disk + AllocGlobal, W: Write>(
     file: &Text,
     out: &mut W,
 ) -> Result<(), Fault>
-    ensures { IfOk result (λ _. (line : _) × IsLineOf R.holdings file.now line
+    ensures ok { IfOk result (λ _. (line : _) × IsLineOf R.holdings file.now line
         × Appends (W.contents out.old) (W.contents out.new) line) }
+    ensures nothing { IfErr result (λ fault. fault ≢ Fault.Run RunFault.Write → out.new ≡ out.old) }
 {
     let alloc = rt.alloc();
     let path = file.as_str();
@@ -68,7 +76,7 @@ fn digest_file<R: Disk + AllocGlobal, W: Write>(
     let mut input = Remembering::new(rt.open(path)?);
     match run_digest(alloc, path, &mut input, MOST_BYTES, out) {
         Ok(_) => Ok(()),
-        Err(fault) => Err(told(alloc, path, fault, input.error())?),
+        Err(fault) => Err(told(alloc, path, fault, input.error)?),
     }
 }
 
@@ -78,7 +86,9 @@ fn told(
     path: &str,
     fault: RunFault,
     error: Option<io::Error>,
-) -> Result<Fault, AllocError> {
+) -> Result<Fault, AllocError>
+    ensures { fault ≡ RunFault.Write → result ≡ Ok (Fault.Run RunFault.Write) }
+{
     match fault {
         RunFault::BadName => Ok(Fault::Unlistable {
             path: Shown::of(alloc, path)?,

@@ -6,7 +6,7 @@
 //!
 //! ```
 //! let words = words(rt)?;
-//! let outcome = run_to(rt, words.as_slice(), out, notes);
+//! let outcome = run_to(rt, words.as_slice(), &mut Remembering::new(out), notes);
 //! ExitCode::from(exit_status(&outcome))
 //! ```
 #![tactic(auto)]
@@ -30,5 +30,6 @@ mod status;
 mod verify_command;
 
 pub use command_line::words;
+pub use remembering::Remembering;
 pub use running::{run_to, run_words};
 pub use status::exit_status;

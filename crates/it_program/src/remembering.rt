@@ -1,27 +1,25 @@
 //! Readers and writers that remember why the system failed them.
-ghost use Rattle.std.specs.Prelude.{◌≡◌};
+ghost use Rattle.std.specs.Prelude.{◌≡◌, None};
 
 use std::io;
 use std::io::{Read, Write};
 
 /// A reader or a writer, with the last error that it answered.
 #[derive(Drop)]
-pub(crate) struct Remembering<T> {
-    inner: T,
-    error: Option<io::Error>,
+pub struct Remembering<T> {
+    /// The reader or the writer.
+    pub inner: T,
+    /// The last error that it answered, if it answered one.
+    pub error: Option<io::Error>,
 }
 
 impl<T> Remembering<T> {
     /// It has answered no error yet.
-    pub(crate) fn new(inner: T) -> Remembering<T>
-        ensures { result.inner ≡ inner }
+    pub fn new(inner: T) -> Remembering<T>
+        ensures inner { result.inner ≡ inner }
+        ensures error { result.error ≡ None }
     {
         Remembering { inner, error: None }
-    }
-
-    /// The last error that it answered.
-    pub(crate) fn error(&self) -> Option<io::Error> {
-        self.error
     }
 }
 

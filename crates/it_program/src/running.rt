@@ -1,8 +1,9 @@
 //! A command, run by its words.
-ghost use Rattle.std.specs.Prelude.{IfOk, map, string_bytes};
+ghost use Rattle.std.specs.Prelude.{◌≡◌, ◌≢◌, ◌⊎◌, None, IfErr, IfOk, map, string_bytes};
 ghost use Rattle.std.specs.Io.KnownBytes.{Appends};
 ghost use Rattle.it_words.specs.Words.{AreWordsOf, GoesNoDeeper};
 ghost use Rattle.it_program.specs.Commands.{IsOutputOf};
+ghost use Rattle.it_program.specs.Stopped.{IsDigestBegun, NamesDigestBegun};
 
 use crate::remembering::Remembering;
 use crate::{
@@ -15,22 +16,29 @@ use it_words::words::{Words, read_words};
 use std::io::Write;
 
 /// Runs the command that the words name, and says why the system did not take its output where that
-/// is so. Notes beside the output go to `notes`. The first word is the program's
-/// name.
+/// is so. Notes beside the output go to `notes`. The first word is the program's name.
 ///
 /// # Errors
 ///
 /// As those of `run_words`, but `Fault::Unwritable` where the system said why it did not take the
 /// output.
-pub fn run_to<R: Disk + AllocGlobal, W: Write + Drop, N: Write>(
+pub fn run_to<R: Disk + AllocGlobal, W: Write, N: Write>(
     rt: &R,
     words: &[String],
-    out: W,
+    out: &mut Remembering<W>,
     notes: &mut N,
-) -> Result<Status, Fault> {
-    let mut out = Remembering::new(out);
-    let outcome = run_words(rt, words, &mut out, notes);
-    match (outcome, out.error()) {
+) -> Result<Status, Fault>
+    ensures ok { IfOk result (λ status. (command : _) × (text : _)
+        × AreWordsOf (map string_bytes words.now) command
+        × IsOutputOf R.holdings command text status
+        × Appends (W.contents out.old.inner) (W.contents out.new.inner) text) }
+    ensures stopped { IfErr result (λ fault. fault ≢ Fault.Run RunFault.Write
+        → out.new.error ≡ None → (out.new.inner ≡ out.old.inner)
+        ⊎ NamesDigestBegun R.holdings (map string_bytes words.now) (W.contents out.old.inner)
+        (W.contents out.new.inner)) }
+{
+    let outcome = run_words(rt, words, out, notes);
+    match (outcome, out.error) {
         (Err(Fault::Run(RunFault::Write)), Some(error)) => {
             Err(Fault::of_output(rt.alloc(), &error))
         }
@@ -38,23 +46,28 @@ pub fn run_to<R: Disk + AllocGlobal, W: Write + Drop, N: Write>(
     }
 }
 
-/// Runs the command that the words name. Notes beside its output go to `notes`.
-/// The first word is the program's name.
+/// Runs the command that the words name. Notes beside its output go to `notes`. The first word is
+/// the program's name.
 ///
 /// # Errors
 ///
 /// `Fault::Words` where the words do not parse, `Fault::Run` where the command stopped, and else
-/// what is said of the file, folder, line or key that kept it from running.
+/// what is said of the file, folder, line or key that kept it from running. Nothing went out then,
+/// but of `digest` the lines of the files before; where the output could not be written, a
+/// beginning of it.
 pub fn run_words<R: Disk + AllocGlobal, W: Write, N: Write>(
     rt: &R,
     words: &[String],
     out: &mut W,
     notes: &mut N,
 ) -> Result<Status, Fault>
-    ensures { IfOk result (λ status. (command : _) × (text : _)
+    ensures ok { IfOk result (λ status. (command : _) × (text : _)
         × AreWordsOf (map string_bytes words.now) command
         × IsOutputOf R.holdings command text status
         × Appends (W.contents out.old) (W.contents out.new) text) }
+    ensures stopped { IfErr result (λ fault. fault ≢ Fault.Run RunFault.Write
+        → (out.new ≡ out.old) ⊎ NamesDigestBegun R.holdings (map string_bytes words.now)
+        (W.contents out.old) (W.contents out.new)) }
 {
     let command = read_words(rt.alloc(), words)?;
     run_command(rt, &command, out, notes)
@@ -67,8 +80,12 @@ fn run_command<R: Disk + AllocGlobal, W: Write, N: Write>(
     notes: &mut N,
 ) -> Result<Status, Fault>
     requires { GoesNoDeeper command.now }
-    ensures { IfOk result (λ status. (text : _) × IsOutputOf R.holdings command.now text status
+    ensures ok { IfOk result (λ status. (text : _)
+        × IsOutputOf R.holdings command.now text status
         × Appends (W.contents out.old) (W.contents out.new) text) }
+    ensures stopped { IfErr result (λ fault. fault ≢ Fault.Run RunFault.Write
+        → (out.new ≡ out.old) ⊎ IsDigestBegun R.holdings command.now (W.contents out.old)
+        (W.contents out.new)) }
 {
     match command {
         Words::Signed(words) => signed_command::run(rt, words, out),

@@ -56,12 +56,13 @@ fn state<W: Write>(
         parameters,
     };
     match run_statement(alloc, &parts, out) {
+        Ok(status) => Ok(status),
         Err(RunFault::BadSubjects(line)) => Err(Fault::BadLine {
             path: Shown::of(alloc, words.sums.as_str())?,
             line,
         }),
         Err(RunFault::BadParameters) => Err(bad_parameters(alloc, &words.parameters)?),
-        outcome => Ok(outcome?),
+        Err(fault) => Err(Fault::Run(fault)),
     }
 }
 

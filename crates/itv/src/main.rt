@@ -6,7 +6,7 @@
 
 use it_disk::{Disk, Fault};
 use it_outcome::Status;
-use it_program::{exit_status, run_to, words};
+use it_program::{Remembering, exit_status, run_to, words};
 use std::io;
 use std::io::Write;
 use std::process::ExitCode;
@@ -26,5 +26,10 @@ fn run<R: Env + Disk + Print + AllocGlobal, N: Write>(
     notes: &mut N,
 ) -> Result<Status, Fault> {
     let words = words(rt)?;
-    run_to(rt, words.as_slice(), io::writer(rt), notes)
+    run_to(
+        rt,
+        words.as_slice(),
+        &mut Remembering::new(io::writer(rt)),
+        notes,
+    )
 }

@@ -26,7 +26,7 @@ use crate::runs::node::{Node, Placed, fault_in, node_in, placed_in};
 use crate::runs::ran::{Ran, run_over};
 use it_base::document::{member, read_document};
 use it_disk::{Disk, Fault, read_limited};
-use it_program::{exit_status, run_to, words};
+use it_program::{Remembering, exit_status, run_to, words};
 use it_tables::RowFault;
 use it_tables::devices::words as words_of;
 use it_tables::row::{bytes_in, number_in, text_in};
@@ -173,7 +173,12 @@ fn run_to_full(alloc: Global, row: &Value) -> Result<String, RowFault> {
     };
     let disk = (FakeFiles { files: &[] }, alloc);
     let mut notes = Vec::new(alloc);
-    let outcome = run_to(&disk, words.as_slice(), Full { reason }, &mut notes);
+    let outcome = run_to(
+        &disk,
+        words.as_slice(),
+        &mut Remembering::new(Full { reason }),
+        &mut notes,
+    );
     let status = exit_status(&outcome);
     match outcome {
         Ok(_) => Ok(format!(in alloc; "{status}")?),

@@ -15,7 +15,7 @@ loop-file-preserved g c =
     take_more files i c.file-item.result c.loop-file-test.true
     ∙ ap (λ x. take i files ++ x ∷ []) (sym c.file-item.is) in
     let before = c.loop-file.invariant in
-    let told = c.in_ok-digest_file.ensures in (
+    let told = c.in_ok-digest_file.ensures.ok in (
       before.0 ++ told.0,
       subst (λ listed. AreLinesOf g.R.Disk.holdings listed (before.0 ++ told.0))
           (sym more) (one_more before.1 told.1),
@@ -28,4 +28,7 @@ returns g c =
     let told = c.loop-file.invariant in
     let all : take c.loop-file.file-index files ≡ files =
     take_all c.loop-file.file-index files c.loop-file-test.false in
-    (told.0, subst (λ listed. AreLinesOf g.R.Disk.holdings listed told.0) all told.1, told.2)
+    record {
+      ok = (told.0, subst (λ listed. AreLinesOf g.R.Disk.holdings listed told.0) all told.1, told.2);
+      stopped = tt;
+    }

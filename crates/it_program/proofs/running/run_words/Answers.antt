@@ -3,6 +3,7 @@ use Rattle.std.specs.String.{string_bytes}
 use Rattle.std.specs.Io.KnownBytes.{Appends}
 use Rattle.it_words.specs.Words.{AreWordsOf}
 use Rattle.it_program.specs.Commands.{IsOutputOf}
+use Rattle.it_program.proofs.Stopping.{named_begun}
 use Rattle.it_program.proofs.running.run_words.Goals as goal
 
 -- what is told of a command is told of some command
@@ -14,6 +15,14 @@ of_some P Q Z x (Err e) named told = tt
 
 pub returns : goal.returns
 returns g c =
-    of_some (AreWordsOf (map string_bytes c.args.words.now)) (IsOutputOf g.R.Disk.holdings)
-    (Appends (g.W.Write.contents c.args.out.now) (g.W.Write.contents c.run_command.new.out))
-    c.in_ok-command.command c.run_command.result c.in_ok-command.ensures.ok c.run_command.ensures
+    let words = map string_bytes c.args.words.now in
+    let command = c.in_ok-command.command in
+    let named = c.in_ok-command.ensures.ok in
+    let old = g.W.Write.contents c.args.out.now in
+    let new = g.W.Write.contents c.run_command.new.out in
+    record {
+      ok = of_some (AreWordsOf words) (IsOutputOf g.R.Disk.holdings) (Appends old new) command
+          c.run_command.result named c.run_command.ensures.ok;
+      stopped = named_begun _ _ g.R.Disk.holdings command old new words c.run_command.result named
+          c.run_command.ensures.stopped;
+    }

@@ -1,12 +1,8 @@
 -- Checked by panels that are alike on the keys which it can ask for, a layout comes to the same.
-use Rattle.std.proofs.Common.{◌≡◌, ◌∙◌, ℕ, zero, suc, List, Option, Some, Contains, Ordering}
-use Rattle.std.proofs.Common.{Less, Equal, Greater, nat_cmp, inl, inr, ◌⊎◌, ⊎_elim, refl, sym, ap, subst}
-use Rattle.std.specs.Cmp.Lexicographic.{slice_cmp}
+use Rattle.std.proofs.Common.{◌≡◌, ◌∙◌, ℕ, zero, suc, List, Some, Contains, inl, inr, ⊎_elim, refl}
+use Rattle.std.proofs.Common.{sym, ap, subst}
 use Rattle.std.specs.FinMap.{get}
-use Rattle.std.specs.Option.{unwrap_or}
-use Rattle.std.specs.Ordering.{match_ordering}
 use Rattle.std.specs.Prelude.{◌<ℤ◌}
-use Rattle.std.proofs.lemmas.List.Elements.{Contains-append_left, Contains-append_right}
 use Rattle.std.proofs.lemmas.Option.{same_Some}
 use Rattle.it_base.specs.Table.{Named}
 use Rattle.it_dsse.specs.Panel.{KeyNumber, Panel}
@@ -18,13 +14,11 @@ use Rattle.it_docs.specs.declared.layout.Layout.{Layout}
 use Rattle.it_docs.specs.declared.step.Step.{Step}
 use Rattle.it_chain.specs.Alike.{HasSameOutcome}
 use Rattle.it_chain.specs.AlikePanels.{IsOneKey, PanelsAlike, PanelsAlikeOver}
-use Rattle.it_chain.specs.AllFiles.{all_files, folder_files}
-use Rattle.it_chain.specs.Contents.{Contents, contents_of, empty, files_of, folder, folder_in}
-use Rattle.it_chain.specs.Contents.{Folders, no_folders}
+use Rattle.it_chain.specs.Contents.{Contents}
 use Rattle.it_chain.specs.CountedBodies.{Counted, Setting}
-use Rattle.it_chain.specs.Sublayouts.{folder_name, folder_of}
+use Rattle.it_chain.specs.Sublayouts.{IsSublayout, folder_of}
 use Rattle.it_chain.specs.Threshold.{Found, KeyCounts}
-use Rattle.it_chain.specs.declared.bundle.File.{File}
+use Rattle.it_chain.proofs.CountedSublayouts.{sublayout_as}
 use Rattle.it_chain.proofs.Images.{images, images_distinct, length_images, of_images, to_images}
 use Rattle.it_chain.proofs.Sides.{Comes, Moves, come, side_at}
 
@@ -35,14 +29,6 @@ panels_back panel other objects alike = record {
       (both.1, both.0);
   one_key = λ id object second another known also.
       let both = alike.one_key id object second another known also in (both.1, both.0);
-}
-
-pub over_back : (panel other : Panel) (layout : Layout) (bundle : Contents)
-    → PanelsAlikeOver panel other layout bundle → PanelsAlikeOver other panel layout bundle
-over_back panel other layout bundle over = record {
-  of_layout = panels_back panel other layout.keys over.of_layout;
-  of_files = λ file envelope inner stands is reads.
-      panels_back panel other inner.keys (over.of_files file envelope inner stands is reads);
 }
 
 -- ---- signatures
@@ -67,6 +53,55 @@ signed_there panel other objects alike envelope id object key known signed =
         );
       },
     )
+
+-- ---- sublayouts
+pub alike_here : (panel other : Panel) (depth : ℕ) (layout : Layout) (bundle : Contents)
+    → PanelsAlikeOver panel other depth layout bundle → PanelsAlike panel other layout.keys
+alike_here panel other zero layout bundle over = over
+alike_here panel other (suc depth) layout bundle over = over.0
+
+-- a sublayout that counts by one panel counts by the other
+pub sublayout_there : (panel other : Panel) (layout : Layout) (bundle : Contents)
+    → PanelsAlike panel other layout.keys → (step : Step) (id : List ℕ) (sublayout : Layout)
+    → IsSublayout (IsSigner panel) layout bundle step id sublayout
+    → IsSublayout (IsSigner other) layout bundle step id sublayout
+sublayout_there panel other layout bundle alike step id sublayout =
+    sublayout_as (IsSigner panel) (IsSigner other) layout bundle step id sublayout
+    (λ envelope object known signed. signed_there panel other layout.keys alike envelope id object
+    signed.0 known signed.1)
+
+pub over_back : (panel other : Panel) (depth : ℕ) (layout : Layout) (bundle : Contents)
+    → PanelsAlikeOver panel other depth layout bundle
+    → PanelsAlikeOver other panel depth layout bundle
+over_back panel other zero layout bundle over = panels_back panel other layout.keys over
+over_back panel other (suc depth) layout bundle over =
+    let back = panels_back panel other layout.keys over.0 in (
+      back,
+      λ step id sublayout is. over_back panel other depth sublayout
+          (folder_of step.name id bundle)
+          (over.1 step id sublayout
+          (sublayout_there other panel layout bundle back step id sublayout is)),
+    )
+
+-- a body that counts and is a layout is a sublayout that counts
+pub counted_sublayout : (setting : Setting) (layout : Layout) (bundle : Contents) (step : Step)
+    (id payload : List ℕ) (sublayout : Layout) → Contains layout.steps step
+    → Counted setting layout bundle step id payload → LayoutOf payload sublayout
+    → IsSublayout (IsSigner setting.panel) layout bundle step id sublayout
+counted_sublayout setting layout bundle step id payload sublayout is_step c is = record {
+  file = c.file;
+  envelope = c.envelope;
+  object = c.object;
+  is_step = is_step;
+  stands = c.stands;
+  claimed = c.claimed;
+  is_envelope = c.is_envelope;
+  type_is = c.type_is;
+  listed = c.listed;
+  known = c.known;
+  signed = (c.key, c.signed);
+  is_layout = subst (λ body. LayoutOf body sublayout) (sym c.payload_is) is;
+}
 
 -- ---- keys
 -- the panels give one key these numbers
@@ -196,96 +231,52 @@ module _ (here there : Setting) (layout : Layout) (bundle : Contents) (step : St
         number_is = length_images As f.keys renaming ∙ f.number_is;
       }
 
--- ---- the files of sublayouts
-own_files : (bundle : Contents) (file : File) → Contains (files_of bundle) file
-    → Contains (all_files bundle) file
-own_files (contents_of files below) file c =
-    Contains-append_left files (folder_files below) file c
-
-in_either : (o : Ordering) (inner : Contents) (rest : Option Contents) (file : File)
-    → Contains (all_files (unwrap_or (match_ordering o rest (Some inner) rest) empty)) file
-    → Contains (all_files inner) file ⊎ Contains (all_files (unwrap_or rest empty)) file
-in_either Less inner rest file c = inr c
-in_either Equal inner rest file c = inl c
-in_either Greater inner rest file c = inr c
-
-in_folders : (name : List ℕ) (folders : Folders) (file : File)
-    → Contains (all_files (unwrap_or (folder_in name folders) empty)) file
-    → Contains (folder_files folders) file
-in_folders name no_folders file c = c
-in_folders name (folder other inner rest) file c =
-    ⊎_elim (Contains-append_left (all_files inner) (folder_files rest) file)
-    (λ later. Contains-append_right (all_files inner) (folder_files rest) file
-    (in_folders name rest file later))
-    (in_either (slice_cmp nat_cmp name other) inner (folder_in name rest) file c)
-
--- a file of a sublayout's folder is one of the bundle
-inner_files : (step id : List ℕ) (bundle : Contents) (file : File)
-    → Contains (all_files (folder_of step id bundle)) file → Contains (all_files bundle) file
-inner_files step id (contents_of files below) file c =
-    Contains-append_right files (folder_files below) file
-    (in_folders (folder_name step id) below file c)
-
--- the panels are alike over each sublayout that counts
-over_below : (here there : Setting) (layout : Layout) (bundle : Contents)
-    → PanelsAlikeOver here.panel there.panel layout bundle
-    → (step : Step) (id payload : List ℕ) (sublayout : Layout)
-    → Counted here layout bundle step id payload → LayoutOf payload sublayout
-    → PanelsAlikeOver here.panel there.panel sublayout (folder_of step.name id bundle)
-over_below here there layout bundle over step id payload sublayout c is = record {
-  of_layout = over.of_files c.file c.envelope sublayout (own_files bundle c.file c.stands)
-      c.is_envelope (subst (λ body. LayoutOf body sublayout) (sym c.payload_is) is);
-  of_files = λ file envelope inner stands.
-      over.of_files file envelope inner (inner_files step.name id bundle file stands);
-}
-
 -- ---- layouts
 -- what a layout comes to by one panel it comes to by the other
 abbrev PanelsCome : Setting → Setting → ℕ → Type 0
 PanelsCome here there depth = (layout : Layout) (bundle : Contents)
-    → PanelsAlikeOver here.panel there.panel layout bundle
+    → PanelsAlikeOver here.panel there.panel depth layout bundle
     → Comes depth layout here bundle there bundle
 
 module _ (here there : Setting) (moment : here.moment ≡ there.moment) where
   moves_zero : (layout : Layout) (bundle : Contents)
-      → PanelsAlikeOver here.panel there.panel layout bundle
+      → PanelsAlikeOver here.panel there.panel 0 layout bundle
       → Moves layout (side_at here 0 bundle) (side_at there 0 bundle)
   moves_zero layout bundle over = record {
     expiry = subst (λ moment. layout.expires <ℤ moment) moment;
-    bodies = λ step id payload c. counted_there here there layout bundle step over.of_layout id
-        payload;
-    found = λ step found c. found_there here there layout bundle step over.of_layout found;
+    bodies = λ step id payload c. counted_there here there layout bundle step over id payload;
+    found = λ step found c. found_there here there layout bundle step over found;
     held = λ step id payload sublayout m c counted is x. x;
     failing = λ step id payload sublayout refusal c counted is x. x;
   }
 
   moves_more : (depth : ℕ) → PanelsCome here there depth → (layout : Layout) (bundle : Contents)
-      → PanelsAlikeOver here.panel there.panel layout bundle
+      → PanelsAlikeOver here.panel there.panel (suc depth) layout bundle
       → Moves layout (side_at here (suc depth) bundle) (side_at there (suc depth) bundle)
   moves_more depth inner layout bundle over =
       let below = λ (step : Step) (id payload : List ℕ) (sublayout : Layout)
-      (c : Counted here layout bundle step id payload) (is : LayoutOf payload sublayout).
-      inner sublayout (folder_of step.name id bundle)
-      (over_below here there layout bundle over step id payload sublayout c is) in
+      (c : Contains layout.steps step) (counted : Counted here layout bundle step id payload)
+      (is : LayoutOf payload sublayout). inner sublayout (folder_of step.name id bundle)
+      (over.1 step id sublayout
+      (counted_sublayout here layout bundle step id payload sublayout c counted is)) in
       record {
         expiry = subst (λ moment. layout.expires <ℤ moment) moment;
-        bodies = λ step id payload c. counted_there here there layout bundle step over.of_layout id
-            payload;
-        found = λ step found c. found_there here there layout bundle step over.of_layout found;
+        bodies = λ step id payload c. counted_there here there layout bundle step over.0 id payload;
+        found = λ step found c. found_there here there layout bundle step over.0 found;
         held = λ step id payload sublayout m c counted is.
-            (below step id payload sublayout counted is).0 m;
+            (below step id payload sublayout c counted is).0 m;
         failing = λ step id payload sublayout refusal c counted is. ⊎_elim inl
-            (λ x. inr (x.0, (below step id payload sublayout counted is).1 refusal x.1));
+            (λ x. inr (x.0, (below step id payload sublayout c counted is).1 refusal x.1));
       }
 
 panels_come : (depth : ℕ) (here there : Setting) → here.moment ≡ there.moment
     → PanelsCome here there depth
 panels_come zero here there moment layout bundle over =
-    let back = over_back here.panel there.panel layout bundle over in
+    let back = over_back here.panel there.panel 0 layout bundle over in
     come 0 layout here bundle there bundle (moves_zero here there moment layout bundle over)
     (moves_zero there here (sym moment) layout bundle back)
 panels_come (suc depth) here there moment layout bundle over =
-    let back = over_back here.panel there.panel layout bundle over in
+    let back = over_back here.panel there.panel (suc depth) layout bundle over in
     come (suc depth) layout here bundle there bundle
     (moves_more here there moment depth (panels_come depth here there moment) layout bundle over)
     (moves_more there here (sym moment) depth (panels_come depth there here (sym moment)) layout
@@ -293,11 +284,11 @@ panels_come (suc depth) here there moment layout bundle over =
 
 -- by panels that are alike on all those keys a layout comes to the same
 pub alike_panel_chains : (here there : Setting) (depth : ℕ) (layout : Layout) (bundle : Contents)
-    → here.moment ≡ there.moment → PanelsAlikeOver here.panel there.panel layout bundle
+    → here.moment ≡ there.moment → PanelsAlikeOver here.panel there.panel depth layout bundle
     → HasSameOutcome depth layout here bundle there bundle
 alike_panel_chains here there depth layout bundle moment over =
-    let alike = over.of_layout in
-    let back = over_back here.panel there.panel layout bundle over in
+    let alike = alike_here here.panel there.panel depth layout bundle over in
+    let back = over_back here.panel there.panel depth layout bundle over in
     let to = panels_come depth here there moment layout bundle over in
     let from = panels_come depth there here (sym moment) layout bundle back in
     record {
@@ -305,6 +296,7 @@ alike_panel_chains here there depth layout bundle moment over =
       first = λ refusal. (to.1 refusal, from.1 refusal);
       found = λ step found c. (
         found_there here there layout bundle step alike found,
-        found_there there here layout bundle step back.of_layout found,
+        found_there there here layout bundle step
+            (panels_back here.panel there.panel layout.keys alike) found,
       );
     }

@@ -25,7 +25,7 @@ use Rattle.it_chain.specs.CountedBodies.{Setting, Counted}
 use Rattle.it_chain.specs.First.{IsBefore}
 use Rattle.it_chain.specs.ClaimedFiles.{IsClaimed}
 use Rattle.it_chain.specs.Sublayouts.{folder_of}
-use Rattle.it_chain.specs.inside.Signers.{entry_of}
+use Rattle.it_chain.specs.Signers.{entry_of}
 use Rattle.it_chain.specs.inside.Candidates.{AreCandidates}
 use Rattle.it_chain.specs.declared.bundle.File.{File}
 use Rattle.it_dsse.specs.declared.envelope.Envelope.{Envelope}

@@ -20,7 +20,7 @@ use Rattle.it_chain.specs.Cost.{ChainCosts, LevelCosts, StepCosts}
 use Rattle.it_chain.specs.CountedBodies.{Setting, Body, of_link, of_layout}
 use Rattle.it_chain.specs.Threshold.{same_key}
 use Rattle.it_chain.specs.Level.{Holding}
-use Rattle.it_chain.specs.inside.Signers.{entry_of}
+use Rattle.it_chain.specs.Signers.{entry_of}
 use Rattle.it_chain.specs.inside.Candidates.{AreCandidates}
 use Rattle.it_chain.specs.inside.Threshold.{IsJudged, keys_of}
 use Rattle.it_chain.specs.inside.IdRecords.{IsRecordOf}

@@ -1,11 +1,12 @@
 pub mod AlikePanels
 pub mod Alikes
-pub mod AllFiles
 pub mod Asking
 pub mod Candidates
+pub mod ClaimedEnvelopes
 pub mod ClaimedFiles
 pub mod ClaimedNames
 pub mod Costing
+pub mod CountedSublayouts
 pub mod Counting
 pub mod Decided
 pub mod Deciding

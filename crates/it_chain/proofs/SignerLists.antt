@@ -2,7 +2,7 @@
 use Rattle.std.proofs.Common.{◌≡◌, ◌<◌, ◌+◌, ℕ, List, [], ◌∷◌, ◌++◌, map, filter, filter_map, take}
 use Rattle.std.proofs.Common.{get_or, length, Bool, true, false, T, cond, Option, Some, None}
 use Rattle.std.proofs.Common.{option_map, Bor, Less, nat_cmp, ⊎_elim, Contains, refl, sym, ap}
-use Rattle.std.proofs.Common.{subst, append-nil, ◌∙◌}
+use Rattle.std.proofs.Common.{subst, append-nil, ◌∙◌, ◌↔◌}
 use Rattle.std.specs.Cmp.Lexicographic.{slice_cmp}
 use Rattle.std.specs.FinMap.{entries, entries_sorted, get, is_sorted}
 use Rattle.std.specs.List.{AllByRecursion, cons_option}
@@ -18,7 +18,8 @@ use Rattle.it_docs.specs.declared.layout.Layout.{Layout}
 use Rattle.it_docs.specs.declared.step.Step.{Step}
 use Rattle.it_chain.specs.Answer.{signers}
 use Rattle.it_chain.specs.First.{IsBefore}
-use Rattle.it_chain.specs.inside.Signers.{AreIds, entry_of}
+use Rattle.it_chain.specs.Signers.{entry_of}
+use Rattle.it_chain.specs.inside.Signers.{AreIds}
 use Rattle.it_chain.specs.declared.signers.Signer.{Signer}
 use Rattle.it_chain.proofs.Entries.{entry_known, first_below, known_entry, order}
 use Rattle.it_chain.proofs.Members.{in_cases, in_filter, in_filter_map, in_head, in_none, in_tail}
@@ -111,6 +112,18 @@ module _ {X : Type 0} where
         subst (IsBefore id) ((of_known from.0 (get m from.0) f refl from.1).0)
         (below_each id ids sorted.0 from.0 from.2))
         (rises_known ids sorted.1)
+
+-- the signers are the ids that the step lists, each with the object that the layout has for it
+pub is_signer : (layout : Layout) (step : Step) (id : List ℕ) (object : KeyObject)
+    → Contains (signers layout step) (id, object)
+    ↔ Contains step.pubkeys id × (get layout.keys id ≡ Some object)
+is_signer layout step id object =
+    let listed = is_member-Decides bytes_eq-Decides step.pubkeys id in (
+      λ c. let from = of_filter (is_listed step) (entries layout.keys) (id, object) c in
+          (listed.0 from.0, entry_known layout.keys (id, object) from.1),
+      λ h. in_filter (is_listed step) (entries layout.keys) (id, object) (listed.1 h.0)
+          (known_entry layout.keys id object h.1),
+    )
 
 -- the sorted ids with what the layout has for them are the step's signers
 pub known_signers : (layout : Layout) (step : Step) (ids : List (List ℕ)) → AreIds step.pubkeys ids

@@ -16,7 +16,7 @@ use Rattle.it_chain.specs.Answer.{signers, with_record}
 use Rattle.it_chain.specs.Contents.{Contents}
 use Rattle.it_chain.specs.CountedBodies.{Setting}
 use Rattle.it_chain.specs.First.{ChainPlace, at_id}
-use Rattle.it_chain.specs.inside.Signers.{entry_of}
+use Rattle.it_chain.specs.Signers.{entry_of}
 use Rattle.it_chain.specs.inside.IdRecords.{AreRecords, Gives}
 use Rattle.it_chain.specs.inside.Walks.{FailsAt}
 use Rattle.it_chain.specs.inside.Below.{StandsAt, fails_below, holds_below}

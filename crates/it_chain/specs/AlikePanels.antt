@@ -1,17 +1,15 @@
 -- Panels of checks that are alike on the keys which a layout can ask for (a word of this project;
 -- no standard speaks of it).
-use Rattle.std.specs.Prelude.{◌≡◌, ◌↔◌, ℕ, List, Some, Contains, IsTrue}
+use Rattle.std.specs.Prelude.{◌≡◌, ◌↔◌, ℕ, zero, suc, List, Some, IsTrue}
 use Rattle.std.specs.FinMap.{get}
 use Rattle.it_base.specs.Table.{Named}
-use Rattle.it_dsse.specs.Envelope.{EnvelopeOf}
 use Rattle.it_dsse.specs.Panel.{KeyNumber, Panel}
-use Rattle.it_dsse.specs.declared.envelope.Envelope.{Envelope}
+use Rattle.it_dsse.specs.Signed.{IsSigner}
 use Rattle.it_dsse.specs.declared.key_object.KeyObject.{KeyObject}
-use Rattle.it_docs.specs.Layout.{LayoutOf}
 use Rattle.it_docs.specs.declared.layout.Layout.{Layout}
-use Rattle.it_chain.specs.AllFiles.{all_files}
+use Rattle.it_docs.specs.declared.step.Step.{Step}
 use Rattle.it_chain.specs.Contents.{Contents}
-use Rattle.it_chain.specs.declared.bundle.File.{File}
+use Rattle.it_chain.specs.Sublayouts.{IsSublayout, folder_of}
 
 -- a signature of a message is valid by a panel for the key that an id and an object name
 pub record IsValidBy (panel : Panel) (id : List ℕ) (object : KeyObject) (message sig : List ℕ)
@@ -37,10 +35,11 @@ pub record PanelsAlike (panel other : Panel) (objects : Named KeyObject) : Type 
       → get objects id ≡ Some object → get objects second ≡ Some another
       → IsOneKey panel id object second another ↔ IsOneKey other id object second another
 
--- they are alike on the keys of a layout, and on those of every layout in a file of a bundle
-pub record PanelsAlikeOver (panel other : Panel) (layout : Layout) (bundle : Contents)
-    : Type 0 where
-  pub of_layout : PanelsAlike panel other layout.keys
-  pub of_files : (file : File) (envelope : Envelope) (inner : Layout)
-      → Contains (all_files bundle) file → EnvelopeOf file.bytes envelope
-      → LayoutOf envelope.payload inner → PanelsAlike panel other inner.keys
+-- they are alike on the keys of a layout, and on those of each sublayout that counts by the first,
+-- as deep as sublayouts may lie
+abbrev pub PanelsAlikeOver : Panel → Panel → ℕ → Layout → Contents → Type 0
+PanelsAlikeOver panel other zero layout bundle = PanelsAlike panel other layout.keys
+PanelsAlikeOver panel other (suc depth) layout bundle = PanelsAlike panel other layout.keys
+    × ((step : Step) (id : List ℕ) (sublayout : Layout)
+    → IsSublayout (IsSigner panel) layout bundle step id sublayout
+    → PanelsAlikeOver panel other depth sublayout (folder_of step.name id bundle))

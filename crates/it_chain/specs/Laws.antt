@@ -62,13 +62,13 @@ AlikeChains =
     → ChainAlike setting depth layout bundle other
     → HasSameOutcome depth layout setting bundle setting other
 
--- checked by panels that are alike on its keys, and on those of the layouts in the files, a layout
+-- checked by panels that are alike on its keys, and on those of the sublayouts that count, a layout
 -- has one outcome
 abbrev pub AlikePanelChains : Type 0
 AlikePanelChains =
     (setting another : Setting) (depth : ℕ) (layout : Layout) (bundle : Contents)
     → setting.moment ≡ another.moment
-    → PanelsAlikeOver setting.panel another.panel layout bundle
+    → PanelsAlikeOver setting.panel another.panel depth layout bundle
     → HasSameOutcome depth layout setting bundle another bundle
 
 -- bundles are alike that have copies of each other's files that count, whatever else is in them, if

@@ -15,6 +15,7 @@ pub mod First
 pub mod Laws
 pub mod Level
 pub mod Lower
+pub mod Signers
 pub mod StepRules
 pub mod Sublayouts
 pub mod Summary

@@ -1,8 +1,6 @@
 //! The files and folders that a layout is checked against.
-ghost use Rattle.std.specs.Prelude.{◌≡◌, ◌++◌, OnOk, OnErr, IfErr, IfOk, IsSome, None};
-ghost use Rattle.std.specs.Prelude.{string_bytes};
-ghost use Rattle.std.specs.Prelude.{map, option_map};
-ghost use Rattle.it_chain.specs.AllFiles.{all_files};
+ghost use Rattle.std.specs.Prelude.{◌≡◌, OnOk, OnErr, IfErr, IsSome, None};
+ghost use Rattle.std.specs.Prelude.{option_map, string_bytes};
 
 use it_base::sequence::Sequence;
 use it_base::text::Text;
@@ -126,41 +124,4 @@ impl Bundle {
     {
         self.folders.get(name)
     }
-
-    /// Every file, at every depth: those of this bundle, and then those of its folders in the order
-    /// of their names' bytes.
-    ///
-    /// # Errors
-    ///
-    /// `AllocError` where memory was refused.
-    pub fn all_files(&self, alloc: Global) -> Result<Vec<&File>, AllocError>
-        ensures { IfOk result (λ files. map (λ file. file.now) files.items ≡ all_files self.now) }
-    {
-        let mut files = Vec::new(alloc);
-        add_all_files(self, &mut files)?;
-        Ok(files)
-    }
-}
-
-/// Adds every file of a bundle, at every depth, behind those that are there.
-fn add_all_files<'a>(bundle: &'a Bundle, files: &mut Vec<&'a File>) -> Result<(), AllocError>
-    ensures { OnOk result (map (λ file. file.now) files.new.items
-        ≡ map (λ file. file.now) files.old.items ++ all_files bundle.now) }
-{
-    add_own_files(&bundle.files, files)?;
-    for folder in bundle.folders.values() {
-        add_all_files(folder, files)?;
-    }
-    Ok(())
-}
-
-/// Adds the files of one folder behind those that are there.
-fn add_own_files<'a>(own: &'a [File], files: &mut Vec<&'a File>) -> Result<(), AllocError>
-    ensures { OnOk result (map (λ file. file.now) files.new.items
-        ≡ map (λ file. file.now) files.old.items ++ own.now) }
-{
-    for file in own {
-        files.push(file)?;
-    }
-    Ok(())
 }

@@ -9,7 +9,7 @@ ghost use Rattle.it_chain.specs.inside.Candidates.{AreCandidates};
 ghost use Rattle.it_chain.specs.inside.IdRecords.{IsRecordOf};
 ghost use Rattle.it_chain.specs.inside.Scope.{IdAnswers, IdCost, IdTakes, scope_of};
 ghost use Rattle.it_chain.specs.inside.Scope.{RecordsAnswer, RecordsTake};
-ghost use Rattle.it_chain.specs.inside.Signers.{entry_of};
+ghost use Rattle.it_chain.specs.Signers.{entry_of};
 
 use crate::checking::Checking;
 use crate::counted_bodies::{Counting, counted};

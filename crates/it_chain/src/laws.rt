@@ -37,8 +37,8 @@ pub fn alike_chains()
     ensures { AlikeChains }
 {}
 
-/// Checked by panels that are alike on its keys, and on those of the layouts in the files, a layout
-/// has the same result, whatever numbers the panels give the keys.
+/// Checked by panels that are alike on its keys, and on those of the sublayouts that count, a
+/// layout has the same result, whatever numbers the panels give the keys.
 pub fn alike_panel_chains()
     ensures { AlikePanelChains }
 {}

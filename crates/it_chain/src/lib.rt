@@ -15,7 +15,8 @@ pub mod laws;
 mod level;
 mod record;
 pub mod refusal;
-mod signers;
+pub mod signers;
+mod step_files;
 mod step_rules;
 mod sublayouts;
 mod summary;
@@ -24,5 +25,6 @@ mod verify;
 
 pub use candidate::{envelope_in, layout_in, link_in};
 pub use claimed_files::claimed_step;
+pub use step_files::StepFiles;
 pub use sublayouts::folder_name;
 pub use verify::verify_chain;

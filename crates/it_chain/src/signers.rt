@@ -4,7 +4,8 @@ ghost use Rattle.std.specs.Cmp.Lexicographic.{slice_cmp};
 ghost use Rattle.std.specs.List.Sorted.{IsStrictlySortedBy};
 ghost use Rattle.std.specs.Ordering.{nat_cmp};
 ghost use Rattle.it_chain.specs.Answer.{signers as signers_of};
-ghost use Rattle.it_chain.specs.inside.Signers.{AreIds, entry_of};
+ghost use Rattle.it_chain.specs.Signers.{entry_of};
+ghost use Rattle.it_chain.specs.inside.Signers.{AreIds};
 
 use it_base::text::Text;
 use it_docs::layout::Layout;
@@ -14,7 +15,7 @@ use std::alloc::{AllocError, Global};
 
 /// A key id that a step lists, with the key object that the layout has for it.
 #[derive(Drop)]
-pub(crate) struct Signer<'a> {
+pub struct Signer<'a> {
     /// The key id.
     pub id: &'a str,
     /// The key object.
@@ -22,7 +23,11 @@ pub(crate) struct Signer<'a> {
 }
 
 /// The key ids that a step lists and the layout has, in the order of their bytes.
-pub(crate) fn signers<'a>(
+///
+/// # Errors
+///
+/// `AllocError` where memory was refused.
+pub fn signers<'a>(
     alloc: Global,
     layout: &'a Layout,
     step: &'a Step,

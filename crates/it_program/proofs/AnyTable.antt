@@ -5,10 +5,11 @@ use Rattle.it_dsse.specs.declared.ring_entry.RingEntry.{RingEntry}
 use Rattle.it_json_report.specs.declared.form.ReportForm.{ReportForm}
 use Rattle.it_notes.specs.VerifyOutputIn.{IsVerifyOutputIn}
 use Rattle.it_outcome.specs.declared.outcome.Status.{Status}
-use Rattle.it_public_keys.specs.Collected.{HoldsAll}
+use Rattle.it_public_keys.specs.Collected.{HoldsAll, IsSignedLayout}
 use Rattle.it_public_keys.specs.Keys.{Keys}
 use Rattle.it_public_keys.specs.KeyTable.{IsKeyTable}
 use Rattle.it_public_keys.proofs.AlikeTables.{tables_alike}
+use Rattle.it_public_keys.proofs.Signing.{alike_under, signs_by}
 use Rattle.it_report.specs.declared.verdict.Verdict.{Verdict}
 use Rattle.it_report.specs.declared.verdict.Verdict.TheVariants.{Accepted}
 use Rattle.it_verify.specs.InputsAlike.{InputsAlike, InputsWithin}
@@ -20,12 +21,12 @@ use Rattle.it_verify.proofs.AlikePanels.{alike_panels}
 use Rattle.it_verify.proofs.AlikeVerdicts.{alike_inputs}
 use Rattle.it_verify.proofs.Withholding.{withheld_inputs}
 use Rattle.it_program.specs.Laws.{AreTables, IsTableOf, panel_with}
+use Rattle.it_program.specs.Sources.{sources_in}
 
 module _ (rings : List (List RingEntry)) (inputs : Inputs) where
   -- beside the same rings, such tables are alike on every key that could be asked for
   tables_alike_for : (one other : Keys) → IsKeyTable one → IsKeyTable other
-      → HoldsAll one inputs.policy inputs.layout inputs.links
-      → HoldsAll other inputs.policy inputs.layout inputs.links
+      → HoldsAll one (sources_in inputs rings) → HoldsAll other (sources_in inputs rings)
       → PanelsAlikeFor (panel_with rings (Some one)) (panel_with rings (Some other)) inputs
   tables_alike_for one other first second holds has = record {
     owners = λ policy is. tables_alike rings one other policy.owners first second
@@ -34,15 +35,19 @@ module _ (rings : List (List RingEntry)) (inputs : Inputs) where
         tables_alike rings one other builder.keys first second
         ((holds.of_policy policy is).builders expectation expected builder builds)
         ((has.of_policy policy is).builders expectation expected builder builds);
-    layouts = λ documents read. record {
-      of_layout = tables_alike rings one other documents.layout.keys first second
-          (holds.of_layout documents.envelope documents.layout read.envelope read.layout)
-          (has.of_layout documents.envelope documents.layout read.envelope read.layout);
-      of_files = λ file envelope inner stands is reads.
-          tables_alike rings one other inner.keys first second
-          (holds.of_files file stands envelope inner is reads)
-          (has.of_files file stands envelope inner is reads);
-    };
+    layouts = λ documents read sign.
+        let policy = documents.policy in
+        let is : IsSignedLayout rings policy.owners inputs.layout documents.layout = record {
+          envelope = documents.envelope;
+          is_envelope = read.envelope;
+          is_layout = read.layout;
+          signed = λ id object known. signs_by rings one first documents.envelope object id
+              ((holds.of_policy policy read.policy).owners id object known)
+              (sign id object known);
+        } in
+        alike_under rings one other first second inputs.depth documents.layout inputs.links
+        (holds.of_layout policy documents.layout read.policy is)
+        (has.of_layout policy documents.layout read.policy is);
   }
 
   the_same : (table : Option Keys)
@@ -53,7 +58,7 @@ module _ (rings : List (List RingEntry)) (inputs : Inputs) where
   }
 
 pub any_table : (wanted : Bool) (rings : List (List RingEntry)) (inputs : Inputs)
-    (one other : Option Keys) → IsTableOf wanted inputs one → IsTableOf wanted inputs other
+    (one other : Option Keys) → IsTableOf wanted rings inputs one → IsTableOf wanted rings inputs other
     → HasSameOutcome (panel_with rings one) inputs (panel_with rings other) inputs
 any_table false rings inputs one other is also =
     subst (λ table. HasSameOutcome (panel_with rings one) inputs (panel_with rings table) inputs)
@@ -67,7 +72,7 @@ any_table true rings inputs (Some one) (Some other) is also =
 -- and so the output is the same in each form
 pub any_output : (wanted : Bool) (rings : List (List RingEntry)) (inputs : Inputs)
     (one other : Option Keys) (form : ReportForm) (text : List ℕ) (status : Status)
-    → IsTableOf wanted inputs one → IsTableOf wanted inputs other
+    → IsTableOf wanted rings inputs one → IsTableOf wanted rings inputs other
     → IsVerifyOutputIn form (panel_with rings one) inputs text status
     → IsVerifyOutputIn form (panel_with rings other) inputs text status
 any_output wanted rings inputs one other form text status is also output = record {
@@ -95,7 +100,7 @@ same_as_third a b c inputs other third h k = record {
 
 module _ (wanted : Bool) (rings : List (List RingEntry)) (inputs other : Inputs)
     (one two both : Option Keys) where
-  pub alike_by_tables : AreTables wanted inputs other one two both
+  pub alike_by_tables : AreTables wanted rings inputs other one two both
       → InputsAlike (panel_with rings both) inputs other
       → HasSameOutcome (panel_with rings one) inputs (panel_with rings two) other
   alike_by_tables are alike =
@@ -107,7 +112,7 @@ module _ (wanted : Bool) (rings : List (List RingEntry)) (inputs other : Inputs)
 
 pub withheld_by_tables : (wanted : Bool) (rings : List (List RingEntry)) (inputs other : Inputs)
     (one two both : Option Keys) (steps : List (List ℕ × ℕ)) (files : List (List ℕ))
-    (verdict : Verdict) → AreTables wanted inputs other one two both
+    (verdict : Verdict) → AreTables wanted rings inputs other one two both
     → InputsWithin (panel_with rings both) inputs other
     → IsVerdict (panel_with rings two) other (Accepted steps files)
     → IsVerdict (panel_with rings one) inputs verdict

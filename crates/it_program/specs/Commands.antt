@@ -53,6 +53,7 @@ use Rattle.it_words.specs.declared.words.verify_words.VerifyWords.{VerifyWords}
 use Rattle.it_disk.specs.Reading.{Holdings, HoldsIfGiven, HoldsKeys, HoldsRing, IsGiven}
 use Rattle.it_files_below.specs.FilesBelow.{AreFilesAtEach}
 use Rattle.it_program.specs.Inputs.{AreInputs}
+use Rattle.it_program.specs.Sources.{sources_in}
 
 -- the form that is asked for
 abbrev pub form_asked : Bool → ReportForm
@@ -69,9 +70,8 @@ pub record Verifies (disk : Holdings) (words : VerifyWords) (text : List ℕ)
   pub rings : List (List RingEntry)
   pub holds_rings : AllZip (HoldsRing disk) words.rings rings
   pub table : Option Keys
-  pub is_table : IsTableFor words.public_keys inputs.policy inputs.layout inputs.links table
-  pub is_output : (any : Option Keys)
-      → IsTableFor words.public_keys inputs.policy inputs.layout inputs.links any
+  pub is_table : IsTableFor words.public_keys (sources_in inputs rings) table
+  pub is_output : (any : Option Keys) → IsTableFor words.public_keys (sources_in inputs rings) any
       → IsVerifyOutputIn (form_asked words.json) (panel_of (checks_of rings any)) inputs text status
 
 -- signed: which ids of the ring, in the order of their bytes, signed the envelope

@@ -11,11 +11,12 @@ use Rattle.it_verify.specs.InputsAlike.{InputsAlike, InputsWithin}
 use Rattle.it_verify.specs.Verdict.{IsVerdict}
 use Rattle.it_verify.specs.VerificationLaws.{HasSameOutcome, OnlyWithholds}
 use Rattle.it_verify.specs.declared.inputs.Inputs.{Inputs}
+use Rattle.it_program.specs.Sources.{sources_in}
 
--- a table that has every key which a verification of these inputs could ask for, where one is
--- wanted
-abbrev pub IsTableOf : Bool → Inputs → Option Keys → Type 0
-IsTableOf wanted inputs = IsTableFor wanted inputs.policy inputs.layout inputs.links
+-- a table that has every key which a verification of these inputs could ask for beside the rings,
+-- where one is wanted
+abbrev pub IsTableOf : Bool → List (List RingEntry) → Inputs → Option Keys → Type 0
+IsTableOf wanted rings inputs = IsTableFor wanted (sources_in inputs rings)
 
 -- the panel of the rings, and of the table
 abbrev pub panel_with : List (List RingEntry) → Option Keys → Panel
@@ -25,22 +26,22 @@ panel_with rings table = panel_of (checks_of rings table)
 abbrev pub AnyTable : Type 0
 AnyTable =
     (wanted : Bool) (rings : List (List RingEntry)) (inputs : Inputs) (one other : Option Keys)
-    → IsTableOf wanted inputs one → IsTableOf wanted inputs other
+    → IsTableOf wanted rings inputs one → IsTableOf wanted rings inputs other
     → HasSameOutcome (panel_with rings one) inputs (panel_with rings other) inputs
 
 -- the tables of two verifications, and one that has the keys of both
-pub record AreTables (wanted : Bool) (inputs other : Inputs) (one two both : Option Keys)
-    : Type 0 where
-  pub of_first : IsTableOf wanted inputs one
-  pub of_second : IsTableOf wanted other two
-  pub also_of_first : IsTableOf wanted inputs both
-  pub also_of_second : IsTableOf wanted other both
+pub record AreTables (wanted : Bool) (rings : List (List RingEntry)) (inputs other : Inputs)
+    (one two both : Option Keys) : Type 0 where
+  pub of_first : IsTableOf wanted rings inputs one
+  pub of_second : IsTableOf wanted rings other two
+  pub also_of_first : IsTableOf wanted rings inputs both
+  pub also_of_second : IsTableOf wanted rings other both
 
 -- inputs in which the same counts have one outcome, each by its own table
 abbrev pub AlikeByTables : Type 0
 AlikeByTables =
     (wanted : Bool) (rings : List (List RingEntry)) (inputs other : Inputs)
-    (one two both : Option Keys) → AreTables wanted inputs other one two both
+    (one two both : Option Keys) → AreTables wanted rings inputs other one two both
     → InputsAlike (panel_with rings both) inputs other
     → HasSameOutcome (panel_with rings one) inputs (panel_with rings two) other
 
@@ -50,7 +51,7 @@ abbrev pub WithheldByTables : Type 0
 WithheldByTables =
     (wanted : Bool) (rings : List (List RingEntry)) (inputs other : Inputs)
     (one two both : Option Keys) (steps : List (List ℕ × ℕ)) (files : List (List ℕ))
-    (verdict : Verdict) → AreTables wanted inputs other one two both
+    (verdict : Verdict) → AreTables wanted rings inputs other one two both
     → InputsWithin (panel_with rings both) inputs other
     → IsVerdict (panel_with rings two) other (Accepted steps files)
     → IsVerdict (panel_with rings one) inputs verdict

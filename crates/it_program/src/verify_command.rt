@@ -10,6 +10,7 @@ ghost use Rattle.it_program.specs.Commands.{Verifies, form_asked};
 ghost use Rattle.it_limits.specs.Limit.{IsWithinLimit};
 ghost use Rattle.it_disk.specs.Reading.{AreLimited, HoldsIfGiven, HoldsRing};
 ghost use Rattle.it_program.specs.Inputs.{AreInputs, HoldsLookedAt};
+ghost use Rattle.it_program.specs.Sources.{sources_in};
 
 use it_base::sequence::Sequence;
 use it_base::text::Text;
@@ -24,6 +25,7 @@ use it_limits::lines_within_limit;
 use it_notes::verify_with_notes::verify_with_notes;
 use it_outcome::{RunFault, Status};
 use it_public_keys::any_check::{AnyCheck, checks_of};
+use it_public_keys::sources::Sources;
 use it_public_keys::{PublicKeys, table_if};
 use it_verify::inputs::Inputs;
 use it_words::words::verify_words::VerifyWords;
@@ -47,7 +49,7 @@ pub(crate) fn run<R: Disk + AllocGlobal, W: Write, N: Write>(
     let mut left_out = Vec::new(alloc);
     let inputs = inputs(rt, words, &mut left_out)?;
     let rings = read_rings(rt, words.rings.as_slice())?;
-    let table = table_for(alloc, words, &inputs)?;
+    let table = table_for(alloc, words, &inputs, rings.as_slice())?;
     let checks = checks_of(alloc, rings, table)?;
     let form = form_asked(words.json);
     note_left_out(alloc, left_out.as_slice(), notes);
@@ -65,19 +67,25 @@ fn form_asked(json: bool) -> ReportForm
     }
 }
 
-/// The table of all public keys that the verification could ask for, where public keys are asked
-/// for.
+/// The table of all public keys that the verification could ask for beside the rings, where public
+/// keys are asked for.
 fn table_for(
     alloc: Global,
     words: &VerifyWords,
     inputs: &Inputs,
+    rings: &[HmacRing],
 ) -> Result<Option<PublicKeys>, AllocError>
-    ensures { IfOk result (IsTableFor words.now.public_keys inputs.now.policy inputs.now.layout
-        inputs.now.links) }
+    ensures { IfOk result
+        (IsTableFor words.now.public_keys (sources_in inputs.now rings.now)) }
 {
-    let policy = inputs.policy.as_slice();
-    let layout = inputs.layout.as_slice();
-    table_if(alloc, words.public_keys, policy, layout, &inputs.links)
+    let sources = Sources {
+        policy: inputs.policy.as_slice(),
+        layout: inputs.layout.as_slice(),
+        links: &inputs.links,
+        depth: inputs.depth,
+        rings,
+    };
+    table_if(alloc, words.public_keys, &sources)
 }
 
 /// Writes the report of the verdict on the inputs, and then the notes on it, with signatures

@@ -9,6 +9,8 @@ use Rattle.it_chain.specs.AlikePanels.{IsOneKey, IsValidBy, PanelsAlike}
 use Rattle.it_dsse.specs.Check.{Check}
 use Rattle.it_dsse.specs.Panel.{KeyNumber, Panel, is_valid_at, key_at, key_from, panel_of}
 use Rattle.it_dsse.specs.Ring.{ring_check}
+use Rattle.it_dsse.specs.Signed.{IsSigner, message_of}
+use Rattle.it_dsse.specs.declared.envelope.Envelope.{Envelope}
 use Rattle.it_dsse.specs.declared.key_object.KeyObject.{KeyObject}
 use Rattle.it_dsse.specs.declared.ring_entry.RingEntry.{RingEntry}
 use Rattle.it_public_keys.specs.AnyCheck.{checks_of}
@@ -205,3 +207,27 @@ tables_alike rings one other objects first second holds has =
             (holds also another knows),
       );
     }
+
+-- whose key signed beside a table that has it signed beside each other table that has it
+pub signer_there : (rings : List (List RingEntry)) (one other : Keys) → IsKeyTable one
+    → IsKeyTable other → (envelope : Envelope) (object : KeyObject) (id : List ℕ)
+    → HoldsKey other object
+    → IsSigner (panel_of (checks_of rings (Some one))) envelope object id
+    → IsSigner (panel_of (checks_of rings (Some other))) envelope object id
+signer_there rings one other first second envelope object id holds signed =
+    let at = signed.1.signature in
+    let there = valid_there (map ring_check rings) one other first second id object
+    (message_of envelope) at.1.sig holds
+    (record { key = signed.0; names = signed.1.key; valid = at.4.valid }) in (
+      there.key,
+      record {
+        key = there.names;
+        signature = (
+          at.0,
+          at.1,
+          at.2,
+          at.3,
+          record { admitted = at.4.admitted; valid = there.valid },
+        );
+      },
+    )

@@ -1,25 +1,28 @@
--- Which keys a verification could ask for: those of the policy, of the layout, and of each layout
--- that stands in a file of the links, at every depth (this profile's choice).
-use Rattle.std.specs.Prelude.{◌≡◌, ℕ, List, Contains, Bool, true, false, Option, Some, None}
-use Rattle.std.specs.Prelude.{◌⊎◌, IsTrue, MatchOption}
+-- Which keys a verification could ask for: those of the policy, of the layout that its owners
+-- signed, and of each sublayout that counts, as deep as sublayouts may lie (this profile's choice).
+use Rattle.std.specs.Prelude.{◌≡◌, ℕ, zero, suc, List, Contains, Bool, true, false, Option, Some}
+use Rattle.std.specs.Prelude.{None, ◌⊎◌, IsTrue, MatchOption}
 use Rattle.std.specs.FinMap.{get}
 use Rattle.it_base.specs.Table.{Named}
-use Rattle.it_chain.specs.AllFiles.{all_files}
 use Rattle.it_chain.specs.Contents.{Contents}
-use Rattle.it_chain.specs.declared.bundle.File.{File}
+use Rattle.it_chain.specs.Sublayouts.{IsSublayout, folder_of}
 use Rattle.it_docs.specs.Layout.{LayoutOf}
 use Rattle.it_docs.specs.Policy.{PolicyOf}
 use Rattle.it_docs.specs.declared.layout.Layout.{Layout}
 use Rattle.it_docs.specs.declared.policy.Builder.{Builder}
 use Rattle.it_docs.specs.declared.policy.Expectation.{Expectation}
 use Rattle.it_docs.specs.declared.policy.Policy.{Policy}
+use Rattle.it_docs.specs.declared.step.Step.{Step}
 use Rattle.it_dsse.specs.Envelope.{EnvelopeOf}
 use Rattle.it_dsse.specs.declared.envelope.Envelope.{Envelope}
 use Rattle.it_dsse.specs.declared.key_object.KeyObject.{KeyObject}
+use Rattle.it_dsse.specs.declared.ring_entry.RingEntry.{RingEntry}
 use Rattle.it_public_keys.specs.Keys.{Keys}
 use Rattle.it_public_keys.specs.KeyTable.{HoldsKey, IsKeyTable}
 use Rattle.it_public_keys.specs.KeyText.{describes}
+use Rattle.it_public_keys.specs.SignsBy.{AllSignBy, SignsBy}
 use Rattle.it_public_keys.specs.declared.key.Key.{Key}
+use Rattle.it_public_keys.specs.declared.sources.Sources.{Sources as Lent}
 
 -- the table has the keys of all of these objects
 abbrev pub HoldsKeys : Keys → Named KeyObject → Type 0
@@ -42,12 +45,6 @@ pub record HoldsPolicy (keys : Keys) (policy : Policy) : Type 0 where
   pub builders : (expectation : Expectation) → Contains policy.expectations expectation
       → HoldsBuilders keys expectation
 
--- the keys of the layout that the bytes are an envelope of, if they are
-abbrev pub HoldsLayout : Keys → List ℕ → Type 0
-HoldsLayout keys bytes =
-    (envelope : Envelope) (layout : Layout) → EnvelopeOf bytes envelope
-    → LayoutOf envelope.payload layout → HoldsKeys keys layout.keys
-
 -- an object of one of these builders describes the key
 abbrev pub IsBuilderKey : List Builder → Key → Type 0
 IsBuilderKey builders key =
@@ -58,26 +55,68 @@ abbrev pub IsPolicyKey : Policy → Key → Type 0
 IsPolicyKey policy key = IsKeyOf policy.owners key ⊎ ((expectation : Expectation)
     × Contains policy.expectations expectation × IsBuilderKey expectation.builders key)
 
--- an object of the layout that the bytes are an envelope of describes it
-abbrev pub IsLayoutKey : List ℕ → Key → Type 0
-IsLayoutKey bytes key = (envelope : Envelope) × (layout : Layout) × EnvelopeOf bytes envelope
-    × LayoutOf envelope.payload layout × IsKeyOf layout.keys key
+-- these bytes are an envelope that every owner signed, and its payload is the layout
+pub record IsSignedLayout (rings : List (List RingEntry)) (owners : Named KeyObject)
+    (bytes : List ℕ) (layout : Layout) : Type 0 where
+  pub envelope : Envelope
+  pub is_envelope : EnvelopeOf bytes envelope
+  pub is_layout : LayoutOf envelope.payload layout
+  pub signed : AllSignBy rings envelope owners
 
--- an object of the policy, of the layout, or of a layout in a file of the links describes it
-abbrev pub IsAskedKey : (policy layout : List ℕ) → Contents → Key → Type 0
-IsAskedKey policy layout links key =
-    ((read : Policy) × PolicyOf policy read × IsPolicyKey read key) ⊎ (IsLayoutKey layout key
-    ⊎ ((file : File) × Contains (all_files links) file × IsLayoutKey file.bytes key))
+module _ (rings : List (List RingEntry)) where
+  -- the table has the keys of a layout, and those of each sublayout that counts, as deep as
+  -- sublayouts may lie
+  abbrev pub HoldsUnder : ℕ → Keys → Layout → Contents → Type 0
+  HoldsUnder zero keys layout bundle = HoldsKeys keys layout.keys
+  HoldsUnder (suc depth) keys layout bundle = HoldsKeys keys layout.keys
+      × ((step : Step) (id : List ℕ) (sublayout : Layout)
+      → IsSublayout (SignsBy rings) layout bundle step id sublayout
+      → HoldsUnder depth keys sublayout (folder_of step.name id bundle))
 
--- all keys that a verification of these inputs could ask for
-pub record HoldsAll (keys : Keys) (policy layout : List ℕ) (links : Contents) : Type 0
-  where
-    pub of_policy : (read : Policy) → PolicyOf policy read → HoldsPolicy keys read
-    pub of_layout : HoldsLayout keys layout
-    pub of_files : (file : File) → Contains (all_files links) file → HoldsLayout keys file.bytes
+  -- an object of such a layout describes the key
+  abbrev pub IsKeyUnder : ℕ → Layout → Contents → Key → Type 0
+  IsKeyUnder zero layout bundle key = IsKeyOf layout.keys key
+  IsKeyUnder (suc depth) layout bundle key = IsKeyOf layout.keys key
+      ⊎ ((step : Step) × (id : List ℕ) × (sublayout : Layout)
+      × IsSublayout (SignsBy rings) layout bundle step id sublayout
+      × IsKeyUnder depth sublayout (folder_of step.name id bundle) key)
+
+-- what a verification asks for keys of: the policy and the layout, as bytes, the links, how deep
+-- sublayouts may lie, and the rings that check beside the table
+pub record Sources : Type 0 where
+  pub policy : List ℕ
+  pub layout : List ℕ
+  pub links : Contents
+  pub depth : ℕ
+  pub rings : List (List RingEntry)
+
+-- the sources that the fields of a value name
+abbrev pub sources_of : Lent → Sources
+sources_of lent = record {
+  policy = lent.policy.now;
+  layout = lent.layout.now;
+  links = lent.links.now;
+  depth = lent.depth;
+  rings = lent.rings.now;
+}
+
+-- all keys that a verification of these could ask for: those of the policy, those of the layout
+-- where every owner signed it, and those of each sublayout that counts
+pub record HoldsAll (keys : Keys) (sources : Sources) : Type 0 where
+  pub of_policy : (policy : Policy) → PolicyOf sources.policy policy → HoldsPolicy keys policy
+  pub of_layout : (policy : Policy) (layout : Layout) → PolicyOf sources.policy policy
+      → IsSignedLayout sources.rings policy.owners sources.layout layout
+      → HoldsUnder sources.rings sources.depth keys layout sources.links
+
+-- an object of the policy, of the signed layout, or of a sublayout that counts describes it
+abbrev pub IsAskedKey : Sources → Key → Type 0
+IsAskedKey sources key = (policy : Policy) × PolicyOf sources.policy policy
+    × (IsPolicyKey policy key ⊎ ((layout : Layout)
+    × IsSignedLayout sources.rings policy.owners sources.layout layout
+    × IsKeyUnder sources.rings sources.depth layout sources.links key))
 
 -- no table where none is wanted, and else one with all of these keys
-abbrev pub IsTableFor : Bool → List ℕ → List ℕ → Contents → Option Keys → Type 0
-IsTableFor false policy layout links table = table ≡ None
-IsTableFor true policy layout links table =
-    MatchOption table ⊥ (λ keys. IsKeyTable keys × HoldsAll keys policy layout links)
+abbrev pub IsTableFor : Bool → Sources → Option Keys → Type 0
+IsTableFor false sources table = table ≡ None
+IsTableFor true sources table =
+    MatchOption table ⊥ (λ keys. IsKeyTable keys × HoldsAll keys sources)

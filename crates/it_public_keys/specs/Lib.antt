@@ -7,5 +7,6 @@ pub mod Keys
 pub mod Laws
 pub mod P256Test
 pub mod RsaTest
+pub mod SignsBy
 pub mod Validity
 pub mod inside

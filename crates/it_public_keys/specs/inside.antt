@@ -1,3 +1,4 @@
 pub mod KeyTexts
 pub mod Names
 pub mod Places
+pub mod Sublayouts

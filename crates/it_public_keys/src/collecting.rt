@@ -1,48 +1,53 @@
 //! The keys that a verification could ask for.
-ghost use Rattle.std.specs.Prelude.{All, Contains, IfOk, IfSome, map};
+ghost use Rattle.std.specs.Prelude.{All, Contains, IfOk, IfSome, IsTrue, ◌↔◌, ◌⊎◌};
 ghost use Rattle.it_base.specs.Finds.{Finds};
 ghost use Rattle.it_docs.specs.Policy.{PolicyOf};
+ghost use Rattle.it_docs.specs.declared.layout.Layout.{Layout as LayoutRead};
 ghost use Rattle.it_docs.specs.declared.policy.Builder.{Builder};
 ghost use Rattle.it_docs.specs.declared.policy.Expectation.{Expectation};
 ghost use Rattle.it_docs.specs.declared.policy.Policy.{Policy as PolicyRead};
-ghost use Rattle.it_chain.specs.declared.bundle.File.{File as FileRead};
-ghost use Rattle.it_public_keys.specs.Collected.{HoldsAll, HoldsBuilders, HoldsKeys, HoldsLayout};
-ghost use Rattle.it_public_keys.specs.Collected.{HoldsPolicy, IsAskedKey, IsBuilderKey};
-ghost use Rattle.it_public_keys.specs.Collected.{IsKeyOf, IsLayoutKey, IsPolicyKey, IsTableFor};
+ghost use Rattle.it_public_keys.specs.Collected.{HoldsAll, HoldsBuilders, HoldsKeys};
+ghost use Rattle.it_public_keys.specs.Collected.{HoldsPolicy, HoldsUnder, IsAskedKey};
+ghost use Rattle.it_public_keys.specs.Collected.{IsBuilderKey, IsKeyOf, IsKeyUnder, IsPolicyKey};
+ghost use Rattle.it_public_keys.specs.Collected.{IsSignedLayout, IsTableFor, sources_of};
 ghost use Rattle.it_public_keys.specs.KeyTable.{AddsOnly, Extends, IsKeyTable};
+ghost use Rattle.it_public_keys.specs.SignsBy.{AllSignBy};
 
+use crate::level_keys::{Search, with_level};
+use crate::panel::Panel;
+use crate::sources::Sources;
+use crate::sublayout::Sublayout;
 use crate::table::PublicKeys;
 use it_base::table::Table;
-use it_chain::bundle::{Bundle, File};
+use it_base::text::Text;
 use it_chain::{envelope_in, layout_in};
 use it_docs::policy::{Builder, Expectation, Policy};
 use it_docs::policy_fault::PolicyFault;
 use it_docs::policy_reading::read_policy;
+use it_dsse::envelope::Envelope;
 use it_dsse::key_object::KeyObject;
+use it_dsse::pae;
 use std::alloc::{AllocError, Global};
 
-/// A table of all public keys that a verification of these inputs could ask for: of the owners and
-/// the builders of the policy, of the layout, and of each layout in a file of the links, at every
-/// depth. It has no other key. A document that does not read has no keys. What stands in the table
-/// has no authority by that: a verification asks for the keys that the policy and the layouts list.
+/// A table of all public keys that a verification could ask for: of the owners and the builders of
+/// the policy, of the layout where every owner signed it, and of each layout in a file that is
+/// claimed for a step and signed by a key that the step lists, as deep as sublayouts may lie. It
+/// has no other key. A document that does not read has no keys. What stands in the table has no
+/// authority by that: a verification asks for the keys that the policy and the layouts list.
 ///
 /// # Errors
 ///
 /// `AllocError` where memory was refused, or there are 4,294,967,295 keys.
-pub fn public_keys_of(
-    alloc: Global,
-    policy: &[u8],
-    layout: &[u8],
-    links: &Bundle,
-) -> Result<PublicKeys, AllocError>
+pub fn public_keys_of(alloc: Global, sources: &Sources) -> Result<PublicKeys, AllocError>
     ensures table { IfOk result (λ keys. IsKeyTable keys) }
-    ensures holds { IfOk result (λ keys. HoldsAll keys policy.now layout.now links.now) }
-    ensures only { IfOk result (All (IsAskedKey policy.now layout.now links.now)) }
+    ensures holds { IfOk result (λ keys. HoldsAll keys (sources_of sources.now)) }
+    ensures only { IfOk result (All (IsAskedKey (sources_of sources.now))) }
 {
-    let files = links.all_files(alloc)?;
-    let keys = with_policy_in(alloc, PublicKeys::new(alloc), policy)?;
-    let keys = with_layout_in(alloc, keys, layout)?;
-    let keys = with_files(alloc, keys, files.as_slice())?;
+    let Some(policy) = policy_in(alloc, sources.policy)? else {
+        return Ok(PublicKeys::new(alloc));
+    };
+    let keys = with_policy(PublicKeys::new(alloc), &policy)?;
+    let keys = with_layout_in(alloc, sources, &policy.owners, keys)?;
     keys.is_key_table();
     Ok(keys)
 }
@@ -73,47 +78,87 @@ impl PublicKeys {
 pub fn table_if(
     alloc: Global,
     is_wanted: bool,
-    policy: &[u8],
-    layout: &[u8],
-    links: &Bundle,
+    sources: &Sources,
 ) -> Result<Option<PublicKeys>, AllocError>
-    ensures table { IfOk result (IsTableFor is_wanted policy.now layout.now links.now) }
+    ensures table { IfOk result (IsTableFor is_wanted (sources_of sources.now)) }
     ensures only { IfOk result (λ table. IfSome table
-        (All (IsAskedKey policy.now layout.now links.now))) }
+        (All (IsAskedKey (sources_of sources.now)))) }
 {
     if !is_wanted {
         return Ok(None);
     }
-    Ok(Some(public_keys_of(alloc, policy, layout, links)?))
+    Ok(Some(public_keys_of(alloc, sources)?))
 }
 
-/// The table with the keys of the layouts in the files.
-fn with_files(alloc: Global, keys: PublicKeys, files: &[&File]) -> Result<PublicKeys, AllocError>
+/// The table with the keys of the layout, and of the sublayouts that count, where all owners signed
+/// it.
+fn with_layout_in(
+    alloc: Global,
+    sources: &Sources,
+    owners: &Table<KeyObject>,
+    keys: PublicKeys,
+) -> Result<PublicKeys, AllocError>
+    requires { HoldsKeys keys owners.now }
     ensures extends { IfOk result (Extends keys) }
-    ensures holds { IfOk result (λ table. (file : FileRead)
-        → Contains (map (λ each. each.now) files.now) file → HoldsLayout table file.bytes) }
-    ensures only { IfOk result (AddsOnly (λ key. (file : FileRead)
-        × Contains (map (λ each. each.now) files.now) file × IsLayoutKey file.bytes key) keys) }
+    ensures holds { IfOk result (λ table. (layout : LayoutRead)
+        → IsSignedLayout sources.now.rings.now owners.now sources.now.layout.now layout
+        → HoldsUnder sources.now.rings.now sources.now.depth table layout sources.now.links.now) }
+    ensures only { IfOk result (AddsOnly (λ key. (layout : LayoutRead)
+        × IsSignedLayout sources.now.rings.now owners.now sources.now.layout.now layout
+        × IsKeyUnder sources.now.rings.now sources.now.depth layout sources.now.links.now key)
+        keys) }
 {
-    let mut table = keys;
-    for file in files {
-        table = with_layout_in(alloc, table, file.bytes.as_slice())?;
+    let Some(envelope) = envelope_in(alloc, sources.layout)? else {
+        return Ok(keys);
+    };
+    let Some(layout) = layout_in(alloc, envelope.payload.as_slice())? else {
+        return Ok(keys);
+    };
+    let panel = Panel {
+        rings: sources.rings,
+        keys: &keys,
+    };
+    if !all_sign(alloc, &panel, &envelope, owners)? {
+        return Ok(keys);
     }
-    Ok(table)
+    let search = Search {
+        rings: sources.rings,
+        links: sources.links,
+        depth: sources.depth,
+    };
+    let mut outermost = Vec::new(alloc);
+    outermost.push(Sublayout {
+        payload: envelope.payload,
+        layout,
+        folder: Text::from(String::new(alloc)),
+    })?;
+    let all = with_level(alloc, &search, keys, outermost.as_slice(), "")?;
+    Ok(all)
 }
 
-/// The table with the keys of the policy that the bytes are, if they are one.
-fn with_policy_in(alloc: Global, keys: PublicKeys, bytes: &[u8]) -> Result<PublicKeys, AllocError>
-    ensures extends { IfOk result (Extends keys) }
-    ensures holds { IfOk result (λ table. (policy : PolicyRead) → PolicyOf bytes.now policy
-        → HoldsPolicy table policy) }
-    ensures only { IfOk result (AddsOnly (λ key. (policy : PolicyRead)
-        × PolicyOf bytes.now policy × IsPolicyKey policy key) keys) }
+/// Whether the key of each of these objects signed the envelope, by a panel that has these keys.
+fn all_sign(
+    alloc: Global,
+    panel: &Panel,
+    envelope: &Envelope,
+    objects: &Table<KeyObject>,
+) -> Result<bool, AllocError>
+    requires { HoldsKeys panel.now.keys.now objects.now }
+    ensures { IfOk result (λ all. IsTrue all
+        ↔ AllSignBy panel.now.rings.now envelope.now objects.now) }
 {
-    match policy_in(alloc, bytes)? {
-        Some(policy) => with_policy(keys, &policy),
-        None => Ok(keys),
+    panel.keys.is_key_table();
+    let message = pae(
+        alloc,
+        envelope.payload_type.as_str(),
+        envelope.payload.as_slice(),
+    )?;
+    for (id, object) in objects.iter() {
+        if !panel.is_signer(envelope, message.as_slice(), id.as_str(), object) {
+            return Ok(false);
+        }
     }
+    Ok(true)
 }
 
 /// The policy that the bytes are, or `None` where they are none.
@@ -170,23 +215,11 @@ fn with_builders(keys: PublicKeys, builders: &[Builder]) -> Result<PublicKeys, A
     Ok(table)
 }
 
-/// The table with the keys of the layout that the bytes are an envelope of, if they are.
-fn with_layout_in(alloc: Global, keys: PublicKeys, bytes: &[u8]) -> Result<PublicKeys, AllocError>
-    ensures extends { IfOk result (Extends keys) }
-    ensures holds { IfOk result (λ table. HoldsLayout table bytes.now) }
-    ensures only { IfOk result (AddsOnly (IsLayoutKey bytes.now) keys) }
-{
-    let Some(envelope) = envelope_in(alloc, bytes)? else {
-        return Ok(keys);
-    };
-    let Some(layout) = layout_in(alloc, envelope.payload.as_slice())? else {
-        return Ok(keys);
-    };
-    with_keys(keys, &layout.keys)
-}
-
 /// The table with the keys that objects describe.
-fn with_keys(keys: PublicKeys, objects: &Table<KeyObject>) -> Result<PublicKeys, AllocError>
+pub(crate) fn with_keys(
+    keys: PublicKeys,
+    objects: &Table<KeyObject>,
+) -> Result<PublicKeys, AllocError>
     ensures extends { IfOk result (Extends keys) }
     ensures holds { IfOk result (λ table. HoldsKeys table objects.now) }
     ensures only { IfOk result (AddsOnly (IsKeyOf objects.now) keys) }

@@ -6,8 +6,13 @@ mod collecting;
 pub mod key;
 mod key_text;
 pub mod laws;
+mod level_keys;
 mod name;
+mod panel;
 mod prepared;
+pub mod sources;
+mod sublayout;
+mod sublayouts;
 mod table;
 
 pub use collecting::{public_keys_of, table_if};

@@ -8,10 +8,11 @@ use Rattle.it_docs.specs.declared.policy.Expectation.{Expectation}
 use Rattle.it_docs.specs.declared.policy.Policy.{Policy}
 use Rattle.it_chain.specs.AlikePanels.{PanelsAlike, PanelsAlikeOver}
 use Rattle.it_verify.specs.Documents.{Documents, ReadAs}
+use Rattle.it_verify.specs.Owners.{OwnersSign}
 use Rattle.it_verify.specs.declared.inputs.Inputs.{Inputs}
 
--- two panels are alike on the keys of the owners and of the builders, and on those of the layout
--- and of every layout in a file of the links
+-- two panels are alike on the keys of the owners and of the builders, and where every owner signed
+-- the layout, on its keys and those of the sublayouts that count
 pub record PanelsAlikeFor (panel other : Panel) (inputs : Inputs) : Type 0 where
   pub owners : (policy : Policy) → PolicyOf inputs.policy policy
       → PanelsAlike panel other policy.owners
@@ -19,4 +20,5 @@ pub record PanelsAlikeFor (panel other : Panel) (inputs : Inputs) : Type 0 where
       → PolicyOf inputs.policy policy → Contains policy.expectations expectation
       → Contains expectation.builders builder → PanelsAlike panel other builder.keys
   pub layouts : (documents : Documents) → ReadAs inputs documents
-      → PanelsAlikeOver panel other documents.layout inputs.links
+      → OwnersSign panel documents.envelope documents.policy.owners
+      → PanelsAlikeOver panel other inputs.depth documents.layout inputs.links

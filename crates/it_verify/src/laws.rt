@@ -47,7 +47,8 @@ pub fn alike_inputs()
     ensures { AlikeInputs }
 {}
 
-/// By panels of checks that are alike on every key that could be asked for, inputs have the same
+/// By panels of checks that are alike on the keys of the owners and builders, and where every owner
+/// signed the layout, on its keys and those of the sublayouts that count, inputs have the same
 /// verdict, and the same report, whatever numbers the panels give the keys.
 pub fn alike_panels()
     ensures { AlikePanels }

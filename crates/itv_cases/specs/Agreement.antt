@@ -7,6 +7,7 @@ use Rattle.serde_json.specs.Data.{Data}
 use Rattle.it_base.specs.Document.{member_at}
 use Rattle.it_dsse.specs.Panel.{panel_of}
 use Rattle.it_public_keys.specs.AnyCheck.{checks_of}
+use Rattle.it_program.specs.Sources.{sources_in}
 use Rattle.it_public_keys.specs.Collected.{IsTableFor}
 use Rattle.it_public_keys.specs.Keys.{Keys}
 use Rattle.it_tables.specs.Comparison.{IsRowDifference}
@@ -44,8 +45,7 @@ pub record IsRunOf (case : Case) (run : Run) : Type 0 where
   pub name : run.name ≡ case.name
   pub wanted : run.wanted ≡ case.wanted
   pub table : Option Keys
-  pub is_table : IsTableFor case.public_keys case.inputs.policy case.inputs.layout
-      case.inputs.links table
+  pub is_table : IsTableFor case.public_keys (sources_in case.inputs case.rings) table
   pub given : IsAnswer (panel_of (checks_of case.rings table)) case.inputs run.given
 
 -- how a case differs: not at all where its run agrees

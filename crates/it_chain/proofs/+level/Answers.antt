@@ -15,7 +15,7 @@ use Rattle.it_chain.specs.Sublayouts.{folder_name, folder_of}
 use Rattle.it_chain.specs.First.{step_places, at_id, at_records, at_threshold, here}
 use Rattle.it_chain.specs.Level.{StepHolds}
 use Rattle.it_chain.specs.StepRules.{links_in}
-use Rattle.it_chain.specs.inside.Signers.{entry_of}
+use Rattle.it_chain.specs.Signers.{entry_of}
 use Rattle.it_chain.specs.inside.Candidates.{AreCandidates, as_body}
 use Rattle.it_chain.specs.inside.StepRules.{AreRuled}
 use Rattle.it_chain.specs.inside.Walks.{FailsAt}

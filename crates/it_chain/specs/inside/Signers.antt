@@ -4,14 +4,8 @@ use Rattle.std.specs.Prelude.{◌↔◌, ℕ, List, Contains}
 use Rattle.std.specs.Cmp.Lexicographic.{slice_cmp}
 use Rattle.std.specs.List.Sorted.{IsStrictlySortedBy}
 use Rattle.std.specs.Ordering.{nat_cmp}
-use Rattle.it_dsse.specs.declared.key_object.KeyObject.{KeyObject}
-use Rattle.it_chain.specs.declared.signers.Signer.{Signer}
 
 -- the same ids, each once and in the order of their bytes
 pub record AreIds (ids sorted : List (List ℕ)) : Type 0 where
   pub rises : IsStrictlySortedBy (slice_cmp nat_cmp) sorted
   pub same : (id : List ℕ) → Contains sorted id ↔ Contains ids id
-
--- a signer as an entry of a layout's keys
-abbrev pub entry_of : Signer → List ℕ × KeyObject
-entry_of signer = (signer.id.now, signer.object.now)

@@ -5,6 +5,7 @@ ghost use Rattle.it_base.specs.Parts.{IsPart, IsPartOr};
 ghost use Rattle.it_base.specs.Sequence.{IsList};
 ghost use Rattle.it_dsse.specs.Panel.{panel_of};
 ghost use Rattle.it_public_keys.specs.AnyCheck.{check_of};
+ghost use Rattle.it_program.specs.Sources.{sources_in};
 ghost use Rattle.it_public_keys.specs.Collected.{IsTableFor};
 ghost use Rattle.it_tables.specs.Part.{IsBoolean, IsBytes, IsNumber};
 ghost use Rattle.itv_cases.specs.Answer.{IsAnswer};
@@ -22,6 +23,7 @@ use it_base::text::Text;
 use it_dsse::check::SignatureCheck;
 use it_dsse::ring::HmacRing;
 use it_public_keys::any_check::{AnyCheck, checks_of};
+use it_public_keys::sources::Sources;
 use it_public_keys::{PublicKeys, table_if};
 use it_tables::RowFault;
 use it_tables::rings::read_ring;
@@ -88,7 +90,7 @@ impl Case {
             public_keys,
             wanted,
         } = self;
-        let table = table_for(alloc, public_keys, &inputs)?;
+        let table = table_for(alloc, public_keys, &inputs, rings.as_slice())?;
         let checks = checks_of(alloc, rings.into_vec(), table)?;
         let given = answer_by(alloc, &inputs, checks)?;
         Ok(Run {
@@ -99,19 +101,24 @@ impl Case {
     }
 }
 
-/// The table of all public keys that the verification could ask for, where public keys are asked
-/// for.
+/// The table of all public keys that the verification could ask for beside the rings, where public
+/// keys are asked for.
 fn table_for(
     alloc: Global,
     is_wanted: bool,
     inputs: &Inputs,
+    rings: &[HmacRing],
 ) -> Result<Option<PublicKeys>, AllocError>
-    ensures { IfOk result (IsTableFor is_wanted inputs.now.policy inputs.now.layout
-        inputs.now.links) }
+    ensures { IfOk result (IsTableFor is_wanted (sources_in inputs.now rings.now)) }
 {
-    let policy = inputs.policy.as_slice();
-    let layout = inputs.layout.as_slice();
-    table_if(alloc, is_wanted, policy, layout, &inputs.links)
+    let sources = Sources {
+        policy: inputs.policy.as_slice(),
+        layout: inputs.layout.as_slice(),
+        links: &inputs.links,
+        depth: inputs.depth,
+        rings,
+    };
+    table_if(alloc, is_wanted, &sources)
 }
 
 /// The answer of the verification, with signatures checked by the checks.

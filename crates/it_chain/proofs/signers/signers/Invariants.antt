@@ -1,5 +1,5 @@
 use Rattle.std.proofs.Common.{◌≡◌, filter_map, map, take}
-use Rattle.it_chain.specs.inside.Signers.{entry_of}
+use Rattle.it_chain.specs.Signers.{entry_of}
 use Rattle.it_chain.proofs.SignerLists.{known}
 use Rattle.it_chain.proofs.signers.signers.Given as goal
 

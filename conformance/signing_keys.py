@@ -1,13 +1,15 @@
-"""Keys from fixed seeds, whose signatures are the same each time: ECDSA over P-256 and RSASSA-PSS.
+"""Keys of three kinds from fixed seeds, whose signatures are the same each time.
 
-The seed of a key is its holder's name. Needs the package `cryptography`, which signs by ECDSA (RFC
-6979) and checks each signature that is made here by RFC 8017.
+The kinds are Ed25519, ECDSA over P-256 and RSASSA-PSS. The seed of a key is its holder's name.
+Needs the package `cryptography`, which signs by Ed25519 and by ECDSA (RFC 6979), and checks each
+signature that is made here by RFC 8017.
 """
 
 import hashlib
 
 from cryptography.hazmat.primitives import hashes, serialization
 from cryptography.hazmat.primitives.asymmetric import ec, padding, rsa, utils
+from cryptography.hazmat.primitives.asymmetric.ed25519 import Ed25519PrivateKey
 
 ORDER = 0xFFFFFFFF00000000FFFFFFFFFFFFFFFFBCE6FAADA7179E84F3B9CAC2FC632551
 
@@ -54,6 +56,20 @@ def order_less(sig):
     """The ECDSA signature with the order less its second number, which is valid too."""
     first, second = utils.decode_dss_signature(sig)
     return utils.encode_dss_signature(first, ORDER - second)
+
+
+class Ed25519Key:
+    """A key of Ed25519."""
+
+    def __init__(self, who):
+        seed = hashlib.sha256(who.encode()).digest()
+        self.private = Ed25519PrivateKey.from_private_bytes(seed)
+        raw = serialization.Encoding.Raw, serialization.PublicFormat.Raw
+        self.digits = self.private.public_key().public_bytes(*raw).hex()
+
+    def sign(self, body):
+        """The signature of a body by RFC 8032."""
+        return self.private.sign(body)
 
 
 class P256Key:

@@ -58,7 +58,7 @@ pub enum Fault {
     #[error("{path} has no key {id}")]
     UnknownKey { path: Shown, id: Shown },
     /// A file does not hold key objects under their ids.
-    #[error("{path} is not an object from id to key object, as a layout has under keys")]
+    #[error("{path} is no object from id to key object, like a layout's keys or a policy's owners")]
     BadKeys { path: Shown },
     /// The key object under this id describes no public key.
     #[error("{path} has no public key under {id} that signatures are checked by")]

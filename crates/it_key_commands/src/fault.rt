@@ -34,25 +34,27 @@ pub enum KeyFault {
 #[derive(Clone, Copy, Debug, PartialEq, Eq, Error)]
 pub enum FileFault {
     /// It is not the PEM text of a public key (RFC 7468, section 13).
-    #[error("not the PEM text of a public key")]
+    #[error("not the PEM text of a public key (openssl pkey -pubin -pubout makes one of DER)")]
     NotPem,
     /// It is a PEM text of another label.
     #[error("{0}")]
     Other(OtherText),
     /// It is a public key of another kind than Ed25519, ECDSA over P-256 and RSA.
-    #[error("a public key of another kind than Ed25519, ECDSA over P-256 and RSA")]
+    #[error("a public key of another kind (use Ed25519, ECDSA over P-256 or RSA)")]
     OtherKind,
     /// It has the form of an Ed25519 key, and its point is not a key: RFC 8032, section 5.1.3,
     /// decodes none, or one of small order.
-    #[error("an Ed25519 key whose point is not on the curve, or of small order")]
+    #[error("an Ed25519 key whose point is not on the curve, or of small order (make a new one)")]
     BadPoint,
     /// It is a key of an elliptic curve, and not one of P-256 whose point is on the curve and
     /// written uncompressed (RFC 5480, section 2.2).
-    #[error("a key of an elliptic curve that is not an uncompressed point on P-256")]
+    #[error("a key of an elliptic curve that is not an uncompressed point on P-256 \
+         (openssl pkey -pubin -pubout -ec_conv_form uncompressed writes a compressed one so)")]
     BadCurveKey,
     /// It is an RSA key, and its modulus does not have 2,048 to 4,096 bits that fill its bytes, or
     /// its exponent is not an odd number from 3 to 2,147,483,647.
-    #[error("an RSA key not of 2,048, 2,056, .. 4,096 bits, or of an exponent that is not taken")]
+    #[error("an RSA key not of 2,048, 2,056, .. 4,096 bits, or of an exponent that is not taken \
+         (make one of 3,072 bits with the exponent 65537)")]
     BadRsaKey,
 }
 
@@ -69,7 +71,7 @@ pub enum OtherText {
     #[error("a certificate (openssl x509 -noout -pubkey writes its public key)")]
     Certificate,
     /// A PEM text of any other label.
-    #[error("a PEM text of another label")]
+    #[error("a PEM text of another label (a public key begins with -----BEGIN PUBLIC KEY-----)")]
     Unknown,
 }
 

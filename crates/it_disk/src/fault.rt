@@ -69,7 +69,7 @@ pub enum Fault {
     /// A signature that was made elsewhere is not one of the body by the key under this id.
     #[error("{path} is not a signature of the body by {id}")]
     BadSignature { path: Shown, id: Shown },
-    /// A line of a digest list, counted from 1, is none, or names a path again.
+    /// A line of a digest list, counted from 1, does not read, or names a path again.
     #[error("{path}: line {line} is no line of a digest list, or repeats a path")]
     BadLine { path: Shown, line: u64 },
     /// The external parameters are no JSON object, or one that nests too deep.

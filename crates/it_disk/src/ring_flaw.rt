@@ -128,7 +128,7 @@ fn first_repeat(alloc: Global, entries: &[Value]) -> Result<Option<RingFlaw>, Al
     Ok(None)
 }
 
-/// The id of an entry; of what is none, the empty text.
+/// The id of an entry, or the empty text where it has none.
 fn id_of(alloc: Global, entry: &Value) -> Result<String, AllocError> {
     let id = match member(entry, "id") {
         Some(id) => id.as_str().unwrap_or(""),

@@ -54,7 +54,7 @@ pub(crate) fn key_in(lines: &[u8]) -> Result<FileKey<'_>, FileFault>
     }
 }
 
-/// Why a text that is not the PEM text of a public key is none.
+/// Why a text is not the PEM text of a public key.
 fn text_fault(text: &str) -> FileFault
     requires { info_in text.now ≡ None }
     ensures { IsTextFault text.now result }

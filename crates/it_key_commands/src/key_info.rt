@@ -64,7 +64,7 @@ fn ed25519_key(bytes: &[u8; 32]) -> Result<Key, FileFault>
     }
 }
 
-/// Why a SubjectPublicKeyInfo that is not that of a key is none.
+/// Why a SubjectPublicKeyInfo is not that of a key.
 fn other_fault(info: &[u8]) -> FileFault
     requires { IsNoKeyInfo info.now }
     ensures { IsNoEd25519Info info.now → IsInfoFault info.now result }

@@ -8,7 +8,7 @@ use it_report::name::push_name;
 use std::alloc::AllocError;
 
 impl UnknownKey {
-    /// Appends the line that tells the note, with names as a report writes them.
+    /// Appends the line of the note, with names as a report writes them.
     ///
     /// # Errors
     ///

@@ -4,7 +4,7 @@ use it_base::text::Text;
 /// Why no check knows a key object, as far as the object says it (in-toto 1.0, section 4.2).
 #[derive(Drop)]
 pub enum Reason {
-    /// Its scheme is none that checks know, but this one.
+    /// No check knows its scheme, which is this one.
     OtherScheme(Text),
     /// Its scheme is that of secrets: no ring has the secret.
     NoSecret,

@@ -39,7 +39,7 @@ pub enum Detail {
 }
 
 impl FileDetail {
-    /// Appends the line that tells it, with names as a report writes them.
+    /// Appends its line, with names as a report writes them.
     ///
     /// # Errors
     ///

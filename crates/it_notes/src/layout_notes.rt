@@ -63,7 +63,7 @@ fn delivery_notes(
     rule_list_notes(alloc, layout, policy.deliver.as_slice())
 }
 
-/// The notes on what a layout asks for; none where there is none.
+/// The notes on what a layout asks for; no notes where there is no layout.
 fn rule_notes(alloc: Global, layout: &Option<Layout>) -> Result<Vec<LayoutNote>, AllocError>
     ensures { (payload : List ℕ) → IfSome layout.now (LayoutOf payload)
         → IfOk result (λ notes. AreOfLayout payload notes.items) }

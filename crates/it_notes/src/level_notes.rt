@@ -14,7 +14,7 @@ use it_report::refusal::{Fault, Refusal};
 use it_verify::inputs::Inputs;
 use std::alloc::{AllocError, Global};
 
-/// The notes on the layout that a refusal speaks of, or `None` where that is none.
+/// The notes on the layout that a refusal is about, or `None` where it is about no layout.
 pub(crate) fn level_told(
     alloc: Global,
     inputs: &Inputs,

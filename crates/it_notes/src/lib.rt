@@ -1,5 +1,5 @@
-//! Notes on a verification: sentences for people, which say more than the report does, of why a
-//! delivery was refused and of what was read over. Each note is true.
+//! Notes on a verification: sentences for people, which say more than the report does about why a
+//! delivery was refused and what was not used. Each note is true.
 #![tactic(auto)]
 
 mod bad_parts;

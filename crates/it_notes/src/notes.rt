@@ -66,7 +66,7 @@ pub enum RefusalNotes {
     Disagreement(DisagreeNote),
     /// Of the artifact rule that failed.
     Rule(RuleNotes),
-    /// Of the provenance that is none for the file.
+    /// Of why no provenance meets the expectation for the file.
     Provenance(Vec<ProvenanceNote>),
     /// The provenance is one envelope over several lines.
     LaidOut,

@@ -10,7 +10,7 @@ use std::alloc::{AllocError, Global};
 
 /// Says what is wrong with a part of a layout, of the payload that was read as one: the first of
 /// its members that is wrong, in the order of the format, and of a list of rules the first item
-/// that is none.
+/// that is not a rule.
 ///
 /// The answer is `None` where nothing is wrong with the part, and of a name that stands twice.
 ///

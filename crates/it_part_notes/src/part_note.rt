@@ -48,7 +48,7 @@ pub enum Fault {
     Missing,
     /// It is there, and is not what it must be.
     Unfit,
-    /// It is a list of rules, and this item is none.
+    /// It is a list of rules, and this item is not a rule.
     NoRule(BadRule),
 }
 

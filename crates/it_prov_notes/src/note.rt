@@ -1,7 +1,7 @@
 //! What is said of the lines of provenance.
 use it_base::text::Text;
 
-/// Why one line of the provenance is none for a delivered file.
+/// Why one line of the provenance does not count for a delivered file.
 #[derive(Drop)]
 pub struct ProvenanceNote {
     /// The number of the line, from 1.

@@ -12,21 +12,21 @@ use it_docs::rule::Side;
 /// What is wrong with a delivery. Each has a number and a name, which a report writes.
 #[derive(Drop)]
 pub enum Fault {
-    /// The policy is none. This part is the first that fails.
+    /// The policy does not read. This part is the first that fails.
     BadPolicy(PolicyPart),
-    /// The digest list is none. This line is the first that is bad, counted from 1.
+    /// The digest list does not read. This line is the first bad one, counted from 1.
     BadSums(u64),
-    /// The moment is none.
+    /// The moment does not read.
     BadMoment,
     /// The digest list names no file.
     NoFiles,
-    /// The layout's bytes are no envelope (DSSE v1.0).
+    /// The layout's bytes are not an envelope (DSSE v1.0).
     BadEnvelope,
     /// The layout's envelope is not of the payload type of in-toto.
     WrongPayloadType,
     /// The owner with this id, the least in the order of bytes, did not sign the layout.
     OwnerMissing(Text),
-    /// The layout is none (in-toto 1.0). This part is the first that fails.
+    /// The layout does not read (in-toto 1.0). This part is the first that fails.
     BadLayout(LayoutPart),
     /// A layout's `expires` is before the moment.
     Expired,

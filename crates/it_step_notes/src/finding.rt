@@ -58,7 +58,7 @@ fn finding_of(
     }
 }
 
-/// Why a payload is no body for a step, if it is none.
+/// Why a payload is not a body for a step, where it is not one.
 fn no_body(alloc: Global, step: &str, payload: &[u8]) -> Result<Option<Finding>, AllocError>
     ensures { IfOk result (λ found. MatchOption found
         ((body : Body) × BodyOf step.now payload.now body) (IsNoBody step.now payload.now)) }

@@ -2,8 +2,8 @@
 //! layout, bundle and panel of checks.
 ghost use Rattle.it_step_notes.specs.NoteLaws.{FindingsTell};
 
-/// What a file that is claimed for a step is for it tells whether the file counts: for the key ids
-/// that a note says, or else for none.
+/// A file that is claimed for a step counts for it under the key ids that the note on the file
+/// gives, and under none where the note says why it does not count.
 pub fn findings_tell()
     ensures { FindingsTell }
 {}

@@ -28,7 +28,7 @@ PLACES = [
     ("cases", "docs/testing.md", "- {} whole verifications,"),
     ("vectors", "docs/testing.md", "- {} vectors of public keys"),
     ("vectors", "CHANGELOG.md", "- {} vectors of Ed25519"),
-    ("worked", "docs/testing.md", "whole verifications, {} worked out by hand"),
+    ("worked", "docs/testing.md", "whole verifications, {} written by hand"),
     ("random", "docs/testing.md", "by hand and {} changed at random"),
     ("rows of values", "docs/testing.md", "envelopes, rings and documents, in {} rows"),
     ("rows of verify", "docs/testing.md", "that the cases cannot show, in {} rows"),

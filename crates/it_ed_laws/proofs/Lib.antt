@@ -1,0 +1,6 @@
+pub mod Numbers
+pub mod Differences
+pub mod Equation
+pub mod Roots
+pub mod Decodings
+pub mod Constants

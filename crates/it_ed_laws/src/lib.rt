@@ -1,0 +1,4 @@
+//! Laws about points of the curve edwards25519 (RFC 8032, section 5.1): which are on it.
+#![tactic(auto)]
+
+pub mod laws;

@@ -1,5 +1,7 @@
 pub mod Numbers
 pub mod Differences
+pub mod Sums
+pub mod Neutral
 pub mod Equation
 pub mod Roots
 pub mod Decodings

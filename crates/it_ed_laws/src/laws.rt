@@ -1,9 +1,10 @@
 //! Laws about points of the curve: functions that do nothing, and whose contracts say what is true
 //! of every point.
 ghost use Rattle.std.specs.Prelude.{◌≡◌, IfSome};
-ghost use Rattle.it_ed_point.specs.Curve.{base, neutral};
+ghost use Rattle.it_ed_point.specs.Curve.{base, neutral, sum_of};
 ghost use Rattle.it_ed_point.specs.Encoding.{decoded};
-ghost use Rattle.it_ed_laws.specs.OnCurve.{IsOnCurve};
+ghost use Rattle.it_ed_point.specs.declared.point.Point.{Point};
+ghost use Rattle.it_ed_laws.specs.OnCurve.{IsReduced, IsOnCurve, IsSamePoint};
 
 /// A point that is decoded from bytes is on the curve, and its z is 1.
 pub fn decoded_is_on_curve(bytes: &[u8; 32])
@@ -15,4 +16,10 @@ pub fn decoded_is_on_curve(bytes: &[u8; 32])
 pub fn constants_are_on_curve()
     ensures neutral_point { IsOnCurve neutral }
     ensures base_point { IsOnCurve base }
+{}
+
+/// The sum of a point and the neutral point is that point, on either side.
+pub fn sum_with_neutral()
+    ensures after { (point : Point) → IsReduced point → IsSamePoint (sum_of point neutral) point }
+    ensures before { (point : Point) → IsReduced point → IsSamePoint (sum_of neutral point) point }
 {}

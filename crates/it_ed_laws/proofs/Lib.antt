@@ -3,6 +3,7 @@ pub mod Differences
 pub mod Sums
 pub mod Neutral
 pub mod Equation
+pub mod Doubles
 pub mod Roots
 pub mod Decodings
 pub mod Constants

@@ -1,7 +1,7 @@
 //! Laws about points of the curve: functions that do nothing, and whose contracts say what is true
 //! of every point.
 ghost use Rattle.std.specs.Prelude.{◌≡◌, IfSome};
-ghost use Rattle.it_ed_point.specs.Curve.{base, neutral, sum_of};
+ghost use Rattle.it_ed_point.specs.Curve.{base, neutral, sum_of, double_of};
 ghost use Rattle.it_ed_point.specs.Encoding.{decoded};
 ghost use Rattle.it_ed_point.specs.declared.point.Point.{Point};
 ghost use Rattle.it_ed_laws.specs.OnCurve.{IsReduced, IsOnCurve, IsSamePoint};
@@ -22,4 +22,10 @@ pub fn constants_are_on_curve()
 pub fn sum_with_neutral()
     ensures after { (point : Point) → IsReduced point → IsSamePoint (sum_of point neutral) point }
     ensures before { (point : Point) → IsReduced point → IsSamePoint (sum_of neutral point) point }
+{}
+
+/// The double of a point of the curve is the sum of the point and itself.
+pub fn double_is_sum()
+    ensures { (point : Point) → IsOnCurve point
+        → IsSamePoint (double_of point) (sum_of point point) }
 {}

@@ -6,4 +6,5 @@ pub mod Equation
 pub mod Doubles
 pub mod Roots
 pub mod Decodings
+pub mod Opposites
 pub mod Constants

@@ -1,7 +1,7 @@
 //! Laws about points of the curve: functions that do nothing, and whose contracts say what is true
 //! of every point.
 ghost use Rattle.std.specs.Prelude.{◌≡◌, IfSome};
-ghost use Rattle.it_ed_point.specs.Curve.{base, neutral, sum_of, double_of};
+ghost use Rattle.it_ed_point.specs.Curve.{base, neutral, opposite_of, sum_of, double_of};
 ghost use Rattle.it_ed_point.specs.Encoding.{decoded};
 ghost use Rattle.it_ed_point.specs.declared.point.Point.{Point};
 ghost use Rattle.it_ed_laws.specs.OnCurve.{IsReduced, IsOnCurve, IsSamePoint};
@@ -28,4 +28,11 @@ pub fn sum_with_neutral()
 pub fn double_is_sum()
     ensures { (point : Point) → IsOnCurve point
         → IsSamePoint (double_of point) (sum_of point point) }
+{}
+
+/// The opposite of a point of the curve is on the curve, and the sum of both is the neutral point.
+pub fn sum_with_opposite()
+    ensures on_curve { (point : Point) → IsOnCurve point → IsOnCurve (opposite_of point) }
+    ensures sum { (point : Point) → IsOnCurve point
+        → IsSamePoint (sum_of point (opposite_of point)) neutral }
 {}

@@ -1,0 +1,10 @@
+pub mod Numbers
+pub mod Differences
+pub mod Sums
+pub mod Neutral
+pub mod Equation
+pub mod Doubles
+pub mod Roots
+pub mod Decodings
+pub mod Opposites
+pub mod Constants

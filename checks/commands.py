@@ -6,15 +6,19 @@ page of docs/ in an empty folder, those of an example in its folder. A block `te
 is what that one writes to standard output; one without writes nothing. Needs the built program
 (./build at the top), jq, openssl 3 and GNU tools.
 
-    commands.py         runs the guide, the page on other signatures, and the examples
-    commands.py PAGE..  runs these pages
+    commands.py                       runs the guide, the page on other signatures, and the examples
+    commands.py PAGE..                runs these pages
+    commands.py --installed [PAGE..]  runs them with the itv on PATH, which stays as it is, and the
+                                      examples in a copy, where they do not find the built program
 """
 
 import os
 import re
+import shutil
 import subprocess
 import sys
 import tempfile
+from pathlib import Path
 
 import tree
 
@@ -31,25 +35,28 @@ def script_of(blocks):
 
 def written(script, folder):
     """What the script writes to standard output, block by block, and what to standard error."""
-    path = f"{PROGRAM}:{os.environ['PATH']}"
-    done = subprocess.run(["bash", "-c", script], cwd=folder, env={**os.environ, "PATH": path},
-                          capture_output=True, text=True, check=False)
+    done = subprocess.run(["bash", "-c", script], cwd=folder, capture_output=True, text=True,
+                          check=False)
     return done.stdout.split(END + "\n"), done.stderr
 
 
-def run(page, script):
+def run(page, script, is_installed):
     """What the script of a page writes, in the folder in which it is to run."""
-    if page not in DOCS:
+    if page not in DOCS and not is_installed:
         return written(script, (tree.TOP / page).parent)
     with tempfile.TemporaryDirectory() as folder:
-        return written(script, folder)
+        if page in DOCS:
+            return written(script, folder)
+        shutil.copytree(tree.TOP / "examples", Path(folder) / "examples",
+                        ignore=shutil.ignore_patterns("out"))
+        return written(script, (Path(folder) / page).parent)
 
 
-def faults_of(page):
+def faults_of(page, is_installed):
     """The blocks of a page that write something else."""
     text = (tree.TOP / page).read_text()
     blocks = list(BLOCK.finditer(text))
-    outputs, notes = run(page, script_of(blocks))
+    outputs, notes = run(page, script_of(blocks), is_installed)
     if notes:
         yield f"{page}: {notes.strip()}"
     for number, block in enumerate(blocks):
@@ -68,8 +75,14 @@ def main():
     """Does what the words say."""
     words = tree.words_of(__doc__)
     words.add_argument("pages", nargs="*", default=all_pages())
-    pages = words.parse_args().pages
-    return tree.report([fault for page in pages for fault in faults_of(page)])
+    words.add_argument("--installed", action="store_true")
+    chosen = words.parse_args()
+    if not chosen.installed:
+        os.environ["PATH"] = f"{PROGRAM}:{os.environ['PATH']}"
+    if not shutil.which("itv"):
+        return tree.report(["there is no itv on PATH"])
+    return tree.report([fault for page in chosen.pages
+                        for fault in faults_of(page, chosen.installed)])
 
 
 if __name__ == "__main__":

@@ -5,6 +5,7 @@
     figures.py --write  puts the figures that are counted into the pages
 """
 
+import json
 import re
 import shutil
 import subprocess
@@ -14,6 +15,7 @@ import reach
 import tree
 
 CRATES = tree.TOP / "crates"
+CASES = CRATES / "itv_cases" / "data" / "cases"
 NUMBER = r"(?P<figure>\d[\d,]*)"
 # The folders of tables of rows, with the program that tries them.
 OF_ROWS = {"values": "it_rows", "reports": "it_rows", "commands": "it_rows",
@@ -35,6 +37,11 @@ PLACES = [
     ("rows of commands", "docs/testing.md", "commands over bytes, in {} rows"),
     ("rows of reports", "docs/testing.md", "reports, most as JSON, in {} rows"),
     ("rows of runs", "docs/testing.md", "in some rows the notes, in {} rows"),
+    ("answered twice", "conformance/README.md", "The answers of the {} cases in the eight files"),
+    ("by hand", "conformance/README.md", "Those of the other {} were written down by hand"),
+    ("by hand", "conformance/README.md", "The signatures of these {} were made"),
+    ("noted", "conformance/README.md", "and so were the notes of the {} that have any"),
+    ("by keys", "conformance/README.md", "and in the {} of `public-keys.jsonl`"),
     ("logic", "README.md", "The toolchain (a `rattle-kit-13` of `logic {}`)"),
     ("logic", "docs/trusted.md", "The toolchain (a `rattle-kit-13` of `logic {}`)"),
     ("logic", "CONTRIBUTING.md", "`rt version` prints a `rattle-kit-13` and `logic {}`"),
@@ -53,6 +60,39 @@ def lines(program, pattern):
     return sum(path.read_bytes().count(b"\n") for path in files)
 
 
+# A line of conformance/README.md on files of cases or vectors, which ends with how many each has.
+OF_FILES = re.compile(r"^- (?P<names>`[\w-]+\.jsonl`.*?): (?P<counts>\d+((, | and )\d+)*)", re.M)
+
+
+def of_cases():
+    """The figures of the cases by where their answers and their signatures come from."""
+    twice = [path for name in ("base", "sha384", "levels", "panel")
+             for path in CASES.glob(f"*-{name}.jsonl")]
+    others = [path for path in CASES.glob("*.jsonl") if path not in twice]
+    noted = [path for path in others for line in path.read_text().splitlines()
+             if json.loads(line).get("notes") is not None]
+    by_keys = [CASES / "public-keys.jsonl", CASES / "in-toto-golang.jsonl"]
+    groups = {"answered twice": twice, "by hand": others, "by keys": by_keys}
+    return {"noted": len(noted), **{name: sum(path.read_bytes().count(b"\n") for path in paths)
+                                    for name, paths in groups.items()}}
+
+
+def faults_of_files():
+    """Where conformance/README.md gives another number of cases or vectors of a file."""
+    seen = set()
+    for found in OF_FILES.finditer((tree.TOP / "conformance" / "README.md").read_text()):
+        names = re.findall(r"`([\w-]+\.jsonl)`", found["names"])
+        for name, given in zip(names, re.findall(r"\d+", found["counts"])):
+            paths = [CASES / name, CRATES / "it_vectors" / "data" / name]
+            count = sum(path.read_bytes().count(b"\n") for path in paths if path.exists())
+            seen.add(name)
+            if count != int(given):
+                yield f"conformance/README.md: {name} has {count} lines, and not {given}"
+    for path in CASES.glob("*.jsonl"):
+        if path.name not in seen:
+            yield f"conformance/README.md: how many cases {path.name} has is not said"
+
+
 def counted():
     """Each figure as it is written, by its name; the toolchain's logic only where there is one.
 
@@ -64,7 +104,7 @@ def counted():
                "run_verify": lines_reached(graph, reach.VERIFYING),
                "public": lines_reached(graph, None),
                "cases": every, "random": thrown, "worked": every - thrown,
-               "vectors": vectors,
+               "vectors": vectors, **of_cases(),
                **{f"rows of {folder}": lines(program, f"{folder}/*.jsonl")
                   for folder, program in OF_ROWS.items()}}
     found = {name: f"{number:,}" for name, number in numbers.items()}
@@ -106,7 +146,7 @@ def main():
     is_written, found = words.parse_args().write, counted()
     if is_written:
         write(found)
-    return tree.report(list(faults(found)))
+    return tree.report([*faults(found), *faults_of_files()])
 
 
 if __name__ == "__main__":

@@ -4,7 +4,8 @@
 # Needs itv, jq and openssl 3.
 set -eu
 here=$(cd "$(dirname "$0")" && pwd)
-mkdir -p keys release
+mkdir keys release
+echo '*' > keys/.gitignore
 for id in owner build-job attest-job; do
     openssl genpkey -algorithm ed25519 -out "keys/$id.pem"
     openssl pkey -in "keys/$id.pem" -pubout -out "keys/$id.pub"

@@ -42,6 +42,10 @@ PLACES = [
     ("by hand", "conformance/README.md", "The signatures of these {} were made"),
     ("noted", "conformance/README.md", "and so were the notes of the {} that have any"),
     ("by keys", "conformance/README.md", "and in the {} of `public-keys.jsonl`"),
+    ("version", "examples/ci/github.yml", "ref: v{}"),
+    ("version", "examples/ci/gitlab.yml", "--branch v{} "),
+    ("version", "examples/ci/README.md", "its tag `v{}`"),
+    ("version", "CHANGELOG.md", "\n## {}\n"),
     ("logic", "README.md", "The toolchain (a `rattle-kit-13` of `logic {}`)"),
     ("logic", "docs/trusted.md", "The toolchain (a `rattle-kit-13` of `logic {}`)"),
     ("logic", "CONTRIBUTING.md", "`rt version` prints a `rattle-kit-13` and `logic {}`"),
@@ -60,6 +64,13 @@ def lines(program, pattern):
     return sum(path.read_bytes().count(b"\n") for path in files)
 
 
+# Ratios of README.md: the words before each, and the beginning of its row in docs/performance.md.
+RATIOS = [
+    ("reading the same envelopes | ", "`verify`, 1,000 links of 100 steps by 10 functionaries"),
+    ("JSON, base64 and SHA-256 once | ", "`verify`, 50 steps, 10,000 artifacts each"),
+    ("| one before it | ", "`verify`, 500 wrong signatures before the right one"),
+    ("| `sha256sum` | ", "`digest`, 1 GiB"),
+]
 # A line of conformance/README.md on files of cases or vectors, which ends with how many each has.
 OF_FILES = re.compile(r"^- (?P<names>`[\w-]+\.jsonl`.*?): (?P<counts>\d+((, | and )\d+)*)", re.M)
 
@@ -93,6 +104,16 @@ def faults_of_files():
             yield f"conformance/README.md: how many cases {path.name} has is not said"
 
 
+def faults_of_ratios():
+    """Where README.md gives another ratio than docs/performance.md."""
+    readme = (tree.TOP / "README.md").read_text()
+    rows = (tree.TOP / "docs" / "performance.md").read_text().splitlines()
+    for words, begin in RATIOS:
+        measured = [row.split("|")[-2].strip() for row in rows if row.startswith("| " + begin)]
+        if len(measured) != 1 or f"{words}{measured[0]} |" not in readme:
+            yield f"README.md: the ratio after {words!r} is not that of docs/performance.md"
+
+
 def counted():
     """Each figure as it is written, by its name; the toolchain's logic only where there is one.
 
@@ -108,6 +129,7 @@ def counted():
                **{f"rows of {folder}": lines(program, f"{folder}/*.jsonl")
                   for folder, program in OF_ROWS.items()}}
     found = {name: f"{number:,}" for name, number in numbers.items()}
+    found["version"] = json.loads((tree.TOP / "docs" / "commands.json").read_text())["version"]
     if shutil.which("rt"):
         ran = subprocess.run(["rt", "version"], stdout=subprocess.PIPE, text=True, check=True)
         found["logic"] = ran.stdout.split()[-1]
@@ -116,7 +138,8 @@ def counted():
 
 def pattern_of(name, words):
     """What finds a figure among the words around it."""
-    figure = r"(?P<figure>[0-9a-f]+)" if name == "logic" else NUMBER
+    figure = {"logic": r"(?P<figure>[0-9a-f]+)",
+              "version": r"(?P<figure>\d+(\.\d+)+)"}.get(name, NUMBER)
     before, after = (re.escape(part) for part in words.split("{}"))
     return re.compile(f"(?<={before}){figure}(?={after})")
 
@@ -146,7 +169,7 @@ def main():
     is_written, found = words.parse_args().write, counted()
     if is_written:
         write(found)
-    return tree.report([*faults(found), *faults_of_files()])
+    return tree.report([*faults(found), *faults_of_files(), *faults_of_ratios()])
 
 
 if __name__ == "__main__":

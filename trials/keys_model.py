@@ -11,7 +11,7 @@ import hmac
 import json
 import re
 
-from cryptography.exceptions import InvalidSignature
+from cryptography.exceptions import InvalidSignature, UnsupportedAlgorithm
 from cryptography.hazmat.primitives import hashes
 from cryptography.hazmat.primitives.asymmetric import ec, padding, rsa
 from cryptography.hazmat.primitives.asymmetric.ed25519 import Ed25519PublicKey
@@ -50,17 +50,28 @@ def info_in(text):
         return None
 
 
-def key_in_pem(text, kind):
-    """The key of a class in a PEM text, and its encoding, or None."""
+def is_taken(key, scheme):
+    """Whether a key is one of those that are checked under a scheme."""
+    if scheme == "ecdsa-sha2-nistp256":
+        return isinstance(key, ec.EllipticCurvePublicKey) and isinstance(key.curve, ec.SECP256R1)
+    if scheme != "rsassa-pss-sha256" or not isinstance(key, rsa.RSAPublicKey):
+        return False
+    numbers = key.public_numbers()
+    return (key.key_size in range(2048, 4097, 8) and numbers.n % 2 == 1
+            and numbers.e in range(3, 2 ** 31, 2))
+
+
+def info_of_key(text, scheme):
+    """The encoding of the key in a PEM text that is checked under a scheme, or None."""
     info = info_in(text)
     try:
         key = load_der_public_key(info) if info else None
-    except (ValueError, TypeError):
+    except (ValueError, TypeError, UnsupportedAlgorithm):
         return None
-    if not isinstance(key, kind):
+    if not is_taken(key, scheme):
         return None
     plain = key.public_bytes(Encoding.DER, PublicFormat.SubjectPublicKeyInfo)
-    return (key, plain) if plain == info else None
+    return info if plain == info else None
 
 
 class Checks:
@@ -82,10 +93,8 @@ class Checks:
         if scheme == "ed25519":
             good = re.fullmatch("[0-9a-fA-F]{64}", text) and text.lower() not in SMALL
             return (scheme, bytes.fromhex(text)) if good else None
-        kind = {"ecdsa-sha2-nistp256": ec.EllipticCurvePublicKey,
-                "rsassa-pss-sha256": rsa.RSAPublicKey}.get(scheme)
-        found = key_in_pem(text, kind) if kind else None
-        return (scheme, found[1]) if found else None
+        info = info_of_key(text, scheme)
+        return (scheme, info) if info else None
 
     def signed(self, envelope, name, made):
         """Whether the key that an id and an object name signed an envelope."""

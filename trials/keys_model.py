@@ -1,7 +1,7 @@
 """What `itv verify` has to answer about a delivery of keys_made, in plain Python.
 
-Written from docs/formats.md alone: it shares nothing with the program, and only the notation of
-documents with what makes the deliveries.
+Written from docs/formats.md and docs/keys.md: it shares nothing with the program, and the notation
+of documents with what makes the deliveries.
 """
 
 import base64

@@ -11,12 +11,12 @@ use Rattle.base64.specs.GeneralPurpose.{decoded_of, encode_of}
 abbrev pub is_url_mark : ℕ → Bool
 is_url_mark byte = byte == 45 || byte == 95
 
--- the bytes that a text encodes: one mark selects the alphabet for the whole text (this
--- profile's choice; DSSE v1.0 allows either alphabet)
+-- the bytes that a text encodes: any dash or underscore selects the alphabet for URLs and file
+-- names for the whole text (this profile's choice; DSSE v1.0 allows either alphabet)
 unfoldable pub base64_decoded : List ℕ → Option (List ℕ)
 base64_decoded text = decoded_of (if list_any is_url_mark text then url_safe else standard) text
 
--- the text of bytes, in the standard alphabet with padding (RFC 4648 section 4)
+-- the text that encodes bytes, in the standard alphabet with padding (RFC 4648 section 4)
 unfoldable pub base64_encoded : List ℕ → List ℕ
 base64_encoded bytes = encode_of standard bytes
 

@@ -4,7 +4,7 @@ use Rattle.serde_json.specs.Data.{Data, null}
 use Rattle.serde_json.specs.Read.{read}
 use Rattle.serde_json.specs.Find.{get}
 
--- the bytes are the text of this document (JSON as its library reads it; this profile's choice)
+-- the bytes are the text of this document (JSON as serde_json reads it; this profile's choice)
 pub record IsDocument (bytes : List ℕ) (d : Data) : Type 0 where
   pub utf8 : IsUtf8 bytes
   pub reads : read bytes ≡ Some d
@@ -18,6 +18,6 @@ present d = Some d
 abbrev pub member_at : List ℕ → Data → Option Data
 member_at name d = option_and_then present (get name d)
 
--- the bytes are a document of which P holds with x
+-- the bytes are a document for which P holds with x
 abbrev pub OfDocument : {X : Type 0} → (Data → X → Type 0) → List ℕ → X → Type 0
 OfDocument P bytes x = (d : Data) × IsDocument bytes d × P d x

@@ -1,4 +1,4 @@
--- Equal by parts; another number equals nothing.
+-- Equality part by part; `other` equals nothing.
 use Rattle.std.specs.Prelude.{Bool, true, false, ◌&&◌}
 use Rattle.std.specs.Ordering.{int_eq}
 use Rattle.std.specs.Str.{bytes_eq}

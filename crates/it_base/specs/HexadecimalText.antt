@@ -5,7 +5,7 @@ use Rattle.hex.specs.Hex.{decode_of}
 use Rattle.serde_json.specs.Data.{Data}
 use Rattle.serde_json.specs.Find.{as_str}
 
--- the bytes that a text encodes by two digits a byte
+-- the bytes that a text encodes, with two digits per byte
 unfoldable pub hexadecimal_decoded : List ℕ → Option (List ℕ)
 hexadecimal_decoded text = result_ok (decode_of text)
 

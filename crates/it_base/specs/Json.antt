@@ -1,8 +1,8 @@
--- What a tree of parameters is: a JSON value whose numbers are whole or told apart from nothing.
+-- What a tree of parameters is: a JSON value whose numbers are whole, or `other`.
 use Rattle.std.specs.Prelude.{ℕ, suc, max, ℤ, List, Bool}
 
 mutual
-  -- a number that fits neither 64 bits unsigned nor 64 bits signed is `other`
+  -- a number that serde_json does not read as an integer of 64 bits is `other`
   pub data Json : Type 0 where
     null : Json
     flag : Bool → Json

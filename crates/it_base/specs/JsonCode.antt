@@ -1,4 +1,4 @@
--- The codes of lists of trees and of members: marks and texts, from which they can be read back.
+-- Codes of lists of trees and of members: lists of marks, from which they can be read back.
 use Rattle.std.specs.Prelude.{◌≡◌, ℕ, ℤ, pos, Bool, false, List, [], ◌∷◌, refl}
 use base.Stored.{coded_via}
 use Rattle.std.specs.Coded.{Coded, coded×, coded_ℕ, coded_ℤ, coded_bool, coded_list}
@@ -6,7 +6,7 @@ use Rattle.std.proofs.Common.{ap, sym, ◌∙◌}
 use Rattle.it_base.specs.Json.{Json, null, flag, whole, text, items, members, other, Items}
 use Rattle.it_base.specs.Json.{no_items, item, Fields, no_fields, field}
 
--- what a tree is, a flag, a number and a text
+-- the kind of a tree, a flag, a number and a text
 abbrev pub Mark : Type 0
 Mark = ℕ × (Bool × (ℤ × List ℕ))
 
@@ -74,7 +74,7 @@ is_other : (d : Json) → (leaf d).0 ≡ 6 → d ≡ other
 is_other other h = refl
 is_other d h = absurd (cc)
 
--- the front of a spelling is of one value
+-- two spellings begin with the same value, and have the same rest
 abbrev Front : {A : Type 0} → A → A → List Mark → List Mark → Type 0
 Front d e x y = (d ≡ e) × (x ≡ y)
 

@@ -1,4 +1,4 @@
--- Maps from texts, and the JSON objects that they are.
+-- Maps from texts, and the JSON objects that they are read from.
 use Rattle.std.specs.Prelude.{◌≡◌, ℕ, List, Option, Some, None, MatchOption, option_and_then, map}
 use Rattle.std.specs.Prelude.{String, string_bytes}
 use Rattle.std.specs.Ordering.{nat_cmp}
@@ -17,11 +17,11 @@ Named X = FinMap {K = List ℕ} (slice_cmp nat_cmp) X
 abbrev pub named_entries : {X : Type 0} → List (String Global × X) → List (List ℕ × X)
 named_entries entries = map (λ e. (string_bytes e.0, e.1)) entries
 
--- what stands at a name: nothing, or a value of which P holds
+-- what is at a name: nothing, or a value for which P holds
 abbrev pub Stands : {X : Type 0} → (Data → X → Type 0) → Option Data → Option X → Type 0
 Stands {X = X} P found at = MatchOption found (at ≡ None) (λ d. (x : X) × (at ≡ Some x) × P d x)
 
--- at each name stands the value that its member is; a member whose value is null counts as missing
+-- at each name is the value of its member; a member whose value is null counts as missing
 -- (this profile's choice)
 abbrev pub AreMembers : {X : Type 0} → (Data → X → Type 0) → Members → Named X → Type 0
 AreMembers P ms m =

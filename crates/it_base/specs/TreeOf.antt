@@ -1,4 +1,4 @@
--- Parts of a document that are trees. Null is a value here.
+-- Parts of a document as trees. Null is a value here.
 use Rattle.std.specs.Prelude.{◌≡◌, ℕ, pos, List, Option, Some, None, MatchOption}
 use Rattle.std.specs.Cmp.Lexicographic.{slice_cmp}
 use Rattle.std.specs.Ordering.{nat_cmp, match_ordering}
@@ -8,7 +8,7 @@ use Rattle.it_base.specs.Json as j
 use Rattle.it_base.specs.JsonView.{json_of}
 use Rattle.it_base.specs.declared.tree.Tree.{Tree}
 
--- a whole number of 64 bits, unsigned or signed, is whole, and every other number is none
+-- a number that serde_json reads as an integer of 64 bits is whole; every other one is `other`
 abbrev pub number_tree : d.Num → j.Json
 number_tree (d.unsigned n) = j.whole (pos n)
 number_tree (d.negative z) = j.whole z
@@ -36,7 +36,7 @@ abbrev mutual
 abbrev pub IsTree : d.Data → Tree → Type 0
 IsTree e t = json_of t ≡ tree_of e
 
--- the part is an object of these trees
+-- the part is an object with these members
 abbrev pub IsMembers : d.Data → j.Fields → Type 0
 IsMembers e fs = MatchOption (as_object e) ⊥ (λ ms. fs ≡ fields_of ms)
 

@@ -1,4 +1,4 @@
-//! Bytes that a document holds as a base64 text (RFC 4648).
+//! Bytes that a document holds as base64 text (RFC 4648).
 ghost use Rattle.std.specs.Prelude.{◌≡◌, ◌≢◌, ◌⊎◌, alloc_error, Some, IfOk, IfErr, string_bytes};
 ghost use Rattle.std.specs.List.{list_any};
 ghost use Rattle.serde_json.specs.View.{view};
@@ -35,7 +35,7 @@ pub fn base64_part(
 }
 
 /// The base64 text of the bytes, in the standard alphabet with padding (RFC 4648 section 4). It
-/// reads back as the bytes.
+/// decodes to the same bytes.
 ///
 /// # Errors
 ///
@@ -66,8 +66,8 @@ fn base64_bytes(alloc: Global, value: &Value) -> Result<Option<Sequence<u8>>, Al
     }
 }
 
-/// Whether a text has a mark of the URL-safe alphabet. It looks at every byte, and does not stop at
-/// the first mark, so that many bytes can be looked at at once.
+/// Whether a text has a mark of the URL-safe alphabet. It reads every byte instead of stopping at
+/// the first mark, so that many bytes can be checked at once.
 fn has_url_mark(text: &str) -> bool
     ensures { result ≡ list_any is_url_mark text.now }
 {

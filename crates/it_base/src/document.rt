@@ -9,7 +9,7 @@ use std::alloc::{AllocError, Global};
 
 /// Reads a JSON document from all of the bytes.
 ///
-/// The answer is the tree, or `None` where the bytes are not a document: bad syntax, bad UTF-8, or
+/// The result is the tree, or `None` where the bytes are not a document: bad syntax, bad UTF-8, or
 /// nesting deeper than 127 levels.
 ///
 /// # Errors
@@ -31,7 +31,7 @@ pub fn read_document(alloc: Global, bytes: &[u8]) -> Result<Option<Value>, Alloc
 }
 
 /// The member of this name, where the value is an object that has it. A member whose value is null
-/// counts as missing, and of two members of one name the last stands.
+/// counts as missing, and of two members of one name the last counts.
 pub fn member<'v>(value: &'v Value, name: &str) -> Option<&'v Value>
     ensures { option_map (λ v. view v.now) result ≡ member_at name.now (view value.now) }
 {

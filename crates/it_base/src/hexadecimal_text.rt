@@ -1,4 +1,4 @@
-//! Bytes that a document holds as a hexadecimal text (RFC 4648 section 8, either case).
+//! Bytes that a document holds as hexadecimal text (RFC 4648 section 8, either case).
 ghost use Rattle.std.specs.Prelude.{◌≡◌, IfOk};
 ghost use Rattle.serde_json.specs.View.{view};
 ghost use Rattle.it_base.specs.Finds.{Finds};

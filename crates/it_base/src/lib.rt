@@ -1,6 +1,6 @@
-//! What the crates that read and write documents share: texts and lists that contracts see as
-//! plain lists, maps under names, trees of parameters, the reading of a JSON document, member by
-//! member, and the writing of bytes.
+//! The parts shared by the crates that read and write documents: texts and lists that contracts
+//! see as plain lists, maps from names, trees of parameters, reading a JSON document member by
+//! member, and writing bytes.
 #![tactic(auto)]
 
 pub mod base64_text;

@@ -1,4 +1,4 @@
-//! Lists of a document that may be missing.
+//! Lists in a document; a missing one is empty.
 ghost use Rattle.std.specs.Prelude.{◌≡◌, [], IfOk, MatchResult};
 ghost use Rattle.serde_json.specs.View.{view, items_view};
 ghost use Rattle.it_base.specs.Finds.{Finds};
@@ -19,7 +19,7 @@ use std::alloc::{AllocError, AllocFailed, Global};
 pub enum ListFault {
     /// The member is not a list.
     NoList,
-    /// The item at this index, from 0, is the first that is not such a value.
+    /// The item at this index, from 0, is the first that is not a value of the wanted kind.
     NoItem(usize),
     /// Memory was refused.
     OutOfMemory,
@@ -41,7 +41,7 @@ impl<T: Drop> From<AllocFailed<T>> for ListFault {
     }
 }
 
-/// The values of a list, or none where there is no such member. `None` where the member is no list
+/// The values of a list, empty where the member is missing. `None` where the member is not a list
 /// of such values.
 pub fn list_or_empty<T: FromDocument>(
     alloc: Global,
@@ -53,12 +53,12 @@ pub fn list_or_empty<T: FromDocument>(
     part_or(alloc, value, name, Sequence::from(Vec::new(alloc)))
 }
 
-/// The values of a list, or none where there is no such member.
+/// The values of a list, empty where the member is missing.
 ///
 /// # Errors
 ///
-/// `NoList` where the member is no list, `NoItem` with the first item that is no such value, and
-/// `OutOfMemory` where memory was refused.
+/// `NoList` where the member is not a list, `NoItem` with the index of the first item that is not
+/// such a value, and `OutOfMemory` where memory was refused.
 pub fn numbered_list<T: FromDocument>(
     alloc: Global,
     value: &Value,

@@ -24,8 +24,8 @@ pub trait FromDocument: Drop {
         ensures { IfOk result (Finds (is_of (view value.now))) };
 }
 
-/// The value that a whole JSON document is, or `None` where the bytes are no document, or the
-/// document is no such value.
+/// A whole JSON document, read as a value, or `None` where the bytes are not a document or the
+/// document is not such a value.
 ///
 /// # Errors
 ///
@@ -39,7 +39,7 @@ pub fn from_bytes<T: FromDocument>(alloc: Global, bytes: &[u8]) -> Result<Option
     T::from_document(alloc, &value)
 }
 
-/// The value that the member of this name is, or `None` where it is missing or is no such value.
+/// The member of this name, read as a value, or `None` where it is missing or not such a value.
 ///
 /// # Errors
 ///
@@ -57,8 +57,8 @@ pub fn part<T: FromDocument>(
     }
 }
 
-/// The value that the member of this name is, `missing` where there is no such member, or `None`
-/// where the member is there and is no such value.
+/// The member of this name, read as a value; `missing` where there is no such member, and `None`
+/// where there is one that is not such a value.
 ///
 /// # Errors
 ///

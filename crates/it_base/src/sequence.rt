@@ -1,4 +1,4 @@
-//! A list of values, which contracts see as the list alone.
+//! A list of values, which contracts see as a plain list.
 ghost use Rattle.std.specs.Prelude.{◌≡◌, List, IfOk};
 ghost use Rattle.serde_json.specs.View.{view, items_view};
 ghost use Rattle.it_base.specs.Finds.{Finds};
@@ -9,7 +9,7 @@ use serde_json::Value;
 use std::alloc::{AllocError, Global};
 use std::marker::Model;
 
-/// Values in order, owned. A contract sees the list of them, and nothing else.
+/// An owned list of values. A contract sees the list of the values, and nothing else.
 #[derive(Drop)]
 pub struct Sequence<T> {
     items: Vec<T>,
@@ -50,7 +50,7 @@ impl<T> Sequence<T> {
 impl<T: FromDocument> FromDocument for Sequence<T> {
     ghost is_of = { IsList T.is_of };
 
-    /// The values that the items of a JSON list are, where the part is a list and each item is one.
+    /// The values of a JSON list's items, where the part is a list and each item is such a value.
     fn from_document(alloc: Global, value: &Value) -> Result<Option<Sequence<T>>, AllocError> {
         match value.as_array() {
             None => Ok(None),

@@ -43,7 +43,7 @@ impl<V> Model for Table<V> {
 impl<V> From<BTreeMap<String, V>> for Table<V> {
     ghost from_gives = { λ m t. t ≡ finite.from_entries (named_entries m.entries) };
 
-    /// The map as it is. Takes no memory.
+    /// The map, unchanged. Takes no memory.
     fn from(by_name: BTreeMap<String, V>) -> Table<V> {
         // The contract of `len` says that the names are in order.
         let _len = by_name.len();
@@ -52,7 +52,7 @@ impl<V> From<BTreeMap<String, V>> for Table<V> {
 }
 
 impl<V> Table<V> {
-    /// The empty map. It takes no memory; `alloc` serves the later calls of `insert`.
+    /// The empty map. It takes no memory; `alloc` is kept for later calls of `insert`.
     pub fn new(alloc: Global) -> Table<V>
         ensures { result ≡ finite.empty }
     {
@@ -92,7 +92,7 @@ impl<V> Table<V> {
 }
 
 impl<V: Drop> Table<V> {
-    /// Sets the value of a name, and answers the one that it had before.
+    /// Sets the value of a name, and returns the value that it had before, if any.
     ///
     /// # Errors
     ///
@@ -110,8 +110,8 @@ impl<V: Drop> Table<V> {
 impl<V: FromDocument> FromDocument for Table<V> {
     ghost is_of = { IsTable V.is_of };
 
-    /// The values that the members of a JSON object are, where the part is an object and each
-    /// member is one. A member whose value is null counts as missing.
+    /// The values of a JSON object's members, where the part is an object and each member is such a
+    /// value. A member whose value is null counts as missing.
     fn from_document(alloc: Global, value: &Value) -> Result<Option<Table<V>>, AllocError> {
         match value.as_object() {
             None => Ok(None),
@@ -120,8 +120,8 @@ impl<V: FromDocument> FromDocument for Table<V> {
     }
 }
 
-/// Reads one member after another, and makes the map of all of them at once, since their names are
-/// in order already.
+/// Reads the members one by one, and builds the map from all of them at once, since their names are
+/// already in order.
 fn read_members<V: FromDocument>(
     alloc: Global,
     members: &Map<String, Value>,
@@ -141,7 +141,7 @@ fn read_members<V: FromDocument>(
     Ok(Some(Table::from(map_of(alloc, named)?)))
 }
 
-/// The map of some values under names.
+/// The map from these names to their values.
 fn map_of<V: Drop>(
     alloc: Global,
     named: Vec<(String, V)>,

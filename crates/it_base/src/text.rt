@@ -11,7 +11,7 @@ use serde_json::Value;
 use std::alloc::{AllocError, Global};
 use std::marker::Model;
 
-/// A text that is owned. A contract sees the list of its bytes in UTF-8, and nothing else of it.
+/// An owned text. A contract sees the list of its bytes in UTF-8, and nothing else.
 #[derive(Drop)]
 pub struct Text {
     text: String,
@@ -33,7 +33,7 @@ impl From<String> for Text {
 }
 
 impl Text {
-    /// A copy of a text, in memory of `alloc`.
+    /// A copy of a text, in memory from `alloc`.
     ///
     /// # Errors
     ///

@@ -11,7 +11,7 @@ use std::collections::BTreeMap;
 use std::collections::btree_map::Iter;
 use std::marker::Model;
 
-/// A JSON value as parameters are compared.
+/// A JSON value, in the form in which parameters are compared.
 #[cycle(tree)]
 #[derive(Drop)]
 pub enum Tree {
@@ -27,7 +27,7 @@ pub enum Tree {
     Items(Trees),
     /// An object.
     Members(Members),
-    /// Any other number, as `1.0`. It equals nothing, itself included.
+    /// Any other number, such as `1.0`. It equals nothing, not even itself.
     Other,
 }
 
@@ -88,7 +88,7 @@ impl Model for Members {
 }
 
 impl Tree {
-    /// Whether both trees are equal by parts: `Other` equals nothing, not even itself. Takes no
+    /// Whether the trees are equal part by part; `Other` equals nothing, not even itself. Takes no
     /// memory.
     #[cycle(equals)]
     pub fn equals(&self, other: &Tree) -> bool
@@ -133,7 +133,7 @@ impl From<Vec<Tree>> for Trees {
 impl From<BTreeMap<String, Tree>> for Members {
     ghost from_gives = { λ m ms. ms ≡ fields_view m.entries };
 
-    /// The map as it is. Takes no memory.
+    /// The map, unchanged. Takes no memory.
     fn from(by_name: BTreeMap<String, Tree>) -> Members {
         Members { by_name }
     }

@@ -1,4 +1,4 @@
-//! The reading of trees of parameters (SLSA Provenance v1, `externalParameters`; a policy's
+//! Reading trees of parameters (SLSA Provenance v1, `externalParameters`; a policy's
 //! `parameters`).
 ghost use Rattle.std.specs.Prelude.{◌≡◌, IfOk};
 ghost use Rattle.serde_json.specs.View.{view, items_view as parts_view, members_view, number_view};

@@ -9,12 +9,12 @@ use std::io::Write;
 #[derive(Clone, Copy, Debug, PartialEq, Eq)]
 pub struct WriteError;
 
-/// Writes all of the bytes, in as many writes as the writer needs. No write is tried again, and no
-/// bytes make no write.
+/// Writes all of the bytes, in as many writes as the writer needs. No write is retried, and where
+/// there are no bytes there is no write.
 ///
 /// # Errors
 ///
-/// `WriteError` at the first write that returns an error or 0; part of the bytes may have been
+/// `WriteError` at the first write that returns an error or 0; some of the bytes may have been
 /// written.
 pub fn write_all_of<W: Write>(out: &mut W, bytes: &[u8]) -> Result<(), WriteError>
     ensures ok { OnOk result (Appends (W.contents out.old) (W.contents out.new) bytes.now) }

@@ -1,4 +1,4 @@
--- Bundles in which the same counts (a word of this project; no standard speaks of it).
+-- Bundles in which the same bodies count (specific to this project; no standard covers it).
 use Rattle.std.specs.Prelude.{◌≡◌, ℕ, zero, suc, ◌↔◌, List, Contains, ⊤}
 use Rattle.it_docs.specs.Layout.{LayoutOf}
 use Rattle.it_docs.specs.declared.layout.Layout.{Layout}
@@ -29,8 +29,8 @@ FoldersCompare sub setting layout bundle other =
     → Counted setting layout bundle step id payload → LayoutOf payload sublayout
     → sub sublayout (folder_of step.name id bundle) (folder_of step.name id other)
 
--- what counts in the first bundle counts in the second, and the folders of each sublayout among it
--- compare as given
+-- what counts in the first bundle counts in the second, and the folders of each sublayout that
+-- counts compare as given
 pub record LevelWithin (sub : Comparing) (setting : Setting) (layout : Layout)
     (bundle other : Contents) : Type 0 where
   pub bodies : (step : Step) (id payload : List ℕ) → Contains layout.steps step
@@ -42,7 +42,7 @@ abbrev pub ChainWithin : Setting → ℕ → Comparing
 ChainWithin setting zero = LevelWithin any_two setting
 ChainWithin setting (suc depth) = LevelWithin (ChainWithin setting depth) setting
 
--- the same counts in both bundles, down to a depth of sublayouts
+-- the same bodies count in both bundles, down to a depth of sublayouts
 abbrev pub ChainAlike : Setting → ℕ → Comparing
 ChainAlike setting depth layout bundle other =
     ChainWithin setting depth layout bundle other × ChainWithin setting depth layout other bundle
@@ -52,7 +52,7 @@ abbrev pub deeper_alike : Setting → ℕ → Comparing
 deeper_alike setting zero = any_two
 deeper_alike setting (suc depth) = ChainAlike setting depth
 
--- a file's bytes stand in a bundle under a name that is claimed for a step
+-- a bundle has a file with the same bytes under a name that is claimed for a step
 pub record HasCopy (bundle : Contents) (step : Step) (file : File) : Type 0 where
   pub copy : File
   pub stands : Contains (files_of bundle) copy
@@ -65,7 +65,7 @@ HasCopies setting layout bundle other =
     (step : Step) (id payload : List ℕ) → Contains layout.steps step
     → (counted : Counted setting layout bundle step id payload) → HasCopy other step counted.file
 
--- a layout has one outcome in two settings, each over its bundle: the same records, the same
+-- a layout has the same outcome in two settings, each with its bundle: the same records, the same
 -- first failure, and in each step the same number of different keys
 pub record HasSameOutcome (depth : ℕ) (layout : Layout) (setting : Setting) (bundle : Contents)
     (another : Setting) (other : Contents) : Type 0 where

@@ -1,5 +1,5 @@
--- Panels of checks that are alike on the keys which a layout can ask for (a word of this project;
--- no standard speaks of it).
+-- Panels of checks that are alike on the keys that a layout can ask for (specific to this project;
+-- no standard covers it).
 use Rattle.std.specs.Prelude.{◌≡◌, ◌↔◌, ℕ, zero, suc, List, Some, IsTrue}
 use Rattle.std.specs.FinMap.{get}
 use Rattle.it_base.specs.Table.{Named}
@@ -25,8 +25,8 @@ pub record IsOneKey (panel : Panel) (id : List ℕ) (object : KeyObject) (other 
   pub first : panel.key_of id object ≡ Some key
   pub second : panel.key_of other another ≡ Some key
 
--- two panels are alike on key objects: they take the same signatures as valid for each, and the
--- same two for one key, whatever numbers they give the keys
+-- two panels are alike on key objects: they accept the same signatures for each, and take the same
+-- pairs for one key, whatever numbers they give the keys
 pub record PanelsAlike (panel other : Panel) (objects : Named KeyObject) : Type 0 where
   pub valid : (id : List ℕ) (object : KeyObject) (message sig : List ℕ)
       → get objects id ≡ Some object
@@ -35,8 +35,8 @@ pub record PanelsAlike (panel other : Panel) (objects : Named KeyObject) : Type 
       → get objects id ≡ Some object → get objects second ≡ Some another
       → IsOneKey panel id object second another ↔ IsOneKey other id object second another
 
--- they are alike on the keys of a layout, and on those of each sublayout that counts by the first,
--- as deep as sublayouts may lie
+-- two panels are alike on the keys of a layout, and on those of each sublayout that counts with the
+-- first panel, down to a depth of sublayouts
 abbrev pub PanelsAlikeOver : Panel → Panel → ℕ → Layout → Contents → Type 0
 PanelsAlikeOver panel other zero layout bundle = PanelsAlike panel other layout.keys
 PanelsAlikeOver panel other (suc depth) layout bundle = PanelsAlike panel other layout.keys

@@ -1,4 +1,4 @@
--- Every file of a bundle, at every depth (a word of this project).
+-- Every file of a bundle, at every depth (specific to this project).
 use Rattle.std.specs.Prelude.{List, [], ◌++◌}
 use Rattle.it_chain.specs.Contents.{Contents, contents_of, Folders, no_folders, folder}
 use Rattle.it_chain.specs.declared.bundle.File.{File}

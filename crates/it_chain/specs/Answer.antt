@@ -1,5 +1,5 @@
--- Deciding functions, beside the definitions: the result of a layout over a bundle, of one level
--- with its sublayouts' answers given, and then of every depth. Nothing that is trusted stands here.
+-- Deciding functions to match the definitions: the result of a layout over a bundle, for one level
+-- given the answers of its sublayouts, and then for every depth. Nothing here is trusted.
 use Rattle.std.specs.Prelude.{ℕ, zero, suc, List, [], ◌∷◌, map, filter, if◌then◌else◌, Option, Some}
 use Rattle.std.specs.Prelude.{None, option_map, Result, Ok, Err, nat_lt, codes}
 use Rattle.std.specs.Int.RustNames.{int_lt}
@@ -63,29 +63,29 @@ signers layout step =
 abbrev pub Answering : Type 0
 Answering = Layout → Contents → Result (List StepResult) ChainRefusal
 
--- a link where it bears the step's name, and else what else there is
+-- the link if it has the step's name, otherwise the other body
 abbrev pub link_or : Step → Option Link → Option Body → Option Body
 link_or step None other = other
 link_or step (Some link) other = if bytes_eq link.name step.name then Some (of_link link) else other
 
--- whether the payloads are all one
+-- no body, one where all the payloads are equal, or several
 abbrev pub bodies_in : List (List ℕ × Body) → Bodies
 bodies_in [] = no_body
 bodies_in (first ∷ others) =
     if list_all (λ other. bytes_eq other.0 first.0) others then one_body first.1 else several
 
--- the records of a list of ids, from those of its first and of the others
+-- the record of an id, if it has one, before those of the ids after it
 abbrev pub with_record : Option IdRecord → List IdRecord → List IdRecord
 with_record None records = records
 with_record (Some r) records = r ∷ records
 
--- a rule that fails
+-- the answer for a rule that fails, or for none
 abbrev pub fault_answer : Step → Side → Option (ℕ × List ℕ) → Result (Unit {0}) ChainRefusal
 fault_answer step side None = Ok tt
 fault_answer step side (Some fault) =
     Err (here (RuleFailed (of_step step.name) side fault.0 fault.1))
 
--- no sublayout
+-- the answer for a sublayout that is too deep
 abbrev pub no_deeper : Answering
 no_deeper layout bundle = Err (here TooDeep)
 
@@ -119,12 +119,12 @@ module _ (lower : Lower) (setting : Setting) where
       (filter_map (λ file. lower.envelope_of file.bytes)
       (filter (λ file. lower.is_claimed step.name file.name) (files_of bundle)))
 
-  -- what a payload is for a step
+  -- the body that a payload is for a step, if any
   abbrev pub body_of : Step → List ℕ → Option Body
   body_of step payload =
       link_or step (lower.link_of payload) (option_map of_layout (lower.layout_of payload))
 
-  -- the payloads that count for an id whose key has this number, with what they are
+  -- the payloads that count for an id whose key has this number, each with its body
   abbrev pub payloads_for : Step → Contents → List ℕ → KeyNumber → List (List ℕ × Body)
   payloads_for step bundle id key =
       filter_map
@@ -195,7 +195,7 @@ module _ (lower : Lower) (setting : Setting) where
       side_answer links step result Materials >>= λ _.
       side_answer links step result Products >>= λ _. rules_answer links steps results
 
-  -- a level, its sublayouts' answers given
+  -- a level, given the answers of its sublayouts
   unfoldable pub level_answer : Answering → Answering
   level_answer sub layout bundle =
       if int_lt layout.expires setting.moment then Err (here Expired)

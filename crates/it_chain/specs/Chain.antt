@@ -1,4 +1,4 @@
--- When a layout holds of a bundle, down to a depth of sublayouts (in-toto 1.0 section 5.2,
+-- When a layout holds for a bundle, down to a depth of sublayouts (in-toto 1.0 section 5.2,
 -- verifying the final product, with its recursion into sublayouts; the bound is this profile's
 -- choice).
 use Rattle.std.specs.Prelude.{ℕ, zero, suc}
@@ -9,8 +9,8 @@ use Rattle.it_chain.specs.Level.{Holding, LevelHolds}
 abbrev pub none_holds : Holding
 none_holds layout bundle results = ⊥
 
--- a layout holds of a bundle with these records: at depth 0 without a sublayout, and at each
--- further depth with sublayouts that hold in the same sense at one depth less
+-- a layout holds for a bundle with these records: at depth 0 without sublayouts, and at each
+-- greater depth with sublayouts that hold in the same sense at one depth less
 abbrev pub Chain : Setting → ℕ → Holding
 Chain setting zero = LevelHolds none_holds setting
 Chain setting (suc depth) = LevelHolds (Chain setting depth) setting

@@ -1,5 +1,5 @@
 -- Which files are claimed for a step by their names (in-toto 1.0 section 4.4, names of link files;
--- what stands between is this profile's choice).
+-- the middle part is this profile's choice).
 use Rattle.std.specs.Prelude.{◌≡◌, ◌≢◌, ℕ, List, [], ◌++◌, codes, Contains}
 use Rattle.it_dsse.specs.Envelope.{EnvelopeOf}
 use Rattle.it_dsse.specs.declared.envelope.Envelope.{Envelope}

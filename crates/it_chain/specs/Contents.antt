@@ -1,5 +1,5 @@
--- What a bundle holds: files, and folders that hold the same (this profile's choice; in-toto 1.0
--- leaves to its users how metadata is stored).
+-- What a bundle holds: files, and folders that are bundles themselves (this profile's choice;
+-- in-toto 1.0 leaves to its users how metadata is stored).
 use Rattle.std.specs.Prelude.{ℕ, List, [], ◌∷◌, ◌++◌, Option, Some, None}
 use Rattle.std.specs.Ordering.{nat_cmp, match_ordering}
 use Rattle.std.specs.Cmp.Lexicographic.{slice_cmp}
@@ -21,7 +21,7 @@ empty = contents_of [] no_folders
 abbrev pub files_of : Contents → List File
 files_of (contents_of files below) = files
 
--- the same with one file more
+-- the contents with one more file
 abbrev pub with_file : File → Contents → Contents
 with_file file (contents_of files below) = contents_of (files ++ file ∷ []) below
 
@@ -35,13 +35,13 @@ folder_in name (folder other inner rest) =
 abbrev pub folder_at : List ℕ → Contents → Option Contents
 folder_at name (contents_of files below) = folder_in name below
 
--- the folders with one more in its place
+-- the folders with one put in its place
 abbrev pub put : List ℕ → Contents → Folders → Folders
 put name added no_folders = folder name added no_folders
 put name added (folder other inner rest) =
     match_ordering (slice_cmp nat_cmp name other) (folder name added (folder other inner rest))
     (folder other added rest) (folder other inner (put name added rest))
 
--- the same with one folder more
+-- the contents with one folder put in
 abbrev pub with_folder : List ℕ → Contents → Contents → Contents
 with_folder name added (contents_of files below) = contents_of files (put name added below)

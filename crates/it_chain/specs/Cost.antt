@@ -1,5 +1,5 @@
--- How many checks of validity a layout over a bundle may ask for (a word of this project; no
--- standard speaks of it).
+-- How many validity checks a layout over a bundle may ask for (specific to this project; no
+-- standard covers it).
 use Rattle.std.specs.Prelude.{◌≡◌, ◌≢◌, ◌↔◌, ℕ, zero, suc, ◌+◌, ◌*◌, List, length, AllPairs}
 use Rattle.std.specs.Prelude.{Contains}
 use Rattle.std.specs.Set.{distinct_count}
@@ -30,7 +30,7 @@ FileHas step file =
     CostsIfFound
     (λ envelope. IsClaimed step.name file.name × EnvelopeOf file.bytes envelope) HasSignatures
 
--- a key id and a sublayout's bytes that count for it
+-- these bytes count for a key id and read as a sublayout
 pub record IsSublayout (setting : Setting) (layout : Layout) (bundle : Contents) (step : Step)
     (id payload : List ℕ) : Type 0 where
   pub sublayout : Layout
@@ -48,7 +48,7 @@ module _ (sub : Costing) (setting : Setting) (layout : Layout) (bundle : Content
         (λ body. CostsIfFound (LayoutOf body.1)
         (λ sublayout. sub sublayout (folder_of step.name body.0 bundle))) bodies n
 
-  -- a step costs a check for each of its ids and each signature, and what its sublayouts cost
+  -- a step costs one check per id and signature, plus what its sublayouts cost
   pub record StepCosts (step : Step) (n : ℕ) : Type 0 where
     pub signatures : ℕ
     pub sublayouts : ℕ

@@ -1,5 +1,5 @@
 -- What counts for a step of a layout (in-toto 1.0 section 5.2, verifying the final product), as
--- sets of bodies: order, repeats and names of files have no part in it.
+-- sets of bodies: file order, repeats and the choice among claimed names do not matter.
 use Rattle.std.specs.Prelude.{◌≡◌, ℕ, ℤ, List, Some, Contains}
 use Rattle.std.specs.FinMap.{get}
 use Rattle.it_dsse.specs.Panel.{KeyNumber, Panel}
@@ -28,7 +28,7 @@ pub data Body : Type 0 where
   of_link : Link → Body
   of_layout : Layout → Body
 
--- the bytes are this body for a step: a link that bears the step's name, or a layout
+-- the bytes are this body for a step: a link that has the step's name, or a layout
 abbrev pub BodyOf : List ℕ → List ℕ → Body → Type 0
 BodyOf step bytes (of_link link) = LinkOf bytes link × (link.name ≡ step)
 BodyOf step bytes (of_layout layout) = LayoutOf bytes layout

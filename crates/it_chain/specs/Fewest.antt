@@ -1,5 +1,5 @@
--- How many checks of validity a layout that holds of a bundle asks for at the least (a word of this
--- project; no standard speaks of it).
+-- How many validity checks a layout that holds for a bundle asks for at least (specific to this
+-- project; no standard covers it).
 use Rattle.std.specs.Prelude.{◌≡◌, ℕ, zero, suc, ◌+◌}
 use Rattle.it_base.specs.Sum.{IsSum}
 use Rattle.it_docs.specs.declared.layout.Layout.{Layout}
@@ -9,7 +9,7 @@ use Rattle.it_chain.specs.Cost.{Costing, SublayoutsCost, no_cost}
 use Rattle.it_chain.specs.CountedBodies.{Setting}
 use Rattle.it_chain.specs.Threshold.{Found}
 
--- a step takes a check for each different key that signed what counts for it, and what its
+-- a step takes one check for each different key that signed what counts for it, plus what its
 -- sublayouts take
 pub record StepFewest (sub : Costing) (setting : Setting) (layout : Layout) (bundle : Contents)
     (step : Step) (n : ℕ) : Type 0 where
@@ -22,7 +22,7 @@ pub record StepFewest (sub : Costing) (setting : Setting) (layout : Layout) (bun
 abbrev pub LevelFewest : Costing → Setting → Costing
 LevelFewest sub setting layout bundle = IsSum (StepFewest sub setting layout bundle) layout.steps
 
--- what a layout over a bundle takes at the least, down to a depth of sublayouts
+-- what a layout over a bundle takes at least, down to a depth of sublayouts
 abbrev pub ChainFewest : Setting → ℕ → Costing
 ChainFewest setting zero = LevelFewest no_cost setting
 ChainFewest setting (suc depth) = LevelFewest (ChainFewest setting depth) setting

@@ -1,5 +1,5 @@
--- The failure of a layout over a bundle: the one at the first place at which something stands (the
--- order is this profile's choice).
+-- The failure of a layout over a bundle: the one at the first place that has a failure (the order
+-- is this profile's choice).
 use Rattle.std.specs.Prelude.{◌≡◌, ◌≢◌, ◌⊎◌, ℕ, zero, suc, ◌<◌, List, [], ◌∷◌, ◌++◌, map, flat_map}
 use Rattle.std.specs.Prelude.{zip, Contains}
 use Rattle.std.specs.List.{AllZip}
@@ -32,7 +32,7 @@ use Rattle.it_chain.specs.declared.refusal.ChainRefusal.{ChainRefusal}
 use Rattle.it_chain.specs.declared.refusal.RuleItem.TheVariants.{Step as of_step}
 use Rattle.it_chain.specs.Expiry.{IsExpired}
 
--- a fault of the layout itself
+-- the refusal for a fault of the layout itself
 abbrev pub here : ChainFault → ChainRefusal
 here fault = record { at = []; fault = fault }
 
@@ -66,7 +66,7 @@ abbrev pub places : Layout → List ChainPlace
 places layout =
     at_expiry ∷ flat_map (step_places layout) layout.steps ++ flat_map rule_places layout.steps
 
--- one text stands before another in the order of their bytes
+-- one text comes before another in the order of their bytes
 abbrev pub IsBefore : List ℕ → List ℕ → Type 0
 IsBefore a b = slice_cmp nat_cmp a b ≡ Less
 
@@ -96,7 +96,7 @@ module _ (sub : Holding) (fails : Failing) (setting : Setting) (layout : Layout)
     pub is_found : Found setting layout bundle step found
     pub below : found < step.threshold
 
-  -- a key id is the least whose record is not that of the least id which has one
+  -- a key id is the least whose record differs from that of the least id that has one
   pub record IsLeastOther (step : Step) (id : List ℕ) : Type 0 where
     pub least : List ℕ
     pub expected : Recorded
@@ -110,8 +110,8 @@ module _ (sub : Holding) (fails : Failing) (setting : Setting) (layout : Layout)
         → HasRecord sub setting layout bundle step other recorded → IsBefore other id
         → recorded ≡ expected
 
-  -- over the records with which the steps hold, a step's rules on a side fail, first the one at
-  -- this index, with this path
+  -- over the records with which the steps hold, a step's rules on a side fail; the first to fail is
+  -- the one at this index, with this path
   pub record RulesFail (step : Step) (side : Side) (index : ℕ) (path : List ℕ) : Type 0 where
     pub results : List StepResult
     pub result : StepResult
@@ -120,7 +120,7 @@ module _ (sub : Holding) (fails : Failing) (setting : Setting) (layout : Layout)
     pub fault : IsFirstFault (rules_on side step) side (recorded_in result)
         (links_in results) index path
 
-  -- what stands at a place
+  -- a failure at a place
   abbrev pub StandsInChain : ChainPlace → ChainRefusal → Type 0
   StandsInChain at_expiry refusal = IsExpired setting layout × (refusal ≡ here Expired)
   StandsInChain (at_id step id) refusal =
@@ -139,12 +139,12 @@ abbrev pub LevelFails : Holding → Failing → Setting → Failing
 LevelFails sub fails setting layout bundle refusal =
     IsFirst (StandsInChain sub fails setting layout bundle) (places layout) refusal
 
--- a sublayout that is one too deep fails for that alone
+-- a sublayout that is one level too deep fails for that alone
 abbrev pub too_deep : Failing
 too_deep layout bundle refusal = refusal ≡ here TooDeep
 
--- a sublayout with inspections fails for that alone (this profile's choice), any other as it does
--- itself
+-- a sublayout with inspections fails for that alone (this profile's choice); any other fails with
+-- its own failure
 abbrev pub uninspected : Failing → Failing
 uninspected fails layout bundle refusal =
     ((layout.inspections ≢ []) × (refusal ≡ here InspectionInSublayout))

@@ -1,4 +1,4 @@
--- What is shown of these definitions.
+-- What is proved about these definitions.
 use Rattle.std.specs.Prelude.{◌≡◌, ◌⊎◌, ℕ, suc, ◌≤◌, List, MatchResult}
 use Rattle.std.specs.List.{AllZip}
 use Rattle.it_docs.specs.declared.layout.Layout.{Layout}
@@ -23,47 +23,47 @@ use Rattle.it_chain.specs.declared.refusal.ChainFault.TheVariants.{InspectionInS
 use Rattle.it_chain.specs.declared.refusal.ChainFault.TheVariants.{RuleFailed}
 use Rattle.it_chain.specs.declared.refusal.ChainRefusal.{ChainRefusal}
 
--- the number of different keys is one number
+-- the number of different keys is unique
 abbrev pub FoundIsOne : Type 0
 FoundIsOne =
     (setting : Setting) (layout : Layout) (bundle : Contents) (step : Step) (m n : ℕ)
     → Found setting layout bundle step m → Found setting layout bundle step n → m ≡ n
 
--- a layout holds of a bundle with one list of records at most
+-- a layout holds for a bundle with at most one list of records
 abbrev pub ChainIsOne : Type 0
 ChainIsOne =
     (setting : Setting) (depth : ℕ) (layout : Layout) (bundle : Contents) (m n : List StepResult)
     → Chain setting depth layout bundle m → Chain setting depth layout bundle n → m ≡ n
 
--- a layout that holds of a bundle has no failure over it
+-- a layout that holds for a bundle has no failure over it
 abbrev pub ChainOrFirst : Type 0
 ChainOrFirst =
     (setting : Setting) (depth : ℕ) (layout : Layout) (bundle : Contents) (m : List StepResult)
     (refusal : ChainRefusal)
     → Chain setting depth layout bundle m → ¬ FirstChainFailure setting depth layout bundle refusal
 
--- a layout has one first failure over a bundle at most
+-- a layout has at most one first failure over a bundle
 abbrev pub FirstIsOne : Type 0
 FirstIsOne =
     (setting : Setting) (depth : ℕ) (layout : Layout) (bundle : Contents) (a b : ChainRefusal)
     → FirstChainFailure setting depth layout bundle a
     → FirstChainFailure setting depth layout bundle b → a ≡ b
 
--- a layout that holds of a bundle holds of it with the same records at every greater depth
+-- a layout that holds for a bundle holds for it with the same records at every greater depth
 abbrev pub ChainGoesDeeper : Type 0
 ChainGoesDeeper =
     (setting : Setting) (depth : ℕ) (layout : Layout) (bundle : Contents) (m : List StepResult)
     → Chain setting depth layout bundle m → Chain setting (suc depth) layout bundle m
 
--- over bundles that are alike a layout has one outcome
+-- a layout has the same outcome over bundles that are alike
 abbrev pub AlikeChains : Type 0
 AlikeChains =
     (setting : Setting) (depth : ℕ) (layout : Layout) (bundle other : Contents)
     → ChainAlike setting depth layout bundle other
     → HasSameOutcome depth layout setting bundle setting other
 
--- checked by panels that are alike on its keys, and on those of the sublayouts that count, a layout
--- has one outcome
+-- a layout has the same outcome with panels that are alike on its keys, and on those of the
+-- sublayouts that count
 abbrev pub AlikePanelChains : Type 0
 AlikePanelChains =
     (setting another : Setting) (depth : ℕ) (layout : Layout) (bundle : Contents)
@@ -71,7 +71,7 @@ AlikePanelChains =
     → PanelsAlikeOver setting.panel another.panel depth layout bundle
     → HasSameOutcome depth layout setting bundle another bundle
 
--- bundles are alike that have copies of each other's files that count, whatever else is in them, if
+-- bundles that have copies of each other's files that count are alike, whatever else is in them, if
 -- the folders of sublayouts are alike
 abbrev pub NoiseIsAlike : Type 0
 NoiseIsAlike =
@@ -87,7 +87,7 @@ pub record IsNoMore (result before : StepResult) : Type 0 where
   pub products : result.products ≡ before.products
   pub keys : result.keys ≤ before.keys
 
--- too few different keys signed
+-- the fault is that too few different keys signed
 abbrev pub IsThresholdFault : ChainFault → Type 0
 IsThresholdFault (Threshold step found needed) = Unit {0}
 IsThresholdFault Expired = ⊥
@@ -97,8 +97,8 @@ IsThresholdFault (Disagree step id) = ⊥
 IsThresholdFault InspectionInSublayout = ⊥
 IsThresholdFault (RuleFailed item side index path) = ⊥
 
--- where a layout holds of a bundle, it comes over another one to the same records with no more
--- different keys, or fails at a threshold
+-- where a layout holds for a bundle, over another it has the same records with no more different
+-- keys, or fails at a threshold
 pub record ChainOnlyWithholds (setting : Setting) (depth : ℕ) (layout : Layout)
     (other bundle : Contents) : Type 0 where
   pub chain : (results before : List StepResult) → Chain setting depth layout other results
@@ -107,15 +107,15 @@ pub record ChainOnlyWithholds (setting : Setting) (depth : ℕ) (layout : Layout
       → FirstChainFailure setting depth layout other refusal
       → Chain setting depth layout bundle before → IsThresholdFault refusal.fault
 
--- who takes away what counts can only withhold
+-- removing what counts can only withhold
 abbrev pub WithheldChains : Type 0
 WithheldChains =
     (setting : Setting) (depth : ℕ) (layout : Layout) (other bundle : Contents)
     → ChainWithin setting depth layout other bundle
     → ChainOnlyWithholds setting depth layout other bundle
 
--- the deciding function, where what it asks of the crates below answers right, answers the records
--- with which a layout holds of a bundle, or else its first failure
+-- if what it asks of the crates below answers correctly, the deciding function gives the records
+-- with which a layout holds for a bundle, or its first failure
 abbrev pub AnswerIsRight : Type 0
 AnswerIsRight =
     (lower : Lower) → AnswersRight lower
@@ -123,7 +123,7 @@ AnswerIsRight =
     → MatchResult (answer lower setting depth layout bundle) (Chain setting depth layout bundle)
     (FirstChainFailure setting depth layout bundle)
 
--- functions that answer right stand ready for the crates below
+-- functions exist that answer correctly for the crates below
 abbrev pub SomeAnswersRight : Type 0
 SomeAnswersRight = (lower : Lower) × AnswersRight lower
 
@@ -146,7 +146,7 @@ CostIsOne =
     (setting : Setting) (depth : ℕ) (layout : Layout) (bundle : Contents) (m n : ℕ)
     → ChainCosts setting depth layout bundle m → ChainCosts setting depth layout bundle n → m ≡ n
 
--- a layout over a bundle takes some number of checks at the least
+-- there is a least number of checks that a layout over a bundle takes
 abbrev pub HasFewest : Type 0
 HasFewest =
     (setting : Setting) (depth : ℕ) (layout : Layout) (bundle : Contents) → (n : ℕ)

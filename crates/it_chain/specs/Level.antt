@@ -1,4 +1,4 @@
--- When one layout holds of a bundle, given the results of its sublayouts (in-toto 1.0 section 5.2,
+-- When one layout holds for a bundle, given the results of its sublayouts (in-toto 1.0 section 5.2,
 -- verifying the final product).
 use Rattle.std.specs.Prelude.{◌≡◌, ℕ, ◌≤◌, List, []}
 use Rattle.std.specs.List.{AllZip}
@@ -14,11 +14,11 @@ use Rattle.it_chain.specs.Summary.{summary}
 use Rattle.it_chain.specs.StepRules.{recorded_in, links_in, StepRulesHold}
 use Rattle.it_chain.specs.Expiry.{IsExpired}
 
--- which layouts hold of which bundles, and with which records of their steps
+-- which layouts hold for which bundles, and with which records of their steps
 abbrev pub Holding : Type 1
 Holding = Layout → Contents → List StepResult → Type 0
 
--- a body of a key id yields these artifacts: a link what it records, a sublayout without
+-- a body of a key id yields these artifacts: a link yields what it records, a sublayout without
 -- inspections the summary of its steps over its own folder
 abbrev pub Records : Holding → Contents → List ℕ → List ℕ → Body → Recorded → Type 0
 Records sub bundle step id (of_link link) recorded =
@@ -37,8 +37,8 @@ module _ (sub : Holding) (setting : Setting) (layout : Layout) (bundle : Content
     pub records : Records sub bundle step.name id body recorded
 
   -- a step holds with this record: no id has two bodies, each body that counts yields the record,
-  -- and enough different keys signed (that all agree, also beyond the threshold, is this profile's
-  -- choice)
+  -- and enough different keys signed (that all must agree, even beyond the threshold, is this
+  -- profile's choice)
   pub record StepHolds (step : Step) (result : StepResult) : Type 0 where
     pub name : result.name ≡ step.name
     pub one_body : (id payload other : List ℕ) → Counted setting layout bundle step id payload

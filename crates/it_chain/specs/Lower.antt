@@ -1,5 +1,5 @@
--- Deciding functions, beside the definitions: what the crates below answer, as functions. Nothing
--- that is trusted stands here.
+-- Deciding functions to match the definitions: what the crates below answer, as functions. Nothing
+-- here is trusted.
 use Rattle.std.specs.Prelude.{◌≡◌, ◌↔◌, ℕ, List, Bool, Option, IsTrue, MatchOption}
 use Rattle.it_base.specs.Finds.{Finds}
 use Rattle.it_dsse.specs.Envelope.{EnvelopeOf}

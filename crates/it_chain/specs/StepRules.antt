@@ -22,7 +22,7 @@ abbrev pub rules_on : Side → Step → List Rule
 rules_on Materials step = step.expected_materials
 rules_on Products step = step.expected_products
 
--- the rules of a step hold of its record on both sides
+-- the rules of a step hold for its record on both sides
 pub record StepRulesHold (links : Links) (step : Step) (result : StepResult) : Type 0 where
   pub materials : RulesHold step.expected_materials Materials (recorded_in result) links
   pub products : RulesHold step.expected_products Products (recorded_in result) links

@@ -28,8 +28,8 @@ folder_name step id = step ++ codes "." ++ first_characters 8 id
 abbrev pub folder_of : List ℕ → List ℕ → Contents → Contents
 folder_of step id bundle = unwrap_or (folder_at (folder_name step id) bundle) empty
 
--- who signed what: of which envelopes, objects and ids it holds that the object's key under the id
--- signed the envelope
+-- who signed what: for which envelope, object and id the object's key under the id signed the
+-- envelope
 abbrev pub Signing : Type 1
 Signing = Envelope → KeyObject → List ℕ → Type 0
 

@@ -1,5 +1,5 @@
 -- How many different keys signed what counts for a step (in-toto 1.0 section 5.2, the threshold of
--- a step; that keys are counted and not their ids is this profile's choice).
+-- a step; that keys and not their ids are counted is this profile's choice).
 use Rattle.std.specs.Prelude.{◌≡◌, ◌↔◌, ℕ, List, length, Bool, ◌&&◌, nat_eq, Contains}
 use Rattle.std.specs.List.{IsDistinct}
 use Rattle.it_dsse.specs.Panel.{KeyNumber}
@@ -20,7 +20,7 @@ pub record KeyCounts (setting : Setting) (layout : Layout) (bundle : Contents) (
   pub counted : Counted setting layout bundle step id payload
   pub key_is : counted.key ≡ key
 
--- the number of different keys that signed bodies which count for a step: the length of a list that
+-- the number of different keys that signed a body that counts for a step: the length of a list that
 -- has each of these keys once, and no other
 pub record Found (setting : Setting) (layout : Layout) (bundle : Contents) (step : Step)
     (found : ℕ) : Type 0 where

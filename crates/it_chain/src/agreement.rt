@@ -1,4 +1,4 @@
-//! Whether the records of a step agree (that all must is this profile's choice).
+//! Whether all records of a step agree (that they must is this profile's choice).
 ghost use Rattle.std.specs.Prelude.{◌≡◌, ◌↔◌, IsTrue, MatchResult};
 ghost use Rattle.std.specs.List.{AllByRecursion};
 ghost use Rattle.it_chain.specs.inside.Agreement.{IsAgreed, IsDisagreed};
@@ -11,7 +11,7 @@ use it_base::text::Text;
 use it_docs::step::Step;
 use std::alloc::Global;
 
-/// The record of a step, where all the others are the same as the first.
+/// The record of a step, if all the other records equal the first.
 pub(crate) fn agreed(
     alloc: Global,
     step: &Step,
@@ -30,7 +30,7 @@ pub(crate) fn agreed(
     })
 }
 
-/// Checks that all the others are the same as the first record of a step.
+/// Checks that all the other records of a step equal the first.
 fn check_others(
     alloc: Global,
     step: &Step,

@@ -11,15 +11,14 @@ use std::marker::Model;
 /// A file of a bundle: its name inside its folder, and its bytes.
 #[derive(Drop)]
 pub struct File {
-    /// The name, without a folder before it.
+    /// The name, without a folder prefix.
     pub name: Text,
     /// All of the file's bytes.
     pub bytes: Sequence<u8>,
 }
 
-/// Files in the order in which they were added, whose names may repeat, and folders under names
-/// that differ, each of which is a bundle. A contract sees both, the folders in the order of their
-/// names' bytes.
+/// Files in the order they were added, whose names may repeat, and folders with distinct names,
+/// each itself a bundle. A contract sees both, the folders in the order of their names' bytes.
 #[derive(Drop)]
 pub struct Bundle {
     files: Vec<File>,
@@ -29,7 +28,7 @@ pub struct Bundle {
 /// Why a folder was not added.
 #[derive(Drop)]
 pub enum BundleFault {
-    /// A folder of that name is there. The folder that was to be added is returned as it was.
+    /// A folder of that name exists. The folder that was to be added is returned unchanged.
     NameTaken(Bundle),
     /// Memory was refused.
     OutOfMemory,
@@ -59,7 +58,7 @@ impl Bundle {
     ghost use Rattle.it_chain.specs.Contents.{Contents, empty, files_of, with_file, with_folder};
     ghost use Rattle.it_chain.specs.Contents.{folder_at};
 
-    /// A bundle without files and folders. Takes no memory.
+    /// A bundle without files or folders. Takes no memory.
     pub fn new(alloc: Global) -> Bundle
         ensures { result ≡ empty }
     {
@@ -69,11 +68,11 @@ impl Bundle {
         }
     }
 
-    /// Adds a file after those that are there, even where one of them has its name.
+    /// Adds a file after the existing ones, even if one of them has the same name.
     ///
     /// # Errors
     ///
-    /// `AllocError` where memory was refused; the bundle is then as it was.
+    /// `AllocError` where memory was refused; the bundle is then unchanged.
     pub fn add_file(&mut self, name: String, bytes: Vec<u8>) -> Result<(), AllocError>
         ensures ok { OnOk result (self.new
             ≡ with_file (record { name = string_bytes name; bytes = bytes.items }) self.old) }
@@ -91,8 +90,8 @@ impl Bundle {
     ///
     /// # Errors
     ///
-    /// `NameTaken` exactly where a folder of that name is there: it hands `folder` back.
-    /// `OutOfMemory` where memory was refused. The bundle is then as it was.
+    /// `NameTaken` exactly where a folder of that name exists: it hands `folder` back.
+    /// `OutOfMemory` where memory was refused. Either way the bundle is unchanged.
     pub fn add_dir(&mut self, name: String, folder: Bundle) -> Result<(), BundleFault>
         ensures ok { OnOk result (self.new ≡ with_folder (string_bytes name) folder self.old) }
         ensures free { OnOk result (folder_at (string_bytes name) self.old ≡ None) }
@@ -111,7 +110,7 @@ impl Bundle {
         }
     }
 
-    /// The files, in the order in which they were added. Takes no memory.
+    /// The files, in the order they were added. Takes no memory.
     pub fn files(&self) -> &[File]
         ensures { result.now ≡ files_of self.now }
     {

@@ -18,17 +18,17 @@ use it_dsse::envelope::{Envelope, EnvelopeFault};
 use it_dsse::payload_type::IN_TOTO;
 use std::alloc::{AllocError, Global};
 
-/// What the body of an envelope is for a step.
+/// What the body of an envelope can be for a step.
 #[derive(Drop)]
 pub(crate) enum Body {
-    /// A link that bears the step's name.
+    /// A link with the step's name.
     Link(Link),
     /// A layout.
     Layout(Layout),
 }
 
-/// The envelopes of the files at some places, where they may hold a body for a step. Their payloads
-/// are not read: anybody can send a file, and nobody has been asked yet who signed it.
+/// The envelopes in the files at some places, if they can hold a body for a step. Their payloads
+/// are not read: anybody can send a file, and its signatures have not been checked yet.
 pub(crate) fn candidates(
     alloc: Global,
     files: &[File],
@@ -43,7 +43,7 @@ pub(crate) fn candidates(
     Ok(found)
 }
 
-/// Keeps a candidate behind the others, where there is one.
+/// Appends a candidate, if there is one.
 fn keep(found: &mut Vec<Envelope>, candidate: Option<Envelope>) -> Result<(), AllocError>
     ensures { IfOk result (λ _. found.new.items ≡ found.old.items ++ cons_option candidate []) }
 {
@@ -90,7 +90,7 @@ pub fn envelope_in(alloc: Global, bytes: &[u8]) -> Result<Option<Envelope>, Allo
     }
 }
 
-/// What a payload is for a step.
+/// A payload read as a body for a step, or `None` where it is not one.
 pub(crate) fn body_in(alloc: Global, step: &str, payload: &[u8]) -> Result<Option<Body>, AllocError>
     ensures { IfOk result (Finds (IsBody step.now payload.now)) }
 {

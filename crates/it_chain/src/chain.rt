@@ -3,7 +3,7 @@ use it_base::sequence::Sequence;
 use it_base::text::Text;
 use it_digest::artifacts::Artifacts;
 
-/// The record of a step on which all that counts for it agrees.
+/// The record of a step, on which everything that counts for the step agrees.
 #[derive(Drop)]
 pub struct StepResult {
     /// The name of the step.

@@ -15,7 +15,7 @@ pub(crate) struct Claims {
 }
 
 impl Claims {
-    /// The places of those of these files that are claimed for some step.
+    /// The places of those files that are claimed for some step.
     pub fn of(alloc: Global, files: &[File]) -> Result<Claims, AllocError>
         ensures { IfOk result (ClaimsIn files.now) }
     {
@@ -28,7 +28,7 @@ impl Claims {
         Ok(Claims { by_step })
     }
 
-    /// The places of the files that are claimed for a step, in their order.
+    /// The places of the files that are claimed for a step, in the order of the files.
     pub fn places(&self, step: &str) -> &[usize]
         ensures { result.now ≡ places_under self.now.by_step step.now }
     {
@@ -50,8 +50,8 @@ fn add(
     Ok(())
 }
 
-/// The name of the step that a file's name claims the file for (in-toto 1.0 section 4.4), or `None`
-/// where it claims it for none. Takes no memory.
+/// The name of the step for which a file's name claims the file (in-toto 1.0 section 4.4), or
+/// `None` where there is none. Takes no memory.
 pub fn claimed_step(name: &str) -> Option<&str>
     ensures { MatchOption result ((step : List ℕ) → ¬ IsClaimed step name.now)
         (λ step. IsClaimed step.now name.now) }

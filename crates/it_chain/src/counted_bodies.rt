@@ -18,7 +18,7 @@ use std::alloc::{AllocError, Global};
 pub(crate) enum Counting {
     /// None.
     Nothing,
-    /// One, signed by the key of this number.
+    /// One, signed by the key with this number.
     One((usize, u32), Body),
     /// Several that differ.
     Several,
@@ -72,8 +72,8 @@ pub(crate) fn counted<C: Checking>(
     }
 }
 
-/// The body for a step in an envelope, with the key that signed it, where a signer's key did. The
-/// payload of an envelope that it did not sign is not read.
+/// The body for a step in an envelope that a signer's key signed, with the number of that key. The
+/// payload of any other envelope is not read.
 fn signed_body<C: Checking>(
     alloc: Global,
     checking: &C,

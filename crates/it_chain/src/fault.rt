@@ -9,7 +9,7 @@ use it_base::sequence::Sequence;
 use it_base::text::Text;
 use std::alloc::{AllocError, Global};
 
-/// A fault of the layout itself.
+/// The error for a fault of the layout itself.
 pub(crate) fn refused(alloc: Global, fault: ChainFault) -> ChainError
     ensures { result ≡ Refused (here fault) }
 {

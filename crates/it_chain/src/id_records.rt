@@ -97,7 +97,7 @@ fn verify_id<C: Checking>(
     }
 }
 
-/// The record of a key id, made of the number of its key and what its body records.
+/// The record of a key id, made from its key's number and what its body records.
 fn record_of(
     alloc: Global,
     id: &str,

@@ -1,17 +1,17 @@
-//! Laws about the definitions of chains: functions that do nothing, and whose contracts say what is
-//! true of every layout, bundle and panel of checks.
+//! Laws about the definitions of chains: functions that do nothing and whose contracts hold for
+//! every layout, bundle and panel of checks.
 ghost use Rattle.it_chain.specs.Laws.{AlikeChains, AlikePanelChains, AnswerIsRight};
 ghost use Rattle.it_chain.specs.Laws.{ChainGoesDeeper, ChainIsOne};
 ghost use Rattle.it_chain.specs.Laws.{ChainOrFirst, CostIsOne, FewestIsOne, FirstIsOne, FoundIsOne};
 ghost use Rattle.it_chain.specs.Laws.{HasCost, HasFewest, HoldsOrFails, NoiseIsAlike};
 ghost use Rattle.it_chain.specs.Laws.{SomeAnswersRight, WithheldChains};
 
-/// The number of different keys that signed what counts for a step is one number.
+/// The number of different keys that signed what counts for a step is unique.
 pub fn found_is_one()
     ensures { FoundIsOne }
 {}
 
-/// A layout holds for a bundle with one list of records at most.
+/// A layout holds for a bundle with at most one list of records.
 pub fn chain_is_one()
     ensures { ChainIsOne }
 {}
@@ -21,7 +21,7 @@ pub fn chain_or_first()
     ensures { ChainOrFirst }
 {}
 
-/// A layout has one first failure over a bundle at most.
+/// A layout has at most one first failure over a bundle.
 pub fn first_is_one()
     ensures { FirstIsOne }
 {}
@@ -37,31 +37,31 @@ pub fn alike_chains()
     ensures { AlikeChains }
 {}
 
-/// Checked by panels that are alike on its keys, and on those of the sublayouts that count, a
-/// layout has the same result, whatever numbers the panels give the keys.
+/// A layout has the same result with panels that are alike on its keys, and on those of the
+/// sublayouts that count, whatever numbers the panels give the keys.
 pub fn alike_panel_chains()
     ensures { AlikePanelChains }
 {}
 
-/// Files that are reordered, repeated or renamed under a name that is claimed, and files that don't
-/// count, whatever they hold, leave bundles alike.
+/// Reordering or repeating files, or renaming them to another name that is claimed for the same
+/// step, leaves bundles alike, and so do files that do not count, whatever they hold.
 pub fn noise_is_alike()
     ensures { NoiseIsAlike }
 {}
 
-/// Where a layout holds for a bundle, it has over a bundle in which less counts the same records
-/// with no more keys, or fails at a threshold.
+/// Where a layout holds for a bundle, then over a bundle in which less counts it has the same
+/// records with no more keys, or fails at a threshold.
 pub fn withheld_chains()
     ensures { WithheldChains }
 {}
 
-/// The deciding function answers the records with which a layout holds for a bundle, or else its
-/// first failure.
+/// The deciding function gives the records with which a layout holds for a bundle, or its first
+/// failure.
 pub fn answer_is_right()
     ensures { AnswerIsRight }
 {}
 
-/// There are functions that answer right for the crates below, so that the deciding function has
+/// Functions exist that answer correctly for the crates below, so that the deciding function has
 /// something to ask.
 pub fn some_answers_right()
     ensures { SomeAnswersRight }
@@ -73,23 +73,23 @@ pub fn holds_or_fails()
     ensures { HoldsOrFails }
 {}
 
-/// A layout over a bundle costs some number of checks: with `cost_is_one`, always exactly one.
+/// There is a number of checks that a layout over a bundle costs: with `cost_is_one`, exactly one.
 pub fn has_cost()
     ensures { HasCost }
 {}
 
-/// A layout over a bundle costs one number of checks at most.
+/// The number of checks that a layout over a bundle costs is unique.
 pub fn cost_is_one()
     ensures { CostIsOne }
 {}
 
-/// A layout over a bundle takes at least some number of checks: with `fewest_is_one`, always
+/// There is a least number of checks that a layout over a bundle takes: with `fewest_is_one`,
 /// exactly one.
 pub fn has_fewest()
     ensures { HasFewest }
 {}
 
-/// The least number of checks that a layout over a bundle takes is one number.
+/// The least number of checks that a layout over a bundle takes is unique.
 pub fn fewest_is_one()
     ensures { FewestIsOne }
 {}

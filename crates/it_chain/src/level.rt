@@ -31,7 +31,7 @@ pub(crate) struct Level<'a> {
     pub layout: &'a Layout,
     /// The files and folders that it is checked against.
     pub links: &'a Bundle,
-    /// How deep sublayouts may lie.
+    /// How deep sublayouts may be nested.
     pub depth: u8,
 }
 

@@ -27,7 +27,7 @@ pub enum ChainFault {
         /// The key id.
         id: Text,
     },
-    /// A sublayout lies deeper than the depth that was given.
+    /// A sublayout is nested deeper than the given depth.
     TooDeep,
     /// Fewer different keys than the step's threshold signed a body that counts.
     Threshold {
@@ -42,7 +42,7 @@ pub enum ChainFault {
     Disagree {
         /// The name of the step.
         step: Text,
-        /// The least key id whose record is not that of the least id that counts.
+        /// The least key id whose record differs from that of the least id that counts.
         id: Text,
     },
     /// A sublayout asks for inspections.

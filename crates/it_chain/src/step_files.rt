@@ -12,8 +12,8 @@ use it_dsse::envelope::Envelope;
 use std::alloc::{AllocError, Global};
 use std::marker::Model;
 
-/// The files of a bundle, sorted once by the steps that they are claimed for, so that each step's
-/// are found without a look at the others. A contract sees the list of the files.
+/// The files of a bundle, sorted once by the steps that they are claimed for, so that a step's
+/// files are found without looking at the others. A contract sees the list of the files.
 #[derive(Drop)]
 pub struct StepFiles<'a> {
     files: &'a [File],
@@ -48,7 +48,7 @@ impl<'a> StepFiles<'a> {
     }
 
     /// The envelopes of the in-toto type in the files that are claimed for a step. Their payloads
-    /// are not read, nor is it asked who signed them.
+    /// are not read, and their signatures are not checked.
     ///
     /// # Errors
     ///

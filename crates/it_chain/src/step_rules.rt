@@ -15,7 +15,7 @@ use it_rules::item::{Item, Named};
 use it_rules::rules::run_rules;
 use std::alloc::{AllocError, Global};
 
-/// Judges the rules of all steps over their records: of each step those on materials first.
+/// Judges the rules of all steps over their records, for each step those on materials first.
 pub(crate) fn run_step_rules(
     alloc: Global,
     steps: &[Step],

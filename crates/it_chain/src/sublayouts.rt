@@ -1,4 +1,4 @@
-//! Sublayouts: how deep they may lie, what they may not ask for, and where their files are.
+//! Sublayouts: how deep they may be nested, what they may not ask for, and where their files are.
 ghost use Rattle.std.specs.Prelude.{◌≡◌, ◌≤◌, ◌↔◌, IfOk, IsTrue, string_bytes};
 ghost use Rattle.it_chain.specs.Sublayouts.{first_characters, folder_name as folder_name_of};
 ghost use Rattle.it_chain.specs.inside.Asked.{Asks};
@@ -88,7 +88,7 @@ fn verify_sublayout<C: Checking>(
 }
 
 impl<'a> Level<'a> {
-    /// Whether no sublayout may lie below.
+    /// Whether no sublayout is allowed below.
     fn is_deepest(&self) -> bool
         ensures { IsTrue result ↔ (self.now.depth ≡ 0) }
     {

@@ -22,11 +22,11 @@ use std::alloc::Global;
 
 /// Verifies a layout over a bundle at a moment (in-toto 1.0 section 5.2).
 ///
-/// `moment` is in seconds from 1970-01-01T00:00:00Z. Sublayouts may lie up to `depth` deep. Each
-/// signature is checked by the `panel`, which counts in `meter`: at most once for each id of a step
-/// and each signature of a file that is claimed for it, and so in sublayouts; and at least once,
-/// where there is an answer, for each different key that signed what counts for a step, and so in
-/// sublayouts. The answer has a record for each step.
+/// `moment` is in seconds from 1970-01-01T00:00:00Z. Sublayouts may be nested up to `depth` deep.
+/// The `panel` checks the signatures, and `meter` counts the checks: at most one for each pair of
+/// an id of a step and a signature of a file claimed for the step, and likewise in sublayouts; and,
+/// where there is an answer, at least one for each different key that signed what counts for a
+/// step, and likewise in sublayouts. The answer has a record for each step.
 ///
 /// # Errors
 ///

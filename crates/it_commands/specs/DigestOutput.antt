@@ -14,12 +14,12 @@ use Rattle.it_outcome.specs.declared.outcome.RunFault.TheVariants.{
 abbrev pub digest_line : List ℕ → List ℕ → List ℕ
 digest_line digest name = encode_lower digest ++ codes "  " ++ name ++ codes "\n"
 
--- the name cannot stand in a digest list: it has a line feed
+-- the name cannot be in a digest list: it has a line feed
 abbrev pub HasLineFeed : List ℕ → Type 0
 HasLineFeed name = Contains name 10
 
 -- the text is the line of what the reader gave: old and new are the bytes that it has left before
--- and after, where it tells them
+-- and after, where they are known
 pub record IsDigestLine (old new : Option (List ℕ)) (limit : ℕ) (name text : List ℕ) : Type 0 where
   pub digest : List ℕ
   pub digest_is : IsDigestOfRest old new limit digest

@@ -1,4 +1,4 @@
--- What is written of bytes that are no envelope (this profile's choice of the text).
+-- What is written for bytes that are not an envelope (this profile's choice of the text).
 use Rattle.std.specs.Prelude.{◌≡◌, ℕ, List, []}
 use Rattle.it_dsse.specs.Envelope.{EnvelopeOf}
 use Rattle.it_dsse.specs.declared.envelope.Envelope.{Envelope}
@@ -9,11 +9,11 @@ use Rattle.it_report.specs.declared.verdict.Verdict.TheVariants.{Refused as refu
 use Rattle.it_outcome.specs.declared.outcome.Status.{Status}
 use Rattle.it_outcome.specs.declared.outcome.Status.TheVariants.{Refused}
 
--- the refusal of bytes that are no envelope
+-- the refusal of bytes that are not an envelope
 abbrev pub no_envelope : Refusal
 no_envelope = record { at = []; fault = BadEnvelope }
 
--- the text refuses bytes that are no envelope
+-- the text refuses bytes that are not an envelope
 pub record RefusesBytes (bytes text : List ℕ) (status : Status) : Type 0 where
   pub none : (envelope : Envelope) → ¬ EnvelopeOf bytes envelope
   pub text_is : text ≡ report_of (refused_for no_envelope)

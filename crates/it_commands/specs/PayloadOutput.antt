@@ -6,7 +6,7 @@ use Rattle.it_outcome.specs.declared.outcome.Status.{Status}
 use Rattle.it_outcome.specs.declared.outcome.Status.TheVariants.{Good}
 use Rattle.it_commands.specs.NoEnvelope.{RefusesBytes}
 
--- the text is the payload of the envelope that the bytes are, and no more
+-- the text is exactly the payload of the envelope in the bytes
 pub record GivesPayload (bytes text : List ℕ) (status : Status) : Type 0 where
   pub envelope : Envelope
   pub read : EnvelopeOf bytes envelope

@@ -21,8 +21,8 @@ use Rattle.it_outcome.specs.declared.outcome.RunFault.TheVariants.{
   BadParameters,
 }
 
--- the text is the written form of the envelope that the bytes are, with one signature more of the
--- body, under a key of the ring, and a line feed
+-- the text is the written form of the envelope in the bytes, with one more signature of the body,
+-- under a key of the ring, and a line feed
 pub record IsSignOntoOutput (ring : List RingEntry) (id kind body bytes text : List ℕ)
     : Type 0 where
   pub before : Envelope
@@ -35,7 +35,7 @@ pub record IsSignOntoOutput (ring : List RingEntry) (id kind body bytes text : L
 abbrev pub IsEnvelopeWith : (Envelope → Type 0) → List ℕ → Type 0
 IsEnvelopeWith P bytes = (envelope : Envelope) × EnvelopeOf bytes envelope × P envelope
 
--- a fault that the command may have, and what it says of the bytes that are to be an envelope
+-- a fault that the command may have, and what it says of the bytes given as an envelope
 module _ (ring : List RingEntry) (id kind body bytes : List ℕ) where
   abbrev pub IsSignOntoFault : RunFault → Type 0
   IsSignOntoFault Write = Unit {0}

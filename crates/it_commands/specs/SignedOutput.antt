@@ -11,15 +11,15 @@ use Rattle.it_outcome.specs.declared.outcome.Status.{Status}
 use Rattle.it_outcome.specs.declared.outcome.Status.TheVariants.{Good}
 use Rattle.it_commands.specs.NoEnvelope.{RefusesBytes}
 
--- the key object that is asked with
+-- the key object that checks are given
 abbrev pub ring_object : KeyObject
 ring_object = record { keytype = codes "hmac"; scheme = codes "hmac-sha256"; public = [] }
 
--- names, one a line
+-- names, one per line
 abbrev pub names_text : List (List ℕ) → List ℕ
 names_text names = flat_map (λ name. name_form name ++ codes "\n") names
 
--- the text names those of the ids that signed the envelope, and the status says whether some did
+-- the text names those of the ids that signed the envelope, and the status says whether any did
 pub record NamesSigners (panel : Panel) (ids : List (List ℕ)) (envelope : Envelope) (text : List ℕ)
     (status : Status) : Type 0 where
   pub signers : List (List ℕ)

@@ -12,7 +12,7 @@ use it_outcome::{RunFault, Status};
 use std::alloc::{AllocError, Global};
 use std::io::{Read, Write};
 
-/// Whether a name can stand in a digest list, as `sha256sum` writes it.
+/// Whether a name can be in a digest list as `sha256sum` writes one.
 ///
 /// # Errors
 ///
@@ -28,16 +28,15 @@ pub fn check_name(name: &str) -> Result<(), RunFault>
     }
 }
 
-/// Writes the line of a file in a digest list: the SHA-256 of all that the reader gives in 64
+/// Writes the line of a file in a digest list: the SHA-256 of all that the reader gives, in 64
 /// lower-case hexadecimal digits, two spaces, the name as it is given, and a line feed. `limit` is
-/// how many bytes the reader may give at most. The answer is `Good`.
+/// the most bytes that the reader may give. The answer is `Good`.
 ///
 /// # Errors
 ///
-/// `BadName` where the name has a line feed; nothing was read then. `Digest` where the reader
-/// answered an error or gave more than `limit` bytes. `OutOfMemory` where memory was refused. In
-/// these nothing went out. `Write` where the output could not be written; a beginning of it went
-/// out.
+/// `BadName` where the name has a line feed; nothing was read. `Digest` where the reader returned
+/// an error or gave more than `limit` bytes. `OutOfMemory` where memory was refused. Nothing went
+/// out in these cases. `Write` where the output could not be written; a beginning of it went out.
 pub fn run_digest<R: Read, W: Write>(
     alloc: Global,
     name: &str,

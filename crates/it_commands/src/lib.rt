@@ -1,5 +1,5 @@
-//! The commands of `itv` over bytes and a writer that look at no delivery: what each one writes,
-//! and how it ends.
+//! The commands of `itv` that look at no delivery, over bytes and a writer: what each writes, and
+//! how it ends.
 #![tactic(auto)]
 
 mod digest_output;

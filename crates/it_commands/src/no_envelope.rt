@@ -1,4 +1,4 @@
-//! The refusal of bytes that are no envelope.
+//! The refusal of bytes that are not an envelope.
 ghost use Rattle.std.specs.Prelude.{◌≡◌, IfOk};
 ghost use Rattle.it_report.specs.Report.{report_of};
 ghost use Rattle.it_commands.specs.NoEnvelope.{no_envelope};

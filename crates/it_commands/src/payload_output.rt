@@ -12,10 +12,10 @@ use it_outcome::{RunFault, Status};
 use std::alloc::{AllocError, Global};
 use std::io::Write;
 
-/// Writes the payload of the envelope that the bytes are (DSSE v1.0, "Envelope"): its bytes,
-/// decoded, with nothing added. No signature is checked. The answer is `Good`.
+/// Writes the payload of the envelope (DSSE v1.0, "Envelope"): its bytes, decoded, with nothing
+/// added. No signature is checked. The answer is `Good`.
 ///
-/// Where the bytes are no envelope, the report of that refusal is written, and the answer is
+/// Where the bytes are not an envelope, the report of that refusal is written, and the answer is
 /// `Refused`.
 ///
 /// # Errors

@@ -1,4 +1,4 @@
-//! `itv sign --onto`: an envelope with one signature more.
+//! `itv sign --onto`: an envelope with one more signature.
 ghost use Rattle.std.specs.Prelude.{◌≡◌, ◌≢◌, IfErr, IfOk, IsErrOf};
 ghost use Rattle.std.specs.Io.KnownBytes.{Appends};
 ghost use Rattle.it_base.specs.Writing.{AppendsBeginning};
@@ -13,15 +13,15 @@ use it_outcome::{RunFault, Status};
 use std::alloc::Global;
 use std::io::Write;
 
-/// Writes the envelope that the bytes are with one signature more, after those that it has, and a
-/// line feed (DSSE v1.0, "Protocol"): that of the body of `added`, which has to be the envelope's
-/// payload, under the secret that its ring has for the id. The answer is `Good`.
+/// Writes the envelope with one more signature, after those that it has, and a line feed (DSSE
+/// v1.0, "Protocol"): a signature of the body of `added`, which must be the envelope's payload,
+/// under the secret that its ring has for the id. The answer is `Good`.
 ///
 /// # Errors
 ///
-/// The first of these that holds, in this order, and nothing went out then: `NoEnvelope` where the
-/// bytes are no envelope, `OtherType` where its payload type is not `added.kind`, `OtherPayload`
-/// where its payload is not `added.body`, and `UnknownKey` where the ring has no entry with the id.
+/// The first of these that holds, in order, and nothing went out: `NoEnvelope` where the bytes are
+/// not an envelope, `OtherType` where its payload type is not `added.kind`, `OtherPayload` where
+/// its payload is not `added.body`, and `UnknownKey` where the ring has no entry with the id.
 /// `OutOfMemory` where memory was refused; nothing went out. `Write` where the output could not be
 /// written; a beginning of it went out.
 pub fn run_sign_onto<W: Write>(
@@ -45,7 +45,7 @@ pub fn run_sign_onto<W: Write>(
     Ok(Status::Good)
 }
 
-/// The envelope that the bytes are, with one signature more.
+/// The bytes read as an envelope, with one more signature.
 fn countersigned(
     alloc: Global,
     added: &NewSignature<'_>,

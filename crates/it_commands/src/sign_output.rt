@@ -24,8 +24,8 @@ use std::io::Write;
 /// # Errors
 ///
 /// `UnknownKey` where the ring has no entry with the id, and `OutOfMemory` where memory was
-/// refused; nothing went out then. `Write` where the output could not be written; a beginning of
-/// it went out.
+/// refused; nothing went out. `Write` where the output could not be written; a beginning of it went
+/// out.
 pub fn run_sign<W: Write>(
     alloc: Global,
     ring: &HmacRing,

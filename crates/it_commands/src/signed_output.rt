@@ -25,11 +25,11 @@ use it_report::name::push_name;
 use std::alloc::{AllocError, Global};
 use std::io::Write;
 
-/// Writes those of `ids` that signed the envelope, in the order given, each as a report writes a
-/// name and on a line of its own. The `panel` is asked with the key object `hmac`, `hmac-sha256`
-/// and an empty public part (DSSE v1.0, "Protocol").
+/// Writes those of `ids` that signed the envelope, in the order given, each on a line of its own,
+/// as a report writes a name. The `panel` is asked with the key object `hmac`, `hmac-sha256` and an
+/// empty public part (DSSE v1.0, "Protocol").
 ///
-/// The answer is `Good` where some id signed, and `Refused` elsewhere. Where the bytes are no
+/// The answer is `Good` where some id signed, and `Refused` otherwise. Where the bytes are not an
 /// envelope, the report of that refusal is written.
 ///
 /// # Errors

@@ -1,4 +1,4 @@
--- Artifact maps: finite maps from the bytes of a path to the digest set that stands there.
+-- Artifact maps: finite maps from the bytes of a path to its digest set.
 use Rattle.std.specs.Prelude.{ℕ, List, String}
 use Rattle.std.specs.declared.alloc.Global.{Global}
 use Rattle.it_base.specs.Table.{Named, named_entries}

@@ -7,13 +7,13 @@ use Rattle.it_digest.specs.declared.compare.Compare.TheVariants.{Agree as agree,
 use Rattle.it_digest.specs.declared.compare.Compare.TheVariants.{Apart as apart}
 use Rattle.it_digest.specs.DigestSet.{Algorithm, algorithms, value_in}
 
--- an algorithm stands in both sets, with these values
+-- an algorithm is in both sets, with these values
 pub record StandsInBoth (a b : DigestSet) (algorithm : Algorithm) (in_a in_b : List ℕ)
     : Type 0 where
   pub first : value_in algorithm a ≡ Some in_a
   pub second : value_in algorithm b ≡ Some in_b
 
--- some algorithm stands in both with unequal values
+-- some algorithm is in both sets, with unequal values
 pub record Differ (a b : DigestSet) : Type 0 where
   pub algorithm : Algorithm
   pub in_a : List ℕ
@@ -21,7 +21,7 @@ pub record Differ (a b : DigestSet) : Type 0 where
   pub in_both : StandsInBoth a b algorithm in_a in_b
   pub unequal : in_a ≢ in_b
 
--- some algorithm stands in both, and the two sets do not differ
+-- some algorithm is in both sets, and the sets do not differ
 pub record Agree (a b : DigestSet) : Type 0 where
   pub algorithm : Algorithm
   pub in_a : List ℕ

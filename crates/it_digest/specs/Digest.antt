@@ -1,4 +1,4 @@
--- Digest sets of documents (in-toto Attestation v1, DigestSet).
+-- Digest sets in documents (in-toto Attestation v1, DigestSet).
 use Rattle.std.specs.Prelude.{◌≡◌, ℕ, List, IsTrue, is_some, Option, Some, None, MatchOption}
 use Rattle.std.specs.Prelude.{option_and_then}
 use Rattle.std.specs.Result.{result_ok}
@@ -21,8 +21,8 @@ HasDigest n name d digest =
     MatchOption (member_at name d) (digest ≡ None)
     (λ v. (bytes : List ℕ) × (digest ≡ Some bytes) × IsDigest n v bytes)
 
--- a digest set of a document: each algorithm's value is the digest under its name; other algorithms
--- are not looked at, whatever their value
+-- a digest set in a document: each algorithm's value is the digest under its name; other algorithms
+-- are ignored, whatever their value
 pub record IsDigestSet (d : Data) (set : DigestSet) : Type 0 where
   pub is_object : IsTrue (is_some (as_object d))
   pub digests : (algorithm : Algorithm)

@@ -13,7 +13,7 @@ pub data Algorithm : Type 0 where
 abbrev pub algorithms : List Algorithm
 algorithms = in_sha256 ∷ in_sha384 ∷ in_sha512 ∷ []
 
--- the member of a document under which its value stands
+-- the name of the member that holds an algorithm's value
 abbrev pub name_of : Algorithm → List ℕ
 name_of in_sha256 = codes "sha256"
 name_of in_sha384 = codes "sha384"
@@ -25,7 +25,7 @@ size_of in_sha256 = 32
 size_of in_sha384 = 48
 size_of in_sha512 = 64
 
--- the bytes that a set has under an algorithm, if it stands there
+-- the bytes that a set has under an algorithm, if any
 abbrev pub value_in : Algorithm → DigestSet → Option (List ℕ)
 value_in in_sha256 set = set.sha256
 value_in in_sha384 set = set.sha384

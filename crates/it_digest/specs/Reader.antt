@@ -1,5 +1,5 @@
 -- The SHA-256 (FIPS 180-4) of what a reader gives. `old` and `new` are the bytes that the reader
--- has left before and after, where it tells them.
+-- has left before and after, where they are known.
 use Rattle.std.specs.Prelude.{◌≡◌, ℕ, ◌<◌, ◌≤◌, List, length, Option}
 use Rattle.std.specs.Io.KnownBytes.{Consumes, IsAtEnd}
 use Rattle.sha2.specs.Sha256.{sha256}

@@ -11,12 +11,12 @@ use Rattle.it_digest.specs.declared.compare.DigestSet.{DigestSet}
 use Rattle.it_digest.specs.Artifacts.{ArtifactMap}
 use Rattle.it_digest.specs.DigestSet.{only_sha256}
 
--- the lines of a file: each is ended by a line feed, which the last one may lack
+-- the lines of a file: each ends with a line feed, which the last one may lack
 abbrev pub lines_of : List ℕ → List (List ℕ)
 lines_of [] = []
 lines_of (byte ∷ rest) = if byte == 10 then [] ∷ lines_of rest else onto_first byte (lines_of rest)
 
--- what follows the digits: two spaces, or a space and a star, and a path, which is not empty
+-- what follows the digits: two spaces, or a space and a star, and then a path, which is not empty
 pub record IsMarkedPath (text path : List ℕ) : Type 0 where
   pub written : (text ≡ codes "  " ++ path) ⊎ (text ≡ codes " *" ++ path)
   pub named : path ≢ []
@@ -33,7 +33,7 @@ pub record IsSum (line : List ℕ) (entry : List ℕ × DigestSet) : Type 0 wher
   pub digests_are : entry.1 ≡ only_sha256 digest
   pub path_is : IsMarkedPath text entry.0
 
--- the lines give these entries, one each, and no path stands twice
+-- the lines give these entries, one each, and no path occurs twice
 pub record AreSums (lines : List (List ℕ)) (entries : List (List ℕ × DigestSet)) : Type 0 where
   pub each_gives : AllZip IsSum lines entries
   pub paths_differ : AllPairs (λ e f. e.0 ≢ f.0) entries
@@ -44,7 +44,7 @@ pub record SumsOf (bytes : List ℕ) (sums : ArtifactMap) : Type 0 where
   pub are_sums : AreSums (lines_of bytes) entries
   pub map_is : sums ≡ from_entries entries
 
--- the first bad line, counted from 1: the lines before it are good, and they are not with it
+-- the first bad line, counted from 1: the lines before it are good, and with it they are not
 pub record IsFirstBadLine (bytes : List ℕ) (number : ℕ) : Type 0 where
   pub entries : List (List ℕ × DigestSet)
   pub good_before : AreSums (take (number - 1) (lines_of bytes)) entries

@@ -38,7 +38,7 @@ impl Model for Artifacts {
 }
 
 impl Artifacts {
-    /// The empty map. It takes no memory; `alloc` serves the later calls of `insert`.
+    /// The empty map. It takes no memory; `alloc` is kept for later calls of `insert`.
     pub fn new(alloc: Global) -> Artifacts
         ensures { result ≡ finite.empty }
     {
@@ -47,7 +47,7 @@ impl Artifacts {
         }
     }
 
-    /// Sets the digests of a path, and answers those that the path had before.
+    /// Sets the digests of a path, and returns those that the path had before, if any.
     ///
     /// # Errors
     ///
@@ -86,7 +86,7 @@ impl Artifacts {
         self.by_path.iter()
     }
 
-    /// A copy of the map, in memory of `alloc`.
+    /// A copy of the map, in memory from `alloc`.
     ///
     /// # Errors
     ///
@@ -105,7 +105,7 @@ impl Artifacts {
     }
 
     /// Whether both maps have the same paths with equal digest sets. Equal means the same
-    /// algorithms with the same values, which is more than that the sets agree.
+    /// algorithms with the same values. Two empty sets are equal, though they do not agree.
     pub fn same_as(&self, other: &Artifacts) -> bool
         ensures { IsTrue result ↔ (self.now ≡ other.now) }
     {
@@ -116,7 +116,7 @@ impl Artifacts {
 impl FromDocument for Artifacts {
     ghost is_of = { IsTable IsDigestSet };
 
-    /// The artifacts that a JSON object from path to digest set is (in-toto 1.0 section 4.4). A
+    /// The artifacts of a JSON object from path to digest set (in-toto 1.0 section 4.4). A
     /// member whose value is null counts as missing.
     fn from_document(alloc: Global, value: &Value) -> Result<Option<Artifacts>, AllocError> {
         match Table::<DigestSet>::from_document(alloc, value)? {
@@ -126,7 +126,7 @@ impl FromDocument for Artifacts {
     }
 }
 
-/// The map of some entries, in memory of `alloc`.
+/// The map of these entries, in memory from `alloc`.
 fn map_of(alloc: Global, by_path: &BTreeMap<String, DigestSet>) -> Result<Artifacts, AllocError>
     ensures { IfOk result (λ map. map ≡ finite.from_entries (path_entries by_path.now.entries)) }
 {

@@ -15,19 +15,19 @@ pub struct DigestSet {
     pub sha512: Option<[u8; 64]>,
 }
 
-/// What two digest sets say of one another.
+/// How two digest sets compare.
 #[derive(Clone, Copy, Debug, PartialEq, Eq)]
 pub enum Compare {
-    /// Both have some algorithm, and each one that both have has equal values.
+    /// They share some algorithm, and each that they share has equal values.
     Agree,
-    /// Both have some algorithm with unequal values.
+    /// They share some algorithm with unequal values.
     Differ,
-    /// They have no algorithm in common.
+    /// They share no algorithm.
     Apart,
 }
 
 impl Compare {
-    /// What two comparisons say together: one `Differ` decides, then one `Agree`.
+    /// Both comparisons combined: `Differ` where either is, otherwise `Agree` where either is.
     fn and(self, other: Compare) -> Compare
         ensures { result ≡ joined self other }
     {

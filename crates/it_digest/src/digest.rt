@@ -1,4 +1,4 @@
-//! The reading of digest sets (in-toto Attestation v1, DigestSet).
+//! Reading digest sets (in-toto Attestation v1, DigestSet).
 ghost use Rattle.std.specs.Prelude.{◌≡◌, None, Some};
 ghost use Rattle.serde_json.specs.View.{view};
 ghost use Rattle.it_base.specs.Finds.{Finds};
@@ -11,8 +11,8 @@ use serde_json::Value;
 use std::alloc::{AllocError, Global};
 
 /// Reads a JSON object as a digest set; `None` where the part is not an object, or its `sha256`,
-/// `sha384` or `sha512` is no text of exactly the algorithm's digits. Other algorithms are not
-/// looked at.
+/// `sha384` or `sha512` is not a text of exactly the algorithm's number of hexadecimal digits.
+/// Other algorithms are ignored.
 pub fn digest_set(value: &Value) -> Option<DigestSet>
     ensures { Finds (IsDigestSet (view value.now)) result }
 {
@@ -29,7 +29,7 @@ pub fn digest_set(value: &Value) -> Option<DigestSet>
     })
 }
 
-/// The digest at a member, or `Some(None)` where the member is missing.
+/// The digest in a member, or `Some(None)` where the member is missing.
 fn digest_at<const N: usize>(value: &Value, name: &str) -> Option<Option<[u8; N]>>
     ensures { Finds (HasDigest N name.now (view value.now)) result }
 {
@@ -53,7 +53,7 @@ fn digest<const N: usize>(value: &Value) -> Option<[u8; N]>
 impl FromDocument for DigestSet {
     ghost is_of = { IsDigestSet };
 
-    /// The digest set that a JSON object is.
+    /// Reads a JSON object as a digest set.
     fn from_document(_alloc: Global, value: &Value) -> Result<Option<DigestSet>, AllocError> {
         Ok(digest_set(value))
     }

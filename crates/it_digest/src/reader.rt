@@ -11,10 +11,10 @@ use std::io::{self, Read};
 /// How many bytes are asked for at once.
 const BLOCK_SIZE: usize = 65_536;
 
-/// Why a reader has no digest.
+/// Why no digest was computed.
 #[derive(Clone, Copy, Debug, PartialEq, Eq)]
 pub enum DigestFault {
-    /// The reader answered an error.
+    /// The reader returned an error.
     Read,
     /// More bytes came than the limit allows.
     TooLarge,
@@ -30,15 +30,15 @@ impl From<io::Error> for DigestFault {
 
 /// The SHA-256 (FIPS 180-4) of the bytes that the reader gives up to its end.
 ///
-/// `limit` is how many bytes may come at most. The reader is asked in blocks, at most once more
-/// than `limit`, and never again after it answered an error or its end.
+/// `limit` is how many bytes may come at most. The reader is asked for blocks, at most `limit` + 1
+/// times, and never again after an error or its end.
 ///
 /// # Errors
 ///
-/// - `Read` where the reader answered an error; no read is tried again.
+/// - `Read` where the reader returned an error; no read is retried.
 /// - `TooLarge` where more than `limit` bytes came.
 ///
-/// After either the reader stands where its last read left it.
+/// After either, the reader is where its last read left it.
 pub fn sha256_of_reader<R: Read>(reader: &mut R, limit: u64) -> Result<[u8; 32], DigestFault>
     ensures ok { IfOk result
         (IsDigestOfRest (R.remaining reader.old) (R.remaining reader.new) limit) }

@@ -17,7 +17,7 @@ use std::alloc::{AllocError, Global};
 use std::marker::Model;
 use std::str;
 
-/// Why bytes are no digest list.
+/// Why no digest list was read.
 #[derive(Clone, Copy, Debug, PartialEq, Eq)]
 pub enum SumsFault {
     /// The first bad line, counted from 1.
@@ -43,13 +43,13 @@ struct Sum<'a> {
 
 /// Reads a digest list as `sha256sum` writes it: a line for each file, with 64 hexadecimal digits
 /// of either case, a space, a space or a `*`, the path, and a line feed, which the last line may
-/// lack. A path is not empty, is UTF-8, and stands once; a carriage return at its end belongs to
-/// it. No bytes are the empty list.
+/// lack. A path is not empty, is UTF-8, and occurs once; a carriage return at its end is part of
+/// it. Empty bytes are the empty list.
 ///
 /// # Errors
 ///
-/// - `BadSums` with the first line, counted from 1, that is not so, or whose path stood in an
-///   earlier line.
+/// - `BadSums` with the number, from 1, of the first line that is not of this form, or repeats the
+///   path of an earlier line.
 /// - `OutOfMemory` where memory was refused.
 pub fn read_sums(alloc: Global, bytes: &[u8]) -> Result<Artifacts, SumsFault>
     ensures ok { IfOk result (SumsOf bytes.now) }
@@ -74,7 +74,7 @@ pub fn read_sums(alloc: Global, bytes: &[u8]) -> Result<Artifacts, SumsFault>
     Ok(sums)
 }
 
-/// The first line of a text that is not empty, without its line feed, and what follows it. Takes no
+/// The first line of a non-empty text, without its line feed, and what follows it. Takes no
 /// memory.
 pub fn split_line(text: &[u8]) -> (&[u8], &[u8])
     requires { 0 < length text.now }
@@ -87,14 +87,14 @@ pub fn split_line(text: &[u8]) -> (&[u8], &[u8])
     }
 }
 
-/// Where the first line feed stands.
+/// The place of the first line feed.
 fn first_line_feed(text: &[u8]) -> Option<usize>
     ensures { result ≡ position (λ byte. byte == 10) text.now }
 {
     text.iter().position(|byte| *byte == b'\n')
 }
 
-/// Adds what a line says to the map. Answers whether the line is good and its path is new.
+/// Adds what a line says to the map. Returns whether the line is good and its path is new.
 fn add_sum(alloc: Global, sums: &mut Artifacts, line: &[u8]) -> Result<bool, AllocError>
     ensures { IfOk result (λ added.
         MatchBool added (AddsSum line.now sums.old sums.new) (AddsNothing line.now sums.old)) }
@@ -109,7 +109,7 @@ fn add_sum(alloc: Global, sums: &mut Artifacts, line: &[u8]) -> Result<bool, All
     }
 }
 
-/// What a line says, without its line feed.
+/// What a line, without its line feed, says.
 fn read_sum(line: &[u8]) -> Option<Sum<'_>>
     ensures { FindsAs (λ sum. (sum.path.now, sum.digests)) (IsSum line.now) result }
 {

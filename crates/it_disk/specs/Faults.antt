@@ -24,7 +24,7 @@ use Rattle.it_disk.specs.declared.fault.Fault.TheVariants.{
 }
 use Rattle.it_disk.specs.declared.shown.Shown.{Shown}
 
--- the fault of words that are no command
+-- the program's fault where its words give no command
 abbrev pub fault_of_words : WordsFault → Fault
 fault_of_words (Unread reason) = Words reason
 fault_of_words no_memory = Run OutOfMemory
@@ -43,17 +43,17 @@ SaysOfWords reason other = ⊥
 abbrev pub Shows : Shown → List ℕ → Type 0
 Shows shown name = shown.form.items ≡ shown_form name
 
--- the fault says that what stands at the path cannot be read
+-- the fault says that what is at the path cannot be read
 abbrev pub IsUnreadable : List ℕ → Fault → Type 0
 IsUnreadable path (Unreadable shown reason) = Shows shown path
 IsUnreadable path other = ⊥
 
--- the fault says that what stands at the path cannot be read, for this reason
+-- the fault says that what is at the path cannot be read, for this reason
 abbrev pub IsUnreadFor : List ℕ → List ℕ → Fault → Type 0
 IsUnreadFor path reason (Unreadable shown text) = Shows shown path × (string_bytes text ≡ reason)
 IsUnreadFor path reason other = ⊥
 
--- the fault says that this line of the digest list at the path is none
+-- the fault names this bad line of the digest list at the path
 abbrev pub IsBadLine : List ℕ → ℕ → Fault → Type 0
 IsBadLine path line (BadLine shown number) = Shows shown path × (number ≡ line)
 IsBadLine path line other = ⊥
@@ -63,7 +63,7 @@ abbrev pub IsUnwritable : Fault → Type 0
 IsUnwritable (Unwritable reason) = Unit {0}
 IsUnwritable other = ⊥
 
--- a fault of reading what stands at the path: memory was refused, or it cannot be read
+-- a fault of reading what is at the path: memory was refused, or it cannot be read
 abbrev pub IsReadFault : List ℕ → Fault → Type 0
 IsReadFault path (Run fault) = fault ≡ OutOfMemory
 IsReadFault path (Unreadable shown reason) = Shows shown path
@@ -74,7 +74,7 @@ abbrev pub IsFileFault : List ℕ → Fault → Type 0
 IsFileFault path (TooLarge shown limit) = Shows shown path × (limit ≡ 8388608)
 IsFileFault path fault = IsReadFault path fault
 
--- the fault says that the file at the path is no ring, and why: it is none, and has this flaw
+-- the fault says that the file at the path is no ring, and why; it is none, and has that flaw
 abbrev pub IsNoRing : Holdings → List ℕ → Fault → Type 0
 IsNoRing disk path (BadRing shown flaw) = Shows shown path
     × (bytes : List ℕ) × disk.file path bytes × ((ring : List RingEntry) → ¬ RingOf bytes ring)

@@ -1,4 +1,4 @@
--- What stands at paths (a word of this project).
+-- What is at paths (a word of this project).
 use Rattle.std.specs.Prelude.{◌≡◌, ℕ, List, [], Option, Some, None, Bool, IsTrue}
 use Rattle.it_base.specs.Table.{Named}
 use Rattle.it_chain.specs.Contents.{Contents}
@@ -10,24 +10,24 @@ use Rattle.it_limits.specs.Links.{AreFilesWithin}
 use Rattle.it_disk.specs.declared.folders.Kind.{Kind}
 use Rattle.it_disk.specs.declared.listing.Listed.{Listed}
 
--- what stands at a path. No definition knows it, so what is said of a command is said for all of
--- these relations: of a path and what is read there.
+-- what is at each path. No definition can know it, so what is said of a command is said for all
+-- such relations between a path and what is read there.
 pub record Holdings : Type 1 where
-  -- what the opened file has left to read, where it tells
+  -- what the opened file has left to read, where that is known
   pub left : List ℕ → Option (List ℕ) → Type 0
   -- the bytes of the file
   pub file : List ℕ → List ℕ → Type 0
-  -- the links of the folder, down to a depth, without those of too many signatures where these are
-  -- limited
+  -- the links of the folder, down to a depth, without those that have too many signatures where
+  -- these are limited
   pub links : List ℕ → ℕ → Bool → Contents → Type 0
   -- the records in the folder, each under the name of its inspection
   pub records : List ℕ → List (List ℕ × List ℕ) → Type 0
   -- whether it is a file or a folder
   pub kind : List ℕ → Kind → Type 0
-  -- all that stands in the folder
+  -- all entries of the folder
   pub entries : List ℕ → List Listed → Type 0
 
--- anything may stand anywhere
+-- any path may hold anything
 abbrev pub anything : Holdings
 anything = record {
   left = λ path bytes. Unit {0};
@@ -38,7 +38,7 @@ anything = record {
   entries = λ folder entries. Unit {0};
 }
 
--- what stands at the path, or nothing where no path is given
+-- what is at the path, or nothing where no path is given
 abbrev pub HoldsIfGiven : {A : Type 0} → (List ℕ → List A → Type 0) → Option (List ℕ) → List A
     → Type 0
 HoldsIfGiven holds None items = items ≡ []

@@ -19,7 +19,7 @@ use Rattle.it_disk.specs.declared.ring_flaw.RingFlaw.TheVariants.{
   Other,
 }
 
--- what is said of the item is so: it is no object, or has no such text under `id` or `secret`
+-- the item has this flaw: it is no object, or has no such text under `id` or `secret`
 abbrev pub IsEntryFlaw : Data → EntryFlaw → Type 0
 IsEntryFlaw item NoObject = as_object item ≡ None
 IsEntryFlaw item NoId = (id : List ℕ) → ¬ IsPart IsText (codes "id") item id
@@ -34,7 +34,7 @@ pub record IsFlawAt (items : Items) (place : ℕ) (flaw : EntryFlaw) : Type 0 wh
   pub is_item : get_item before items ≡ Some item
   pub is_flaw : IsEntryFlaw item flaw
 
--- what is said of the items of a list is so. Of an id that stands twice nothing is claimed here.
+-- the items of a list have this flaw. Nothing is claimed here of a repeated id, or by `Other`.
 abbrev pub IsItemsFlaw : Items → RingFlaw → Type 0
 IsItemsFlaw items NoDocument = ⊥
 IsItemsFlaw items NoList = ⊥
@@ -43,13 +43,13 @@ IsItemsFlaw items (NoEntry place flaw) = IsFlawAt items place flaw
 IsItemsFlaw items (Repeats place id) = Unit {0}
 IsItemsFlaw items Other = Unit {0}
 
--- what is said of a document is so
+-- a document has this flaw
 abbrev pub IsDocumentFlaw : Data → RingFlaw → Type 0
 IsDocumentFlaw d NoDocument = ⊥
 IsDocumentFlaw d NoList = as_array d ≡ None
 IsDocumentFlaw d flaw = (items : Items) × (as_array d ≡ Some items) × IsItemsFlaw items flaw
 
--- what is said of the bytes is so
+-- the bytes have this flaw
 abbrev pub IsRingFlaw : List ℕ → RingFlaw → Type 0
 IsRingFlaw bytes NoDocument = (d : Data) → ¬ IsDocument bytes d
 IsRingFlaw bytes flaw = OfDocument IsDocumentFlaw bytes flaw

@@ -13,13 +13,13 @@ use std::fs;
 use std::io::Read;
 use std::rt::Files;
 
-/// What commands read, by paths. No contract can say what a path holds, so a command is proved for
-/// whatever stands where: what it takes from one path it cannot have taken from another.
+/// What commands read, by path. No contract can say what a path holds, so a command is proved for
+/// any contents at any path: what it takes from one path it cannot have taken from another.
 ///
-/// All that gives files and memory is one. Each method answers a fault that names the path where
-/// the system does not give what stands there, or that is beyond the limits of a file or a folder.
+/// Every type that gives files and memory is one. Each method returns a fault that names the path
+/// where the system does not give what is there, or it exceeds a limit of a file or a folder.
 pub trait Disk {
-    // what stands at which path
+    // what each path holds
     ghost holdings: { Holdings };
 
     /// A file that is read as it comes.
@@ -35,8 +35,8 @@ pub trait Disk {
         ensures within { IfOk result (λ bytes. length bytes.items ≤ 8388608) }
         ensures faults { IfErr result (IsFileFault path.now) };
 
-    /// The links of a folder, down to `depth` levels below it. Where signatures are `limited`, the
-    /// files are left out whose envelopes have too many.
+    /// The links of a folder, down to `depth` levels below it. Where signatures are `limited`,
+    /// files whose envelopes have too many are left out.
     fn links(&self, folder: &str, depth: u8, limited: bool) -> Result<Links, Fault>
         ensures holds { IfOk result
             (λ links. holdings.links folder.now depth limited links.bundle) }
@@ -46,11 +46,11 @@ pub trait Disk {
     fn records(&self, folder: &str) -> Result<Sequence<(Text, Sequence<u8>)>, Fault>
         ensures { IfOk result (λ records. holdings.records folder.now records) };
 
-    /// Whether a file or a folder stands at a path. A symbolic link is what it leads to.
+    /// Whether what is at a path is a file or a folder. A symbolic link counts as what it leads to.
     fn kind(&self, path: &str) -> Result<Kind, Fault>
         ensures { IfOk result (λ kind. holdings.kind path.now kind) };
 
-    /// All that stands in a folder, where that is files, folders and symbolic links to files.
+    /// All entries of a folder, where these are files, folders and symbolic links to files.
     fn entries(&self, folder: &str) -> Result<Sequence<Listed>, Fault>
         ensures { IfOk result (λ entries. holdings.entries folder.now entries) };
 }

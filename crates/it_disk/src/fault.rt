@@ -42,13 +42,13 @@ pub enum Fault {
     /// A folder has a name in it that is not UTF-8.
     #[error("cannot read {path}: a name in it is not UTF-8")]
     BadName { path: Shown },
-    /// A folder has more entries that are read than this.
+    /// A folder has more entries to read than this.
     #[error("{path} has more than {limit} entries to read")]
     TooMany { path: Shown, limit: usize },
     /// A folder below one that is listed lies deeper than this.
     #[error("{path} lies more than {limit} folders deep")]
     TooDeep { path: Shown, limit: u8 },
-    /// A file below a folder comes after as many as this.
+    /// A file below a folder comes after as many as this limit.
     #[error("{path} is one more than the {limit} files that a folder may have below it")]
     TooManyFiles { path: Shown, limit: usize },
     /// A file is no ring, for this reason.
@@ -69,7 +69,7 @@ pub enum Fault {
     /// A signature that was made elsewhere is not one of the body by the key under this id.
     #[error("{path} is not a signature of the body by {id}")]
     BadSignature { path: Shown, id: Shown },
-    /// A line of a digest list, counted from 1, does not read, or names a path again.
+    /// A line of a digest list, counted from 1, is malformed or repeats a path.
     #[error("{path}: line {line} is no line of a digest list, or repeats a path")]
     BadLine { path: Shown, line: u64 },
     /// The external parameters are no JSON object, or one that nests too deep.
@@ -78,7 +78,7 @@ pub enum Fault {
     /// What a signature is to be added to is no envelope.
     #[error("{path} is no DSSE envelope")]
     NoEnvelope { path: Shown },
-    /// An envelope that a signature is to be added to has another payload than the body.
+    /// An envelope that a signature is to be added to has a payload other than the body.
     #[error("{path} has another payload than {body}")]
     OtherPayload { path: Shown, body: Shown },
     /// An envelope that a signature is to be added to has another payload type.
@@ -87,7 +87,7 @@ pub enum Fault {
     /// The output cannot be written, for this reason.
     #[error("cannot write the output: {reason}")]
     Unwritable { reason: String },
-    /// The command stopped.
+    /// The command stopped, or memory was refused.
     #[error("{0}")]
     Run(RunFault),
 }
@@ -157,7 +157,7 @@ impl Fault {
         }
     }
 
-    /// The fault of a folder of which an entry cannot be read.
+    /// The fault of a folder with an entry that cannot be read.
     pub(crate) fn of_listing(alloc: Global, path: &str, error: &io::Error) -> Fault
         ensures memory { error_kind error.now ≡ ErrorKind.OutOfMemory → result ≡ Run OutOfMemory }
         ensures name { error_kind error.now ≡ ErrorKind.InvalidFilename
@@ -202,8 +202,8 @@ impl Fault {
         })
     }
 
-    /// The fault of a digest list with a bad line, counted from 1. Where no list was given it has
-    /// no line.
+    /// The fault of a digest list with a bad line, counted from 1. A list that is not given has no
+    /// lines; its path is empty.
     ///
     /// # Errors
     ///

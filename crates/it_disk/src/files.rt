@@ -46,8 +46,8 @@ pub(crate) fn read_file<R: Files + AllocGlobal>(rt: &R, path: &str) -> Result<Ve
     }
 }
 
-/// How many bytes there is to be room for before a file is read: as many as the system says that it
-/// has, up to the limit, and one more, by which its end is seen. What the system says is a guess.
+/// How many bytes to make room for before a file is read: its size as the system gives it, which is
+/// a guess, up to the limit, and one more, by which the end is noticed.
 fn room_for<F: OpenFile>(file: &F) -> usize
     ensures { result ≤ 8388609 }
 {
@@ -72,7 +72,7 @@ pub fn bytes<R: Disk>(rt: &R, path: &Text) -> Result<Sequence<u8>, Fault>
 ///
 /// # Errors
 ///
-/// As of `bytes`.
+/// Those of `bytes`.
 pub fn bytes_if_given<R: Disk + AllocGlobal>(
     rt: &R,
     path: &Option<Text>,
@@ -85,11 +85,11 @@ pub fn bytes_if_given<R: Disk + AllocGlobal>(
     }
 }
 
-/// The ring that the file at a path is.
+/// The ring in the file at a path.
 ///
 /// # Errors
 ///
-/// As of `bytes`, and `BadRing` with the first thing that keeps the bytes from being a ring.
+/// Those of `bytes`, and `BadRing` with the first thing that keeps the bytes from being a ring.
 pub fn read_ring<R: Disk + AllocGlobal>(rt: &R, path: &str) -> Result<HmacRing, Fault>
     ensures ok { IfOk result (HoldsRing R.holdings path.now) }
     ensures faults { IfErr result (λ fault. IsFileFault path.now fault
@@ -107,11 +107,11 @@ pub fn read_ring<R: Disk + AllocGlobal>(rt: &R, path: &str) -> Result<HmacRing, 
     }
 }
 
-/// The key objects of the file at a path, under their ids.
+/// The key objects in the file at a path, under their ids.
 ///
 /// # Errors
 ///
-/// As of `bytes`, and `BadKeys` where the bytes are no object from id to key object.
+/// Those of `bytes`, and `BadKeys` where the bytes are no object from id to key object.
 pub fn read_keys<R: Disk + AllocGlobal>(rt: &R, path: &str) -> Result<Table<KeyObject>, Fault>
     ensures ok { IfOk result (HoldsKeys R.holdings path.now) }
     ensures faults { IfErr result (λ fault. IsFileFault path.now fault
@@ -127,12 +127,12 @@ pub fn read_keys<R: Disk + AllocGlobal>(rt: &R, path: &str) -> Result<Table<KeyO
     }
 }
 
-/// All bytes of a reader, or `None` where there are more than `limit`. Reads one byte beyond the
-/// limit at most. There is `room` for so many bytes from the beginning; for more it is made.
+/// All bytes of a reader, or `None` where there are more than `limit`. Reads at most one byte
+/// beyond the limit. Starts with room for `room` bytes, and makes more as needed.
 ///
 /// # Errors
 ///
-/// What the reader answers, or that memory was refused.
+/// The reader's error, or that memory was refused.
 pub fn read_limited<R: Read + Drop>(
     alloc: Global,
     reader: R,

@@ -19,7 +19,7 @@ use std::{fs, io};
 /// How many entries of one folder may be read.
 const MOST_ENTRIES: usize = 1_000;
 
-/// How the names of the files end that are read.
+/// How the names of the files that are read end.
 const ENDING: &str = ".link";
 
 /// What is read: a file, or a folder.
@@ -27,7 +27,7 @@ const ENDING: &str = ".link";
 pub enum Kind {
     /// The bytes of a file.
     File,
-    /// What stands in a folder.
+    /// The entries of a folder.
     Folder,
 }
 
@@ -36,7 +36,7 @@ pub enum Kind {
 pub(crate) enum Wanted {
     /// All of them.
     All,
-    /// Those under which files of links are read, and folders too where they are read.
+    /// Those that files of links have, and those of folders too where `folders` are read.
     OfLinks { folders: bool },
 }
 
@@ -54,7 +54,7 @@ impl Wanted {
 pub struct Links {
     /// The links.
     pub bundle: Bundle,
-    /// The files that are left out, in the order in which they are met.
+    /// The files that are left out, in the order in which they were found.
     pub left_out: Vec<LeftOut>,
 }
 
@@ -143,8 +143,8 @@ fn add_folder(alloc: Global, links: &mut Links, entry: Entry, inner: Links) -> R
     }
 }
 
-/// The records of inspections in a folder: its files whose names end in `.link`, each under what
-/// stands before that.
+/// The records of inspections in a folder: its files whose names end in `.link`, each under its
+/// name without that ending.
 pub(crate) fn read_records<R: Files + AllocGlobal>(
     rt: &R,
     folder: &str,
@@ -211,8 +211,8 @@ pub(crate) fn names<R: Files + AllocGlobal>(
     Ok(names)
 }
 
-/// What an entry is read as, or `None` where it is passed over: a folder too deep, a file whose
-/// name ends otherwise, and what is neither. A symbolic link is what it leads to.
+/// What an entry is read as, or `None` where it is skipped: a folder too deep, a file with another
+/// ending, or what is neither. A symbolic link counts as what it leads to.
 fn kind_of<R: Files + AllocGlobal>(
     rt: &R,
     name: &str,
@@ -227,7 +227,7 @@ fn kind_of<R: Files + AllocGlobal>(
     }
 }
 
-/// The fault of a path of which the system does not tell what stands there.
+/// The fault of a path where the system does not say what is there.
 pub(crate) fn untold<R: Files + AllocGlobal>(
     rt: &R,
     path: &str,

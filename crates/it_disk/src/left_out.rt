@@ -12,7 +12,7 @@ use std::fmt;
 use std::fmt::{Display, Formatter};
 use std::io::Write;
 
-/// How many lines are written of these notes, at the most.
+/// How many lines of these notes are written at most.
 const MOST_LINES: usize = 40;
 
 /// That an envelope has this many signatures, which are too many.
@@ -43,8 +43,8 @@ impl Display for TooMany {
     }
 }
 
-/// How many signatures the envelope has that bytes are, where signatures are limited and these are
-/// too many.
+/// How many signatures the envelope in the bytes has, where signatures are limited and it has too
+/// many.
 ///
 /// # Errors
 ///
@@ -96,8 +96,8 @@ pub fn note_left_out<N: Write>(alloc: Global, left_out: &[LeftOut], notes: &mut 
     }
 }
 
-/// A line for each of what is left out; but where these are more than 40, the last line says how
-/// many further ones there are.
+/// A line for each thing left out; where there are more than 40, the last line says how many more
+/// there are.
 fn text_of(alloc: Global, left_out: &[LeftOut]) -> Result<String, AllocError> {
     let mut text = String::new(alloc);
     let shown = if left_out.len() > MOST_LINES {

@@ -6,7 +6,7 @@ use std::fs;
 use std::path::Path;
 use std::rt::Files;
 
-/// What stands in a folder.
+/// An entry of a folder.
 #[derive(Drop)]
 pub struct Listed {
     /// Its name in the folder.
@@ -15,13 +15,13 @@ pub struct Listed {
     pub kind: Kind,
 }
 
-/// All that stands in a folder, in the order of the names' bytes. A symbolic link to a file is a
-/// file.
+/// All entries of a folder, in the order of their names' bytes. A symbolic link to a file counts as
+/// a file.
 ///
 /// # Errors
 ///
-/// Where the folder cannot be read, or something in it is neither a file nor a folder, as a
-/// symbolic link to a folder is.
+/// Where the folder cannot be read, or an entry is neither a file nor a folder, such as a symbolic
+/// link to a folder.
 pub(crate) fn list<R: Files + AllocGlobal>(rt: &R, folder: &str) -> Result<Vec<Listed>, Fault> {
     let alloc = rt.alloc();
     let mut entries = Vec::new(alloc);
@@ -34,7 +34,7 @@ pub(crate) fn list<R: Files + AllocGlobal>(rt: &R, folder: &str) -> Result<Vec<L
     Ok(entries)
 }
 
-/// What stands at a path in a folder.
+/// What is at a path in a folder.
 fn kind_in<R: Files + AllocGlobal>(rt: &R, path: &str) -> Result<Kind, Fault> {
     let kind = kind_at(rt, path)?;
     if kind == Kind::Folder && is_link(rt, path)? {
@@ -43,11 +43,11 @@ fn kind_in<R: Files + AllocGlobal>(rt: &R, path: &str) -> Result<Kind, Fault> {
     Ok(kind)
 }
 
-/// What stands at a path. A symbolic link is what it leads to.
+/// What is at a path. A symbolic link counts as what it leads to.
 ///
 /// # Errors
 ///
-/// Where nothing stands there, or neither a file nor a folder.
+/// Where nothing is there, or neither a file nor a folder.
 pub(crate) fn kind_at<R: Files + AllocGlobal>(rt: &R, path: &str) -> Result<Kind, Fault> {
     match fs::metadata(rt, path) {
         Ok(found) if found.is_file() => Ok(Kind::File),

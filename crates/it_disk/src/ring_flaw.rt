@@ -53,7 +53,7 @@ pub enum EntryFlaw {
     NoSecret,
 }
 
-/// What keeps the bytes from being a ring. They are read again, for the note alone.
+/// What keeps the bytes from being a ring. They are read again, only for the note.
 pub(crate) fn ring_flaw(alloc: Global, bytes: &[u8]) -> Result<RingFlaw, AllocError>
     ensures { IfOk result (IsRingFlaw bytes.now) }
 {
@@ -111,7 +111,7 @@ fn entry_flaw(alloc: Global, item: &Value) -> Result<Option<EntryFlaw>, AllocErr
     Ok(None)
 }
 
-/// The first entry whose id one before it has.
+/// The first entry whose id an earlier one has.
 fn first_repeat(alloc: Global, entries: &[Value]) -> Result<Option<RingFlaw>, AllocError>
     ensures { IfOk result (λ found. IfSome found (IsItemsFlaw (items_view entries.now))) }
 {

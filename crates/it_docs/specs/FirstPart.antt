@@ -1,7 +1,7 @@
 -- The first part of a document that fails.
 use Rattle.std.specs.Prelude.{◌≡◌, ◌⊎◌, ℕ, ◌<◌}
 
--- the order of the places of parts: by the row, and then by the number in the row
+-- the order of places: by row, and then by the number in the row
 abbrev pub Precedes : ℕ × ℕ → ℕ × ℕ → Type 0
 Precedes a b = (a.0 < b.0) ⊎ ((a.0 ≡ b.0) × (a.1 < b.1))
 

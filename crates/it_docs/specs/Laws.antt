@@ -1,4 +1,4 @@
--- Each input has at most one record, and none where a part of it fails.
+-- Each input is read in at most one way, and not at all where a part of it fails.
 use Rattle.std.specs.Prelude.{◌≡◌, ℕ, ℤ, List}
 use Rattle.it_docs.specs.Layout.{LayoutOf}
 use Rattle.it_docs.specs.LayoutPart.{LayoutPartOf}

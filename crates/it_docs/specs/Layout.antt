@@ -12,8 +12,8 @@ use Rattle.it_docs.specs.Step.{IsInspection, IsStep}
 use Rattle.it_base.specs.Table.{IsTable}
 use Rattle.it_docs.specs.declared.layout.Layout.{Layout}
 
--- a layout of a document; what is missing is empty. That names differ and thresholds are at least 1
--- is kept by the types, so a document where they are not is no layout.
+-- a layout in a document; missing keys, steps or inspections are empty. The types ensure that names
+-- differ and thresholds are at least 1, so a document that breaks this is not a layout.
 pub record IsLayout (d : Data) (layout : Layout) : Type 0 where
   pub type_is : IsPart IsText (codes "_type") d (codes "layout")
   pub expires : IsPart IsMoment (codes "expires") d layout.expires

@@ -22,7 +22,7 @@ use Rattle.it_docs.specs.declared.layout_fault.LayoutPart.TheVariants.{Inspect, 
 use Rattle.it_docs.specs.declared.step.Inspection.{Inspection}
 use Rattle.it_docs.specs.declared.step.Step.{Step as LayoutStep}
 
--- the parts in their order; of steps and inspections the least number comes first
+-- the parts in their order; steps and inspections are in the order of their numbers
 abbrev pub place : LayoutPart → ℕ × ℕ
 place Json = (0, 0)
 place WrongType = (1, 0)
@@ -51,7 +51,7 @@ PartReads d (DuplicateName name) =
     → IsPartOr (IsList IsInspection) [] (codes "inspect") d inspections
     → ¬ IsFirstRepeat (names_of steps inspections) name
 
--- the bytes are a document with this part
+-- the bytes are a document in which this part reads
 abbrev pub Reads : List ℕ → LayoutPart → Type 0
 Reads bytes part = (d : Data) × IsDocument bytes d × PartReads d part
 

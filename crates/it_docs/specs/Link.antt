@@ -9,7 +9,7 @@ use Rattle.it_digest.specs.Digest.{IsDigestSet}
 use Rattle.it_base.specs.Table.{IsTable}
 use Rattle.it_docs.specs.declared.link.Link.{Link}
 
--- a link of a document; maps that are missing are empty (this profile's choice)
+-- a link in a document; missing maps are empty (this profile's choice)
 pub record IsLink (d : Data) (link : Link) : Type 0 where
   pub type_is : IsPart IsText (codes "_type") d (codes "link")
   pub name : IsPart IsText (codes "name") d link.name

@@ -1,4 +1,4 @@
--- Moments in UTC: the date and time of RFC 3339 in its one form of 20 bytes, without leap seconds
+-- Moments in UTC: the date and time of RFC 3339, only in its 20-byte form and without leap seconds
 -- (this profile's choice).
 use Rattle.std.specs.Prelude.{◌≡◌, ℕ, ◌+◌, ◌*◌, ◌/◌, ◌%◌, ◌<◌, ℤ, pos, ◌+ℤ◌, ◌*ℤ◌, List, [], ◌∷◌}
 use Rattle.std.specs.Prelude.{◌++◌, MatchOption}
@@ -18,7 +18,7 @@ moment_text year month day hour minute second =
     ++ 45 ∷ two_digits_of month ++ 45 ∷ two_digits_of day
     ++ 84 ∷ two_digits_of hour ++ 58 ∷ two_digits_of minute ++ 58 ∷ two_digits_of second ++ 90 ∷ []
 
--- the text is this moment, as the number of seconds from 1970-01-01T00:00:00Z: a date of the
+-- the text is this moment, as the number of seconds since 1970-01-01T00:00:00Z: a date of the
 -- Gregorian calendar in the years 0000 to 9999, and a time of the day
 pub record MomentOf (text : List ℕ) (moment : ℤ) : Type 0 where
   pub date : Date

@@ -17,7 +17,7 @@ use Rattle.it_docs.specs.declared.policy.Builder.{Builder}
 use Rattle.it_docs.specs.declared.policy.Expectation.{Expectation}
 use Rattle.it_docs.specs.declared.policy.Policy.{Policy}
 
--- a builder of an expectation; its keys must be there, and may be none
+-- a builder of an expectation; its keys must be there, and may be empty
 pub record IsBuilderOf (d : Data) (builder : Builder) : Type 0 where
   pub id : IsPart IsText (codes "id") d builder.id
   pub keys : IsPart (IsTable IsKeyObject) (codes "keys") d builder.keys
@@ -32,13 +32,13 @@ pub record IsExpectation (d : Data) (expectation : Expectation) : Type 0 where
   pub ignore : IsPartOr (IsList IsText) [] (codes "ignore") d expectation.ignore
   pub level : IsLevelPart d expectation.level
 
--- the owners of a policy, of whom there is at least one
+-- the owners of a policy, at least one
 pub record HasOwners (d : Data) (owners : Named KeyObject) : Type 0 where
   pub part : IsPart (IsTable IsKeyObject) (codes "owners") d owners
   pub some : owners ≢ empty
 
--- a policy of a document; that there is an owner is kept by the type, so a document without any is
--- no policy
+-- a policy in a document; the type ensures that there is an owner, so a document without one is
+-- not a policy
 pub record IsPolicy (d : Data) (policy : Policy) : Type 0 where
   pub owners : IsPart (IsTable IsKeyObject) (codes "owners") d policy.owners
   pub deliver : IsPartOr (IsList IsRule) [] (codes "deliver") d policy.deliver

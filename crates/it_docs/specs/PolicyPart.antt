@@ -16,7 +16,7 @@ use Rattle.it_docs.specs.declared.policy_fault.PolicyPart.TheVariants.{Json, Own
 use Rattle.it_docs.specs.declared.policy_fault.PolicyPart.TheVariants.{Expectations, Expectation}
 use Rattle.it_docs.specs.declared.rule.Rule.{Rule}
 
--- the parts in their order; of expectations the least number comes first
+-- the parts in their order; expectations are in the order of their numbers
 abbrev pub place : PolicyPart → ℕ × ℕ
 place Json = (0, 0)
 place Owners = (1, 0)
@@ -32,7 +32,7 @@ PartReads d Deliver = (rules : List Rule) × IsPartOr (IsList IsRule) [] (codes 
 PartReads d Expectations = IsListOrMissing (codes "expectations") d
 PartReads d (Expectation n) = PartItemReads IsExpectation (codes "expectations") d n
 
--- the bytes are a document with this part
+-- the bytes are a document in which this part reads
 abbrev pub Reads : List ℕ → PolicyPart → Type 0
 Reads bytes part = (d : Data) × IsDocument bytes d × PartReads d part
 

@@ -1,5 +1,5 @@
--- Artifact rules as lists of texts (in-toto 1.0, section 4.3.3, artifact rules). Keywords, the
--- words of the side among them, go without regard to ASCII case (this profile's choice).
+-- Artifact rules as lists of texts (in-toto 1.0, section 4.3.3, artifact rules). Keywords,
+-- including those of the sides, are compared without regard to ASCII case (this profile's choice).
 use Rattle.std.specs.Prelude.{◌≡◌, ℕ, List, [], ◌∷◌, ◌++◌, Bool, true, codes}
 use Rattle.std.specs.Str.{str_eq_ignore_ascii_case}
 use Rattle.serde_json.specs.Data.{Data}
@@ -18,7 +18,7 @@ is_keyword keyword text = str_eq_ignore_ascii_case text keyword
 abbrev pub IsKeyword : List ℕ → List ℕ → Type 0
 IsKeyword keyword text = is_keyword keyword text ≡ true
 
--- the text is the word of this side
+-- the text is the keyword of this side
 abbrev pub IsSide : Side → List ℕ → Type 0
 IsSide Materials text = IsKeyword (codes "MATERIALS") text
 IsSide Products text = IsKeyword (codes "PRODUCTS") text
@@ -29,7 +29,7 @@ pub record IsShort (texts : List (List ℕ)) (keyword operand : List ℕ) : Type
   pub texts_are : texts ≡ first ∷ operand ∷ []
   pub is_first : IsKeyword keyword first
 
--- the words of a prefix are IN and the prefix; one that is missing has none, and is empty
+-- the words of a prefix are IN and the prefix; a missing prefix has no words, and is empty
 abbrev pub IsPrefix : List (List ℕ) → List ℕ → Type 0
 IsPrefix [] prefix = prefix ≡ []
 IsPrefix (within ∷ rest) prefix = IsKeyword (codes "IN") within × (rest ≡ prefix ∷ [])

@@ -24,11 +24,11 @@ pub record IsSubject (d : Data) (set : DigestSet) : Type 0 where
 abbrev pub IsSubjects : Data → List DigestSet → Type 0
 IsSubjects = IsPart (IsList IsSubject) (codes "subject")
 
--- the builder's id, in a provenance
+-- the builder's id, in provenance
 abbrev pub IsBuilder : Data → List ℕ → Type 0
 IsBuilder = IsPart (IsPart (IsPart IsText (codes "id")) (codes "builder")) (codes "runDetails")
 
--- a provenance of a document; parameters that are missing are none (this profile's choice)
+-- provenance in a document; missing parameters are empty (this profile's choice)
 pub record IsProvenance (d : Data) (provenance : Provenance) : Type 0 where
   pub build_type : IsPart (IsPart IsText (codes "buildType")) (codes "buildDefinition") d
       provenance.build_type
@@ -41,7 +41,7 @@ pub record IsProvenanceOf (d : Data) (provenance : Provenance) : Type 0 where
   pub type_is : IsPart IsText (codes "predicateType") d (codes "https://slsa.dev/provenance/v1")
   pub predicate : IsPart IsProvenance (codes "predicate") d provenance
 
--- a Statement of a document; where its predicate is no provenance, there is none
+-- a Statement in a document; where its predicate is not provenance, it has none
 pub record IsStatement (d : Data) (statement : Statement) : Type 0 where
   pub type_is : IsPart IsText (codes "_type") d (codes "https://in-toto.io/Statement/v1")
   pub subjects : IsSubjects d statement.subjects

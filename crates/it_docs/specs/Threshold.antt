@@ -9,6 +9,6 @@ pub record IsThreshold (d : Data) (threshold : ℕ) : Type 0 where
   pub number_is : option_and_then as_u64 (as_number d) ≡ Some threshold
   pub at_least_one : 1 ≤ threshold
 
--- the threshold of a step; one that is missing is 1
+-- the threshold of a step; a missing one is 1
 abbrev pub IsThresholdPart : Data → ℕ → Type 0
 IsThresholdPart = IsPartOr IsThreshold 1 (codes "threshold")

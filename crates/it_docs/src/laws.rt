@@ -3,42 +3,42 @@
 ghost use Rattle.it_docs.specs.Laws.{BadPartIsNoLayout, BadPartIsNoPolicy, OneLayout, OneLink};
 ghost use Rattle.it_docs.specs.Laws.{OneMoment, OnePolicy, OneRule, OneStatement};
 
-/// The bytes are at most one layout.
+/// Bytes can be read as at most one layout.
 pub fn one_layout()
     ensures { OneLayout }
 {}
 
-/// The bytes are at most one link.
+/// Bytes can be read as at most one link.
 pub fn one_link()
     ensures { OneLink }
 {}
 
-/// A text is at most one moment.
+/// A text can be read as at most one moment.
 pub fn one_moment()
     ensures { OneMoment }
 {}
 
-/// The bytes are at most one policy.
+/// Bytes can be read as at most one policy.
 pub fn one_policy()
     ensures { OnePolicy }
 {}
 
-/// Texts are at most one rule.
+/// Texts can be read as at most one rule.
 pub fn one_rule()
     ensures { OneRule }
 {}
 
-/// The bytes are at most one Statement.
+/// Bytes can be read as at most one Statement.
 pub fn one_statement()
     ensures { OneStatement }
 {}
 
-/// Bytes of which a part is the first that fails are no layout.
+/// Bytes that have a first part that fails are not a layout.
 pub fn bad_part_is_no_layout()
     ensures { BadPartIsNoLayout }
 {}
 
-/// Bytes of which a part is the first that fails are no policy.
+/// Bytes that have a first part that fails are not a policy.
 pub fn bad_part_is_no_policy()
     ensures { BadPartIsNoPolicy }
 {}

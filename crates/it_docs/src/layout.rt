@@ -11,7 +11,7 @@ use it_dsse::key_object::KeyObject;
 /// A layout.
 #[derive(Drop)]
 pub struct Layout {
-    /// The moment after which the layout has expired, in seconds from 1970-01-01T00:00:00Z.
+    /// The moment after which the layout has expired, in seconds since 1970-01-01T00:00:00Z.
     pub expires: i64,
     /// The keys by their ids.
     pub keys: Table<KeyObject>,
@@ -19,7 +19,7 @@ pub struct Layout {
     pub steps: Sequence<Step>,
     /// The inspections, in order.
     pub inspections: Sequence<Inspection>,
-    /// No two of the names of steps and inspections are equal.
+    /// The names of steps and inspections all differ.
     pub ghost names_differ: { IsDistinct bytes_eq
         (names_of steps inspections) } by { IsDistinct-prop _ _ },
 }

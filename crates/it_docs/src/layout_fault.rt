@@ -5,7 +5,7 @@ ghost use Rattle.it_docs.specs.declared.layout_fault.LayoutFault.TheVariants.{Ou
 use it_base::text::Text;
 use std::alloc::AllocError;
 
-/// A part of a layout, in the order in which parts are looked at.
+/// A part of a layout that can fail, in the order in which parts are checked.
 #[derive(Drop)]
 pub enum LayoutPart {
     /// The document is not a JSON object.

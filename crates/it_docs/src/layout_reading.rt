@@ -1,4 +1,4 @@
-//! The reading of layouts (in-toto 1.0 section 4.3).
+//! Reading layouts (in-toto 1.0 section 4.3).
 ghost use Rattle.std.specs.Prelude.{◌≡◌, [], IfOk, IfErr, MatchOption, MatchResult, codes, map};
 ghost use Rattle.std.specs.List.{IsDistinct};
 ghost use Rattle.std.specs.Str.{bytes_eq};
@@ -28,8 +28,8 @@ use it_dsse::key_object::KeyObject;
 use serde_json::Value;
 use std::alloc::{AllocError, Global};
 
-/// Reads a layout: the body of a layout's envelope. `readme`, the commands of steps and inspections
-/// and other members are not looked at.
+/// Reads a layout: the body of a layout's envelope. `readme`, the commands of steps and
+/// inspections, and any further members are ignored.
 ///
 /// # Errors
 ///

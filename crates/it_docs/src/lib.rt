@@ -1,5 +1,5 @@
 //! The documents of a verification (in-toto specification 1.0, in-toto Attestation Statement v1,
-//! SLSA Provenance v1): layouts, links, Statements, policies, and what stands in them.
+//! SLSA Provenance v1): layouts, links, Statements, policies, and what they contain.
 #![tactic(auto)]
 
 pub mod fault;

@@ -23,7 +23,7 @@ pub struct Link {
 }
 
 /// Reads a link: the body of a link's envelope, or the record of an inspection. The command, the
-/// byproducts and the environment are not looked at.
+/// byproducts and the environment are ignored.
 ///
 /// # Errors
 ///

@@ -12,19 +12,19 @@ use it_base::document::member;
 use jiff::civil::Date;
 use serde_json::Value;
 
-/// A text that is no moment.
+/// The text is not a moment.
 #[derive(Clone, Copy, Debug, PartialEq, Eq)]
 pub struct BadMoment;
 
 /// Reads a moment: exactly the 20 bytes `YYYY-MM-DDThh:mm:ssZ`, with a date of the Gregorian
-/// calendar in the years 0000 to 9999, an hour up to 23, a minute and a second up to 59.
+/// calendar in the years 0000 to 9999, an hour up to 23, and a minute and a second up to 59.
 ///
-/// The answer is the number of seconds from 1970-01-01T00:00:00Z, without leap seconds. Takes no
+/// The result is the number of seconds since 1970-01-01T00:00:00Z, without leap seconds. Takes no
 /// memory.
 ///
 /// # Errors
 ///
-/// `BadMoment` where the text is no such moment.
+/// `BadMoment` where the text is not such a moment.
 pub fn read_moment(text: &str) -> Result<i64, BadMoment>
     ensures { MatchResult result (MomentOf text.now)
         (λ _. (moment : ℤ) → ¬ MomentOf text.now moment) }
@@ -35,7 +35,7 @@ pub fn read_moment(text: &str) -> Result<i64, BadMoment>
     }
 }
 
-/// The moment that the member of this name is, or `None` where it is missing or is no moment.
+/// The moment in the member of this name, or `None` where it is missing or not a moment.
 pub(crate) fn moment_at(value: &Value, name: &str) -> Option<i64>
     ensures { Finds (IsPart IsMoment name.now (view value.now)) result }
 {
@@ -88,7 +88,7 @@ fn moment_of(text: &[u8]) -> Option<i64>
     Some(86_400 * days + i64::from(seconds))
 }
 
-/// The number of two decimal digits.
+/// The number that two decimal digits make.
 fn two_digits(tens: u8, ones: u8) -> Option<u8>
     ensures { Finds (AreTwoDigits tens ones) result }
 {
@@ -99,7 +99,7 @@ fn two_digits(tens: u8, ones: u8) -> Option<u8>
     }
 }
 
-/// The day number of a date from 1970-01-01, where the calendar has the date.
+/// The number of days from 1970-01-01 to a date, where the calendar has the date.
 fn day_number(year: u16, month: u8, day: u8) -> Option<i64>
     requires year { year < 10000 }
     requires month { month < 100 }
@@ -115,7 +115,7 @@ fn day_number(year: u16, month: u8, day: u8) -> Option<i64>
     }
 }
 
-/// The second of a time in its day, where there is such a time.
+/// The second of the day at a time, where there is such a time.
 fn second_of_day(hour: u8, minute: u8, second: u8) -> Option<u32>
     ensures { MatchOption result (¬ ((hour < 24) × (minute < 60) × (second < 60)))
         (λ seconds. (hour < 24) × (minute < 60) × (second < 60)

@@ -1,4 +1,4 @@
-//! Policies: who owns a layout, and what is expected of what is delivered (this profile's choice).
+//! Policies: who owns a layout, and what is expected of a delivery (this profile's choice).
 ghost use Rattle.std.specs.Prelude.{◌≡◌, ◌≢◌, IfOk};
 ghost use Rattle.std.specs.FinMap.{empty};
 ghost use Rattle.serde_json.specs.View.{view};
@@ -44,7 +44,7 @@ pub struct Expectation {
     pub parameters: Members,
     /// The names of further parameters that it may have had.
     pub ignore: Sequence<Text>,
-    /// The least SLSA build level, 0 to 3, that a builder must have.
+    /// The lowest SLSA build level, 0 to 3, that a builder may have.
     pub level: u8,
 }
 
@@ -116,7 +116,7 @@ impl FromDocument for Expectation {
     }
 }
 
-/// The pattern whose text is the member of this name, or `None` where it is missing or no text.
+/// The pattern in the member of this name, or `None` where it is missing or not a text.
 fn pattern_at(alloc: Global, value: &Value, name: &str) -> Result<Option<Pattern>, AllocError>
     ensures { IfOk result (Finds (IsPart IsText name.now (view value.now))) }
 {
@@ -135,8 +135,8 @@ fn pattern_of(alloc: Global, value: &Value) -> Result<Option<Pattern>, AllocErro
     }
 }
 
-/// The level of a builder or an expectation: 0 where it is missing, and `None` where it is no whole
-/// number from 0 to 3.
+/// The level of a builder or an expectation: 0 where it is missing, and `None` where it is not a
+/// whole number from 0 to 3.
 fn level(value: &Value) -> Option<u8>
     ensures { Finds (IsLevelPart (view value.now)) result }
 {

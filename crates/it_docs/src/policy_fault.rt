@@ -4,16 +4,16 @@ ghost use Rattle.it_docs.specs.declared.policy_fault.PolicyFault.TheVariants.{Ou
 
 use std::alloc::AllocError;
 
-/// A part of a policy, in the order in which parts are looked at.
+/// A part of a policy that can fail, in the order in which parts are checked.
 #[derive(Clone, Copy, Debug, PartialEq, Eq)]
 pub enum PolicyPart {
     /// The document is not a JSON object.
     Json,
-    /// `owners` is no object from id to key object, or has no member.
+    /// `owners` is not an object from id to key object, or has no members.
     Owners,
-    /// `deliver` is no list of rules.
+    /// `deliver` is not a list of rules.
     Deliver,
-    /// `expectations` is no list.
+    /// `expectations` is not a list.
     Expectations,
     /// The expectation at this index, from 0, is not an expectation.
     Expectation(usize),

@@ -1,4 +1,4 @@
-//! The reading of policies (this profile's choice).
+//! Reading policies (this profile's choice).
 ghost use Rattle.std.specs.Prelude.{◌≡◌, [], IfOk, IfErr, MatchResult, codes};
 ghost use Rattle.serde_json.specs.View.{view};
 ghost use Rattle.it_base.specs.Finds.{Finds};

@@ -17,7 +17,7 @@ use std::alloc::{AllocError, Global};
 /// A side of a step: what went in, or what came out.
 #[derive(Clone, Copy, Debug, PartialEq, Eq)]
 pub enum Side {
-    /// What the step took.
+    /// What the step used.
     Materials,
     /// What the step made.
     Products,
@@ -28,7 +28,7 @@ pub enum Side {
 pub enum Rule {
     /// `MATCH`: consumes what a named step recorded with the same digests.
     Match {
-        /// What stands after the source prefix.
+        /// The pattern for what follows the source prefix.
         pattern: Pattern,
         /// The prefix on the judged side; empty where the rule has none.
         source_prefix: Text,
@@ -39,9 +39,9 @@ pub enum Rule {
         /// The name of the step.
         from: Text,
     },
-    /// `CREATE`: consumes products that are no materials.
+    /// `CREATE`: consumes products that are not materials.
     Create(Pattern),
-    /// `DELETE`: consumes materials that are no products.
+    /// `DELETE`: consumes materials that are not products.
     Delete(Pattern),
     /// `MODIFY`: consumes what changed.
     Modify(Pattern),
@@ -49,14 +49,14 @@ pub enum Rule {
     Allow(Pattern),
     /// `DISALLOW`: fails where something unconsumed matches.
     Disallow(Pattern),
-    /// `REQUIRE`: fails where this path, taken literally, is not unconsumed.
+    /// `REQUIRE`: fails unless this path, taken literally, is unconsumed.
     Require(Text),
 }
 
 impl FromDocument for Rule {
     ghost is_of = { IsRule };
 
-    /// The rule that a list of texts is.
+    /// Reads a rule from a list of texts.
     fn from_document(alloc: Global, value: &Value) -> Result<Option<Rule>, AllocError> {
         match Sequence::<Text>::from_document(alloc, value)? {
             None => Ok(None),
@@ -69,8 +69,8 @@ impl FromDocument for Rule {
 /// step, or one of `CREATE`, `DELETE`, `MODIFY`, `ALLOW`, `DISALLOW` with a pattern, or `REQUIRE`
 /// with a path.
 ///
-/// The answer is the rule, or `None` where the texts are no rule. Keywords are looked for at their
-/// places alone, without regard to ASCII case.
+/// The result is the rule, or `None` where the texts are not a rule. Keywords are recognised only
+/// at their places, without regard to ASCII case.
 ///
 /// # Errors
 ///
@@ -94,7 +94,7 @@ fn texts_of(alloc: Global, strings: &[String]) -> Result<Vec<Text>, AllocError>
     Ok(texts)
 }
 
-/// The rule that the texts are, or `None`.
+/// The rule that the texts form, or `None`.
 fn found_rule(alloc: Global, texts: &[Text]) -> Result<Option<Rule>, AllocError>
     ensures { IfOk result (Finds (RuleOf texts.now)) }
 {
@@ -117,7 +117,7 @@ fn rule_from(alloc: Global, texts: &[Text]) -> Result<Option<Rule>, AllocError>
     }
 }
 
-/// The `MATCH` with one prefix or both that the texts are, or `None`.
+/// The `MATCH` with one or both prefixes that the texts form, or `None`.
 #[tactic(auto, unfolding(crate::specs::inside::RuleAnswer::prefixed_of))]
 fn prefixed_match(alloc: Global, texts: &[Text]) -> Result<Option<Rule>, AllocError>
     ensures { IfOk result (λ found. found ≡ prefixed_of texts.now) }

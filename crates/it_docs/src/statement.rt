@@ -25,7 +25,7 @@ pub struct Provenance {
     pub build_type: Text,
     /// The id of the builder.
     pub builder: Text,
-    /// The parameters that came from outside.
+    /// The external parameters.
     pub parameters: Members,
 }
 
@@ -36,11 +36,11 @@ pub struct Statement {
     pub subjects: Sequence<DigestSet>,
     /// The kind of predicate.
     pub predicate_type: Text,
-    /// The provenance, where the predicate is one.
+    /// The provenance, where the predicate is provenance.
     pub provenance: Option<Provenance>,
 }
 
-/// Reads a Statement. Names of subjects are not looked at.
+/// Reads a Statement. The names of subjects are ignored.
 ///
 /// # Errors
 ///
@@ -151,7 +151,7 @@ fn read_subjects(
     Ok(Some(Sequence::from(subjects)))
 }
 
-/// The digests of a subject: none at all where it has no digest set.
+/// The digests of a subject, empty where it has no digest set.
 fn subject(value: &Value) -> Option<DigestSet>
     ensures { Finds (IsSubject (view value.now)) result }
 {

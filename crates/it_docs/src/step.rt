@@ -22,7 +22,7 @@ pub struct Step {
     pub threshold: u64,
     /// The ids of the keys that may sign for it.
     pub pubkeys: Sequence<Text>,
-    /// The rules on what the step took.
+    /// The rules on what the step used.
     pub expected_materials: Sequence<Rule>,
     /// The rules on what the step made.
     pub expected_products: Sequence<Rule>,
@@ -35,7 +35,7 @@ pub struct Step {
 pub struct Inspection {
     /// The name of the inspection, which no step or other inspection of the layout has.
     pub name: Text,
-    /// The rules on what the inspection took.
+    /// The rules on what the inspection used.
     pub expected_materials: Sequence<Rule>,
     /// The rules on what the inspection made.
     pub expected_products: Sequence<Rule>,
@@ -99,8 +99,8 @@ impl FromDocument for Inspection {
     }
 }
 
-/// The threshold of a step: 1 where it is missing, and `None` where it is no whole number above 0
-/// that fits 64 bits.
+/// The threshold of a step: 1 where it is missing, and `None` where it is not a whole number above
+/// 0 that fits 64 bits.
 fn threshold(value: &Value) -> Option<u64>
     ensures { Finds (IsThresholdPart (view value.now)) result }
 {

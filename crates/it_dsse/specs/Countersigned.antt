@@ -1,5 +1,5 @@
--- One signature more for an envelope (DSSE v1.0, "Protocol", by which several keys may sign one
--- payload; that body and type are given again is this profile's choice).
+-- One more signature on an envelope (DSSE v1.0, "Protocol", which lets several keys sign one
+-- payload; giving body and type again is this profile's choice).
 use Rattle.std.specs.Prelude.{◌≡◌, ◌≢◌, ℕ, List, [], ◌∷◌, ◌++◌, MatchOption, None, find}
 use Rattle.it_dsse.specs.Ring.{has_id}
 use Rattle.it_dsse.specs.Signing.{signature_of}
@@ -13,7 +13,7 @@ IsSignatureUnder ring id kind body signature =
     MatchOption (find (has_id id) ring) ⊥
     (λ entry. signature ≡ signature_of entry.secret id kind body)
 
--- the old envelope holds the body, and the new one is the same with one signature more at the end
+-- the old envelope holds the body, and the new one is the same with one more signature at the end
 pub record IsCountersigned (ring : List RingEntry) (id kind body : List ℕ)
     (old new : Envelope) : Type 0 where
   pub old_type : old.payload_type ≡ kind
@@ -24,7 +24,7 @@ pub record IsCountersigned (ring : List RingEntry) (id kind body : List ℕ)
   pub is_added : IsSignatureUnder ring id kind body added
   pub signatures : new.signatures ≡ old.signatures ++ added ∷ []
 
--- the envelope's type is another
+-- the envelope has another type
 abbrev pub HasOtherType : List ℕ → Envelope → Type 0
 HasOtherType kind envelope = envelope.payload_type ≢ kind
 

@@ -9,12 +9,12 @@ use Rattle.it_base.specs.Text.{IsText}
 use Rattle.it_dsse.specs.declared.envelope.Envelope.{Envelope}
 use Rattle.it_dsse.specs.declared.envelope.Signature.{Signature}
 
--- a signature of a document: its hint on the key may be missing, and is then empty
+-- a signature in a document: its hint about the key may be missing, and is then empty
 pub record IsSignature (d : Data) (signature : Signature) : Type 0 where
   pub sig : IsPart IsBase64 (codes "sig") d signature.sig
   pub keyid : IsPartOr IsText [] (codes "keyid") d signature.keyid
 
--- an envelope of a document
+-- an envelope in a document
 pub record IsEnvelope (d : Data) (envelope : Envelope) : Type 0 where
   pub payload : IsPart IsBase64 (codes "payload") d envelope.payload
   pub payload_type : IsPart IsText (codes "payloadType") d envelope.payload_type

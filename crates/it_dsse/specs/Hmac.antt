@@ -7,7 +7,7 @@ use Rattle.sha2.specs.Sha256.{sha256}
 abbrev pub block_size : ℕ
 block_size = 64
 
--- zero bytes are added at the end, up to a block
+-- the key with zero bytes added at the end, up to a block
 abbrev pub filled : List ℕ → List ℕ
 filled key = key ++ replicate (block_size - length key) 0
 
@@ -15,7 +15,7 @@ filled key = key ++ replicate (block_size - length key) 0
 abbrev pub block_of : List ℕ → List ℕ
 block_of key = filled (if nat_lt block_size (length key) then sha256 key else key)
 
--- each byte, with the bits of the mask turned
+-- each byte, with the bits of the mask flipped
 abbrev pub masked : ℕ → List ℕ → List ℕ
 masked mask bytes = map (λ byte. bit_xor byte mask) bytes
 

@@ -6,11 +6,11 @@ use Rattle.serde_json.specs.Find.{as_object, as_str}
 use Rattle.it_base.specs.Document.{member_at}
 use Rattle.it_dsse.specs.declared.key_object.KeyObject.{KeyObject}
 
--- the text of a member: empty where there is none, or it is no text (this profile's choice)
+-- the text of a member: empty where it is missing or is not a text (this profile's choice)
 abbrev pub text_at : List ℕ → Option Data → List ℕ
 text_at name d = unwrap_or (option_and_then as_str (option_and_then (member_at name) d)) []
 
--- a key object of a document
+-- a key object in a document
 pub record IsKeyObject (d : Data) (object : KeyObject) : Type 0 where
   pub is_object : IsTrue (is_some (as_object d))
   pub keytype : object.keytype ≡ text_at (codes "keytype") (Some d)

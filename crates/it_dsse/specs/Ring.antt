@@ -1,4 +1,4 @@
--- Rings of secrets, and the check that a ring is (this profile's choice).
+-- Rings of secrets, and their use as checks (this profile's choice).
 use Rattle.std.specs.Prelude.{ℕ, ◌≤◌, List, length, map, Bool, false, if◌then◌else◌, Option, None}
 use Rattle.std.specs.Prelude.{option_map, option_and_then, unwrap_or, codes, find, position}
 use Rattle.std.specs.Prelude.{slice_get}
@@ -14,7 +14,7 @@ use Rattle.it_dsse.specs.Check.{Check}
 use Rattle.it_dsse.specs.Hmac.{block_of, hmac}
 use Rattle.it_dsse.specs.declared.ring_entry.RingEntry.{RingEntry}
 
--- an entry of a document
+-- a ring's entry in a document
 pub record IsRingEntry (d : Data) (entry : RingEntry) : Type 0 where
   pub id : IsPart IsText (codes "id") d entry.id
   pub secret : IsPart IsHexadecimal (codes "secret") d entry.secret
@@ -23,8 +23,8 @@ pub record IsRingEntry (d : Data) (entry : RingEntry) : Type 0 where
 abbrev pub ids_of : List RingEntry → List (List ℕ)
 ids_of ring = map (λ entry. entry.id) ring
 
--- the bytes are a document that is this ring: a list of not too many entries, in which no id
--- stands twice
+-- the bytes are a document that is this ring: a list of at most 65536 entries, in which no id
+-- occurs twice
 pub record RingOf (bytes : List ℕ) (ring : List RingEntry) : Type 0 where
   pub entries : OfDocument (IsList IsRingEntry) bytes ring
   pub few : length ring ≤ 65536
@@ -50,7 +50,7 @@ is_code_at ring n message sig =
     unwrap_or
     (option_map (λ entry. bytes_eq (hmac entry.secret message) sig) (slice_get ring n)) false
 
--- what a ring answers: it knows keys of the scheme hmac-sha256 alone
+-- what a ring answers: it knows only keys of the scheme hmac-sha256
 abbrev pub ring_check : List RingEntry → Check
 ring_check ring = record {
   key_of = λ id object.

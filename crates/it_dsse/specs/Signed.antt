@@ -10,7 +10,7 @@ use Rattle.it_dsse.specs.declared.envelope.Signature.{Signature}
 use Rattle.it_dsse.specs.declared.key_object.KeyObject.{KeyObject}
 
 -- a signature is admitted for an id: its hint is empty or the id (this profile's choice; DSSE v1.0
--- calls keyid a hint that nothing vouches for)
+-- calls keyid an unauthenticated hint)
 abbrev pub is_admitted : List ℕ → Signature → Bool
 is_admitted id signature = bytes_eq signature.keyid [] || bytes_eq signature.keyid id
 
@@ -34,7 +34,7 @@ pub record Signed (panel : Panel) (envelope : Envelope) (id : List ℕ) (object 
 abbrev pub IsSigner : Panel → Envelope → KeyObject → List ℕ → Type 0
 IsSigner panel envelope object id = (n : KeyNumber) × Signed panel envelope id object n
 
--- the elements of which P holds, in their order, and no others
+-- the elements for which P holds, in their order, and no others
 abbrev pub AreThose : {X : Type 0} → (X → Type 0) → List X → List X → Type 0
 AreThose P [] kept = kept ≡ []
 AreThose P (x ∷ xs) kept =

@@ -1,4 +1,4 @@
--- Which envelope a key of a ring makes of a body (DSSE v1.0, "Protocol").
+-- The envelope that a key of a ring makes of a body (DSSE v1.0, "Protocol").
 use Rattle.std.specs.Prelude.{◌≡◌, ℕ, List, [], ◌∷◌, MatchOption, find}
 use Rattle.it_dsse.specs.Hmac.{hmac}
 use Rattle.it_dsse.specs.Pae.{pae_of}
@@ -11,7 +11,7 @@ use Rattle.it_dsse.specs.declared.ring_entry.RingEntry.{RingEntry}
 abbrev pub signature_of : List ℕ → List ℕ → List ℕ → List ℕ → Signature
 signature_of secret id kind body = record { keyid = id; sig = hmac secret (pae_of kind body) }
 
--- the body of a type with that one signature
+-- the envelope of a body of a type with that one signature
 abbrev pub signed_envelope : List ℕ → List ℕ → List ℕ → List ℕ → Envelope
 signed_envelope secret id kind body =
     record {

@@ -7,7 +7,7 @@ use Rattle.it_base.specs.Base64Text.{base64_encoded}
 use Rattle.it_dsse.specs.declared.envelope.Envelope.{Envelope}
 use Rattle.it_dsse.specs.declared.envelope.Signature.{Signature}
 
--- a signature as a JSON object, in which the hint on the key always stands
+-- a signature as a JSON object, which always has the hint about the key
 abbrev pub signature_document : Signature → Data
 signature_document signature = object
     (member (codes "keyid") (string signature.keyid)
@@ -26,7 +26,7 @@ document_of envelope = object
     (member (codes "signatures") (signatures_document envelope.signatures)
     no_members)))
 
--- what is written of an envelope: its JSON text with no space and no line feed (this profile's
+-- the written form of an envelope: its JSON text with no space and no line feed (this profile's
 -- choice; DSSE v1.0 fixes no spelling)
 unfoldable pub written_form : Envelope → List ℕ
 written_form envelope = compact_text (document_of envelope)

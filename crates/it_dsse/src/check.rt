@@ -1,4 +1,4 @@
-//! The check of signatures, which the caller supplies.
+//! The signature check, which the caller supplies.
 ghost use Rattle.std.specs.Prelude.{◌≡◌};
 ghost use Rattle.it_dsse.specs.Check.{Check};
 ghost use Rattle.it_dsse.specs.Joined.{joined};
@@ -12,28 +12,28 @@ use crate::meter::Meter;
 /// Knows keys by numbers, and decides which signatures are valid. DSSE v1.0 leaves both to its
 /// user.
 ///
-/// Checks are asked as a panel, a list of them, in which a key is named by the place of a check and
-/// its number there. Checks at different places are taken to hold different keys: nobody compares
-/// keys across places.
+/// Checks are asked as a panel, a list of checks, which names a key by the place of its check and
+/// its number there. Checks at different places are assumed to hold different keys: keys are never
+/// compared across places.
 pub trait SignatureCheck: Drop {
     // which keys the check knows, and which signatures are valid
     ghost meaning: { Self → Check };
 
     /// The number of the key that the id and the object name, or `None` where the check knows no
-    /// such key. Equal numbers mean one key.
+    /// such key. Equal numbers mean the same key.
     fn key(&self, id: &str, object: &KeyObject) -> Option<u32>
         ensures { result ≡ (meaning self.now).key_of id.now object.now };
 
     /// Whether `sig` is a valid signature, by the key of this number, of the message that the parts
-    /// make when they are joined. Counts itself in the meter.
+    /// make when they are joined. Counts one check in the meter.
     fn valid(&self, key: u32, message: &[&[u8]], sig: &[u8], meter: &mut Meter) -> bool
         ensures answer { result ≡ (meaning self.now).is_valid key (joined message.now) sig.now }
         ensures counted { meter.new ≡ raised meter.old 1 };
 
-    /// Whether one of the signatures is admitted for `id` and is valid, by the key of this number,
-    /// of the message that the parts make. The meter rises by the number of the admitted signatures
-    /// up to the first valid one. A check that can try many signatures for the price of one has a
-    /// body of its own.
+    /// Whether one of the signatures is admitted for `id` and is a valid signature, by the key of
+    /// this number, of the message that the parts make. The meter rises by the number of admitted
+    /// signatures up to and including the first valid one. A check that can try many signatures at
+    /// the cost of one overrides this default.
     fn any_valid(
         &self,
         key: u32,

@@ -1,4 +1,4 @@
-//! The check by one code.
+//! The check of signatures against one code.
 ghost use Rattle.std.specs.Prelude.{◌≡◌, None, false, option_map, unwrap_or};
 ghost use Rattle.std.specs.Str.{bytes_eq};
 
@@ -6,8 +6,8 @@ use crate::check::SignatureCheck;
 use crate::key_object::KeyObject;
 use crate::meter::Meter;
 
-/// The code that a message has under the key that is asked for, where there is one. It is computed
-/// before the signatures are tried, and so once however many they are.
+/// The code of a message under the key that is asked for, if there is one. It is computed before
+/// the signatures are tried, and so only once, however many there are.
 #[derive(Drop)]
 pub(crate) struct CodeCheck {
     pub(crate) code: Option<[u8; 32]>,
@@ -20,7 +20,7 @@ impl SignatureCheck for CodeCheck {
           unwrap_or (option_map (λ code. bytes_eq code sig) check.code) false;
     } };
 
-    /// No key, since the code is that of one key.
+    /// No key, since the code is already that of one key.
     fn key(&self, _id: &str, _object: &KeyObject) -> Option<u32> {
         None
     }
@@ -35,8 +35,8 @@ impl SignatureCheck for CodeCheck {
     }
 }
 
-/// Whether a signature is a code. Where it is as long as one, all its bytes are looked at,
-/// whichever differ.
+/// Whether a signature is a code. Where the lengths are equal, all bytes are compared, whichever
+/// differ.
 fn is_same_code(code: &[u8; 32], sig: &[u8]) -> bool
     ensures { result ≡ bytes_eq code.now sig.now }
 {

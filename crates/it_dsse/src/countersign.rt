@@ -10,7 +10,7 @@ use crate::sign::signature_under;
 use it_base::sequence::Sequence;
 use std::alloc::{AllocError, Global};
 
-/// A signature that is to be made: of which body, and by which key of a ring.
+/// A signature to be made: the body that it signs, and the key of a ring that makes it.
 #[derive(Clone, Copy)]
 pub struct NewSignature<'a> {
     /// The secrets, under their ids.
@@ -26,7 +26,7 @@ pub struct NewSignature<'a> {
 /// Why no signature was added to an envelope.
 #[derive(Clone, Copy, Debug, PartialEq, Eq)]
 pub enum CountersignFault {
-    /// The envelope's payload type is another.
+    /// The envelope has another payload type.
     OtherType,
     /// The envelope's payload is not the body.
     OtherPayload,
@@ -44,9 +44,9 @@ impl From<AllocError> for CountersignFault {
     }
 }
 
-/// The envelope with one more signature, after those that it has (DSSE v1.0, "Protocol", by which
-/// several keys may sign one payload): the one that [`sign`](crate::sign::sign) makes of the body
-/// that the envelope holds.
+/// The envelope with one more signature, after its own (DSSE v1.0, "Protocol", which lets several
+/// keys sign one payload): the one that [`sign`](crate::sign::sign) makes of the body that the
+/// envelope holds.
 ///
 /// # Errors
 ///

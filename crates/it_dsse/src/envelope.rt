@@ -1,4 +1,4 @@
-//! Envelopes, and their reading.
+//! Envelopes, and reading them.
 ghost use Rattle.std.specs.Prelude.{◌≡◌, IfOk, IsErrOf};
 ghost use Rattle.serde_json.specs.View.{view};
 ghost use Rattle.it_base.specs.Finds.{Finds};
@@ -23,7 +23,7 @@ pub struct Signature {
 }
 
 impl Signature {
-    /// Whether the signature is tried for an id: its hint is empty, or the id. Takes no memory.
+    /// Whether the signature is tried for an id: its hint is empty or is the id. Takes no memory.
     pub fn is_admitted(&self, id: &str) -> bool
         ensures { result ≡ is_admitted id.now self.now }
     {
@@ -61,8 +61,8 @@ impl From<AllocError> for EnvelopeFault {
 }
 
 impl Envelope {
-    /// The envelope that the bytes are, in the JSON form of DSSE v1.0 with padded base64 of either
-    /// alphabet.
+    /// Reads an envelope from all of the bytes: the JSON form of DSSE v1.0, with padded base64 in
+    /// either alphabet.
     ///
     /// # Errors
     ///

@@ -16,7 +16,7 @@ use std::alloc::{AllocError, Global};
 pub struct KeyObject {
     /// The kind of key, such as `ed25519`.
     pub keytype: Text,
-    /// How signatures of the key are made, such as `hmac-sha256`.
+    /// The scheme of the key's signatures, such as `hmac-sha256`.
     pub scheme: Text,
     /// The public part of the key, in the scheme's own form.
     pub public: Text,
@@ -25,7 +25,7 @@ pub struct KeyObject {
 impl FromDocument for KeyObject {
     ghost is_of = { IsKeyObject };
 
-    /// The key object, where the part is a JSON object. Members that aren't texts are empty texts.
+    /// The key object, where the part is a JSON object. A member that is not text reads as empty.
     fn from_document(alloc: Global, value: &Value) -> Result<Option<KeyObject>, AllocError> {
         if !value.is_object() {
             return Ok(None);

@@ -1,4 +1,4 @@
-//! DSSE envelopes (DSSE v1.0): their reading, writing and signing, and who signed them.
+//! DSSE envelopes (DSSE v1.0): reading, writing and signing them, and finding who signed them.
 #![tactic(auto)]
 
 pub mod check;
@@ -27,7 +27,7 @@ pub use pre_authentication::pae;
 pub use signer_key::signed_by;
 pub use signers::{is_signer, signed_ids};
 
-/// The signing of a body, under the name that it has for callers.
+/// Signing a body, under the name that callers use.
 pub mod signing {
     pub use crate::countersign::{CountersignFault, NewSignature, countersign};
     pub use crate::sign::{SignFault, sign};

@@ -18,7 +18,7 @@ pub fn hmac_sha256(key: &[u8], message: &[u8]) -> [u8; 32]
     hmac_sha256_parts(key, &[message])
 }
 
-/// The code under a key of the message that the parts make when they are joined. Takes no memory.
+/// The code, under a key, of the message that the parts make when joined. Takes no memory.
 #[tactic(auto, unfolding(crate::specs::Hmac::hmac))]
 pub fn hmac_sha256_parts(key: &[u8], message: &[&[u8]]) -> [u8; 32]
     ensures { result ≡ hmac key.now (joined message.now) }

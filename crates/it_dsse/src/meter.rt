@@ -1,4 +1,4 @@
-//! How many checks of validity were asked for.
+//! How many validity checks were asked for.
 ghost use Rattle.std.specs.Prelude.{◌≡◌};
 ghost use Rattle.it_dsse.specs.Meter.{raised};
 

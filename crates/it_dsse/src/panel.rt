@@ -11,7 +11,7 @@ use crate::envelope::Signature;
 use crate::key_object::KeyObject;
 use crate::meter::Meter;
 
-/// The key that the id and the object name: the least place whose check knows it, and its number
+/// The key that the id and the object name: the first place whose check knows it, and its number
 /// there.
 pub(crate) fn key_in(
     panel: &[Box<dyn SignatureCheck>],
@@ -29,8 +29,8 @@ pub(crate) fn key_in(
     None
 }
 
-/// Whether one of the signatures is admitted for an id and valid for a key, by the check at its
-/// place, of the message that the parts make. The check counts those that it tries in the meter.
+/// Whether one of the signatures is admitted for an id and valid for a key, by the check at the
+/// key's place, for the message that the parts make. The meter counts those that the check tries.
 pub(crate) fn any_valid_in(
     panel: &[Box<dyn SignatureCheck>],
     key: (usize, u32),

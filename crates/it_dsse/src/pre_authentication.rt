@@ -5,8 +5,8 @@ ghost use Rattle.it_dsse.specs.Pae.{pae_of};
 use std::alloc::{AllocError, Global};
 
 /// The pre-authentication encoding of a body of a type (DSSE v1.0, "Protocol", PAE): `DSSEv1`, the
-/// length of the type in bytes, the type, the length of the body in bytes and the body, with one
-/// space between each two of them.
+/// length of the type in bytes, the type, the length of the body in bytes and the body,
+/// separated by single spaces.
 ///
 /// # Errors
 ///

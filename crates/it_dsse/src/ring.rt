@@ -1,4 +1,4 @@
-//! A ring of secrets, and the check that it is.
+//! A ring of secrets, and its use as a check.
 ghost use Rattle.std.specs.Prelude.{◌≡◌, IfOk, IsErrOf, find, map, option_map, position};
 ghost use Rattle.std.specs.Prelude.{slice_get, string_bytes};
 ghost use Rattle.std.specs.Option.{option_copied};
@@ -26,11 +26,11 @@ use std::alloc::{AllocError, Global};
 use std::collections::BTreeMap;
 use std::marker::Model;
 
-/// The greatest number of entries that a ring has.
+/// The greatest number of entries that a ring can have.
 const MOST_ENTRIES: usize = 65536;
 
-/// Secrets under ids, which check signatures by HMAC-SHA-256. A contract sees the list of the
-/// entries, in the order of the document.
+/// Secrets under their ids, for checking signatures by HMAC-SHA-256. A contract sees the list of
+/// the entries, in the order of the document.
 #[derive(Drop)]
 pub struct HmacRing {
     entries: Sequence<RingEntry>,
@@ -55,7 +55,7 @@ impl Model for HmacRing {
 /// Why no ring was read.
 #[derive(Clone, Copy, Debug, PartialEq, Eq)]
 pub enum RingFault {
-    /// The bytes are no ring.
+    /// The bytes are not a ring.
     BadRing,
     /// Memory was refused.
     OutOfMemory,
@@ -70,12 +70,12 @@ impl From<AllocError> for RingFault {
 }
 
 impl HmacRing {
-    /// The ring that the bytes are: a JSON list of objects, each with a text `id` and a hexadecimal
-    /// text `secret`, at most 65,536 of them, with no id twice.
+    /// Reads a ring from all of the bytes: a JSON list of at most 65,536 objects, each with a text
+    /// `id` and a hexadecimal text `secret`, with no id twice.
     ///
     /// # Errors
     ///
-    /// `BadRing` where the bytes are no ring, and `OutOfMemory` where memory was refused.
+    /// `BadRing` where the bytes are not a ring, and `OutOfMemory` where memory was refused.
     pub fn read(alloc: Global, bytes: &[u8]) -> Result<HmacRing, RingFault>
         ensures ok { IfOk result (λ ring. RingOf bytes.now ring) }
         ensures bad { IsErrOf result RingFault.BadRing → (ring : _) → ¬ RingOf bytes.now ring }
@@ -169,7 +169,7 @@ impl SignatureCheck for HmacRing {
 
     ghost meaning = { ring_check };
 
-    /// The place of the first entry whose key is that of the entry with this id, where the scheme
+    /// The place of the first entry with the same key as the entry with this id, where the scheme
     /// is `hmac-sha256`.
     fn key(&self, id: &str, object: &KeyObject) -> Option<u32> {
         if object.scheme.as_str() == "hmac-sha256" {

@@ -13,9 +13,9 @@ use std::alloc::{AllocError, Global};
 /// A secret under an id.
 #[derive(Drop)]
 pub struct RingEntry {
-    /// The id, under which a layout or a policy names the key.
+    /// The id by which a layout or a policy names the key.
     pub id: Text,
-    /// The bytes of the secret, of any number.
+    /// The bytes of the secret, which may have any length.
     pub secret: Sequence<u8>,
 }
 

@@ -10,7 +10,7 @@ use crate::ring_entry::RingEntry;
 use std::alloc::{AllocError, Global};
 use std::collections::BTreeMap;
 
-/// The place of each id, or `None` where an id stands twice.
+/// The place of each id, or `None` where an id occurs twice.
 pub(crate) fn places_of_ids(
     alloc: Global,
     entries: &[RingEntry],

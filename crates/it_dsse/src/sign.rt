@@ -1,4 +1,4 @@
-//! The signing of a body.
+//! Signing a body.
 ghost use Rattle.std.specs.Prelude.{◌≡◌, ◌↔◌, IfOk, IsErrOf, None, find};
 ghost use Rattle.it_dsse.specs.Ring.{has_id};
 ghost use Rattle.it_dsse.specs.Signing.{IsSignedUnder, signature_of, signed_envelope};
@@ -29,9 +29,9 @@ impl From<AllocError> for SignFault {
     }
 }
 
-/// The envelope of a body of the type `kind`, as `application/vnd.in-toto+json`, with one signature
-/// (DSSE v1.0, "Protocol"): the HMAC-SHA-256 of their pre-authentication encoding under the secret
-/// that the ring has for `id`, with `id` as its hint.
+/// The envelope of a body of type `kind`, such as `application/vnd.in-toto+json`, with one
+/// signature (DSSE v1.0, "Protocol"): the HMAC-SHA-256 of the pre-authentication encoding of type
+/// and body, under the secret that the ring has for `id`, with `id` as its hint.
 ///
 /// # Errors
 ///
@@ -52,7 +52,7 @@ pub fn sign(
     }
 }
 
-/// The envelope of a body with the one signature under a secret.
+/// The envelope of a body with a single signature, made under a secret.
 fn envelope_under(
     alloc: Global,
     secret: &[u8],

@@ -15,12 +15,12 @@ use crate::meter::Meter;
 use crate::panel::{any_valid_in, key_in};
 
 /// The key that signed the envelope, where some check of the panel knows the key that `id` and
-/// `object` name and some signature is valid for it; `None` elsewhere (DSSE v1.0, "Protocol"). The
-/// key is the least place whose check knows it, with its number there.
+/// `object` name and some signature is valid for it; `None` otherwise (DSSE v1.0, "Protocol"). The
+/// key is given as the first place whose check knows it, with its number there.
 ///
 /// The signatures whose hint is empty or equals `id` are tried in order by that check until one is
-/// valid, and the meter rises by the number tried. Where there is none, no check is asked for a
-/// key. Takes no memory.
+/// valid, and the meter rises by the number tried. Where no signature has such a hint, no check is
+/// asked for a key. Takes no memory.
 pub fn signed_by(
     envelope: &Envelope,
     id: &str,
@@ -50,8 +50,8 @@ fn any_admitted(signatures: &[Signature], id: &str) -> bool
     signatures.iter().any(|signature| signature.is_admitted(id))
 }
 
-/// Whether some signature that is admitted for an id is valid for a key. What is signed is handed
-/// over in parts, as the pre-authentication encoding has them.
+/// Whether some signature that is admitted for an id is valid for a key. The signed message is
+/// handed over in the parts of its pre-authentication encoding.
 #[tactic(auto, unfolding(crate::specs::Pae::pae_of))]
 fn is_vouched_for(
     envelope: &Envelope,

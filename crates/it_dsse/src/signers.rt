@@ -11,7 +11,7 @@ use crate::meter::Meter;
 use crate::signer_key::signed_by;
 use std::alloc::{AllocError, Global};
 
-/// Those of the ids whose key signed the envelope, in the order given.
+/// Those of the given ids whose key signed the envelope, in the order given.
 pub fn signed_ids(
     alloc: Global,
     envelope: &Envelope,

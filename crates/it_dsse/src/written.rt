@@ -1,4 +1,4 @@
-//! The writing of envelopes.
+//! Writing envelopes.
 ghost use Rattle.std.specs.Prelude.{◌≡◌, IfOk, IsErrOf, OnOk, string_bytes};
 ghost use Rattle.std.specs.Io.KnownBytes.{Appends};
 ghost use Rattle.serde_json.specs.Data.{put, string};
@@ -18,7 +18,7 @@ use serde_json::{Map, Value};
 use std::alloc::{AllocError, Global};
 use std::io::Write;
 
-/// Why an envelope was not written whole.
+/// Why an envelope was not fully written.
 #[derive(Clone, Copy, Debug, PartialEq, Eq)]
 pub enum WriteFault {
     /// The writer returned an error, or accepted nothing.
@@ -45,14 +45,14 @@ impl From<WriteError> for WriteFault {
 
 impl Envelope {
     /// Writes the envelope as compact JSON (DSSE v1.0, "Envelope", its JSON form), with no line
-    /// feed after it: its members in the order of their bytes, payload and signatures as base64 in
-    /// the standard alphabet with padding, and an empty hint as an empty text. It reads back as the
-    /// same envelope.
+    /// feed after it: its members in the order of their names' bytes, payload and signatures as
+    /// base64 in the standard alphabet with padding, and an empty hint as an empty text. It reads
+    /// back as the same envelope.
     ///
     /// # Errors
     ///
     /// `Write` where the writer returned an error, or 0 for bytes that it was given; part of the
-    /// text may have been written, and no write was tried again. `OutOfMemory` where memory was
+    /// text may have been written, and no write was retried. `OutOfMemory` where memory was
     /// refused; nothing was written.
     pub fn write<W: Write>(&self, alloc: Global, out: &mut W) -> Result<(), WriteFault>
         ensures ok { OnOk result

@@ -9,8 +9,8 @@ use it_ed_point::point::Point;
 use it_ed_scalar::scalar::Scalar;
 use std::marker::Model;
 
-/// A public key, decoded once. To a contract it is its 32 bytes, so equal keys are those of equal
-/// bytes.
+/// A public key, decoded once. To a contract it is its 32 bytes, so keys with equal bytes are
+/// equal.
 #[derive(Drop)]
 pub struct PublicKey {
     bytes: [u8; 32],
@@ -53,7 +53,7 @@ impl PublicKey {
         }
     }
 
-    /// The 32 bytes of the key. They are those of a public key, of whatever key they are.
+    /// The 32 bytes of the key. They are always those of a public key.
     pub fn as_bytes(&self) -> &[u8; 32]
         ensures bytes { result.now ≡ self.now }
         ensures key { IsPublicKey self.now }
@@ -61,7 +61,7 @@ impl PublicKey {
         &self.bytes
     }
 
-    /// The bytes of [S] B + [k] (-A), where A is the key's point: what a signature of the key with
+    /// The bytes of [S] B + [k] (-A), where A is the key's point: what a signature by the key with
     /// this S begins with.
     pub(crate) fn first_half(&self, s: &Scalar, k: &Scalar) -> [u8; 32]
         ensures { (a : Point) → decoded self.now ≡ Some a → result ≡ encoding_of

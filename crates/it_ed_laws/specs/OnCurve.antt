@@ -1,12 +1,12 @@
 -- When a point in extended coordinates is on edwards25519, and when two points are the same (RFC
--- 8032, sections 5.1 and 5.1.4). Coordinates (X, Y, Z, T) stand for x = X / Z and y = Y / Z, with
+-- 8032, sections 5.1 and 5.1.4). Coordinates (X, Y, Z, T) mean x = X / Z and y = Y / Z, with
 -- x y = T / Z; so Z is not 0.
 use Rattle.std.specs.Prelude.{◌≡◌, ◌≢◌, ◌<◌}
 use Rattle.it_ed_field.specs.Prime.{prime, plus_mod, minus_mod, times_mod}
 use Rattle.it_ed_point.specs.Curve.{curve_d}
 use Rattle.it_ed_point.specs.declared.point.Point.{Point}
 
--- each coordinate is the one number below the prime that stands for it (this profile's choice)
+-- each coordinate is reduced: it is a number below the prime (this profile's choice)
 pub record IsReduced (p : Point) : Type 0 where
   pub x : p.x < prime
   pub y : p.y < prime
@@ -22,8 +22,8 @@ pub record IsOnCurve (p : Point) : Type 0 where
       ≡ plus_mod (times_mod p.z p.z) (times_mod curve_d (times_mod p.t p.t))
   pub product : times_mod p.x p.y ≡ times_mod p.z p.t
 
--- modulo the prime, X1 Z2 = X2 Z1 and Y1 Z2 = Y2 Z1, which say that x and y are the same. This
--- tells nothing where a Z is 0; that no sum of points of the curve has such a Z is not proved
+-- modulo the prime, X1 Z2 = X2 Z1 and Y1 Z2 = Y2 Z1, which say that x and y are the same. This says
+-- nothing where a Z is 0; that no sum of points on the curve has Z = 0 is not proved
 pub record IsSamePoint (p q : Point) : Type 0 where
   pub x : times_mod p.x q.z ≡ times_mod q.x p.z
   pub y : times_mod p.y q.z ≡ times_mod q.y p.z

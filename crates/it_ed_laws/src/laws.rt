@@ -18,7 +18,7 @@ pub fn constants_are_on_curve()
     ensures base_point { IsOnCurve base }
 {}
 
-/// The sum of a point and the neutral point is that point, on either side.
+/// The sum of a point and the neutral point, on either side, is that point.
 pub fn sum_with_neutral()
     ensures after { (point : Point) → IsReduced point → IsSamePoint (sum_of point neutral) point }
     ensures before { (point : Point) → IsReduced point → IsSamePoint (sum_of neutral point) point }

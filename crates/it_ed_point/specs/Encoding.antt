@@ -25,7 +25,7 @@ candidate_root u v =
     let v7 = times_mod (times_mod v3 v3) v in
     times_mod (times_mod u v3) (power_mod (times_mod u v7) ((prime - 5) / 8) prime)
 
--- what the candidate x is worth, by v x ^ 2 (step 3)
+-- the square root that the candidate x gives, if any, judged by v x ^ 2 (step 3)
 abbrev pub root_told : ℕ → ℕ → ℕ → Option ℕ
 root_told u square x =
     if nat_eq square u then Some x
@@ -39,23 +39,23 @@ root_of_ratio u v = let x = candidate_root u v in root_told u (times_mod v (time
 abbrev pub is_odd_zero : ℕ → ℕ → Bool
 is_odd_zero x sign = nat_eq x 0 && nat_eq sign 1
 
--- x or its opposite, whichever is odd as the sign says (step 4)
+-- x if its parity is the sign, and otherwise its opposite (step 4)
 abbrev pub signed : ℕ → ℕ → ℕ
 signed x sign = if nat_eq (x % 2) sign then x else minus_mod 0 x
 
--- the point with that x or its opposite
+-- the point with that x or its opposite, unless x is 0 and the sign is 1
 unfoldable pub signed_point : ℕ → ℕ → ℕ → Option Point
 signed_point x y sign = if is_odd_zero x sign then None else Some (affine (signed x sign) y)
 
--- the point of a y below the prime: x ^ 2 is (y ^ 2 - 1) / (d y ^ 2 + 1)
+-- the point with a y below the prime: x ^ 2 is (y ^ 2 - 1) / (d y ^ 2 + 1)
 unfoldable pub point_at : ℕ → ℕ → Option Point
 point_at y sign =
     let square = times_mod y y in
     option_and_then (λ x. signed_point x y sign)
     (root_of_ratio (minus_mod square 1) (plus_mod (times_mod curve_d square) 1))
 
--- the point of 32 bytes: without the highest bit they are y, which is to be below the prime, and
--- that bit is the sign (step 1)
+-- the point that 32 bytes encode: without the highest bit they are y, which must be below the
+-- prime, and that bit is the sign (step 1)
 unfoldable pub decoded : List ℕ → Option Point
 decoded bytes = option_and_then (λ y. point_at y (little bytes / 2 ^ 255 % 2))
     (number_below prime (little bytes % 2 ^ 255))

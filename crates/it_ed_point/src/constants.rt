@@ -5,13 +5,13 @@ ghost use Rattle.it_ed_point.specs.Curve.{curve_d, root_of_minus_one};
 
 use it_ed_field::field_element::FieldElement;
 
-/// The prime less 2, lowest byte first.
+/// The prime minus 2, lowest byte first.
 pub(crate) const PRIME_LESS_TWO: [u8; 32] = [
     235, 255, 255, 255, 255, 255, 255, 255, 255, 255, 255, 255, 255, 255, 255, 255, 255, 255, 255,
     255, 255, 255, 255, 255, 255, 255, 255, 255, 255, 255, 255, 127,
 ];
 
-/// An eighth of the prime less 5, lowest byte first.
+/// The number (prime - 5) / 8, lowest byte first.
 pub(crate) const EIGHTH: [u8; 32] = [
     253, 255, 255, 255, 255, 255, 255, 255, 255, 255, 255, 255, 255, 255, 255, 255, 255, 255, 255,
     255, 255, 255, 255, 255, 255, 255, 255, 255, 255, 255, 255, 15,
@@ -29,7 +29,7 @@ pub(crate) fn one() -> FieldElement
     FieldElement::from_limbs(1, 0, 0, 0, 0)
 }
 
-/// The d of the curve's equation.
+/// The constant d of the curve's equation.
 pub(crate) fn curve_constant() -> FieldElement
     ensures { result ≡ curve_d }
 {

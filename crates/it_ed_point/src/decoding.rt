@@ -1,4 +1,4 @@
-//! The point that a y and the sign of its x tell (RFC 8032, section 5.1.3).
+//! The point with a given y and sign of x (RFC 8032, section 5.1.3).
 ghost use Rattle.std.specs.Prelude.{◌≡◌};
 ghost use Rattle.it_ed_point.specs.Encoding.{signed, is_odd_zero, signed_point, point_at};
 
@@ -13,7 +13,7 @@ fn is_odd_zero(x: &FieldElement, sign: u64) -> bool
     x.is_same(&zero()) && sign == 1
 }
 
-/// The number or its opposite, whichever is odd as `sign`, 0 or 1, says.
+/// The number if its parity is `sign`, 0 or 1, and otherwise its opposite.
 fn signed(x: FieldElement, sign: u64) -> FieldElement
     ensures { result ≡ signed x sign }
 {
@@ -24,7 +24,7 @@ fn signed(x: FieldElement, sign: u64) -> FieldElement
     }
 }
 
-/// The point with that x or its opposite.
+/// The point with this x or its opposite, as `sign` says, unless x is 0 and `sign` is 1.
 fn signed_point(x: FieldElement, y: FieldElement, sign: u64) -> Option<Point>
     ensures { result ≡ signed_point x y sign }
 {
@@ -36,7 +36,7 @@ fn signed_point(x: FieldElement, y: FieldElement, sign: u64) -> Option<Point>
     Some(Point { x, y, z: one(), t })
 }
 
-/// The point of a y, if there is one whose x is odd as `sign` says.
+/// The point with this y and an x whose parity is `sign`, if there is one.
 pub(crate) fn point_at(y: FieldElement, sign: u64) -> Option<Point>
     ensures { result ≡ point_at y sign }
 {

@@ -131,7 +131,7 @@ impl Point {
         }
     }
 
-    /// So many times the point.
+    /// The point times a number.
     pub fn multiply(&self, scalar: &Scalar) -> Point
         ensures { result ≡ multiple_of scalar.now self.now }
     {
@@ -163,7 +163,7 @@ impl Point {
         y.to_bytes(x.parity())
     }
 
-    /// The point of 32 bytes, if they are a point's (RFC 8032, section 5.1.3).
+    /// The point that 32 bytes encode, if they encode one (RFC 8032, section 5.1.3).
     pub fn decode(bytes: &[u8; 32]) -> Option<Point>
         ensures { result ≡ decoded bytes.now }
     {

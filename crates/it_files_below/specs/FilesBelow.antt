@@ -9,7 +9,7 @@ use Rattle.it_disk.specs.declared.folders.Kind.TheVariants.{File, Folder}
 use Rattle.it_disk.specs.declared.listing.Listed.{Listed}
 use Rattle.it_disk.specs.Reading.{Holdings}
 
--- the files of these entries of a folder: of a file its path, and of a folder all files below it
+-- the files of these entries of a folder: for a file its path, and for a folder all files below it
 pub data HasFiles (disk : Holdings) : List ℕ → List Listed → List (List ℕ) → Type 0 where
   nothing : {folder : List ℕ} → HasFiles disk folder [] []
   and_file : {folder : List ℕ} {entries : List Listed} {files : List (List ℕ)}
@@ -34,7 +34,7 @@ pub record AreBelow (disk : Holdings) (folder : List ℕ) (files : List (List �
   pub same : (path : List ℕ) → Contains files path ↔ Contains found path
   pub rises : IsStrictlySortedBy (slice_cmp nat_cmp) files
 
--- by what stands at the path: the file itself, or all files below the folder
+-- by the kind of what is at the path: the file itself, or all files below the folder
 abbrev pub AreFilesOf : Holdings → List ℕ → Kind → List (List ℕ) → Type 0
 AreFilesOf disk path File files = files ≡ path ∷ []
 AreFilesOf disk path Folder files = AreBelow disk path files

@@ -22,8 +22,8 @@ const MOST_FILES: usize = 1_000_000;
 ///
 /// # Errors
 ///
-/// Where a path is neither a file nor a folder, a folder cannot be read or has more below it than
-/// may be, or something below it is neither a file nor a folder.
+/// Where a path is neither a file nor a folder, a folder cannot be read or has too much below it,
+/// or something below it is neither a file nor a folder.
 pub fn files_at_each<R: Disk + AllocGlobal>(rt: &R, paths: &[Text]) -> Result<Vec<Text>, Fault>
     ensures { IfOk result (λ files. AreFilesAtEach R.holdings paths.now files.items) }
 {
@@ -63,7 +63,7 @@ fn files_below<R: Disk + AllocGlobal>(rt: &R, folder: &str) -> Result<Vec<String
     Ok(files)
 }
 
-/// Adds the paths of all files below a folder, in the order in which they are met.
+/// Adds the paths of all files below a folder, in the order in which they are found.
 fn find_files<R: Disk + AllocGlobal>(
     rt: &R,
     folder: &str,
@@ -97,7 +97,7 @@ fn too_deep(alloc: Global, path: &str) -> Result<Fault, AllocError> {
     })
 }
 
-/// Adds the path of a file, where there are not as many as may be.
+/// Adds the path of a file, unless there are already as many as allowed.
 fn add_file(alloc: Global, files: &mut Vec<String>, path: String) -> Result<(), Fault>
     ensures { OnOk result (map string_bytes files.new.items
         ≡ map string_bytes files.old.items ++ string_bytes path ∷ []) }

@@ -12,13 +12,13 @@ use Rattle.it_glob.specs.declared.item.Item.TheVariants.{Star, Any, OneOf, Exact
 abbrev pub is_close : ℕ → Bool
 is_close c = c == byte "]"
 
--- how long the body of a set is that begins cs: it ends before the first ] that is not its first
--- character
+-- the length of the body of a set, where cs begins with it: it ends before the first ] that is not
+-- its first character
 abbrev pub body_len : List ℕ → Option ℕ
 body_len cs = option_map (λ n. n + 1) (position is_close (drop 1 cs))
 
--- whether a set is negated, where these characters follow its [, and the characters from its body
--- on: a ! that stands right after the [ is the negation
+-- whether a set is negated, given the characters after its [, and the characters from its body on:
+-- a ! right after the [ is the negation
 abbrev pub negation_of : List ℕ → Bool × List ℕ
 negation_of [] = (false, [])
 negation_of (c ∷ cs) = if c == byte "!" then (true, cs) else (false, c ∷ cs)
@@ -52,7 +52,7 @@ unfoldable pub items_of : List ℕ → List Item
 items_of text = items_after 0 (chars text)
 
 -- a character is in the body of a set. Where at least three characters are left and the second is
--- -, they are a range from the first to the third, both included; else the first is itself
+-- -, the first three are a range with both ends included; otherwise the first matches itself
 abbrev pub InBody : List ℕ → ℕ → Type 0
 InBody [] c = ⊥
 InBody (x ∷ []) c = c ≡ x
@@ -61,15 +61,15 @@ InBody (x ∷ y ∷ z ∷ rest) c =
     MatchBool (y == byte "-") (((x ≤ c) × (c ≤ z)) ⊎ InBody rest c)
     ((c ≡ x) ⊎ InBody (y ∷ z ∷ rest) c)
 
--- an item takes a character. A star is no test of a character
+-- an item takes a character. A star tests no character
 abbrev pub Takes : Item → ℕ → Type 0
 Takes Star c = ⊥
 Takes Any c = ⊤
 Takes (OneOf negated body) c = MatchBool negated (¬ InBody body c) (InBody body c)
 Takes (Exactly d) c = c ≡ d
 
--- items match characters. A star takes any front of them, also the empty one; another item takes
--- the first
+-- items match characters. A star takes any prefix of them, even the empty one; every other item
+-- takes the first
 abbrev pub MatchesChars : List Item → List ℕ → Type 0
 MatchesChars [] cs = cs ≡ []
 MatchesChars (Star ∷ items) cs =
@@ -81,7 +81,7 @@ MatchesChars (item ∷ items) cs =
 unfoldable pub Matches : List Item → List ℕ → Type 0
 Matches items text = MatchesChars items (chars text)
 
--- how many items are no star
+-- how many items are not stars
 abbrev pub plain_count : List Item → ℕ
 plain_count [] = 0
 plain_count (Star ∷ items) = plain_count items

@@ -1,4 +1,4 @@
-//! The part of a pattern's text that every text that it matches begins with.
+//! The part of a pattern's text with which every text that it matches begins.
 ghost use Rattle.std.specs.Prelude.{◌≡◌, ◌<◌, ◌^◌, length};
 ghost use Rattle.it_glob.specs.Pattern.{items_of, front_of};
 

@@ -8,11 +8,11 @@ use std::marker::Model;
 /// One item of a pattern.
 #[derive(Drop)]
 pub enum Item {
-    /// Any run of characters, also none.
+    /// Any run of characters, including none.
     Star,
     /// Any one character.
     Any,
-    /// One character that is in the body, or negated one that is not.
+    /// One character that is in the body or, if negated, one that is not.
     OneOf { negated: bool, body: Body },
     /// This character.
     Exactly(char),
@@ -43,7 +43,7 @@ impl Item {
     }
 }
 
-/// What stands between the brackets of a set, after its negation.
+/// What is between the brackets of a set, after its negation.
 #[derive(Drop)]
 pub struct Body {
     characters: Vec<char>,
@@ -61,7 +61,7 @@ impl Body {
     ghost use Rattle.std.specs.Prelude.{◌≡◌, IsTrue, ◌↔◌};
     ghost use Rattle.it_glob.specs.Pattern.{InBody};
 
-    /// The body that has these characters.
+    /// The body made of these characters.
     pub fn new(characters: Vec<char>) -> Body
         ensures { result ≡ characters.items }
     {
@@ -91,7 +91,7 @@ fn is_in_body(body: &[char], character: char) -> bool
 }
 
 /// The first and the last character of the range that a body begins with, and the body after it.
-/// A character that matches itself is a range of its own.
+/// A character that matches only itself is a range of one.
 fn split_first_range(body: &[char]) -> Option<(char, char, &[char])>
     ensures { MatchOption result (body.now ≡ []) (λ p. IsFirstRange body.now p.0 p.1 p.2.now) }
 {

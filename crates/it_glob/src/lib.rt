@@ -1,4 +1,4 @@
-//! Path patterns: their reading and their matching against whole texts.
+//! Path patterns: reading them, and matching them against whole texts.
 #![tactic(auto)]
 
 mod front;

@@ -1,4 +1,4 @@
-//! The matching of items against a text: forward, with one place to start again from.
+//! Matching items against a text: forward, with one place to restart from.
 ghost use Rattle.std.specs.Prelude.{◌≡◌, ◌+◌, ◌*◌, ◌≤◌, ◌∷◌, [], IsTrue, ◌↔◌, MatchOption, length};
 ghost use Rattle.std.specs.Str.{chars};
 ghost use Rattle.it_glob.specs.Pattern.{MatchesChars, plain_count};
@@ -6,7 +6,7 @@ ghost use Rattle.it_glob.specs.inside.Restarts.{next_place, place_of};
 
 use crate::item::Item;
 
-/// What the last star stood before: the items after it, and the text that they were last tried at.
+/// Where to restart after the last star: the items after it, and the text they were last tried at.
 #[derive(Clone, Copy)]
 struct Restart<'a> {
     items: &'a [Item],
@@ -57,7 +57,7 @@ pub(crate) fn match_items(items: &[Item], text: &str) -> (bool, u64)
     }
 }
 
-/// The same items one character on.
+/// The same items, one character further on.
 fn next_try(restart: Option<Restart>) -> Option<Restart>
     ensures { place_of result ≡ next_place (place_of restart.entry) }
 {

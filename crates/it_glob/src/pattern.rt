@@ -10,8 +10,8 @@ use crate::reading::read_items;
 use std::alloc::{AllocError, Global};
 use std::marker::Model;
 
-/// A path pattern that has been read, as artifact rules name files by it (in-toto 1.0, section
-/// 4.3.3). A contract sees the bytes of its text, and nothing else of it.
+/// A path pattern that has been read, by which artifact rules name files (in-toto 1.0, section
+/// 4.3.3). A contract sees the bytes of its text, and nothing else.
 #[derive(Drop)]
 pub struct Pattern {
     text: String,
@@ -30,8 +30,9 @@ impl Model for Pattern {
 }
 
 impl Pattern {
-    /// Reads a pattern's text. Every text is a pattern: what begins no item of its own matches
-    /// itself. The pattern keeps a copy of the text. The one error is that memory ran out.
+    /// Reads a pattern's text. Every text is a pattern: outside a set, each character but `*` and
+    /// `?` matches itself, and so does a `[` that begins no set. The pattern keeps a copy of the
+    /// text. The only error is that memory was refused.
     pub fn read(alloc: Global, text: &str) -> Result<Pattern, AllocError>
         ensures { IfOk result (λ p. p ≡ text.now) }
     {
@@ -56,7 +57,7 @@ impl Pattern {
     }
 
     /// Whether the pattern matches the whole of a path, and how many steps that took. A step is one
-    /// test of an item against a character, and a star is none. The count saturates at the greatest
+    /// test of an item against a character; a star is no step. The count saturates at the greatest
     /// `u64`. Takes no memory.
     #[tactic(auto, unfolding(crate::specs::Pattern::Matches))]
     pub fn matches_counted(&self, path: &str) -> (bool, u64)

@@ -1,4 +1,4 @@
-//! The reading of a pattern's text into items.
+//! Reading a pattern's text into items.
 ghost use Rattle.std.specs.Prelude.{◌≡◌, ◌+◌, ◌≤◌, ◌<◌, IfOk, IfSome, length, position};
 ghost use Rattle.std.specs.Prelude.{if◌then◌else◌};
 ghost use Rattle.it_glob.specs.Pattern.{items_of, items_after, item_at, plain_item, set_at};
@@ -74,8 +74,8 @@ fn set(alloc: Global, after: &[char]) -> Result<Option<(Item, usize)>, AllocErro
     Ok(Some((Item::OneOf { negated, body }, taken)))
 }
 
-/// Whether a set is negated, where these characters follow its `[`, and the characters from its
-/// body on.
+/// Whether a set is negated, given the characters after its `[`, and the characters from its body
+/// on.
 fn split_negation(after: &[char]) -> (bool, &[char])
     ensures value { (result.0, result.1.now) ≡ negation_of after.now }
     ensures within { length result.1.now + (if result.0 then 1 else 0) ≡ length after.now }
@@ -86,7 +86,7 @@ fn split_negation(after: &[char]) -> (bool, &[char])
     }
 }
 
-/// How many of these characters are the body of a set, if a set can begin with them.
+/// How many of these characters are the body of a set, if they begin with one.
 fn len_of_body(characters: &[char]) -> Option<usize>
     ensures answer { result ≡ body_len characters.now }
     ensures within { IfSome result (λ n. n < length characters.now) }

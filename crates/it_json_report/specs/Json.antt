@@ -8,9 +8,9 @@ use Rattle.it_report.specs.Name.{digit_form}
 abbrev pub is_special : ℕ → Bool
 is_special byte = byte == 0x22 || byte == 0x5c
 
--- a byte of a text (RFC 8259, section 7): a control character by its number, in four hexadecimal
--- digits of lower case, a quotation mark or a backslash with a backslash before it, every other one
--- as itself (this profile's choice among the escapes of the RFC)
+-- a byte of a text (RFC 8259, section 7): a control character by its number, in four lower-case
+-- hexadecimal digits, a quotation mark or a backslash with a backslash before it, any other as
+-- itself (this profile's choice among the escapes of the RFC)
 abbrev pub escaped : ℕ → List ℕ
 escaped byte =
     if nat_lt byte 0x20 then codes "\\u00" ++ digit_form (byte / 16) ∷ digit_form (byte % 16) ∷ []
@@ -20,16 +20,16 @@ escaped byte =
 abbrev pub json_text : List ℕ → List ℕ
 json_text bytes = codes "\"" ++ flat_map escaped bytes ++ codes "\""
 
--- what a form writes of each item, with a comma before it
+-- what a form writes for each item, with a comma before it
 abbrev pub further : {X : Type 0} → (X → List ℕ) → List X → List ℕ
 further form items = flat_map (λ item. codes "," ++ form item) items
 
--- what a form writes of each item, parted by commas
+-- what a form writes for each item, separated by commas
 abbrev pub parted : {X : Type 0} → (X → List ℕ) → List X → List ℕ
 parted form [] = []
 parted form (item ∷ items) = form item ++ further form items
 
--- a list of the values that a form writes of each item (RFC 8259, section 5)
+-- a list of the values that a form writes for each item (RFC 8259, section 5)
 abbrev pub json_list : {X : Type 0} → (X → List ℕ) → List X → List ℕ
 json_list form items = codes "[" ++ parted form items ++ codes "]"
 

@@ -5,15 +5,15 @@ use Rattle.it_report.specs.declared.verdict.Verdict.{Verdict}
 use Rattle.it_report.specs.declared.verdict.Verdict.TheVariants.{Accepted, Refused}
 use Rattle.it_json_report.specs.JsonReport.{json_of, members_of}
 
--- who reads the JSON knows the verdict
+-- whoever reads the JSON knows the verdict
 abbrev pub JsonTells : Type 0
 JsonTells = (a b : Verdict) → NumbersFit a → NumbersFit b → json_of a ≡ json_of b → a ≡ b
 
--- a text begins so
+-- a text begins with this
 abbrev pub Begins : List ℕ → List ℕ → Type 0
 Begins text front = (rest : List ℕ) × (text ≡ front ++ rest)
 
--- the JSON of a verdict begins with a member that says by its word alone whether it accepts
+-- the JSON of a verdict begins with a member whose value alone says whether it accepts
 abbrev pub BeginsWithWord : Verdict → Type 0
 BeginsWithWord (Accepted steps files) =
     Begins (json_of (Accepted steps files)) (codes "{\"verdict\":\"accepted\",")
@@ -23,11 +23,11 @@ BeginsWithWord (Refused refusal) =
 abbrev pub JsonFirst : Type 0
 JsonFirst = (verdict : Verdict) → BeginsWithWord verdict
 
--- a character that is not a control character
+-- a byte that is not below 0x20
 abbrev pub IsShown : ℕ → Type 0
 IsShown byte = 0x20 ≤ byte
 
--- one line, and a line feed behind it
+-- one line, followed by a line feed
 abbrev pub IsLine : List ℕ → Type 0
 IsLine text = (line : List ℕ) × (text ≡ line ++ codes "\n") × All IsShown line
 

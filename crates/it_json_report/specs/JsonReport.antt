@@ -30,12 +30,12 @@ abbrev pub sublayout_object : List ℕ × List ℕ → List ℕ
 sublayout_object pair =
     json_object ((codes "step", json_text pair.0) ∷ (codes "key", json_text pair.1) ∷ [])
 
--- a part of a layout as the report in lines names it, but for the escapes of a name
+-- a part of a layout as the report in lines names it, but without escapes in a name
 abbrev pub layout_part_text : LayoutPart → List ℕ
 layout_part_text (DuplicateName name) = codes "duplicate " ++ name
 layout_part_text part = layout_part_form part
 
--- whose rule it is, as the report in lines says, but for the escapes of a name
+-- whose rule it is, as the report in lines says, but without escapes in a name
 abbrev pub item_text : RuleItem → List ℕ
 item_text (Step name) = codes "step " ++ name
 item_text (Inspection name) = codes "inspection " ++ name
@@ -47,7 +47,7 @@ best_members None = []
 best_members (Some level) = (codes "best", decimal level) ∷ []
 
 -- what is said of a fault: the words of its lines in the report, and their values in JSON; but
--- "inspection" where the word is "name", which is that of another member
+-- "inspection" instead of "name", which is another member
 abbrev pub fault_members : Fault → List (List ℕ × List ℕ)
 fault_members (BadPolicy part) = (codes "part", json_text (policy_part_form part)) ∷ []
 fault_members (BadSums n) = (codes "line", decimal n) ∷ []

@@ -2,17 +2,17 @@
 //! every verdict.
 ghost use Rattle.it_json_report.specs.JsonLaws.{JsonFirst, JsonIsLine, JsonNamesDiffer, JsonTells};
 
-/// Equal reports as JSON are of equal verdicts: who reads one knows all of the verdict.
+/// Equal reports as JSON have equal verdicts: whoever reads one knows the whole verdict.
 pub fn json_tells()
     ensures { JsonTells }
 {}
 
-/// The first member of the object, `verdict`, says by its word alone whether the verdict accepts.
+/// The first member of the object, `verdict`, says by its value alone whether the verdict accepts.
 pub fn json_first()
     ensures { JsonFirst }
 {}
 
-/// The JSON of a verdict is one line: nothing below 0x20 stands in it but the line feed at its end.
+/// The JSON of a verdict is one line: it has no byte below 0x20 but the line feed at its end.
 pub fn json_is_line()
     ensures { JsonIsLine }
 {}

@@ -1,4 +1,4 @@
-//! Lists in JSON (RFC 8259, section 5), and what stands in those of a report.
+//! Lists in JSON (RFC 8259, section 5), and the items of those in a report.
 ghost use Rattle.std.specs.Prelude.{◌≡◌, ◌++◌, ℕ, List, OnOk};
 ghost use Rattle.it_json_report.specs.Json.{further, json_list, json_text};
 ghost use Rattle.it_json_report.specs.JsonReport.{step_object, sublayout_object};
@@ -10,7 +10,7 @@ use std::alloc::{AllocError, Global};
 
 /// A value that has a form in JSON.
 pub(crate) trait JsonItem {
-    // what stands in JSON for the value
+    // the form of the value in JSON
     ghost form: { Self → List ℕ };
 
     /// Appends the form.

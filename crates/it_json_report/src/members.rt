@@ -1,4 +1,4 @@
-//! A member that stands behind others in an object (RFC 8259, section 4).
+//! A member that follows others in an object (RFC 8259, section 4).
 ghost use Rattle.std.specs.Prelude.{◌≡◌, ◌++◌, OnOk, codes, decimal};
 ghost use Rattle.it_json_report.specs.Json.{json_text, member};
 

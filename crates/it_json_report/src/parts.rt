@@ -1,4 +1,4 @@
-//! What a fault speaks of, as texts: parts of documents, whose rule it is, and sides.
+//! What a fault is about, as texts: parts of documents, whose rule it is, and sides.
 ghost use Rattle.std.specs.Prelude.{◌≡◌, ◌++◌, IfOk, string_bytes};
 ghost use Rattle.it_report.specs.Report.{policy_part_form, side_form};
 ghost use Rattle.it_json_report.specs.JsonReport.{item_text, layout_part_text};

@@ -31,16 +31,16 @@ use Rattle.it_key_commands.specs.declared.fault.OtherText.TheVariants.{
   Unknown,
 }
 
--- a file whose lines end with line feeds alone
+-- a file without its carriage returns
 abbrev pub without_returns : List ℕ → List ℕ
 without_returns file = filter (λ byte. not (byte == 13)) file
 
--- the text of a file: such lines, and no white space at the end
+-- the text of a file: the same, without white space at the end
 abbrev pub text_of : List ℕ → List ℕ
 text_of file = trim_end (without_returns file)
 
--- the key object of a key with this text, in the form of in-toto's own tools: an Ed25519 key is
--- written in hexadecimal digits, and each other one as its text
+-- the key object of a key with this text, in the form of in-toto's own tools: an Ed25519 key in
+-- hexadecimal digits, and any other key as its text
 abbrev pub key_object : List ℕ → Key → KeyObject
 key_object text (Ed25519 key) = record {
   keytype = codes "ed25519";
@@ -111,13 +111,13 @@ pub record IsOfOtherKind (info : List ℕ) : Type 0 where
   pub no_rsa : IsFalse (names_rsa info)
   pub no_curves : IsFalse (names_curves info)
 
--- the info names elliptic curves, and is not that of a key: its curve is another one than P-256,
--- its point is not on the curve, or is not written uncompressed
+-- the info names elliptic curves, but is not that of a key: its curve is not P-256, or its point is
+-- not on the curve or not written uncompressed
 pub record IsBadCurveKey (info : List ℕ) : Type 0 where
   pub no_key : IsNoKeyInfo info
   pub curves : IsTrue (names_curves info)
 
--- the info names RSA, and is not that of a key: its modulus or its exponent is not taken
+-- the info names RSA, but is not that of a key: its modulus or exponent is not accepted
 pub record IsBadRsaKey (info : List ℕ) : Type 0 where
   pub no_key : IsNoKeyInfo info
   pub rsa : IsTrue (names_rsa info)

@@ -1,12 +1,12 @@
--- The ids of keys, as the tools of in-toto have them (securesystemslib, which in-toto 1.0 leaves
--- them to): the SHA-256 of a canonical JSON text.
+-- The ids of keys, as in-toto's tools form them (securesystemslib, to which in-toto 1.0 leaves
+-- them): the SHA-256 of a canonical JSON text.
 use Rattle.std.specs.Prelude.{ℕ, List, [], ◌∷◌, ◌++◌, ◌==◌, ◌||◌, codes, if◌then◌else◌}
 use Rattle.std.specs.List.{flat_map}
 use Rattle.hex.specs.Hex.{encode_lower}
 use Rattle.sha2.specs.Sha256.{sha256}
 use Rattle.it_dsse.specs.declared.key_object.KeyObject.{KeyObject}
 
--- a byte of a text: a quotation mark or a backslash has a backslash before it, and no other
+-- a byte of a text, with a backslash before it if it is a quotation mark or a backslash
 abbrev pub escaped : ℕ → List ℕ
 escaped byte = if byte == 34 || byte == 92 then 92 ∷ byte ∷ [] else byte ∷ []
 

@@ -20,7 +20,7 @@ key_info (Ed25519 key) = ed25519_info key
 key_info (P256 key) = p256_info key
 key_info (Rsa key) = rsa_info key
 
--- it is that of no key
+-- it is not a key's info
 abbrev pub IsNoKeyInfo : List ℕ → Type 0
 IsNoKeyInfo info = (key : Key) → IsKey key → info ≢ key_info key
 
@@ -29,7 +29,7 @@ abbrev pub IsNoEd25519Info : List ℕ → Type 0
 IsNoEd25519Info info = (bytes : List ℕ) → length bytes ≡ 32 → info ≢ ed25519_info bytes
 
 -- how many bytes a tag and a length take (X.690, section 8.1.3): two, or one or two more where 129
--- or 130 says that the length has so many bytes of its own
+-- or 130 says that the length itself takes that many
 abbrev pub header_length : ℕ → ℕ
 header_length n = if n == 129 then 3 else (if n == 130 then 4 else 2)
 
@@ -47,7 +47,7 @@ names_algorithm info identifier =
 abbrev pub rsa_identifier : List ℕ
 rsa_identifier = 6 ∷ 9 ∷ 42 ∷ 134 ∷ 72 ∷ 134 ∷ 247 ∷ 13 ∷ 1 ∷ 1 ∷ 1 ∷ []
 
--- it names RSA, or keys of elliptic curves (RFC 5480, section 2.1.1)
+-- it names RSA, or elliptic-curve keys (RFC 5480, section 2.1.1)
 abbrev pub names_rsa : List ℕ → Bool
 names_rsa info = names_algorithm info rsa_identifier
 

@@ -1,4 +1,4 @@
--- The file of keys that files are (this profile's choice), and why none is written.
+-- The file of the keys in files (this profile's choice), and why none is written.
 use Rattle.std.specs.Prelude.{◌≡◌, ◌≢◌, ℕ, List, ◌∷◌, ◌++◌, Option, Some, None, IsSome, length}
 use Rattle.std.specs.FinMap.{empty, insert}
 use Rattle.std.specs.List.{AllZip, fold}
@@ -19,17 +19,17 @@ use Rattle.it_key_commands.specs.declared.fault.KeyFault.TheVariants.{
   BadFile,
 }
 
--- the id of a key object in the file: the name, where one is given, and else its own
+-- the id of a key object in the file: the name, if one is given, otherwise its own
 abbrev pub id_under : Option (List ℕ) → KeyObject → List ℕ
 id_under None object = key_id object
 id_under (Some name) object = name
 
--- the key objects under their ids, one put in after another
+-- the key objects under their ids, inserted in order
 abbrev pub keys_of : Option (List ℕ) → List KeyObject → Named KeyObject
 keys_of name objects =
     fold (λ keys object. insert keys (id_under name object) object) empty objects
 
--- the text is the file of the keys that the files are, and reads back as these keys and no others
+-- the text is the file of the keys in the files, and reads back as these keys and no others
 pub record IsKeyOutput (files : List (List ℕ)) (name : Option (List ℕ)) (text : List ℕ) : Type 0
   where
     pub objects : List KeyObject
@@ -49,7 +49,7 @@ pub record IsFirstBadFile (files : List (List ℕ)) (place : ℕ) (fault : FileF
   pub are_keys : AllZip IsKeyFile before objects
   pub bad : IsFileFault file fault
 
--- a name is given, and there is not just one file
+-- a name is given without exactly one file
 pub record IsNotOne (files : List (List ℕ)) (name : Option (List ℕ)) : Type 0 where
   pub named : IsSome name
   pub not_one : length files ≢ 1

@@ -1,5 +1,5 @@
--- An envelope with one signature more, which was made elsewhere (DSSE v1.0, "Protocol", by which
--- several keys may sign one payload), and why none is written (this profile's choice).
+-- An envelope with one more signature, made elsewhere (DSSE v1.0, "Protocol", by which several keys
+-- may sign one payload), and why none is written (this profile's choice).
 use Rattle.std.specs.Prelude.{◌≡◌, ℕ, List, [], ◌∷◌, ◌++◌, codes}
 use Rattle.it_base.specs.Table.{Named}
 use Rattle.it_dsse.specs.Countersigned.{HasOtherPayload, HasOtherType}
@@ -23,13 +23,13 @@ pub record HoldsBody (kind body : List ℕ) (envelope : Envelope) : Type 0 where
   pub payload_type : envelope.payload_type ≡ kind
   pub payload : envelope.payload ≡ body
 
--- the envelope with one signature more, after those that it has
+-- the envelope with one more signature, after those that it has
 abbrev pub with_signature : Envelope → Signature → Envelope
 with_signature envelope signature =
     record envelope { signatures = envelope.signatures ++ signature ∷ [] }
 
--- the text is the written form of the envelope that the bytes are, with that signature of its
--- body more, which is valid, and a line feed
+-- the text is the written form of the envelope in the bytes, with that valid signature of its body
+-- added, and a line feed
 pub record IsSignMadeOntoOutput (objects : Named KeyObject)
     (id kind body signature bytes text : List ℕ) : Type 0 where
   pub before : Envelope
@@ -39,8 +39,8 @@ pub record IsSignMadeOntoOutput (objects : Named KeyObject)
   pub text_is : text ≡ written_form (with_signature before (made_signature id signature))
       ++ codes "\n"
 
--- a fault that the command may have, and what it says of the bytes that are to be an envelope; of
--- the key and the signature it says something only where the envelope holds the body
+-- a fault that the command may have, and what it says of the bytes given as an envelope; it speaks
+-- of the key and the signature only where the envelope holds the body
 module _ (objects : Named KeyObject) (id kind body signature bytes : List ℕ) where
   abbrev pub IsSignMadeOntoFault : KeyFault → Type 0
   IsSignMadeOntoFault (Run NoEnvelope) = (envelope : Envelope) → ¬ EnvelopeOf bytes envelope

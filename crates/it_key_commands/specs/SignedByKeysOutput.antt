@@ -17,7 +17,7 @@ abbrev pub IsKeySigner : Envelope → List ℕ × KeyObject → Type 0
 IsKeySigner envelope = SignedUnder (message_of envelope) envelope.signatures
 
 -- the text names the ids whose keys signed the envelope, in the order of their bytes, and the
--- status says whether there are some
+-- status says whether there are any
 pub record NamesKeySigners (objects : Named KeyObject) (envelope : Envelope) (text : List ℕ)
     (status : Status) : Type 0 where
   pub signers : List (List ℕ × KeyObject)

@@ -7,7 +7,7 @@ use it_dsse::key_object::KeyObject;
 use sha2::{Digest, Sha256};
 use std::alloc::{AllocError, Global};
 
-/// The id of a key object, as in-toto's own tools have it: the SHA-256 of its canonical JSON text,
+/// The id of a key object, as in-toto's own tools form it: the SHA-256 of its canonical JSON text,
 /// in 64 lower-case hexadecimal digits.
 ///
 /// # Errors
@@ -22,7 +22,7 @@ pub fn key_id(alloc: Global, object: &KeyObject) -> Result<String, AllocError>
     hex::encode(alloc, digest.as_slice())
 }
 
-/// The canonical JSON text of a key object, of which its id is made.
+/// The canonical JSON text of a key object, hashed for its id.
 fn id_text(alloc: Global, object: &KeyObject) -> Result<Vec<u8>, AllocError>
     ensures { IfOk result (λ text. text.items ≡ id_text object.now) }
 {

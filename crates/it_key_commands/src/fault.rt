@@ -10,7 +10,7 @@ use thiserror::Error;
 /// Why a command on public keys stopped before its whole output went out.
 #[derive(Clone, Copy, Debug, PartialEq, Eq, Error)]
 pub enum KeyFault {
-    /// What other commands stop for as well.
+    /// A fault that other commands share.
     #[error("{0}")]
     Run(RunFault),
     /// No key object has the id.
@@ -22,7 +22,7 @@ pub enum KeyFault {
     /// The signature is not valid for the key of the id.
     #[error("the signature is not one of the body by the key with that id")]
     BadSignature,
-    /// A name was given, and there is not just one file.
+    /// A name was given without exactly one file.
     #[error("a name is taken with one file only")]
     NotOneFile,
     /// The file at this place, counted from 0, is not a public key, for this reason.
@@ -42,23 +42,23 @@ pub enum FileFault {
     /// It is a public key of another kind than Ed25519, ECDSA over P-256 and RSA.
     #[error("a public key of another kind (use Ed25519, ECDSA over P-256 or RSA)")]
     OtherKind,
-    /// It has the form of an Ed25519 key, and its point is not a key: RFC 8032, section 5.1.3,
-    /// decodes none, or one of small order.
+    /// It has the form of an Ed25519 key, but its point is not a key: undecodable (RFC 8032,
+    /// section 5.1.3), or of small order.
     #[error("an Ed25519 key whose point is not on the curve, or of small order (make a new one)")]
     BadPoint,
-    /// It is a key of an elliptic curve, and not one of P-256 whose point is on the curve and
-    /// written uncompressed (RFC 5480, section 2.2).
+    /// It is an elliptic-curve key, but not a P-256 key whose point is on the curve and written
+    /// uncompressed (RFC 5480, section 2.2).
     #[error("a key of an elliptic curve that is not an uncompressed point on P-256 \
          (openssl pkey -pubin -pubout -ec_conv_form uncompressed writes a compressed one so)")]
     BadCurveKey,
-    /// It is an RSA key, and its modulus does not have 2,048 to 4,096 bits that fill its bytes, or
-    /// its exponent is not an odd number from 3 to 2,147,483,647.
+    /// It is an RSA key, but its modulus does not have 2,048 to 4,096 bits in whole bytes, or its
+    /// exponent is not an odd number from 3 to 2,147,483,647.
     #[error("an RSA key not of 2,048, 2,056, .. 4,096 bits, or of an exponent that is not taken \
          (make one of 3,072 bits with the exponent 65537)")]
     BadRsaKey,
 }
 
-/// What a PEM text is that is not a public key, by its label (RFC 7468, section 2).
+/// What a PEM text other than a public key is, by its label (RFC 7468, section 2).
 #[derive(Clone, Copy, Debug, PartialEq, Eq, Error)]
 pub enum OtherText {
     /// A private key, in one of its forms.

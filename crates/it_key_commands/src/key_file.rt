@@ -24,7 +24,7 @@ pub(crate) struct FileKey<'t> {
     text: &'t str,
 }
 
-/// The lines of a file, each ended by a line feed alone.
+/// The lines of a file, without carriage returns.
 pub(crate) fn lines_of(alloc: Global, file: &[u8]) -> Result<Vec<u8>, AllocError>
     ensures { IfOk result (λ lines. lines.items ≡ without_returns file.now) }
 {
@@ -37,7 +37,7 @@ pub(crate) fn lines_of(alloc: Global, file: &[u8]) -> Result<Vec<u8>, AllocError
     Ok(lines)
 }
 
-/// The public key that lines are.
+/// The public key in these lines.
 pub(crate) fn key_in(lines: &[u8]) -> Result<FileKey<'_>, FileFault>
     ensures { MatchResult result (IsReadKey lines.now) (IsLinesFault lines.now) }
 {
@@ -66,7 +66,7 @@ fn text_fault(text: &str) -> FileFault
     }
 }
 
-/// What a PEM text of a label is.
+/// What a PEM text is, by its label.
 fn other_text(label: &str) -> OtherText
     ensures { result ≡ other_text label.now }
 {

@@ -23,18 +23,18 @@ use it_outcome::{RunFault, Status};
 use std::alloc::{AllocError, Global};
 use std::io::Write;
 
-/// Writes the file of the keys that are in `files`, each the PEM text of a public key (RFC 7468,
-/// section 13): one JSON object, compact, and a line feed. It has a key object (in-toto 1.0,
-/// section 4.2) under each key's id, which is the SHA-256 of its canonical JSON text as in-toto's
-/// own tools have it, or under `name`, where one is given. A key that is there twice stands once.
-/// What is written reads back as these keys. The answer is `Good`.
+/// Writes the file of the keys in `files`, each the PEM text of a public key (RFC 7468, section
+/// 13): one JSON object, compact, and a line feed. It has a key object (in-toto 1.0, section 4.2)
+/// under each key's id, the SHA-256 of the object's canonical JSON text as in-toto's own tools form
+/// it, or under `name`, if one is given. A key that is given twice is written once. What is written
+/// reads back as these keys. The answer is `Good`.
 ///
 /// # Errors
 ///
-/// `NotOneFile` where a name is given and there is not just one file, and else `BadFile` with the
-/// first file that is not a public key, counted from 0, and why; nothing went out then. `Run` of
-/// `OutOfMemory` where memory was refused; nothing went out. `Run` of `Write` where the output
-/// could not be written; a beginning of it went out.
+/// `NotOneFile` where a name is given without exactly one file, otherwise `BadFile` with the first
+/// file that is not a public key, counted from 0, and why; nothing went out. `Run` of `OutOfMemory`
+/// where memory was refused; nothing went out. `Run` of `Write` where the output could not be
+/// written; a beginning of it went out.
 pub fn run_key<W: Write>(
     alloc: Global,
     files: &[&[u8]],
@@ -66,7 +66,7 @@ pub fn run_key<W: Write>(
     Ok(status)
 }
 
-/// The key objects of the keys that files are.
+/// The key objects of the keys in files.
 fn objects_in(alloc: Global, files: &[&[u8]]) -> Result<Vec<KeyObject>, KeyFault>
     ensures ok { IfOk result
         (λ objects. AllZip IsKeyFile (map (λ file. file.now) files.now) objects.items) }
@@ -116,7 +116,7 @@ fn keys_of(
     Ok(keys)
 }
 
-/// The id of a key object in the file: the name, where one is given, and else its own.
+/// The id of a key object in the file: the name, if one is given, otherwise its own.
 fn id_under(alloc: Global, object: &KeyObject, name: Option<&str>) -> Result<String, AllocError>
     ensures { IfOk result (λ id. string_bytes id
         ≡ id_under (option_map (λ text. text.now) name.entry) object.now) }

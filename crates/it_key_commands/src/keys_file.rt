@@ -1,4 +1,4 @@
-//! The file of keys, written.
+//! Writing the file of keys.
 ghost use Rattle.std.specs.Prelude.{◌≡◌, IfOk, OnOk};
 ghost use Rattle.serde_json.specs.Data.{put, string};
 ghost use Rattle.serde_json.specs.View.{members_view, view};

@@ -15,7 +15,7 @@ use it_outcome::RunFault;
 use it_public_keys::PublicKeys;
 use std::alloc::{AllocError, Global};
 
-/// A signature that was made elsewhere: of which body, and by which key.
+/// A signature that was made elsewhere, with its body and its key's id.
 #[derive(Clone, Copy)]
 pub struct MadeSignature<'a> {
     /// The id of the key, which becomes the signature's hint.
@@ -24,12 +24,12 @@ pub struct MadeSignature<'a> {
     pub kind: &'a str,
     /// The body itself.
     pub body: &'a [u8],
-    /// The bytes of the signature, as the key's scheme has them: of Ed25519, 64 bytes.
+    /// The signature's bytes, in the form of the key's scheme: 64 bytes for Ed25519.
     pub signature: &'a [u8],
 }
 
 impl MadeSignature<'_> {
-    /// Checks that the signature is one of the body by the key that `objects` has under the id.
+    /// Checks that this is a signature of the body by the key that `objects` has under the id.
     pub(crate) fn check(&self, alloc: Global, objects: &Table<KeyObject>) -> Result<(), KeyFault>
         ensures ok { let m = self.now in OnOk result
             (IsMadeUnder objects.now m.id.now m.kind.now m.body.now m.signature.now) }

@@ -1,4 +1,4 @@
-//! `itv sign --onto` with a signature that was made elsewhere: an envelope with one signature more.
+//! `itv sign --onto` with a signature that was made elsewhere: an envelope with one more signature.
 ghost use Rattle.std.specs.Prelude.{◌≡◌, ◌≢◌, IfErr, IfOk, IsErrOf};
 ghost use Rattle.std.specs.Io.KnownBytes.{Appends};
 ghost use Rattle.it_base.specs.Writing.{AppendsBeginning};
@@ -18,20 +18,19 @@ use it_outcome::{RunFault, Status};
 use std::alloc::{AllocError, Global};
 use std::io::Write;
 
-/// Writes the envelope that the bytes are with one signature more, after those that it has, and a
-/// line feed (DSSE v1.0, "Protocol"): the one that was made elsewhere of the body, which has to be
-/// the envelope's payload. The signature is checked first, by the public key that the object under
-/// its id in `keys` describes. The answer is `Good`.
+/// Writes the envelope with one more signature, after those that it has, and a line feed (DSSE
+/// v1.0, "Protocol"): the signature that was made elsewhere of the body, which must be the
+/// envelope's payload. The signature is checked first, by the public key that the object under its
+/// id in `keys` describes. The answer is `Good`.
 ///
 /// # Errors
 ///
-/// The first of these that holds, in this order, and nothing went out then: `Run` of `NoEnvelope`
-/// where the bytes are not an envelope, of `OtherType` where its payload type is not `made.kind`,
-/// and of `OtherPayload` where its payload is not `made.body`; `UnknownId` where `keys` has no
-/// object under the id, `NoPublicKey` where that object describes no public key, and
-/// `BadSignature` where the signature is not valid for it. `Run` of `OutOfMemory` where memory was
-/// refused; nothing went out. `Run` of `Write` where the output could not be written; a beginning
-/// of it went out.
+/// The first of these that holds, in order, and nothing went out: `Run` of `NoEnvelope` where the
+/// bytes are not an envelope, of `OtherType` where its payload type is not `made.kind`, and of
+/// `OtherPayload` where its payload is not `made.body`; `UnknownId` where `keys` has no object
+/// under the id, `NoPublicKey` where that object describes no public key, and `BadSignature` where
+/// the signature is not valid for it. `Run` of `OutOfMemory` where memory was refused; nothing went
+/// out. `Run` of `Write` where the output could not be written; a beginning of it went out.
 pub fn run_sign_made_onto<W: Write>(
     alloc: Global,
     made: &MadeSignature<'_>,
@@ -60,7 +59,7 @@ pub fn run_sign_made_onto<W: Write>(
     Ok(Status::Good)
 }
 
-/// The envelope that the bytes are, where it holds the body.
+/// The bytes read as an envelope, if it holds the body.
 fn envelope_with_body(
     alloc: Global,
     made: &MadeSignature<'_>,

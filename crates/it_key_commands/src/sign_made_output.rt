@@ -17,17 +17,17 @@ use it_outcome::{RunFault, Status};
 use std::alloc::{AllocError, Global};
 use std::io::Write;
 
-/// Writes the envelope of a body with the one signature that was made of it elsewhere, and a line
-/// feed (DSSE v1.0, "Protocol"). The signature is checked first, by the public key that the object
-/// under its id in `keys` describes. The answer is `Good`.
+/// Writes the envelope of a body with one signature, made of it elsewhere, and a line feed (DSSE
+/// v1.0, "Protocol"). The signature is checked first, by the public key that the object under its
+/// id in `keys` describes. The answer is `Good`.
 ///
 /// # Errors
 ///
-/// The first of these that holds, in this order, and nothing went out then: `UnknownId` where
-/// `keys` has no object under the id, `NoPublicKey` where that object describes no public key, and
-/// `BadSignature` where the signature is not valid for it. `Run` of `OutOfMemory` where memory was
-/// refused; nothing went out. `Run` of `Write` where the output could not be written; a beginning
-/// of it went out.
+/// The first of these that holds, in order, and nothing went out: `UnknownId` where `keys` has no
+/// object under the id, `NoPublicKey` where that object describes no public key, and `BadSignature`
+/// where the signature is not valid for it. `Run` of `OutOfMemory` where memory was refused;
+/// nothing went out. `Run` of `Write` where the output could not be written; a beginning of it went
+/// out.
 pub fn run_sign_made<W: Write>(
     alloc: Global,
     made: &MadeSignature<'_>,

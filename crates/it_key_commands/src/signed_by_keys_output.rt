@@ -22,11 +22,11 @@ use std::alloc::{AllocError, Global};
 use std::io::Write;
 
 /// Writes the ids under which `keys` has a key that signed the envelope, in the order of their
-/// bytes, each as a report writes a name and on a line of its own. A key signed it where a
-/// signature whose hint is empty or its id is valid for the public key that its object describes
-/// (DSSE v1.0, "Protocol").
+/// bytes, each on a line of its own, as a report writes a name. A key signed it if a signature
+/// whose hint is empty or the key's id is valid for the public key that its object describes (DSSE
+/// v1.0, "Protocol").
 ///
-/// The answer is `Good` where some key signed, and `Refused` elsewhere. Where the bytes are not an
+/// The answer is `Good` where some key signed, and `Refused` otherwise. Where the bytes are not an
 /// envelope, the report of that refusal is written.
 ///
 /// # Errors

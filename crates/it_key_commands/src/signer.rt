@@ -11,8 +11,8 @@ use it_dsse::key_object::KeyObject;
 use it_dsse::meter::Meter;
 use it_public_keys::PublicKeys;
 
-/// Whether the key that an object describes signed the message: whether one of the signatures is
-/// tried for its id and valid for it. The table holds the key, if there is one.
+/// Whether the key that an object describes signed the message: one of the signatures is tried for
+/// its id and valid for it. The table holds the key, if there is one.
 pub(crate) fn is_signed_under(
     keys: &PublicKeys,
     id: &str,

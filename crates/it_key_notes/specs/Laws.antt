@@ -10,7 +10,7 @@ use Rattle.it_key_notes.specs.Reasons.{IsPublic}
 use Rattle.it_key_notes.specs.UnknownKeys.{IsUnknown}
 use Rattle.it_key_notes.specs.declared.unknown_key.UnknownKey.{UnknownKey}
 
--- beside any rings, a table that has the key of an object knows the object
+-- with any rings, a table that has the key of an object knows the object
 abbrev pub AskedKeysAreKnown : Type 0
 AskedKeysAreKnown =
     (rings : List (List RingEntry)) (keys : Keys) (id : List ℕ) (object : KeyObject)

@@ -39,7 +39,7 @@ module _ (object : KeyObject) where
     pub is_key : IsKey key
     pub described : IsTrue (describes object key)
 
-  -- it has no 64 hexadecimal digits, for a key of Ed25519
+  -- it lacks the 64 hexadecimal digits of an Ed25519 key
   pub record HasNoDigits : Type 0 where
     pub scheme_is : object.scheme ≡ codes "ed25519"
     pub none : result_ok (decode_sized object.public 32) ≡ None
@@ -51,26 +51,26 @@ module _ (object : KeyObject) where
     pub digits_are : decode_sized object.public 32 ≡ Ok bytes
     pub no_key : ¬ IsPublicKey bytes
 
-  -- it has no PEM text of a public key that is read (RFC 7468, section 13)
+  -- it has no readable PEM text of a public key (RFC 7468, section 13)
   pub record HasNoPemText : Type 0 where
     pub scheme_is : IsPemScheme object.scheme
     pub none : info_in object.public ≡ None
 
-  -- its PEM text is no key of P-256 (RFC 5480, section 2)
+  -- its PEM text is no P-256 key (RFC 5480, section 2)
   pub record HasNoP256Key : Type 0 where
     pub info : List ℕ
     pub scheme_is : object.scheme ≡ codes "ecdsa-sha2-nistp256"
     pub info_is : info_in object.public ≡ Some info
     pub no_key : (key : P256Key) → IsP256Key key → info ≡ p256_info key → ⊥
 
-  -- its PEM text is no key of RSA that is taken (RFC 3279, section 2.3.1)
+  -- its PEM text is no RSA key that is accepted (RFC 3279, section 2.3.1)
   pub record HasNoRsaKey : Type 0 where
     pub info : List ℕ
     pub scheme_is : object.scheme ≡ codes "rsassa-pss-sha256"
     pub info_is : info_in object.public ≡ Some info
     pub no_key : (key : RsaKey) → IsRsaKey key → info ≡ rsa_info key → ⊥
 
-  -- the reason is so
+  -- the reason holds
   abbrev pub IsReason : Reason → Type 0
   IsReason (OtherScheme scheme) = IsOfOther scheme
   IsReason NoSecret = object.scheme ≡ codes "hmac-sha256"

@@ -21,7 +21,7 @@ module _ (panel : Panel) where
     pub stands : get objects note.id ≡ Some object
     pub is_unknown : IsUnknown note.id object note
 
-  -- it stands under one of these ids
+  -- it is under one of these ids
   pub record IsUnknownUnder (ids : List (List ℕ)) (objects : Named KeyObject) (note : UnknownKey)
       : Type 0 where
     pub listed : Contains ids note.id

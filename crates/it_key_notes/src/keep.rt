@@ -5,7 +5,7 @@ ghost use Rattle.std.specs.List.{cons_option};
 use crate::unknown_key::UnknownKey;
 use std::alloc::AllocError;
 
-/// Adds a note behind the others, where there is one.
+/// Adds a note, if there is one, after the others.
 pub(crate) fn keep(notes: &mut Vec<UnknownKey>, note: Option<UnknownKey>) -> Result<(), AllocError>
     ensures { OnOk result (notes.new.items ≡ notes.old.items ++ cons_option note []) }
 {

@@ -5,7 +5,7 @@ ghost use Rattle.it_dsse.specs.Panel.{panel_of};
 use it_dsse::check::SignatureCheck;
 use it_dsse::key_object::KeyObject;
 
-/// Whether some check of the panel knows the key that the id and the object name.
+/// Whether some check of the panel knows the key named by the id and the object.
 pub(crate) fn is_known(panel: &[Box<dyn SignatureCheck>], id: &str, object: &KeyObject) -> bool
     ensures { result ≡ is_some ((panel_of (map meaning panel.now)).key_of id.now object.now) }
 {

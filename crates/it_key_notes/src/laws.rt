@@ -3,7 +3,7 @@
 ghost use Rattle.it_key_notes.specs.Laws.{AskedKeysAreKnown};
 
 /// Where a table of public keys has the key that an object describes, there is no note on the
-/// object: that public keys are to be asked for is said where they are not.
+/// object: that public keys should be checked is said only where no check knows the object.
 pub fn asked_keys_are_known()
     ensures { AskedKeysAreKnown }
 {}

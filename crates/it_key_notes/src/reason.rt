@@ -8,16 +8,16 @@ pub enum Reason {
     OtherScheme(Text),
     /// Its scheme is that of secrets: no ring has the secret.
     NoSecret,
-    /// It describes a public key: those are checked where that is asked for.
+    /// It describes a public key: those are checked only on request.
     PublicKey,
-    /// Its public part is to be a key of Ed25519, and is not 64 hexadecimal digits.
+    /// Its public part should be an Ed25519 key, but is not 64 hexadecimal digits.
     NoDigits,
-    /// Its public part is 64 hexadecimal digits, of bytes that are no key of Ed25519.
+    /// Its public part is 64 hexadecimal digits, of bytes that are no Ed25519 key.
     NoEd25519Key,
-    /// Its public part is to be a PEM text of a public key, and does not read as one.
+    /// Its public part should be a public key's PEM text, but does not read as one.
     NoPemText,
-    /// Its public part is a PEM text, of bytes that are no key of P-256.
+    /// Its public part is a PEM text, of bytes that are no P-256 key.
     NoP256Key,
-    /// Its public part is a PEM text, of bytes that are no key of RSA.
+    /// Its public part is a PEM text, of bytes that are no RSA key.
     NoRsaKey,
 }

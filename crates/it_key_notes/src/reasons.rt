@@ -1,4 +1,4 @@
-//! What a key object says of why no check knows it.
+//! What a key object says about why no check knows it.
 ghost use Rattle.std.specs.Prelude.{◌≡◌, IfOk, codes};
 ghost use Rattle.it_key_notes.specs.Reasons.{IsReason};
 

@@ -11,7 +11,7 @@ use it_dsse::check::SignatureCheck;
 use it_dsse::key_object::KeyObject;
 use std::alloc::{AllocError, Global};
 
-/// Under an id stands a key object that no check knows, and why.
+/// A key object that no check knows, by its id, and why.
 #[derive(Drop)]
 pub struct UnknownKey {
     /// The key id.

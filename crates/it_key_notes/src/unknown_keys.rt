@@ -12,8 +12,8 @@ use it_dsse::check::SignatureCheck;
 use it_dsse::key_object::KeyObject;
 use std::alloc::{AllocError, Global};
 
-/// Notes on those of the key objects that no check of the panel knows, in the order of the bytes of
-/// their ids. Each is true.
+/// Notes on those key objects that no check of the panel knows, in the order of their ids' bytes.
+/// Each is true.
 ///
 /// # Errors
 ///
@@ -33,8 +33,8 @@ pub fn unknown_in(
     Ok(notes)
 }
 
-/// Notes on those of the key objects that stand under one of the ids and that no check of the panel
-/// knows, in the order of the ids. Each is true.
+/// Notes on those key objects that are under one of the ids and that no check of the panel knows,
+/// in the order of the ids. Each is true.
 ///
 /// # Errors
 ///
@@ -55,7 +55,7 @@ pub fn unknown_under(
     Ok(notes)
 }
 
-/// A note on the key object that stands under an id, where no check knows it.
+/// A note on the key object under an id, if no check knows it.
 fn unknown_at(
     alloc: Global,
     id: &str,
@@ -71,8 +71,8 @@ fn unknown_at(
     }
 }
 
-/// Notes on those of the builders' key objects that no check of the panel knows, in the order of
-/// the builders. Each is true.
+/// Notes on the builders' key objects that no check of the panel knows, in the order of the
+/// builders. Each is true.
 ///
 /// # Errors
 ///

@@ -1,4 +1,4 @@
-//! Whether bytes may be a layout, by the letters that stand in them alone.
+//! Whether bytes may be a layout, by the letters in them alone.
 #![tactic(auto)]
 
 pub mod laws;

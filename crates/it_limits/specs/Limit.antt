@@ -4,11 +4,11 @@ use Rattle.std.specs.Prelude.{◌≡◌, ◌<◌, ℕ, List, length}
 use Rattle.it_dsse.specs.Envelope.{EnvelopeOf}
 use Rattle.it_dsse.specs.declared.envelope.Envelope.{Envelope}
 
--- so many signatures are looked at, at the most
+-- at most this many signatures are looked at
 abbrev pub most_signatures : ℕ
 most_signatures = 64
 
--- the bytes are an envelope with so many signatures, and these are too many
+-- the bytes are an envelope with this many signatures, which is too many
 pub record IsOverLimit (bytes : List ℕ) (count : ℕ) : Type 0 where
   pub envelope : Envelope
   pub reads : EnvelopeOf bytes envelope

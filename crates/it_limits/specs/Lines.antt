@@ -4,8 +4,8 @@ use Rattle.std.specs.Prelude.{ℕ, ◌+◌, List, [], ◌∷◌, ◌++◌, lengt
 use Rattle.it_limits.specs.Limit.{IsOverLimit, IsWithinLimit}
 use Rattle.it_limits.specs.declared.lines.LineOver.{LineOver}
 
--- of these lines those are looked at, and these are left out: a line within the limit stays as it
--- is, and in the place of another stands an empty one; its number counts from 1
+-- which of the lines are looked at, and which are left out: a line within the limit stays as it is,
+-- and an empty one replaces any other, whose number counts from 1
 pub data AreWithin : List (List ℕ) → List (List ℕ) → List LineOver → Type 0 where
   no_line : AreWithin [] [] []
   stays : {lines kept : List (List ℕ)} {left_out : List LineOver} {line : List ℕ}

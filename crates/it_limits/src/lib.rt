@@ -1,5 +1,5 @@
-//! How many signatures an envelope may have where public keys are checked, and what is left out of
-//! a verification because it has more.
+//! How many signatures an envelope may have where public keys are checked, and what a verification
+//! leaves out for having more.
 //!
 //! ```
 //! let within = lines_within_limit(alloc, provenance)?;

@@ -20,14 +20,14 @@ pub struct LineOver {
 /// The lines of a provenance that are looked at.
 #[derive(Drop)]
 pub struct LinesWithin {
-    /// The lines, each with a line feed. An empty one stands in the place of each that is left out.
+    /// The lines, each with a line feed. An empty one replaces each that is left out.
     pub lines: Sequence<u8>,
-    /// What is left out, in its order.
+    /// The lines left out, in order.
     pub left_out: Sequence<LineOver>,
 }
 
-/// The lines of a provenance, where those whose envelopes have more than `MOST_SIGNATURES` are
-/// left out. Each line that stays keeps its number.
+/// The lines of a provenance, without those whose envelopes have more than `MOST_SIGNATURES`
+/// signatures. Each line that stays keeps its number.
 ///
 /// # Errors
 ///

@@ -6,11 +6,11 @@ ghost use Rattle.it_limits.specs.Limit.{IsOverLimit, most_signatures};
 use it_dsse::envelope::{Envelope, EnvelopeFault};
 use std::alloc::{AllocError, Global};
 
-/// How many signatures of an envelope are looked at, at the most (this profile's choice).
+/// The most signatures of an envelope that are looked at (this profile's choice).
 pub const MOST_SIGNATURES: usize = 64;
 
-/// How many signatures the envelope has that the bytes are, where these are more than
-/// `MOST_SIGNATURES`; `None` where the bytes are an envelope with no more, or no envelope.
+/// How many signatures the envelope in the bytes has, where there are more than `MOST_SIGNATURES`;
+/// `None` where there are no more, or the bytes are not an envelope.
 ///
 /// # Errors
 ///

@@ -10,7 +10,7 @@ use Rattle.it_digest.specs.DigestSet.{in_sha256, in_sha384, in_sha512, name_of}
 use Rattle.it_digest.specs.declared.compare.DigestSet.{DigestSet}
 
 -- a digest under the name of its algorithm, in lower-case digits (this profile's choice), and what
--- follows it; nothing where there is no such digest
+-- follows it; only the latter where there is no digest
 abbrev pub digest_member : List ℕ → Option (List ℕ) → Members → Members
 digest_member name None rest = rest
 digest_member name (Some digest) rest = member name (string (encode_lower digest)) rest

@@ -39,8 +39,8 @@ pub record IsLinkOutput (name materials products text : List ℕ) : Type 0 where
   pub reads_back : LinkOf text link
   pub only : (other : Link) → LinkOf text other → other ≡ link
 
--- why the command stops: a bad line of the materials, else one of the products, or what every
--- command may stop for
+-- why the command stops: a bad line of the materials, otherwise of the products, or a fault that
+-- any command may have
 abbrev pub IsLinkFault : (materials products : List ℕ) → RunFault → Type 0
 IsLinkFault materials products Write = Unit {0}
 IsLinkFault materials products OutOfMemory = Unit {0}

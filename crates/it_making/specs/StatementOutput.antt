@@ -36,7 +36,7 @@ subject_document e = object
 abbrev pub subjects_document : ArtifactMap → Data
 subjects_document subjects = array (items_of (map subject_document (entries subjects)))
 
--- the provenance as a JSON object; the parameters stand in it as they are
+-- the provenance as a JSON object, with the parameters as they are
 abbrev pub provenance_document : (build_type builder : List ℕ) → (parameters : Data) → Data
 provenance_document build_type builder parameters = object
     (member (codes "buildDefinition") (object
@@ -59,7 +59,7 @@ statement_document subjects predicate = object
     (member (codes "subject") (subjects_document subjects)
     no_members))))
 
--- what is read of the Statement
+-- the Statement as it is read
 abbrev pub statement_of : ArtifactMap → (build_type builder : List ℕ) → Fields → Statement
 statement_of subjects build_type builder parameters = record {
   subjects = values subjects;
@@ -90,7 +90,7 @@ pub record IsCompactLine (text : List ℕ) (document : Data) : Type 0 where
 
 -- the text is a JSON text of the Statement of this digest list, builder, build type and parameters,
 -- on one line with no space, and reads back as that Statement and no other; where no parameter is a
--- number with a fraction or an exponent, or past 64 bits, no byte of it is open
+-- number with a fraction or an exponent, or past 64 bits, each byte is determined
 pub record IsStatementOutput (sums build_type builder : List ℕ) (given : Option (List ℕ))
     (text : List ℕ) : Type 0 where
   pub subjects : ArtifactMap
@@ -108,8 +108,8 @@ pub record IsStatementOutput (sums build_type builder : List ℕ) (given : Optio
   pub only : (other : Statement) → StatementOf text other
       → other ≡ statement_of subjects build_type builder parameters
 
--- why the command stops: a bad line of the subjects, else parameters that are none, or what every
--- command may stop for
+-- why the command stops: a bad line of the subjects, otherwise bad parameters, or a fault that any
+-- command may have
 abbrev pub IsStatementFault : (sums : List ℕ) → Option (List ℕ) → RunFault → Type 0
 IsStatementFault sums given Write = Unit {0}
 IsStatementFault sums given OutOfMemory = Unit {0}

@@ -12,8 +12,8 @@ use it_digest::compare::DigestSet;
 use serde_json::{Map, Value};
 use std::alloc::{AllocError, Global};
 
-/// The JSON object of a digest set: a text of lower-case hexadecimal digits for each algorithm that
-/// stands in it.
+/// The JSON object of a digest set: a text of lower-case hexadecimal digits for each algorithm in
+/// it.
 pub(crate) fn digest_set_value(alloc: Global, digests: &DigestSet) -> Result<Value, AllocError>
     ensures document { IfOk result (λ value. view value ≡ digest_set_document digests.now) }
     ensures reads_back { IfOk result

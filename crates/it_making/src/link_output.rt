@@ -24,14 +24,14 @@ use std::io::Write;
 /// Writes the body of the link of a step (in-toto 1.0, section 4.4) and a line feed: compact JSON
 /// with the members in the order of their bytes, `_type`, `materials`, `name` and `products`, and
 /// each file with its SHA-256 in lower-case hexadecimal digits. `name` is the step's name,
-/// `materials` and `products` are the bytes of digest lists; no bytes are the empty list. What is
-/// written reads back as just that link. The answer is `Good`.
+/// `materials` and `products` are the bytes of digest lists; no bytes mean the empty list. What is
+/// written reads back as that very link. The answer is `Good`.
 ///
 /// # Errors
 ///
-/// `BadMaterials` with the first bad line of the materials, and, where they are good,
-/// `BadProducts` with that of the products; `OutOfMemory` where memory was refused. In these
-/// nothing went out. `Write` where the output could not be written; a beginning of it went out.
+/// `BadMaterials` with the first bad line of the materials, and, where they are good, `BadProducts`
+/// with that of the products; `OutOfMemory` where memory was refused. Nothing went out in these
+/// cases. `Write` where the output could not be written; a beginning of it went out.
 pub fn run_link<W: Write>(
     alloc: Global,
     name: &str,

@@ -1,4 +1,4 @@
-//! Members of JSON objects that are made.
+//! Members of JSON objects being made.
 ghost use Rattle.std.specs.Prelude.{◌≡◌, OnOk};
 ghost use Rattle.serde_json.specs.Data.{put};
 ghost use Rattle.serde_json.specs.View.{members_view, view};

@@ -18,7 +18,7 @@ const MOST_LEVELS: u8 = 124;
 ///
 /// # Errors
 ///
-/// `BadParameters` where the bytes are no JSON object, or one that nests deeper than 124 levels;
+/// `BadParameters` where the bytes are not a JSON object, or nest deeper than 124 levels;
 /// `OutOfMemory` where memory was refused.
 pub(crate) fn parameters_of(alloc: Global, bytes: Option<&[u8]>) -> Result<Value, RunFault>
     ensures ok { IfOk result (λ value. GivesParameters (option_copied bytes.entry) (view value)) }

@@ -27,13 +27,13 @@ use std::io::Write;
 /// What a Statement is made of.
 #[derive(Clone, Copy)]
 pub struct StatementParts<'a> {
-    /// The bytes of a digest list, with a line for each subject; no bytes are the empty list.
+    /// The bytes of a digest list, with a line for each subject; no bytes mean the empty list.
     pub subjects: &'a [u8],
     /// The kind of build.
     pub build_type: &'a str,
     /// The id of the builder.
     pub builder: &'a str,
-    /// The bytes of a JSON object, the external parameters; where it is missing there are none.
+    /// The external parameters, as the bytes of a JSON object; `None` if there are none.
     pub parameters: Option<&'a [u8]>,
 }
 
@@ -41,15 +41,15 @@ pub struct StatementParts<'a> {
 /// v1) and a line feed: compact JSON with the members in the order of their bytes, the subjects in
 /// the order of their paths' bytes with SHA-256 in lower-case hexadecimal digits, and the external
 /// parameters as they were read: a number with a fraction, an exponent or more than 64 bits is
-/// written as the floating-point number of 64 bits that it was read as, so that `1.10` becomes
-/// `1.1`. What is written reads back as just that Statement. The answer is `Good`.
+/// written as the 64-bit floating-point number that it was read as, so that `1.10` becomes `1.1`.
+/// What is written reads back as that very Statement. The answer is `Good`.
 ///
 /// # Errors
 ///
-/// `BadSubjects` with the first bad line of the subjects, and, where they are good,
-/// `BadParameters` where the parameters are no JSON object, or one that nests deeper than 124
-/// levels; `OutOfMemory` where memory was refused. In these nothing went out. `Write` where the
-/// output could not be written; a beginning of it went out.
+/// `BadSubjects` with the first bad line of the subjects, and, where they are good, `BadParameters`
+/// where the parameters are not a JSON object, or nest deeper than 124 levels; `OutOfMemory` where
+/// memory was refused. Nothing went out in these cases. `Write` where the output could not be
+/// written; a beginning of it went out.
 pub fn run_statement<W: Write>(
     alloc: Global,
     parts: &StatementParts<'_>,

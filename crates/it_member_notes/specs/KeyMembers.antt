@@ -1,5 +1,5 @@
--- What the notes on members of key objects say (in-toto 1.0 section 4.2 has key objects; that there
--- are notes, and which, is a word of this project).
+-- What the notes on members of key objects say (key objects are in in-toto 1.0 section 4.2; that
+-- there are notes, and which, is a word of this project).
 use Rattle.std.specs.Prelude.{◌≡◌, ℕ, List, [], Some, codes}
 use Rattle.serde_json.specs.Data.{Data}
 use Rattle.it_base.specs.Document.{OfDocument}
@@ -33,7 +33,7 @@ abbrev pub HasKeyMember : Data → KeyMemberNote → Type 0
 HasKeyMember d (OtherKeyId key keyid) = HasOtherKeyId d (id_of key) keyid
 HasKeyMember d (PrivateKey key) = HasPrivateKey d
 
--- at the note's place in a document stands an object of which the note is true
+-- at the note's place in a document is an object of which the note is true
 pub record IsKeyMember (d : Data) (note : KeyMemberNote) : Type 0 where
   pub object : Data
   pub stands : object_at (place_of note) d ≡ Some object

@@ -6,7 +6,7 @@ use Rattle.it_member_notes.specs.declared.place.Place.TheVariants.{Layout, Step,
 use Rattle.it_member_notes.specs.declared.place.Place.TheVariants.{KeyValue}
 
 -- the members that are looked at: those of policies are this profile's choice, those of layouts and
--- keys stand in in-toto 1.0 sections 4.2 and 4.3
+-- keys are in in-toto 1.0 sections 4.2 and 4.3
 abbrev pub read_names : Place → List (List ℕ)
 read_names Policy = codes "owners" ∷ codes "deliver" ∷ codes "expectations" ∷ []
 read_names (Expectation n) =
@@ -23,8 +23,8 @@ read_names (Inspection n) =
 read_names (Key key) = codes "keytype" ∷ codes "scheme" ∷ codes "keyval" ∷ []
 read_names (KeyValue key) = codes "public" ∷ []
 
--- the further members that in-toto 1.0 (sections 4.2 and 4.3) or its implementations know, and that
--- are not looked at
+-- further members that in-toto 1.0 (sections 4.2 and 4.3) or its implementations know and that are
+-- not looked at
 abbrev pub known_names : Place → List (List ℕ)
 known_names Policy = []
 known_names (Expectation n) = []

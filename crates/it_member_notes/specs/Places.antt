@@ -1,4 +1,4 @@
--- What stands at the places of a policy and a layout (docs/formats.md; in-toto 1.0 section 4.3).
+-- What is at the places of a policy and a layout (docs/formats.md; in-toto 1.0 section 4.3).
 use Rattle.std.specs.Prelude.{ℕ, List, Option, Some, option_and_then, codes}
 use Rattle.serde_json.specs.Data.{Data}
 use Rattle.serde_json.specs.Find.{at}
@@ -6,11 +6,11 @@ use Rattle.it_base.specs.Document.{member_at}
 use Rattle.it_member_notes.specs.declared.place.KeyPlace as keys
 use Rattle.it_member_notes.specs.declared.place.Place as places
 
--- the item at a place of the list that the member of this name is
+-- the item at a place in the list that is the member of this name
 abbrev pub item_at : List ℕ → ℕ → Data → Option Data
 item_at name n d = option_and_then (at n) (member_at name d)
 
--- the member of this name, of the object that the member of another name is
+-- the member of this name, in the object that is the member of another name
 abbrev pub inner_at : List ℕ → List ℕ → Data → Option Data
 inner_at outer name d = option_and_then (member_at name) (member_at outer d)
 
@@ -33,7 +33,7 @@ id_of (keys.TheVariants.Owner id) = id
 id_of (keys.TheVariants.Builder expectation builder id) = id
 id_of (keys.TheVariants.Layout id) = id
 
--- what stands at a place of a document
+-- what is at a place of a document
 abbrev pub object_at : places.Place → Data → Option Data
 object_at places.TheVariants.Policy d = Some d
 object_at (places.TheVariants.Expectation n) d = item_at (codes "expectations") n d

@@ -36,7 +36,7 @@ pub record TakesFromNoStep (layout : Layout) (rules : List Rule) (place : ℕ) (
   pub no_step : ¬ HasStep layout name
   pub no_inspection : ¬ HasInspection layout name
 
--- a list has rules, of which the last is no DISALLOW
+-- a list has rules, the last of which is not a DISALLOW
 pub record EndsOpen (rules : List Rule) : Type 0 where
   pub front : List Rule
   pub last : Rule

@@ -7,15 +7,15 @@ use Rattle.it_member_notes.specs.MemberNames.{known_names, read_names}
 use Rattle.it_member_notes.specs.Places.{IsOfLayout, IsOfPolicy, object_at}
 use Rattle.it_member_notes.specs.declared.unread_member.UnreadMember.{UnreadMember}
 
--- the object has a member of this name, and at this place the name has no meaning; the name that is
--- near, if there is one, is looked at there
+-- the object has a member of this name, which has no meaning at this place; the close name, if
+-- there is one, is looked at there
 pub record HasUnread (object : Data) (note : UnreadMember) : Type 0 where
   pub has : IsSome (get note.name object)
   pub not_read : ¬ Contains (read_names note.place) note.name
   pub not_known : ¬ Contains (known_names note.place) note.name
   pub close : IfSome note.close (λ near. Contains (read_names note.place) near.now)
 
--- at the note's place in a document stands an object of which the note is true
+-- at the note's place in a document is an object of which the note is true
 pub record IsUnread (d : Data) (note : UnreadMember) : Type 0 where
   pub object : Data
   pub stands : object_at note.place d ≡ Some object

@@ -6,7 +6,7 @@ use it_base::text::Text;
 /// A member of a key object of a policy or a layout that its author may not have meant.
 #[derive(Drop)]
 pub enum KeyMemberNote {
-    /// The `keyid` is a text, and another one than the id under which the object stands.
+    /// The `keyid` is a text other than the id under which the object stands.
     OtherKeyId {
         /// Where the key object stands.
         key: KeyPlace,

@@ -101,7 +101,7 @@ fn private_key(
     }))
 }
 
-/// The text that the member of this name is, if it is one.
+/// The text of the member of this name, if it is a text.
 fn text_at<'v>(object: &'v Value, name: &str) -> Option<&'v str>
     ensures { IfSome result (λ text. IsPart IsText name.now (view object.now) text.now) }
 {

@@ -24,7 +24,7 @@ pub enum LayoutNote {
         item: Item,
         /// The side that the rules judge.
         side: Side,
-        /// What it is.
+        /// The note.
         note: RuleListNote,
     },
     /// A key id may sign for a step, and the layout has no key object for it.

@@ -1,4 +1,4 @@
-//! Notes on policies and layouts: what is in them and not looked at, and what reads but may not be
+//! Notes on policies and layouts: what is in them but not looked at, and what reads but may not be
 //! what its author meant. Every note is true.
 #![tactic(auto)]
 

@@ -11,7 +11,7 @@ use std::alloc::{AllocError, Global};
 
 /// The notes on a list of artifact rules that may take from the steps and the inspections of the
 /// `layout`, as those of its steps and inspections and the policy's rules on what is delivered do:
-/// on each rule in its order, and then on the end of the list. Each note is true.
+/// on each rule in order, and then on the end of the list. Each note is true.
 ///
 /// # Errors
 ///
@@ -46,7 +46,7 @@ fn match_from_no_step(alloc: Global, rule: usize, name: &Text) -> Result<RuleLis
     })
 }
 
-/// Whether there are rules, and the last is no `DISALLOW`.
+/// Whether there are rules, and the last is not a `DISALLOW`.
 fn ends_open(rules: &[Rule]) -> bool
     ensures { IsTrue result → EndsOpen rules.now }
 {

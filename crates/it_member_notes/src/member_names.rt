@@ -34,7 +34,7 @@ pub(crate) fn read_names(place: &Place) -> &'static [&'static str]
     }
 }
 
-/// The names of further members that in-toto 1.0 or its implementations know, and that are not
+/// The names of further members that in-toto 1.0 or its implementations know and that are not
 /// looked at. Takes no memory.
 pub(crate) fn known_names(place: &Place) -> &'static [&'static str]
     ensures { map (λ name. name.now) result.now ≡ known_at place.now }

@@ -17,7 +17,7 @@ use std::alloc::{AllocError, Global};
 pub struct MemberNotes {
     /// The members that are not looked at, and that no standard knows.
     pub unread: Vec<UnreadMember>,
-    /// The members of key objects that may not be meant.
+    /// The members of key objects that may be unintended.
     pub keys: Vec<KeyMemberNote>,
 }
 

@@ -8,8 +8,8 @@ use it_base::document::read_document;
 use std::alloc::{AllocError, Global};
 
 /// The notes on a policy's members that are not looked at, and on those of its key objects that may
-/// not be meant, in the order of the places and of the names. None where the bytes are no JSON
-/// document.
+/// be unintended, in the order of the places and of the names. There are none where the bytes are
+/// not a JSON document.
 ///
 /// # Errors
 ///
@@ -25,8 +25,8 @@ pub fn policy_notes(alloc: Global, bytes: &[u8]) -> Result<MemberNotes, AllocErr
 }
 
 /// The notes on a layout's members that are not looked at, and on those of its key objects that may
-/// not be meant, in the order of the places and of the names. None where the bytes, which are the
-/// layout's body, are no JSON document.
+/// be unintended, in the order of the places and of the names. There are none where the bytes,
+/// which are the payload of the layout's envelope, are not a JSON document.
 ///
 /// # Errors
 ///

@@ -1,4 +1,4 @@
-//! What stands at a place of a document.
+//! What is at a place of a document.
 ghost use Rattle.std.specs.Prelude.{◌≡◌, option_map};
 ghost use Rattle.serde_json.specs.View.{view};
 ghost use Rattle.it_member_notes.specs.Places.{builder_at as builder_of, inner_at as inner_of};
@@ -9,7 +9,7 @@ use crate::place::{KeyPlace, Place};
 use it_base::document::member;
 use serde_json::Value;
 
-/// What stands at a place of a document, if something stands there. Takes no memory.
+/// What is at a place of a document, if anything is. Takes no memory.
 pub(crate) fn object_at<'d>(document: &'d Value, place: &Place) -> Option<&'d Value>
     ensures { option_map (λ v. view v.now) result ≡ object_of place.now (view document.now) }
 {

@@ -1,4 +1,4 @@
-//! The places of a policy and a layout at which objects stand whose members have a meaning.
+//! The places, in a policy or a layout, of objects whose members have a meaning.
 ghost use Rattle.std.specs.Prelude.{◌≡◌, IfOk};
 ghost use Rattle.it_member_notes.specs.Places.{id_of};
 

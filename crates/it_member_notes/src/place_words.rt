@@ -4,7 +4,7 @@ use crate::place::{KeyPlace, Place};
 use crate::quoted::push_quoted;
 use std::alloc::{AllocError, Global};
 
-/// Appends the place: the document, and the way to the object.
+/// Appends the place: the document, and the path to the object.
 pub(crate) fn push_place(
     alloc: Global,
     out: &mut Vec<u8>,

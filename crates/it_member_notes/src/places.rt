@@ -127,14 +127,14 @@ fn push_key(alloc: Global, key: KeyPlace, places: &mut Vec<Place>) -> Result<(),
     Ok(())
 }
 
-/// How many items the list has that the member of this name is: none where it is no list.
+/// The number of items in the list that is the member of this name, or 0 if it is not a list.
 fn count_at(object: &Value, name: &str) -> usize {
     member(object, name)
         .and_then(Value::as_array)
         .map_or(0, Vec::len)
 }
 
-/// The names of the members that the member of this name has: none where it is no object.
+/// The names in the object that is the member of this name: none if it is not an object.
 fn ids_at(alloc: Global, object: &Value, name: &str) -> Result<Vec<Text>, AllocError> {
     let mut ids = Vec::new(alloc);
     let Some(members) = member(object, name).and_then(Value::as_object) else {

@@ -5,8 +5,8 @@ use crate::rule_list_note::RuleListNote;
 use std::alloc::{AllocError, Global};
 
 impl RuleListNote {
-    /// Appends the note, which is one on the policy's rules on what is delivered, as a line of
-    /// English, which ends with a line feed. Names are written as reports write them.
+    /// Appends the note, on the policy's rules on what is delivered, as a line of English, which
+    /// ends with a line feed. Names are written as reports write them.
     ///
     /// # Errors
     ///
@@ -17,7 +17,7 @@ impl RuleListNote {
         self.push_predicate(out)
     }
 
-    /// Appends the document and what the note speaks of in it: one rule, or all of them.
+    /// Appends the document and what in it the note is about: one rule, or all of them.
     pub(crate) fn push_subject(
         &self,
         alloc: Global,
@@ -34,7 +34,7 @@ impl RuleListNote {
         out.extend_from_slice(words.as_bytes())
     }
 
-    /// Appends what the note says of it, and a line feed.
+    /// Appends what the note says about it, and a line feed.
     pub(crate) fn push_predicate(&self, out: &mut Vec<u8>) -> Result<(), AllocError> {
         match self {
             RuleListNote::MatchFromNoStep { name, .. } => {

@@ -13,6 +13,6 @@ pub enum RuleListNote {
         /// The name.
         name: Text,
     },
-    /// The list ends with a rule that is no `DISALLOW`.
+    /// The list ends with a rule that is not a `DISALLOW`.
     NoDisallowAtEnd,
 }

@@ -6,10 +6,10 @@ use it_base::text::Text;
 /// A member that is not looked at, and that no standard knows.
 #[derive(Drop)]
 pub struct UnreadMember {
-    /// Where the object stands that has the member.
+    /// The place of the object that has the member.
     pub place: Place,
     /// The name of the member.
     pub name: Text,
-    /// A name that is looked at there and that is near the member's: a hint, no more.
+    /// A name that is looked at there and is close to the member's: only a hint.
     pub close: Option<&'static str>,
 }

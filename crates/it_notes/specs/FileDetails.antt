@@ -1,6 +1,6 @@
--- What more is said of a file of a step than that it does not count (words of this project): what
--- makes it no envelope (DSSE v1.0), for which key ids its signatures are tried (DSSE v1.0,
--- "Protocol"), or what makes its payload no link (in-toto 1.0 section 4.4).
+-- What is said of a file of a step besides that it does not count (words of this project): why it
+-- is not an envelope (DSSE v1.0), for which key ids its signatures are tried (DSSE v1.0,
+-- "Protocol"), or why its payload is not a link (in-toto 1.0 section 4.4).
 use Rattle.std.specs.Prelude.{◌≡◌, ℕ, List, [], ◌∷◌, ◌++◌, Contains, codes, filter}
 use Rattle.std.specs.List.{flat_map, list_any}
 use Rattle.it_chain.specs.Contents.{Contents, files_of}
@@ -23,7 +23,7 @@ use Rattle.it_notes.specs.declared.file_detail.Detail.TheVariants.{Part, Tried}
 use Rattle.it_notes.specs.declared.file_detail.FileDetail.{FileDetail}
 
 -- ---- what a detail says
--- this makes the payload of the envelope that bytes are no link
+-- this is why the payload of the envelope in bytes is not a link
 pub record TellsPayload (bytes : List ℕ) (part : PartNote) : Type 0 where
   pub envelope : Envelope
   pub is_envelope : EnvelopeOf bytes envelope
@@ -34,7 +34,7 @@ abbrev pub tried_ids : Step → Envelope → List (List ℕ)
 tried_ids step envelope =
     filter (λ id. list_any (is_admitted id) envelope.signatures) step.pubkeys
 
--- the signatures of the envelope that bytes are are tried for these key ids of a step
+-- the signatures of the envelope in bytes are tried for these key ids of a step
 pub record TellsTried (step : Step) (bytes : List ℕ) (ids : List (List ℕ)) : Type 0 where
   pub envelope : Envelope
   pub is_envelope : EnvelopeOf bytes envelope
@@ -56,7 +56,7 @@ pub record TellsFile (bundle : Contents) (step : Step) (name : List ℕ) (findin
   pub name_is : file.name ≡ name
   pub is_true : TellsBytes step finding file.bytes told.detail
 
--- the detail is one of the file that a note on a step speaks of
+-- the detail is one of the file that a note on a step is about
 abbrev pub TellsDetail : Contents → Step → StepNote → FileDetail → Type 0
 TellsDetail bundle step (of_file name finding) told = TellsFile bundle step name finding told
 TellsDetail bundle step note told = ⊥
@@ -65,7 +65,7 @@ TellsDetail bundle step note told = ⊥
 abbrev pub id_form : List ℕ → List ℕ
 id_form id = codes " " ++ name_form id
 
--- what stands before the ids, or in their place
+-- what comes before the ids, or in their place
 abbrev pub words_before : List (List ℕ) → List ℕ
 words_before [] = codes "by keyid, no signature is tried for a key id of the step"
 words_before (id ∷ ids) = codes "by keyid, signatures are tried for"

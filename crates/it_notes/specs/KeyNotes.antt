@@ -1,4 +1,4 @@
--- Which key objects no check knows, of those on which a refusal turns (words of this project).
+-- The key objects that a refusal depends on and no check knows (words of this project).
 use Rattle.std.specs.Prelude.{◌≡◌, ℕ, List, [], All, Contains}
 use Rattle.it_docs.specs.Policy.{PolicyOf}
 use Rattle.it_docs.specs.declared.policy.Expectation.{Expectation}
@@ -23,7 +23,7 @@ module _ (panel : Panel) (inputs : Inputs) where
     pub is_policy : PolicyOf inputs.policy policy
     pub is_unknown : IsUnknownIn panel policy.owners note
 
-  -- it stands under a key id of the step of this name, of the layout to which these places lead
+  -- it is under a key id of the step of this name, in the layout to which these places lead
   pub record IsOfStep (at : List Place) (name : List ℕ) (note : UnknownKey) : Type 0 where
     pub level : FaultLevel
     pub step : Step
@@ -32,7 +32,7 @@ module _ (panel : Panel) (inputs : Inputs) where
     pub name_is : step.name ≡ name
     pub is_unknown : IsUnknownUnder panel step.pubkeys level.signed.layout.keys note
 
-  -- it is one of the builders' of the expectation that speaks of the path
+  -- it is a builder's key in the expectation that speaks of the path
   pub record IsOfBuilder (path : List ℕ) (note : UnknownKey) : Type 0 where
     pub policy : Policy
     pub expectation : Expectation
@@ -40,14 +40,14 @@ module _ (panel : Panel) (inputs : Inputs) where
     pub fits : Fits policy.expectations path expectation
     pub is_unknown : IsUnknownOfBuilders panel expectation.builders note
 
-  -- it is one of those on which the fault turns
+  -- it is one of those that the fault depends on
   abbrev pub TellsKey : List Place → Fault → UnknownKey → Type 0
   TellsKey at (faults.OwnerMissing id) note = IsOfOwner note
   TellsKey at (faults.Threshold step found needed) note = IsOfStep at step note
   TellsKey at (faults.NoProvenance path best) note = IsOfBuilder path note
   TellsKey at fault note = ⊥
 
-  -- the notes on a refusal are such; an accepted delivery has none
+  -- a refusal has only such notes; an accepted delivery has none
   abbrev pub TellsKeys : Verdict → List UnknownKey → Type 0
   TellsKeys (Accepted steps files) notes = notes ≡ []
   TellsKeys (Refused refusal) notes = All (TellsKey refusal.at refusal.fault) notes

@@ -1,4 +1,4 @@
--- The layout that a refusal speaks of (in-toto 1.0 sections 4.4 and 5.2; how a place is named is
+-- The layout that a refusal is about (in-toto 1.0 sections 4.4 and 5.2; how a place is named is
 -- this profile's choice).
 use Rattle.std.specs.Prelude.{◌≡◌, ℕ, List, [], ◌∷◌, Some}
 use Rattle.it_chain.specs.Contents.{Contents, folder_at}
@@ -15,8 +15,8 @@ use Rattle.it_notes.specs.declared.fault_level.FaultLevel.{FaultLevel}
 abbrev pub Place : Type 0
 Place = List ℕ × List ℕ
 
--- the next layout is a sublayout that was signed at the place, its files are in this folder, and it
--- is looked at at the same moment
+-- the next layout is a sublayout that was signed at the place, its files are in this folder, and
+-- its moment is the same
 pub record IsBelow (panel : Panel) (level : FaultLevel) (place : Place) (next : FaultLevel)
     : Type 0 where
   pub leads : LeadsDown panel level.signed.layout level.links.now place.0 place.1 next.signed
@@ -24,19 +24,19 @@ pub record IsBelow (panel : Panel) (level : FaultLevel) (place : Place) (next : 
       folder_at (folder_name place.0 place.1) level.links.now ≡ Some next.links.now
   pub moment_is : next.moment ≡ level.moment
 
--- from one layout the places lead down to another, the outermost place first
+-- the places lead down from one layout to another, the outermost place first
 abbrev pub LeadsTo : Panel → FaultLevel → List Place → FaultLevel → Type 0
 LeadsTo panel level [] below = below ≡ level
 LeadsTo panel level (place ∷ rest) below =
     (next : FaultLevel) × IsBelow panel level place next × LeadsTo panel next rest below
 
--- the layout that was given, over the links and at the moment that were given
+-- the given layout, over the given links and at the given moment
 pub record IsTop (inputs : Inputs) (level : FaultLevel) : Type 0 where
   pub is_layout : IsSignedLayout inputs.layout level.signed
   pub links_are : level.links.now ≡ inputs.links
   pub moment_is : MomentOf inputs.moment level.moment
 
--- from that layout the places lead down to this one
+-- the places lead down from that layout to this one
 pub record IsLevel (panel : Panel) (inputs : Inputs) (at : List Place) (level : FaultLevel)
     : Type 0 where
   pub top : FaultLevel

@@ -24,13 +24,13 @@ use Rattle.it_notes.specs.declared.notes.RefusalNotes.{RefusalNotes}
 use Rattle.it_notes.specs.declared.notes.RefusalNotes.TheVariants.{Nothing}
 use Rattle.it_notes.specs.declared.place_notes.PlaceNotes.{PlaceNotes}
 
--- the notes are true of the layout that a payload is; where it is none, there are none
+-- the notes are true of the layout in a payload; without one, there are no notes
 abbrev pub AreOfLayout : List ℕ → List LayoutNote → Type 0
 AreOfLayout payload notes =
     (notes ≡ []) ⊎ ((layout : Layout) × LayoutOf payload layout × All (Holds layout) notes)
 
--- the notes are true of the rules on what is delivered of the policy that bytes are, which see the
--- layout that a payload is; where one of the two is none, there are none
+-- the notes are true of the rules on what is delivered in the policy in bytes, which see the layout
+-- in a payload; where either is missing, there are no notes
 abbrev pub AreOfDelivery : List ℕ → List ℕ → List RuleListNote → Type 0
 AreOfDelivery bytes payload notes =
     (notes ≡ []) ⊎ ((policy : Policy) × (layout : Layout) × PolicyOf bytes policy
@@ -51,7 +51,7 @@ TellsVerdict panel inputs (Accepted steps files) Nothing = Unit {0}
 TellsVerdict panel inputs (Accepted steps files) _ = ⊥
 TellsVerdict panel inputs (Refused refusal) told = Tells panel inputs refusal told
 
--- where the sublayout is of which a refusal speaks; an accepted delivery has none
+-- the place of the sublayout that a refusal is about; an accepted delivery has none
 abbrev pub TellsWhere : Panel → Inputs → Verdict → PlaceNotes → Type 0
 TellsWhere panel inputs (Accepted steps files) notes = ⊥
 TellsWhere panel inputs (Refused refusal) notes = TellsPlace panel inputs refusal.at notes

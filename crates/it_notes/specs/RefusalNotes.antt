@@ -1,5 +1,5 @@
--- What the notes on a refusal say (words of this project). Each speaks of the fault that is
--- reported, and of what the verification was given.
+-- What the notes on a refusal say (words of this project). Each is about the fault that is
+-- reported, and what the verification was given.
 use Rattle.std.specs.Prelude.{◌≡◌, ◌⊎◌, ℕ, List, Option, Some, All, Contains, IfSome}
 use Rattle.std.specs.FinMap.{get}
 use Rattle.it_digest.specs.Artifacts.{ArtifactMap}
@@ -69,7 +69,7 @@ pub record TellsDetailed (panel : Panel) (level : FaultLevel) (step : Step) (tol
 
 -- what is said of a layout at which a delivery was refused
 module _ (panel : Panel) (inputs : Inputs) (level : FaultLevel) (fault : Fault) where
-  -- of the step that has too few keys, what the files and key ids are for it
+  -- what the files and key ids are for the step that has too few keys
   pub record TellsThreshold (notes : List DetailedNote) : Type 0 where
     pub step : Step
     pub found : ℕ
@@ -78,7 +78,7 @@ module _ (panel : Panel) (inputs : Inputs) (level : FaultLevel) (fault : Fault) 
     pub in_layout : Contains level.signed.layout.steps step
     pub are_true : All (TellsDetailed panel level step) notes
 
-  -- when the layout that has expired did
+  -- when the layout expired
   pub record TellsEnd (note : ExpiryNote) : Type 0 where
     pub fault_is : fault ≡ faults.Expired
     pub is_true : TellsExpiry level.signed.envelope.payload inputs.moment note
@@ -96,7 +96,7 @@ module _ (panel : Panel) (inputs : Inputs) (level : FaultLevel) (fault : Fault) 
     pub is_true : TellsDisagree (setting_of panel level.moment) level.signed.layout
         level.links.now note
 
-  -- what the rule says that failed, and what it met
+  -- what the failed rule says, and what it met
   pub record TellsFailed (notes : RuleNotes) : Type 0 where
     pub policy : Policy
     pub path : List ℕ
@@ -106,7 +106,7 @@ module _ (panel : Panel) (inputs : Inputs) (level : FaultLevel) (fault : Fault) 
     pub rule : TellsRule level.signed.layout policy.deliver notes.rule
     pub met : IfSome notes.met (TellsMetAt panel inputs.depth level notes.rule.place)
 
-  -- the notes are true of the layout, and speak of the fault
+  -- the notes are true of the layout, and about the fault
   abbrev pub TellsAt : RefusalNotes → Type 0
   TellsAt notes.Nothing = Unit {0}
   TellsAt (notes.Step told) = TellsThreshold told.items
@@ -147,7 +147,7 @@ module _ (panel : Panel) (inputs : Inputs) (fault : Fault) where
     pub is_envelope : EnvelopeOf inputs.layout envelope
     pub are_true : All (TellsOwner panel envelope policy.owners) notes
 
-  -- of the file that has no provenance, what the lines of the provenance miss
+  -- what the lines of the provenance miss for the file that has none
   pub record TellsMissing (notes : List ProvenanceNote) : Type 0 where
     pub policy : Policy
     pub expectation : Expectation
@@ -167,7 +167,7 @@ module _ (panel : Panel) (inputs : Inputs) (fault : Fault) where
     pub fault_is : fault ≡ faults.NoProvenance path best
     pub is_true : IsLaidOut inputs.provenance
 
-  -- the notes are true of the documents, and speak of the fault
+  -- the notes are true of the documents, and about the fault
   abbrev pub TellsInputs : RefusalNotes → Type 0
   TellsInputs notes.Nothing = Unit {0}
   TellsInputs (notes.Part told) = TellsBadPolicy told ⊎ TellsBadLayout told
@@ -184,7 +184,7 @@ pub record TellsLevel (panel : Panel) (inputs : Inputs) (at : List Place) (fault
   pub is_level : IsLevel panel inputs at level
   pub is_true : TellsAt panel inputs level fault told
 
--- the notes are true, and speak of the refusal
+-- the notes are true, and about the refusal
 abbrev pub Tells : Panel → Inputs → Refusal → RefusalNotes → Type 0
 Tells panel inputs refusal told = TellsInputs panel inputs refusal.fault told
     ⊎ TellsLevel panel inputs refusal.at refusal.fault told

@@ -1,4 +1,4 @@
-//! The details of the files that the notes on a step speak of.
+//! The details of the files that a step's notes are about.
 ghost use Rattle.std.specs.Prelude.{◌≡◌, All, Contains, IfOk, IfSome, filter, map};
 ghost use Rattle.std.specs.List.{list_any};
 ghost use Rattle.it_dsse.specs.Signed.{is_admitted};
@@ -37,7 +37,7 @@ pub(crate) fn with_details(
     Ok(told)
 }
 
-/// The details of the file that a note speaks of: of files of one name, of the first.
+/// The details of the file that a note is about: the first of that name, if several.
 fn detail_of(
     alloc: Global,
     bundle: &Bundle,
@@ -90,7 +90,7 @@ fn detail_in(
     }
 }
 
-/// What makes the payload of the envelope that bytes are no link.
+/// Why the payload of the envelope in bytes is not a link.
 fn payload_part(alloc: Global, bytes: &[u8]) -> Result<Option<PartNote>, AllocError>
     ensures { IfOk result (λ found. IfSome found (TellsPayload bytes.now)) }
 {
@@ -100,7 +100,7 @@ fn payload_part(alloc: Global, bytes: &[u8]) -> Result<Option<PartNote>, AllocEr
     link_part_note(alloc, envelope.payload.as_slice())
 }
 
-/// For which key ids of a step the signatures of the envelope that bytes are are tried.
+/// For which key ids of a step the signatures of the envelope in bytes are tried.
 fn tried_in(alloc: Global, step: &Step, bytes: &[u8]) -> Result<Option<Sequence<Text>>, AllocError>
     ensures { IfOk result (λ found. IfSome found (TellsTried step.now bytes.now)) }
 {

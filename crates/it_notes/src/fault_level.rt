@@ -1,4 +1,4 @@
-//! The layout that a refusal speaks of.
+//! The layout that a refusal is about.
 ghost use Rattle.std.specs.Prelude.{IfOk, IfSome, map};
 ghost use Rattle.it_dsse.specs.Panel.{panel_of};
 ghost use Rattle.it_notes.specs.Level.{IsBelow, IsLevel, IsTop, LeadsTo};
@@ -23,8 +23,8 @@ pub struct FaultLevel<'a> {
     pub moment: i64,
 }
 
-/// The layout that the places lead down to from the one that was given, or `None` where they lead
-/// to none, or the folder of one is missing.
+/// The layout to which the places lead down from the given one, or `None` where they lead to none,
+/// or the folder of one is missing.
 pub(crate) fn level_at<'a>(
     alloc: Global,
     inputs: &'a Inputs,

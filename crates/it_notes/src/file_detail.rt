@@ -11,7 +11,7 @@ use it_report::name::push_name;
 use it_step_notes::note::StepNote;
 use std::alloc::AllocError;
 
-/// A note on a step, and the details of the file that it speaks of.
+/// A note on a step, and the details of the file that it is about.
 #[derive(Drop)]
 pub struct DetailedNote {
     /// The note on the step.
@@ -32,7 +32,7 @@ pub struct FileDetail {
 /// Why a file does not count for a step.
 #[derive(Drop)]
 pub enum Detail {
-    /// This makes it no envelope, or the payload of its envelope no link.
+    /// Why it is not an envelope, or its envelope's payload not a link.
     Part(PartNote),
     /// Its signatures are tried for these key ids of the step, by their hints, and for no others.
     Tried(Sequence<Text>),

@@ -1,4 +1,4 @@
-//! Which key objects no check knows, of those on which a refusal turns.
+//! The key objects that a refusal depends on and no check knows.
 ghost use Rattle.std.specs.Prelude.{All, IfOk, map};
 ghost use Rattle.it_dsse.specs.Panel.{panel_of};
 ghost use Rattle.it_notes.specs.KeyNotes.{IsOfBuilder, IsOfOwner, IsOfStep, TellsKey};
@@ -15,8 +15,8 @@ use it_report::refusal::{Fault, Refusal};
 use it_verify::inputs::Inputs;
 use std::alloc::{AllocError, Global};
 
-/// Notes on the key objects that no check knows, of those on which a refusal turns: the owners',
-/// those of the step for which too few keys signed, or those of the expected builders.
+/// Notes on the key objects that a refusal depends on and no check knows: the owners', those of the
+/// step for which too few keys signed, or those of the expected builders.
 pub(crate) fn key_notes(
     alloc: Global,
     inputs: &Inputs,
@@ -52,7 +52,7 @@ fn owner_keys(
     Ok(notes)
 }
 
-/// Those under the key ids of the step of this name, of the layout to which the places lead.
+/// Those under the key ids of the named step, in the layout to which the places lead.
 fn step_keys(
     alloc: Global,
     inputs: &Inputs,

@@ -1,5 +1,4 @@
-//! What the layout, and the policy's rules that see it, have in them that may not be what their
-//! author meant.
+//! What in the layout, and in the policy's rules that see it, may not be what its author meant.
 ghost use Rattle.std.specs.Prelude.{List, ℕ, IfOk, IfSome};
 ghost use Rattle.it_docs.specs.Layout.{LayoutOf};
 ghost use Rattle.it_notes.specs.Notes.{AreOfDelivery, AreOfLayout, TellsLayout};
@@ -44,8 +43,8 @@ impl LayoutNotes {
     }
 }
 
-/// The notes on what a policy's rules on what is delivered ask for; none where the bytes are no
-/// policy, or there is no layout.
+/// The notes on what a policy's rules on what is delivered ask for; none where there is no policy
+/// or no layout.
 fn delivery_notes(
     alloc: Global,
     bytes: &[u8],

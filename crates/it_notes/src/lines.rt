@@ -1,5 +1,5 @@
-//! The lines that people read: at most forty, of which the last can say how many notes there are
-//! besides.
+//! The lines that people read: at most forty, the last of which can say how many more notes there
+//! are.
 use std::alloc::{AllocError, Global};
 
 /// How many lines are written out.
@@ -16,7 +16,7 @@ pub(crate) trait Line {
 pub(crate) struct Lines {
     /// The first lines, without the one that can be the last.
     text: Vec<u8>,
-    /// The line that is the last one where no further note comes.
+    /// The line that comes last if there are no more notes.
     last: Vec<u8>,
     /// How many notes there are, written out or not.
     count: u64,
@@ -51,8 +51,8 @@ impl Lines {
         Ok(())
     }
 
-    /// The text of the lines. Where there are more notes than lines that are written out, the last
-    /// line says how many it leaves out.
+    /// The text of the lines. Where there are more notes than lines to write out, the last line
+    /// says how many are left out.
     pub(crate) fn into_text(self, alloc: Global) -> Result<Vec<u8>, AllocError> {
         let Lines {
             mut text,

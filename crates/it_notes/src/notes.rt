@@ -26,17 +26,17 @@ use it_rule_notes::rule_note::RuleNote;
 use it_verify::inputs::Inputs;
 use std::alloc::{AllocError, Global};
 
-/// The number of the last fault of what is looked at before the layout is read.
+/// The number of the last fault that is looked for before the layout is read.
 const OWNER_MISSING: u8 = 22;
 
 /// The notes for people on a verification. Each note is true.
 #[derive(Drop)]
 pub struct Notes {
-    /// Where the sublayout is of which the refusal speaks.
+    /// The place of the sublayout that the refusal is about.
     pub place: Option<PlaceNotes>,
     /// Why the delivery was refused.
     pub refusal: RefusalNotes,
-    /// The key objects that no check knows, of those on which the refusal turns.
+    /// The key objects that the refusal depends on and no check knows.
     pub keys: Vec<UnknownKey>,
     /// The members of the policy that are not looked at, or that may not be meant.
     pub policy: MemberNotes,
@@ -50,23 +50,23 @@ pub struct Notes {
 pub enum RefusalNotes {
     /// There is nothing to say.
     Nothing,
-    /// Of the part of the policy or the layout that fails.
+    /// On the part of the policy or the layout that fails.
     Part(PartNote),
-    /// Of the line of the digest list that is bad.
+    /// On the line of the digest list that is bad.
     Line(SumLineNote),
-    /// Of the step for which too few keys signed, and of its files.
+    /// On the step for which too few keys signed, and on its files.
     Step(Vec<DetailedNote>),
-    /// Of the owners of the policy.
+    /// On the owners of the policy.
     Owners(Vec<OwnerNote>),
-    /// Of the layout that has expired.
+    /// On the layout that has expired.
     Expiry(ExpiryNote),
-    /// Of the bodies of one key id that differ.
+    /// On the bodies of one key id that differ.
     Payloads(PayloadsNote),
-    /// Of the links of a step that differ.
+    /// On the links of a step that differ.
     Disagreement(DisagreeNote),
-    /// Of the artifact rule that failed.
+    /// On the artifact rule that failed.
     Rule(RuleNotes),
-    /// Of why no provenance meets the expectation for the file.
+    /// On why no provenance meets the expectation for the file.
     Provenance(Vec<ProvenanceNote>),
     /// The provenance is one envelope over several lines.
     LaidOut,
@@ -82,8 +82,8 @@ pub struct RuleNotes {
 }
 
 impl Notes {
-    /// The notes on the `verdict` of a verification of the `inputs`. Signatures are
-    /// checked by the `panel`, again and after a refusal alone.
+    /// The notes on the `verdict` of a verification of the `inputs`. Signatures are checked by the
+    /// `panel` again, but only after a refusal.
     ///
     /// # Errors
     ///
@@ -125,7 +125,7 @@ fn verdict_notes(
     }
 }
 
-/// The key objects that no check knows, of those on which the verdict turns, if it refuses.
+/// The key objects that the verdict depends on and no check knows, if it refuses.
 fn verdict_keys(
     alloc: Global,
     inputs: &Inputs,
@@ -141,7 +141,7 @@ fn verdict_keys(
     }
 }
 
-/// Where the sublayout is of which the verdict speaks, if it does of one.
+/// The place of the sublayout that the verdict is about, if any.
 fn verdict_place(
     alloc: Global,
     inputs: &Inputs,
@@ -173,7 +173,7 @@ fn signed_layout_notes(
     }
 }
 
-/// Whether the owners signed the layout: the verdict accepts, or names a fault of what is looked at
+/// Whether the owners signed the layout: the verdict accepts, or names a fault that is looked for
 /// after their signatures.
 fn is_signed(verdict: &Verdict) -> bool {
     match verdict {

@@ -11,7 +11,7 @@ use it_rule_notes::owner_note::owner_notes;
 use it_verify::inputs::Inputs;
 use std::alloc::{AllocError, Global};
 
-/// Of each owner of the policy, whether the owner signed the layout.
+/// For each owner of the policy, whether they signed the layout.
 pub(crate) fn owners_told(
     alloc: Global,
     inputs: &Inputs,

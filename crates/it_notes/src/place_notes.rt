@@ -1,4 +1,4 @@
-//! Where the sublayout is of which a refusal speaks.
+//! The place of the sublayout that a refusal is about.
 ghost use Rattle.std.specs.Prelude.{IfOk, IfSome, map};
 ghost use Rattle.it_dsse.specs.Panel.{panel_of};
 ghost use Rattle.it_step_notes.specs.Folder.{LacksFolder};
@@ -14,17 +14,17 @@ use it_step_notes::folder_note::{FolderNote, folder_note};
 use it_verify::inputs::Inputs;
 use std::alloc::{AllocError, Global};
 
-/// Where the sublayout is of which a refusal speaks.
+/// The place of the sublayout that a refusal is about.
 #[derive(Drop)]
 pub struct PlaceNotes {
     /// The file that it is in.
     pub file: Option<SublayoutNote>,
-    /// The folder of its files, where that is missing.
+    /// The folder of its files, if it is missing.
     pub folder: Option<FolderNote>,
 }
 
-/// Where the sublayout is of which a refusal speaks, or `None` where it speaks of none, or its
-/// places lead to none.
+/// The place of the sublayout that a refusal is about, or `None` if it is about none, or its places
+/// lead to none.
 pub(crate) fn place_notes(
     alloc: Global,
     inputs: &Inputs,
@@ -63,8 +63,8 @@ fn file_of(
     sublayout_note(alloc, &level, place.0.as_str(), place.1.as_str(), panel)
 }
 
-/// The folder of the sublayout at a place, where it is missing and a step has too few keys. Of a
-/// sublayout that lies too deep nothing is noted: its folder was not read.
+/// The folder of the sublayout at a place, where it is missing and a step has too few keys. Nothing
+/// is noted for a sublayout nested too deep: its folder was not read.
 fn missing_folder(
     alloc: Global,
     level: &FaultLevel,

@@ -11,7 +11,7 @@ use it_docs::policy_reading::read_policy;
 use it_dsse::envelope::{Envelope, EnvelopeFault};
 use std::alloc::{AllocError, Global};
 
-/// The policy that the bytes are, or `None` where they are none.
+/// The bytes read as a policy, or `None` if they are not one.
 pub(crate) fn policy_in(alloc: Global, bytes: &[u8]) -> Result<Option<Policy>, AllocError>
     ensures { IfOk result (λ found. IfSome found (PolicyOf bytes.now)) }
 {
@@ -22,7 +22,7 @@ pub(crate) fn policy_in(alloc: Global, bytes: &[u8]) -> Result<Option<Policy>, A
     }
 }
 
-/// The envelope that the bytes are, or `None` where they are none.
+/// The bytes read as an envelope, or `None` if they are not one.
 pub(crate) fn envelope_in(alloc: Global, bytes: &[u8]) -> Result<Option<Envelope>, AllocError>
     ensures { IfOk result (λ found. IfSome found (EnvelopeOf bytes.now)) }
 {
@@ -33,7 +33,7 @@ pub(crate) fn envelope_in(alloc: Global, bytes: &[u8]) -> Result<Option<Envelope
     }
 }
 
-/// The moment that a text is.
+/// The text read as a moment.
 pub(crate) fn moment_in(text: &str) -> Option<i64>
     ensures { IfSome result (MomentOf text.now) }
 {

@@ -1,4 +1,4 @@
-//! Which files hold bodies, or links, of a step that must be equal and are not.
+//! Which files hold bodies, or links, of a step that must be equal but are not.
 ghost use Rattle.std.specs.Prelude.{IfOk, map};
 ghost use Rattle.it_dsse.specs.Panel.{panel_of};
 ghost use Rattle.it_report.specs.declared.refusal.Fault.TheVariants.{Disagree, TwoPayloads};

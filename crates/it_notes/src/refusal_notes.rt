@@ -31,7 +31,7 @@ pub(crate) fn refusal_notes(
     Ok(told)
 }
 
-/// Whether a fault speaks of a layout and its links.
+/// Whether a fault is about a layout and its links.
 fn is_of_level(fault: &Fault) -> bool {
     matches!(
         fault,

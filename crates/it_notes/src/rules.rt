@@ -17,7 +17,7 @@ use it_rule_notes::rule_place::{RuleBook, RulePlace};
 use it_verify::inputs::Inputs;
 use std::alloc::{AllocError, Global};
 
-/// Where the rule stands that failed.
+/// The place of the rule that failed.
 #[derive(Drop)]
 pub(crate) struct FailedRule<'a> {
     /// Whose rule it is.
@@ -28,7 +28,7 @@ pub(crate) struct FailedRule<'a> {
     pub index: usize,
 }
 
-/// How deep sublayouts may lie at the most.
+/// How deep sublayouts may nest at most.
 const DEEPEST: u8 = 8;
 
 /// The text of the rule that failed, and what it met.

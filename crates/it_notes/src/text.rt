@@ -65,7 +65,7 @@ impl RefusalNotes {
     }
 }
 
-/// Adds the notes on a step, with the details of a file right behind its note.
+/// Adds the notes on a step, with the details of a file right after its note.
 fn add_step(lines: &mut Lines, notes: &[DetailedNote]) -> Result<(), AllocError> {
     for told in notes {
         lines.add(&told.note)?;

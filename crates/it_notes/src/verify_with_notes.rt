@@ -20,9 +20,9 @@ use std::io::Write;
 /// Verifies delivered files, as `verify` of `it_verify` does, writes the report in this form, and
 /// then writes the notes on the verdict to `notes`.
 ///
-/// The answer is `Good` where the verdict accepts, and `Refused` where it refuses. What becomes of
-/// the notes changes neither it nor the report: where memory is refused for them there are none,
-/// and where they cannot be written a beginning of them went out.
+/// The answer is `Good` where the verdict accepts, and `Refused` where it refuses. The notes affect
+/// neither it nor the report: where memory is refused for them, there are none, and where they
+/// cannot be written, a beginning of them went out.
 ///
 /// # Errors
 ///

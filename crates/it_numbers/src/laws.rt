@@ -2,7 +2,7 @@
 //! true of every number and all bytes.
 ghost use Rattle.it_numbers.specs.Laws.{LittleOfBytes, BytesOfLittle, BigOfBytes, BytesOfBig};
 
-/// A number below 256 to the count is the number of so many of its bytes, lowest first.
+/// A number below 256 ^ `count` is the number of its `count` lowest bytes, lowest first.
 pub fn little_of_bytes()
     ensures { LittleOfBytes }
 {}
@@ -12,7 +12,7 @@ pub fn bytes_of_little()
     ensures { BytesOfLittle }
 {}
 
-/// A number below 256 to the count is the number of so many of its bytes, highest first.
+/// A number below 256 ^ `count` is the number of its `count` lowest bytes, highest first.
 pub fn big_of_bytes()
     ensures { BigOfBytes }
 {}

@@ -19,7 +19,7 @@ pub enum Status {
 /// Why a command stopped before its whole output went out.
 #[derive(Clone, Copy, Debug, PartialEq, Eq, Error)]
 pub enum RunFault {
-    /// The writer answered an error, or took nothing.
+    /// The writer returned an error, or took nothing.
     #[error("cannot write the output")]
     Write,
     /// Memory was refused.
@@ -34,25 +34,25 @@ pub enum RunFault {
     /// A file has no digest, for this reason.
     #[error("{}", digest_note(.0))]
     Digest(DigestFault),
-    /// What a signature is added to is no DSSE envelope.
+    /// The bytes to sign onto are not a DSSE envelope.
     #[error("there is no envelope to sign onto")]
     NoEnvelope,
-    /// The envelope that a signature is added to has another payload than the body.
+    /// The envelope that a signature is added to has a payload other than the body.
     #[error("the envelope has another payload than the body")]
     OtherPayload,
     /// The envelope that a signature is added to has another payload type.
     #[error("the envelope has another payload type")]
     OtherType,
-    /// This line of the materials, counted from 1, is none of a digest list, or names a path again.
+    /// This line of the materials, counted from 1, is not one of a digest list, or repeats a path.
     #[error("line {0} of the materials is no line of a digest list, or repeats a path")]
     BadMaterials(u64),
-    /// This line of the products, counted from 1, is none of a digest list, or names a path again.
+    /// This line of the products, counted from 1, is not one of a digest list, or repeats a path.
     #[error("line {0} of the products is no line of a digest list, or repeats a path")]
     BadProducts(u64),
-    /// This line of the subjects, counted from 1, is none of a digest list, or names a path again.
+    /// This line of the subjects, counted from 1, is not one of a digest list, or repeats a path.
     #[error("line {0} of the subjects is no line of a digest list, or repeats a path")]
     BadSubjects(u64),
-    /// The external parameters are no JSON object, or one that nests more than 124 levels deep.
+    /// The external parameters are not a JSON object, or nest more than 124 levels deep.
     #[error("the external parameters are no JSON object that nests at most 124 levels deep")]
     BadParameters,
 }
@@ -72,8 +72,8 @@ fn digest_note(fault: &DigestFault) -> &'static str {
     }
 }
 
-/// The status that the program ends with: 0 for `Good`, 1 for `Refused`, 3 for want of memory, and
-/// 2 for every other fault.
+/// The exit status of the program: 0 for `Good`, 1 for `Refused`, 3 for lack of memory, and 2 for
+/// every other fault.
 pub fn exit_of(outcome: &Result<Status, RunFault>) -> u8
     ensures { result ≡ exit_status outcome.now }
 {

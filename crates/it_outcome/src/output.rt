@@ -16,11 +16,11 @@ pub struct Output {
     pub status: Status,
 }
 
-/// Writes the whole output, and answers the status. No write is tried again.
+/// Writes the whole output, and returns the status. No write is retried.
 ///
 /// # Errors
 ///
-/// `Write` where the writer answered an error, or took nothing; a beginning of the output went out.
+/// `Write` where the writer returned an error, or took nothing; a beginning of the output went out.
 pub fn put<W: Write>(out: &mut W, output: &Output) -> Result<Status, RunFault>
     ensures ok { IfOk result (λ status. (status ≡ output.now.status)
         × Appends (W.contents out.old) (W.contents out.new) output.now.text.items) }
@@ -33,11 +33,11 @@ pub fn put<W: Write>(out: &mut W, output: &Output) -> Result<Status, RunFault>
     }
 }
 
-/// Writes the whole text, and answers `Good`. No write is tried again.
+/// Writes the whole text, and returns `Good`. No write is retried.
 ///
 /// # Errors
 ///
-/// `Write` where the writer answered an error, or took nothing; a beginning of the text went out.
+/// `Write` where the writer returned an error, or took nothing; a beginning of the text went out.
 pub fn put_text<W: Write>(out: &mut W, text: &[u8]) -> Result<Status, RunFault>
     ensures ok { IfOk result (λ status. (status ≡ Status.Good)
         × Appends (W.contents out.old) (W.contents out.new) text.now) }

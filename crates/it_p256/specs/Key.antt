@@ -10,7 +10,7 @@ pub record Key : Type 0 where
   pub y : ℕ
 
 -- they are below the prime, and the point is on the curve (SP 800-56A, section 5.6.2.3.3, whose
--- last test P-256 needs not: its order is prime)
+-- last test is not needed for P-256: its order is prime)
 pub record IsKey (key : Key) : Type 0 where
   pub x_below : key.x < prime
   pub y_below : key.y < prime
@@ -24,8 +24,8 @@ key_identifier = 6 ∷ 7 ∷ 42 ∷ 134 ∷ 72 ∷ 206 ∷ 61 ∷ 2 ∷ 1 ∷ []
 abbrev pub curve_identifier : List ℕ
 curve_identifier = 6 ∷ 8 ∷ 42 ∷ 134 ∷ 72 ∷ 206 ∷ 61 ∷ 3 ∷ 1 ∷ 7 ∷ []
 
--- what stands before the coordinates: a SEQUENCE of the SEQUENCE of the two identifiers and a BIT
--- STRING, which begins with no unused bits and 4 for an uncompressed point
+-- what comes before the coordinates: a SEQUENCE of the SEQUENCE of the two identifiers and a BIT
+-- STRING, which begins with 0 for no unused bits and 4 for an uncompressed point
 abbrev pub info_prefix : List ℕ
 info_prefix = 48 ∷ 89 ∷ 48 ∷ 19 ∷ key_identifier ++ curve_identifier ++ 3 ∷ 66 ∷ 0 ∷ 4 ∷ []
 

@@ -28,14 +28,14 @@ pub record Agrees (key : Key) (e r s : ℕ) : Type 0 where
   pub finite : (combination_of key e r s).z ≢ 0
   pub same : first_coordinate (combination_of key e r s) % group_order ≡ r
 
--- r and s are the key's signature of what has the digest e
+-- r and s are the key's signature of a message with the digest e
 pub record IsSigned (key : Key) (e r s : ℕ) : Type 0 where
   pub r_good : IsInRange r
   pub s_good : IsInRange s
   pub agrees : Agrees key e r s
 
--- the same where they are encoded, and the digest is 32 bytes, which are as many bits as the order
--- has (steps 2 and 3)
+-- the same where r and s are encoded in bytes. A digest of 32 bytes has as many bits as the order
+-- (steps 2 and 3)
 pub record IsSignatureOfDigest (key : Key) (digest signature : List ℕ) : Type 0 where
   pub r : ℕ
   pub s : ℕ

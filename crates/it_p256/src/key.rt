@@ -8,8 +8,8 @@ use it_p256_field::FieldElement;
 use it_p256_point::{Point, is_on_curve};
 use std::marker::Model;
 
-// What stands before the two coordinates in a SubjectPublicKeyInfo: the algorithm, the curve, and
-// 4 for an uncompressed point.
+// What comes before the two coordinates in a SubjectPublicKeyInfo: the algorithm, the curve, and 4
+// for an uncompressed point.
 const INFO_PREFIX: [u8; 27] = [
     48, 89, 48, 19, 6, 7, 42, 134, 72, 206, 61, 2, 1, 6, 8, 42, 134, 72, 206, 61, 3, 1, 7, 3, 66,
     0, 4,

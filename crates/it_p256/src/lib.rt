@@ -6,8 +6,8 @@
 //! let is_good = is_signature(&key, &[b"The message, ", b"in parts"], &signature);
 //! ```
 //!
-//! Nothing here is secret, so nothing here takes care to take the same time for all numbers: no key
-//! is made and nothing is signed.
+//! Nothing here is secret, as no key is made and nothing is signed; so nothing here takes care to
+//! run in constant time.
 #![tactic(auto)]
 
 mod digest;

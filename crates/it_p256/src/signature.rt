@@ -17,8 +17,8 @@ pub fn is_signature(key: &PublicKey, message: &[&[u8]], signature: &[u8]) -> boo
     is_signature_of_digest(key, &message_digest(message), signature)
 }
 
-/// The same of a message whose SHA-256 is given, so that one message is hashed once for many keys
-/// and signatures. What is no ECDSA-Sig-Value costs no arithmetic.
+/// The same for a message whose SHA-256 is given, so that one message is hashed once for many keys
+/// and signatures. Bytes that are no ECDSA-Sig-Value cost no arithmetic.
 pub fn is_signature_of_digest(key: &PublicKey, digest: &[u8; 32], signature: &[u8]) -> bool
     ensures { IsTrue result ↔ IsSignatureOfDigest key.now digest.now signature.now }
 {

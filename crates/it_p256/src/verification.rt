@@ -10,7 +10,7 @@ use it_p256_limbs::{Limbs, is_below, is_same};
 use it_p256_order::{GROUP_ORDER, Scalar};
 use it_p256_point::Point;
 
-/// Whether the two numbers are a signature under the key of what has the digest `e`.
+/// Whether the two numbers are the key's signature of a message with the digest `e`.
 pub(crate) fn is_signed(key: &PublicKey, e: Limbs, signature: &SignatureValue) -> bool
     ensures { IsTrue result ↔ IsSigned key.now (value_of e) (value_of signature.now.r)
         (value_of signature.now.s) }
@@ -24,7 +24,7 @@ pub(crate) fn is_signed(key: &PublicKey, e: Limbs, signature: &SignatureValue) -
     agrees(key, e, signature)
 }
 
-// Whether a number may be one of the two of a signature.
+// Whether a number may be one of the two numbers of a signature.
 fn is_in_range(n: Limbs) -> bool
     ensures { IsTrue result ↔ IsInRange (value_of n) }
 {

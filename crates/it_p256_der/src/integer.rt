@@ -51,7 +51,7 @@ pub(crate) fn integer_at(bytes: &[u8], start: usize) -> Option<Integer>
     Some(Integer { value, end })
 }
 
-// Whether the first of some bytes is 0 and need not stand there, since the second has no sign.
+// Whether the first byte is 0 and not needed, since the highest bit of the second is clear.
 fn is_padded(bytes: &[u8], start: usize, long: usize) -> bool
     requires some { 0 < long }
     requires inside { start + long ≤ length bytes.now }

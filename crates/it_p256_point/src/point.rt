@@ -1,5 +1,5 @@
 //! Points, and their sums by the complete formulas of Renes, Costello and Batina (IACR ePrint
-//! 2015/1060), which need no case for infinity, nor for two points that are the same.
+//! 2015/1060), which need no special case for infinity or for equal points.
 ghost use Rattle.std.specs.Prelude.{◌≡◌, ◌+◌, ◌%◌, nat_eq};
 ghost use Rattle.it_p256_limbs.specs.Numbers.{value_of};
 ghost use Rattle.it_p256_field.specs.Prime.{prime};

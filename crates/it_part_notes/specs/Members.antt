@@ -1,6 +1,6 @@
--- The members that are looked at of each part of a policy and of a layout, of envelopes and of
--- links, and what they must be: those of policies are this profile's choice, those of layouts and
--- links stand in in-toto 1.0 sections 4.3 and 4.4, those of envelopes in DSSE v1.0.
+-- The members that are looked at in each part of a policy or a layout, in envelopes and in links,
+-- and what they must be: those of policies are this profile's choice, those of layouts and links
+-- are in in-toto 1.0 sections 4.3 and 4.4, those of envelopes in DSSE v1.0.
 use Rattle.std.specs.Prelude.{ℕ, List, [], ◌∷◌, Bool, true, false, IsTrue, is_some, codes}
 use Rattle.std.specs.FinMap.{empty}
 use Rattle.serde_json.specs.Data.{Data}
@@ -30,7 +30,7 @@ use Rattle.it_part_notes.specs.declared.member.Member.TheVariants.{Needed, Optio
 abbrev pub Reads : {X : Type 0} → (Data → X → Type 0) → Data → Type 0
 Reads {X} P d = (x : X) × P d x
 
--- the value of a member is of a kind; of rules only the list, since each item has a note of its own
+-- the value of a member is of a kind; for rules only the list, since each item has its own note
 abbrev pub Fits : Kind → Data → Type 0
 Fits kinds.Text d = Reads IsText d
 Fits kinds.Word d = IsText d (codes "layout")
@@ -84,7 +84,7 @@ rule_members =
     optional (codes "expected_materials") kinds.Rules
     ∷ optional (codes "expected_products") kinds.Rules ∷ []
 
--- the members of a part of a layout, in their order; of a name that stands twice there are none
+-- the members of a part of a layout, in their order; for a name that occurs twice there are none
 abbrev pub layout_members : LayoutPart → List Looked
 layout_members layout.Json = []
 layout_members layout.WrongType = needed (codes "_type") kinds.Word ∷ []

@@ -24,7 +24,7 @@ document_form (places.Inspection n) = codes "layout: "
 document_form places.Envelope = codes ""
 document_form places.Link = codes ""
 
--- the item that a place is, after some words; of a whole document nothing
+-- the item at a place, after some words; for a whole policy or layout, nothing
 abbrev pub place_form : List ℕ → PartPlace → List ℕ
 place_form before places.Policy = []
 place_form before (places.Expectation n) = before ++ codes "expectation " ++ decimal n
@@ -34,7 +34,7 @@ place_form before (places.Inspection n) = before ++ codes "inspection " ++ decim
 place_form before places.Envelope = before ++ codes "the envelope"
 place_form before places.Link = before ++ codes "the link"
 
--- what stands at a place
+-- what is at a place
 abbrev pub object_form : PartPlace → List ℕ
 object_form places.Policy = codes "it"
 object_form (places.Expectation n) = place_form [] (places.Expectation n)
@@ -65,7 +65,7 @@ unfit_form kinds.Artifacts = codes " is not an object of digest sets"
 abbrev pub word_form : List ℕ → List ℕ
 word_form word = codes " " ++ name_form word
 
--- why an item is no rule: its words, if it has some
+-- why an item is not a rule: its words, if it has any
 abbrev pub words_form : Option (List (List ℕ)) → List ℕ
 words_form None = codes " is no list of texts"
 words_form (Some []) = codes " is no artifact rule: it has no words"

@@ -1,5 +1,5 @@
 -- What a note on a part of a policy or of a layout says (policies are this profile's choice;
--- layouts stand in in-toto 1.0 section 4.3; that there are notes, and which, is a word of this
+-- layouts are in in-toto 1.0 section 4.3; that there are notes, and which, is a word of this
 -- project).
 use Rattle.std.specs.Prelude.{◌≡◌, ◌⊎◌, ℕ, List, Option, Some, None, MatchOption, Contains, IsTrue}
 use Rattle.std.specs.Prelude.{true, is_some, option_and_then, codes}
@@ -26,11 +26,11 @@ use Rattle.it_part_notes.specs.declared.part_note.PartPlace.TheVariants as place
 use Rattle.it_part_notes.specs.declared.part_note.Problem.{Problem}
 use Rattle.it_part_notes.specs.declared.part_note.Problem.TheVariants as problems
 
--- the item at a place of the list that the member of this name is
+-- the item at a place in the list that is the member of this name
 abbrev pub item_at : List ℕ → ℕ → Data → Option Data
 item_at name n d = option_and_then (at n) (member_at name d)
 
--- what stands at a place of a document
+-- what is at a place of a document
 abbrev pub object_at : PartPlace → Data → Option Data
 object_at places.Policy d = Some d
 object_at (places.Expectation n) d = item_at (codes "expectations") n d
@@ -40,7 +40,7 @@ object_at (places.Inspection n) d = item_at (codes "inspect") n d
 object_at places.Envelope d = Some d
 object_at places.Link d = Some d
 
--- an item of the list of this name is no rule; its words are its texts, if it is a list of texts
+-- an item of the list of this name is not a rule; its words are its texts, if it is a list of texts
 pub record HasBadRule (d : Data) (name : List ℕ) (bad : BadRule) : Type 0 where
   pub item : Data
   pub stands : item_at name bad.number d ≡ Some item
@@ -48,7 +48,7 @@ pub record HasBadRule (d : Data) (name : List ℕ) (bad : BadRule) : Type 0 wher
   pub words : Finds (IsList IsText item) bad.words
 
 -- what is wrong with a member of an object: it must be there and is missing, it is there and not of
--- its kind, or it is a list with an item that is no rule
+-- its kind, or it is a list with an item that is not a rule
 abbrev pub TellsFault : Data → Looked → Fault → Type 0
 TellsFault d looked faults.Missing =
     (looked.is_needed ≡ true) × (member_at looked.name d ≡ None)
@@ -57,7 +57,7 @@ TellsFault d looked faults.Unfit =
 TellsFault d looked (faults.NoRule bad) =
     (looked.kind ≡ kinds.Rules) × HasBadRule d looked.name bad
 
--- what is wrong with what stands at a place, of which these members are looked at
+-- what is wrong with what is at a place, given the members that are looked at
 abbrev pub TellsProblem : List Looked → Data → Problem → Type 0
 TellsProblem members d problems.NoObject = ¬ IsTrue (is_some (as_object d))
 TellsProblem members d (problems.Member member fault) =
@@ -73,7 +73,7 @@ IsWhole (places.Inspection n) = ⊥
 IsWhole places.Envelope = Unit {0}
 IsWhole places.Link = Unit {0}
 
--- the bytes are no document at all
+-- the bytes are not a document at all
 pub record IsNoDocument (bytes : List ℕ) (note : PartNote) : Type 0 where
   pub whole : IsWhole note.place
   pub problem : note.problem ≡ problems.NoObject
@@ -92,7 +92,7 @@ abbrev pub TellsPart : List ℕ → PartPlace → List Looked → PartNote → T
 TellsPart bytes place members note =
     (note.place ≡ place) × (IsNoDocument bytes note ⊎ HasProblem bytes members note)
 
--- where a part stands
+-- the place of a part
 abbrev pub policy_place : PolicyPart → PartPlace
 policy_place (policy.Expectation n) = places.Expectation n
 policy_place part = places.Policy

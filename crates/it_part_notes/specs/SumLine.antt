@@ -1,4 +1,4 @@
--- What a note tells of a bad line of a digest list (this project's words). Its lines are those of
+-- What a note says about a bad line of a digest list (this project's words). Its lines are those of
 -- `sha256sum` of the GNU core utilities, in UTF-8, with no path twice.
 use Rattle.std.specs.Prelude.{◌≡◌, ◌⊎◌, ◌<◌, ℕ, suc, List, [], ◌++◌, length, codes, decimal, Some}
 use Rattle.std.specs.List.{slice_get}
@@ -36,7 +36,7 @@ IsMarked text path = (text ≡ codes "  " ++ path) ⊎ (text ≡ codes " *" ++ p
 abbrev pub GivesPath : List ℕ → List ℕ → Type 0
 GivesPath line path = (digests : DigestSet) × IsSum line (path, digests)
 
--- the line of this number does
+-- the line with this number does
 abbrev pub LineGives : List ℕ → ℕ → List ℕ → Type 0
 LineGives bytes number path =
     (line : List ℕ) × IsLine bytes number line × GivesPath line path
@@ -58,7 +58,7 @@ pub record IsRepeated (bytes : List ℕ) (number : ℕ) (line path : List ℕ) (
     pub is_earlier : earlier < number
     pub earlier_gives : LineGives bytes earlier path
 
--- this is wrong with the line of this number
+-- this is wrong with the line with this number
 abbrev pub IsFault : List ℕ → ℕ → List ℕ → LineFault → Type 0
 IsFault bytes number line NoDigits = (text : List ℕ) → ¬ FollowsDigits line text
 IsFault bytes number line NoMark = HasNoMark line
@@ -66,7 +66,7 @@ IsFault bytes number line NoPath = HasPath line []
 IsFault bytes number line NotUtf8 = (path : List ℕ) × HasPath line path × ¬ IsUtf8 path
 IsFault bytes number line (Repeated path earlier) = IsRepeated bytes number line path earlier
 
--- what a note says is true: this is wrong with the line of its number
+-- what a note says is true: this is wrong with the line with its number
 pub record TellsSumLine (bytes : List ℕ) (note : SumLineNote) : Type 0 where
   pub line : List ℕ
   pub is_line : IsLine bytes note.number line

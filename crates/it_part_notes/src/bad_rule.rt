@@ -1,4 +1,4 @@
-//! The item of a list of rules that is no rule.
+//! The item of a list of rules that is not a rule.
 ghost use Rattle.std.specs.Prelude.{IfOk, IfSome};
 ghost use Rattle.serde_json.specs.View.{view};
 ghost use Rattle.it_part_notes.specs.PartNotes.{HasBadRule};
@@ -13,7 +13,7 @@ use it_docs::rule::Rule;
 use serde_json::Value;
 use std::alloc::{AllocError, Global};
 
-/// The first item that is no rule, of the list that the member of this name is.
+/// The first item that is not a rule, in the list that is the member of this name.
 ///
 /// # Errors
 ///
@@ -34,7 +34,7 @@ pub(crate) fn bad_rule(
     Ok(None)
 }
 
-/// The item of this number, where it is no rule.
+/// The item with this number, if it is not a rule.
 fn bad_rule_at(
     alloc: Global,
     object: &Value,

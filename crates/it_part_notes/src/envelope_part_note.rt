@@ -1,4 +1,4 @@
-//! The note on bytes that are no envelope.
+//! The note on bytes that are not an envelope.
 ghost use Rattle.std.specs.Prelude.{IfOk, IfSome};
 ghost use Rattle.it_part_notes.specs.PartNotes.{TellsEnvelope};
 
@@ -7,7 +7,7 @@ use crate::part_note::{PartNote, PartPlace};
 use crate::problem::part_note;
 use std::alloc::{AllocError, Global};
 
-/// Says what is wrong with `bytes` that were read as an envelope (DSSE v1.0): they are no JSON
+/// Says what is wrong with `bytes` that were read as an envelope (DSSE v1.0): they are not a JSON
 /// object, or the first of its members that is wrong.
 ///
 /// The answer is `None` where nothing is wrong.

@@ -22,8 +22,8 @@ use it_dsse::key_object::KeyObject;
 use serde_json::Value;
 use std::alloc::{AllocError, Global};
 
-/// Whether a value is of a kind. Of a list of rules only that it is a list, and of a text in base64
-/// only that it is a text.
+/// Whether a value is of a kind. For a list of rules, only whether it is a list; for a text in
+/// base64, only whether it is a text.
 ///
 /// # Errors
 ///
@@ -58,7 +58,7 @@ pub(crate) fn reads<T: FromDocument>(alloc: Global, value: &Value) -> Result<boo
     Ok(found.is_some())
 }
 
-/// Whether a part of a document is no object of key objects that has no member.
+/// Whether a part of a document is anything but an empty object of key objects.
 fn has_member(alloc: Global, value: &Value) -> Result<bool, AllocError>
     ensures { IfOk result (λ fit. fit ≡ false → ¬ Fits Kind.SomeKey (view value.now)) }
 {

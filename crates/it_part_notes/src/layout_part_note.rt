@@ -8,11 +8,11 @@ use crate::problem::part_note;
 use it_docs::layout_fault::LayoutPart;
 use std::alloc::{AllocError, Global};
 
-/// Says what is wrong with a part of a layout, of the payload that was read as one: the first of
-/// its members that is wrong, in the order of the format, and of a list of rules the first item
+/// Says what is wrong with a part of a layout, in the payload that was read as one: the first of
+/// its members that is wrong, in the order of the format, and in a list of rules the first item
 /// that is not a rule.
 ///
-/// The answer is `None` where nothing is wrong with the part, and of a name that stands twice.
+/// The answer is `None` where nothing is wrong with the part, and for a name that occurs twice.
 ///
 /// # Errors
 ///

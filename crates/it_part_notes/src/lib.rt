@@ -1,6 +1,5 @@
-//! Notes on what a part of the input is that does not read: which member of a policy, a layout, an
-//! envelope or a link is wrong, which rule, and what is wrong with a line of a digest list. Every
-//! note is true.
+//! Notes on parts of the input that do not read: which member of a policy, a layout, an envelope or
+//! a link is wrong, which rule, and what is wrong with a line of a digest list. Every note is true.
 #![tactic(auto)]
 
 mod bad_rule;

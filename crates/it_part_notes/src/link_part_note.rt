@@ -1,4 +1,4 @@
-//! The note on a payload that is no link.
+//! The note on a payload that is not a link.
 ghost use Rattle.std.specs.Prelude.{IfOk, IfSome};
 ghost use Rattle.it_part_notes.specs.PartNotes.{TellsLink};
 
@@ -9,8 +9,8 @@ use crate::problem::part_note;
 use it_docs::layout_fault::LayoutPart;
 use std::alloc::{AllocError, Global};
 
-/// Says what is wrong with a `payload` that was read as a link (in-toto 1.0 section 4.4): it is no
-/// JSON object, or the first of its members that is wrong.
+/// Says what is wrong with a `payload` that was read as a link (in-toto 1.0 section 4.4): it is not
+/// a JSON object, or the first of its members that is wrong.
 ///
 /// The answer is `None` where nothing is wrong, and where its `_type` is that of a layout.
 ///
@@ -29,7 +29,7 @@ pub fn link_part_note(alloc: Global, payload: &[u8]) -> Result<Option<PartNote>,
     Ok(Some(note))
 }
 
-/// Whether a problem is that of the member `_type`.
+/// Whether a problem is with the member `_type`.
 fn is_of_type(problem: &Problem) -> bool {
     match problem {
         Problem::NoObject => false,

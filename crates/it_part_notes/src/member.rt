@@ -28,7 +28,7 @@ pub enum Kind {
     Texts,
     /// An object from id to key object.
     Keys,
-    /// An object from id to key object that has a member.
+    /// Anything but an empty object from id to key object.
     SomeKey,
     /// A list of builders.
     Builders,

@@ -1,4 +1,4 @@
-//! The members that are looked at of each part of a policy and of a layout, of envelopes and links.
+//! The members that are looked at in each part of a policy or a layout, in envelopes and in links.
 ghost use Rattle.std.specs.Prelude.{◌≡◌, map};
 ghost use Rattle.it_part_notes.specs.Members.{envelope_members as of_envelope};
 ghost use Rattle.it_part_notes.specs.Members.{layout_members as of_layout};

@@ -15,8 +15,8 @@ use std::alloc::AllocError;
 
 impl PartNote {
     /// Appends the note as a line for people, which ends with a line feed. A note on an envelope or
-    /// a link is to stand behind the name of its file. The words of a rule are written as reports
-    /// write names.
+    /// a link is to follow the name of its file. The words of a rule are written as reports write
+    /// names.
     ///
     /// # Errors
     ///
@@ -178,7 +178,7 @@ fn push_word(text: &mut Vec<u8>, word: &Text) -> Result<(), AllocError>
     push_name(text, word.as_str().as_bytes())
 }
 
-/// Appends the item that a place is, after some words; of a whole document nothing.
+/// Appends the item at a place, after some words; for a whole policy or layout, nothing.
 fn push_place(text: &mut Vec<u8>, before: &str, place: PartPlace) -> Result<(), AllocError>
     ensures { OnOk result (text.new.items ≡ text.old.items ++ place_form before.now place) }
 {

@@ -7,7 +7,7 @@ use it_base::text::Text;
 /// What is wrong with a part of a policy or of a layout, or with what a file of a step holds.
 #[derive(Drop)]
 pub struct PartNote {
-    /// Where the object stands that is looked at.
+    /// The place of the object that is looked at.
     pub place: PartPlace,
     /// What is wrong there.
     pub problem: Problem,
@@ -35,9 +35,9 @@ pub enum PartPlace {
 /// What is wrong at a place.
 #[derive(Drop)]
 pub enum Problem {
-    /// No JSON object stands there.
+    /// No JSON object is there.
     NoObject,
-    /// This member of the object that stands there is wrong.
+    /// This member of the object there is wrong.
     Member(Member, Fault),
 }
 
@@ -52,11 +52,11 @@ pub enum Fault {
     NoRule(BadRule),
 }
 
-/// An item of a list of rules that is no rule.
+/// An item of a list of rules that is not a rule.
 #[derive(Drop)]
 pub struct BadRule {
     /// The number of the item, from 0.
     pub number: usize,
-    /// The texts of the item, or `None` where it is no list of texts.
+    /// The texts of the item, or `None` where it is not a list of texts.
     pub words: Option<Sequence<Text>>,
 }

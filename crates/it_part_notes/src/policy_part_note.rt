@@ -8,9 +8,9 @@ use crate::problem::part_note;
 use it_docs::policy_fault::PolicyPart;
 use std::alloc::{AllocError, Global};
 
-/// Says what is wrong with a part of a policy, of the bytes that were read as one: the first of its
-/// members that is wrong, in the order of the format, and of a list of rules the first item that is
-/// none.
+/// Says what is wrong with a part of a policy, in the bytes that were read as one: the first of its
+/// members that is wrong, in the order of the format, and in a list of rules the first item that is
+/// not a rule.
 ///
 /// The answer is `None` where nothing is wrong with the part.
 ///

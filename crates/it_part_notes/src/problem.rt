@@ -15,8 +15,7 @@ use it_base::document::{member, read_document};
 use serde_json::Value;
 use std::alloc::{AllocError, Global};
 
-/// The note on the object at a place of a document, of which these members are looked at: on the
-/// first of them that is wrong.
+/// The note on the object at a place of a document: on the first of these members that is wrong.
 ///
 /// # Errors
 ///
@@ -42,7 +41,7 @@ pub(crate) fn part_note(
     Ok(Some(PartNote { place, problem }))
 }
 
-/// The note on a whole document, of bytes that are none.
+/// The note on a whole document, for bytes that are not one.
 fn no_document(place: PartPlace) -> Option<PartNote>
     ensures { IfSome result (λ note.
         (note.place ≡ place) × IsWhole note.place × (note.problem ≡ Problem.NoObject)) }
@@ -92,7 +91,7 @@ fn fault_of(alloc: Global, object: &Value, looked: Member) -> Result<Option<Faul
     }
 }
 
-/// The fault of a member that is missing, where it must be there.
+/// The fault of a missing member, if it must be there.
 fn missing(looked: Member) -> Option<Fault>
     ensures { IfSome result (λ fault.
         (fault ≡ Fault.Missing) × ((shown looked).is_needed ≡ true)) }
@@ -115,7 +114,7 @@ fn rule_fault(alloc: Global, object: &Value, looked: Member) -> Result<Option<Fa
     Ok(Some(Fault::NoRule(bad)))
 }
 
-/// The fault of a member that is there, where it is no text in base64.
+/// The fault of a member that is there, if it is not a text in base64.
 fn base64_fault(alloc: Global, object: &Value, looked: Member) -> Result<Option<Fault>, AllocError>
     requires kind { (shown looked).kind ≡ Kind.Base64 }
     requires there { IsTrue (is_some (member_at (shown looked).name (view object.now))) }

@@ -7,7 +7,7 @@ use crate::sum_lines::{earlier_line, line_at};
 use it_base::text::Text;
 use std::alloc::{AllocError, Global};
 
-/// A line of a digest list that is bad.
+/// A bad line of a digest list.
 #[derive(Drop)]
 pub struct SumLineNote {
     /// The number of the line, from 1.
@@ -23,11 +23,11 @@ pub enum LineFault {
     NoDigits,
     /// Neither two spaces nor a space and a star follow the digits.
     NoMark,
-    /// Nothing stands where the path is to stand.
+    /// Nothing is where the path should be.
     NoPath,
-    /// What stands where the path is to stand is not UTF-8.
+    /// What is where the path should be is not UTF-8.
     NotUtf8,
-    /// It gives a path that a line before it gives.
+    /// It gives a path that an earlier line gives.
     Repeated {
         /// The path.
         path: Text,
@@ -36,7 +36,7 @@ pub enum LineFault {
     },
 }
 
-/// Says what is wrong with a line of a digest list as `sha256sum` writes it.
+/// Says what is wrong with a line of a digest list in the form of `sha256sum`.
 ///
 /// `bytes` are the digest list, and `number` is that of the line, from 1. The answer is `None`
 /// where there is no such line, or nothing is wrong with it.
@@ -61,7 +61,7 @@ pub fn sum_line_note(
     Ok(Some(SumLineNote { number, fault }))
 }
 
-/// What is wrong with the line of a number.
+/// What is wrong with the line with this number.
 fn fault_of(
     alloc: Global,
     bytes: &[u8],
@@ -76,7 +76,8 @@ fn fault_of(
     }
 }
 
-/// What is wrong with the line of a number that gives a path, where a line before it gives it too.
+/// What is wrong with the line with this number, which gives a path, if an earlier line gives it
+/// too.
 fn repeated(
     alloc: Global,
     bytes: &[u8],

@@ -22,7 +22,7 @@ pub(crate) fn line_at(bytes: &[u8], number: u64) -> Option<&[u8]>
     None
 }
 
-/// The number of the first line that gives a path, where that line comes before another one.
+/// The number of the first line that gives a path, if it comes before the line with this number.
 pub(crate) fn earlier_line(bytes: &[u8], number: u64, path: &str) -> Option<u64>
     ensures { IfSome result (λ earlier. (earlier < number)
         × LineGives bytes.now earlier path.now) }

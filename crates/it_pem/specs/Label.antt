@@ -2,7 +2,7 @@
 use Rattle.std.specs.Prelude.{◌≡◌, ℕ, List, ◌∷◌, ◌++◌, codes}
 use Rattle.std.specs.Str.Lines.{lines}
 
--- the first line of a text of a label
+-- the first line of a text with this label
 abbrev pub begin_line : List ℕ → List ℕ
 begin_line label = codes "-----BEGIN " ++ (label ++ codes "-----")
 

@@ -31,12 +31,12 @@ abbrev pub body_of : List (List ℕ) → Option (List ℕ)
 body_of [] = None
 body_of (first ∷ rest) = if bytes_eq first begin_mark then joined_to_end rest else None
 
--- a text, if it has at most so many characters
+-- a text, if it has at most `n` characters
 abbrev pub at_most : ℕ → Option (List ℕ) → Option (List ℕ)
 at_most n None = None
 at_most n (Some text) = if nat_lt n (length text) then None else Some text
 
--- the bytes that a text has in base64 (RFC 4648, section 4) between its marks, in at most 2,048
+-- the bytes that a text encodes in base64 (RFC 4648, section 4) between its marks, in at most 2,048
 -- characters (this profile's choice)
 unfoldable pub info_in : List ℕ → Option (List ℕ)
 info_in text = option_and_then (decoded_of standard) (at_most 2048 (body_of (lines text)))

@@ -13,7 +13,7 @@ const BEGIN: &str = "-----BEGIN PUBLIC KEY-----";
 /// The last line.
 const END: &str = "-----END PUBLIC KEY-----";
 
-/// The base64 text between the marks, if the text's first line and its last are these.
+/// The base64 text between the marks, if these are the text's first and last lines.
 pub(crate) fn body_in(text: &str) -> Option<Joined>
     ensures { result ≡ at_most 2048 (body_of (lines text.now)) }
 {

@@ -9,8 +9,8 @@ use crate::joined::Joined;
 use base64::engine::general_purpose::STANDARD;
 use std::marker::Model;
 
-/// The bytes of a SubjectPublicKeyInfo, at most 1,536, as a PEM text has them: nobody has looked at
-/// them yet. To a contract it is these bytes.
+/// The bytes of a SubjectPublicKeyInfo, at most 1,536, from a PEM text and not yet looked at. To a
+/// contract it is these bytes.
 #[derive(Drop)]
 pub struct PublicKeyInfo {
     bytes: [u8; 1536],
@@ -36,12 +36,11 @@ impl PublicKeyInfo {
     }
 }
 
-/// The bytes that a text has between the marks `-----BEGIN PUBLIC KEY-----` and `-----END PUBLIC
-/// KEY-----` (RFC 7468, section 13), which are its first line and its last: lines of 1 to 76
-/// characters that make a base64 text with padding (RFC 4648, section 4) when they are joined. Each
-/// line is ended by a line feed, or by a carriage return and a line feed, which the last one may
-/// lack. `None` where the text is not so, or has more than 2,048 characters between the marks.
-/// Takes no memory.
+/// The bytes encoded between the marks `-----BEGIN PUBLIC KEY-----` and `-----END PUBLIC KEY-----`
+/// (RFC 7468, section 13), which are the first and last lines of a text: in lines of 1 to 76
+/// characters that, joined, are base64 with padding (RFC 4648, section 4). Each line ends with a
+/// line feed, or with a carriage return and a line feed, which the last one may lack. `None` where
+/// the text has another form, or more than 2,048 characters between the marks. Takes no memory.
 pub fn public_key_info(text: &str) -> Option<PublicKeyInfo>
     ensures { result ≡ info_in text.now }
 {

@@ -1,4 +1,4 @@
--- What the commands write and find, by their words and by what stands at the paths in them.
+-- What the commands write and find, by their words and by what is at the paths in them.
 use Rattle.std.specs.Prelude.{◌≡◌, ℕ, List, [], ◌∷◌, ◌++◌, Bool, true, false, MatchBool, Option}
 use Rattle.std.specs.Prelude.{MatchOption}
 use Rattle.std.specs.Cmp.Lexicographic.{slice_cmp}
@@ -60,9 +60,9 @@ abbrev pub form_asked : Bool → ReportForm
 form_asked false = Lines
 form_asked true = Json
 
--- verify: the output of a verification of the inputs, checked by the rings in the order of the
--- words, and then by public keys where they are asked for; there is a table of these, and with
--- whichever has all that could be asked for, the output is this one
+-- verify: the output of verifying the inputs, checked by the rings in the order of the words, and
+-- then, where they are asked for, by a table of all public keys that could be asked for; there is
+-- such a table then, and the output is the same with any
 pub record Verifies (disk : Holdings) (words : VerifyWords) (text : List ℕ)
     (status : Status) : Type 0 where
   pub inputs : Inputs
@@ -149,7 +149,7 @@ SignsOntoBy disk words (under_ring path) body envelope text =
 SignsOntoBy disk words (Made paths) body envelope text =
     SignsOntoAsMade disk words paths body envelope text
 
--- sign --onto: the envelope at a path is one to which the signature is added
+-- sign --onto: the signature is added to the envelope at a path
 pub record SignsOnto (disk : Holdings) (words : SignWords) (body onto text : List ℕ)
     : Type 0 where
   pub envelope : List ℕ
@@ -182,7 +182,7 @@ pub record MakesLink (disk : Holdings) (words : LinkWords) (text : List ℕ)
   pub is_output : IsLinkOutput words.name materials products text
   pub status_is : status ≡ Good
 
--- statement: the Statement of this digest list; parameters that are not given are none
+-- statement: the Statement of this digest list, with parameters only where they are given
 pub record MakesStatement (disk : Holdings) (words : StatementWords) (text : List ℕ)
     (status : Status) : Type 0 where
   pub sums : List ℕ

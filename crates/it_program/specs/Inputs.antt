@@ -8,21 +8,21 @@ use Rattle.it_limits.specs.declared.lines.LineOver.{LineOver}
 use Rattle.it_verify.specs.declared.inputs.Inputs.{Inputs}
 use Rattle.it_words.specs.declared.words.verify_words.VerifyWords.{VerifyWords}
 
--- the provenance that is looked at: what was read; where signatures are limited, its lines without
--- those that have too many
+-- the provenance that is looked at: what was read, but where signatures are limited, without the
+-- lines that have too many
 abbrev pub AreLookedAt : Bool → (read lines : List ℕ) → Type 0
 AreLookedAt false read lines = lines ≡ read
 AreLookedAt true read lines =
     (left_out : List LineOver) × AreWithin (lines_of read) (lines_of lines) left_out
 
--- the same of what stands at a path, or of nothing where no path is given
+-- the same for what is at a path, or for nothing where no path is given
 abbrev pub HoldsLookedAt : (List ℕ → List ℕ → Type 0) → Option (List ℕ) → Bool → List ℕ → Type 0
 HoldsLookedAt holds path limited lines =
     (read : List ℕ) × HoldsIfGiven holds path read × AreLookedAt limited read lines
 
--- each input is what stands at the path of its own option, and the moment and the depth are those
--- of the words. With public keys signatures are limited: links and lines that have too many are no
--- inputs, and the layout has not too many
+-- each input is what is at the path of its own option, and the moment and the depth are those of
+-- the words. With public keys signatures are limited: links and lines that have too many are not
+-- among the inputs, and the layout does not have too many
 pub record AreInputs (disk : Holdings) (words : VerifyWords) (inputs : Inputs) : Type 0 where
   pub policy : disk.file words.policy inputs.policy
   pub layout : disk.file words.layout inputs.layout

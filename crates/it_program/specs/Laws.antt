@@ -1,4 +1,4 @@
--- What is shown of these definitions.
+-- What is proved of these definitions.
 use Rattle.std.specs.Prelude.{ℕ, List, Bool, Option}
 use Rattle.it_dsse.specs.Panel.{Panel, panel_of}
 use Rattle.it_dsse.specs.declared.ring_entry.RingEntry.{RingEntry}
@@ -13,8 +13,8 @@ use Rattle.it_verify.specs.VerificationLaws.{HasSameOutcome, OnlyWithholds}
 use Rattle.it_verify.specs.declared.inputs.Inputs.{Inputs}
 use Rattle.it_program.specs.Sources.{sources_in}
 
--- a table that has every key which a verification of these inputs could ask for beside the rings,
--- where one is wanted
+-- a table with every key that a verification of these inputs could ask for alongside the rings,
+-- where a table is wanted
 abbrev pub IsTableOf : Bool → List (List RingEntry) → Inputs → Option Keys → Type 0
 IsTableOf wanted rings inputs = IsTableFor wanted (sources_in inputs rings)
 
@@ -22,7 +22,7 @@ IsTableOf wanted rings inputs = IsTableFor wanted (sources_in inputs rings)
 abbrev pub panel_with : List (List RingEntry) → Option Keys → Panel
 panel_with rings table = panel_of (checks_of rings table)
 
--- by whichever table has every key that could be asked for, a verification has one outcome
+-- a verification has the same outcome with any table that has every key it could ask for
 abbrev pub AnyTable : Type 0
 AnyTable =
     (wanted : Bool) (rings : List (List RingEntry)) (inputs : Inputs) (one other : Option Keys)
@@ -37,7 +37,7 @@ pub record AreTables (wanted : Bool) (rings : List (List RingEntry)) (inputs oth
   pub also_of_first : IsTableOf wanted rings inputs both
   pub also_of_second : IsTableOf wanted rings other both
 
--- inputs in which the same counts have one outcome, each by its own table
+-- inputs that agree in all that counts have the same outcome, each with its own table
 abbrev pub AlikeByTables : Type 0
 AlikeByTables =
     (wanted : Bool) (rings : List (List RingEntry)) (inputs other : Inputs)
@@ -45,8 +45,8 @@ AlikeByTables =
     → InputsAlike (panel_with rings both) inputs other
     → HasSameOutcome (panel_with rings one) inputs (panel_with rings two) other
 
--- who takes away what counts from what is accepted can only withhold, each verification going by
--- its own table
+-- taking what counts away from accepted inputs can only withhold acceptance, where each
+-- verification has its own table
 abbrev pub WithheldByTables : Type 0
 WithheldByTables =
     (wanted : Bool) (rings : List (List RingEntry)) (inputs other : Inputs)

@@ -4,7 +4,7 @@ use Rattle.it_dsse.specs.declared.ring_entry.RingEntry.{RingEntry}
 use Rattle.it_public_keys.specs.Collected.{Sources}
 use Rattle.it_verify.specs.declared.inputs.Inputs.{Inputs}
 
--- the inputs, and the rings that check beside the table
+-- the inputs, and the rings that check alongside the table
 abbrev pub sources_in : Inputs → List (List RingEntry) → Sources
 sources_in inputs rings = record {
   policy = inputs.policy;

@@ -8,7 +8,7 @@ use Rattle.it_words.specs.declared.words.Words.TheVariants.{Digest}
 use Rattle.it_words.specs.declared.words.digest_words.DigestWords.{DigestWords}
 use Rattle.it_program.specs.Commands.{AreLinesOf, AreNamed}
 
--- digest: the lines of the first of the files that the words name
+-- digest: the lines of the first `count` files that the words name have gone out
 pub record ListsFirst (disk : Holdings) (words : DigestWords) (old new : Option (List ℕ))
     : Type 0 where
   pub files : List (List ℕ)

@@ -40,7 +40,7 @@ fn first_bad_word<R: Env + AllocGlobal>(rt: &R) -> io::Result<Option<usize>> {
     Ok(None)
 }
 
-/// The word at one place of a command line, as if there were no other.
+/// The word at one place of a command line, as if it were the only one.
 #[derive(Drop)]
 struct OneWord<'a, R> {
     rt: &'a R,

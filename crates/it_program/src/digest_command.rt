@@ -20,7 +20,7 @@ use std::io::Write;
 const MOST_BYTES: u64 = 1_099_511_627_776;
 
 /// Writes the line of each file that the words name, file by file. With `--recursive` all folders
-/// are read before the first line is written. The lines before a file that fails stand.
+/// are read before the first line is written. The lines before a file that fails remain.
 pub(crate) fn run<R: Disk + AllocGlobal, W: Write>(
     rt: &R,
     words: &DigestWords,
@@ -80,7 +80,7 @@ fn digest_file<R: Disk + AllocGlobal, W: Write>(
     }
 }
 
-/// The fault of a file that has no line, with the error that its reader answered last.
+/// The fault of a file that has no line, with the last error that its reader returned.
 fn told(
     alloc: Global,
     path: &str,

@@ -2,21 +2,21 @@
 //! what is true of all inputs.
 ghost use Rattle.it_program.specs.Laws.{AlikeByTables, AnyTable, WithheldByTables};
 
-/// By whichever table has every key that a verification could ask for, its verdict is the same, and
-/// so is its report: which other keys are in the table, and in which order, makes no difference.
+/// A verification has the same verdict and report with any table that has every key it could ask
+/// for: which other keys are in the table, and in which order, makes no difference.
 pub fn any_table()
     ensures { AnyTable }
 {}
 
-/// Inputs in which the same counts have the same verdict, and the same report, where each is
-/// verified with a table of its own.
+/// Inputs that agree in all that counts have the same verdict and the same report, where each is
+/// verified with its own table.
 pub fn alike_by_tables()
     ensures { AlikeByTables }
 {}
 
-/// Inputs in which less counts than in others that are accepted are accepted with the same steps
-/// and files, or are refused for too few keys or for want of provenance, where each is verified
-/// with a table of its own.
+/// Where inputs are accepted, others in which less counts are accepted with the same steps and
+/// files, or refused for too few keys or for lack of provenance, where each is verified with its
+/// own table.
 pub fn withheld_by_tables()
     ensures { WithheldByTables }
 {}

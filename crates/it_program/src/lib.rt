@@ -1,8 +1,8 @@
-//! What the program `itv` does between its words and its exit status: it reads the words, and what
-//! stands at the paths in them, and runs the command that they name.
+//! What the program `itv` does between its words and its exit status: it reads the words and what
+//! is at the paths in them, and runs the command that they name.
 //!
-//! A command writes what its definition in `specs/Commands.antt` says (`IsOutputOf`), for whatever
-//! stands at the paths that it reads (`Holdings` of `it_disk`).
+//! A command writes what its definition in `specs/Commands.antt` says (`IsOutputOf`), whatever is
+//! at the paths that it reads (`Holdings` of `it_disk`).
 //!
 //! ```
 //! let words = words(rt)?;

@@ -4,17 +4,17 @@ ghost use Rattle.std.specs.Prelude.{◌≡◌, None};
 use std::io;
 use std::io::{Read, Write};
 
-/// A reader or a writer, with the last error that it answered.
+/// A reader or a writer, with the last error that it returned.
 #[derive(Drop)]
 pub struct Remembering<T> {
     /// The reader or the writer.
     pub inner: T,
-    /// The last error that it answered, if it answered one.
+    /// The last error that it returned, if any.
     pub error: Option<io::Error>,
 }
 
 impl<T> Remembering<T> {
-    /// It has answered no error yet.
+    /// It has returned no error yet.
     pub fn new(inner: T) -> Remembering<T>
         ensures inner { result.inner ≡ inner }
         ensures error { result.error ≡ None }

@@ -15,12 +15,12 @@ use it_outcome::{RunFault, Status};
 use it_words::words::{Words, read_words};
 use std::io::Write;
 
-/// Runs the command that the words name, and says why the system did not take its output where that
-/// is so. Notes beside the output go to `notes`. The first word is the program's name.
+/// Runs the command that the words name, and, where the system did not take its output, says why.
+/// Notes beside the output go to `notes`. The first word is the program's name.
 ///
 /// # Errors
 ///
-/// As those of `run_words`, but `Fault::Unwritable` where the system said why it did not take the
+/// Those of `run_words`, but `Fault::Unwritable` where the system said why it did not take the
 /// output.
 pub fn run_to<R: Disk + AllocGlobal, W: Write, N: Write>(
     rt: &R,
@@ -51,10 +51,10 @@ pub fn run_to<R: Disk + AllocGlobal, W: Write, N: Write>(
 ///
 /// # Errors
 ///
-/// `Fault::Words` where the words do not parse, `Fault::Run` where the command stopped, and else
-/// what is said of the file, folder, line or key that kept it from running. Nothing went out then,
-/// but of `digest` the lines of the files before; where the output could not be written, a
-/// beginning of it.
+/// `Fault::Words` where the words do not parse, `Fault::Run` where the command stopped, and
+/// otherwise the fault of the file, folder, line or key that kept it from running. Then nothing has
+/// gone out, except for `digest` the lines of earlier files, and, where the output could not be
+/// written, a beginning of it.
 pub fn run_words<R: Disk + AllocGlobal, W: Write, N: Write>(
     rt: &R,
     words: &[String],

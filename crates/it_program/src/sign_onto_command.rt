@@ -18,7 +18,7 @@ use std::io::Write;
 pub(crate) struct Onto<'a> {
     /// The words of the command.
     pub(crate) words: &'a SignWords,
-    /// The body, which the envelope holds already.
+    /// The body, which the envelope must already hold.
     pub(crate) body: &'a [u8],
     /// The path of the envelope.
     pub(crate) path: &'a str,

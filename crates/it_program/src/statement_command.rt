@@ -66,7 +66,7 @@ fn state<W: Write>(
     }
 }
 
-/// The fault of parameters that are none.
+/// The fault of bad external parameters.
 fn bad_parameters(alloc: Global, path: &Option<Text>) -> Result<Fault, AllocError> {
     let path = path.as_ref().map_or("", |path| path.as_str());
     Ok(Fault::BadParameters {

@@ -5,9 +5,9 @@ ghost use Rattle.it_program.specs.Status.{program_status};
 use it_disk::Fault;
 use it_outcome::{Status, exit_of};
 
-/// The status that the program ends with: that of the command, or 2 where it did not run.
+/// The exit status of the program: that of the command or of `Fault::Run`, and 2 for other faults.
 ///
-/// `outcome` is the answer of `run_to` or of `words`.
+/// `outcome` is the result of `run_to` or of `words`.
 pub fn exit_status(outcome: &Result<Status, Fault>) -> u8
     ensures { result ≡ program_status outcome.now }
 {

@@ -33,7 +33,7 @@ use std::alloc::{AllocError, Global};
 use std::io::Write;
 
 /// Reads all files and folders and the rings, makes the table of public keys where they are asked
-/// for, notes what is left out, writes the report of the verdict, and then what there is to note.
+/// for, notes what is left out, and writes the report of the verdict and then the notes on it.
 pub(crate) fn run<R: Disk + AllocGlobal, W: Write, N: Write>(
     rt: &R,
     words: &VerifyWords,
@@ -67,8 +67,8 @@ fn form_asked(json: bool) -> ReportForm
     }
 }
 
-/// The table of all public keys that the verification could ask for beside the rings, where public
-/// keys are asked for.
+/// The table of all public keys that the verification could ask for alongside the rings, where
+/// public keys are asked for.
 fn table_for(
     alloc: Global,
     words: &VerifyWords,
@@ -89,7 +89,7 @@ fn table_for(
 }
 
 /// Writes the report of the verdict on the inputs, and then the notes on it, with signatures
-/// checked by the checks.
+/// checked by `checks`.
 fn verify_by<W: Write, N: Write>(
     alloc: Global,
     inputs: &Inputs,
@@ -123,8 +123,8 @@ fn read_rings<R: Disk + AllocGlobal>(rt: &R, paths: &[Text]) -> Result<Vec<HmacR
     Ok(rings)
 }
 
-/// What stands at the paths of the options. What no path is given for is empty. With public keys,
-/// links and lines of the provenance that have too many signatures are added to what is left out.
+/// What is at the paths of the options. An input without a path is empty. With public keys, links
+/// and lines of the provenance that have too many signatures are added to what is left out.
 fn inputs<R: Disk + AllocGlobal>(
     rt: &R,
     words: &VerifyWords,

@@ -1,5 +1,5 @@
--- Whether a builder signed an envelope, as it was found out once and is remembered (a word of this
--- project; no standard speaks of it).
+-- Whether a builder signed an envelope, determined once and remembered (specific to this project;
+-- no standard covers it).
 use Rattle.std.specs.Prelude.{◌≡◌, ◌↔◌, ◌*◌, ◌≤◌, ℕ, List, Bool, IsTrue, length}
 use Rattle.std.specs.FinMap.{len}
 use Rattle.std.specs.List.{AllZip}
@@ -20,8 +20,9 @@ pub record IsAskedOfBuilder (panel : Panel) (envelope : Envelope) (builder : Bui
   pub signed : SignedByBuilder panel envelope builder
   pub tried : n ≡ tries panel envelope signed.id signed.object
 
--- whether a builder signed the envelope, and a meter that rose by at most each signature once for
--- each of the builder's keys, and where it signed by at least what is tried with the key that did
+-- whether a builder signed the envelope, and a meter that rose by at most one for each pair of a
+-- signature and a key of the builder, and, if it signed, by at least what is tried with the key
+-- that signed
 pub record IsTold (panel : Panel) (envelope : Envelope) (builder : Builder) (signed : Bool)
     (old : Meter) (new : Meter) : Type 0 where
   pub answer : IsTrue signed ↔ SignedByBuilder panel envelope builder
@@ -29,11 +30,11 @@ pub record IsTold (panel : Panel) (envelope : Envelope) (builder : Builder) (sig
   pub at_least : IsTrue signed → RaisedBy (AtLeast (IsAskedOfBuilder panel envelope builder)) old
       new
 
--- the meter of nothing that was asked
+-- the meter before anything is asked
 abbrev pub unasked : Meter
 unasked = record { asked = 0 }
 
--- the same as it is remembered, of a meter that began at nothing
+-- the same for a remembered answer, with a meter that began at zero
 abbrev pub IsAnswer : Panel → Envelope → Builder → Answer → Type 0
 IsAnswer panel envelope builder answer =
     IsTold panel envelope builder answer.signed unasked answer.asked

@@ -1,5 +1,5 @@
--- How many checks of validity it takes at least to find provenance (a word of this project; no
--- standard speaks of it).
+-- The fewest validity checks that it takes to find provenance (specific to this project; no
+-- standard covers it).
 use Rattle.std.specs.Prelude.{◌≡◌, ◌≤◌, ℕ, List, Some}
 use Rattle.std.specs.List.{slice_get}
 use Rattle.it_digest.specs.declared.compare.DigestSet.{DigestSet}
@@ -10,7 +10,7 @@ use Rattle.it_docs.specs.declared.policy.Expectation.{Expectation}
 use Rattle.it_prov.specs.Fits.{Fits}
 use Rattle.it_prov.specs.Meets.{Meets}
 
--- a number is at least one of which P holds
+-- a number is at least some number of which P holds
 abbrev pub AtLeast : (ℕ → Type 0) → ℕ → Type 0
 AtLeast P n = (least : ℕ) × P least × (least ≤ n)
 
@@ -22,14 +22,14 @@ pub record IsAskedFor (panel : Panel) (expectation : Expectation) (digests : Dig
   pub tried : n
       ≡ tries panel envelope meets.besides_level.signed.id meets.besides_level.signed.object
 
--- the same of the envelope at an index
+-- the same for the envelope at an index
 pub record IsAskedAt (panel : Panel) (expectation : Expectation) (digests : DigestSet)
     (envelopes : List Envelope) (index : ℕ) (n : ℕ) : Type 0 where
   pub envelope : Envelope
   pub stands : slice_get envelopes index ≡ Some envelope
   pub asked : IsAskedFor panel expectation digests envelope n
 
--- the same of the expectation that fits a path
+-- the same for the expectation that fits a path
 pub record IsAsked (panel : Panel) (expectations : List Expectation) (path : List ℕ)
     (digests : DigestSet) (envelopes : List Envelope) (index : ℕ) (n : ℕ) : Type 0 where
   pub expectation : Expectation

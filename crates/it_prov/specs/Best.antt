@@ -20,8 +20,8 @@ pub record MeetsAtLevel (panel : Panel) (expectation : Expectation) (digests : D
   pub besides_level : MeetsBesidesLevel panel expectation digests envelope builder
   pub level_is : level ≡ builder.level
 
--- the greatest level of a builder with which one of the envelopes of which P holds meets an
--- expectation in all but the level
+-- the greatest level of a builder with which an envelope that satisfies P meets an expectation in
+-- all but the level
 abbrev pub IsBest : Panel → Expectation → DigestSet → (Envelope → Type 0) → Option ℕ → Type 0
 IsBest panel expectation digests P = IsGreatest (λ level.
     (envelope : Envelope) × P envelope × MeetsAtLevel panel expectation digests envelope level)

@@ -1,5 +1,5 @@
--- The most checks of validity that the search for provenance counts. Who signed what is found out
--- before it, and not counted (a word of this project; no standard speaks of it).
+-- The most validity checks that the search for provenance counts. Finding out who signed comes
+-- before the search and is not counted (specific to this project; no standard covers it).
 use Rattle.std.specs.Prelude.{ℕ, List, length}
 use Rattle.std.specs.List.{sum_by}
 use Rattle.std.specs.FinMap.{len}

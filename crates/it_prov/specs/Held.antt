@@ -1,5 +1,5 @@
 -- What envelopes attest to those who trust the builders of some expectations (in-toto Attestation
--- Statement v1). That what none of them signed is not read is this profile's choice.
+-- Statement v1). Not reading what none of them signed is this profile's choice.
 use Rattle.std.specs.Prelude.{◌≡◌, List, Option, MatchOption, Contains}
 use Rattle.std.specs.List.{AllZip}
 use Rattle.it_dsse.specs.Panel.{Panel}

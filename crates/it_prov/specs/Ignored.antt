@@ -1,5 +1,5 @@
--- Which names of parameters the expectations let be ignored, as sets that are made for a search (a
--- word of this project; no standard speaks of it).
+-- Which parameter names the expectations allow to be ignored, as sets made for a search (specific
+-- to this project; no standard covers it).
 use Rattle.std.specs.Prelude.{◌≡◌, ℕ, List, Bool, map}
 use Rattle.std.specs.Borrow.{Bor}
 use Rattle.std.specs.BTreeMap.{is_at}
@@ -14,11 +14,11 @@ use Rattle.it_docs.specs.declared.policy.Expectation.{Expectation}
 abbrev pub is_one_of : List (List ℕ) → List ℕ → Bool
 is_one_of names name = list_any (bytes_eq name) names
 
--- whether a name is one of these lent ones
+-- whether a name is one of these lent names
 abbrev pub is_among : List (Bor (List ℕ)) → List ℕ → Bool
 is_among lent name = list_any (is_at (λ key. slice_cmp nat_cmp name key.now)) lent
 
--- for each expectation, in their order, there is a set of the names that it lets be ignored
+-- for each expectation, in their order, there is a set of the names that it allows to be ignored
 abbrev pub AreIgnored : List Expectation → List (BTreeSet (Bor (List ℕ))) → Type 0
 AreIgnored expectations sets =
     (name : List ℕ)

@@ -1,6 +1,6 @@
 -- When an envelope meets an expectation (SLSA v1.0, verifying artifacts; in-toto Attestation
--- Statement v1). That digest sets must agree, which parameters may stand there, and that a
--- builder has the build level that the policy trusts it to reach, is this profile's choice.
+-- Statement v1). That digest sets must agree, which parameters may be present, and that a builder
+-- has the build level that the policy trusts it to reach, is this profile's choice.
 use Rattle.std.specs.Prelude.{◌≡◌, ◌≤◌, ℕ, List, Some, None, Contains, IsTrue}
 use Rattle.std.specs.FinMap.{get}
 use Rattle.it_digest.specs.Compare.{Agree}
@@ -19,7 +19,7 @@ use Rattle.it_docs.specs.declared.policy.Expectation.{Expectation}
 use Rattle.it_docs.specs.declared.statement.Provenance.{Provenance}
 use Rattle.it_docs.specs.declared.statement.Statement.{Statement}
 
--- a builder signed the envelope: the panel knows the key of one of the builder's ids, and it signed
+-- a builder signed the envelope: the panel knows the key of one of its ids, and that key signed
 pub record SignedByBuilder (panel : Panel) (envelope : Envelope) (builder : Builder) : Type 0 where
   pub id : List ℕ
   pub object : KeyObject
@@ -38,20 +38,20 @@ pub record Attests (envelope : Envelope) (digests : DigestSet) (provenance : Pro
   pub is_subject : Contains statement.subjects subject
   pub digests_agree : Agree subject digests
 
--- a tree stands under a name, and is equal to the one that is expected there
+-- there is a tree under a name, and it is equal to the one that is expected there
 pub record StandsEqual (fields : Fields) (name : List ℕ) (expected : Json) : Type 0 where
   pub given : Json
   pub stands : field_at name fields ≡ Some given
   pub is_equal : IsTrue (equal given expected)
 
--- the parameters are those that are expected, and further ones under names that may be ignored
+-- the parameters are the expected ones, and others under names that may be ignored
 pub record ParametersMeet (expectation : Expectation) (parameters : Fields) : Type 0 where
   pub expected_stand : (name : List ℕ) (expected : Json)
       → field_at name expectation.parameters ≡ Some expected → StandsEqual parameters name expected
   pub others_ignored : (name : List ℕ) (given : Json) → field_at name parameters ≡ Some given
       → field_at name expectation.parameters ≡ None → Contains expectation.ignore name
 
--- an envelope meets an expectation for a file with these digests, but for the level of this builder
+-- an envelope meets an expectation for a file with these digests, in all but this builder's level
 pub record MeetsBesidesLevel (panel : Panel) (expectation : Expectation) (digests : DigestSet)
     (envelope : Envelope) (builder : Builder) : Type 0 where
   pub provenance : Provenance

@@ -1,4 +1,4 @@
-//! Which builders signed an envelope: it is asked once and remembered.
+//! Which builders signed an envelope: asked once, then remembered.
 ghost use Rattle.std.specs.Prelude.{◌≡◌, ◌↔◌, ◌*◌, ◌≤◌, Any, IfOk, IsTrue, length, map};
 ghost use Rattle.std.specs.FinMap.{len};
 ghost use Rattle.it_dsse.specs.Meter.{RaisedBy};
@@ -18,17 +18,17 @@ use it_dsse::is_signer;
 use it_dsse::meter::Meter;
 use std::alloc::{AllocError, Global};
 
-/// Whether a builder signed an envelope, as it was answered once.
+/// Whether a builder signed an envelope, as answered once.
 #[derive(Clone, Copy)]
 pub struct Answer {
     /// Whether it signed.
     pub signed: bool,
-    /// What was asked for the answer.
+    /// What was asked to get the answer.
     pub asked: Meter,
 }
 
 impl Answer {
-    /// Whether the builder signed. The meter rises as if it were asked again.
+    /// Whether the builder signed. The meter rises as if this were asked again.
     pub(crate) fn recall(&self, meter: &mut Meter) -> bool
         ensures { (panel : Panel) (envelope : Envelope) (builder : Builder)
             → IsAnswer panel envelope builder self.now
@@ -82,8 +82,8 @@ fn answer_for(builder: &Builder, envelope: &Envelope, panel: &[Box<dyn Signature
     Answer { signed, asked }
 }
 
-/// Whether some key of a builder signed the envelope. The `meter` rises by at most each signature
-/// once for each of the builder's keys. Takes no memory.
+/// Whether some key of a builder signed the envelope. The `meter` rises by at most one for each
+/// pair of a signature and a key of the builder. Takes no memory.
 pub fn has_signed(
     builder: &Builder,
     envelope: &Envelope,
@@ -106,7 +106,7 @@ pub fn has_signed(
     false
 }
 
-/// Whether some answer is that the builder signed.
+/// Whether some answer says that the builder signed.
 pub(crate) fn some_signed(answers: &[Sequence<Answer>]) -> bool
     ensures { IsTrue result ↔ Any (λ of_one. Any (λ answer. IsTrue answer.signed) of_one)
         answers.now }

@@ -18,22 +18,22 @@ use it_dsse::payload_type::IN_TOTO;
 use std::alloc::{AllocError, Global};
 use std::collections::{BTreeMap, BTreeSet};
 
-/// What envelopes attest to those who trust the builders of some expectations: it is found out
-/// once, for as many searches as there are files.
+/// What envelopes attest to those who trust the builders of some expectations, determined once for
+/// the searches for all files.
 #[derive(Drop)]
 pub struct Attestations<'a> {
     /// The envelopes.
     pub envelopes: &'a [Envelope],
-    /// The expectations, whose builders were asked for.
+    /// The expectations whose builders were asked about.
     pub expectations: &'a [Expectation],
-    /// The checks of signatures, which were asked.
+    /// The panel of signature checks that was asked.
     pub panel: &'a [Box<dyn SignatureCheck>],
-    /// For each envelope what it attests, if one of the builders signed it.
+    /// For each envelope, what it attests, if one of the builders signed it.
     pub held: Vec<Option<Attestation>>,
-    /// For each expectation the names of parameters that it lets be ignored.
+    /// For each expectation, the parameter names that it allows to be ignored.
     pub(crate) ignored: Vec<BTreeSet<&'a str>>,
     ghost ignored_are: { AreIgnored expectations.now ignored.items },
-    /// The places of the envelopes by the SHA-256 of the subjects of what they attest.
+    /// The places of the envelopes, by the SHA-256 of the subjects of the Statements in `held`.
     pub(crate) by_sha256: BTreeMap<[u8; 32], Vec<usize>>,
     ghost indexed: { IsIndex held.items by_sha256 },
 }
@@ -43,14 +43,14 @@ pub struct Attestations<'a> {
 pub struct Attestation {
     /// The Statement that it holds.
     pub statement: Statement,
-    /// For each expectation, and each builder of it, whether the builder signed.
+    /// For each builder of each expectation, whether the builder signed.
     pub answers: Sequence<Sequence<Answer>>,
 }
 
 impl<'a> Attestations<'a> {
-    /// Asks the `panel` which builders of the expectations signed each of the envelopes, and reads
-    /// what is signed. An envelope that none of them signed is not read, and like one that is not
-    /// of the in-toto type, or whose payload is no Statement, it attests nothing.
+    /// Asks the `panel` which builders of the expectations signed each envelope, and reads what is
+    /// signed. An envelope that none of them signed is not read and attests nothing; one that is
+    /// not of the in-toto type, or whose payload is not a Statement, attests nothing either.
     ///
     /// # Errors
     ///

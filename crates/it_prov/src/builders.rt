@@ -15,8 +15,8 @@ use it_docs::policy::Builder;
 use it_dsse::meter::Meter;
 
 /// The level of a builder that has this id and signed the envelope, by the `answers` for the
-/// builders: of the first whose level is at least the wanted one, or else the greatest. `None`
-/// where no builder with this id signed.
+/// builders: the first that is at least the wanted one, otherwise the greatest. `None` where no
+/// builder with this id signed.
 pub(crate) fn level_of_builders(
     builders: &[Builder],
     answers: &[Answer],

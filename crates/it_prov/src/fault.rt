@@ -7,8 +7,8 @@ use std::alloc::AllocError;
 pub enum ProvError {
     /// No expectation's pattern matches the file's path, which is given.
     NoExpectation(Text),
-    /// No envelope meets the expectation that speaks of the file, whose path is given. The level is
-    /// the greatest of a builder with which some envelope meets the expectation in all but the
+    /// No envelope meets the expectation that speaks of the file. The file's path is given, and the
+    /// greatest level of a builder with which some envelope meets the expectation in all but the
     /// level, or `None` where there is no such builder.
     NoProvenance(Text, Option<u8>),
     /// Memory was refused.

@@ -23,21 +23,21 @@ use std::alloc::Global;
 /// The index of the first envelope that is provenance of a delivered file (SLSA v1.0, verifying
 /// artifacts).
 ///
-/// The file has this `path` and these `digests`. The first of the `expectations` whose pattern
-/// matches the path speaks of the file, and no other. An envelope meets it where one of its
-/// builders, of at least the expected level, signed the envelope, and the payload is a Statement
-/// with provenance that names this builder, with the build type and the parameters that are
-/// expected, and a subject of which agrees with the digests. Signatures are checked by the `panel`,
-/// once for each builder of the `expectations`, and the answers are remembered. The `meter` counts
-/// the answers that the search asks for, remembered ones too, by the signatures that were tried for
-/// them: at most each once for each key of the expected builders, and at least those that are tried
-/// with the key of the builder that signed the envelope found, up to the first valid one.
+/// The file has this `path` and these `digests`. Only the first of the `expectations` whose pattern
+/// matches the path speaks of the file. An envelope meets it where one of its builders, with at
+/// least the expected level, signed the envelope, and the payload is a Statement with provenance
+/// that names this builder and has the expected build type and parameters, and with a subject that
+/// agrees with the digests. The `panel` checks signatures once for each builder of the
+/// `expectations`, and the answers are remembered. The `meter` counts the signatures that were
+/// tried for the answers that the search uses, remembered ones too: at most each signature once for
+/// each key of the expected builders, and at least those that are tried with the key of the builder
+/// that signed the envelope found, up to the first valid one.
 ///
 /// # Errors
 ///
-/// `NoExpectation` with the path where no expectation's pattern matches it, `NoProvenance` with the
-/// path where none of the `envelopes` meets the expectation, and with the greatest level of a
-/// builder with which one of them meets it in all but the level, and `OutOfMemory` where memory was
+/// `NoExpectation` with the path where no expectation's pattern matches it; `NoProvenance`, where
+/// none of the `envelopes` meets the expectation, with the path and the greatest level of a builder
+/// with which one of them meets it in all but the level; and `OutOfMemory` where memory was
 /// refused.
 pub fn find_provenance(
     alloc: Global,
@@ -70,8 +70,8 @@ pub fn find_provenance(
 }
 
 /// The index of the first envelope that is provenance of a delivered file, as `find_provenance`
-/// answers it, among envelopes of which it was found out before what they attest. The meter rises
-/// as if the keys were asked again: it counts remembered answers too.
+/// answers it, among envelopes whose attestations are already known. The meter rises as if the keys
+/// were asked again: it counts remembered answers too.
 ///
 /// # Errors
 ///

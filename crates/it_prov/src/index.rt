@@ -8,8 +8,8 @@ use it_digest::compare::DigestSet;
 use std::alloc::{AllocError, Global};
 use std::collections::BTreeMap;
 
-/// The places of the envelopes that hold a Statement, by the SHA-256 of its subjects: in their
-/// order, and each once under a SHA-256.
+/// The places of the envelopes that hold a Statement, by the SHA-256 of its subjects: in order, and
+/// each only once under a SHA-256.
 pub(crate) fn index_of(
     alloc: Global,
     held: &[Option<Attestation>],
@@ -29,7 +29,7 @@ pub(crate) fn index_of(
     Ok(by_sha256)
 }
 
-/// The places that stand under a SHA-256.
+/// The places listed under a SHA-256.
 pub(crate) fn places_of<'a>(
     by_sha256: &'a BTreeMap<[u8; 32], Vec<usize>>,
     digest: &[u8; 32],
@@ -69,7 +69,7 @@ fn add(
     Ok(())
 }
 
-/// Puts a place at the end, if it does not stand there.
+/// Puts a place at the end, unless it is there already.
 fn end_with(places: &mut Vec<usize>, place: usize) -> Result<(), AllocError>
     ensures { OnOk result (IsEnded place places.old.items places.new.items) }
 {

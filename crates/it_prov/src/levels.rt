@@ -2,7 +2,7 @@
 ghost use Rattle.std.specs.Prelude.{◌≡◌, ◌⊎◌, Some};
 ghost use Rattle.it_prov.specs.Best.{IsGreatest};
 
-/// The greater of two levels, of which there may be none.
+/// The greater of two levels, either of which may be absent.
 pub(crate) fn greater(one: Option<u8>, other: Option<u8>) -> Option<u8>
     ensures { IsGreatest (λ n. (one ≡ Some n) ⊎ (other ≡ Some n)) result }
 {

@@ -15,8 +15,8 @@ use it_docs::policy::Expectation;
 use it_dsse::meter::Meter;
 
 /// The index of the first envelope that meets the expectation at a place, for a file with these
-/// digests. Where they are a SHA-256 alone it is looked for by the index, and else among all.
-/// Whether a builder signed is recalled last.
+/// digests. If they are a SHA-256 alone, only the envelopes that the index gives are searched,
+/// otherwise all are. Whether a builder signed is recalled last.
 ///
 /// # Errors
 ///
@@ -41,7 +41,7 @@ pub(crate) fn first_to_meet(
     }
 }
 
-/// The SHA-256 of digests that have no other.
+/// The SHA-256 of digests with no other.
 fn sha256_alone(digests: &DigestSet) -> Option<[u8; 32]>
     ensures { (digest : List ℕ) → (result ≡ Some digest) ↔ (digests.now ≡ only_sha256 digest) }
 {
@@ -51,7 +51,7 @@ fn sha256_alone(digests: &DigestSet) -> Option<[u8; 32]>
     }
 }
 
-/// The same for a file with any digests.
+/// `first_to_meet` for a file with any digests.
 fn first_of_all(
     expectation: &Expectation,
     place: usize,
@@ -78,7 +78,8 @@ fn first_of_all(
     Err(Unmet { best })
 }
 
-/// The same for a file with this SHA-256 alone. No envelope that the index does not give meets it.
+/// `first_to_meet` for a file with this SHA-256 alone. Only envelopes that the index gives can meet
+/// the expectation.
 fn first_listed(
     expectation: &Expectation,
     place: usize,

@@ -10,7 +10,7 @@ use it_docs::tree::Members;
 use std::alloc::{AllocError, Global};
 use std::collections::BTreeSet;
 
-/// For each expectation the names that it lets be ignored, as a set.
+/// For each expectation, the names that it allows to be ignored, as a set.
 pub(crate) fn ignored_by<'a>(
     alloc: Global,
     expectations: &'a [Expectation],
@@ -35,7 +35,7 @@ fn set_of(alloc: Global, names: &[Text]) -> Result<BTreeSet<&str>, AllocError>
     Ok(set)
 }
 
-/// Whether what is expected stands among the parameters, and every other name may be ignored.
+/// Whether the parameters include the expected ones, and every other name may be ignored.
 pub(crate) fn parameters_meet(
     expectation: &Expectation,
     ignored: &BTreeSet<&str>,
@@ -64,7 +64,7 @@ fn all_may_stand(expectation: &Expectation, ignored: &BTreeSet<&str>, given: &Me
         .all(|(name, _)| may_stand(expectation, ignored, name.as_str()))
 }
 
-/// Whether what is expected under a name stands there.
+/// Whether the tree expected under a name, if any, is there.
 fn is_met(expected: &Members, given: &Members, name: &str) -> bool
     ensures { IsTrue result ↔ IsMet expected.now given.now name.now }
 {

@@ -1,4 +1,4 @@
-//! With which level an envelope meets an expectation in all else, by what it attests.
+//! The level with which an envelope meets an expectation in all else, by what it attests.
 ghost use Rattle.std.specs.Prelude.{◌≡◌, ◌↔◌, List, Some, Any, IfSome, IsTrue, MatchOption};
 ghost use Rattle.std.specs.Prelude.{slice_get};
 ghost use Rattle.it_digest.specs.Compare.{Agree};
@@ -20,7 +20,7 @@ use it_dsse::meter::Meter;
 use std::collections::BTreeSet;
 
 /// The level of a builder with which an envelope meets the expectation at a place in all but the
-/// level, by what it attests: one that is enough, or else the greatest.
+/// level, by what it attests: one that is high enough, otherwise the greatest.
 pub(crate) fn level_reached(
     expectation: &Expectation,
     place: usize,
@@ -46,8 +46,8 @@ pub(crate) fn level_reached(
     }
 }
 
-/// The same for an envelope that the index gives, so that a subject has the digests: no subject is
-/// looked at.
+/// `level_reached` for an envelope that the index gives: a subject is known to have the digests, so
+/// none is looked at.
 pub(crate) fn level_listed(
     expectation: &Expectation,
     place: usize,
@@ -69,7 +69,7 @@ pub(crate) fn level_listed(
     }
 }
 
-/// The same by a Statement of which a subject has the digests.
+/// `level_reached` for a Statement with a subject that has the digests.
 fn level_of_statement(
     expectation: &Expectation,
     place: usize,
@@ -97,7 +97,7 @@ fn level_of_statement(
     )
 }
 
-/// The provenance in a Statement, where it is expected.
+/// The provenance in a Statement, if it is as expected.
 fn expected_in<'a>(
     expectation: &Expectation,
     ignored: &BTreeSet<&str>,

@@ -1,4 +1,4 @@
--- What is said of provenance that is one envelope over several lines (this project's words).
+-- What is said about provenance that is one envelope over several lines (this project's words).
 use Rattle.std.specs.Prelude.{ℕ, List, Any}
 use Rattle.it_digest.specs.Sums.{lines_of}
 use Rattle.it_dsse.specs.Envelope.{EnvelopeOf}
@@ -8,6 +8,6 @@ use Rattle.it_dsse.specs.declared.envelope.Envelope.{Envelope}
 abbrev pub IsAnEnvelope : List ℕ → Type 0
 IsAnEnvelope bytes = (envelope : Envelope) × EnvelopeOf bytes envelope
 
--- they are one, and none of their lines is
+-- the bytes are an envelope, and none of their lines is one
 abbrev pub IsLaidOut : List ℕ → Type 0
 IsLaidOut bytes = IsAnEnvelope bytes × ¬ Any IsAnEnvelope (lines_of bytes)

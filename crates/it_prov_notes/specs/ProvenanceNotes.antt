@@ -1,6 +1,6 @@
--- What the notes on the lines of provenance say (a word of this project; no standard speaks of
--- notes). What a line misses is a part of `Meets`, denied; what a line that is no envelope looks
--- like is said of its document.
+-- What the notes on the lines of provenance say (specific to this project; no standard covers
+-- notes). What a line misses is a part of `Meets`, negated; what a line that is not an envelope
+-- looks like is said of its document.
 use Rattle.std.specs.Prelude.{◌≡◌, ◌≢◌, ◌<◌, ◌≤◌, ℕ, suc, List, Option, Some, None, Contains}
 use Rattle.std.specs.Prelude.{IfSome, IsSome, IsTrue, codes}
 use Rattle.std.specs.List.{slice_get}
@@ -65,7 +65,7 @@ abbrev pub OfProvenance : (Envelope → Provenance → Type 0) → List ℕ → 
 OfProvenance P line = (envelope : Envelope) × (provenance : Provenance)
     × IsProvenanceOn line envelope provenance × P envelope provenance
 
--- ---- what a line that is no envelope looks like
+-- ---- what a line that is not an envelope looks like
 -- bytes are a document of which P holds
 abbrev pub IsDocumentThat : (Data → Type 0) → List ℕ → Type 0
 IsDocumentThat P bytes = (d : Data) × IsDocument bytes d × P d
@@ -87,16 +87,16 @@ abbrev pub NoneSigned : Panel → Expectation → Envelope → Type 0
 NoneSigned panel expectation envelope = (builder : Builder)
     → Contains expectation.builders builder → ¬ SignedByBuilder panel envelope builder
 
--- its payload is of another type than that of in-toto
+-- its payload is of this type, not that of in-toto
 abbrev pub IsOfOtherType : List ℕ → Envelope → Type 0
 IsOfOtherType found envelope = (found ≡ envelope.payload_type) × (found ≢ in_toto_type)
 
--- its payload is no Statement; its type is this one, where one is named
+-- its payload is not a Statement; its type is this one, where one is given
 pub record HasNoStatement (found : Option (List ℕ)) (envelope : Envelope) : Type 0 where
   pub none : (statement : Statement) → ¬ StatementOf envelope.payload statement
   pub type_is : IfSome found (λ text. IsDocumentThat (IsTyped text) envelope.payload)
 
--- the predicate of a Statement, which is of this type, is no provenance
+-- the predicate of a Statement, which is of this type, is not provenance
 abbrev pub HasNoProvenance : List ℕ → Statement → Type 0
 HasNoProvenance found statement =
     (found ≡ statement.predicate_type) × (statement.provenance ≡ None)
@@ -113,7 +113,7 @@ pub record HasSigned (panel : Panel) (expectation : Expectation) (envelope : Env
   pub is_expected : Contains expectation.builders builder
   pub signed : SignedByBuilder panel envelope builder
 
--- an expected builder signed with the wanted id, and none did with the one that stands there
+-- an expected builder with the wanted id signed, and none with the id that the provenance names
 pub record BuilderDiffers (panel : Panel) (expectation : Expectation) (found wanted : List ℕ)
     (envelope : Envelope) (provenance : Provenance) : Type 0 where
   pub builder : Builder
@@ -130,14 +130,14 @@ pub record BuildTypeDiffers (expectation : Expectation) (found wanted : List ℕ
   pub found_is : found ≡ provenance.build_type
   pub differ : found ≢ wanted
 
--- a parameter is expected under a name, and none stands there
+-- a parameter is expected under a name, and none is there
 pub record IsParameterMissing (expectation : Expectation) (name : List ℕ) (provenance : Provenance)
     : Type 0 where
   pub wanted : Json
   pub is_expected : field_at name expectation.parameters ≡ Some wanted
   pub none_stands : field_at name provenance.parameters ≡ None
 
--- a parameter is expected under a name, and an unequal one stands there
+-- a parameter is expected under a name, and an unequal one is there
 pub record IsParameterUnequal (expectation : Expectation) (name : List ℕ) (provenance : Provenance)
     : Type 0 where
   pub wanted : Json
@@ -146,7 +146,7 @@ pub record IsParameterUnequal (expectation : Expectation) (name : List ℕ) (pro
   pub stands : field_at name provenance.parameters ≡ Some given
   pub unequal : ¬ IsTrue (equal given wanted)
 
--- a parameter stands under a name under which none is expected and none is ignored
+-- a parameter is under a name that is neither expected nor ignored
 pub record IsParameterUnexpected (expectation : Expectation) (name : List ℕ)
     (provenance : Provenance) : Type 0 where
   pub given : Json
@@ -154,7 +154,7 @@ pub record IsParameterUnexpected (expectation : Expectation) (name : List ℕ)
   pub none_expected : field_at name expectation.parameters ≡ None
   pub not_ignored : ¬ Contains expectation.ignore name
 
--- an expected builder of the id that stands there signed with this level, no such builder has a
+-- an expected builder that the provenance names signed and has this level, no such builder has a
 -- greater one, and it is less than the wanted one
 pub record LevelIsLow (panel : Panel) (expectation : Expectation) (found wanted : ℕ)
     (envelope : Envelope) (provenance : Provenance) : Type 0 where
@@ -195,7 +195,7 @@ Misses panel expectation digests line (shortfall.UnexpectedParameter name) =
 Misses panel expectation digests line (shortfall.LowLevel found wanted) =
     OfProvenance (LevelIsLow panel expectation found wanted) line
 
--- what a note says is true: the line of its number misses this
+-- what a note says is true: the line with its number misses this
 pub record Holds (panel : Panel) (expectation : Expectation) (digests : DigestSet)
     (provenance : List ℕ) (note : ProvenanceNote) : Type 0 where
   pub line : List ℕ

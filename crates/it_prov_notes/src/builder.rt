@@ -1,4 +1,4 @@
-//! Which builder the provenance names, and of what level it is.
+//! Which builder the provenance names, and its level.
 ghost use Rattle.std.specs.Prelude.{◌≡◌, ◌≤◌, ◌↔◌, ◌⊎◌, List, ℕ, Any, IfOk, IfSome, IsTrue, Some};
 ghost use Rattle.it_digest.specs.declared.compare.DigestSet.{DigestSet};
 ghost use Rattle.it_dsse.specs.Panel.{Panel};
@@ -14,7 +14,7 @@ use it_docs::policy::{Builder, Expectation};
 use it_docs::statement::Provenance;
 use std::alloc::{AllocError, Global};
 
-/// Whether the provenance names another builder than each of those that signed.
+/// Whether the provenance names a builder other than those that signed.
 pub(crate) fn other_builder(
     alloc: Global,
     provenance: &Provenance,
@@ -44,8 +44,8 @@ fn some_has_id(signers: &[&Builder], id: &str) -> bool
     signers.iter().any(|builder| builder.id.as_str() == id)
 }
 
-/// Whether each builder that the provenance names, of those that signed, is of too low a level:
-/// then the greatest of these levels is named.
+/// Whether each signing builder that the provenance names has too low a level: the greatest of
+/// these levels is given then.
 pub(crate) fn low_level(
     provenance: &Provenance,
     expectation: &Expectation,
@@ -66,7 +66,7 @@ pub(crate) fn low_level(
     Some(Shortfall::LowLevel { found, wanted })
 }
 
-/// The greatest level of a builder of this id, or `None` where there is no such builder.
+/// The greatest level of a builder with this id, or `None` where there is no such builder.
 fn greatest_level(builders: &[&Builder], id: &str) -> Option<u8>
     ensures { IsGreatest (HasLevel builders.now id.now) result }
 {
@@ -79,7 +79,7 @@ fn greatest_level(builders: &[&Builder], id: &str) -> Option<u8>
     greatest
 }
 
-/// The greater of two levels, of which the first may be missing.
+/// The greater of two levels, the first of which may be missing.
 fn greater(found: Option<u8>, level: u8) -> u8
     ensures one { (result ≡ level) ⊎ (found ≡ Some result) }
     ensures level { level ≤ result }

@@ -1,14 +1,14 @@
-//! What is asked for.
+//! The delivered file that has no provenance, and where it is looked for.
 use it_digest::compare::DigestSet;
 use it_docs::policy::Expectation;
 
-/// A delivered file of which no line of the provenance is provenance.
+/// A delivered file for which no line of the provenance is provenance.
 #[derive(Clone, Copy)]
 pub struct Delivery<'a> {
     /// The digests of the file.
     pub digests: DigestSet,
     /// The expectation that speaks of the file.
     pub expectation: &'a Expectation,
-    /// The bytes of the provenance, an envelope a line.
+    /// The bytes of the provenance, one envelope per line.
     pub provenance: &'a [u8],
 }

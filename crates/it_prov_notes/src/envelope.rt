@@ -19,8 +19,8 @@ use it_dsse::envelope::Envelope;
 use it_dsse::payload_type::IN_TOTO;
 use std::alloc::{AllocError, Global};
 
-/// What an envelope misses. One that no expected builder signed is noted only where it speaks of
-/// the file.
+/// What an envelope misses. One that no expected builder signed is noted only where it is about the
+/// file.
 pub(crate) fn envelope_misses(
     alloc: Global,
     envelope: &Envelope,
@@ -42,7 +42,7 @@ pub(crate) fn envelope_misses(
     Ok(None)
 }
 
-/// What an envelope misses that these of the expected builders signed.
+/// What an envelope misses, given the expected builders that signed it.
 fn signed_misses(
     alloc: Global,
     envelope: &Envelope,

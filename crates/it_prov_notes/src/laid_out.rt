@@ -10,8 +10,8 @@ use std::alloc::{AllocError, Global};
 /// Whether the provenance as a whole is one envelope that is laid out over several lines: the bytes
 /// are an envelope, and none of their lines is one.
 ///
-/// `provenance` is what is looked through for an envelope a line. The answer is no for a line that
-/// is an envelope, also with empty lines around it, and for several of them.
+/// `provenance` is what is searched for an envelope on each line. The answer is no for a line that
+/// is an envelope, even with empty lines around it, and for several of them.
 ///
 /// # Errors
 ///

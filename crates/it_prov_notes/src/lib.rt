@@ -1,4 +1,4 @@
-//! Notes on the provenance of a delivered file: what each line misses that might have been it. Each
+//! Notes on the provenance of a delivered file: what each line that might have been it misses. Each
 //! note is true.
 #![tactic(auto)]
 

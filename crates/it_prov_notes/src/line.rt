@@ -11,7 +11,7 @@ use it_dsse::check::SignatureCheck;
 use it_dsse::envelope::{Envelope, EnvelopeFault};
 use std::alloc::{AllocError, Global};
 
-/// What a line lacks. An empty line gets no note.
+/// What a line misses. An empty line gets no note.
 pub(crate) fn line_misses(
     alloc: Global,
     line: &[u8],

@@ -1,4 +1,4 @@
-//! What is said of the lines of provenance.
+//! What is noted about lines of provenance.
 use it_base::text::Text;
 
 /// Why one line of the provenance does not count for a delivered file.
@@ -13,19 +13,19 @@ pub struct ProvenanceNote {
 /// What a line of the provenance misses of an expectation.
 #[derive(Drop)]
 pub enum Shortfall {
-    /// The line is no envelope.
+    /// The line is not an envelope.
     NoEnvelope(Shape),
     /// None of the expected builders signed it.
     NotSigned,
-    /// Its payload is of this type, and not of that of in-toto.
+    /// Its payload is of this type, not that of in-toto.
     OtherPayloadType(Text),
-    /// Its payload is no Statement. The text is the `_type` that stands there, where one does.
+    /// Its payload is not a Statement. The text is its `_type`, if it has one.
     NoStatement(Option<Text>),
-    /// The predicate of its Statement is no provenance. The text is the predicate's type.
+    /// The predicate of its Statement is not provenance. The text is the predicate's type.
     NoProvenance(Text),
     /// No subject of its Statement has the digests of the file.
     NoSubject,
-    /// It names another builder than each of the expected ones that signed it.
+    /// It names a builder other than the expected ones that signed it.
     OtherBuilder {
         /// The id that its provenance names.
         found: Text,
@@ -39,11 +39,11 @@ pub enum Shortfall {
         /// The type that is expected.
         wanted: Text,
     },
-    /// No parameter stands under this name, under which one is expected.
+    /// No parameter is under this name, under which one is expected.
     MissingParameter(Text),
     /// The parameter under this name is not equal to the one that is expected there.
     UnequalParameter(Text),
-    /// A parameter stands under this name, under which none is expected and none is ignored.
+    /// A parameter is under this name, which is neither expected nor ignored.
     UnexpectedParameter(Text),
     /// Each expected builder that it names and that signed it is of too low a level.
     LowLevel {
@@ -57,7 +57,7 @@ pub enum Shortfall {
 /// What a line that is no envelope looks like.
 #[derive(Drop)]
 pub enum Shape {
-    /// It is no JSON document, such as a line of an envelope that is laid out over several.
+    /// It is not a JSON document: one line of an envelope laid out over several, for example.
     NoDocument,
     /// It is a list.
     List,

@@ -13,11 +13,11 @@ use std::alloc::{AllocError, Global};
 /// What the lines of the provenance miss of the expectation that speaks of a delivered file, in
 /// their order.
 ///
-/// There is a note for each line that is no envelope. For an envelope that an expected builder
-/// signed, or of which a subject has the digests of the file, there is one with the first thing
-/// that it misses. There is none for an empty line, for one that misses nothing, or for one that
-/// speaks of other files and that none of the builders signed. Signatures are checked by the
-/// `panel`: for each envelope at most each once for each key of the expected builders.
+/// There is a note for each line that is not an envelope. For an envelope that an expected builder
+/// signed, or with a subject that has the digests of the file, there is one with the first thing
+/// that it misses. There is none for an empty line, for an envelope that misses nothing, or for one
+/// that is about other files and that none of the builders signed. The `panel` checks each
+/// envelope's signatures, each at most once for each key of the expected builders.
 ///
 /// # Errors
 ///

@@ -1,4 +1,4 @@
-//! Which parameter of a build is not as it is expected.
+//! Which parameter of a build is not as expected.
 ghost use Rattle.std.specs.Prelude.{◌↔◌, List, ℕ, Contains, IfOk, IfSome, IsTrue};
 ghost use Rattle.it_digest.specs.declared.compare.DigestSet.{DigestSet};
 ghost use Rattle.it_dsse.specs.Panel.{Panel};
@@ -11,7 +11,7 @@ use it_docs::policy::Expectation;
 use it_docs::statement::Provenance;
 use std::alloc::{AllocError, Global};
 
-/// The first name under which a parameter is expected and is missing or unequal.
+/// The first name under which the expected parameter is missing or unequal.
 pub(crate) fn differing_parameter(
     alloc: Global,
     provenance: &Provenance,
@@ -52,7 +52,7 @@ fn differing_at(
     }
 }
 
-/// The first name under which a parameter stands that is neither expected nor ignored.
+/// The name of the first parameter that is neither expected nor ignored.
 pub(crate) fn unexpected_parameter(
     alloc: Global,
     provenance: &Provenance,

@@ -14,8 +14,8 @@ use it_docs::policy::{Builder, Expectation};
 use it_docs::statement::Provenance;
 use std::alloc::{AllocError, Global};
 
-/// The first thing that provenance misses in an envelope that these of the expected builders
-/// signed: the builder, the type of the build, a parameter, or the level.
+/// The first thing that provenance misses in an envelope that these expected builders signed: the
+/// builder, the type of the build, a parameter, or the level.
 pub(crate) fn provenance_misses(
     alloc: Global,
     provenance: &Provenance,

@@ -1,4 +1,4 @@
-//! What a line looks like that is no envelope.
+//! What a line that is not an envelope looks like.
 ghost use Rattle.std.specs.Prelude.{List, ℕ, IfOk, IfSome};
 ghost use Rattle.serde_json.specs.View.{view};
 ghost use Rattle.it_base.specs.Document.{IsDocument};
@@ -36,7 +36,7 @@ fn document_shape(alloc: Global, value: &Value) -> Result<Shape, AllocError>
     }
 }
 
-/// The text that the member `_type` of a document is, where the bytes are a document with one.
+/// The text in the member `_type`, if the bytes are a document with one.
 pub(crate) fn type_in(alloc: Global, bytes: &[u8]) -> Result<Option<Text>, AllocError>
     ensures { IfOk result (λ found. IfSome found (λ text.
         IsDocumentThat (IsTyped text) bytes.now)) }

@@ -12,7 +12,7 @@ use it_dsse::meter::Meter;
 use it_prov::answers::has_signed;
 use std::alloc::{AllocError, Global};
 
-/// Those of the builders that signed an envelope, in their order. Each builder is asked for once.
+/// Those of the builders that signed an envelope, in their order. Each is asked about once.
 pub(crate) fn signers_among<'a>(
     alloc: Global,
     builders: &'a [Builder],

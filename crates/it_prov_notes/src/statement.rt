@@ -17,7 +17,7 @@ use it_dsse::envelope::Envelope;
 use it_prov::some_agrees;
 use std::alloc::{AllocError, Global};
 
-/// Whether the payload of an envelope is a Statement of which a subject has the digests.
+/// Whether the payload of an envelope is a Statement with a subject that has the digests.
 pub(crate) fn is_about(
     alloc: Global,
     envelope: &Envelope,
@@ -32,7 +32,7 @@ pub(crate) fn is_about(
     }
 }
 
-/// What a Statement misses in an envelope that these of the expected builders signed.
+/// What a Statement misses in an envelope that these expected builders signed.
 pub(crate) fn statement_misses(
     alloc: Global,
     statement: &Statement,

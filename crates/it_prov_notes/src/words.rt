@@ -6,8 +6,8 @@ use it_report::name::push_name;
 use std::alloc::{AllocError, Global};
 
 impl ProvenanceNote {
-    /// Appends what the note says as one line, with its line feed. Texts of the policy and of the
-    /// provenance stand in quotation marks, in the form in which a report writes a name.
+    /// Appends what the note says as one line, with its line feed. Texts from the policy and the
+    /// provenance are in quotation marks, as a report writes a name.
     ///
     /// # Errors
     ///
@@ -64,13 +64,13 @@ fn push_shape(text: &mut Vec<u8>, shape: &Shape) -> Result<(), AllocError> {
     }
 }
 
-/// Appends the type of what stands there.
+/// Appends the type of what was found.
 fn push_typed(text: &mut Vec<u8>, what: &str, found: &Text) -> Result<(), AllocError> {
     push_words(text, what)?;
     push_quoting(text, " of type ", found.as_str(), "")
 }
 
-/// Appends what stands there and what is expected.
+/// Appends what was found and what is expected.
 fn push_pair(text: &mut Vec<u8>, what: &str, found: &str, wanted: &str) -> Result<(), AllocError> {
     push_words(text, what)?;
     push_quoting(text, " ", found, " where ")?;

@@ -18,6 +18,6 @@ abbrev pub table_checks : Option Keys → List Check
 table_checks None = []
 table_checks (Some keys) = key_check keys ∷ []
 
--- the checks of rings in their order, and then that of the table, if there is one
+-- the checks of the rings, in order, and then that of the table, if there is one
 abbrev pub checks_of : List (List RingEntry) → Option Keys → List Check
 checks_of rings table = map ring_check rings ++ table_checks table

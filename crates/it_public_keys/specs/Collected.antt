@@ -1,5 +1,6 @@
 -- Which keys a verification could ask for: those of the policy, of the layout that its owners
--- signed, and of each sublayout that counts, as deep as sublayouts may lie (this profile's choice).
+-- signed, and of each sublayout that counts, as deep as sublayouts may nest (this profile's
+-- choice).
 use Rattle.std.specs.Prelude.{◌≡◌, ℕ, zero, suc, List, Contains, Bool, true, false, Option, Some}
 use Rattle.std.specs.Prelude.{None, ◌⊎◌, IsTrue, MatchOption}
 use Rattle.std.specs.FinMap.{get}
@@ -50,7 +51,7 @@ abbrev pub IsBuilderKey : List Builder → Key → Type 0
 IsBuilderKey builders key =
     (builder : Builder) × Contains builders builder × IsKeyOf builder.keys key
 
--- an object of the policy's owners, or of one of its builders, describes it
+-- an object of the policy's owners or of one of its builders describes the key
 abbrev pub IsPolicyKey : Policy → Key → Type 0
 IsPolicyKey policy key = IsKeyOf policy.owners key ⊎ ((expectation : Expectation)
     × Contains policy.expectations expectation × IsBuilderKey expectation.builders key)
@@ -65,7 +66,7 @@ pub record IsSignedLayout (rings : List (List RingEntry)) (owners : Named KeyObj
 
 module _ (rings : List (List RingEntry)) where
   -- the table has the keys of a layout, and those of each sublayout that counts, as deep as
-  -- sublayouts may lie
+  -- sublayouts may nest
   abbrev pub HoldsUnder : ℕ → Keys → Layout → Contents → Type 0
   HoldsUnder zero keys layout bundle = HoldsKeys keys layout.keys
   HoldsUnder (suc depth) keys layout bundle = HoldsKeys keys layout.keys
@@ -81,8 +82,8 @@ module _ (rings : List (List RingEntry)) where
       × IsSublayout (SignsBy rings) layout bundle step id sublayout
       × IsKeyUnder depth sublayout (folder_of step.name id bundle) key)
 
--- what a verification asks for keys of: the policy and the layout, as bytes, the links, how deep
--- sublayouts may lie, and the rings that check beside the table
+-- the sources of a verification's keys: the policy and the layout, as bytes, the links, how deep
+-- sublayouts may nest, and the rings that check besides the table
 pub record Sources : Type 0 where
   pub policy : List ℕ
   pub layout : List ℕ
@@ -100,22 +101,22 @@ sources_of lent = record {
   rings = lent.rings.now;
 }
 
--- all keys that a verification of these could ask for: those of the policy, those of the layout
--- where every owner signed it, and those of each sublayout that counts
+-- the table has all keys that a verification of these could ask for: those of the policy, of the
+-- layout if every owner signed it, and of each sublayout that counts
 pub record HoldsAll (keys : Keys) (sources : Sources) : Type 0 where
   pub of_policy : (policy : Policy) → PolicyOf sources.policy policy → HoldsPolicy keys policy
   pub of_layout : (policy : Policy) (layout : Layout) → PolicyOf sources.policy policy
       → IsSignedLayout sources.rings policy.owners sources.layout layout
       → HoldsUnder sources.rings sources.depth keys layout sources.links
 
--- an object of the policy, of the signed layout, or of a sublayout that counts describes it
+-- an object of the policy, the signed layout or a sublayout that counts describes the key
 abbrev pub IsAskedKey : Sources → Key → Type 0
 IsAskedKey sources key = (policy : Policy) × PolicyOf sources.policy policy
     × (IsPolicyKey policy key ⊎ ((layout : Layout)
     × IsSignedLayout sources.rings policy.owners sources.layout layout
     × IsKeyUnder sources.rings sources.depth layout sources.links key))
 
--- no table where none is wanted, and else one with all of these keys
+-- no table if none is wanted, otherwise one with all of these keys
 abbrev pub IsTableFor : Bool → Sources → Option Keys → Type 0
 IsTableFor false sources table = table ≡ None
 IsTableFor true sources table =

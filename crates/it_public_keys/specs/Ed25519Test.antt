@@ -1,4 +1,4 @@
--- Whether a signature of Ed25519 is valid, as a test (RFC 8032, section 5.1.7).
+-- Whether an Ed25519 signature is valid, as a test (RFC 8032, section 5.1.7).
 use Rattle.std.specs.Prelude.{ℕ, List, Bool, false, ◌&&◌, nat_eq, nat_lt, length, take, drop}
 use Rattle.std.specs.Prelude.{option_map, unwrap_or}
 use Rattle.std.specs.Str.{bytes_eq}

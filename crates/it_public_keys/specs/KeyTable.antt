@@ -1,5 +1,5 @@
--- A table of public keys, and the check that it is (this profile's choice). A key's number is its
--- place in the table.
+-- A table of public keys, as a check (this profile's choice). A key's number is its place in the
+-- table.
 use Rattle.std.specs.Prelude.{◌≡◌, ◌≢◌, ◌⊎◌, IsTrue, ◌++◌, All, AllPairs, Contains, false}
 use Rattle.std.specs.Prelude.{option_map, position, slice_get, unwrap_or}
 use Rattle.it_dsse.specs.Check.{Check}
@@ -18,7 +18,7 @@ key_check keys = record {
       unwrap_or (option_map (λ key. is_signature_of key message sig) (slice_get keys n)) false;
 }
 
--- a table of keys, none of which stands in it twice
+-- a table of keys, none of which is in it twice
 pub record IsKeyTable (keys : Keys) : Type 0 where
   pub are_keys : All IsKey keys
   pub distinct : AllPairs (λ one other. one ≢ other) keys
@@ -27,10 +27,10 @@ pub record IsKeyTable (keys : Keys) : Type 0 where
 abbrev pub HoldsKey : Keys → KeyObject → Type 0
 HoldsKey keys object = (key : Key) → IsTrue (describes object key) → IsKey key → Contains keys key
 
--- what stood in the old table stands in the new one at the same place
+-- what was in the old table is in the new one at the same place
 abbrev pub Extends : Keys → Keys → Type 0
 Extends old new = (more : Keys) × (new ≡ old ++ more)
 
--- each key of the new table stood in the old one, or P holds of it
+-- each key of the new table was in the old one, or P holds of it
 abbrev pub AddsOnly : (Key → Type 0) → Keys → Keys → Type 0
 AddsOnly P old new = (key : Key) → Contains new key → Contains old key ⊎ P key

@@ -1,5 +1,5 @@
--- Which key objects describe a public key (in-toto 1.0 section 4.2; the forms are those of tools of
--- in-toto).
+-- Which key objects describe a public key (in-toto 1.0 section 4.2; the forms are those of
+-- in-toto's tools).
 use Rattle.std.specs.Prelude.{ℕ, List, Bool, false, ◌&&◌, Option, Some, None, codes}
 use Rattle.std.specs.Result.{result_ok}
 use Rattle.std.specs.Str.{bytes_eq}
@@ -16,8 +16,8 @@ abbrev pub are_bytes : Option (List ℕ) → List ℕ → Bool
 are_bytes None bytes = false
 are_bytes (Some found) bytes = bytes_eq found bytes
 
--- the object has the scheme of the key's kind, and writes the key: one of Ed25519 in 64 hexadecimal
--- digits, in either case, and each other one by a PEM text of its SubjectPublicKeyInfo
+-- the object has the scheme of the key's kind, and gives the key: an Ed25519 key as 64 hexadecimal
+-- digits, in either case, and any other as a PEM text of its SubjectPublicKeyInfo
 abbrev pub describes : KeyObject → Key → Bool
 describes object (Ed25519 bytes) = bytes_eq object.scheme (codes "ed25519")
     && are_bytes (result_ok (decode_sized object.public 32)) bytes

@@ -30,14 +30,14 @@ NoRingKnowsPublicKeys =
     (ring : List RingEntry) (id : List ℕ) (object : KeyObject)
     → IsPublicScheme object.scheme → (ring_check ring).key_of id object ≡ None
 
--- and no table knows an object of a ring's, so their order in a panel makes no difference
+-- and no table knows an object of a ring's scheme, so their order in a panel does not matter
 abbrev pub NoTableKnowsSecrets : Type 0
 NoTableKnowsSecrets =
     (keys : Keys) (id : List ℕ) (object : KeyObject)
     → object.scheme ≡ codes "hmac-sha256" → (key_check keys).key_of id object ≡ None
 
--- beside the same rings, tables that have the keys of these objects are alike on them, whatever
--- other keys they have
+-- with the same rings, tables that have the keys of these objects are alike on them, whatever other
+-- keys they have
 abbrev pub TablesAreAlike : Type 0
 TablesAreAlike =
     (rings : List (List RingEntry)) (one other : Keys) (objects : Named KeyObject)

@@ -1,4 +1,4 @@
--- Whether a signature of ECDSA over P-256 is valid, as a test (FIPS 186-5, section 6.4.2).
+-- Whether an ECDSA signature over P-256 is valid, as a test (FIPS 186-5, section 6.4.2).
 use Rattle.std.specs.Prelude.{ℕ, ◌+◌, ◌-◌, ◌%◌, List, Bool, ◌&&◌, not, nat_eq, nat_lt, nat_le}
 use Rattle.std.specs.Prelude.{length, take, drop, slice_index}
 use Rattle.it_numbers.specs.Bytes.{big}
@@ -8,7 +8,7 @@ use Rattle.it_p256_point.specs.declared.point.Point.{Point}
 use Rattle.it_p256.specs.Key.{Key}
 use Rattle.it_p256.specs.Signature.{combination_of}
 
--- an INTEGER stands from one place to another, in as few bytes as hold it
+-- an INTEGER is between two places, in the fewest bytes that hold it
 unfoldable pub is_integer : List ℕ → ℕ → ℕ → Bool
 is_integer bytes start end = nat_eq (slice_index bytes start) 2
     && (nat_lt (slice_index bytes (start + 1)) 128
@@ -33,7 +33,7 @@ is_sequence bytes = nat_eq (slice_index bytes 0) 48 && (nat_lt (slice_index byte
     && (is_integer bytes 2 (middle_of bytes)
     && is_integer bytes (middle_of bytes) (length bytes))))
 
--- the number may be one of the two
+-- the number is in range for r or s
 abbrev pub is_in_range : ℕ → Bool
 is_in_range n = nat_lt 0 n && nat_lt n group_order
 
@@ -44,7 +44,7 @@ agrees_at point r = not (nat_eq point.z 0) && nat_eq (first_coordinate point % g
 abbrev pub is_signed : Key → ℕ → ℕ → ℕ → Bool
 is_signed key e r s = is_in_range r && (is_in_range s && agrees_at (combination_of key e r s) r)
 
--- the signature is the key's of what has the digest
+-- it is the key's signature of what has the digest
 unfoldable pub is_p256_signature : Key → List ℕ → List ℕ → Bool
 is_p256_signature key digest signature = is_sequence signature
     && is_signed key (big digest) (integer_at signature 2 (middle_of signature))

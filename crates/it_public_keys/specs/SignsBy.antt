@@ -21,7 +21,7 @@ pub record SignsBy (rings : List (List RingEntry)) (envelope : Envelope) (object
   pub holds : HoldsKey table object
   pub signed : IsSigner (panel_of (checks_of rings (Some table))) envelope object id
 
--- the keys of all of these objects did
+-- the keys of all these objects signed it
 abbrev pub AllSignBy : List (List RingEntry) → Envelope → Named KeyObject → Type 0
 AllSignBy rings envelope objects = (id : List ℕ) (object : KeyObject)
     → get objects id ≡ Some object → SignsBy rings envelope object id

@@ -7,7 +7,7 @@ use Rattle.it_public_keys.specs.RsaTest.{is_rsa_signature}
 use Rattle.it_public_keys.specs.declared.key.Key.{Key}
 use Rattle.it_public_keys.specs.declared.key.Key.TheVariants.{Ed25519, P256, Rsa}
 
--- of a message, or of what has the digest, as the kind has it
+-- of the message, or of what has the digest, by the key's kind
 abbrev pub is_signature_with : Key → List ℕ → List ℕ → List ℕ → Bool
 is_signature_with (Ed25519 bytes) digest message sig = is_ed25519_signature bytes message sig
 is_signature_with (P256 key) digest message sig = is_p256_signature key digest sig

@@ -21,7 +21,7 @@ pub enum AnyCheck {
     Table(PublicKeys),
 }
 
-/// The checks of rings in their order, and then that of the table, if there is one.
+/// The checks of the rings, in order, and then that of the table, if there is one.
 ///
 /// # Errors
 ///
@@ -48,7 +48,7 @@ fn ring_checks(alloc: Global, rings: Vec<HmacRing>) -> Result<Vec<AnyCheck>, All
     rings.map(|ring| AnyCheck::Ring(ring)).collect(alloc)
 }
 
-/// The checks with that of a table behind them.
+/// The checks, followed by that of a table.
 fn with_table(checks: Vec<AnyCheck>, table: PublicKeys) -> Result<Vec<AnyCheck>, AllocError>
     ensures { IfOk result (λ all. map check_of all.items
         ≡ map check_of checks.items ++ key_check table ∷ []) }

@@ -29,11 +29,11 @@ use it_dsse::key_object::KeyObject;
 use it_dsse::pae;
 use std::alloc::{AllocError, Global};
 
-/// A table of all public keys that a verification could ask for: of the owners and the builders of
-/// the policy, of the layout where every owner signed it, and of each layout in a file that is
-/// claimed for a step and signed by a key that the step lists, as deep as sublayouts may lie. It
-/// has no other key. A document that does not read has no keys. What stands in the table has no
-/// authority by that: a verification asks for the keys that the policy and the layouts list.
+/// A table of all public keys that a verification could ask for: those of the policy's owners and
+/// builders, of the layout if every owner signed it, and of each layout in a file that is claimed
+/// for a step and signed by a key that the step lists, as deep as sublayouts may nest. It has no
+/// other key. A document that does not read has no keys. Being in the table gives a key no
+/// authority: a verification asks for the keys that the policy and the layouts list.
 ///
 /// # Errors
 ///
@@ -53,7 +53,7 @@ pub fn public_keys_of(alloc: Global, sources: &Sources) -> Result<PublicKeys, Al
 }
 
 impl PublicKeys {
-    /// A table of the public keys that objects describe, and of no other. An object that describes
+    /// A table of the public keys that objects describe, and no others. An object that describes
     /// none adds none.
     ///
     /// # Errors
@@ -74,7 +74,7 @@ impl PublicKeys {
 ///
 /// # Errors
 ///
-/// As of `public_keys_of`.
+/// As for `public_keys_of`.
 pub fn table_if(
     alloc: Global,
     is_wanted: bool,
@@ -90,8 +90,8 @@ pub fn table_if(
     Ok(Some(public_keys_of(alloc, sources)?))
 }
 
-/// The table with the keys of the layout, and of the sublayouts that count, where all owners signed
-/// it.
+/// The table with, if all owners signed the layout, its keys and those of the sublayouts that
+/// count.
 fn with_layout_in(
     alloc: Global,
     sources: &Sources,
@@ -136,7 +136,7 @@ fn with_layout_in(
     Ok(all)
 }
 
-/// Whether the key of each of these objects signed the envelope, by a panel that has these keys.
+/// Whether the key of each of these objects signed the envelope, by a panel that has the keys.
 fn all_sign(
     alloc: Global,
     panel: &Panel,
@@ -161,7 +161,7 @@ fn all_sign(
     Ok(true)
 }
 
-/// The policy that the bytes are, or `None` where they are none.
+/// The bytes read as a policy, or `None` if they are not one.
 fn policy_in(alloc: Global, bytes: &[u8]) -> Result<Option<Policy>, AllocError>
     ensures { IfOk result (Finds (PolicyOf bytes.now)) }
 {

@@ -3,20 +3,20 @@ ghost use Rattle.std.specs.Prelude.{◌≡◌, ℕ, List};
 ghost use Rattle.it_dsse.specs.Joined.{joined};
 ghost use Rattle.it_public_keys.specs.Validity.{is_signature_of, is_signature_with};
 
-/// A public key, which was decoded once.
+/// A public key, decoded once.
 #[derive(Drop)]
 pub enum Key {
-    /// A key of Ed25519 (RFC 8032). To a contract it is its 32 bytes.
+    /// An Ed25519 key (RFC 8032). To a contract, it is its 32 bytes.
     Ed25519(it_ed25519::PublicKey),
-    /// A key of ECDSA over P-256 (FIPS 186-5). To a contract it is its two coordinates.
+    /// An ECDSA key over P-256 (FIPS 186-5). To a contract, it is its coordinates.
     P256(it_p256::PublicKey),
-    /// A key of RSASSA-PSS (RFC 8017). To a contract it is its modulus and its exponent.
+    /// An RSASSA-PSS key (RFC 8017). To a contract, it is its modulus and its exponent.
     Rsa(it_rsa::PublicKey),
 }
 
 impl Key {
-    /// What is computed once of a message, however many signatures are tried: its SHA-256, if the
-    /// key's kind signs that, and else zeros.
+    /// What is computed once per message, however many signatures are tried: its SHA-256 if the
+    /// key's kind signs that, otherwise zeros.
     pub(crate) fn digest(&self, message: &[&[u8]]) -> [u8; 32]
         ensures { (signature : List ℕ)
             → is_signature_with self.now result (joined message.now) signature
@@ -29,8 +29,8 @@ impl Key {
         }
     }
 
-    /// Whether `sig` is the key's signature of the message that the parts make, or of what has the
-    /// digest, by its kind.
+    /// Whether `sig` is the key's signature of the joined message or, for some kinds, of what has
+    /// the digest.
     pub(crate) fn is_signature_with(&self, digest: &[u8; 32], message: &[&[u8]], sig: &[u8]) -> bool
         ensures { result ≡ is_signature_with self.now digest.now (joined message.now) sig.now }
     {

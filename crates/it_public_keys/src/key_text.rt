@@ -13,19 +13,19 @@ use hex::FromHex;
 use it_dsse::key_object::KeyObject;
 use it_pem::{PublicKeyInfo, public_key_info};
 
-/// The bytes that an object writes for a key of some kind. They may be those of no key.
+/// The bytes that an object gives for a key of some kind. They need not be a key's.
 #[derive(Drop)]
 pub(crate) enum KeyText {
-    /// 32 bytes, for a key of Ed25519.
+    /// 32 bytes, for an Ed25519 key.
     Digits([u8; 32]),
-    /// A SubjectPublicKeyInfo, for a key of ECDSA over P-256.
+    /// A SubjectPublicKeyInfo, for an ECDSA key over P-256.
     P256Info(PublicKeyInfo),
-    /// A SubjectPublicKeyInfo, for a key of RSASSA-PSS.
+    /// A SubjectPublicKeyInfo, for an RSASSA-PSS key.
     RsaInfo(PublicKeyInfo),
 }
 
 impl KeyText {
-    /// What an object writes, by its scheme.
+    /// What an object gives, by its scheme.
     pub(crate) fn of(object: &KeyObject) -> Option<KeyText>
         ensures { result ≡ text_in object.now }
     {
@@ -38,7 +38,7 @@ impl KeyText {
         }
     }
 
-    /// The name of the key of these bytes, or `None` where they are too many for a key.
+    /// The name of the key of these bytes, or `None` if there are more than a name holds.
     pub(crate) fn name(&self) -> Option<Name>
         ensures { result ≡ text_name self.now }
     {
@@ -49,7 +49,7 @@ impl KeyText {
         }
     }
 
-    /// The key of these bytes, or `None` where they are no key's.
+    /// The key of these bytes, or `None` if no key has them.
     pub(crate) fn key(&self) -> Option<Key>
         ensures { MatchOption result ((key : AnyKey) → IsKey key → ¬ IsTrue (fits self.now key))
             (λ key. IsKey key × IsTrue (fits self.now key)) }
@@ -62,7 +62,7 @@ impl KeyText {
     }
 }
 
-/// The name of the key that an object writes, if it may be one.
+/// The name of the key that an object gives, if it may be one.
 pub(crate) fn name_in(object: &KeyObject) -> Option<Name>
     ensures { result ≡ option_and_then text_name (text_in object.now) }
 {
@@ -101,7 +101,7 @@ fn rsa_info_in(public: &str) -> Option<KeyText>
     }
 }
 
-/// The key of Ed25519 of 32 bytes.
+/// The Ed25519 key of 32 bytes.
 fn ed25519_key(bytes: &[u8; 32]) -> Option<Key>
     ensures { MatchOption result
         ((key : AnyKey) → IsKey key → ¬ IsTrue (fits (KeyText.Digits bytes.now) key))
@@ -113,7 +113,7 @@ fn ed25519_key(bytes: &[u8; 32]) -> Option<Key>
     }
 }
 
-/// The key of P-256 of a SubjectPublicKeyInfo.
+/// The P-256 key in a SubjectPublicKeyInfo.
 fn p256_key(info: &PublicKeyInfo) -> Option<Key>
     ensures { MatchOption result
         ((key : AnyKey) → IsKey key → ¬ IsTrue (fits (KeyText.P256Info info.now) key))
@@ -125,7 +125,7 @@ fn p256_key(info: &PublicKeyInfo) -> Option<Key>
     }
 }
 
-/// The key of RSA of a SubjectPublicKeyInfo.
+/// The RSA key in a SubjectPublicKeyInfo.
 fn rsa_key(info: &PublicKeyInfo) -> Option<Key>
     ensures { MatchOption result
         ((key : AnyKey) → IsKey key → ¬ IsTrue (fits (KeyText.RsaInfo info.now) key))

@@ -3,7 +3,7 @@
 ghost use Rattle.it_public_keys.specs.Laws.{NoRingKnowsPublicKeys, NoTableKnowsSecrets};
 ghost use Rattle.it_public_keys.specs.Laws.{TablesAreAlike, TestIsSignature};
 
-/// The test by which a check says that a signature is valid is true exactly of signatures.
+/// A check's test of a signature is true exactly of the key's signatures of the message.
 pub fn test_is_signature()
     ensures { TestIsSignature }
 {}
@@ -18,9 +18,9 @@ pub fn no_table_knows_secrets()
     ensures { NoTableKnowsSecrets }
 {}
 
-/// Beside the same rings, two tables that have the keys of some objects take the same signatures as
-/// valid for each of these objects, and the same two objects for one key: what else stands in a
-/// table makes no difference.
+/// With the same rings, two tables that have the keys of some objects accept the same signatures
+/// for each of these objects, and take the same two objects for one key: what else is in a table
+/// makes no difference.
 pub fn tables_are_alike()
     ensures { TablesAreAlike }
 {}

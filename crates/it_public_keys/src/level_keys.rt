@@ -21,13 +21,13 @@ pub(crate) struct Search<'a> {
     pub rings: &'a [HmacRing],
     /// The files and folders.
     pub links: &'a Bundle,
-    /// How deep sublayouts may lie.
+    /// How deep sublayouts may nest.
     pub depth: u8,
 }
 
-/// The table with the keys of those of the layouts whose folder this is, and of the sublayouts that
-/// count for them. A folder is gone through once for all layouts whose files are in it, so that no
-/// signer can make the search grow with the power of the depth.
+/// The table with the keys of the layouts whose folder this is, and of the sublayouts that count
+/// for them. A folder is searched once for all layouts whose files are in it, so that no signer can
+/// make the search grow exponentially with the depth.
 #[cycle(level)]
 pub(crate) fn with_level(
     alloc: Global,
@@ -114,7 +114,7 @@ fn folder_texts<'a>(alloc: Global, found: &'a [Sublayout]) -> Result<Vec<&'a str
     Ok(folders)
 }
 
-/// The table with the keys of those of the layouts whose folder this is.
+/// The table with the keys of the layouts whose folder this is.
 fn with_layouts(
     keys: PublicKeys,
     above: &[Sublayout],

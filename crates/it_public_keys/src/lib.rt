@@ -1,4 +1,4 @@
-//! The check of signatures by public keys, and the table of keys that it looks in.
+//! The check of signatures by public keys, and the table of keys that it uses.
 #![tactic(auto)]
 
 pub mod any_check;

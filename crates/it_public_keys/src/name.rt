@@ -2,13 +2,13 @@
 ghost use Rattle.std.specs.Prelude.{◌≡◌};
 ghost use Rattle.it_public_keys.specs.inside.Names.{named};
 
-/// The bytes of a key with the number of its kind and their count in front, and zeros behind.
+/// A key's bytes, preceded by the number of its kind and their count, and padded with zeros.
 pub(crate) type Name = [u8; 560];
 
-/// The most bytes that have a name.
+/// The most bytes a name holds.
 const MOST_BYTES: usize = 557;
 
-/// The name of the key of these bytes, or `None` where they are more than any key has.
+/// The name of the key of these bytes, or `None` if there are more than a name holds.
 pub(crate) fn name_of(kind: u8, bytes: &[u8]) -> Option<Name>
     ensures { result ≡ named kind bytes.now }
 {

@@ -12,7 +12,7 @@ use it_dsse::key_object::KeyObject;
 use it_dsse::meter::Meter;
 use it_dsse::ring::HmacRing;
 
-/// Rings of secrets, and behind them a table of public keys.
+/// Rings of secrets, followed by a table of public keys.
 #[derive(Clone, Copy)]
 pub(crate) struct Panel<'a> {
     /// The rings.
@@ -22,8 +22,8 @@ pub(crate) struct Panel<'a> {
 }
 
 impl Panel<'_> {
-    /// Whether the key that the id and the object name signed the envelope (DSSE v1.0,
-    /// "Protocol"). `message` is what its signatures sign.
+    /// Whether the key named by the id and the object signed the envelope (DSSE v1.0, "Protocol").
+    /// `message` is what its signatures sign.
     pub(crate) fn is_signer(
         &self,
         envelope: &Envelope,

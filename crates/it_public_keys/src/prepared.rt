@@ -7,8 +7,8 @@ use it_dsse::check::SignatureCheck;
 use it_dsse::key_object::KeyObject;
 use it_dsse::meter::Meter;
 
-/// The key that is asked for, where there is one, and the digest that it needs of the message. It
-/// is computed before the signatures are tried, and so once however many they are.
+/// The key that is asked for, if there is one, and the message digest that it needs. The digest is
+/// computed before any signature is tried, so once, however many there are.
 #[derive(Drop)]
 pub(crate) struct Prepared<'k> {
     pub(crate) key: Option<&'k Key>,
@@ -22,7 +22,7 @@ impl<'k> SignatureCheck for Prepared<'k> {
           (λ key. is_signature_with key.now prepared.digest message sig) prepared.key) false;
     } };
 
-    /// No key, since the message is that of one key.
+    /// No key is looked up: there is only the one.
     fn key(&self, _id: &str, _object: &KeyObject) -> Option<u32> {
         None
     }

@@ -2,7 +2,7 @@
 use it_chain::bundle::Bundle;
 use it_dsse::ring::HmacRing;
 
-/// What a verification asks for keys of.
+/// The sources of a verification's keys.
 #[derive(Clone, Copy)]
 pub struct Sources<'a> {
     /// The bytes of the policy.
@@ -11,7 +11,7 @@ pub struct Sources<'a> {
     pub layout: &'a [u8],
     /// The files and folders that the layout is checked against.
     pub links: &'a Bundle,
-    /// How deep sublayouts may lie: 0 for none.
+    /// How deep sublayouts may nest: 0 for none.
     pub depth: u8,
     /// The rings that check signatures before the table of public keys does.
     pub rings: &'a [HmacRing],

@@ -5,7 +5,7 @@ use it_base::sequence::Sequence;
 use it_base::text::Text;
 use it_docs::layout::Layout;
 
-/// A layout, with a folder in which its own files are.
+/// A layout, with a folder that holds its own files.
 #[derive(Drop)]
 pub(crate) struct Sublayout {
     /// The bytes of the layout.

@@ -22,9 +22,9 @@ use it_dsse::pae;
 use it_layout_text::may_be_layout;
 use std::alloc::{AllocError, Global};
 
-/// The sublayouts that count, over these files, for those of the layouts above whose folder this
-/// is, by a panel that has the keys of these. Each is listed once for each of its folders, however
-/// many files hold it.
+/// The sublayouts that count, over these files, for the layouts above whose folder this is, by a
+/// panel that has those layouts' keys. Each is listed once for each of its folders, however many
+/// files hold it.
 pub(crate) fn sublayouts(
     alloc: Global,
     panel: &Panel,
@@ -93,8 +93,8 @@ fn with_envelopes(
     Ok(all)
 }
 
-/// The names of the folders of those signers whose keys signed the envelope, where its payload may
-/// be a layout. So the signatures of links are not checked, and what nobody signed is not read.
+/// The names of the folders of those signers whose keys signed the envelope, if its payload may be
+/// a layout. Other payloads' signatures are thus not checked, and what nobody signed is not read.
 fn folders(
     alloc: Global,
     panel: &Panel,
@@ -155,7 +155,7 @@ fn with_folders(
     Ok(all)
 }
 
-/// What was found, with the layout of a payload in a folder, if it is not there.
+/// What was found, with the layout of a payload in a folder added if missing.
 fn with_folder(
     alloc: Global,
     payload: &[u8],

@@ -1,4 +1,4 @@
-//! The table of public keys, and the check that it is.
+//! The table of public keys, as a check of signatures.
 ghost use Rattle.std.specs.Prelude.{◌≡◌, ◌∷◌, ◌++◌, [], ℕ, List, IfOk, None, false, map};
 ghost use Rattle.std.specs.Prelude.{IsTrue, option_map, position, slice_get, unwrap_or};
 ghost use Rattle.std.specs.Str.{bytes_eq};
@@ -21,9 +21,9 @@ use std::alloc::{AllocError, Global};
 use std::collections::BTreeMap;
 use std::marker::Model;
 
-/// Public keys under numbers, which check signatures by Ed25519 (RFC 8032), by ECDSA over P-256
-/// (FIPS 186-5) and by RSASSA-PSS (RFC 8017). A contract sees the list of the keys, in which none
-/// stands twice; a key's number is its place.
+/// Numbered public keys, which check signatures by Ed25519 (RFC 8032), by ECDSA over P-256 (FIPS
+/// 186-5) and by RSASSA-PSS (RFC 8017). A contract sees the list of the keys, which has none twice;
+/// a key's number is its place in it.
 #[derive(Drop)]
 pub struct PublicKeys {
     keys: Vec<Key>,
@@ -56,8 +56,8 @@ impl PublicKeys {
         }
     }
 
-    /// The table with the key that an object describes, if it describes one, and with no other that
-    /// was not there. The keys that were there keep their numbers.
+    /// The table with the key that an object describes, if it describes one, and no other new key.
+    /// The keys that were there keep their numbers.
     ///
     /// # Errors
     ///
@@ -73,7 +73,7 @@ impl PublicKeys {
         }
     }
 
-    /// The table with the key of these bytes, if they are one's.
+    /// The table with the key of these bytes, if there is one.
     fn with_text(self, text: &KeyText) -> Result<PublicKeys, AllocError>
         ensures holds { IfOk result (HoldsText text.now) }
         ensures extends { IfOk result (Extends self) }
@@ -91,7 +91,7 @@ impl PublicKeys {
         }
     }
 
-    /// The table with one key more, which it does not have.
+    /// The table with one more key, which it does not have.
     fn with_new(self, key: Key, name: Name) -> Result<PublicKeys, AllocError>
         requires is_key { IsKey key }
         requires is_name { name ≡ key_name key }
@@ -113,21 +113,21 @@ impl PublicKeys {
         Ok(PublicKeys { keys, places })
     }
 
-    /// Does nothing. Its contract says what is true of every table: it holds keys alone, each once.
+    /// Does nothing. Its contract says what is true of every table: it holds only keys, each once.
     pub(crate) fn is_key_table(&self)
         ensures { IsKeyTable self.now }
     {
         let _count = self.keys.len();
     }
 
-    /// The place of the key of a name.
+    /// The place of the named key.
     fn place_of(&self, name: &Name) -> Option<u32>
         ensures { result ≡ position (bytes_eq name.now) (map key_name self.now) }
     {
         self.places.get(name).copied()
     }
 
-    /// The key at a place, with what is computed once of a message.
+    /// The key at a place, with what is computed once per message.
     fn prepared(&self, place: u32, message: &[&[u8]]) -> Prepared<'_>
         ensures { (sig : List ℕ) → unwrap_or (option_map
             (λ key. is_signature_with key.now result.digest (joined message.now) sig) result.key)

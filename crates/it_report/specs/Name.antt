@@ -3,7 +3,7 @@ use Rattle.std.specs.Prelude.{ℕ, ◌+◌, ◌-◌, ◌/◌, ◌%◌, List, [],
 use Rattle.std.specs.Prelude.{nat_le, nat_lt, if◌then◌else◌, codes}
 use Rattle.std.specs.List.{flat_map}
 
--- a byte that is written as it is: a character of ASCII that is seen, but no backslash
+-- a byte that is written as it is: a visible ASCII character other than a backslash
 abbrev pub is_plain : ℕ → Bool
 is_plain byte = nat_le 0x21 byte && nat_le byte 0x7e && not (byte == 0x5c)
 
@@ -22,11 +22,11 @@ unfoldable pub name_form : List ℕ → List ℕ
 name_form [] = codes "\\e"
 name_form (byte ∷ bytes) = flat_map byte_form (byte ∷ bytes)
 
--- a byte of a name among names that / parts: / as \x2f, any other one as ever
+-- a byte of a name among names that / separates: / as \x2f, any other as usual
 abbrev pub inner_byte_form : ℕ → List ℕ
 inner_byte_form byte = if byte == 0x2f then codes "\\x2f" else byte_form byte
 
--- a name among names that / parts, byte by byte, an empty one as \e
+-- a name among names that / separates, byte by byte, an empty one as \e
 unfoldable pub inner_form : List ℕ → List ℕ
 inner_form [] = codes "\\e"
 inner_form (byte ∷ bytes) = flat_map inner_byte_form (byte ∷ bytes)

@@ -46,7 +46,7 @@ file_line path = line (codes "file") (name_form path)
 abbrev pub pair_form : List ℕ × List ℕ → List ℕ
 pair_form pair = inner_form pair.0 ++ codes "/" ++ inner_form pair.1
 
--- the sublayouts from the outermost down, parted by /, and none as -
+-- the sublayouts, outermost first, separated by /, and none as -
 abbrev pub place_form : List (List ℕ × List ℕ) → List ℕ
 place_form [] = codes "-"
 place_form (pair ∷ pairs) =

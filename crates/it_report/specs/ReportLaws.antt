@@ -16,7 +16,7 @@ use Rattle.it_report.specs.declared.verdict.Verdict.TheVariants.{Accepted, Refus
 abbrev pub FirstLinesTell : Type 0
 FirstLinesTell = (a b : Verdict) → first_line a ≢ first_line b → report_of a ≢ report_of b
 
--- the numbers of a verdict are such as the program has
+-- a verdict's numbers fit in the program's integers
 abbrev pub StepFits : List ℕ × ℕ → Type 0
 StepFits step = step.1 < 2 ^ 64
 
@@ -42,7 +42,7 @@ abbrev pub NumbersFit : Verdict → Type 0
 NumbersFit (Accepted steps files) = All StepFits steps
 NumbersFit (Refused refusal) = FaultFits refusal.fault
 
--- who reads a report knows the verdict
+-- whoever reads a report knows the verdict
 abbrev pub ReportTells : Type 0
 ReportTells = (a b : Verdict) → NumbersFit a → NumbersFit b → report_of a ≡ report_of b → a ≡ b
 
@@ -50,7 +50,7 @@ ReportTells = (a b : Verdict) → NumbersFit a → NumbersFit b → report_of a 
 abbrev pub FormsTell : Type 0
 FormsTell = (a b : List ℕ) → name_form a ≡ name_form b → a ≡ b
 
--- a name that is written is one word of one line: it has no space, no line feed, and nothing else
--- that comes before 0x21
+-- a written name is one word of one line: it has no space, no line feed, and no other byte below
+-- 0x21
 abbrev pub FormsAreWords : Type 0
 FormsAreWords = (name : List ℕ) (byte : ℕ) → byte ≤ 0x20 → ¬ Contains (name_form name) byte

@@ -7,7 +7,7 @@ pub fn first_lines_tell()
     ensures { FirstLinesTell }
 {}
 
-/// Equal reports are of equal verdicts: who reads a report knows all of the verdict.
+/// Equal reports have equal verdicts: whoever reads a report knows the whole verdict.
 pub fn report_tells()
     ensures { ReportTells }
 {}
@@ -17,8 +17,8 @@ pub fn forms_tell()
     ensures { FormsTell }
 {}
 
-/// A name that is written has no space, no line feed and no other byte up to 0x20, so it stays one
-/// word of its line.
+/// A written name has no space, no line feed and no other byte up to 0x20, so it is one word of its
+/// line.
 pub fn forms_are_words()
     ensures { FormsAreWords }
 {}

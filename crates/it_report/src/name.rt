@@ -38,7 +38,7 @@ fn push_bytes(text: &mut Vec<u8>, bytes: &[u8]) -> Result<(), AllocError>
     Ok(())
 }
 
-/// Appends a name that `/` parts from others: as `push_name` does, but a `/` in it as `\x2f`.
+/// Appends a name that `/` separates from others: as `push_name` does, but `/` as `\x2f`.
 ///
 /// # Errors
 ///

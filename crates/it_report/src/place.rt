@@ -1,4 +1,4 @@
-//! The line of a report that says of which layout a refusal speaks.
+//! The line of a report that says which layout a refusal is about.
 ghost use Rattle.std.specs.Prelude.{◌≡◌, ◌++◌, OnOk, codes};
 ghost use Rattle.std.specs.List.{flat_map};
 ghost use Rattle.it_report.specs.Report.{line, pair_form, place_form};

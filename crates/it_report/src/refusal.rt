@@ -12,9 +12,9 @@ use it_docs::rule::Side;
 /// What is wrong with a delivery. Each has a number and a name, which a report writes.
 #[derive(Drop)]
 pub enum Fault {
-    /// The policy does not read. This part is the first that fails.
+    /// The policy does not read. This is the first part that fails.
     BadPolicy(PolicyPart),
-    /// The digest list does not read. This line is the first bad one, counted from 1.
+    /// The digest list does not read. This is the first bad line, counted from 1.
     BadSums(u64),
     /// The moment does not read.
     BadMoment,
@@ -22,11 +22,11 @@ pub enum Fault {
     NoFiles,
     /// The layout's bytes are not an envelope (DSSE v1.0).
     BadEnvelope,
-    /// The layout's envelope is not of the payload type of in-toto.
+    /// The layout's envelope does not have in-toto's payload type.
     WrongPayloadType,
-    /// The owner with this id, the least in the order of bytes, did not sign the layout.
+    /// The owner with this id, the first such in byte order, did not sign the layout.
     OwnerMissing(Text),
-    /// The layout does not read (in-toto 1.0). This part is the first that fails.
+    /// The layout does not read (in-toto 1.0). This is the first part that fails.
     BadLayout(LayoutPart),
     /// A layout's `expires` is before the moment.
     Expired,
@@ -37,7 +37,7 @@ pub enum Fault {
         /// The key id.
         id: Text,
     },
-    /// A sublayout lies deeper than the depth that was given.
+    /// A sublayout is nested deeper than the given depth.
     TooDeep,
     /// Fewer different keys than the step's threshold signed a body that counts.
     Threshold {
@@ -70,22 +70,22 @@ pub enum Fault {
     },
     /// The inspection of this name has no record.
     RecordMissing(Text),
-    /// The record of the inspection of this name is no link of that name.
+    /// The record of the inspection of this name is not a link of that name.
     BadRecord(Text),
     /// No expectation of the policy speaks of the delivered file at this path.
     NoExpectation(Text),
     /// No provenance meets the expectation for the delivered file at this path. The level is the
-    /// greatest of a builder with which some provenance meets the expectation in all but the level,
-    /// or `None` where there is no such builder.
+    /// highest of any builder with which some provenance meets the expectation in all but the
+    /// level, or `None` if there is no such builder.
     NoProvenance(Text, Option<u8>),
 }
 
 /// Why a delivery is refused, and where.
 #[derive(Drop)]
 pub struct Refusal {
-    /// The sublayouts down to the layout of which the fault speaks, the outermost first: each by
-    /// the name of its step and the key id that signed it. Empty for the outermost layout, and for
-    /// a fault that speaks of no layout.
+    /// The sublayouts down to the layout that the fault is about, the outermost first: each by the
+    /// name of its step and the key id that signed it. Empty for the outermost layout, and for a
+    /// fault that is about no layout.
     pub at: Sequence<(Text, Text)>,
     /// What is wrong.
     pub fault: Fault,

@@ -13,9 +13,9 @@ use crate::verdict::Verdict;
 use it_base::text::Text;
 use std::alloc::{AllocError, Global};
 
-/// The report of a verdict, line by line, each with a line feed at its end. The first line is
-/// `accepted`, or `refused` with the number and the name of the fault. Then come the steps with
-/// their numbers of keys and the files, or where the fault is and its details.
+/// The report of a verdict, in lines that each end with a line feed. The first line is `accepted`,
+/// or `refused` with the number and the name of the fault. Then come the steps with their numbers
+/// of keys and the files, or where the fault is and its details.
 ///
 /// # Errors
 ///

@@ -14,7 +14,7 @@ pub enum Verdict {
         /// The paths of the delivered files, in the order of their bytes.
         files: Sequence<Text>,
     },
-    /// Something does not hold: the first that does not.
+    /// Something does not hold: this is the first failure.
     Refused(Refusal),
 }
 
@@ -23,10 +23,9 @@ pub enum Verdict {
 pub struct Answer {
     /// Whether the delivery is accepted.
     pub verdict: Verdict,
-    /// How many answers of checks were asked for, on whether a signature is valid: for the owners
-    /// of the policy, for the links and sublayouts at every depth, and for the provenance, one
-    /// count for all of them. An answer on provenance that is remembered counts for each delivered
-    /// file that asks for it. A number that this cannot hold is given as the
-    /// greatest that it can.
+    /// How many validity checks were asked for: for the owners of the policy, for the links and
+    /// sublayouts at every depth, and for the provenance, in one count. A remembered answer on
+    /// provenance counts for each delivered file that asks for it. A number that this cannot hold
+    /// is given as the greatest that it can.
     pub asked: u64,
 }

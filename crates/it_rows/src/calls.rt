@@ -1,5 +1,5 @@
 //! What the calls of rows give. A row's member `call` names the call; the other members are what it
-//! takes, and `gives` is what it has to give.
+//! takes, and `gives` is what it must give.
 ghost use Rattle.it_tables.specs.Comparison.{IsRowDifference};
 
 use crate::{commands, reports, values};
@@ -21,7 +21,7 @@ impl Trial for Calls {
     }
 }
 
-/// What the first group of calls answers that has a call of this name.
+/// The answer of the first group of calls that has a call of this name.
 fn answer(alloc: Global, row: &Value) -> Result<String, RowFault> {
     let call = text_in(row, "call")?;
     let mut answer = values::answer(alloc, call, row);
@@ -34,7 +34,7 @@ fn answer(alloc: Global, row: &Value) -> Result<String, RowFault> {
     answer
 }
 
-/// Whether the call is none of a group.
+/// Whether a group has no such call.
 fn is_unknown(answer: &Result<String, RowFault>) -> bool {
     matches!(answer, Err(RowFault::UnknownCall))
 }

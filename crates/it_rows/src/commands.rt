@@ -1,8 +1,8 @@
-//! What the command line and the commands give. What a command gives is a line of how it ended, and
-//! then what it wrote.
+//! What the command line and the commands give. A command gives a line on how it ended, and then
+//! what it wrote.
 //!
-//! The keys were written by OpenSSL; their ids and the files of them, the signatures, and the links
-//! and Statements by other programs.
+//! The keys were written by OpenSSL; their ids and the files made of them, the signatures, and the
+//! links and Statements by other programs.
 mod bodies;
 mod bytes;
 mod command_line;

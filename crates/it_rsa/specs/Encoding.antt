@@ -5,7 +5,7 @@ use Rattle.std.specs.Prelude.{take, drop, replicate, slice_index}
 use Rattle.sha2.specs.Sha256.{sha256}
 use Rattle.it_rsa.specs.Mask.{mgf1, xored}
 
--- how many bits of the first byte an encoded message of so many bits has room for
+-- how many bits of the first byte an encoded message of `em_bits` bits uses
 abbrev pub low_bits : List ℕ → ℕ → ℕ
 low_bits em em_bits = 8 - (8 * length em - em_bits)
 
@@ -33,7 +33,7 @@ pub record IsOpened (digest db hash : List ℕ) : Type 0 where
   pub one : slice_index db (length db - 33) ≡ 1
   pub agrees : sha256 (replicate 8 0 ++ digest ++ drop (length db - 32) db) ≡ hash
 
--- bytes encode the message of a digest in that many bits: where EMSA-PSS-VERIFY says "consistent"
+-- bytes encode the message of a digest in that many bits: EMSA-PSS-VERIFY says "consistent"
 pub record IsEncoded (digest em : List ℕ) (em_bits : ℕ) : Type 0 where
   pub room : 66 ≤ length em
   pub trailer : slice_index em (length em - 1) ≡ 0xbc

@@ -12,7 +12,7 @@ long_form tag contents = tag ∷ 130 ∷ big_bytes 2 (length contents) ++ conten
 abbrev pub rsa_encryption : List ℕ
 rsa_encryption = 48 ∷ 13 ∷ 6 ∷ 9 ∷ 42 ∷ 134 ∷ 72 ∷ 134 ∷ 247 ∷ 13 ∷ 1 ∷ 1 ∷ 1 ∷ 5 ∷ 0 ∷ []
 
--- a SEQUENCE of two INTEGERs (RFC 8017, section A.1.1). Before the modulus stands a 0, since its
+-- a SEQUENCE of two INTEGERs (RFC 8017, section A.1.1). A 0 comes before the modulus, since its
 -- first bit is set and it is not negative
 abbrev pub key_sequence : List ℕ → List ℕ → List ℕ
 key_sequence modulus exponent = long_form 48 (long_form 2 (0 ∷ modulus)

@@ -1,5 +1,5 @@
--- The mask generation function MGF1 with SHA-256 (RFC 8017, section B.2.1), and the mask laid on
--- bytes.
+-- The mask generation function MGF1 with SHA-256 (RFC 8017, section B.2.1), and how a mask is
+-- applied.
 use Rattle.std.specs.Prelude.{ℕ, zero, suc, ◌+◌, ◌/◌, List, [], ◌∷◌, ◌++◌, take, bit_xor}
 use Rattle.sha2.specs.Sha256.{sha256}
 use Rattle.it_numbers.specs.Bytes.{big_bytes}
@@ -13,7 +13,7 @@ mask_blocks seed (suc n) = mask_blocks seed n ++ sha256 (seed ++ big_bytes 4 n)
 unfoldable pub mgf1 : List ℕ → ℕ → List ℕ
 mgf1 seed n = take n (mask_blocks seed ((n + 31) / 32))
 
--- byte by byte
+-- exclusive or, byte by byte
 unfoldable pub xored : List ℕ → List ℕ → List ℕ
 xored [] ys = []
 xored (x ∷ xs) [] = []

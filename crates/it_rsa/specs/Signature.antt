@@ -21,7 +21,7 @@ em_length key = (em_bits key + 7) / 8
 abbrev pub representative : Key → List ℕ → ℕ
 representative key signature = power_mod (big signature) key.exponent (big key.modulus)
 
--- the key's signature of a message of that digest
+-- the key's signature of a message with that digest
 pub record IsSignatureOfDigest (key : Key) (digest signature : List ℕ) : Type 0 where
   pub long : length signature ≡ length key.modulus
   pub below : big signature < big key.modulus

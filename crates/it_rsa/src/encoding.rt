@@ -18,7 +18,7 @@ fn all_zero(bytes: &[u8]) -> bool
     bytes.iter().all(|byte| *byte == 0)
 }
 
-/// The digest of a digest with its salt.
+/// The digest of eight zeros, a digest and its salt.
 fn salted(digest: &[u8; 32], salt: &[u8]) -> [u8; 32]
     ensures { result ≡ sha256 (replicate 8 0 ++ digest.now ++ salt.now) }
 {

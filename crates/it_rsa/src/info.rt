@@ -10,7 +10,7 @@ pub(crate) struct KeyParts<'i> {
     pub(crate) exponent: &'i [u8],
 }
 
-/// How many bytes stand before those of the modulus.
+/// How many bytes come before those of the modulus.
 const HEAD_SIZE: usize = 33;
 
 /// The tag of an INTEGER.
@@ -28,7 +28,7 @@ fn low_byte(n: usize) -> u8
     (n % 256) as u8
 }
 
-/// What stands before a modulus of so many bytes, where so many bytes are the exponent's.
+/// What comes before a modulus of `size` bytes, where the exponent has `count` bytes.
 fn head(size: usize, count: usize) -> [u8; HEAD_SIZE]
     requires small { size ≤ 512 }
     requires short { count ≤ 4 }

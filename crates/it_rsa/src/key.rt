@@ -32,9 +32,9 @@ impl Model for PublicKey {
 impl PublicKey {
     /// The key that the bytes encode as a SubjectPublicKeyInfo (RFC 5280, section 4.1.2.7) with the
     /// algorithm rsaEncryption and NULL (RFC 3279, section 2.3.1), in DER. `None` where they encode
-    /// no such key: with a modulus below 2,048 or above 4,096 bits, or whose number of bits is no
-    /// multiple of 8, or even; with an exponent below 3, of 2 ^ 31 or more, or even; with another
-    /// algorithm; in an encoding that is not the shortest, or with anything after.
+    /// no such key: with a modulus that is even, or whose number of bits is below 2,048, above
+    /// 4,096 or no multiple of 8; with an exponent that is even, below 3, or 2 ^ 31 or more; with
+    /// another algorithm; in an encoding that is not the shortest; or with anything after.
     pub fn from_info(info: &[u8]) -> Option<PublicKey>
         ensures { MatchOption result
             ((key : Key) → IsKey key → info.now ≡ info_of key → ⊥)
@@ -77,7 +77,7 @@ impl PublicKey {
         self.modulus.is_above(signature)
     }
 
-    /// Puts the message representative of a signature in its place (RFC 8017, section 5.2.2).
+    /// Replaces a signature by its message representative (RFC 8017, section 5.2.2).
     pub(crate) fn open(&self, signature: &mut [u8])
         requires { length signature.old ≡ length self.now.modulus }
         ensures { signature.new ≡ big_bytes (length self.now.modulus)

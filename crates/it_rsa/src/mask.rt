@@ -6,7 +6,7 @@ ghost use Rattle.it_rsa.specs.Mask.{mgf1, xored};
 
 use sha2::{Digest, Sha256};
 
-/// The digest of two pieces taken as one message.
+/// The digest of two pieces, taken as one message.
 fn digest_of_parts(first: &[u8], second: &[u8]) -> [u8; 32]
     ensures { result ≡ sha256 (first.now ++ second.now) }
 {
@@ -24,7 +24,7 @@ fn mask_block(seed: &[u8], counter: u8) -> [u8; 32]
     digest_of_parts(seed, &bytes)
 }
 
-/// Takes the mask of a seed off, or lays it on.
+/// Applies the mask of a seed, or removes it.
 pub(crate) fn unmask(bytes: &mut [u8], seed: &[u8])
     requires { length bytes.old ≤ 512 }
     ensures { bytes.new ≡ xored bytes.old (mgf1 seed.now (length bytes.old)) }

@@ -17,7 +17,7 @@ pub fn is_signature(key: &PublicKey, message: &[&[u8]], signature: &[u8]) -> boo
     is_signature_of_digest(key, &message_digest(message), signature)
 }
 
-/// The same of a message whose SHA-256 is given, so that one message is hashed once for many keys
+/// The same for a message whose SHA-256 is given, so that one message is hashed once for many keys
 /// and signatures. A signature of another length than the modulus costs no arithmetic.
 pub fn is_signature_of_digest(key: &PublicKey, digest: &[u8; 32], signature: &[u8]) -> bool
     ensures { IsTrue result ↔ IsSignatureOfDigest key.now digest.now signature.now }

@@ -1,5 +1,5 @@
--- A layout without rules: its steps have the records that those of the layout have before their
--- rules are judged (in-toto 1.0 section 5.2, verifying the final product).
+-- A layout without rules: its steps have the records that the original's have before their rules
+-- are judged (in-toto 1.0 section 5.2, verifying the final product).
 use Rattle.std.specs.Prelude.{◌≡◌, ℕ, List, []}
 use Rattle.std.specs.List.{AllZip}
 use Rattle.it_docs.specs.declared.layout.Layout.{Layout}
@@ -17,14 +17,14 @@ pub record IsBareStep (step bare : Step) : Type 0 where
   pub no_materials : bare.expected_materials ≡ []
   pub no_products : bare.expected_products ≡ []
 
--- the layout with its steps without their rules, and without its inspections
+-- the layout without the rules of its steps, and without its inspections
 pub record IsBare (layout bare : Layout) : Type 0 where
   pub expires_is : bare.expires ≡ layout.expires
   pub keys_are : bare.keys ≡ layout.keys
   pub steps_are : AllZip IsBareStep layout.steps bare.steps
   pub no_inspections : bare.inspections ≡ []
 
--- the records of a layout's steps over a bundle, whether its rules hold over them or not
+-- the records of a layout's steps over a bundle, whether or not its rules hold over them
 pub record AreRecords (setting : Setting) (depth : ℕ) (layout : Layout) (bundle : Contents)
     (results : List StepResult) : Type 0 where
   pub bare : Layout

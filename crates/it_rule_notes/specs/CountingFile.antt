@@ -9,7 +9,7 @@ use Rattle.it_chain.specs.CountedBodies.{Counted, Setting}
 use Rattle.it_chain.specs.declared.bundle.File.{File}
 use Rattle.it_rule_notes.specs.declared.counting_file.CountingFile.{CountingFile}
 
--- what a panel and a moment make
+-- the setting of a panel and a moment
 abbrev pub setting_of : Panel → ℤ → Setting
 setting_of panel moment = record { panel = panel; moment = moment }
 

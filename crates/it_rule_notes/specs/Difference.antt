@@ -12,7 +12,7 @@ abbrev pub recorded_on : Side → Link → ArtifactMap
 recorded_on Materials link = link.materials
 recorded_on Products link = link.products
 
--- on the side, the links have not the same digests at the path
+-- on the side, the links do not have the same digests at the path
 abbrev pub IsDifference : Link → Link → Difference → Type 0
 IsDifference one other found =
     get (recorded_on found.side one) found.path ≢ get (recorded_on found.side other) found.path

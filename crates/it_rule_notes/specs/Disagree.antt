@@ -1,5 +1,5 @@
--- What a note tells of two links that differ (in-toto 1.0 section 5.2; that all must agree is this
--- profile's choice).
+-- What a note says about two links that differ (in-toto 1.0 section 5.2; that all must agree is
+-- this profile's choice).
 use Rattle.std.specs.Prelude.{◌≡◌, ℕ, List, [], ◌++◌, Contains, codes}
 use Rattle.it_docs.specs.declared.layout.Layout.{Layout}
 use Rattle.it_docs.specs.declared.step.Step.{Step}
@@ -20,7 +20,7 @@ pub record IsOtherLink (setting : Setting) (layout : Layout) (bundle : Contents)
   pub holds : HoldsLink setting layout bundle step other.file
   pub differs : IsDifference first.link other.file.link other.difference
 
--- both files hold links that count for the step, and these differ there
+-- both files hold links that count for the step, and the links differ there
 pub record TellsDisagree (setting : Setting) (layout : Layout) (bundle : Contents)
     (note : DisagreeNote) : Type 0 where
   pub step : Step

@@ -1,4 +1,4 @@
--- What a note tells of a layout's expiry (in-toto 1.0 section 4.3, `expires`).
+-- What a note says about a layout's expiry (in-toto 1.0 section 4.3, `expires`).
 use Rattle.std.specs.Prelude.{◌≡◌, ◌<ℤ◌, ℕ, ℤ, List, [], ◌++◌, codes}
 use Rattle.it_base.specs.Document.{OfDocument}
 use Rattle.it_base.specs.Parts.{IsPart}
@@ -7,7 +7,7 @@ use Rattle.it_docs.specs.Moment.{MomentOf}
 use Rattle.it_rule_notes.specs.Line.{told_form}
 use Rattle.it_rule_notes.specs.declared.expiry_note.ExpiryNote.{ExpiryNote}
 
--- two texts are moments, of which the first is before the second
+-- two texts are moments, the first before the second
 pub record IsBefore (first second : List ℕ) : Type 0 where
   pub earlier : ℤ
   pub later : ℤ
@@ -15,8 +15,8 @@ pub record IsBefore (first second : List ℕ) : Type 0 where
   pub is_later : MomentOf second later
   pub is_before : earlier <ℤ later
 
--- the member `expires` of the layout is written so, it is before the moment, and the moment is the
--- one that was given
+-- the layout's `expires` is written like this and is before the moment, and the moment is the one
+-- that was given
 pub record TellsExpiry (body moment : List ℕ) (note : ExpiryNote) : Type 0 where
   pub is_written : OfDocument (IsPart IsText (codes "expires")) body note.expires
   pub moment_is : note.moment ≡ moment

@@ -1,4 +1,4 @@
--- What an artifact rule that is judged meets (in-toto 1.0 section 4.3.3).
+-- What a judged artifact rule meets (in-toto 1.0 section 4.3.3).
 use Rattle.std.specs.Prelude.{◌≡◌, ℕ, ◌<◌, List, ◌++◌, Bool, true, false, Some, All}
 use Rattle.std.specs.Prelude.{Contains, codes, decimal}
 use Rattle.std.specs.Bool.{OnTrue}
@@ -16,7 +16,7 @@ use Rattle.it_rule_notes.specs.declared.met.ForbiddenPaths.{ForbiddenPaths}
 use Rattle.it_rule_notes.specs.declared.met.Met.{Met}
 use Rattle.it_rule_notes.specs.declared.met.Met.TheVariants.{Forbidden, Consumed, Absent}
 
--- rules that are judged on a side of an item, over what items recorded under their names
+-- rules judged on a side of an item, over what items recorded under their names
 pub record Judging : Type 0 where
   pub rules : List Rule
   pub side : Side
@@ -36,13 +36,13 @@ module _ (judging : Judging) where
     pub is_left : IsLeftAt index path
     pub is_match : IsMatch pattern path
 
-  -- such a path that is none of these
+  -- such a path that is not one of these
   pub record IsOther (index : ℕ) (pattern : List ℕ) (paths : List (List ℕ)) : Type 0 where
     pub path : List ℕ
     pub forbidden : IsForbidden index pattern path
     pub is_other : ¬ Contains paths path
 
-  -- a DISALLOW at the index forbids each of the paths, and others too where that is said
+  -- a DISALLOW at the index forbids each of the paths, and others too if `others` is true
   pub record AreForbiddenBy (index : ℕ) (pattern : List ℕ) (forbidden : ForbiddenPaths)
       : Type 0 where
     pub each : All (IsForbidden index pattern) forbidden.paths

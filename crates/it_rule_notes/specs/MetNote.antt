@@ -1,4 +1,4 @@
--- What a note tells of a step's artifact rule that failed (in-toto 1.0 section 4.3.3).
+-- What a note says about a step's artifact rule that failed (in-toto 1.0 section 4.3.3).
 use Rattle.std.specs.Prelude.{◌≡◌, ℕ, List, ◌++◌, Contains}
 use Rattle.it_docs.specs.declared.layout.Layout.{Layout}
 use Rattle.it_docs.specs.declared.rule.Side.{Side}

@@ -1,4 +1,4 @@
--- What a note tells of an owner of a policy (in-toto 1.0 section 5.2; who the owners are is this
+-- What a note says about an owner of a policy (in-toto 1.0 section 5.2; who the owners are is this
 -- profile's choice).
 use Rattle.std.specs.FinMap.{get}
 use Rattle.std.specs.Prelude.{◌≡◌, ℕ, List, Some, codes}
@@ -29,7 +29,7 @@ module _ (panel : Panel) (envelope : Envelope) (owners : Named KeyObject) where
   TellsOwner (Signed id) = HasSigned id
   TellsOwner (Unsigned id) = HasNotSigned id
 
--- the note is on this owner, an id with its key object, and says whether that key signed
+-- the note is about this owner, an id with its key object, and says whether that key signed
 abbrev pub IsOnOwner : Panel → Envelope → List ℕ × KeyObject → OwnerNote → Type 0
 IsOnOwner panel envelope owner (Signed id) =
     (id ≡ owner.0) × IsSigner panel envelope owner.1 owner.0

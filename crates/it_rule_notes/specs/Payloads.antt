@@ -1,4 +1,4 @@
--- What a note tells of two bodies that count for one key id (in-toto 1.0 section 5.2; that no two
+-- What a note says about two bodies that count for one key id (in-toto 1.0 section 5.2; that no two
 -- may differ is this profile's choice).
 use Rattle.std.specs.Prelude.{◌≡◌, ◌≢◌, ℕ, List, [], ◌++◌, Contains, codes}
 use Rattle.it_docs.specs.declared.layout.Layout.{Layout}

@@ -1,4 +1,4 @@
--- What a note tells of an artifact rule (in-toto 1.0 section 4.3.3).
+-- What a note says about an artifact rule (in-toto 1.0 section 4.3.3).
 use Rattle.std.specs.Prelude.{◌≡◌, ℕ, List, ◌++◌, Some, codes}
 use Rattle.std.specs.List.{flat_map, slice_get}
 use Rattle.it_docs.specs.Rule.{RuleOf}
@@ -10,7 +10,7 @@ use Rattle.it_rule_notes.specs.RuleWords.{words_of_rule}
 use Rattle.it_rule_notes.specs.declared.rule_note.RuleNote.{RuleNote}
 use Rattle.it_rule_notes.specs.declared.rule_place.RulePlace.{RulePlace}
 
--- the words are the rule that stands at a place, as the standard writes it
+-- the words are the rule at a place, as the standard writes it
 pub record AreWordsAt (layout : Layout) (deliver : List Rule) (place : RulePlace)
     (words : List (List ℕ)) : Type 0 where
   pub rules : List Rule

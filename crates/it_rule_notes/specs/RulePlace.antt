@@ -21,7 +21,7 @@ abbrev pub inspection_rules : Side → Inspection → List Rule
 inspection_rules Materials inspection = inspection.expected_materials
 inspection_rules Products inspection = inspection.expected_products
 
--- what is delivered has rules on products alone
+-- what is delivered has rules on products only
 abbrev pub AreDeliverRules : List Rule → Side → List Rule → Type 0
 AreDeliverRules deliver Materials rules = ⊥
 AreDeliverRules deliver Products rules = rules ≡ deliver
@@ -36,7 +36,7 @@ AreRulesAt layout deliver (of_inspection name) side rules =
     × (rules ≡ inspection_rules side inspection)
 AreRulesAt layout deliver of_delivery side rules = AreDeliverRules deliver side rules
 
--- the document that the rules of an item stand in (this project's words)
+-- the document that holds the rules of an item (this project's words)
 abbrev pub document_form : RuleItem → List ℕ
 document_form (of_step name) = codes "layout"
 document_form (of_inspection name) = codes "layout"

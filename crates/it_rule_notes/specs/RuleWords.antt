@@ -11,7 +11,7 @@ abbrev pub side_word : Side → List ℕ
 side_word Materials = codes "MATERIALS"
 side_word Products = codes "PRODUCTS"
 
--- IN and the prefix, and nothing where it is empty
+-- IN and the prefix, or nothing if it is empty
 abbrev pub prefix_words : List ℕ → List (List ℕ)
 prefix_words [] = []
 prefix_words (byte ∷ bytes) = codes "IN" ∷ (byte ∷ bytes) ∷ []
@@ -20,7 +20,7 @@ prefix_words (byte ∷ bytes) = codes "IN" ∷ (byte ∷ bytes) ∷ []
 abbrev pub source_words : List ℕ → List ℕ → List (List ℕ)
 source_words pattern source = codes "MATCH" ∷ pattern ∷ prefix_words source
 
--- what stands behind: the side and the prefix in the named step, and the step's name
+-- what follows: the side and the prefix in the named step, and the step's name
 abbrev pub target_words : Side → List ℕ → List ℕ → List (List ℕ)
 target_words side target step =
     codes "WITH" ∷ side_word side ∷ prefix_words target ++ codes "FROM" ∷ step ∷ []

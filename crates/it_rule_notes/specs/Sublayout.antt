@@ -1,4 +1,4 @@
--- What a note tells of a sublayout (in-toto 1.0 section 5.2, verifying the final product).
+-- What a note says about a sublayout (in-toto 1.0 section 5.2, verifying the final product).
 use Rattle.std.specs.Prelude.{◌≡◌, ℕ, List, ◌++◌, Contains, codes}
 use Rattle.it_docs.specs.declared.layout.Layout.{Layout}
 use Rattle.it_docs.specs.declared.step.Step.{Step}

@@ -68,7 +68,7 @@ pub(crate) fn counting_files(
     Ok(found)
 }
 
-/// Keeps a file behind the others, where there is one.
+/// Appends a file to the others, if there is one.
 fn keep(found: &mut Vec<CountingFile>, file: Option<CountingFile>) -> Result<(), AllocError>
     ensures { OnOk result (found.new.items ≡ found.old.items ++ cons_option file []) }
 {
@@ -78,7 +78,7 @@ fn keep(found: &mut Vec<CountingFile>, file: Option<CountingFile>) -> Result<(),
     Ok(())
 }
 
-/// The key id with its key object, where the step lists it and the layout has it.
+/// The key id with its key object, if the step lists the id and the layout has the object.
 fn listed<'a>(layout: &'a Layout, step: &Step, id: &'a str) -> Option<Signer<'a>>
     ensures { IfSome result (λ signer.
         (signer.id.now ≡ id.now) × IsListed layout.now step.now signer) }
@@ -101,7 +101,7 @@ fn lists(ids: &[Text], id: &str) -> bool
     false
 }
 
-/// What counts in a file for a step, where the signer's key signed it.
+/// What counts for a step in a file, if the signer's key signed it.
 fn counting_file(
     alloc: Global,
     file: &File,
@@ -143,7 +143,7 @@ fn is_claimed(step: &str, name: &str) -> bool
     }
 }
 
-/// The envelope of the type of in-toto that the bytes are.
+/// The envelope of the in-toto type in the bytes.
 fn envelope_in(alloc: Global, bytes: &[u8]) -> Result<Option<Envelope>, AllocError>
     ensures { IfOk result (λ found. IfSome found (IsEnvelope bytes.now)) }
 {

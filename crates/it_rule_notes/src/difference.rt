@@ -11,7 +11,7 @@ use it_docs::link::Link;
 use it_docs::rule::Side;
 use std::alloc::{AllocError, Global};
 
-/// A path of one side.
+/// A path on one side.
 #[derive(Drop)]
 pub struct Difference {
     /// The side.
@@ -20,8 +20,8 @@ pub struct Difference {
     pub path: Text,
 }
 
-/// A path at which two links have different digests, or of which only one has any: of the materials
-/// the least such path in the order of bytes, and else the least of the products.
+/// A path at which two links have different digests, or only one has any: the least such path, in
+/// byte order, of the materials, otherwise of the products.
 pub(crate) fn difference_of(
     alloc: Global,
     one: &Link,
@@ -61,7 +61,7 @@ fn differing_path(
     }
 }
 
-/// The first path of a map at which another has other digests, or none.
+/// The first path of a map at which another has different digests, or none.
 fn path_in(
     alloc: Global,
     artifacts: &Artifacts,

@@ -24,7 +24,7 @@ pub struct OtherLink {
     pub difference: Difference,
 }
 
-/// Two files that hold links of a step which both count and differ.
+/// Two files with links of a step that both count and differ.
 #[derive(Drop)]
 pub struct DisagreeNote {
     /// The name of the step.
@@ -35,8 +35,8 @@ pub struct DisagreeNote {
     pub second: OtherLink,
 }
 
-/// Says which file of a step holds another link than the file of a key id, and where the two differ
-/// (in-toto 1.0, section 5.2; that all must agree is this profile's choice).
+/// Says which file of a step holds a different link from the file of a key id, and where they
+/// differ (in-toto 1.0, section 5.2; that all must agree is this profile's choice).
 ///
 /// `step` is the name of a step of the layout of `level`, `id` the key id, and `panel` the checks
 /// that are asked. The answer is `None` where no link for a key id of the step differs from that of

@@ -13,7 +13,7 @@ use it_base::text::Text;
 use it_docs::moment::read_moment;
 use std::alloc::{AllocError, Global};
 
-/// A layout's `expires`, and a moment that is after it, as they are written.
+/// A layout's `expires`, and a later moment, as written.
 #[derive(Drop)]
 pub struct ExpiryNote {
     /// The member `expires` of the layout.
@@ -24,9 +24,9 @@ pub struct ExpiryNote {
 
 /// Says when a layout expired (in-toto 1.0, section 4.3, `expires`).
 ///
-/// `body` is the body of the layout's envelope, and `moment` the moment of the verification, as it
-/// is written. The answer is `None` where the layout has not expired at the moment, or one of the
-/// two is not written as a moment.
+/// `body` is the payload of the layout's envelope, and `moment` the moment of the verification, as
+/// written. The answer is `None` where the layout has not expired by that moment, or one of the two
+/// is not written as a moment.
 ///
 /// # Errors
 ///

@@ -1,4 +1,4 @@
-//! Artifact rules that are judged on a side of an item.
+//! Artifact rules judged on a side of an item.
 ghost use Rattle.std.specs.Bool.{OnTrue};
 ghost use Rattle.std.specs.Prelude.{◌↔◌, IfOk, IsTrue, MatchOption};
 ghost use Rattle.it_rules.specs.Item.{artifacts_on, links_of, recorded_of};
@@ -21,7 +21,7 @@ pub(crate) struct JudgedRules<'a> {
     pub side: Side,
     /// The item that they judge.
     pub item: Item<'a>,
-    /// What items recorded under their names, which all differ.
+    /// What items recorded, under their names, which all differ.
     pub links: &'a [Named<'a>],
 }
 
@@ -57,7 +57,7 @@ pub(crate) fn first_claim<'a>(
     Ok(None)
 }
 
-/// Whether a path stands on the side that is judged.
+/// Whether a path is on the side that is judged.
 pub(crate) fn stands(judged: &JudgedRules, path: &str) -> bool
     ensures { IsTrue result
         ↔ Stands (artifacts_on judged.now.side (recorded_of judged.now.item)) path.now }

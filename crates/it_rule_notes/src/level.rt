@@ -7,8 +7,8 @@ use it_docs::layout::Layout;
 pub struct Level<'a> {
     /// The layout at which a delivery was refused.
     pub layout: &'a Layout,
-    /// The files that the layout is checked against: for a sublayout those of its folder.
+    /// The files that the layout is checked against: for a sublayout, those of its folder.
     pub links: &'a Bundle,
-    /// The moment of the verification, in seconds from 1970-01-01T00:00:00Z.
+    /// The moment of the verification, in seconds since 1970-01-01T00:00:00Z.
     pub moment: i64,
 }

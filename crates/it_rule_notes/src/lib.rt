@@ -1,5 +1,5 @@
-//! Notes on refusals: sentences about what a verification was given, which say more of a fault than
-//! its report does. A note is made only where its sentence holds.
+//! Notes on refusals: sentences about what a verification was given, which say more about a fault
+//! than its report does. A note is made only if its sentence is true.
 #![tactic(auto)]
 
 mod bare_layout;

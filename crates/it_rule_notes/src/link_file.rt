@@ -21,7 +21,7 @@ pub struct LinkFile {
     pub id: Text,
     /// The name of the file in the layout's folder.
     pub name: Text,
-    /// What it records.
+    /// The link.
     pub link: Link,
 }
 

@@ -1,4 +1,4 @@
-//! What an artifact rule that is judged meets.
+//! What a judged artifact rule meets.
 ghost use Rattle.std.specs.List.{slice_get};
 ghost use Rattle.std.specs.Prelude.{◌≡◌, ◌++◌, IfOk, IfSome, OnOk, Some};
 ghost use Rattle.it_docs.specs.Rule.{RuleOf};
@@ -19,7 +19,7 @@ use it_docs::rule::Rule;
 use it_glob::Pattern;
 use std::alloc::{AllocError, Global};
 
-/// How many paths a note on a rule names.
+/// The most paths that a note on a rule names.
 const MOST_PATHS: usize = 10;
 
 /// What a rule met.
@@ -36,7 +36,7 @@ pub enum Met {
 /// Paths that a rule forbids.
 #[derive(Drop)]
 pub struct ForbiddenPaths {
-    /// The first ten at most, in the order of bytes.
+    /// At most the first ten, in byte order.
     pub paths: Sequence<Text>,
     /// Whether the rule forbids others too.
     pub others: bool,
@@ -47,7 +47,7 @@ pub struct ForbiddenPaths {
 pub struct ConsumedPath {
     /// The path.
     pub path: Text,
-    /// The place of the rule that consumed it in its list, from 0.
+    /// The place in its list, from 0, of the rule that consumed it.
     pub index: usize,
     /// The words of that rule.
     pub words: Sequence<Text>,
@@ -115,7 +115,7 @@ fn forbidden_paths(
     })
 }
 
-/// Why the path of the `REQUIRE` at the index is not among those that are left to it.
+/// Why the path of the `REQUIRE` at the index is not among those left to it.
 fn required(
     alloc: Global,
     judged: &JudgedRules,
@@ -147,7 +147,7 @@ fn consumed(alloc: Global, path: &str, claim: &Claim) -> Result<ConsumedPath, Al
     })
 }
 
-/// Appends what was met, behind where the rule stands.
+/// Appends what was met, after where the rule stands.
 pub(crate) fn push_met(text: &mut Vec<u8>, met: &Met) -> Result<(), AllocError>
     ensures { OnOk result (text.new.items ≡ text.old.items ++ met_form met.now) }
 {

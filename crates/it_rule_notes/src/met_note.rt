@@ -1,4 +1,4 @@
-//! What an artifact rule of a step that failed met.
+//! What a failed artifact rule of a step met.
 ghost use Rattle.std.specs.Prelude.{◌≡◌, ◌≤◌, ◌++◌, Contains, IfOk, IfSome, OnOk, map};
 ghost use Rattle.it_chain.specs.StepRules.{links_in};
 ghost use Rattle.it_chain.specs.declared.refusal.RuleItem.TheVariants.{Step as of_step};
@@ -20,7 +20,7 @@ use it_docs::step::Step;
 use it_dsse::check::SignatureCheck;
 use std::alloc::{AllocError, Global};
 
-/// A rule by where it stands, and what it met.
+/// Where a rule stands, and what it met.
 #[derive(Drop)]
 pub struct MetNote {
     /// Where the rule stands.
@@ -29,14 +29,14 @@ pub struct MetNote {
     pub met: Met,
 }
 
-/// Says what a rule of a step met that failed (in-toto 1.0, section 4.3.3): of a `DISALLOW` the
-/// paths that it forbids, the first ten at most, and of a `REQUIRE` the earlier rule that consumed
-/// its path, or that it is not there.
+/// Says what a failed rule of a step met (in-toto 1.0, section 4.3.3): for a `DISALLOW`, the paths
+/// that it forbids, at most the first ten; for a `REQUIRE`, the earlier rule that consumed its
+/// path, or that the path is not there.
 ///
 /// `place` is where the rule stands, `panel` are the checks that are asked, and sublayouts of
-/// `level` may lie up to `depth` deep, at most 8. The answer has the rule's place and what it met.
+/// `level` may be up to `depth` deep, at most 8. The answer has the rule's place and what it met.
 /// It is `None` where no rule of a step stands there, where the rule is neither of the two or does
-/// not fail, and where the steps have no records: where something but their rules fails.
+/// not fail, and where the steps have no records because something other than their rules fails.
 ///
 /// # Errors
 ///
@@ -67,7 +67,7 @@ pub fn met_note(
     Ok(Some(MetNote { place, met }))
 }
 
-/// The step that an item is.
+/// The step that an item names.
 fn step_of<'a>(layout: &'a Layout, item: &RuleItem) -> Option<&'a Step>
     ensures { IfSome result (λ step. Contains layout.now.steps step.now
         × (item.now ≡ of_step step.now.name)) }
@@ -78,7 +78,7 @@ fn step_of<'a>(layout: &'a Layout, item: &RuleItem) -> Option<&'a Step>
     }
 }
 
-/// What the rule of a step at an index meets over the records.
+/// What a step's rule at an index meets over the records.
 fn met_over(
     alloc: Global,
     results: &[StepResult],

@@ -15,7 +15,7 @@ use it_dsse::key_object::KeyObject;
 use it_dsse::meter::Meter;
 use std::alloc::{AllocError, Global};
 
-/// What is so of an owner and the layout's envelope.
+/// Whether an owner signed the layout's envelope.
 #[derive(Drop)]
 pub enum OwnerNote {
     /// The key of the owner with this id signed the envelope.
@@ -24,8 +24,8 @@ pub enum OwnerNote {
     Unsigned(Text),
 }
 
-/// Says of each owner, in the order of the ids' bytes, whether the owner's key signed the envelope
-/// of the layout (in-toto 1.0, section 5.2).
+/// Says for each owner, in byte order of the ids, whether the owner's key signed the envelope of
+/// the layout (in-toto 1.0, section 5.2).
 ///
 /// `owners` are the key objects of a policy's owners under their ids, and `panel` the checks that
 /// are asked. The answer has one note for each owner.
@@ -52,7 +52,7 @@ pub fn owner_notes(
     Ok(notes)
 }
 
-/// Says whether the key that an id and an object name signed the envelope.
+/// Says whether the key with this id and object signed the envelope.
 fn owner_note(
     alloc: Global,
     id: &str,

@@ -12,7 +12,7 @@ use it_base::text::Text;
 use it_dsse::check::SignatureCheck;
 use std::alloc::{AllocError, Global};
 
-/// Two files that hold bodies for one key id of a step which both count and differ.
+/// Two files with bodies that both count for one key id of a step, and differ.
 #[derive(Drop)]
 pub struct PayloadsNote {
     /// The name of the step.
@@ -61,7 +61,7 @@ pub fn payloads_note(
     }))
 }
 
-/// The first of the files, and one with another body.
+/// The first of the files, and one with a different body.
 fn differing(files: &[CountingFile]) -> Option<(&CountingFile, &CountingFile)>
     ensures { IfSome result (λ pair. Contains files.now pair.0.now × Contains files.now pair.1.now
         × (pair.0.now.payload ≢ pair.1.now.payload)) }

@@ -13,7 +13,7 @@ use it_docs::rule::Side;
 use it_report::name::push_name;
 use std::alloc::{AllocError, Global};
 
-/// A rule by its words.
+/// A rule in its words.
 #[derive(Drop)]
 pub struct RuleNote {
     /// Where the rule stands.
@@ -22,7 +22,7 @@ pub struct RuleNote {
     pub words: Sequence<Text>,
 }
 
-/// Says what the rule of an item on a side is that has this place in its list, from 0 (in-toto 1.0,
+/// Says which rule is at this place, from 0, in the list of an item for a side (in-toto 1.0,
 /// section 4.3.3).
 ///
 /// The answer has the rule's place and its words, or is `None` where no rule stands there.
@@ -86,7 +86,7 @@ impl RuleNote {
     }
 }
 
-/// Appends words, each behind a space.
+/// Appends words, each after a space.
 pub(crate) fn push_words(text: &mut Vec<u8>, words: &[Text]) -> Result<(), AllocError>
     ensures { OnOk result (text.new.items ≡ text.old.items ++ flat_map word_form words.now) }
 {

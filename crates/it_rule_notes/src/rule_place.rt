@@ -14,7 +14,7 @@ use it_docs::rule::{Rule, Side};
 use it_docs::step::{Inspection, Step};
 use std::alloc::{AllocError, Global};
 
-/// The rules that a refusal can speak of.
+/// The rules that a refusal can be about.
 #[derive(Drop)]
 pub struct RuleBook<'a> {
     /// The layout at which a delivery was refused.

@@ -90,7 +90,7 @@ fn push_target(
     push_word(alloc, words, step.as_str())
 }
 
-/// Appends `IN` and the prefix, and nothing where it is empty.
+/// Appends `IN` and the prefix, or nothing if it is empty.
 fn push_prefix(alloc: Global, words: &mut Vec<Text>, prefix: &str) -> Result<(), AllocError>
     ensures { OnOk result (words.new.items ≡ words.old.items ++ prefix_words prefix.now) }
 {

@@ -1,4 +1,4 @@
-//! The records of the steps of a layout over a bundle, whether its rules hold over it or not.
+//! The records of the steps of a layout over a bundle, whether or not its rules hold over it.
 ghost use Rattle.std.specs.Prelude.{◌≡◌, ◌≤◌, Contains, IfOk, IfSome, map};
 ghost use Rattle.it_chain.specs.StepRules.{links_in, recorded_in};
 ghost use Rattle.it_dsse.specs.Panel.{panel_of};
@@ -17,7 +17,7 @@ use it_dsse::meter::Meter;
 use it_rules::item::{Item, Named};
 use std::alloc::{AllocError, Global};
 
-/// The records of the steps of a level, where sublayouts may lie up to `depth` deep.
+/// The records of the steps of a level, where sublayouts may be up to `depth` deep.
 pub(crate) fn step_records(
     alloc: Global,
     level: &Level,
@@ -75,7 +75,7 @@ pub(crate) fn links_to(alloc: Global, results: &[StepResult]) -> Result<Vec<Name
     Ok(links)
 }
 
-/// What a record lends.
+/// The lent artifacts of a record.
 pub(crate) fn item_of(found: &StepResult) -> Item<'_>
     ensures { recorded_of result ≡ recorded_in found.now }
 {

@@ -1,5 +1,5 @@
 -- The prefixes of a MATCH rule (in-toto 1.0, section 4.3.3). This profile's choices: a prefix names
--- a folder, and is taken literally; an empty prefix is none.
+-- a folder, and is taken literally; an empty prefix is no prefix.
 use Rattle.std.specs.Prelude.{ℕ, Bool, ◌&&◌, not, if◌then◌else◌, List, ◌++◌, codes, nat_eq}
 use Rattle.std.specs.List.{ends_with}
 use Rattle.std.specs.Str.{bytes_eq}

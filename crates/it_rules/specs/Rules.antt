@@ -1,4 +1,4 @@
--- Artifact rules (in-toto 1.0, section 4.3.3). No queue stands here: each path is judged by itself
+-- Artifact rules (in-toto 1.0, section 4.3.3). There is no queue here: each path is judged alone
 -- over the whole list of rules, and a rule sees earlier ones only through the paths that they
 -- claim. Paths are in the order of their bytes.
 use Rattle.std.specs.Prelude.{◌≡◌, ◌≢◌, ℕ, ◌<◌, List, ◌++◌, Some, Contains, AllPairs, ⊤, IsTrue}
@@ -22,12 +22,12 @@ use Rattle.it_rules.specs.Item.{Recorded, Links, artifacts_on}
 abbrev pub IsMatch : List ℕ → List ℕ → Type 0
 IsMatch pattern path = Matches (items_of pattern) path
 
--- a path stands in a map
+-- a path is in a map
 abbrev pub Stands : ArtifactMap → List ℕ → Type 0
 Stands artifacts path = IsTrue (contains_key artifacts path)
 
--- MATCH claims a path of these artifacts: without the source prefix the pattern matches it, and
--- with the target prefix instead the named item has it on the given side, with digests that agree
+-- MATCH claims a path of these artifacts: the pattern matches it without the source prefix, and the
+-- named item has it under the target prefix instead, on the given side, with digests that agree
 pub record MatchClaims (pattern source : List ℕ) (linked_side : Side) (target from : List ℕ)
     (artifacts : ArtifactMap) (links : Links) (path : List ℕ) : Type 0 where
   pub rest : List ℕ
@@ -42,20 +42,20 @@ pub record MatchClaims (pattern source : List ℕ) (linked_side : Side) (target 
       get (artifacts_on linked_side linked) (folder_prefix target ++ rest) ≡ Some there
   pub digests_agree : Agree here there
 
--- CREATE claims a product that is no material
+-- CREATE claims a product that is not a material
 pub record CreateClaims (pattern : List ℕ) (item : Recorded) (path : List ℕ) : Type 0 where
   pub is_match : IsMatch pattern path
   pub is_product : Stands item.products path
   pub is_no_material : ¬ Stands item.materials path
 
--- DELETE claims a material that is no product
+-- DELETE claims a material that is not a product
 pub record DeleteClaims (pattern : List ℕ) (item : Recorded) (path : List ℕ) : Type 0 where
   pub is_match : IsMatch pattern path
   pub is_material : Stands item.materials path
   pub is_no_product : ¬ Stands item.products path
 
--- MODIFY claims what is both, with digests that differ (this profile's choice: digests that have no
--- algorithm in common are not enough)
+-- MODIFY claims a material that is also a product, with digests that differ (this profile's choice:
+-- digests with no algorithm in common are not enough)
 pub record ModifyClaims (pattern : List ℕ) (item : Recorded) (path : List ℕ) : Type 0 where
   pub before : DigestSet
   pub after : DigestSet
@@ -105,8 +105,8 @@ pub record IsLeastMatch (pattern : List ℕ) (Free : List ℕ → Type 0) (path 
   pub is_least : (other : List ℕ) → Free other → IsMatch pattern other
       → slice_cmp nat_cmp other path ≢ Less
 
--- the path with which a rule fails: of DISALLOW the least free path that it matches, of REQUIRE its
--- text
+-- the path with which a rule fails: for DISALLOW the least free path that it matches, for REQUIRE
+-- its text
 abbrev pub FailsWith : Rule → (List ℕ → Type 0) → List ℕ → Type 0
 FailsWith (Disallow pattern) Free path = IsLeastMatch pattern Free path
 FailsWith (Require text) Free path = path ≡ text
@@ -120,6 +120,6 @@ pub record IsFirstFault (rules : List Rule) (side : Side) (item : Recorded) (lin
   pub path_is : (rule : Rule) → slice_get rules index ≡ Some rule
       → FailsWith rule (IsFree rules side item links index) path
 
--- no name stands twice
+-- no name occurs twice
 abbrev pub NamesDiffer : Links → Type 0
 NamesDiffer links = AllPairs (λ a b. a.0 ≢ b.0) links

@@ -27,8 +27,8 @@ struct Target<'a> {
     prefix: &'a str,
 }
 
-/// Whether a `rule` of an `item` claims a `path` of a `side` (in-toto 1.0, section 4.3.3). `links`
-/// are what items recorded under their names, all different, for `MATCH`. `DISALLOW` and `REQUIRE`
+/// Whether a `rule` of an `item` claims a `path` of a `side` (in-toto 1.0, section 4.3.3). `links`,
+/// for `MATCH`, are what items recorded, under names that all differ. `DISALLOW` and `REQUIRE`
 /// claim nothing.
 ///
 /// # Errors
@@ -124,7 +124,7 @@ fn allow_claims(pattern: &Pattern, path: &str) -> bool
     pattern.matches(path)
 }
 
-/// The digests of what lies below a folder's prefix.
+/// The digests of the artifact at a path below a folder's prefix.
 fn digests_under(
     alloc: Global,
     artifacts: &Artifacts,
@@ -141,7 +141,7 @@ fn digests_under(
     Ok(artifacts.get(path.as_str()))
 }
 
-/// Whether both digest sets are there and agree.
+/// Whether both digest sets exist and agree.
 fn agree(here: Option<DigestSet>, there: Option<DigestSet>) -> bool
     ensures { IsTrue result ↔ MatchOption here ⊥ (λ a. MatchOption there ⊥ (λ b. Agree a b)) }
 {
@@ -151,7 +151,7 @@ fn agree(here: Option<DigestSet>, there: Option<DigestSet>) -> bool
     }
 }
 
-/// Whether both digest sets are there and differ.
+/// Whether both digest sets exist and differ.
 fn differ(before: Option<DigestSet>, after: Option<DigestSet>) -> bool
     ensures { IsTrue result ↔ MatchOption before ⊥ (λ a. MatchOption after ⊥ (λ b. Differ a b)) }
 {

@@ -8,8 +8,8 @@ use crate::item::Named;
 use it_docs::rule::Rule;
 use std::slice;
 
-/// Those of the links that a rule looks at: a `MATCH` at the one that it names. So the name is
-/// looked for once for a rule, and not for each path.
+/// The links that a rule looks at: for a `MATCH`, only the one that it names. So the name is looked
+/// up once per rule, not once per path.
 pub(crate) fn looked_at<'a, 'b>(rule: &Rule, links: &'b [Named<'a>]) -> &'b [Named<'a>]
     requires { NamesDiffer (links_of links.now) }
     ensures differ { NamesDiffer (links_of result.now) }

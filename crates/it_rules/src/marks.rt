@@ -24,7 +24,7 @@ pub(crate) fn paths_of(alloc: Global, artifacts: &Artifacts) -> Result<Vec<&str>
     Ok(paths)
 }
 
-/// Marks the paths that a rule claims among those without a mark.
+/// Marks each unmarked path that a rule claims.
 pub(crate) fn consume(
     alloc: Global,
     paths: &[&str],
@@ -51,7 +51,7 @@ pub(crate) fn consume(
     Ok(())
 }
 
-/// The least path without a mark that a pattern matches.
+/// The least unmarked path that a pattern matches.
 pub(crate) fn least_match<'a>(
     paths: &[&'a str],
     marks: &[bool],
@@ -72,7 +72,7 @@ pub(crate) fn least_match<'a>(
     None
 }
 
-/// Whether a path stands among the paths, without a mark.
+/// Whether a path is among the paths and unmarked.
 pub(crate) fn is_left(paths: &[&str], marks: &[bool], path: &str) -> bool
     requires paths { ArePaths paths.now }
     requires marks { length marks.now ≡ length paths.now }

@@ -1,4 +1,4 @@
-//! The run of a list of rules.
+//! Running a list of rules.
 ghost use Rattle.std.specs.Prelude.{◌≡◌, ◌↔◌, length, IfOk, IfSome, IsNone, MatchOption};
 ghost use Rattle.it_rules.specs.Item.{links_of, recorded_of};
 ghost use Rattle.it_rules.specs.inside.Marks.{ArePaths, IsLeft};
@@ -15,8 +15,8 @@ use std::alloc::{AllocError, Global};
 pub struct RuleFault {
     /// The index of the rule in its list, from 0.
     pub index: usize,
-    /// The path with which it fails: of `DISALLOW` the least unconsumed path that it matches, in
-    /// the order of bytes; of `REQUIRE` its own text.
+    /// The path with which it fails: for `DISALLOW`, the least unconsumed path that it matches, in
+    /// the order of bytes; for `REQUIRE`, its own text.
     pub path: Text,
 }
 
@@ -26,7 +26,7 @@ pub struct RuleFault {
 /// `side` is the side of `item` that is judged, and `links` are the items that `MATCH` rules may
 /// name, under names that all differ. A `MATCH` from a name that is not there consumes nothing.
 ///
-/// The answer is `None` where every rule holds, and else the first that does not.
+/// The answer is `None` where every rule holds, otherwise the first that does not.
 ///
 /// # Errors
 ///
@@ -57,7 +57,7 @@ pub fn run_rules(
     Ok(None)
 }
 
-/// The path with which a rule fails over the paths without a mark, if it does.
+/// The path with which a rule fails over the unmarked paths, if it does.
 fn failing_path<'a>(rule: &'a Rule, paths: &[&'a str], marks: &[bool]) -> Option<&'a str>
     requires paths { ArePaths paths.now }
     requires marks { length marks.now ≡ length paths.now }
@@ -73,7 +73,7 @@ fn failing_path<'a>(rule: &'a Rule, paths: &[&'a str], marks: &[bool]) -> Option
     }
 }
 
-/// The path, where it does not stand among the paths without a mark.
+/// The path, if it is not among the unmarked paths.
 fn missing<'a>(paths: &[&'a str], marks: &[bool], path: &'a str) -> Option<&'a str>
     requires paths { ArePaths paths.now }
     requires marks { length marks.now ≡ length paths.now }

@@ -1,4 +1,4 @@
--- What a note tells of the folder of a sublayout (in-toto 1.0 section 4.4; the name of the folder
+-- What a note says about the folder of a sublayout (in-toto 1.0 section 4.4; the name of the folder
 -- is this profile's choice).
 use Rattle.std.specs.Prelude.{◌≡◌, ℕ, List, ◌++◌, None, codes}
 use Rattle.it_chain.specs.Contents.{Contents, folder_at}

@@ -1,4 +1,4 @@
--- The lines that tell notes to people (this project's choice).
+-- The lines of notes for people (this project's choice).
 use Rattle.std.specs.Prelude.{ℕ, List, [], ◌++◌, codes}
 use Rattle.std.specs.List.{flat_map}
 use Rattle.it_report.specs.Name.{name_form}
@@ -10,11 +10,11 @@ use Rattle.it_step_notes.specs.declared.note.StepNote.{StepNote}
 use Rattle.it_step_notes.specs.declared.note.StepNote.TheVariants.{File as of_file, NoFile}
 use Rattle.it_step_notes.specs.declared.note.StepNote.TheVariants.{NoKeyObject, NearlyClaims}
 
--- a name behind a prefix
+-- a name after a prefix
 abbrev pub behind : List ℕ → List ℕ → List ℕ
 behind prefix name = prefix ++ name_form name
 
--- what is said of a file that is this for the step
+-- what is said of a file with this finding
 abbrev pub phrase_of : Finding → List ℕ
 phrase_of NoEnvelope = codes ": no DSSE envelope"
 phrase_of (PayloadType other) = codes ": of another payload type,"

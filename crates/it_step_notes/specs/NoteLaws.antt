@@ -1,4 +1,4 @@
--- What the findings on files have to do with what counts for a step.
+-- How the findings on files relate to what counts for a step.
 use Rattle.std.specs.Prelude.{◌≡◌, ◌≢◌, ℕ, List, All, Contains}
 use Rattle.it_docs.specs.declared.layout.Layout.{Layout}
 use Rattle.it_docs.specs.declared.step.Step.{Step}
@@ -25,7 +25,7 @@ module _ (setting : Setting) (layout : Layout) (bundle : Contents) (step : Step)
       pub counted : Counted setting layout bundle step id payload
       pub file_is : counted.file ≡ file
 
-    -- what a finding tells of what counts
+    -- what a finding says about what counts
     abbrev pub Tells : Finding → Type 0
     Tells NoEnvelope = CountsNever
     Tells (PayloadType other) = CountsNever
@@ -34,7 +34,7 @@ module _ (setting : Setting) (layout : Layout) (bundle : Contents) (step : Step)
     Tells (OtherName name) = CountsNever
     Tells (Counts ids) = All CountsUnder ids
 
--- the finding on a file of the bundle that is claimed for the step tells it
+-- what a finding on a file of the bundle that is claimed for the step says is true
 abbrev pub FindingsTell : Type 0
 FindingsTell =
     (setting : Setting) (layout : Layout) (bundle : Contents) (step : Step) (file : File)

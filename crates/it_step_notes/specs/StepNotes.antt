@@ -1,5 +1,5 @@
 -- What the notes on a step of a layout over a bundle say (words of this project; what counts for a
--- step is said in in-toto 1.0 sections 4.4 and 5.2).
+-- step is defined in in-toto 1.0 sections 4.4 and 5.2).
 use Rattle.std.specs.Prelude.{◌≡◌, ◌≢◌, ℕ, List, [], ◌++◌, None, All, Any, Contains}
 use Rattle.std.specs.Prelude.{IsTrue, codes, nat_eq}
 use Rattle.std.specs.FinMap.{get, keys}
@@ -28,7 +28,7 @@ use Rattle.it_step_notes.specs.declared.note.StepNote.{StepNote}
 use Rattle.it_step_notes.specs.declared.note.StepNote.TheVariants.{File as of_file, NoFile}
 use Rattle.it_step_notes.specs.declared.note.StepNote.TheVariants.{NoKeyObject, NearlyClaims}
 
--- a name begins so and ends with `.link`
+-- a name has this front and ends with `.link`
 abbrev pub HasEnds : List ℕ → List ℕ → Type 0
 HasEnds front name = IsTrue (starts_with nat_eq name front)
     × IsTrue (ends_with nat_eq name (codes ".link"))
@@ -49,15 +49,15 @@ pub record IsOtherLink (step payload name : List ℕ) : Type 0 where
   pub name_is : link.name ≡ name
   pub other : name ≢ step
 
--- why a payload is no body for a step
+-- why a payload is not a body for a step
 abbrev pub IsNoBody : List ℕ → List ℕ → Finding → Type 0
 IsNoBody step payload NeitherLinkNorLayout = IsNeither payload
 IsNoBody step payload (OtherName name) = IsOtherLink step payload name
 IsNoBody step payload _ = ⊥
 
 module _ (panel : Panel) (layout : Layout) (step : Step) where
-  -- the envelope is of the type of in-toto, has a body for the step, and is signed under these
-  -- ids, of which there are some and which the step lists
+  -- the envelope is of the in-toto type, has a body for the step, and is signed under these ids, at
+  -- least one, all of which the step lists
   pub record CountsFor (envelope : Envelope) (ids : List (List ℕ)) : Type 0 where
     pub some : ids ≢ []
     pub type_is : envelope.payload_type ≡ in_toto_type
@@ -66,8 +66,8 @@ module _ (panel : Panel) (layout : Layout) (step : Step) where
     pub listed : All (Contains step.pubkeys) ids
     pub signed : All (IsSignedUnder panel layout envelope) ids
 
-  -- the envelope is signed under no id that the step lists; of the layout's ids, each of which
-  -- stands there once, these others are those that its signatures name and under which it is signed
+  -- the envelope is signed under no id that the step lists; these others are those of the layout's
+  -- ids, each once, that its signatures name and under which it is signed
   pub record IsUnsigned (envelope : Envelope) (others : List (List ℕ)) : Type 0 where
     pub unsigned : (id : List ℕ) → Contains step.pubkeys id
         → ¬ IsSignedUnder panel layout envelope id
@@ -89,7 +89,7 @@ module _ (panel : Panel) (layout : Layout) (step : Step) where
       × IsFindingOf envelope finding
 
 module _ (panel : Panel) (layout : Layout) (bundle : Contents) (step : Step) where
-  -- a file of the bundle that has this name is claimed for the step, and is this for it
+  -- a file of the bundle with this name is claimed for the step, and this is the finding on it
   pub record HasFinding (name : List ℕ) (finding : Finding) : Type 0 where
     pub file : File
     pub stands : Contains (files_of bundle) file
@@ -97,18 +97,18 @@ module _ (panel : Panel) (layout : Layout) (bundle : Contents) (step : Step) whe
     pub claimed : IsClaimed step.name file.name
     pub is_so : IsFinding panel layout step file.bytes finding
 
-  -- the step lists an id of which the layout has no key
+  -- the step lists an id for which the layout has no key
   pub record LacksKey (id : List ℕ) : Type 0 where
     pub listed : Contains step.pubkeys id
     pub unknown : get layout.keys id ≡ None
 
-  -- the step lists an id, and no file has the name that its link has (in-toto 1.0 section 4.4)
+  -- the step lists an id, and no file has the name of its link (in-toto 1.0 section 4.4)
   pub record LacksFile (id name : List ℕ) : Type 0 where
     pub listed : Contains step.pubkeys id
     pub name_is : name ≡ folder_name step.name id ++ codes ".link"
     pub none : ¬ Any (λ file. file.name ≡ name) (files_of bundle)
 
-  -- a file of the bundle has this name, which is near to claim it for the step, but does not
+  -- a file of the bundle has this name, which nearly claims it for the step, but does not
   pub record NearlyClaimed (name : List ℕ) : Type 0 where
     pub file : File
     pub stands : Contains (files_of bundle) file

@@ -1,5 +1,4 @@
--- What it means that a step of a layout and a key id lead down to a sublayout (in-toto 1.0 sections
--- 4.4 and 5.2).
+-- When a step of a layout and a key id lead down to a sublayout (in-toto 1.0 sections 4.4 and 5.2).
 use Rattle.std.specs.Prelude.{◌≡◌, ℕ, List, Contains}
 use Rattle.it_dsse.specs.Panel.{Panel}
 use Rattle.it_docs.specs.PayloadType.{in_toto_type}
@@ -13,8 +12,8 @@ use Rattle.it_step_notes.specs.Signing.{IsSignedUnder}
 use Rattle.it_step_notes.specs.declared.signed_layout.SignedLayout.{SignedLayout}
 
 module _ (panel : Panel) (layout : Layout) where
-  -- the bytes are an envelope of the type of in-toto, whose payload is a layout that is signed
-  -- under an id
+  -- the bytes are an envelope of the in-toto type that is signed under an id, and its payload is a
+  -- layout
   pub record HoldsLayout (id bytes : List ℕ) (below : SignedLayout) : Type 0 where
     pub is_layout : IsSignedLayout bytes below
     pub type_is : below.envelope.payload_type ≡ in_toto_type
@@ -34,7 +33,7 @@ module _ (panel : Panel) (layout : Layout) where
       pub stands : Contains (files_of bundle) file
       pub is_in : IsSublayoutIn step id file below
 
-    -- for the step of this name
+    -- the same for the step of this name
     pub record LeadsDown (name id : List ℕ) (below : SignedLayout) : Type 0 where
       pub step : Step
       pub stands : Contains layout.steps step

@@ -14,7 +14,7 @@ use it_chain::bundle::File;
 use it_dsse::check::SignatureCheck;
 use std::alloc::{AllocError, Global};
 
-/// Adds what each file that is claimed for the step is for it.
+/// Adds what is found in each file that is claimed for the step.
 pub(crate) fn push_file_notes(
     alloc: Global,
     at: &StepAt,

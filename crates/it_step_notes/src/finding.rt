@@ -1,4 +1,4 @@
-//! What a file that is claimed for a step is for that step.
+//! What is found in a file that is claimed for a step.
 ghost use Rattle.std.specs.Prelude.{◌↔◌, IfOk, IsTrue, MatchOption, map};
 ghost use Rattle.it_dsse.specs.Panel.{panel_of};
 ghost use Rattle.it_docs.specs.Layout.{LayoutOf};
@@ -17,7 +17,7 @@ use it_dsse::envelope::Envelope;
 use it_dsse::payload_type::IN_TOTO;
 use std::alloc::{AllocError, Global};
 
-/// What a file's bytes are for a step.
+/// What is found in a file's bytes for a step.
 pub(crate) fn finding_in(
     alloc: Global,
     at: &StepAt,

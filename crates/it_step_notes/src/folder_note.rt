@@ -1,4 +1,4 @@
-//! The folder of a sublayout, where it is missing.
+//! The missing folder of a sublayout.
 ghost use Rattle.std.specs.Prelude.{◌≡◌, ◌++◌, IfOk, OnOk};
 ghost use Rattle.it_base.specs.Finds.{Finds};
 ghost use Rattle.it_step_notes.specs.Folder.{LacksFolder, folder_line};
@@ -9,15 +9,15 @@ use it_chain::folder_name;
 use it_report::name::push_name;
 use std::alloc::{AllocError, Global};
 
-/// A folder for the files of a sublayout that is missing.
+/// A missing folder for the files of a sublayout.
 #[derive(Drop)]
 pub struct FolderNote {
     /// The name that the folder would have in the folder of the layout above.
     pub folder: Text,
 }
 
-/// Says that a bundle has no folder for the sublayout that the key id `id` signed for the step of
-/// the name `step` (in-toto 1.0 section 4.4). A missing folder counts as an empty one.
+/// Says that a bundle has no folder for the sublayout that the key id `id` signed for the step
+/// named `step` (in-toto 1.0 section 4.4). A missing folder counts as an empty one.
 ///
 /// The answer is `None` where the folder is there.
 ///

@@ -5,7 +5,7 @@ ghost use Rattle.std.specs.List.{cons_option};
 use crate::note::StepNote;
 use std::alloc::AllocError;
 
-/// Adds a note behind the others, where there is one.
+/// Appends a note to the others, if there is one.
 pub(crate) fn keep(notes: &mut Vec<StepNote>, note: Option<StepNote>) -> Result<(), AllocError>
     ensures { OnOk result (notes.new.items ≡ notes.old.items ++ cons_option note []) }
 {

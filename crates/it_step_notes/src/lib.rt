@@ -1,5 +1,5 @@
 //! The notes on a step for which too few keys signed: why the files that are claimed for it do not
-//! count, and what is odd about its key ids and about files near to it. Each note is true.
+//! count, and what is odd about its key ids and nearly matching file names. Each note is true.
 #![tactic(auto)]
 
 mod claimed;

@@ -1,21 +1,21 @@
-//! What is noted of a step.
+//! Notes on a step.
 use it_base::sequence::Sequence;
 use it_base::text::Text;
 
-/// What a file that is claimed for a step is for that step.
+/// What is found in a file that is claimed for a step.
 #[derive(Drop)]
 pub enum Finding {
-    /// Its bytes are no DSSE envelope.
+    /// Its bytes are not a DSSE envelope.
     NoEnvelope,
-    /// The payload type of its envelope is this one, and not that of in-toto.
+    /// The payload type of its envelope is this one, not that of in-toto.
     PayloadType(Text),
-    /// It has no valid signature of a key id that the step lists and the layout has a key for. It
-    /// is signed under these key ids of the layout, each once, which its signatures name and the
-    /// step does not list.
+    /// It has no valid signature under a key id that the step lists and the layout has a key for.
+    /// It is signed under these key ids of the layout, each given once, which its signatures name
+    /// and the step does not list.
     NoSignature(Sequence<Text>),
     /// Its payload is neither a link nor a layout.
     NeitherLinkNorLayout,
-    /// Its payload is a link that bears this name, which is not the step's.
+    /// Its payload is a link with this name, which is not the step's.
     OtherName(Text),
     /// It counts for these key ids.
     Counts(Sequence<Text>),
@@ -24,11 +24,11 @@ pub enum Finding {
 /// Something that is true of a step of a layout over a bundle.
 #[derive(Drop)]
 pub enum StepNote {
-    /// What a file that is claimed for the step is for it.
+    /// What is found in a file that is claimed for the step.
     File {
         /// The name of the file.
         name: Text,
-        /// What it is.
+        /// What is found in it.
         finding: Finding,
     },
     /// The layout has no key object for a key id that the step lists.

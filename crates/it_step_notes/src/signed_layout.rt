@@ -19,8 +19,8 @@ pub struct SignedLayout {
 }
 
 impl SignedLayout {
-    /// The layout in the envelope that the `bytes` are, or `None` where they are no envelope or its
-    /// payload is no layout.
+    /// The layout in the envelope in `bytes`, or `None` where they are not an envelope or its
+    /// payload is not a layout.
     ///
     /// # Errors
     ///
@@ -34,7 +34,7 @@ impl SignedLayout {
         SignedLayout::in_envelope(alloc, envelope)
     }
 
-    /// The layout that the payload of an envelope is, with that envelope.
+    /// The layout in the payload of an envelope, with that envelope.
     pub(crate) fn in_envelope(
         alloc: Global,
         envelope: Envelope,

@@ -14,7 +14,7 @@ use it_dsse::is_signer;
 use it_dsse::meter::Meter;
 use std::alloc::{AllocError, Global};
 
-/// Those of the step's key ids that signed the envelope by the layout's keys.
+/// Those of the step's key ids whose keys in the layout signed the envelope.
 pub(crate) fn signing_ids(
     alloc: Global,
     at: &StepAt,
@@ -33,8 +33,8 @@ pub(crate) fn signing_ids(
     Ok(ids)
 }
 
-/// Those of the layout's key ids that the signatures of the envelope name and by whose keys it is
-/// signed, each once, in the order of their bytes.
+/// Those of the layout's key ids that the signatures of the envelope name and whose keys signed it,
+/// each once, in byte order.
 pub(crate) fn other_ids(
     alloc: Global,
     at: &StepAt,
@@ -53,7 +53,7 @@ pub(crate) fn other_ids(
     Ok(ids)
 }
 
-/// Whether a signature of the envelope names a key id of the layout under which it is signed.
+/// Whether the envelope is signed under a key id of the layout that one of its signatures names.
 fn is_named_signer(
     layout: &Layout,
     envelope: &Envelope,

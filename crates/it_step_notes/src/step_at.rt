@@ -1,4 +1,4 @@
-//! A step, and where it is looked at.
+//! A step, with its layout and bundle.
 use it_chain::bundle::Bundle;
 use it_docs::layout::Layout;
 use it_docs::step::Step;

@@ -1,4 +1,4 @@
-//! Down to a sublayout (in-toto 1.0 sections 4.4 and 5.2).
+//! From a layout down to a sublayout (in-toto 1.0 sections 4.4 and 5.2).
 ghost use Rattle.std.specs.Prelude.{◌≡◌, ◌≢◌, ◌↔◌, All, Contains, IfOk, IfSome, IsTrue};
 ghost use Rattle.std.specs.Prelude.{MatchOption, map, option_map};
 ghost use Rattle.it_base.specs.Finds.{Finds, FindsAs};
@@ -127,7 +127,7 @@ fn sublayout_in(
     signed_layout(alloc, at.layout, id, file.bytes.as_slice(), panel)
 }
 
-/// The layout that the payload of an envelope is, which is signed under a key id.
+/// The layout in the payload of an envelope that is signed under a key id.
 fn signed_layout(
     alloc: Global,
     layout: &Layout,

@@ -14,9 +14,9 @@ use it_docs::step::Step;
 use it_dsse::check::SignatureCheck;
 use std::alloc::{AllocError, Global};
 
-/// Notes on a step of a layout over a bundle, of which each is true: for each file that is claimed
-/// for the step, in the order of the files, why it doesn't count, or for which key ids it does; for
-/// each key id that the step lists, whether the layout has no key for it, and whether no file bears
+/// Notes on a step of a layout over a bundle, each of them true: for each file that is claimed for
+/// the step, in the order of the files, why it does not count, or for which key ids it does; for
+/// each key id that the step lists, whether the layout has no key for it, and whether no file has
 /// the name of its link; and each file whose name nearly claims it for the step (in-toto 1.0
 /// sections 4.4 and 5.2). Signatures are checked by the `panel`.
 ///

@@ -1,4 +1,4 @@
--- The status that a program ends with which tries tables (this profile's choice).
+-- The status that a program that tries tables ends with (this profile's choice).
 use Rattle.std.specs.Prelude.{ℕ, Bool, true, false, Result, Ok, Err}
 use Rattle.it_tables.specs.declared.fault.Fault.{Fault}
 use Rattle.it_tables.specs.declared.fault.Fault.TheVariants.{OutOfMemory}

@@ -8,8 +8,8 @@ use crate::row_fault::RowFault;
 use serde_json::Value;
 use std::alloc::Global;
 
-/// What is given in place of what a row wants, its member `gives`, in words, or `None` where it is
-/// that.
+/// How what is given differs from what a row wants, its member `gives`, in words, or `None` where
+/// the two are the same.
 ///
 /// # Errors
 ///

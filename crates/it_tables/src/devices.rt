@@ -3,7 +3,7 @@ use std::alloc::{AllocError, Global};
 use std::io;
 use std::io::{ErrorKind, Read, Write};
 
-/// The words of a line, each two with a space between them.
+/// The words of a line, with single spaces between them.
 pub fn words(alloc: Global, line: &str) -> Result<Vec<String>, AllocError> {
     let mut words = Vec::new(alloc);
     for word in line.split(' ') {
@@ -12,7 +12,7 @@ pub fn words(alloc: Global, line: &str) -> Result<Vec<String>, AllocError> {
     Ok(words)
 }
 
-/// The text of so many lists, each inside the one before.
+/// The text of `levels` lists, each inside the one before.
 pub fn nested(alloc: Global, levels: usize) -> Result<String, AllocError> {
     let mut text = String::new(alloc);
     for _ in 0..levels {
@@ -24,8 +24,8 @@ pub fn nested(alloc: Global, levels: usize) -> Result<String, AllocError> {
     Ok(text)
 }
 
-/// Takes `most` bytes at most at a write. Once it holds as many as it has room for, it answers an
-/// error or takes nothing, once, and has room for more from then on.
+/// A writer that takes at most `most` bytes per write. Once it is full, it returns an error or
+/// takes nothing, once, and has room for more from then on.
 #[derive(Drop)]
 pub struct Pipe {
     /// What it took.
@@ -34,16 +34,16 @@ pub struct Pipe {
     pub room: usize,
     /// How many bytes it takes at a write.
     pub most: usize,
-    /// How it answers once it is full.
+    /// How it behaves once it is full.
     pub full: Full,
 }
 
-/// How a pipe that is full answers.
+/// How a full pipe behaves.
 #[derive(Clone, Copy, Debug)]
 pub enum Full {
-    /// With an error.
+    /// It returns an error.
     AnswersAnError,
-    /// With none of the bytes.
+    /// It takes none of the bytes.
     TakesNothing,
 }
 
@@ -67,12 +67,12 @@ impl Write for Pipe {
     }
 }
 
-/// Gives the same byte one read at a time, so many times, and fails at the read with this number.
+/// A reader that gives the same byte `bytes` times, one per read, and fails at read `fails_at`.
 #[derive(Drop)]
 pub struct Source {
     /// How many bytes it has.
     pub bytes: u64,
-    /// How many reads there were.
+    /// How many reads there have been.
     pub reads: u64,
     /// The number of the read that fails, counted from 1.
     pub fails_at: Option<u64>,

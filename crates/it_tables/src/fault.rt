@@ -1,4 +1,4 @@
-//! Why a program stops that tries tables, as its notes say it.
+//! Why a program that tries tables stops, as its notes say it.
 ghost use Rattle.std.specs.Prelude.{◌≡◌};
 ghost use Rattle.it_tables.specs.Status.{program_status};
 
@@ -7,7 +7,7 @@ use std::alloc::{AllocError, AllocFailed, Global};
 use std::io;
 use thiserror::Error;
 
-/// Why a program stops that tries tables.
+/// Why a program that tries tables stops.
 #[derive(Debug, Drop, Error)]
 pub(crate) enum Fault {
     /// The system did not give the words.
@@ -18,7 +18,7 @@ pub(crate) enum Fault {
     Unreadable {
         path: String,
     },
-    /// A line of a file is not answered, for this reason. Lines are counted from 1.
+    /// A line of a file is not tried, for this reason. Lines are counted from 1.
     #[error("{path}, line {line}: {reason}")]
     BadRow {
         path: String,
@@ -57,7 +57,7 @@ impl Fault {
         }
     }
 
-    /// The fault of a line that is not answered. Lines are counted from 1, `index` from 0.
+    /// The fault of a line that is not tried. Lines are counted from 1, `index` from 0.
     pub(crate) fn of_row(alloc: Global, path: &str, index: usize, reason: RowFault) -> Fault {
         if reason == RowFault::OutOfMemory {
             return Fault::OutOfMemory;
@@ -72,8 +72,8 @@ impl Fault {
         }
     }
 
-    /// The fault of words that the system did not give, or of an output that was not written: want
-    /// of memory, or another.
+    /// The fault of words that the system did not give, or of an output that was not written:
+    /// memory was refused, or `other`.
     pub(crate) fn of_stream(error: &io::Error, other: Fault) -> Fault {
         match error.kind() {
             io::ErrorKind::OutOfMemory => Fault::OutOfMemory,
@@ -82,8 +82,8 @@ impl Fault {
     }
 }
 
-/// The status that the program ends with: 0 where all rows agree, 1 where one does not, 3 for want
-/// of memory, and 2 for every other fault.
+/// The status that the program ends with: 0 where all rows agree, 1 where one does not, 3 where
+/// memory was refused, and 2 for every other fault.
 pub(crate) fn exit_status(outcome: &Result<bool, Fault>) -> u8
     ensures { result ≡ program_status outcome.now }
 {

@@ -1,4 +1,4 @@
-//! Tables, the data that the tests of this project are: what the programs share that try them.
+//! Tables, which are the test data of this project: what the programs that try them share.
 //!
 //! A table is a file with a JSON document on each line. A program says what a document wants and
 //! whether that is given (`Trial`); `run_tables` does the rest.

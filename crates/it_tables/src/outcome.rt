@@ -10,7 +10,7 @@ use std::io::Write;
 pub(crate) enum Outcome {
     /// The answer is the one that is wanted.
     Agrees,
-    /// It is not: the place of the row, and both answers, as a line for people.
+    /// It is not; a line for people gives the place of the row and both answers.
     Differs(String),
 }
 

@@ -5,11 +5,11 @@ use it_dsse::ring::{HmacRing, RingFault};
 use serde_json::Value;
 use std::alloc::Global;
 
-/// The ring that the bytes of a member of this name are.
+/// The ring in the bytes of a member of this name.
 ///
 /// # Errors
 ///
-/// `BadMember` where they are none; `OutOfMemory` where memory was refused.
+/// `BadMember` where they are no ring; `OutOfMemory` where memory was refused.
 pub fn read_ring(alloc: Global, bytes: &[u8], name: &'static str) -> Result<HmacRing, RowFault> {
     match HmacRing::read(alloc, bytes) {
         Ok(ring) => Ok(ring),
@@ -22,7 +22,7 @@ pub fn read_ring(alloc: Global, bytes: &[u8], name: &'static str) -> Result<Hmac
 ///
 /// # Errors
 ///
-/// `BadMember` where there is no `ring`, or it is none; `OutOfMemory` where memory was refused.
+/// `BadMember` where there is no `ring`, or it is no ring; `OutOfMemory` where memory was refused.
 pub fn ring_in(alloc: Global, row: &Value) -> Result<HmacRing, RowFault> {
     read_ring(alloc, text_in(row, "ring")?.as_bytes(), "ring")
 }

@@ -51,7 +51,7 @@ pub fn number_in(row: &Value, name: &'static str) -> Result<u64, RowFault>
         .ok_or(RowFault::BadMember(name))
 }
 
-/// The whole number below 2^64 that the member of this name is, or `None` where there is none.
+/// The whole number below 2^64 that the member of this name is, or `None` where it is not one.
 pub fn number_if(row: &Value, name: &str) -> Option<u64> {
     member(row, name)?.as_u64()
 }
@@ -65,8 +65,7 @@ pub fn is_set(row: &Value, name: &str) -> bool {
 ///
 /// # Errors
 ///
-/// `BadMember` where there is none, or it is no bytes; `OutOfMemory` where memory was
-/// refused.
+/// `BadMember` where there is none, or it gives no bytes; `OutOfMemory` where memory was refused.
 pub fn bytes_part(alloc: Global, row: &Value, name: &'static str) -> Result<Sequence<u8>, RowFault>
     ensures { IfOk result (IsPart IsBytes name.now (view row.now)) }
 {
@@ -88,7 +87,7 @@ pub fn bytes_of(alloc: Global, value: &Value) -> Result<Option<Sequence<u8>>, Al
 ///
 /// # Errors
 ///
-/// As of `bytes_part`.
+/// Those of `bytes_part`.
 pub fn bytes_in(alloc: Global, row: &Value, name: &'static str) -> Result<Vec<u8>, RowFault> {
     Ok(bytes_part(alloc, row, name)?.into_vec())
 }

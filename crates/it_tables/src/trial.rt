@@ -13,11 +13,11 @@ pub trait Trial {
     // how a document differs from what it wants: nothing where it agrees
     ghost is_difference: { Data → Option (String Global) → Type 0 };
 
-    /// What there is in place of what a document wants, in words, or `None` where it agrees.
+    /// How a document differs from what it wants, in words, or `None` where it agrees.
     ///
     /// # Errors
     ///
-    /// Says why the document is not tried: a member is missing or unfit, its call is not known, or
+    /// Says why the document is not tried: a member is missing or unfit, its call is unknown, or
     /// memory was refused.
     fn difference(&self, alloc: Global, document: &Value) -> Result<Option<String>, RowFault>
         ensures { IfOk result (is_difference (view document.now)) };

@@ -19,7 +19,7 @@ Holds kind key (Signature signed) = IsSignatureOf kind key signed.message signed
 abbrev pub Agrees : Vector → Type 0
 Agrees vector = IsTrue vector.wanted ↔ Holds vector.kind vector.key vector.tried
 
--- how a document differs: it is a vector, and differs not at all where that agrees
+-- how a document differs: it is a vector, and there is no difference exactly where that agrees
 pub record IsDifference (document : Data) (difference : Option (String Global)) : Type 0 where
   pub vector : Vector
   pub is_vector : IsVector document vector

@@ -22,8 +22,8 @@ pub record IsSigned (d : Data) (signed : Signed) : Type 0 where
   pub message : IsPart IsHexadecimal (codes "message") d signed.message
   pub signature : IsPart IsHexadecimal (codes "signature") d signed.signature
 
--- where there is a member `is_key`, the key alone is tried, and that is what is wanted; else a
--- signature is tried, and what is wanted is the member `valid`
+-- where there is a member `is_key`, the key alone is tried, and `is_key` says what is wanted;
+-- otherwise a signature is tried, and the member `valid` says what is wanted
 abbrev pub Tries : Data → Tried → Bool → Type 0
 Tries d KeyAlone wanted = IsPart IsBoolean (codes "is_key") d wanted
 Tries d (Signature signed) wanted = (member_at (codes "is_key") d ≡ None) × IsSigned d signed

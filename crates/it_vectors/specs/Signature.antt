@@ -10,7 +10,7 @@ use Rattle.it_vectors.specs.Key.{IsP256Info, IsRsaInfo}
 use Rattle.it_vectors.specs.declared.kind.Kind.{Kind}
 use Rattle.it_vectors.specs.declared.kind.Kind.TheVariants.{Ed25519, P256, P256Digest, Rsa}
 
--- the bytes are a key of P-256, and its signature of what has the 32 bytes of this digest
+-- the bytes are a key of P-256, and its signature of a message with this digest of 32 bytes
 abbrev pub IsSignedDigest : (info digest signature : List ℕ) → Type 0
 IsSignedDigest info digest signature = (length digest ≡ 32)
     × ((key : P256Key) × IsP256Info info key × IsSignatureOfDigest key digest signature)

@@ -9,21 +9,21 @@ use crate::ed25519::{is_ed25519_key, is_ed25519_signature};
 use crate::p256::{is_p256_key, is_p256_signature, is_p256_signature_of_digest};
 use crate::rsa::{is_rsa_key, is_rsa_signature};
 
-/// What a vector's key and signature are of.
+/// The kind of a vector's key and signature.
 #[derive(Clone, Copy)]
 pub(crate) enum Kind {
     /// Ed25519 (RFC 8032). A key is its 32 bytes.
     Ed25519,
     /// ECDSA over P-256 with SHA-256 (FIPS 186-5). A key is a SubjectPublicKeyInfo.
     P256,
-    /// The same, where the message's SHA-256 is given in its place.
+    /// The same, but with the message's SHA-256 in place of the message.
     P256Digest,
     /// RSASSA-PSS with SHA-256 (RFC 8017). A key is a SubjectPublicKeyInfo.
     Rsa,
 }
 
 impl Kind {
-    /// The kind that a vector names so, or `None` where none has that name.
+    /// The kind that a vector names this way, or `None` where none has this name.
     pub(crate) fn named(name: &str) -> Option<Kind>
         ensures { Finds (λ kind. name_of kind ≡ name.now) result }
     {
@@ -36,7 +36,7 @@ impl Kind {
         }
     }
 
-    /// Whether the bytes are a public key of this kind, by the library of the kind.
+    /// Whether the bytes are a public key of this kind, by that kind's library.
     pub(crate) fn takes_key(self, key: &[u8]) -> bool
         ensures { IsTrue result ↔ IsKeyOf self key.now }
     {
@@ -48,8 +48,8 @@ impl Kind {
         }
     }
 
-    /// Whether the bytes are a public key of this kind and its signature of the message, by the
-    /// library of the kind.
+    /// Whether the bytes are a public key of this kind and its signature of the message, by that
+    /// kind's library.
     pub(crate) fn takes_signature(self, key: &[u8], message: &[u8], signature: &[u8]) -> bool
         ensures { IsTrue result ↔ IsSignatureOf self key.now message.now signature.now }
     {

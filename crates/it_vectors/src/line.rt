@@ -44,7 +44,7 @@ impl FromDocument for Vector {
     }
 }
 
-/// What a document tries, and whether it is to hold.
+/// What a document tries, and whether it should hold.
 fn tried_part(alloc: Global, document: &Value) -> Result<Option<(Tried, bool)>, AllocError>
     ensures { IfOk result (Finds (λ found. Tries (view document.now) found.0 found.1)) }
 {

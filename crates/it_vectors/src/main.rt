@@ -1,7 +1,7 @@
-//! `it_vectors TABLE..`: whether the libraries of public keys say of keys and signatures what other
-//! implementations say.
+//! `it_vectors TABLE..`: whether the libraries of public keys agree with other implementations on
+//! keys and signatures.
 //!
-//! A line is a vector: a key, or a key, a message and a signature, and whether that is to hold.
+//! A line is a vector: a key, or a key, a message and a signature, and whether that should hold.
 //! Writes each vector that does not agree, and how many do.
 #![tactic(auto)]
 

@@ -6,18 +6,18 @@ use crate::kind::Kind;
 use it_base::sequence::Sequence;
 use it_base::text::Text;
 
-/// A key and what is tried with it, and whether that is to hold.
+/// A key and what is tried with it, and whether that should hold.
 #[derive(Drop)]
 pub(crate) struct Vector {
-    /// The name, which tells vectors apart for the reader.
+    /// The name, by which readers tell vectors apart.
     pub(crate) name: Text,
-    /// What the key and the signature are of.
+    /// The kind of the key and the signature.
     pub(crate) kind: Kind,
     /// The bytes of the key.
     pub(crate) key: Sequence<u8>,
     /// What is tried.
     pub(crate) tried: Tried,
-    /// Whether it is to hold.
+    /// Whether it should hold.
     pub(crate) wanted: bool,
 }
 
@@ -50,7 +50,7 @@ impl Vector {
     }
 }
 
-/// Whether what is tried holds, by the library of the kind.
+/// Whether what is tried holds, by that kind's library.
 fn holds(kind: Kind, key: &[u8], tried: &Tried) -> bool
     ensures { IsTrue result ↔ Holds kind key.now tried.now }
 {

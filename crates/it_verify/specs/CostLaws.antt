@@ -1,4 +1,4 @@
--- What is shown of what a verification costs.
+-- What is proved about the cost of a verification.
 use Rattle.std.specs.Prelude.{◌≡◌, ℕ}
 use Rattle.it_dsse.specs.Panel.{Panel}
 use Rattle.it_verify.specs.VerificationCost.{VerificationCosts}

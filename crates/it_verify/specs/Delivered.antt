@@ -13,6 +13,6 @@ use Rattle.it_verify.specs.Refusals.{ItemRulesFail}
 abbrev pub delivery : ArtifactMap → Recorded
 delivery delivered = record { materials = empty; products = delivered }
 
--- the rules on what is delivered fail, first the one at an index, with a path
+-- a rule on what is delivered fails; the refusal has the index and path of the first
 abbrev pub DeliverFails : Links → List Rule → ArtifactMap → Refusal → Type 0
 DeliverFails links rules delivered = ItemRulesFail links Deliver Products rules (delivery delivered)

@@ -11,8 +11,8 @@ use Rattle.it_verify.specs.Inspections.{HasRecorded, recorded_in}
 use Rattle.it_verify.specs.declared.inputs.Inputs.{Inputs}
 pub use Rattle.it_verify.specs.declared.evidence.Evidence.{Evidence}
 
--- the layout holds of the links with these records of its steps, and these are what its inspections
--- recorded
+-- the layout holds for the links with these records of its steps, and these are what its
+-- inspections recorded
 pub record IsEvidence (panel : Panel) (inputs : Inputs) (documents : Documents)
     (evidence : Evidence) : Type 0 where
   pub steps : Chain

@@ -4,13 +4,13 @@
 --
 -- items match a whole text
 pub use Rattle.it_glob.specs.Pattern.{Matches}
--- items match characters. A star takes any front of them, also the empty one; another item takes
--- the first
+-- items match characters. A star takes any prefix of them, even the empty one; every other item
+-- takes the first
 pub use Rattle.it_glob.specs.Pattern.{MatchesChars}
--- an item takes a character. A star is no test of a character
+-- an item takes a character. A star tests no character
 pub use Rattle.it_glob.specs.Pattern.{Takes}
 -- a character is in the body of a set. Where at least three characters are left and the second is ,
--- they are a range from the first to the third, both included; else the first is itself
+-- the first three are a range with both ends included; otherwise the first matches itself
 pub use Rattle.it_glob.specs.Pattern.{InBody}
 -- the items of a pattern's text, read from left to right
 pub use Rattle.it_glob.specs.Pattern.{items_of}
@@ -23,27 +23,27 @@ pub use Rattle.it_glob.specs.Pattern.{set_at}
 -- the set with or without negation whose body begins these characters, and how many characters it
 -- takes after its [: the ! if it is negated, the body and the ]
 pub use Rattle.it_glob.specs.Pattern.{set_of}
--- whether a set is negated, where these characters follow its [, and the characters from its body
--- on: a ! that stands right after the [ is the negation
+-- whether a set is negated, given the characters after its [, and the characters from its body on:
+-- a ! right after the [ is the negation
 pub use Rattle.it_glob.specs.Pattern.{negation_of}
--- how long the body of a set is that begins cs: it ends before the first ] that is not its first
--- character
+-- the length of the body of a set, where cs begins with it: it ends before the first ] that is not
+-- its first character
 pub use Rattle.it_glob.specs.Pattern.{body_len}
 -- whether a character ends the body of a set
 pub use Rattle.it_glob.specs.Pattern.{is_close}
 -- the item of a character that begins no set
 pub use Rattle.it_glob.specs.Pattern.{plain_item}
--- some algorithm stands in both, and the two sets do not differ
+-- some algorithm is in both sets, and the sets do not differ
 pub use Rattle.it_digest.specs.Compare.{Agree}
--- some algorithm stands in both with unequal values
+-- some algorithm is in both sets, with unequal values
 pub use Rattle.it_digest.specs.Compare.{Differ}
--- an algorithm stands in both sets, with these values
+-- an algorithm is in both sets, with these values
 pub use Rattle.it_digest.specs.Compare.{StandsInBoth}
 -- the algorithms of digests that are known
 pub use Rattle.it_digest.specs.DigestSet.{Algorithm}
--- the bytes that a set has under an algorithm, if it stands there
+-- the bytes that a set has under an algorithm, if any
 pub use Rattle.it_digest.specs.DigestSet.{value_in}
--- the member of a document under which its value stands
+-- the name of the member that holds an algorithm's value
 pub use Rattle.it_digest.specs.DigestSet.{name_of}
 -- how many bytes its value has
 pub use Rattle.it_digest.specs.DigestSet.{size_of}
@@ -59,17 +59,17 @@ pub use Rattle.it_prov.specs.Fits.{Fits}
 pub use Rattle.it_prov.specs.Fits.{SpeaksOf}
 -- an envelope meets an expectation for a file with these digests
 pub use Rattle.it_prov.specs.Meets.{Meets}
--- an envelope meets an expectation for a file with these digests, but for the level of this builder
+-- an envelope meets an expectation for a file with these digests, in all but this builder's level
 pub use Rattle.it_prov.specs.Meets.{MeetsBesidesLevel}
--- a builder signed the envelope: the panel knows the key of one of the builder's ids, and it signed
+-- a builder signed the envelope: the panel knows the key of one of its ids, and that key signed
 pub use Rattle.it_prov.specs.Meets.{SignedByBuilder}
 -- the envelope's payload is a Statement with this provenance, a subject of which has the digests
 pub use Rattle.it_prov.specs.Meets.{Attests}
--- the parameters are those that are expected, and further ones under names that may be ignored
+-- the parameters are the expected ones, and others under names that may be ignored
 pub use Rattle.it_prov.specs.Meets.{ParametersMeet}
--- a tree stands under a name, and is equal to the one that is expected there
+-- there is a tree under a name, and it is equal to the one that is expected there
 pub use Rattle.it_prov.specs.Meets.{StandsEqual}
--- a number that fits neither 64 bits unsigned nor 64 bits signed is `other`
+-- a number that serde_json does not read as an integer of 64 bits is `other`
 pub use Rattle.it_base.specs.Json.{Json}
 -- the items of a list
 pub use Rattle.it_base.specs.Json.{Items}
@@ -85,16 +85,16 @@ pub use Rattle.it_base.specs.Equal.{equal_items}
 pub use Rattle.it_base.specs.Equal.{equal_fields}
 -- the bytes are a document that is this envelope
 pub use Rattle.it_dsse.specs.Envelope.{EnvelopeOf}
--- an envelope of a document
+-- an envelope in a document
 pub use Rattle.it_dsse.specs.Envelope.{IsEnvelope}
--- a signature of a document: its hint on the key may be missing, and is then empty
+-- a signature in a document: its hint about the key may be missing, and is then empty
 pub use Rattle.it_dsse.specs.Envelope.{IsSignature}
--- layouts, links and Statements travel under this type
+-- the payload type of layouts, links and Statements
 pub use Rattle.it_docs.specs.PayloadType.{in_toto_type}
 -- the bytes are a document that is this layout
 pub use Rattle.it_docs.specs.Layout.{LayoutOf}
--- a layout of a document; what is missing is empty. That names differ and thresholds are at least 1
--- is kept by the types, so a document where they are not is no layout.
+-- a layout in a document; missing keys, steps or inspections are empty. The types ensure that names
+-- differ and thresholds are at least 1, so a document that breaks this is not a layout.
 pub use Rattle.it_docs.specs.Layout.{IsLayout}
 -- a step of a layout
 pub use Rattle.it_docs.specs.Step.{IsStep}
@@ -102,17 +102,17 @@ pub use Rattle.it_docs.specs.Step.{IsStep}
 pub use Rattle.it_docs.specs.Step.{IsInspection}
 -- the names of steps and inspections, steps first
 pub use Rattle.it_docs.specs.Step.{names_of}
--- the threshold of a step; one that is missing is 1
+-- the threshold of a step; a missing one is 1
 pub use Rattle.it_docs.specs.Threshold.{IsThresholdPart}
 -- a threshold: a whole number of 64 bits, at least 1
 pub use Rattle.it_docs.specs.Threshold.{IsThreshold}
--- a key object of a document
+-- a key object in a document
 pub use Rattle.it_dsse.specs.KeyObject.{IsKeyObject}
--- the text of a member: empty where there is none, or it is no text (this profile's choice)
+-- the text of a member: empty where it is missing or is not a text (this profile's choice)
 pub use Rattle.it_dsse.specs.KeyObject.{text_at}
 -- the part is a text that is this moment
 pub use Rattle.it_docs.specs.Moment.{IsMoment}
--- the text is this moment, as the number of seconds from 1970-01-01T00:00:00Z: a date of the
+-- the text is this moment, as the number of seconds since 1970-01-01T00:00:00Z: a date of the
 -- Gregorian calendar in the years 0000 to 9999, and a time of the day
 pub use Rattle.it_docs.specs.Moment.{MomentOf}
 -- `YYYY-MM-DDThh:mm:ssZ`
@@ -127,9 +127,9 @@ pub use Rattle.it_docs.specs.Rule.{RuleOf}
 pub use Rattle.it_docs.specs.Rule.{IsShort}
 -- the texts are MATCH pattern [IN source] WITH side [IN target] FROM step
 pub use Rattle.it_docs.specs.Rule.{MatchOf}
--- the words of a prefix are IN and the prefix; one that is missing has none, and is empty
+-- the words of a prefix are IN and the prefix; a missing prefix has no words, and is empty
 pub use Rattle.it_docs.specs.Rule.{IsPrefix}
--- the text is the word of this side
+-- the text is the keyword of this side
 pub use Rattle.it_docs.specs.Rule.{IsSide}
 -- the text is this keyword
 pub use Rattle.it_docs.specs.Rule.{IsKeyword}
@@ -137,10 +137,10 @@ pub use Rattle.it_docs.specs.Rule.{IsKeyword}
 pub use Rattle.it_docs.specs.Rule.{is_keyword}
 -- the bytes are a document that is this link
 pub use Rattle.it_docs.specs.Link.{LinkOf}
--- a link of a document; maps that are missing are empty (this profile's choice)
+-- a link in a document; missing maps are empty (this profile's choice)
 pub use Rattle.it_docs.specs.Link.{IsLink}
--- a digest set of a document: each algorithm's value is the digest under its name; other algorithms
--- are not looked at, whatever their value
+-- a digest set in a document: each algorithm's value is the digest under its name; other algorithms
+-- are ignored, whatever their value
 pub use Rattle.it_digest.specs.Digest.{IsDigestSet}
 -- the member of this name is such a digest, or there is no such member
 pub use Rattle.it_digest.specs.Digest.{HasDigest}
@@ -149,7 +149,7 @@ pub use Rattle.it_digest.specs.Digest.{HasDigest}
 pub use Rattle.it_digest.specs.Digest.{IsDigest}
 -- the bytes are a document that is this Statement
 pub use Rattle.it_docs.specs.Statement.{StatementOf}
--- a Statement of a document; where its predicate is no provenance, there is none
+-- a Statement in a document; where its predicate is not provenance, it has none
 pub use Rattle.it_docs.specs.Statement.{IsStatement}
 -- the subjects of a Statement
 pub use Rattle.it_docs.specs.Statement.{IsSubjects}
@@ -157,11 +157,11 @@ pub use Rattle.it_docs.specs.Statement.{IsSubjects}
 pub use Rattle.it_docs.specs.Statement.{IsSubject}
 -- the provenance of a Statement
 pub use Rattle.it_docs.specs.Statement.{IsProvenanceOf}
--- a provenance of a document; parameters that are missing are none (this profile's choice)
+-- provenance in a document; missing parameters are empty (this profile's choice)
 pub use Rattle.it_docs.specs.Statement.{IsProvenance}
--- the builder's id, in a provenance
+-- the builder's id, in provenance
 pub use Rattle.it_docs.specs.Statement.{IsBuilder}
--- the part is an object of these trees
+-- the part is an object with these members
 pub use Rattle.it_base.specs.TreeOf.{IsMembers}
 -- the tree under a name
 pub use Rattle.it_base.specs.TreeOf.{field_at}
@@ -171,34 +171,34 @@ pub use Rattle.it_base.specs.TreeOf.{fields_of}
 pub use Rattle.it_base.specs.TreeOf.{tree_of}
 -- the trees that items are
 pub use Rattle.it_base.specs.TreeOf.{trees_of}
--- a whole number of 64 bits, unsigned or signed, is whole, and every other number is none
+-- a number that serde_json reads as an integer of 64 bits is whole; every other one is `other`
 pub use Rattle.it_base.specs.TreeOf.{number_tree}
 -- the bytes are a document that is this policy
 pub use Rattle.it_docs.specs.Policy.{PolicyOf}
--- a policy of a document; that there is an owner is kept by the type, so a document without any is
--- no policy
+-- a policy in a document; the type ensures that there is an owner, so a document without one is not
+-- a policy
 pub use Rattle.it_docs.specs.Policy.{IsPolicy}
 -- an expectation of a policy; a pattern is its text
 pub use Rattle.it_docs.specs.Policy.{IsExpectation}
--- a builder of an expectation; its keys must be there, and may be none
+-- a builder of an expectation; its keys must be there, and may be empty
 pub use Rattle.it_docs.specs.Policy.{IsBuilderOf}
--- the level of a builder or of an expectation; one that is missing is 0
+-- the level of a builder or an expectation; a missing one is 0
 pub use Rattle.it_docs.specs.Level.{IsLevelPart}
 -- a level: a whole number from 0 to 3
 pub use Rattle.it_docs.specs.Level.{IsLevel}
 -- the map that a digest list describes
 pub use Rattle.it_digest.specs.Sums.{SumsOf}
--- the lines give these entries, one each, and no path stands twice
+-- the lines give these entries, one each, and no path occurs twice
 pub use Rattle.it_digest.specs.Sums.{AreSums}
 -- a line gives this path the SHA-256 that its 64 digits encode
 pub use Rattle.it_digest.specs.Sums.{IsSum}
--- what follows the digits: two spaces, or a space and a star, and a path, which is not empty
+-- what follows the digits: two spaces, or a space and a star, and then a path, which is not empty
 pub use Rattle.it_digest.specs.Sums.{IsMarkedPath}
--- the lines of a file: each is ended by a line feed, which the last one may lack
+-- the lines of a file: each ends with a line feed, which the last one may lack
 pub use Rattle.it_digest.specs.Sums.{lines_of}
--- the bytes are a document of which P holds with x
+-- the bytes are a document for which P holds with x
 pub use Rattle.it_base.specs.Document.{OfDocument}
--- the bytes are the text of this document (JSON as its library reads it; this profile's choice)
+-- the bytes are the text of this document (JSON as serde_json reads it; this profile's choice)
 pub use Rattle.it_base.specs.Document.{IsDocument}
 -- the member of this name
 pub use Rattle.it_base.specs.Document.{member_at}
@@ -206,31 +206,31 @@ pub use Rattle.it_base.specs.Document.{member_at}
 pub use Rattle.it_base.specs.Document.{present}
 -- the member of this name is there, and is this value
 pub use Rattle.it_base.specs.Parts.{IsPart}
--- the member of this name is this value, or it is missing and the value is the one for that case
+-- the member of this name is this value, or it is missing and this value is the default
 pub use Rattle.it_base.specs.Parts.{IsPartOr}
--- the part is a list, and each of its items is the element in its place
+-- the part is a list, and each of its items is the element at its place
 pub use Rattle.it_base.specs.Sequence.{IsList}
--- each item is the element in its place
+-- each item is the element at its place
 pub use Rattle.it_base.specs.Sequence.{AreEach}
 -- the part is this text
 pub use Rattle.it_base.specs.Text.{IsText}
 -- the part is an object, and each of its members is the value at the member's name
 pub use Rattle.it_base.specs.Table.{IsTable}
--- at each name stands the value that its member is; a member whose value is null counts as missing
--- (this profile's choice)
+-- at each name is the value of its member; a member whose value is null counts as missing (this
+-- profile's choice)
 pub use Rattle.it_base.specs.Table.{AreMembers}
--- what stands at a name: nothing, or a value of which P holds
+-- what is at a name: nothing, or a value for which P holds
 pub use Rattle.it_base.specs.Table.{Stands as base_Stands}
 -- names are compared by their bytes
 pub use Rattle.it_base.specs.Table.{Named}
--- a value of which P holds, or none where P holds of no value
+-- a value for which P holds, or none where P holds for no value
 pub use Rattle.it_base.specs.Finds.{Finds}
 -- the part is a text that encodes these bytes
 pub use Rattle.it_base.specs.Base64Text.{IsBase64}
--- the bytes that a text encodes: one mark selects the alphabet for the whole text (this profile's
--- choice; DSSE v1.0 allows either alphabet)
+-- the bytes that a text encodes: any dash or underscore selects the alphabet for URLs and file
+-- names for the whole text (this profile's choice; DSSE v1.0 allows either alphabet)
 pub use Rattle.it_base.specs.Base64Text.{base64_decoded}
 -- a byte that only the alphabet for URLs and file names has: a dash or an underscore
 pub use Rattle.it_base.specs.Base64Text.{is_url_mark}
--- the bytes that a text encodes by two digits a byte
+-- the bytes that a text encodes, with two digits per byte
 pub use Rattle.it_base.specs.HexadecimalText.{hexadecimal_decoded}

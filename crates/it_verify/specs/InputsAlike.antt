@@ -1,4 +1,4 @@
--- Inputs in which the same counts (a word of this project; no standard speaks of it).
+-- Inputs in which the same things count (specific to this project; no standard covers it).
 use Rattle.std.specs.FinMap.{get}
 use Rattle.std.specs.Prelude.{◌≡◌, ◌⊎◌, ℕ, List, Contains, Some, ◌↔◌}
 use Rattle.it_dsse.specs.Envelope.{EnvelopeOf}
@@ -18,7 +18,7 @@ use Rattle.it_verify.specs.Inspections.{record_at}
 use Rattle.it_verify.specs.Provenance.{IsProvenanceLine}
 use Rattle.it_verify.specs.declared.inputs.Inputs.{Inputs}
 
--- the layouts are envelopes of one type and payload, which the same owners signed
+-- the layouts are envelopes with the same type and payload, signed by the same owners
 pub record SameSigned (panel : Panel) (inputs other : Inputs) : Type 0 where
   pub envelope : Envelope
   pub another : Envelope
@@ -47,9 +47,9 @@ pub record IsAttested (panel : Panel) (inputs : Inputs) (id : List ℕ) (object 
   pub payload_is : envelope.payload ≡ payload
   pub signed : IsSigner panel envelope object id
 
--- policy, digest list, moment and depth are equal, layouts say the same and records are the same;
--- and where all reads, the bundles compare as given, and so do the payloads that each builder's
--- key signed
+-- policy, digest list, moment and depth are equal, and layouts and records say the same; where
+-- everything reads, the bundles compare as given, and so do the payloads that each builder's key
+-- signed
 pub record Compare (Bundles : Setting → ℕ → Comparing) (Compares : Type 0 → Type 0 → Type 0)
     (panel : Panel) (inputs other : Inputs) : Type 0 where
   pub policy : inputs.policy ≡ other.policy
@@ -65,7 +65,7 @@ pub record Compare (Bundles : Setting → ℕ → Comparing) (Compares : Type 0 
       → Compares (IsAttested panel inputs id object payload)
       (IsAttested panel other id object payload)
 
--- the same counts in both inputs
+-- the same things count in both inputs
 abbrev pub InputsAlike : Panel → Inputs → Inputs → Type 0
 InputsAlike = Compare ChainAlike (λ here there. here ↔ there)
 

@@ -22,15 +22,15 @@ abbrev pub record_at : List ℕ → Inputs → Option (List ℕ)
 record_at name inputs =
     option_map (λ found. found.1) (find (λ given. bytes_eq given.0 name) inputs.records)
 
--- an inspection recorded this: the first record of its name is a link of that name. Nobody here
--- runs inspections (this profile's choice)
+-- an inspection recorded this: the first record of its name is a link of that name. Inspections are
+-- not run here (this profile's choice)
 pub record HasRecorded (inputs : Inputs) (inspection : Inspection) (link : Link) : Type 0 where
   pub bytes : List ℕ
   pub is_first : record_at inspection.name inputs ≡ Some bytes
   pub reads : LinkOf bytes link
   pub name_is : link.name ≡ inspection.name
 
--- an inspection has no record, or one that is no link of its name
+-- an inspection has no record, or one that is not a link of its name
 abbrev pub RecordFails : Inputs → Inspection → Refusal → Type 0
 RecordFails inputs inspection refusal =
     ((record_at inspection.name inputs ≡ None) × (refusal ≡ whole (RecordMissing inspection.name)))
@@ -47,7 +47,7 @@ abbrev pub inspection_rules_on : Side → Inspection → List Rule
 inspection_rules_on Materials inspection = inspection.expected_materials
 inspection_rules_on Products inspection = inspection.expected_products
 
--- the rules of an inspection hold of what it recorded, on both sides
+-- the rules of an inspection hold for what it recorded, on both sides
 abbrev pub InspectionRulesHold : Links → Inspection → Link → Type 0
 InspectionRulesHold links inspection link =
     (side : Side) → RulesHold (inspection_rules_on side inspection) side (recorded_in link) links
@@ -56,7 +56,7 @@ InspectionRulesHold links inspection link =
 abbrev pub sides_of : Inspection × Link → List (Side × (Inspection × Link))
 sides_of judged = (Materials, judged) ∷ (Products, judged) ∷ []
 
--- the rules of an inspection fail on a side, first the one at an index, with a path
+-- a rule of an inspection fails on a side; the refusal has the index and path of the first
 abbrev pub InspectionFails : Links → Side × (Inspection × Link) → Refusal → Type 0
 InspectionFails links (side, (inspection, link)) refusal =
     ItemRulesFail links (of_inspection inspection.name) side (inspection_rules_on side inspection)

@@ -17,8 +17,8 @@ use Rattle.it_verify.specs.Owners.{OwnersSign}
 use Rattle.it_verify.specs.Provenance.{HasProvenance}
 use Rattle.it_verify.specs.declared.inputs.Inputs.{Inputs}
 
--- the inputs read as these documents with this evidence, and all holds that was prescribed: some
--- file is delivered, every owner of the policy signed the layout, the layout holds of the links
+-- the inputs read as these documents with this evidence, and all that was prescribed holds: some
+-- file is delivered, every owner of the policy signed the layout, the layout holds for the links
 -- and each inspection has its record, every artifact rule holds, and each delivered file has
 -- provenance
 pub record IsMadeBy (panel : Panel) (inputs : Inputs) (documents : Documents)
@@ -42,8 +42,8 @@ pub record Made (panel : Panel) (inputs : Inputs) : Type 0 where
   pub evidence : Evidence
   pub made : IsMadeBy panel inputs documents evidence
 
--- the verdict on what was so made: each step with how many different keys signed for it, and the
--- delivered files in the order of their paths' bytes
+-- the verdict that accepts: each step with how many different keys signed for it, and the delivered
+-- files in the order of their paths' bytes
 abbrev pub verdict_of : Documents → Evidence → Verdict
 verdict_of documents evidence =
     Accepted (map (λ result. (result.name, result.keys)) evidence.steps) (keys documents.delivered)

@@ -1,5 +1,5 @@
--- Panels of checks that are alike on every key that a verification can ask for (a word of this
--- project; no standard speaks of it).
+-- Panels of checks that are alike on every key that a verification can ask for (specific to this
+-- project; no standard covers it).
 use Rattle.std.specs.Prelude.{Contains}
 use Rattle.it_dsse.specs.Panel.{Panel}
 use Rattle.it_docs.specs.Policy.{PolicyOf}
@@ -11,7 +11,7 @@ use Rattle.it_verify.specs.Documents.{Documents, ReadAs}
 use Rattle.it_verify.specs.Owners.{OwnersSign}
 use Rattle.it_verify.specs.declared.inputs.Inputs.{Inputs}
 
--- two panels are alike on the keys of the owners and of the builders, and where every owner signed
+-- two panels are alike on the keys of the owners and of the builders and, where every owner signed
 -- the layout, on its keys and those of the sublayouts that count
 pub record PanelsAlikeFor (panel other : Panel) (inputs : Inputs) : Type 0 where
   pub owners : (policy : Policy) → PolicyOf inputs.policy policy

@@ -14,14 +14,14 @@ use Rattle.it_report.specs.declared.refusal.Refusal.{Refusal}
 use Rattle.it_verify.specs.Refusals.{whole}
 use Rattle.it_verify.specs.declared.inputs.Inputs.{Inputs}
 
--- a line of the provenance is this envelope (one envelope a line is this profile's choice)
+-- a line of the provenance is this envelope (one envelope per line is this profile's choice)
 pub record IsProvenanceLine (inputs : Inputs) (envelope : Envelope) : Type 0 where
   pub line : List ℕ
   pub stands : Contains (lines_of inputs.provenance) line
   pub reads : EnvelopeOf line envelope
 
--- a delivered file has provenance: some line of it is an envelope that meets the expectation which
--- speaks of the file
+-- a delivered file has provenance: some line of the provenance is an envelope that meets the
+-- expectation that speaks of the file
 pub record HasProvenance (panel : Panel) (inputs : Inputs) (expectations : List Expectation)
     (path : List ℕ) (digests : DigestSet) : Type 0 where
   pub expectation : Expectation
@@ -31,7 +31,7 @@ pub record HasProvenance (panel : Panel) (inputs : Inputs) (expectations : List 
   pub meets : Meets panel expectation digests envelope
 
 -- no expectation speaks of a delivered file, or no line of the provenance meets the one that does,
--- and this is the best level with which one meets it in all but the level
+-- and this is the best level of a builder with which a line meets it in all but the level
 abbrev pub FileFails : Panel → Inputs → List Expectation → List ℕ × DigestSet → Refusal → Type 0
 FileFails panel inputs expectations (path, digests) refusal =
     (((expectation : Expectation) → ¬ Fits expectations path expectation)

@@ -1,4 +1,4 @@
--- How a fault becomes the refusal of the whole (this profile's choice).
+-- How a fault becomes the refusal of the delivery (this profile's choice).
 use Rattle.std.specs.Prelude.{◌≡◌, ℕ, List, []}
 use Rattle.it_docs.specs.declared.rule.Rule.{Rule}
 use Rattle.it_docs.specs.declared.rule.Side.{Side}
@@ -14,11 +14,11 @@ use Rattle.it_report.specs.declared.refusal.Fault.TheVariants.{Threshold, Disagr
 use Rattle.it_report.specs.declared.refusal.Fault.TheVariants.{InspectionInSublayout, RuleFailed}
 use Rattle.it_report.specs.declared.refusal.Refusal.{Refusal}
 
--- a fault that speaks of no sublayout
+-- the refusal for a fault that concerns no sublayout
 abbrev pub whole : Fault → Refusal
 whole fault = record { at = []; fault = fault }
 
--- a fault of the layout or of a sublayout, as a fault of the whole
+-- a fault of the layout or of a sublayout, as a fault of the delivery
 abbrev pub fault_of : ChainFault → Fault
 fault_of chain.Expired = Expired
 fault_of (chain.TwoPayloads step id) = TwoPayloads step id
@@ -31,7 +31,7 @@ fault_of (chain.RuleFailed item side index path) = RuleFailed item side index pa
 abbrev pub refusal_of : ChainRefusal → Refusal
 refusal_of refusal = record { at = refusal.at; fault = fault_of refusal.fault }
 
--- rules on a side of an item fail, first the one at an index, with a path
+-- a rule on a side of an item fails; the refusal has the index and path of the first
 abbrev pub ItemRulesFail : Links → RuleItem → Side → List Rule → Recorded → Refusal → Type 0
 ItemRulesFail links whose side rules recorded refusal =
     (index : ℕ) × (path : List ℕ) × IsFirstFault rules side recorded links index path

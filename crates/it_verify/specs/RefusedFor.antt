@@ -1,5 +1,5 @@
--- Why delivered files are refused: what the first stage of a verification that fails has to say
--- (the order of the stages is this profile's choice).
+-- Why delivered files are refused: the refusal of the first stage of a verification that fails (the
+-- order of the stages is this profile's choice).
 use Rattle.std.specs.FinMap.{empty, entries}
 use Rattle.std.specs.Prelude.{◌≡◌, ◌≢◌, ℕ, ℤ, List, [], ◌∷◌, flat_map, zip}
 use Rattle.it_base.specs.Places.{IsFirst}
@@ -53,8 +53,8 @@ stages =
     ∷ at_layout ∷ at_links ∷ at_records ∷ at_inspections ∷ at_deliver ∷ at_provenance ∷ []
 
 module _ (panel : Panel) (inputs : Inputs) where
-  -- a stage fails with a refusal. A stage that speaks of what does not read, or of evidence that is
-  -- not there, does not fail: an earlier stage does
+  -- a stage fails with a refusal. A stage about something that does not read, or about missing
+  -- evidence, does not fail: an earlier stage does
   abbrev pub FailsAt : Stage → Refusal → Type 0
   FailsAt at_policy refusal =
       (part : PolicyPart) × PolicyPartOf inputs.policy part × (refusal ≡ whole (BadPolicy part))
@@ -96,6 +96,6 @@ module _ (panel : Panel) (inputs : Inputs) where
       × IsFirst (FileFails panel inputs documents.policy.expectations)
       (entries documents.delivered) refusal
 
-  -- the refusal with which the first stage fails that does
+  -- the refusal of the first stage that fails
   abbrev pub RefusedFor : Refusal → Type 0
   RefusedFor refusal = IsFirst FailsAt stages refusal

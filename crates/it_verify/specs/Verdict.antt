@@ -9,8 +9,8 @@ use Rattle.it_verify.specs.Made.{IsMadeBy, verdict_of}
 use Rattle.it_verify.specs.RefusedFor.{RefusedFor}
 use Rattle.it_verify.specs.declared.inputs.Inputs.{Inputs}
 
--- the verdict on inputs: accepted, with the steps and files of what shows that the delivered files
--- were made as the owners prescribed, or refused with the first fault
+-- the verdict on inputs: accepted, with the steps and files of documents and evidence that show the
+-- delivered files were made as the owners prescribed, or refused with the first fault
 abbrev pub IsVerdict : Panel → Inputs → Verdict → Type 0
 IsVerdict panel inputs (Accepted steps files) =
     (documents : Documents) × (evidence : Evidence) × IsMadeBy panel inputs documents evidence

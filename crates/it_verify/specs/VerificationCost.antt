@@ -1,5 +1,5 @@
--- The most checks of validity that a verification counts (a word of this project; no standard
--- speaks of it).
+-- The most validity checks that a verification counts (specific to this project; no standard covers
+-- it).
 use Rattle.std.specs.FinMap.{keys, len}
 use Rattle.std.specs.Prelude.{◌≡◌, ℕ, List, ◌+◌, ◌*◌, length}
 use Rattle.it_base.specs.Sum.{CostsIfFound, IsSum}
@@ -21,17 +21,17 @@ abbrev pub AreOwners : Inputs → Policy × Envelope → Type 0
 AreOwners inputs (policy, envelope) =
     PolicyOf inputs.policy policy × EnvelopeOf inputs.layout envelope
 
--- the owners cost a check for each of them and each signature of the layout
+-- the owners cost one check per owner and signature of the layout
 abbrev pub OwnersCost : Inputs → ℕ → Type 0
 OwnersCost inputs =
     CostsIfFound (AreOwners inputs) (λ read n. n ≡ len read.0.owners * length read.1.signatures)
 
--- how many signatures the lines of the provenance have that read as envelopes
+-- how many signatures are in the lines of the provenance that read as envelopes
 abbrev pub LinesHave : Inputs → ℕ → Type 0
 LinesHave inputs =
     IsSum (λ line. CostsIfFound (EnvelopeOf line) HasSignatures) (lines_of inputs.provenance)
 
--- a delivered file costs a check for each key of the expected builders and each signature
+-- a delivered file costs one check per key of the expected builders and signature
 abbrev pub FileCosts : List Expectation → ℕ → List ℕ → ℕ → Type 0
 FileCosts expectations signatures path =
     CostsIfFound (Fits expectations path)
@@ -42,13 +42,13 @@ abbrev pub LinksCost : Panel → Inputs → Documents → ℕ → Type 0
 LinksCost panel inputs documents =
     ChainCosts (setting_of panel documents) inputs.depth documents.layout inputs.links
 
--- what the delivered files cost, over so many signatures
+-- what the delivered files cost, with this many signatures
 abbrev pub FilesCost : Documents → ℕ → ℕ → Type 0
 FilesCost documents signatures =
     IsSum (FileCosts documents.policy.expectations signatures) (keys documents.delivered)
 
--- what a verification costs: what the owners cost, what the layout costs over the links, and what
--- the delivered files cost
+-- what a verification costs: the sum of what the owners cost, what the layout costs over the links,
+-- and what the delivered files cost
 pub record VerificationCosts (panel : Panel) (inputs : Inputs) (n : ℕ) : Type 0 where
   pub owners : ℕ
   pub links : ℕ

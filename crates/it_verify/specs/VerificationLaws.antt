@@ -1,4 +1,4 @@
--- What is shown of the definitions of a verification as a whole.
+-- What is proved about the definitions of a whole verification.
 use Rattle.std.specs.List.{AllZip}
 use Rattle.std.specs.Prelude.{◌≡◌, ◌⊎◌, ℕ, List, Option, ◌≤◌, ◌↔◌}
 use Rattle.it_dsse.specs.Panel.{Panel}
@@ -37,22 +37,21 @@ MadeOrFirst =
     → Made panel inputs
     ↔ ((stage : Stage) (refusal : Refusal) → ¬ FailsAt panel inputs stage refusal)
 
--- there is one first fault at most
+-- there is at most one first fault
 abbrev pub RefusalIsOne : Type 0
 RefusalIsOne =
     (panel : Panel) (inputs : Inputs) (a b : Refusal) → RefusedFor panel inputs a
     → RefusedFor panel inputs b → a ≡ b
 
 -- whatever documents and evidence show that the files were made as the owners prescribed, the
--- verdict on it is one
+-- verdict is the same
 abbrev pub VerdictIsOne : Type 0
 VerdictIsOne =
     (panel : Panel) (inputs : Inputs) (documents other : Documents) (evidence given : Evidence)
     → IsMadeBy panel inputs documents evidence → IsMadeBy panel inputs other given
     → verdict_of documents evidence ≡ verdict_of other given
 
--- a verification has the outcome of another: whatever is the verdict of the first is that of the
--- other, and so is its report
+-- two verifications have the same outcome: the same verdict and the same report
 pub record HasSameOutcome (panel : Panel) (inputs : Inputs) (another : Panel) (other : Inputs)
     : Type 0 where
   pub verdict : (verdict : Verdict)
@@ -60,13 +59,13 @@ pub record HasSameOutcome (panel : Panel) (inputs : Inputs) (another : Panel) (o
   pub report : (text : List ℕ) (status : Status)
       → IsVerifyOutput panel inputs text status ↔ IsVerifyOutput another other text status
 
--- inputs in which the same counts have one outcome
+-- inputs in which the same things count have the same outcome
 abbrev pub AlikeInputs : Type 0
 AlikeInputs =
     (panel : Panel) (inputs other : Inputs) → InputsAlike panel inputs other
     → HasSameOutcome panel inputs panel other
 
--- inputs have one outcome by panels that are alike on every key that could be asked for
+-- inputs have the same outcome with panels that are alike on every key that could be asked for
 abbrev pub AlikePanels : Type 0
 AlikePanels =
     (panel other : Panel) (inputs : Inputs) → PanelsAlikeFor panel other inputs
@@ -82,15 +81,15 @@ IsWithheld fault =
     ((step : List ℕ) × (found : ℕ) × (needed : ℕ) × (fault ≡ Threshold step found needed))
     ⊎ ((path : List ℕ) × (best : Option ℕ) × (fault ≡ NoProvenance path best))
 
--- a verdict only withholds what one before it accepted: it accepts the same steps and files, no
--- step having more keys, or refuses what is withheld
+-- a verdict only withholds what an earlier one accepted: it accepts the same steps and files, no
+-- step having more keys, or refuses for what is withheld
 abbrev pub OnlyWithholds : Verdict → Verdict → Type 0
 OnlyWithholds (Accepted steps files) (Accepted before all) =
     AllZip HasNoMoreKeys steps before × (files ≡ all)
 OnlyWithholds (Accepted steps files) (Refused refusal) = ⊥
 OnlyWithholds (Refused refusal) before = IsWithheld refusal.fault
 
--- who takes away what counts from what was made as the owners prescribed can only withhold
+-- removing what counts from what was made as the owners prescribed can only withhold
 abbrev pub WithheldInputs : Type 0
 WithheldInputs =
     (panel : Panel) (inputs other : Inputs) (documents : Documents) (evidence : Evidence)

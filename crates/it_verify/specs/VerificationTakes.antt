@@ -1,5 +1,5 @@
--- The fewest checks of validity that a verification takes which accepts (a word of this project; no
--- standard speaks of it).
+-- The fewest validity checks that an accepting verification takes (specific to this project; no
+-- standard covers it).
 use Rattle.std.specs.FinMap.{entries, len}
 use Rattle.std.specs.List.{sum_by}
 use Rattle.std.specs.Prelude.{◌≡◌, ℕ, List, ◌≤◌, ⊤, ◌+◌, length, ◌-◌, ◌^◌, min}
@@ -47,7 +47,7 @@ abbrev pub FilesTake : Panel → Inputs → Documents → ℕ → Type 0
 FilesTake panel inputs documents =
     IsSum (FileTakes panel inputs documents.policy.expectations) (entries documents.delivered)
 
--- what a verification takes that accepts: the signatures that are tried for its owners, what the
+-- what an accepting verification takes: the signatures that are tried for its owners, what the
 -- layout takes over the links, and what the delivered files take
 pub record Takes (panel : Panel) (inputs : Inputs) (n : ℕ) : Type 0 where
   pub documents : Documents
@@ -62,11 +62,11 @@ pub record Takes (panel : Panel) (inputs : Inputs) (n : ℕ) : Type 0 where
 abbrev pub fewest : Policy → List (List ℕ × ℕ) → List (List ℕ) → ℕ
 fewest policy steps files = len policy.owners + sum_by (λ step. step.1) steps + length files
 
--- so many checks are asked for where the count has room for them
+-- at least this many checks were asked for, as far as the count has room
 abbrev pub IsAskedFully : ℕ → ℕ → Type 0
 IsAskedFully asked n = min n (2 ^ 64 - 1) ≤ asked
 
--- a verdict that accepts took what such a verification takes, and so at least one check for each
+-- an accepting verdict took what such a verification takes, and so at least one check for each
 -- owner, each key of a step and each file, as far as the count had room
 abbrev pub AsksEnough : Panel → Inputs → ℕ → Verdict → Type 0
 AsksEnough panel inputs asked (Accepted steps files) =

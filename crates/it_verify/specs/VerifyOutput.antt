@@ -9,7 +9,7 @@ use Rattle.it_outcome.specs.declared.outcome.Status.TheVariants.{Refused, Good}
 use Rattle.it_verify.specs.Verdict.{IsVerdict}
 use Rattle.it_verify.specs.declared.inputs.Inputs.{Inputs}
 
--- what a verdict is for the command: good where it accepts
+-- the status of the command for a verdict: good where it accepts
 abbrev pub status_of : Verdict → Status
 status_of (Accepted steps files) = Good
 status_of (refused_for refusal) = Refused

@@ -1,4 +1,4 @@
-//! Why a layout does not hold of its links, as a refusal of the whole.
+//! Why a layout does not hold for its links, as a refusal of the delivery.
 ghost use Rattle.std.specs.Prelude.{◌≡◌};
 ghost use Rattle.it_verify.specs.Refusals.{fault_of, refusal_of};
 ghost use Rattle.it_verify.specs.inside.Failures.{failure_of};
@@ -7,7 +7,7 @@ use crate::failure::Failure;
 use it_chain::refusal::{ChainError, ChainFault, ChainRefusal};
 use it_report::refusal::{Fault, Refusal};
 
-/// The fault of a layout, as a fault of the whole.
+/// The fault of a layout, as a fault of the delivery.
 fn fault_of(inner: ChainFault) -> Fault
     ensures { result ≡ fault_of inner }
 {
@@ -40,7 +40,7 @@ fn fault_of(inner: ChainFault) -> Fault
     }
 }
 
-/// The refusal of a layout, as a refusal of the whole.
+/// The refusal of a layout, as a refusal of the delivery.
 fn refusal_of(inner: ChainRefusal) -> Refusal
     ensures { result ≡ refusal_of inner }
 {

@@ -16,7 +16,7 @@ use it_rules::item::{Item, Named};
 use it_rules::rules::run_rules;
 use std::alloc::Global;
 
-/// Asks whether some file is delivered.
+/// Checks that some file is delivered.
 ///
 /// # Errors
 ///

@@ -1,4 +1,4 @@
-//! The documents of a verification: their reading, and who must have signed the layout.
+//! The documents of a verification: how they are read, and who must have signed the layout.
 ghost use Rattle.std.specs.Prelude.{◌≡◌, ◌≢◌, ◌≤◌, IfOk, MatchResult, ℕ, ℤ, map};
 ghost use Rattle.it_digest.specs.Sums.{IsFirstBadLine, SumsOf};
 ghost use Rattle.it_dsse.specs.Meter.{RaisedBy, raised};
@@ -54,13 +54,13 @@ pub(crate) struct Documents {
     pub layout: Layout,
 }
 
-/// Reads the documents, and asks the `panel` whether every owner of the policy signed the layout,
-/// which `meter` counts.
+/// Reads the documents, and asks the `panel` whether every owner of the policy signed the layout;
+/// `meter` counts the checks.
 ///
 /// # Errors
 ///
-/// `Refused` with what does not hold first, in the order of the policy, the digest list, the
-/// moment, that some file is delivered, the layout's envelope, its payload type, its owners and
+/// `Refused` with the first thing that does not hold, in this order: the policy, the digest list,
+/// the moment, that some file is delivered, the layout's envelope, its payload type, its owners and
 /// the layout. `OutOfMemory` where memory was refused.
 pub(crate) fn read_documents(
     alloc: Global,

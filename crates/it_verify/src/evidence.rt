@@ -1,4 +1,4 @@
-//! What the steps of a layout and its inspections recorded.
+//! What a layout's steps and inspections recorded.
 ghost use Rattle.std.specs.Prelude.{◌≤◌, IfOk, MatchResult, OnOk, ℕ, map};
 ghost use Rattle.std.specs.List.{sum_by};
 ghost use Rattle.it_dsse.specs.Meter.{RaisedBy};
@@ -22,7 +22,7 @@ use it_dsse::check::SignatureCheck;
 use it_dsse::meter::Meter;
 use std::alloc::Global;
 
-/// What the steps of a layout and its inspections recorded.
+/// What a layout's steps and inspections recorded.
 #[derive(Drop)]
 pub(crate) struct Evidence {
     /// One record for each step, in the layout's order.
@@ -31,13 +31,13 @@ pub(crate) struct Evidence {
     pub inspections: Sequence<Link>,
 }
 
-/// Verifies the layout over the links, and finds what its inspections recorded. Each signature is
-/// checked by the `panel`, which counts in `meter`.
+/// Verifies the layout over the links, and finds what its inspections recorded. The `panel` checks
+/// the signatures, and `meter` counts the checks.
 ///
 /// # Errors
 ///
-/// `Refused` with the first failure of the layout, and else with the first inspection that has no
-/// record of its name. `OutOfMemory` where memory was refused.
+/// `Refused` with the first failure of the layout, or otherwise with the first inspection whose
+/// record is missing or bad. `OutOfMemory` where memory was refused.
 pub(crate) fn gather(
     alloc: Global,
     inputs: &Inputs,

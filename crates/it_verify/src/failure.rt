@@ -35,7 +35,7 @@ impl<T: Drop> From<AllocFailed<T>> for Failure {
     }
 }
 
-/// The failure for a fault that speaks of no sublayout.
+/// The failure for a fault that concerns no sublayout.
 pub(crate) fn refused(alloc: Global, fault: Fault) -> Failure
     ensures { result ≡ Refused (whole fault) }
 {

@@ -3,7 +3,7 @@ use it_base::sequence::Sequence;
 use it_base::text::Text;
 use it_chain::bundle::Bundle;
 
-/// All that a verdict rests on, beside the checks of signatures.
+/// All that a verdict rests on, apart from the checks of signatures.
 #[derive(Drop)]
 pub struct Inputs {
     /// The bytes of the policy.
@@ -12,15 +12,15 @@ pub struct Inputs {
     pub layout: Sequence<u8>,
     /// The files and folders that the layout is checked against.
     pub links: Bundle,
-    /// The records of inspections: the name of an inspection, and the bytes of a link, which no
-    /// envelope surrounds. The first with a name counts.
+    /// The records of inspections: each the name of an inspection and the bytes of a link, without
+    /// an envelope. The first of each name counts.
     pub records: Sequence<(Text, Sequence<u8>)>,
-    /// The bytes of the provenance: one envelope a line.
+    /// The bytes of the provenance: one envelope per line.
     pub provenance: Sequence<u8>,
     /// The bytes of the digest list, which names the delivered files.
     pub sums: Sequence<u8>,
     /// The moment at which no layout may have expired, as `YYYY-MM-DDThh:mm:ssZ`.
     pub moment: Text,
-    /// How deep sublayouts may lie: 0 for none.
+    /// How deep sublayouts may be nested: 0 for none.
     pub depth: u8,
 }

@@ -29,8 +29,8 @@ use std::collections::BTreeMap;
 ///
 /// # Errors
 ///
-/// `Refused` with the first inspection that has no record, or whose first record is no link of its
-/// name. `OutOfMemory` where memory was refused.
+/// `Refused` with the first inspection that has no record, or whose first record is not a link of
+/// its name. `OutOfMemory` where memory was refused.
 pub(crate) fn recorded_links(
     alloc: Global,
     inputs: &Inputs,
@@ -67,7 +67,7 @@ fn first_records<'a>(
     Ok(firsts)
 }
 
-/// The link of this name that the bytes of a record are, if there is one.
+/// Reads the bytes of a record, if there is one, as a link of this name.
 fn recorded_link(alloc: Global, name: &str, bytes: Option<&[u8]>) -> Result<Link, Failure>
     ensures link { IsRecord name.now (option_map (λ b. b.now) bytes.entry) result }
 {
@@ -80,7 +80,7 @@ fn recorded_link(alloc: Global, name: &str, bytes: Option<&[u8]>) -> Result<Link
     }
 }
 
-/// The link that the bytes are, where it bears the name.
+/// The bytes read as a link of this name, or `None` where they are not one.
 fn link_named(alloc: Global, name: &str, bytes: &[u8]) -> Result<Option<Link>, AllocError>
     ensures link { IfOk result (Finds (IsLinkNamed name.now bytes.now)) }
 {
@@ -92,7 +92,7 @@ fn link_named(alloc: Global, name: &str, bytes: &[u8]) -> Result<Option<Link>, A
     }
 }
 
-/// Judges the rules of all inspections over what they recorded: of each those on materials first.
+/// Judges the rules of all inspections over what they recorded, for each those on materials first.
 /// `MATCH` looks at `links`.
 ///
 /// # Errors
@@ -121,7 +121,7 @@ pub(crate) fn run_inspection_rules(
     Ok(())
 }
 
-/// Judges rules on one side of what the inspection of a name recorded.
+/// Judges rules on one side of what the inspection with this name recorded.
 fn run_side(
     alloc: Global,
     name: &str,

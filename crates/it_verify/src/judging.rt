@@ -23,14 +23,14 @@ use it_dsse::check::SignatureCheck;
 use it_dsse::meter::Meter;
 use std::alloc::Global;
 
-/// Judges the rules of the inspections and those on what is delivered over the evidence, and looks
-/// for the provenance of each delivered file. Each signature is checked by the `panel`, which
-/// counts in `meter`.
+/// Judges the rules of the inspections and those on what is delivered, over the evidence, and looks
+/// for the provenance of each delivered file. The `panel` checks the signatures, and `meter`
+/// counts the checks.
 ///
 /// # Errors
 ///
-/// `Refused` with the first rule that fails, and else with the first file that has no provenance.
-/// `OutOfMemory` where memory was refused.
+/// `Refused` with the first rule that fails, or otherwise with the first file that has no
+/// provenance. `OutOfMemory` where memory was refused.
 pub(crate) fn judge(
     alloc: Global,
     inputs: &Inputs,

@@ -1,6 +1,5 @@
-//! Laws about a verification as a whole and what it costs: functions that do nothing, and whose
-//! contracts say what is true of all inputs and every panel of checks. Those of the report are
-//! public here too.
+//! Laws about a whole verification and what it costs: functions that do nothing and whose contracts
+//! hold for all inputs and every panel of checks. The laws of the report are public here too.
 ghost use Rattle.it_verify.specs.CostLaws.{InputsHaveCost, InputsHaveOneCost};
 ghost use Rattle.it_verify.specs.VerificationLaws.{
   AlikeInputs,
@@ -21,7 +20,7 @@ pub fn made_not_refused()
 {}
 
 /// What is delivered was made as the owners prescribed, or is refused: with `made_not_refused`,
-/// always just one of the two.
+/// exactly one of the two.
 pub fn made_or_refused()
     ensures { MadeOrRefused }
 {}
@@ -32,42 +31,42 @@ pub fn made_or_first()
     ensures { MadeOrFirst }
 {}
 
-/// What is delivered is refused in one way at most.
+/// What is delivered is refused in at most one way.
 pub fn refusal_is_one()
     ensures { RefusalIsOne }
 {}
 
-/// What was made as the owners prescribed is accepted with one list of steps and of files.
+/// What was made as the owners prescribed is accepted with only one list of steps and one of files.
 pub fn verdict_is_one()
     ensures { VerdictIsOne }
 {}
 
-/// Inputs in which the same counts have the same verdict, and the same report.
+/// Inputs in which the same things count have the same verdict and the same report.
 pub fn alike_inputs()
     ensures { AlikeInputs }
 {}
 
-/// By panels of checks that are alike on the keys of the owners and builders, and where every owner
-/// signed the layout, on its keys and those of the sublayouts that count, inputs have the same
-/// verdict, and the same report, whatever numbers the panels give the keys.
+/// Inputs have the same verdict and the same report with panels of checks that are alike on the
+/// keys of the owners and builders and, where every owner signed the layout, on its keys and those
+/// of the sublayouts that count, whatever numbers the panels give the keys.
 pub fn alike_panels()
     ensures { AlikePanels }
 {}
 
-/// Inputs in which less counts than in others that were made as the owners prescribed are accepted
-/// with the same steps and files, no step having more keys, or are refused for too few keys or for
-/// want of provenance.
+/// Inputs in which less counts than in inputs that were made as the owners prescribed are accepted
+/// with the same steps and files, no step having more keys, or are refused for too few keys or
+/// missing provenance.
 pub fn withheld_inputs()
     ensures { WithheldInputs }
 {}
 
-/// A verification of inputs costs some number of checks: with `inputs_have_one_cost`, always just
-/// one.
+/// There is a number of checks that a verification of inputs costs: with `inputs_have_one_cost`,
+/// exactly one.
 pub fn inputs_have_cost()
     ensures { InputsHaveCost }
 {}
 
-/// A verification of inputs costs one number of checks at most.
+/// The number of checks that a verification of inputs costs is unique.
 pub fn inputs_have_one_cost()
     ensures { InputsHaveOneCost }
 {}

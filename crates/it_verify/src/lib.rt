@@ -1,5 +1,5 @@
-//! The verification of a delivery: what it rests on, its verdict, and the report of it. The verdict
-//! and the report are defined in `it_report`, and are public here too.
+//! The verification of a delivery: what it rests on, its verdict and its report. The verdict and
+//! the report are defined in `it_report`, and are public here too.
 #![tactic(auto)]
 
 mod chain_refusal;

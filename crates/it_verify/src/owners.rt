@@ -20,7 +20,7 @@ use it_dsse::signed_by;
 use it_report::refusal::Fault;
 use std::alloc::Global;
 
-/// Asks of each owner, in the order of the ids' bytes, whether the key signed the envelope, and
+/// Asks whether the key of each owner, in the order of the ids' bytes, signed the envelope, and
 /// stops at the first that did not.
 pub(crate) fn check_owners(
     alloc: Global,

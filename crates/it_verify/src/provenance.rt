@@ -28,7 +28,7 @@ use it_prov::find_among;
 use it_report::refusal::Fault;
 use std::alloc::{AllocError, Global};
 
-/// The envelopes of the provenance, one a line. A line that is none is passed over.
+/// The envelopes of the provenance, one per line. A line that is not an envelope is skipped.
 ///
 /// # Errors
 ///
@@ -52,13 +52,13 @@ pub(crate) fn envelopes_in(alloc: Global, provenance: &[u8]) -> Result<Vec<Envel
 }
 
 /// Looks for provenance of each delivered file among the envelopes, in the order of the paths'
-/// bytes. Each signature is checked by the `panel`, which counts in `meter`.
+/// bytes. The `panel` checks the signatures, and `meter` counts the checks.
 ///
 /// # Errors
 ///
-/// `Refused` with the first file of which no expectation speaks, or that has no provenance, and
-/// then with the best level of the provenance that there is. `OutOfMemory` where memory was
-/// refused.
+/// `Refused` with the first file that no expectation speaks of, or that has no provenance, and in
+/// the latter case with the best level of the provenance that there is. `OutOfMemory` where memory
+/// was refused.
 pub(crate) fn find_each(
     alloc: Global,
     expectations: &[Expectation],
@@ -85,8 +85,8 @@ pub(crate) fn find_each(
     find_each_among(alloc, delivered, &attestations, meter)
 }
 
-/// Looks for provenance of each delivered file among what envelopes attest, which was found
-/// out before.
+/// Looks for provenance of each delivered file among what the envelopes were already found to
+/// attest.
 fn find_each_among(
     alloc: Global,
     delivered: &Artifacts,

@@ -30,19 +30,19 @@ use std::alloc::{AllocError, Global};
 ///
 /// Signatures are checked by the `panel`. The verdict is `Accepted` exactly where the layout is
 /// signed by every owner and has not expired at the moment, each step has its threshold of
-/// different authorised keys whose signed records agree, every artifact rule holds of what was
-/// recorded and of what is delivered, and each delivered file has signed provenance that meets its
+/// different authorised keys whose signed records agree, every artifact rule holds for what was
+/// recorded and for what is delivered, and each delivered file has signed provenance that meets its
 /// expectation. Otherwise it is `Refused`, with the first thing that does not hold.
 ///
-/// What is counted are answers of checks that are asked for: at most one for each owner and each
-/// signature of the layout, for each id of a step and each signature of a file that is claimed for
-/// it, and so in sublayouts, and for each key of the builders that are expected of a delivered file
-/// and each signature of the provenance. Where the verdict is `Accepted`, one was asked for at
-/// least for each signature that is tried with an owner's key, for each different key that signed
-/// what counts for a step, and so in sublayouts, and for each signature that is tried with the key
-/// by which a delivered file's provenance meets its expectation. Who signed an envelope of the
-/// provenance is found out once for all files, for the builders of every expectation, and counts
-/// anew for each file that asks; what no file asks for is not counted.
+/// `asked` counts the answers of checks that are asked for: at most one per owner and signature of
+/// the layout, per id of a step and signature of a file that is claimed for it, likewise in
+/// sublayouts, and per key of the builders expected for a delivered file and signature of the
+/// provenance. Where the verdict is `Accepted`, it counts at least one per signature that is tried
+/// with an owner's key, per different key that signed what counts for a step, likewise in
+/// sublayouts, and per signature that is tried with the key by which a delivered file's provenance
+/// meets its expectation. Who signed an envelope of the provenance is found out once for all files,
+/// for the builders of every expectation, and counted again for each file that asks; what no file
+/// asks for is not counted.
 ///
 /// # Errors
 ///

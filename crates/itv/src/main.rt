@@ -1,7 +1,7 @@
 //! `itv`: a verifier of software supply chains by the in-toto specification 1.0.
 //!
-//! Hands the words, the files and the output to `it_program`, says why it stopped where it did, and
-//! ends with its status.
+//! Hands the words, the files and the output to `it_program`, says why if it stopped, and ends with
+//! its status.
 #![tactic(auto)]
 
 use it_disk::{Disk, Fault};

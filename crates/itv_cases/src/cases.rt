@@ -1,4 +1,4 @@
-//! Cases: whole verifications, each with the answer of another implementation.
+//! Cases: whole verifications, each with the answer that is wanted.
 ghost use Rattle.std.specs.Prelude.{IfOk};
 ghost use Rattle.serde_json.specs.View.{view};
 ghost use Rattle.itv_cases.specs.Agreement.{IsCaseDifference};
@@ -17,8 +17,8 @@ use it_tables::RowFault;
 use serde_json::Value;
 use std::alloc::Global;
 
-/// What a verification gives in place of what its case wants, in words, or `None` where it is
-/// that.
+/// What a verification gives in place of what its case wants, in words, or `None` if it gives what
+/// is wanted.
 ///
 /// # Errors
 ///

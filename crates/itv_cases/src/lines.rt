@@ -24,7 +24,7 @@ impl Lines {
         Lines { runs: Runs::of(rt) }
     }
 
-    /// What the first group of calls answers that has the call of a row.
+    /// The answer of the first group of calls that has the call of a row.
     fn answer(&self, alloc: Global, row: &Value) -> Result<String, RowFault> {
         let call = text_in(row, "call")?;
         match verify::answer(alloc, call, row) {

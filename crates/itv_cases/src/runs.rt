@@ -1,16 +1,17 @@
-//! What comes of whole runs of `itv` over files in memory. A row is a run: the words of a command,
-//! what stands at the paths that it reads, and what comes of it.
+//! What whole runs of `itv` over files in memory give. A row is a run: the words of a command, what
+//! is at the paths that it reads, and what it gives.
 //!
-//! - `run`: of a `command` over files: the exit status, what went out, and the fault where the
+//! - `run`: for a `command` over files, the exit status, what went out, and the fault where the
 //!   command stopped.
 //! - `run with notes`: the same, after those lines of the notes that hold the text `about`.
-//! - `run to a full disk`: of a `command` whose output is not taken, because of `fault` if any.
+//! - `run to a full disk`: for a `command` whose output is not taken, because of `fault` if any,
+//!   the exit status and the fault.
 //! - `records`: the names of the records in `folder`, each with how many bytes it has.
-//! - `count words`: how many words a command line has, or what is no text in it.
-//! - `read`: what is read of a file up to `limit`, with `room` for so many bytes.
+//! - `count words`: how many words a command line has, or which of them is not text.
+//! - `read`: what is read of a file up to `limit`, with `room` for this many bytes.
 //!
-//! The files are those that `files.json` has under the name that is the member `files`, and those
-//! of the member `nodes`.
+//! The files are those that `files.json` has under the name in the member `files`, and those in the
+//! member `nodes`.
 mod content;
 mod fake_files;
 mod fake_line;
@@ -34,10 +35,10 @@ use serde_json::Value;
 use std::alloc::{AllocError, Global};
 use std::str;
 
-/// Where the files stand that rows share, under their names.
+/// Where the files that rows share are, under their names.
 const SHARED: &str = "runs/files.json";
 
-/// What answers the rows: the files that they share, under their names, where these can be read.
+/// What answers the rows: the files that they share, under their names, if these can be read.
 #[derive(Drop)]
 pub(crate) struct Runs {
     shared: Option<Value>,
@@ -51,7 +52,7 @@ impl Runs {
         }
     }
 
-    /// What comes of a row, by the call of this name.
+    /// What a row gives, by the call of this name.
     pub(crate) fn answer(
         &self,
         alloc: Global,
@@ -72,7 +73,7 @@ impl Runs {
         }
     }
 
-    /// What comes of the row's command over its files.
+    /// The run of the row's command over its files.
     fn ran(&self, alloc: Global, row: &Value) -> Result<Ran, RowFault> {
         let files = self.files(alloc, row)?;
         Ok(run_over(alloc, files.as_slice(), text_in(row, "command")?)?)
@@ -123,7 +124,7 @@ impl Runs {
             .ok_or(RowFault::BadMember("files"))
     }
 
-    /// What the row shares with others, and what it has alone.
+    /// The files that the row shares with others, and its own.
     fn files(&self, alloc: Global, row: &Value) -> Result<Vec<Placed>, RowFault> {
         let mut files = Vec::new(alloc);
         if let Some(name) = member(row, "files") {
@@ -164,7 +165,7 @@ fn text_of(bytes: &[u8]) -> Result<&str, RowFault> {
         .ok_or(RowFault::BadMember("gives"))
 }
 
-/// What is said of a command whose output goes where nothing is taken, after its exit status.
+/// The exit status of a command whose output is not taken, and its fault, if it has one.
 fn run_to_full(alloc: Global, row: &Value) -> Result<String, RowFault> {
     let words = words_of(alloc, text_in(row, "command")?)?;
     let reason = match member(row, "fault") {
@@ -186,8 +187,8 @@ fn run_to_full(alloc: Global, row: &Value) -> Result<String, RowFault> {
     }
 }
 
-/// What is said of a command line: how many words it has, or which is no text. In the row a slash
-/// parts the words.
+/// How many words a command line has, or which of them is not text. In the row, slashes separate
+/// the words.
 fn told_words(alloc: Global, row: &Value) -> Result<String, RowFault> {
     let line = bytes_in(alloc, row, "line")?;
     let each: Vec<&[u8]> = line.as_slice().split(|byte| *byte == b'/').collect(alloc)?;

@@ -1,4 +1,4 @@
--- Why the items of a list are no values, as the function that reads them tells it.
+-- Why the items of a list are not values, as the function that reads them reports it.
 use Rattle.serde_json.specs.Data.{Data, Items}
 use Rattle.it_base.specs.List.{IsFirstBad}
 use Rattle.it_base.specs.declared.list.ListFault.{ListFault}

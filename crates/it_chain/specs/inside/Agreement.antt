@@ -1,5 +1,4 @@
--- Whether the records of a step agree, as the functions judge it. Nothing that is trusted stands
--- here.
+-- Whether the records of a step agree, as the functions judge it. Nothing here is trusted.
 use Rattle.std.specs.Prelude.{◌≡◌, ◌≢◌, ◌⊎◌, ℕ, List, [], ◌∷◌, Result, Ok, Err, ⊤}
 use Rattle.std.specs.List.{AllByRecursion}
 use Rattle.it_docs.specs.declared.step.Step.{Step}
@@ -10,7 +9,7 @@ use Rattle.it_chain.specs.declared.refusal.ChainError.{ChainError}
 use Rattle.it_chain.specs.declared.refusal.ChainError.TheVariants.{Refused, OutOfMemory}
 use Rattle.it_chain.specs.declared.refusal.ChainFault.TheVariants.{Disagree}
 
--- the first of the others that is not the same as the first record
+-- the id of the first other record that differs from the first record
 abbrev pub IsFirstOther : IdRecord → List IdRecord → List ℕ → Type 0
 IsFirstOther first [] id = ⊥
 IsFirstOther first (q ∷ qs) id =

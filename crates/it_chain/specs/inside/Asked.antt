@@ -1,5 +1,4 @@
--- How far the functions that verify a level raise the meter that they are lent. Nothing that is
--- trusted stands here.
+-- How far the functions that verify a level raise the meter lent to them. Nothing here is trusted.
 use Rattle.std.specs.Prelude.{◌≡◌, ℕ, zero, suc, ◌+◌, ◌≤◌, List, length, Option, None, Some, Result}
 use Rattle.std.specs.Prelude.{Ok, Err, ⊤}
 use Rattle.std.specs.List.{sum_by}
@@ -20,11 +19,11 @@ use Rattle.it_chain.specs.declared.counted_bodies.Counting.{Counting}
 use Rattle.it_chain.specs.declared.counted_bodies.Counting.TheVariants.{Nothing, One, Several}
 use Rattle.it_chain.specs.declared.record.IdRecord.{IdRecord}
 
--- a meter was raised by no less than a number, and by no more than each of which Most holds
+-- a meter was raised by at least a number, and by at most each number for which Most holds
 abbrev pub RaisedWithin : ℕ → (ℕ → Type 0) → Meter → Meter → Type 0
 RaisedWithin least Most = RaisedBy (λ k. (least ≤ k) × ((n : ℕ) → Most n → k ≤ n))
 
--- the same of a call that may fail, and that asks at least so often for a value
+-- the same for a call that may fail: the lower bound is that of its value, or 0 if it fails
 abbrev pub Asks : {A E : Type 0} → (A → ℕ) → (ℕ → Type 0) → Meter → Meter → Result A E → Type 0
 Asks least Most old new (Ok x) = RaisedWithin (least x) Most old new
 Asks least Most old new (Err e) = RaisedWithin 0 Most old new
@@ -37,7 +36,7 @@ SignaturesIn = IsSum (λ envelope n. n ≡ length envelope.signatures)
 abbrev pub signature_count : List Envelope → ℕ
 signature_count envelopes = sum_by (λ envelope. length envelope.signatures) envelopes
 
--- where something counts for an id, a signature was asked for
+-- where one body counts for an id, a signature was asked for
 abbrev pub least_counted : Counting → ℕ
 least_counted Nothing = 0
 least_counted (One key body) = 1
@@ -47,7 +46,7 @@ abbrev pub least_given : Option IdRecord → ℕ
 least_given None = 0
 least_given (Some r) = 1
 
--- how many keys signed for steps, added up
+-- how many keys signed for each step, added up
 abbrev pub key_total : List StepResult → ℕ
 key_total results = sum_by (λ result. result.keys) results
 
@@ -56,7 +55,7 @@ abbrev pub cost_below : Setting → ℕ → Costing
 cost_below setting zero = no_cost
 cost_below setting (suc depth) = ChainCosts setting depth
 
--- a key id costs the signatures of its candidates, and what bounds each of its sublayouts
+-- a key id costs the signatures of its candidates, plus one bound on the cost of any sublayout
 pub record IdCosts (sub : Costing) (setting : Setting) (layout : Layout) (bundle : Contents)
     (step : Step) (signatures : ℕ) (id : List ℕ) (n : ℕ) : Type 0 where
   pub sublayouts : ℕ
@@ -65,23 +64,23 @@ pub record IdCosts (sub : Costing) (setting : Setting) (layout : Layout) (bundle
       × sub sublayout (folder_of step.name id bundle) m × (m ≤ sublayouts)
   pub sum : n ≡ signatures + sublayouts
 
--- a body costs what it does as a sublayout
+-- a bound on what a body costs as a sublayout
 abbrev pub BodyCosts : Costing → Contents → List ℕ → List ℕ → Body → ℕ → Type 0
 BodyCosts sub bundle step id (of_link link) n = ⊤
 BodyCosts sub bundle step id (of_layout layout) n =
     (m : ℕ) × sub layout (folder_of step id bundle) m × (m ≤ n)
 
 -- ---- the least that is asked for a value
--- a meter was raised by no less than each of which Least holds
+-- a meter was raised by at least each number for which Least holds
 abbrev pub RaisedAtLeast : (ℕ → Type 0) → Meter → Meter → Type 0
 RaisedAtLeast Least old new = (n : ℕ) → Least n → RaisedBy (λ m. n ≤ m) old new
 
--- what the sublayouts of a level take at the least
+-- what the sublayouts of a level take at least
 abbrev pub fewest_below : Setting → ℕ → Costing
 fewest_below setting zero = no_cost
 fewest_below setting (suc depth) = ChainFewest setting depth
 
--- a body takes what it does as a sublayout
+-- what a body takes as a sublayout; a link takes 0
 abbrev pub BodyFewest : Costing → Contents → List ℕ → List ℕ → Body → ℕ → Type 0
 BodyFewest sub bundle step id (of_link link) n = n ≡ 0
 BodyFewest sub bundle step id (of_layout layout) n = sub layout (folder_of step id bundle) n

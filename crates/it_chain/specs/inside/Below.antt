@@ -1,4 +1,4 @@
--- The results of the sublayouts of a level. Nothing that is trusted stands here.
+-- The results of the sublayouts of a level. Nothing here is trusted.
 use Rattle.std.specs.Prelude.{ℕ, zero, suc}
 use Rattle.it_docs.specs.declared.layout.Layout.{Layout}
 use Rattle.it_chain.specs.Chain.{Chain, none_holds}
@@ -17,7 +17,7 @@ abbrev pub fails_below : Setting → ℕ → Failing
 fails_below setting zero = too_deep
 fails_below setting (suc depth) = uninspected (FirstChainFailure setting depth)
 
--- what stands at the places of a level
+-- the failures at the places of a level
 abbrev pub StandsAt : Setting → ℕ → Layout → Contents → ChainPlace → ChainRefusal → Type 0
 StandsAt setting depth =
     StandsInChain (holds_below setting depth) (fails_below setting depth) setting

@@ -1,5 +1,4 @@
--- The files that can count for a step, as the functions read them. Nothing that is trusted stands
--- here.
+-- The files that can count for a step, as the functions read them. Nothing here is trusted.
 use Rattle.std.specs.Prelude.{◌≡◌, ◌≤◌, ℕ, List, Some, slice_get, Contains}
 use Rattle.it_base.specs.Sum.{CostsIfFound, IsSum}
 use Rattle.it_dsse.specs.Envelope.{EnvelopeOf}
@@ -22,17 +21,17 @@ as_body (held_layout layout) = of_layout layout
 abbrev pub IsBody : List ℕ → List ℕ → Held → Type 0
 IsBody step payload body = BodyOf step payload (as_body body)
 
--- the bytes are this envelope, of the type that bodies have
+-- the bytes are this envelope, of the in-toto type
 pub record IsRead (bytes : List ℕ) (envelope : Envelope) : Type 0 where
   pub is_envelope : EnvelopeOf bytes envelope
   pub type_is : envelope.payload_type ≡ in_toto_type
 
--- a file stands at a place, and its bytes are such an envelope
+-- there is a file at a place, and its bytes are such an envelope
 abbrev pub IsReadAt : List File → ℕ → Envelope → Type 0
 IsReadAt files place envelope =
     (file : File) × (slice_get files place ≡ Some file) × IsRead file.bytes envelope
 
--- the envelopes of the files that are such, and no others
+-- the envelopes of the in-toto type that are in the files, and no others
 pub record AreRead (files : List File) (envelopes : List Envelope) : Type 0 where
   pub each : (envelope : Envelope) → Contains envelopes envelope → (file : File)
       × Contains files file × IsRead file.bytes envelope
@@ -41,7 +40,7 @@ pub record AreRead (files : List File) (envelopes : List Envelope) : Type 0 wher
   pub most : (n : ℕ) → IsSum (λ file. CostsIfFound (EnvelopeOf file.bytes) HasSignatures) files n
       → signature_count envelopes ≤ n
 
--- the same of the files that are claimed for a step
+-- the same for the files that are claimed for a step
 abbrev pub AreCandidates : List ℕ → List File → List Envelope → Type 0
 AreCandidates step files envelopes =
     (claimed : List File) × AreClaimed step files claimed × AreRead claimed envelopes

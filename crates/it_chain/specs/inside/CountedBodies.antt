@@ -1,4 +1,4 @@
--- What counts for a key id among the files that were read. Nothing that is trusted stands here.
+-- What counts for a key id among the files that were read. Nothing here is trusted.
 use Rattle.std.specs.Prelude.{◌≡◌, ◌≢◌, ℕ, List, Contains}
 use Rattle.it_dsse.specs.Panel.{KeyNumber, Panel}
 use Rattle.it_dsse.specs.Signed.{Signed}
@@ -16,12 +16,12 @@ module _ (panel : Panel) (step id : List ℕ) (object : KeyObject) where
       Signed panel envelope id object found.0 × IsBody step envelope.payload found.1
 
   module _ (envelopes : List Envelope) where
-    -- one of the envelopes is such
+    -- such an envelope is among these
     pub record IsSigned (envelope : Envelope) (key : KeyNumber) (body : Held) : Type 0 where
       pub stands : Contains envelopes envelope
       pub signed : IsSignedBody envelope (key, body)
 
-    -- one body alone
+    -- one body, and no other
     pub record CountsOne (key : KeyNumber) (body : Held) : Type 0 where
       pub envelope : Envelope
       pub is : IsSigned envelope key body

@@ -1,4 +1,4 @@
--- The records of the key ids that count for a step. Nothing that is trusted stands here.
+-- The records of the key ids that count for a step. Nothing here is trusted.
 use Rattle.std.specs.Prelude.{◌≡◌, ℕ, List, [], ◌∷◌, Option, None, Some, Result, Ok, Err, Contains}
 use Rattle.it_dsse.specs.Panel.{KeyNumber}
 use Rattle.it_docs.specs.declared.layout.Layout.{Layout}
@@ -22,19 +22,19 @@ module _ (sub : Holding) (setting : Setting) (layout : Layout) (bundle : Content
     pub alone : (other : List ℕ) → Counted setting layout bundle step id other
         → recorded.payload ≡ other
 
-  -- an id does not count, or does so with a record
+  -- an id does not count, or counts with a record
   abbrev pub Gives : List ℕ → Option IdRecord → Type 0
   Gives id None = (payload : List ℕ) → ¬ Counted setting layout bundle step id payload
   Gives id (Some r) = IsGiven id r
 
--- each record's id is before those of the later ones
+-- each record's id comes before those of the later ones
 abbrev pub InOrder : List IdRecord → Type 0
 InOrder [] = Unit {0}
 InOrder (r ∷ rs) = ((other : IdRecord) → Contains rs other → IsBefore r.id other.id) × InOrder rs
 
 module _ (sub : Holding) (setting : Setting) (layout : Layout) (bundle : Contents)
     (step : Step) where
-  -- the records of a step: of each id that counts, once
+  -- the records of a step: one for each id that counts
   pub record AreRecords (records : List IdRecord) : Type 0 where
     pub each : (r : IdRecord) → Contains records r → IsGiven sub setting layout bundle step r.id r
     pub all : (id payload : List ℕ) → Counted setting layout bundle step id payload → (r : IdRecord)

@@ -1,4 +1,4 @@
--- The code of `Recorded`. Nothing that is trusted stands here.
+-- The code of `Recorded`. Nothing here is trusted.
 use Rattle.std.specs.Prelude.{refl}
 use Rattle.std.specs.Coded.{Coded, code_by, coded×, coded_ℕ, coded_list}
 use Rattle.std.specs.FinMap as finite

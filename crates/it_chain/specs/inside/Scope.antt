@@ -1,5 +1,5 @@
--- What the functions that walk over a level promise, said of what the level is checked with.
--- Nothing that is trusted stands here.
+-- What the functions that walk a level promise, in terms of what the level is checked with. Nothing
+-- here is trusted.
 use Rattle.std.specs.Prelude.{ℕ, List, [], ◌∷◌, Option, Result, map, flat_map}
 use Rattle.std.specs.FinMap.{keys}
 use Rattle.std.specs.List.{AllZip}
@@ -33,7 +33,7 @@ use Rattle.it_chain.specs.declared.record.IdRecord.{IdRecord}
 use Rattle.it_chain.specs.declared.refusal.ChainError.{ChainError}
 use Rattle.it_chain.specs.declared.refusal.ChainRefusal.{ChainRefusal}
 
--- what a level is checked with: the setting, how deep sublayouts may lie, the layout and the bundle
+-- what a level is checked with: setting, how deep sublayouts may be nested, layout and bundle
 pub record Scope : Type 0 where
   pub setting : Setting
   pub depth : ℕ
@@ -50,11 +50,11 @@ scope_of setting level =
     }
 
 module _ (scope : Scope) where
-  -- what stands at a place of the level
+  -- a failure at a place of the level
   abbrev pub StandsIn : ChainPlace → ChainRefusal → Type 0
   StandsIn = StandsAt scope.setting scope.depth scope.layout scope.bundle
 
-  -- the results of the level's sublayouts, what they cost, and what they take at the least
+  -- the results of the level's sublayouts, what they cost, and what they take at least
   abbrev pub below_holds : Holding
   below_holds = holds_below scope.setting scope.depth
 
@@ -64,8 +64,8 @@ module _ (scope : Scope) where
   abbrev pub below_takes : Costing
   below_takes = fewest_below scope.setting scope.depth
 
-  -- ---- the level: nothing stands at any of its places and it holds with the records, or the first
-  -- that stands is answered; no more is asked than it costs, and for records no less than it takes
+  -- ---- the level: no place has a failure and it holds with the records, or the first failure is
+  -- answered; no more is asked than it costs, and for records no less than it takes
   abbrev pub LevelAnswers : Result ChainOf ChainError → Type 0
   LevelAnswers result =
       Walks StandsIn (places scope.layout)
@@ -106,7 +106,7 @@ module _ (scope : Scope) where
   StepTakes step =
       RaisedAtLeast (StepFewest below_takes scope.setting scope.layout scope.bundle step)
 
-  -- ---- the records of a step's key ids, of candidates that have so many signatures
+  -- ---- the records of a step's key ids, from candidates with this many signatures
   abbrev pub RecordsAnswer : Step → Result (Vec IdRecord Global) ChainError → Type 0
   RecordsAnswer step result =
       Walks StandsIn (map (at_id step) (keys scope.layout.keys))

@@ -1,5 +1,4 @@
--- The key ids that may sign for a step, as the functions list them. Nothing that is trusted stands
--- here.
+-- The key ids that may sign for a step, as the functions list them. Nothing here is trusted.
 use Rattle.std.specs.Prelude.{◌↔◌, ℕ, List, Contains}
 use Rattle.std.specs.Cmp.Lexicographic.{slice_cmp}
 use Rattle.std.specs.List.Sorted.{IsStrictlySortedBy}

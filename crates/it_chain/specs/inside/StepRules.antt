@@ -1,4 +1,4 @@
--- How the rules of steps are judged. Nothing that is trusted stands here.
+-- How the rules of steps are judged. Nothing here is trusted.
 use Rattle.std.specs.Prelude.{◌≡◌, ◌⊎◌, ℕ, List, [], ◌∷◌, Result, Ok, Err, ⊤}
 use Rattle.std.specs.List.{AllByRecursion}
 use Rattle.it_docs.specs.declared.step.Step.{Step}

@@ -1,4 +1,4 @@
--- The result of a sublayout, and so of a body. Nothing that is trusted stands here.
+-- The result of a sublayout, and so of a body. Nothing here is trusted.
 use Rattle.std.specs.Prelude.{◌≡◌, ℕ, List, [], Result, Ok, Err, ⊤}
 use Rattle.it_docs.specs.declared.layout.Layout.{Layout}
 use Rattle.it_rules.specs.Item.{Recorded}
@@ -32,7 +32,7 @@ BodyComes sub fails bundle step id body (Err (Refused refusal)) =
     BodyFails fails bundle step id body refusal
 BodyComes sub fails bundle step id body (Err OutOfMemory) = ⊤
 
--- an error with a pair put before
+-- an error, put under a pair
 abbrev pub IsUnder : List ℕ → List ℕ → ChainError → ChainError → Type 0
 IsUnder step id (Refused inner) (Refused outer) = outer ≡ under step id inner
 IsUnder step id (Refused inner) OutOfMemory = ⊤

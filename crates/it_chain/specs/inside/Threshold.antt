@@ -1,5 +1,4 @@
--- Whether enough keys signed for a step, as the functions judge it. Nothing that is trusted stands
--- here.
+-- Whether enough keys signed for a step, as the functions judge it. Nothing here is trusted.
 use Rattle.std.specs.Prelude.{◌≡◌, ◌⊎◌, ◌<◌, ◌≤◌, ℕ, List, ◌∷◌, Result, Ok, Err, map, ⊤}
 use Rattle.std.specs.Set.{distinct_count}
 use Rattle.it_docs.specs.declared.step.Step.{Step}
@@ -21,7 +20,7 @@ abbrev pub IsFew : Step → ℕ → ChainRefusal → Type 0
 IsFew step found refusal =
     (found < step.threshold) × (refusal ≡ here (Threshold step.name found step.threshold))
 
--- enough keys, and records of which there is a first
+-- enough keys, and at least one record
 abbrev pub IsEnough : Step → List IdRecord → Result StepResult ChainError → Type 0
 IsEnough step records result =
     (first : IdRecord) × (others : List IdRecord) × (records ≡ first ∷ others)

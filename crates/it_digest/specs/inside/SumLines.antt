@@ -5,13 +5,13 @@ use Rattle.it_digest.specs.Artifacts.{ArtifactMap}
 use Rattle.it_digest.specs.Sums.{IsSum}
 use Rattle.it_digest.specs.declared.compare.DigestSet.{DigestSet}
 
--- a line adds its entry to a map in which its path does not stand
+-- a line adds its entry to a map that does not have its path
 pub record AddsSum (line : List ℕ) (old new : ArtifactMap) : Type 0 where
   pub entry : List ℕ × DigestSet
   pub is_sum : IsSum line entry
   pub is_new : get old entry.0 ≡ None
   pub added : new ≡ insert old entry.0 entry.1
 
--- a line has no entry whose path does not stand in the map
+-- the map already has the path of each entry that the line gives
 abbrev pub AddsNothing : List ℕ → ArtifactMap → Type 0
 AddsNothing line sums = (entry : List ℕ × DigestSet) → IsSum line entry → get sums entry.0 ≢ None

@@ -1,4 +1,4 @@
--- Why a document is no layout, as the functions that read its parts tell it.
+-- Why a document is not a layout, as the functions that read its parts report it.
 use Rattle.serde_json.specs.Data.{Data}
 use Rattle.it_docs.specs.FirstPart.{IsFirstPart}
 use Rattle.it_docs.specs.LayoutPart.{PartReads, place}
@@ -14,14 +14,14 @@ abbrev pub NamesPart : (LayoutPart → Type 0) → LayoutFault → Type 0
 NamesPart P (BadLayout part) = P part
 NamesPart P OutOfMemory = Unit {0}
 
--- why a document is no layout
+-- why a document is not a layout
 abbrev pub IsLayoutFault : Data → LayoutFault → Type 0
 IsLayoutFault d = NamesPart (IsFirstPart place (PartReads d))
 
--- why the steps of a document do not read
+-- why the steps of a document cannot be read
 abbrev pub IsStepsFault : Data → LayoutFault → Type 0
 IsStepsFault d = NamesPart (IsNumberedPart (PartReads d) Steps Step)
 
--- why the inspections of a document do not read
+-- why the inspections of a document cannot be read
 abbrev pub IsInspectionsFault : Data → LayoutFault → Type 0
 IsInspectionsFault d = NamesPart (IsNumberedPart (PartReads d) Inspects Inspect)

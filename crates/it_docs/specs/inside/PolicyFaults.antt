@@ -1,4 +1,4 @@
--- Why a document is no policy, as the functions that read its parts tell it.
+-- Why a document is not a policy, as the functions that read its parts report it.
 use Rattle.serde_json.specs.Data.{Data}
 use Rattle.it_docs.specs.FirstPart.{IsFirstPart}
 use Rattle.it_docs.specs.PolicyPart.{PartReads, place}
@@ -13,10 +13,10 @@ abbrev pub NamesPart : (PolicyPart → Type 0) → PolicyFault → Type 0
 NamesPart P (BadPolicy part) = P part
 NamesPart P OutOfMemory = Unit {0}
 
--- why a document is no policy
+-- why a document is not a policy
 abbrev pub IsPolicyFault : Data → PolicyFault → Type 0
 IsPolicyFault d = NamesPart (IsFirstPart place (PartReads d))
 
--- why the expectations of a document do not read
+-- why the expectations of a document cannot be read
 abbrev pub IsExpectationsFault : Data → PolicyFault → Type 0
 IsExpectationsFault d = NamesPart (IsNumberedPart (PartReads d) Expectations Expectation)

@@ -1,4 +1,4 @@
--- The rule that a list of texts is, as an answer.
+-- The rule that a list of texts forms, as a function.
 use Rattle.std.specs.Prelude.{ℕ, List, [], ◌∷◌, Bool, ◌&&◌, if◌then◌else◌, codes, Option, Some}
 use Rattle.std.specs.Prelude.{None, option_map}
 use Rattle.it_docs.specs.Rule.{is_keyword}
@@ -22,18 +22,18 @@ short_of keyword operand =
     else (if is_keyword (codes "DISALLOW") keyword then Some (Disallow operand)
     else (if is_keyword (codes "REQUIRE") keyword then Some (Require operand) else None)))))
 
--- the words of a MATCH stand at their places
+-- the texts are the keywords MATCH, WITH and FROM
 abbrev pub is_match : List ℕ → List ℕ → List ℕ → Bool
 is_match match with from =
     is_keyword (codes "MATCH") match
     && (is_keyword (codes "WITH") with && is_keyword (codes "FROM") from)
 
--- the MATCH of these parts, where the side is one
+-- the MATCH of these parts, where the side's text names a side
 unfoldable pub match_of : List ℕ → List ℕ → List ℕ → List ℕ → List ℕ → Option Rule
 match_of pattern source side target step =
     option_map (λ s. Match pattern source s target step) (side_of side)
 
--- the MATCH with one prefix or both that the texts are
+-- the MATCH with one or both prefixes that the texts form
 unfoldable pub prefixed_of : List (List ℕ) → Option Rule
 prefixed_of (m ∷ p ∷ a ∷ b ∷ c ∷ d ∷ f ∷ s ∷ []) =
     if is_keyword (codes "IN") a && is_match m c f then match_of p b d [] s

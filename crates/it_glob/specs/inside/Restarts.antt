@@ -1,4 +1,4 @@
--- The place from which the matching of a pattern starts again.
+-- The place from which the matching of a pattern restarts.
 use Rattle.std.specs.Prelude.{ℕ, List, [], ◌∷◌, Option, Some, None, option_map}
 use Rattle.std.specs.Str.{chars}
 use Rattle.it_glob.specs.declared.item.Item.{Item}
@@ -8,7 +8,7 @@ use Rattle.it_glob.specs.declared.match_items.Restart.{Restart}
 abbrev pub Place : Type 0
 Place = List Item × List ℕ
 
--- the place that a restart lends
+-- the place that a restart borrows
 abbrev pub place_of : Option Restart → Option Place
 place_of restart = option_map (λ r. (r.items.now, chars r.text.now)) restart
 

@@ -32,7 +32,7 @@ IsParametersFault given BadParameters =
     (d : Data) (parameters : Fields) → ¬ AreParameters given d parameters
 IsParametersFault given other = ⊥
 
--- the text is written of this document in one line, and reads back where it is not too deep
+-- the text is this document written on one line, and reads back if it is not too deep
 pub record IsWritten (text : List ℕ) (d : Data) : Type 0 where
   pub reads : depth d ≤ max_depth → IsDocument text d
   pub one_line : IsCompactLine text d

@@ -9,7 +9,7 @@ use Rattle.std.specs.declared.vec.Vec.{Vec}
 use Rattle.it_digest.specs.declared.compare.DigestSet.{DigestSet}
 use Rattle.it_prov.specs.Index.{has_sha256, places_under}
 
--- a place stands at the end of some, where it was put if it did not stand there
+-- a place is at the end of a list, put there unless it was there already
 pub record IsEnded (place : ℕ) (old new : List ℕ) : Type 0 where
   pub stays : slice_get old (length old - 1) ≡ Some place → new ≡ old
   pub grows : slice_get old (length old - 1) ≢ Some place → new ≡ old ++ place ∷ []

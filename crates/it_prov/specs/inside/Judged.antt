@@ -29,7 +29,7 @@ use Rattle.it_prov.specs.Meets.{ParametersMeet, SignedByBuilder, StandsEqual}
 abbrev pub HasNames : List (List ℕ) → BTreeSet (Bor (List ℕ)) → Type 0
 HasNames names set = (name : List ℕ) → is_among set.keys name ≡ is_one_of names name
 
--- what is expected under a name stands there
+-- the tree expected under a name, if any, is there
 abbrev pub IsMet : Fields → Fields → List ℕ → Type 0
 IsMet expected given name =
     (tree : Json) → field_at name expected ≡ Some tree → StandsEqual given name tree
@@ -52,7 +52,7 @@ pub record IsExpected (expectation : Expectation) (provenance : Provenance) : Ty
 abbrev pub OfSome : {X : Type 0} → (X → ℕ → Type 0) → List X → ℕ → Type 0
 OfSome {X} R xs n = (x : X) × Contains xs x × R x n
 
--- a number of which P holds that is at least the wanted one or the greatest, or none where P
+-- a number of which P holds, at least the wanted one or otherwise the greatest, or none where P
 -- holds of none
 abbrev pub IsEnoughOrGreatest : ℕ → (ℕ → Type 0) → Option ℕ → Type 0
 IsEnoughOrGreatest wanted P None = (n : ℕ) → ¬ P n
@@ -98,7 +98,7 @@ pub record HasAnswers (place : ℕ) (builders : List Builder) (attestation : Att
     pub as_many : length answers ≡ length builders
 
 -- the level of a builder with which an envelope meets an expectation in all but the level, one that
--- is enough or else the greatest, and how far the meter was raised for it
+-- is high enough, otherwise the greatest, and how far the meter was raised for it
 pub record IsReached (panel : Panel) (expectation : Expectation) (digests : DigestSet)
     (envelope : Envelope) (old : Meter) (new : Meter) (reached : Option ℕ) : Type 0 where
   pub answer : IsEnoughOrGreatest expectation.level

@@ -13,7 +13,7 @@ use Rattle.it_docs.specs.declared.policy.Expectation.{Expectation}
 use Rattle.it_docs.specs.declared.statement.Statement.{Statement}
 use Rattle.it_prov.specs.Meets.{SignedByBuilder}
 
--- what lent builders are
+-- the builders that are lent
 abbrev pub lent_builders : List (Bor Builder) → List Builder
 lent_builders lent = map (λ builder. builder.now) lent
 
@@ -27,7 +27,7 @@ abbrev pub HasLevel : List (Bor Builder) → List ℕ → ℕ → Type 0
 HasLevel lent id level = (builder : Bor Builder) × Contains lent builder × (builder.now.id ≡ id)
     × (level ≡ builder.now.level)
 
--- the payload of an envelope is a Statement of which a subject has the digests
+-- the payload of an envelope is a Statement with a subject that has the digests
 abbrev pub IsAbout : DigestSet → Envelope → Type 0
 IsAbout digests envelope = (statement : Statement) × StatementOf envelope.payload statement
     × Any (λ subject. Agree subject digests) statement.subjects

@@ -1,4 +1,4 @@
--- What objects write for keys, and the names of keys.
+-- What objects give for keys, and the names of keys.
 use Rattle.std.specs.Prelude.{ℕ, List, Bool, false, Option, None, codes, if◌then◌else◌}
 use Rattle.std.specs.Prelude.{Contains, IsTrue, option_map}
 use Rattle.std.specs.Result.{result_ok}
@@ -36,7 +36,7 @@ fits (RsaInfo found) (Ed25519 bytes) = false
 fits (RsaInfo found) (P256 key) = false
 fits (RsaInfo found) (Rsa key) = bytes_eq found (rsa_info key)
 
--- the table has the key of a text, if it is one's
+-- the table has the key of a text, if there is one
 abbrev pub HoldsText : KeyText → Keys → Type 0
 HoldsText text keys = (key : Key) → IsTrue (fits text key) → IsKey key → Contains keys key
 

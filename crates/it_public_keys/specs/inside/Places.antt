@@ -1,4 +1,4 @@
--- The index of a table of keys, which finds what a walk over their names would find.
+-- The index of a table of keys, which finds what a scan of their names would find.
 use Rattle.std.specs.Prelude.{◌≡◌, ℕ, List, map, position}
 use Rattle.std.specs.BTreeMap.{BTreeMap, get}
 use Rattle.std.specs.Cmp.Lexicographic.{slice_cmp}

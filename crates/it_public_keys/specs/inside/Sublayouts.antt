@@ -33,11 +33,11 @@ pub record AreFound (Is : Layout → List ℕ → Type 0) (found : List Sublayou
   pub all : (layout : Layout) (name : List ℕ) → Is layout name → (one : Sublayout)
       × Contains found one × (one.layout ≡ layout) × (one.folder ≡ name)
 
--- the bytes of each are its layout
+-- the bytes of each read as its layout
 abbrev pub AreRead : List Sublayout → Type 0
 AreRead found = (one : Sublayout) → Contains found one → LayoutOf one.payload one.layout
 
--- they are found beside those that were before, and no others
+-- they are added to what was found before, and no others
 pub record AddsFound (Is : Layout → List ℕ → Type 0) (old new : List Sublayout) : Type 0 where
   pub reads : AreRead new
   pub keeps : (one : Sublayout) → Contains old one → Contains new one
@@ -68,12 +68,12 @@ module _ (Signs : Signing) where
   IsSigned step signers envelope layout name =
       LayoutOf envelope.payload layout × IsFolder step signers envelope name
 
-  -- the same of one of these envelopes
+  -- the same for one of these envelopes
   abbrev pub IsAmong : List ℕ → List Signer → List Envelope → Layout → List ℕ → Type 0
   IsAmong step signers envelopes layout name = (envelope : Envelope)
       × Contains envelopes envelope × IsSigned step signers envelope layout name
 
-  -- a layout counts for a step of another over files, and its own are in the folder
+  -- a sublayout counts for a step of a layout over files, and its own files are in the folder
   pub record IsOfStep (layout : Layout) (files : List File) (step : Step) (sublayout : Layout)
       (name : List ℕ) : Type 0 where
     pub envelope : Envelope
@@ -86,7 +86,7 @@ module _ (Signs : Signing) where
     pub is_layout : LayoutOf envelope.payload sublayout
     pub name_is : name ≡ folder_name step.name id
 
-  -- the same of one of its steps
+  -- the same for one of the layout's steps
   abbrev pub IsOneOf : Layout → List File → Layout → List ℕ → Type 0
   IsOneOf layout files sublayout name = (step : Step) × Contains layout.steps step
       × IsOfStep layout files step sublayout name
@@ -99,7 +99,7 @@ module _ (Signs : Signing) where
     pub counts : IsSublayout Signs layout bundle step id sublayout
     pub name_is : name ≡ folder_name step.name id
 
--- the same of one of the layouts above whose folder this is
+-- the same for one of the layouts above whose folder this is
 abbrev pub IsBelow : List (List RingEntry) → List Sublayout → List ℕ → Contents
     → Layout → List ℕ → Type 0
 IsBelow rings above folder bundle sublayout name = (one : Sublayout) × Contains above one

@@ -9,7 +9,7 @@ use it_tables::row::text_in;
 use serde_json::Value;
 use std::alloc::Global;
 
-/// How it ends where the link of the `step` is written, with the `materials` and the `products`.
+/// How writing the link of the `step` ends, with the `materials` and the `products`.
 ///
 /// # Errors
 ///
@@ -23,8 +23,8 @@ pub(crate) fn link(alloc: Global, row: &Value) -> Result<String, RowFault> {
     ended(alloc, &outcome, &pipe)
 }
 
-/// How it ends where the Statement of the `subjects` is written, with the `build_type`, the
-/// `builder` and, where there are any, the `parameters`.
+/// How writing the Statement about the `subjects` ends, with the `build_type`, the `builder` and,
+/// if there are any, the `parameters`.
 ///
 /// # Errors
 ///

@@ -8,7 +8,7 @@ use serde_json::Value;
 use std::alloc::Global;
 use std::str;
 
-/// How it ends where it is asked whether the `pattern` matches the `path`.
+/// How asking whether the `pattern` matches the `path` ends.
 ///
 /// # Errors
 ///
@@ -21,7 +21,7 @@ pub(crate) fn matches(alloc: Global, row: &Value) -> Result<String, RowFault> {
     ended(alloc, &outcome, &pipe)
 }
 
-/// How it ends where what is signed is written, for the `type` and the `body`.
+/// How writing what is signed for the `type` and the `body` ends.
 ///
 /// # Errors
 ///
@@ -34,8 +34,8 @@ pub(crate) fn pae(alloc: Global, row: &Value) -> Result<String, RowFault> {
     ended(alloc, &outcome, &pipe)
 }
 
-/// How it ends where the line is written of the file with this `path`, which holds the `input`,
-/// where files may have so many bytes: the `limit`.
+/// How writing the line of the file at this `path` ends, where the file holds the `input` and files
+/// may have up to `limit` bytes.
 ///
 /// # Errors
 ///
@@ -49,7 +49,7 @@ pub(crate) fn digest(alloc: Global, row: &Value) -> Result<String, RowFault> {
     ended(alloc, &outcome, &pipe)
 }
 
-/// What is left of the `input` where its line is written, or is not.
+/// What is left of the `input` after its line was written, or could not be.
 ///
 /// # Errors
 ///
@@ -66,8 +66,8 @@ pub(crate) fn digest_unread(alloc: Global, row: &Value) -> Result<String, RowFau
     Ok(String::from_str(alloc, left)?)
 }
 
-/// How it ends where the file's reader fails at the read with the number `fails_at`, counted from
-/// 1.
+/// How writing the line of a file ends where its reader fails at read number `fails_at`, counted
+/// from 1.
 ///
 /// # Errors
 ///

@@ -1,4 +1,4 @@
-//! What words are read as, and what is said of those that are no command.
+//! What words are read as, and what is said about words that are no command.
 use crate::commands::shown_words::shown;
 use it_tables::RowFault;
 use it_tables::row::{text_in, texts_in};
@@ -6,7 +6,7 @@ use it_words::words::{Words, WordsFault, read_words};
 use serde_json::Value;
 use std::alloc::{AllocError, Global};
 
-/// The command that the `words` are, or what is said of them where they are none.
+/// The command that the `words` are, or what is said about them if they are none.
 fn read(alloc: Global, row: &Value) -> Result<Result<Words, String>, RowFault> {
     let words = texts_in(alloc, row, "words")?;
     match read_words(alloc, words.as_slice()) {
@@ -16,11 +16,11 @@ fn read(alloc: Global, row: &Value) -> Result<Result<Words, String>, RowFault> {
     }
 }
 
-/// The values of the command that the `words` are, or what is said of them where they are none.
+/// The values of the command that the `words` are, or what is said about them if they are none.
 ///
 /// # Errors
 ///
-/// `BadMember` where they are no texts; `OutOfMemory` where memory was refused.
+/// `BadMember` where they are not texts; `OutOfMemory` where memory was refused.
 pub(crate) fn words(alloc: Global, row: &Value) -> Result<String, RowFault> {
     match read(alloc, row)? {
         Ok(words) => Ok(shown(alloc, &words)?),
@@ -36,13 +36,13 @@ fn shown_bool(alloc: Global, value: bool) -> Result<String, AllocError> {
 ///
 /// # Errors
 ///
-/// `BadMember` where they are no texts; `OutOfMemory` where memory was refused.
+/// `BadMember` where they are not texts; `OutOfMemory` where memory was refused.
 pub(crate) fn is_command(alloc: Global, row: &Value) -> Result<String, RowFault> {
     let is_command = read(alloc, row)?.is_ok();
     Ok(shown_bool(alloc, is_command)?)
 }
 
-/// What is said of the `words`, which are no command.
+/// What is said about the `words`, which are no command.
 fn note(alloc: Global, row: &Value) -> Result<String, RowFault> {
     match read(alloc, row)? {
         Ok(_) => Err(RowFault::BadMember("words")),
@@ -50,7 +50,7 @@ fn note(alloc: Global, row: &Value) -> Result<String, RowFault> {
     }
 }
 
-/// Whether what is said of the `words` begins with the `part`.
+/// Whether what is said about the `words` begins with the `part`.
 ///
 /// # Errors
 ///
@@ -61,7 +61,7 @@ pub(crate) fn note_begins(alloc: Global, row: &Value) -> Result<String, RowFault
     Ok(shown_bool(alloc, note.as_str().starts_with(part))?)
 }
 
-/// Whether what is said of the `words` has the `part` in it.
+/// Whether what is said about the `words` contains the `part`.
 ///
 /// # Errors
 ///
@@ -72,8 +72,8 @@ pub(crate) fn note_has(alloc: Global, row: &Value) -> Result<String, RowFault> {
     Ok(shown_bool(alloc, note.as_str().contains(part))?)
 }
 
-/// Whether what is said of the `words` has the `part` in the first of its lines, of which there are
-/// several.
+/// Whether what is said about the `words` has several lines, the first of which contains the
+/// `part`.
 ///
 /// # Errors
 ///

@@ -8,9 +8,9 @@ use std::alloc::Global;
 use std::fmt::Debug;
 use std::str;
 
-/// What the command of a row writes to: a writer with room for as many bytes as `room` says, that
-/// takes at most `most` at a write. Once it is full it answers an error where `breaks` is set, and
-/// else takes nothing. Where the row does not say how many, it takes all.
+/// What the command of a row writes to: a writer with room for `room` bytes that takes at most
+/// `most` per write; each is unlimited if the row does not give it. Once the writer is full, it
+/// answers an error if `breaks` is set, and otherwise takes nothing.
 ///
 /// # Errors
 ///
@@ -29,7 +29,7 @@ pub(crate) fn pipe_of(alloc: Global, row: &Value) -> Result<Pipe, RowFault> {
     })
 }
 
-/// A line of how a command ended, and what it wrote: as it is where that is text, otherwise in
+/// A line on how a command ended, and what it wrote: as it is if that is text, otherwise in
 /// hexadecimal digits.
 ///
 /// # Errors

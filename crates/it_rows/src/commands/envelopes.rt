@@ -11,7 +11,7 @@ use it_tables::row::{bytes_in, text_in};
 use serde_json::Value;
 use std::alloc::Global;
 
-/// How it ends where the `body` of the `type` is signed under the `id` of the `ring`.
+/// How signing the `body` of the `type` under the `id` of the `ring` ends.
 ///
 /// # Errors
 ///
@@ -26,8 +26,8 @@ pub(crate) fn sign(alloc: Global, row: &Value) -> Result<String, RowFault> {
     ended(alloc, &outcome, &pipe)
 }
 
-/// How it ends where the signature under the `id` of the `ring` is added to the `envelope` of the
-/// `body` of the `type`.
+/// How adding a signature under the `id` of the `ring` to the `envelope` ends, which is of the
+/// `body` and the `type`.
 ///
 /// # Errors
 ///
@@ -55,7 +55,7 @@ fn add_signature(
     Ok(run_sign_onto(alloc, &signature, envelope.as_bytes(), pipe))
 }
 
-/// How it ends where it is asked who of the `ring` signed the `envelope`.
+/// How asking who of the `ring` signed the `envelope` ends.
 ///
 /// # Errors
 ///
@@ -86,7 +86,7 @@ fn name_signers(
     Ok(outcome)
 }
 
-/// How it ends where the payload of the `envelope` is written.
+/// How writing the payload of the `envelope` ends.
 ///
 /// # Errors
 ///

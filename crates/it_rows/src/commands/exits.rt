@@ -6,11 +6,11 @@ use it_tables::row::text_in;
 use serde_json::Value;
 use std::alloc::Global;
 
-/// The status that the program ends with where a command ends so: the `outcome`.
+/// The status that the program ends with where a command ends with the `outcome`.
 ///
 /// # Errors
 ///
-/// `BadMember` where the outcome is none of those below; `OutOfMemory` where memory was refused.
+/// `BadMember` where the outcome is not one of those below; `OutOfMemory` where memory was refused.
 pub(crate) fn exit(alloc: Global, row: &Value) -> Result<String, RowFault> {
     let name = text_in(row, "outcome")?;
     let outcome = outcome_of(name).ok_or(RowFault::BadMember("outcome"))?;

@@ -7,8 +7,7 @@ use it_tables::row::texts_in;
 use serde_json::Value;
 use std::alloc::{AllocError, Global};
 
-/// How it ends where the file of the keys is written that the `files` hold, under the `id` where
-/// there is one.
+/// How writing the file of the keys in the `files` ends, under the `id` if there is one.
 ///
 /// # Errors
 ///

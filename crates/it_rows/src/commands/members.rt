@@ -5,11 +5,11 @@ use it_tables::row::{bytes_in, number_in, text_in};
 use serde_json::Value;
 use std::alloc::Global;
 
-/// The text that the member of this name is, where there is one.
+/// The text of the member of this name, if there is one.
 ///
 /// # Errors
 ///
-/// `BadMember` where it is no text.
+/// `BadMember` where it is not a text.
 pub(crate) fn text_if<'r>(row: &'r Value, name: &'static str) -> Result<Option<&'r str>, RowFault> {
     match member(row, name) {
         Some(_) => Ok(Some(text_in(row, name)?)),
@@ -17,7 +17,7 @@ pub(crate) fn text_if<'r>(row: &'r Value, name: &'static str) -> Result<Option<&
     }
 }
 
-/// The bytes that the member of this name is, where there is one.
+/// The bytes of the member of this name, if there is one.
 ///
 /// # Errors
 ///
@@ -34,11 +34,11 @@ pub(crate) fn bytes_if(
     }
 }
 
-/// The number of bytes that the member of this name is, or the greatest where there is none.
+/// The number of bytes that the member of this name gives, or the greatest if there is none.
 ///
 /// # Errors
 ///
-/// `BadMember` where it is no number.
+/// `BadMember` where it is not a number.
 pub(crate) fn count_or_most(row: &Value, name: &'static str) -> Result<usize, RowFault> {
     match member(row, name) {
         Some(_) => Ok(number_in(row, name)? as usize),

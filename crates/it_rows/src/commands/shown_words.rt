@@ -1,4 +1,4 @@
-//! The values of a command as a row says them.
+//! The values of a command as a row writes them.
 use it_base::text::Text;
 use it_words::words::Words;
 use it_words::words::digesting::DigestWords;
@@ -10,12 +10,12 @@ use it_words::words::stating::StatementWords;
 use it_words::words::verifying::VerifyWords;
 use std::alloc::{AllocError, Global};
 
-/// Each two words with a space between them.
+/// The words, separated by spaces.
 fn spaced(alloc: Global, words: &[&str]) -> Result<String, AllocError> {
     words.join(alloc, " ")
 }
 
-/// The texts with a plus sign between each two.
+/// The texts, separated by plus signs.
 fn joined(alloc: Global, texts: &[Text]) -> Result<String, AllocError> {
     let mut joined = String::new(alloc);
     for (index, text) in texts.iter().enumerate() {
@@ -35,8 +35,8 @@ fn shown_or_none(text: &Option<Text>) -> &str {
     }
 }
 
-/// The rings, with a star where public keys are checked too, and a question mark where the report
-/// is to be JSON.
+/// The rings, with a star if public keys are checked too, and a question mark if the report is to
+/// be JSON.
 fn shown_checks(alloc: Global, words: &VerifyWords) -> Result<String, AllocError> {
     let mut checks = joined(alloc, words.rings.as_slice())?;
     if words.public_keys {
@@ -130,9 +130,9 @@ fn shown_key(alloc: Global, words: &KeyWords) -> Result<String, AllocError> {
     spaced(alloc, &["key", files.as_str(), shown_or_none(&words.name)])
 }
 
-/// The name of a command and its values in the order of its type's fields, with a space between
-/// each two. Several paths have plus signs between them, and a value that is not there is `none`.
-/// Keys come after `by`, and `digest --recursive` is `below`.
+/// The name of a command and its values in the order of its type's fields, separated by spaces.
+/// Plus signs separate several paths, and a value that is missing is `none`. Keys come after `by`,
+/// and `digest --recursive` is `below`.
 ///
 /// # Errors
 ///

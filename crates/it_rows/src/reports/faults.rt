@@ -45,7 +45,7 @@ fn detailed(alloc: Global, name: &str, row: &Value) -> Result<Fault, RowFault> {
     }
 }
 
-/// The best level, where the row says one.
+/// The best level, if the row gives one.
 fn best_in(row: &Value) -> Option<u8> {
     u8::try_from(member(row, "best")?.as_u64()?).ok()
 }

@@ -1,4 +1,4 @@
-//! The parts of policies and layouts that rows describe, and whose rules.
+//! The parts of policies and layouts that rows describe, and whose rule failed.
 use crate::reports::verdicts::named;
 use it_chain::refusal::RuleItem;
 use it_docs::layout_fault::LayoutPart;

@@ -28,7 +28,7 @@ fn entry_of(entry: &Value) -> Result<(&str, DigestSet), RowFault> {
     Ok((path, digests::digests_in(entry, "digests")?))
 }
 
-/// What stood in the map before under the path of an entry that is put into it.
+/// Puts an entry into the map, and returns what was under its path before.
 fn put_entry(
     alloc: Global,
     map: &mut Artifacts,
@@ -56,7 +56,7 @@ fn digests_or_none(alloc: Global, found: Option<DigestSet>) -> Result<String, Al
     }
 }
 
-/// What stood before under the path of each entry that is put into a map.
+/// What was under the path of each entry before it was put into a map.
 fn put(alloc: Global, row: &Value) -> Result<String, RowFault> {
     let mut map = Artifacts::new(alloc);
     let mut text = String::new(alloc);
@@ -67,7 +67,7 @@ fn put(alloc: Global, row: &Value) -> Result<String, RowFault> {
     Ok(text)
 }
 
-/// The entries of a map, each with a semicolon behind it.
+/// The entries of a map, each followed by a semicolon.
 ///
 /// # Errors
 ///

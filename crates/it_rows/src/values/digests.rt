@@ -20,7 +20,7 @@ pub(crate) fn answer(alloc: Global, call: &str, row: &Value) -> Result<String, R
     }
 }
 
-/// The digest set that a member is.
+/// The digest set in a member.
 ///
 /// # Errors
 ///
@@ -29,7 +29,7 @@ pub(crate) fn digests_in(row: &Value, name: &'static str) -> Result<DigestSet, R
     digest_set(member_in(row, name)?).ok_or(RowFault::BadMember(name))
 }
 
-/// The digest set whose digests are filled each with the byte that the member says.
+/// The digest set in which each digest is filled with the byte that the member gives.
 fn filled_in(row: &Value, name: &'static str) -> Result<DigestSet, RowFault> {
     let set = member_in(row, name)?;
     Ok(DigestSet {
@@ -44,7 +44,7 @@ fn filled<const N: usize>(set: &Value, name: &str) -> Option<[u8; N]> {
     Some([byte; N])
 }
 
-/// How two sets compare, each with the other: once where that is the same.
+/// How two sets compare, in either direction: said once if both give the same.
 fn compare(alloc: Global, one: DigestSet, other: DigestSet) -> Result<String, RowFault> {
     let there = one.compare(&other);
     let back = other.compare(&one);
@@ -81,7 +81,7 @@ fn push_digest<const N: usize>(
     Ok(())
 }
 
-/// The SHA-256 of some bytes, as many times as the row says, by a reader with a limit.
+/// The SHA-256 of some bytes, repeated as often as the row says, by a reader with a limit.
 fn of_bytes(alloc: Global, row: &Value) -> Result<String, RowFault> {
     let times = number_if(row, "times").unwrap_or(1);
     let bytes = bytes_in(alloc, row, "bytes")?
@@ -94,7 +94,7 @@ fn of_bytes(alloc: Global, row: &Value) -> Result<String, RowFault> {
     }
 }
 
-/// The fault of reading a source of so many bytes with a limit, and how many reads there were.
+/// The fault of reading a source of this many bytes with a limit, and how many reads there were.
 fn of_source(alloc: Global, row: &Value) -> Result<String, RowFault> {
     let mut source = Source {
         bytes: number_in(row, "bytes")?,

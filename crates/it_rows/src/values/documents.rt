@@ -22,7 +22,7 @@ pub(crate) fn answer(alloc: Global, call: &str, row: &Value) -> Result<String, R
     }
 }
 
-/// The document as a text with no space, or `none`.
+/// The document as a text without spaces, or `none`.
 fn value_text(alloc: Global, value: Option<&Value>) -> Result<String, RowFault> {
     match value {
         Some(value) => Ok(value.to_string(alloc)?),
@@ -36,7 +36,7 @@ fn read(alloc: Global, row: &Value) -> Result<String, RowFault> {
     value_text(alloc, document.as_ref())
 }
 
-/// Whether so many lists, each inside the one before, are a document.
+/// Whether this many lists, each inside the one before, are a document.
 fn read_nested(alloc: Global, row: &Value) -> Result<String, RowFault> {
     let text = nested(alloc, number_in(row, "levels")? as usize)?;
     let document = read_document(alloc, text.as_bytes())?;
@@ -48,14 +48,14 @@ fn member_of(alloc: Global, row: &Value) -> Result<String, RowFault> {
     value_text(alloc, member(document, text_in(row, "name")?))
 }
 
-/// The text that a document as a whole is.
+/// The text, if the whole document is one.
 fn text(alloc: Global, row: &Value) -> Result<String, RowFault> {
     let bytes = bytes_in(alloc, row, "bytes")?;
     let found = from_bytes::<Text>(alloc, bytes.as_slice())?;
     text_or_none(alloc, found.as_ref().map(Text::as_str))
 }
 
-/// The seconds of a moment from the beginning of 1970.
+/// The seconds of a moment since the beginning of 1970.
 fn moment(alloc: Global, row: &Value) -> Result<String, RowFault> {
     match read_moment(text_in(row, "text")?) {
         Ok(seconds) => Ok(seconds.to_string(alloc)?),

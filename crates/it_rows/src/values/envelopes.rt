@@ -50,7 +50,7 @@ fn signatures_told(alloc: Global, signatures: &[Signature]) -> Result<String, Al
     Ok(text)
 }
 
-/// The envelope that the text of a row is.
+/// The envelope in the text of a row.
 fn envelope_in(alloc: Global, row: &Value) -> Result<Envelope, RowFault> {
     let text = text_in(row, "text")?;
     let envelope = Envelope::read(alloc, text.as_bytes());
@@ -81,7 +81,7 @@ fn signed(alloc: Global, row: &Value) -> Result<String, RowFault> {
     }
 }
 
-/// That the writing of an envelope stops at each byte for which there is no room, or the first
+/// Says that writing an envelope stops at each byte for which there is no room, or names the first
 /// where it does not.
 fn stop(alloc: Global, row: &Value) -> Result<String, RowFault> {
     let text = text_in(row, "text")?.as_bytes();
@@ -95,8 +95,8 @@ fn stop(alloc: Global, row: &Value) -> Result<String, RowFault> {
     Ok(format!(in alloc; "stops at each of {}", text.len())?)
 }
 
-/// Whether the writing of an envelope to a pipe with room for this front of its text fails, and
-/// wrote the front.
+/// Whether writing an envelope to a pipe with room for this front of its text fails after writing
+/// the front.
 fn stops_after(alloc: Global, envelope: &Envelope, full: Full, front: &[u8]) -> bool {
     let mut pipe = Pipe {
         taken: Vec::new(alloc),
@@ -108,7 +108,7 @@ fn stops_after(alloc: Global, envelope: &Envelope, full: Full, front: &[u8]) -> 
     answer == Err(WriteFault::Write) && pipe.taken.as_slice() == front
 }
 
-/// The key object that a document is.
+/// The key object in the text of a row.
 fn key(alloc: Global, row: &Value) -> Result<String, RowFault> {
     match from_bytes::<KeyObject>(alloc, text_in(row, "text")?.as_bytes())? {
         Some(object) => Ok(object_told(alloc, &object)?),

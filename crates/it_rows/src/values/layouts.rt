@@ -13,7 +13,7 @@ use it_tables::row::member_in;
 use serde_json::Value;
 use std::alloc::{AllocError, Global};
 
-/// What a call on the layout that the document of a row is answers.
+/// What a call on the layout in the document of a row answers.
 pub(crate) fn answer(alloc: Global, call: &str, row: &Value) -> Result<String, RowFault> {
     let text = member_in(row, "document")?.to_string(alloc)?;
     match call {
@@ -69,7 +69,7 @@ fn steps_told(alloc: Global, steps: &[Step]) -> Result<String, AllocError> {
     Ok(text)
 }
 
-/// The name of a step, how many of which keys must sign, and its rules.
+/// The name of a step, its threshold, its keys, and its rules.
 fn step_told(alloc: Global, step: &Step) -> Result<String, AllocError> {
     let name = step.name.as_str();
     let threshold = step.threshold;

@@ -6,7 +6,7 @@ use it_tables::row::member_in;
 use serde_json::Value;
 use std::alloc::{AllocError, Global};
 
-/// What a call on the link that the document of a row is answers.
+/// What a call on the link in the document of a row answers.
 pub(crate) fn answer(alloc: Global, call: &str, row: &Value) -> Result<String, RowFault> {
     let text = member_in(row, "document")?.to_string(alloc)?;
     match call {

@@ -37,7 +37,7 @@ fn texts(alloc: Global, row: &Value) -> Result<String, RowFault> {
     }
 }
 
-/// The texts, each with a semicolon behind it.
+/// The texts, each followed by a semicolon.
 pub(crate) fn texts_told(alloc: Global, texts: &[Text]) -> Result<String, AllocError> {
     let mut all = String::new(alloc);
     for text in texts {
@@ -46,7 +46,7 @@ pub(crate) fn texts_told(alloc: Global, texts: &[Text]) -> Result<String, AllocE
     Ok(all)
 }
 
-/// The text of a part, or another where it is missing.
+/// The text of a part, or another if it is missing.
 fn text_or(alloc: Global, row: &Value) -> Result<String, RowFault> {
     let document = member_in(row, "document")?;
     let other = Text::copy(alloc, text_in(row, "or")?)?;

@@ -19,7 +19,7 @@ pub(crate) fn answer(alloc: Global, call: &str, row: &Value) -> Result<String, R
     }
 }
 
-/// The text of a member, as many times as the row's `times` says, or once.
+/// The text of a member, repeated as often as the row's `times` says, or once.
 fn repeated(alloc: Global, row: &Value, name: &'static str) -> Result<String, RowFault> {
     let times = number_if(row, "times").unwrap_or(1);
     Ok(text_in(row, name)?.repeat(alloc, times as usize)?)
@@ -41,7 +41,7 @@ fn steps(alloc: Global, pattern: &Pattern, row: &Value) -> Result<String, RowFau
     Ok(format!(in alloc; "{matched} in {steps}")?)
 }
 
-/// Whether the pattern is found not to match in at most so many steps.
+/// Whether the pattern is found not to match within the `most` steps of the row.
 fn fails_within(alloc: Global, pattern: &Pattern, row: &Value) -> Result<String, RowFault> {
     let (matched, steps) = pattern.matches_counted(text_in(row, "path")?);
     let within = !matched && steps <= number_in(row, "most")?;

@@ -10,7 +10,7 @@ use it_tables::row::member_in;
 use serde_json::Value;
 use std::alloc::{AllocError, Global};
 
-/// What a call on the policy that the document of a row is answers.
+/// What a call on the policy in the document of a row answers.
 pub(crate) fn answer(alloc: Global, call: &str, row: &Value) -> Result<String, RowFault> {
     let text = member_in(row, "document")?.to_string(alloc)?;
     match call {
@@ -51,7 +51,7 @@ fn expectation_told(alloc: Global, expectation: &Expectation) -> Result<String, 
     format!(in alloc; "{files} at {level} built as {build} by ({builders})")
 }
 
-/// The kind of build, its parameters, and the names of those that are not looked at.
+/// The kind of build, its parameters, and the names of those that are ignored.
 fn build_told(alloc: Global, expectation: &Expectation) -> Result<String, AllocError> {
     let kind = expectation.build_type.as_str();
     let parameters = members_told(alloc, &expectation.parameters)?;

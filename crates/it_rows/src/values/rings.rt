@@ -1,4 +1,4 @@
-//! Rings of secrets: how they are read, and what they say of keys and signatures.
+//! Rings of secrets: how they are read, and what they say about keys and signatures.
 use crate::values::codes::parts_in;
 use crate::values::signing_ring::{RING, object_of, ring_of};
 use crate::values::told::joined;
@@ -21,7 +21,7 @@ pub(crate) fn answer(alloc: Global, call: &str, row: &Value) -> Result<String, R
     }
 }
 
-/// The ids of the ring that a text is.
+/// The ids of the ring in a text.
 fn ids(alloc: Global, text: &str) -> Result<String, RowFault> {
     match ring_of(alloc, text) {
         Ok(ring) => joined(alloc, ring.ids(alloc)?.as_slice()),
@@ -29,7 +29,7 @@ fn ids(alloc: Global, text: &str) -> Result<String, RowFault> {
     }
 }
 
-/// The ring of the devices, in which each secret is its id, but for that of `bobz`.
+/// The ring that rows sign with, in which each secret is its id, except that of `bobz`.
 ///
 /// # Errors
 ///
@@ -55,7 +55,7 @@ fn key(alloc: Global, row: &Value) -> Result<String, RowFault> {
     Ok(format!(in alloc; "{found:?}")?)
 }
 
-/// The text of a ring with so many entries, whose ids are numbers and whose secrets are all empty.
+/// The text of a ring with this many entries, whose ids are numbers and whose secrets are empty.
 fn ring_text(alloc: Global, entries: u64) -> Result<String, AllocError> {
     let mut text = String::from_str(alloc, "[")?;
     for n in 0..entries {
@@ -66,7 +66,7 @@ fn ring_text(alloc: Global, entries: u64) -> Result<String, AllocError> {
     Ok(text)
 }
 
-/// How many ids a ring with so many entries has, and the number of the key of one of them.
+/// How many ids a ring with this many entries has, and the number of the key of one of them.
 fn large(alloc: Global, row: &Value) -> Result<String, RowFault> {
     let text = ring_text(alloc, number_in(row, "entries")?)?;
     match ring_of(alloc, text.as_str()) {
@@ -81,7 +81,7 @@ fn size_told(alloc: Global, ring: &HmacRing, id: &str) -> Result<String, AllocEr
     format!(in alloc; "{count} ids, {key:?}")
 }
 
-/// Whether bytes are a signature of a message by a key, and how many checks were asked for then.
+/// Whether bytes are a signature of a message by a key, and how many checks were then asked for.
 fn signature(alloc: Global, row: &Value) -> Result<String, RowFault> {
     let ring = known_ring(alloc)?;
     let message = parts_in(alloc, row, "message")?;

@@ -15,7 +15,7 @@ pub(crate) fn answer(alloc: Global, call: &str, row: &Value) -> Result<String, R
     }
 }
 
-/// The rule that the words of a line are.
+/// The rule in the words of a row.
 fn read(alloc: Global, row: &Value) -> Result<String, RowFault> {
     let words = words(alloc, text_in(row, "words")?)?;
     match read_rule(alloc, words.as_slice())? {
@@ -24,7 +24,7 @@ fn read(alloc: Global, row: &Value) -> Result<String, RowFault> {
     }
 }
 
-/// Rules as texts, each with a semicolon behind it.
+/// Rules as texts, each followed by a semicolon.
 ///
 /// # Errors
 ///

@@ -13,11 +13,11 @@ use it_tables::row::{list_in, text_in, texts_in};
 use serde_json::Value;
 use std::alloc::{AllocError, Global};
 
-/// A ring of carol, and of an alice whose secret is that of bob.
+/// A ring of carol, and of an alice with bob's secret.
 const CAROL_AND_ANOTHER_ALICE: &str =
     r#"[{"id":"carol","secret":"6361726f6c"},{"id":"alice","secret":"626f62"}]"#;
 
-/// What a call on who signed an envelope answers, by the panel of the rings that the row names.
+/// What a call on who signed an envelope answers, with a panel of the rings that the row names.
 pub(crate) fn answer(alloc: Global, call: &str, row: &Value) -> Result<String, RowFault> {
     let mut panel: Vec<Box<dyn SignatureCheck>> = Vec::new(alloc);
     for name in list_in(row, "panel")? {
@@ -85,7 +85,7 @@ fn key(alloc: Global, row: &Value, panel: &[Box<dyn SignatureCheck>]) -> Result<
     Ok(format!(in alloc; "{found:?}, {} tried", meter.asked)?)
 }
 
-/// Those of some ids that signed.
+/// Which of some ids signed.
 fn ids(alloc: Global, row: &Value, panel: &[Box<dyn SignatureCheck>]) -> Result<String, RowFault> {
     let envelope = envelope_in(alloc, row)?;
     let object = object_of(alloc, "hmac-sha256")?;

@@ -4,17 +4,17 @@ use it_dsse::key_object::KeyObject;
 use it_dsse::ring::{HmacRing, RingFault};
 use std::alloc::{AllocError, Global};
 
-/// Each secret is the id's own bytes, but for `bobz`, whose is `bob` with a zero byte at its end.
+/// Each secret is its id's bytes, except that of `bobz`: `bob` with a zero byte at its end.
 pub(crate) const RING: &str = r#"[{"id":"owner","secret":"6f776e6572"},
     {"id":"alice","secret":"616c696365"},{"id":"bobz","secret":"626F6200"},
     {"id":"bob","secret":"626f62"},{"id":"carol","secret":"6361726f6c"}]"#;
 
-/// The ring that this text is.
+/// The ring in this text.
 pub(crate) fn ring_of(alloc: Global, text: &str) -> Result<HmacRing, RingFault> {
     HmacRing::read(alloc, text.as_bytes())
 }
 
-/// An object of a symmetric key of this scheme, which says nothing more of the key.
+/// An object of a symmetric key of this scheme, with nothing more about the key.
 pub(crate) fn object_of(alloc: Global, scheme: &str) -> Result<KeyObject, AllocError> {
     Ok(KeyObject {
         keytype: Text::copy(alloc, "hmac")?,

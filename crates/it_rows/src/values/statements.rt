@@ -8,7 +8,7 @@ use it_tables::row::member_in;
 use serde_json::Value;
 use std::alloc::{AllocError, Global};
 
-/// What a call on the Statement that the document of a row is answers.
+/// What a call on the Statement in the document of a row answers.
 pub(crate) fn answer(alloc: Global, call: &str, row: &Value) -> Result<String, RowFault> {
     let text = member_in(row, "document")?.to_string(alloc)?;
     match call {
@@ -29,7 +29,7 @@ fn read(alloc: Global, bytes: &[u8]) -> Result<String, RowFault> {
     }
 }
 
-/// The digests of the subjects of a Statement, its type, and its provenance.
+/// The digests of the subjects of a Statement, its predicate type, and its provenance.
 fn told(alloc: Global, statement: &Statement) -> Result<String, AllocError> {
     let subjects = subjects_told(alloc, statement.subjects.as_slice())?;
     let kind = statement.predicate_type.as_str();

@@ -15,7 +15,7 @@ pub(crate) fn digits_or_none(alloc: Global, found: Option<&[u8]>) -> Result<Stri
     }
 }
 
-/// The texts, each with a semicolon behind it.
+/// The texts, each followed by a semicolon.
 pub(crate) fn joined(alloc: Global, texts: &[String]) -> Result<String, RowFault> {
     let mut all = String::new(alloc);
     for text in texts {

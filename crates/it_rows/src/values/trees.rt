@@ -1,4 +1,4 @@
-//! What trees are equal, and what small types lend.
+//! Which trees are equal, and what small types lend.
 use it_base::document::read_document;
 use it_base::parts::FromDocument;
 use it_docs::table::Table;
@@ -21,7 +21,7 @@ pub(crate) fn answer(alloc: Global, call: &str, row: &Value) -> Result<String, R
     }
 }
 
-/// The tree that the text of a member is.
+/// The tree in the text of a member.
 fn tree_in(alloc: Global, row: &Value, name: &'static str) -> Result<Tree, RowFault> {
     let text = text_in(row, name)?.as_bytes();
     let document = read_document(alloc, text)?.ok_or(RowFault::BadMember(name))?;
@@ -34,7 +34,7 @@ fn equal(alloc: Global, row: &Value) -> Result<String, RowFault> {
     Ok(one.equals(&other).to_string(alloc)?)
 }
 
-/// The members with a whole number alone, and the one of them that is asked for.
+/// Members with nothing but a whole number, and the one of them that is asked for.
 fn member(alloc: Global, row: &Value) -> Result<String, RowFault> {
     let mut by_name = BTreeMap::new(alloc);
     let name = String::from_str(alloc, text_in(row, "name")?)?;
@@ -66,7 +66,7 @@ pub(crate) fn members_told(alloc: Global, members: &Members) -> Result<String, A
     Ok(text)
 }
 
-/// A tree in words: a text, null or a whole number that fits 64 bits, or else its kind.
+/// A tree in words: null, a flag, a text or a whole number of 64 bits; otherwise its kind.
 fn tree_told(alloc: Global, tree: &Tree) -> Result<String, AllocError> {
     match tree {
         Tree::Null => String::from_str(alloc, "null"),
@@ -112,7 +112,7 @@ fn numbers_told(alloc: Global, table: &Table<u64>) -> Result<String, AllocError>
     Ok(text)
 }
 
-/// How many trees a list of so many has.
+/// How many trees a list of this many has.
 fn list(alloc: Global, row: &Value) -> Result<String, RowFault> {
     let mut list = Vec::new(alloc);
     for _ in 0..number_in(row, "length")? {

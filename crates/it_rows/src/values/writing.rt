@@ -27,7 +27,7 @@ pub(crate) fn full_in(row: &Value) -> Result<Full, RowFault> {
     }
 }
 
-/// What the writing of a text answers, and what the pipe took of it.
+/// What writing a text answers, and what the pipe took of it.
 fn write_all(alloc: Global, row: &Value) -> Result<String, RowFault> {
     let mut pipe = Pipe {
         taken: Vec::new(alloc),

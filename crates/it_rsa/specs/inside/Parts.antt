@@ -2,7 +2,7 @@
 use Rattle.std.specs.Prelude.{◌≡◌, ℕ, ◌+◌, ◌/◌, ◌%◌, ◌≤◌, List, [], ◌∷◌, ◌++◌, length}
 use Rattle.it_rsa.specs.Info.{info_with, rsa_encryption}
 
--- bytes of lengths in question are the numbers in a SubjectPublicKeyInfo
+-- the bytes are a SubjectPublicKeyInfo with these two numbers, in lengths that a key may have
 pub record AreParts (info modulus exponent : List ℕ) : Type 0 where
   pub least : 256 ≤ length modulus
   pub most : length modulus ≤ 512
@@ -17,7 +17,7 @@ high n = n / 256 % 256
 abbrev pub low : ℕ → ℕ
 low n = n % 256
 
--- what stands before a modulus of so many bytes, where so many bytes are the exponent's
+-- what comes before a modulus of `size` bytes, where the exponent has `count` bytes
 abbrev pub info_head : ℕ → ℕ → List ℕ
 info_head size count =
     48 ∷ 130 ∷ high (size + count + 31) ∷ low (size + count + 31) ∷ rsa_encryption ++ 3 ∷ 130 ∷

@@ -14,7 +14,7 @@ use Rattle.it_chain.specs.declared.bundle.File.{File}
 use Rattle.it_rule_notes.specs.declared.counting_file.CountingFile.{CountingFile}
 use Rattle.it_rule_notes.specs.declared.counting_file.Signer.{Signer}
 
--- the bytes are an envelope of the type of in-toto
+-- the bytes are an envelope of the in-toto type
 pub record IsEnvelope (bytes : List ℕ) (envelope : Envelope) : Type 0 where
   pub is_envelope : EnvelopeOf bytes envelope
   pub type_is : envelope.payload_type ≡ in_toto_type
@@ -29,7 +29,7 @@ pub record IsListed (layout : Layout) (step : Step) (signer : Signer) : Type 0 w
   pub listed : Contains step.pubkeys signer.id.now
   pub known : get layout.keys signer.id.now ≡ Some signer.object.now
 
--- a file is claimed for a step, and is an envelope that the key signed, of a body for the step
+-- a file is claimed for a step, and is an envelope, signed with the key, of a body for the step
 pub record IsSigned (panel : Panel) (step : List ℕ) (signer : Signer) (file : File)
     (found : CountingFile) : Type 0 where
   pub envelope : Envelope

@@ -1,4 +1,4 @@
--- Rules that are judged, as they are lent.
+-- Judged rules, as they are lent.
 use Rattle.std.specs.Prelude.{◌≡◌, ℕ, ◌<◌, List, Some}
 use Rattle.std.specs.List.{slice_get}
 use Rattle.it_docs.specs.declared.rule.Rule.{Rule}

@@ -1,4 +1,4 @@
--- Where a path stands beside those that begin with a front, as tests.
+-- Tests of where a path is relative to those that begin with a front.
 use Rattle.std.specs.Prelude.{ℕ, Bool, ◌||◌, List, nat_eq}
 use Rattle.std.specs.List.{starts_with}
 use Rattle.std.specs.Ordering.{is_lt, nat_cmp}

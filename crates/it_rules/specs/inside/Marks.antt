@@ -14,7 +14,7 @@ pub record ArePaths (paths : List (Bor (List ℕ))) : Type 0 where
   pub in_order : AreInOrder paths
   pub are_texts : All (λ path. IsUtf8 path.now) paths
 
--- a path stands at some place
+-- a path is at some place
 pub record IsListed (paths : List (Bor (List ℕ))) (path : List ℕ) : Type 0 where
   pub place : ℕ
   pub lent : Bor (List ℕ)
@@ -30,12 +30,12 @@ pub record ArePathsOf (artifacts : ArtifactMap) (paths : List (Bor (List ℕ))) 
 abbrev pub is_marked : List Bool → ℕ → Bool
 is_marked marks place = slice_index_or marks place false
 
--- a path stands at some place without a mark
+-- a path is at some place without a mark
 pub record IsLeft (paths : List (Bor (List ℕ))) (marks : List Bool) (path : List ℕ) : Type 0 where
   pub listed : IsListed paths path
   pub unmarked : is_marked marks listed.place ≡ false
 
--- each path of which P holds stands at one of the places from start to end - 1
+-- each path for which P holds is at one of the places from start to end - 1
 pub record Covers (P : List ℕ → Type 0) (paths : List (Bor (List ℕ))) (start end : ℕ) : Type 0 where
   pub start_first : start ≤ end
   pub within : end ≤ length paths

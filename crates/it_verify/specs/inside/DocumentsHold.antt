@@ -1,4 +1,4 @@
--- The answers of the reading of the documents.
+-- What reading the documents answers.
 use Rattle.std.specs.FinMap.{empty}
 use Rattle.std.specs.Prelude.{◌≢◌, List, [], ◌∷◌}
 use Rattle.it_dsse.specs.Panel.{Panel}
@@ -15,7 +15,7 @@ pub record DocumentsHold (panel : Panel) (inputs : Inputs) (documents : Document
   pub some_file : documents.delivered ≢ empty
   pub owners : OwnersSign panel documents.envelope documents.policy.owners
 
--- the stages that speak of the documents alone
+-- the stages that are about the documents alone
 abbrev pub document_stages : List Stage
 document_stages =
     at_policy ∷ at_sums ∷ at_moment ∷ at_files ∷ at_envelope ∷ at_payload_type ∷ at_owners

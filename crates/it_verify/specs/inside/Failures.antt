@@ -1,4 +1,4 @@
--- What a function that fails answers, in the words of the definitions.
+-- What a function that fails answers, in terms of the definitions.
 use Rattle.std.specs.Prelude.{⊤}
 use Rattle.it_chain.specs.declared.refusal.ChainError.{ChainError}
 use Rattle.it_chain.specs.declared.refusal.ChainError.TheVariants as chain
@@ -7,12 +7,12 @@ use Rattle.it_verify.specs.Refusals.{refusal_of}
 use Rattle.it_verify.specs.declared.failure.Failure.{Failure}
 use Rattle.it_verify.specs.declared.failure.Failure.TheVariants.{Refused, OutOfMemory}
 
--- a failure: a refusal of which P holds, or that memory was refused
+-- a failure: a refusal for which P holds, or that memory was refused
 abbrev pub RefusedAs : (Refusal → Type 0) → Failure → Type 0
 RefusedAs P (Refused refusal) = P refusal
 RefusedAs P OutOfMemory = ⊤
 
--- why a layout does not hold of its links, as a failure of the whole
+-- why a layout does not hold for its links, as a failure of the verification
 abbrev pub failure_of : ChainError → Failure
 failure_of (chain.Refused refusal) = Refused (refusal_of refusal)
 failure_of chain.OutOfMemory = OutOfMemory

@@ -26,11 +26,11 @@ AreFirsts records firsts =
     → option_map (λ bytes. bytes.now) (get_by (λ k. slice_cmp nat_cmp name k.now) firsts)
     ≡ option_map (λ given. given.1) (find (λ given. bytes_eq given.0 name) records)
 
--- the bytes are this link, which bears the name
+-- the bytes are this link, which has the name
 abbrev pub IsLinkNamed : List ℕ → List ℕ → Link → Type 0
 IsLinkNamed name bytes link = LinkOf bytes link × (link.name ≡ name)
 
--- the bytes of a record, if there is one, are this link of the name, or none
+-- the link of this name in a record, if there is one, or why there is none
 abbrev pub IsRecord : List ℕ → Option (List ℕ) → Result Link Failure → Type 0
 IsRecord name None (Ok link) = ⊥
 IsRecord name None (Err (Refused refusal)) = refusal ≡ whole (RecordMissing name)
@@ -40,8 +40,8 @@ IsRecord name (Some bytes) (Err (Refused refusal)) =
     ((link : Link) → ¬ IsLinkNamed name bytes link) × (refusal ≡ whole (BadRecord name))
 IsRecord name (Some bytes) (Err OutOfMemory) = ⊤
 
--- rules on a side of what the inspection of a name recorded fail, first the one at an index, with
--- a path
+-- a rule on a side of what an inspection recorded fails; the refusal has the index and path of the
+-- first
 abbrev pub SideFails : Links → List ℕ → Side → List Rule → Link → Refusal → Type 0
 SideFails links name side rules link =
     ItemRulesFail links (of_inspection name) side rules (recorded_in link)

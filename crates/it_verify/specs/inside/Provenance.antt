@@ -11,7 +11,7 @@ use Rattle.it_report.specs.declared.refusal.Fault.TheVariants.{NoExpectation, No
 use Rattle.it_report.specs.declared.refusal.Refusal.{Refusal}
 use Rattle.it_verify.specs.Refusals.{whole}
 
--- the envelopes that lines read as, in their order; a line that reads as none is passed over
+-- the envelopes that lines read as, in their order; a line that reads as none is skipped
 abbrev pub AreRead : List (List ℕ) → List Envelope → Type 0
 AreRead [] envelopes = envelopes ≡ []
 AreRead (line ∷ lines) envelopes =
@@ -24,13 +24,13 @@ module _ (panel : Panel) (expectations : List Expectation) (envelopes : List Env
   abbrev pub FileProven : List ℕ × DigestSet → Type 0
   FileProven file = (index : ℕ) × IsFound panel expectations file.0 file.1 envelopes index
 
-  -- so many signatures are tried with the key by which one of the envelopes meets the expectation
+  -- this many signatures are tried with the key by which one of the envelopes meets the expectation
   -- that speaks of a file
   abbrev pub FileAsks : List ℕ × DigestSet → ℕ → Type 0
   FileAsks file n = (index : ℕ) × IsAsked panel expectations file.0 file.1 envelopes index n
 
   -- no expectation speaks of a file, or none of the envelopes meets the one that does, and this is
-  -- the best level with which one meets it in all but the level
+  -- the best level of a builder with which one meets it in all but the level
   abbrev pub FileLacks : List ℕ × DigestSet → Refusal → Type 0
   FileLacks file refusal =
       (NoneFits expectations file.0 × (refusal ≡ whole (NoExpectation file.0)))

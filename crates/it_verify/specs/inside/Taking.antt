@@ -1,4 +1,4 @@
--- What a verification that accepts takes of a meter.
+-- How far an accepting verification raises a meter.
 use Rattle.std.specs.Prelude.{◌≤◌, ⊤}
 use Rattle.it_dsse.specs.Meter.{RaisedBy}
 use Rattle.it_dsse.specs.Panel.{Panel}
@@ -11,7 +11,7 @@ use Rattle.it_report.specs.declared.verdict.Verdict.TheVariants as verdict
 use Rattle.it_verify.specs.VerificationTakes.{Takes, fewest}
 use Rattle.it_verify.specs.declared.inputs.Inputs.{Inputs}
 
--- a verdict that accepts raised a meter by the checks that it takes, or more
+-- an accepting verdict raised a meter by at least the checks that it takes
 abbrev pub TakesEnough : Panel → Inputs → Meter → Meter → Verdict → Type 0
 TakesEnough panel inputs old new (verdict.Accepted steps files) =
     RaisedBy (AtLeast (Takes panel inputs)) old new

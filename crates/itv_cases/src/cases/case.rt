@@ -1,4 +1,4 @@
-//! A case: the inputs of a verification, and the answer of another implementation.
+//! A case: the inputs of a verification, and the answer that is wanted.
 ghost use Rattle.std.specs.Prelude.{◌≤◌, [], false, codes, IfOk, map};
 ghost use Rattle.serde_json.specs.View.{view};
 ghost use Rattle.it_base.specs.Parts.{IsPart, IsPartOr};
@@ -44,11 +44,11 @@ pub(crate) struct Case {
     pub(crate) name: Text,
     /// What the verification looks at.
     pub(crate) inputs: Inputs,
-    /// The rings of secrets that signatures are checked with, in the order of their places.
+    /// The rings of secrets that signatures are checked with, in their order.
     pub(crate) rings: Sequence<HmacRing>,
     /// Whether signatures are checked by public keys too.
     pub(crate) public_keys: bool,
-    /// The answer of the other implementation.
+    /// The answer that is wanted.
     pub(crate) wanted: Wanted,
     ghost within_depth: { inputs.depth ≤ 8 },
 }
@@ -57,7 +57,7 @@ impl Case {
     ghost use Rattle.itv_cases.specs.Agreement.{IsRunOf};
     ghost use Rattle.itv_cases.specs.Cases.{CaseOf};
 
-    /// The case that a document is.
+    /// The case in a document.
     ///
     /// # Errors
     ///
@@ -101,7 +101,7 @@ impl Case {
     }
 }
 
-/// The table of all public keys that the verification could ask for beside the rings, where public
+/// The table of all public keys that the verification could ask for beside the rings, if public
 /// keys are asked for.
 fn table_for(
     alloc: Global,
@@ -156,11 +156,11 @@ pub(crate) fn inputs_in(alloc: Global, case: &Value) -> Result<Inputs, RowFault>
     })
 }
 
-/// How deep sublayouts may lie in a case, or in a row.
+/// How deep sublayouts may be nested in a case, or in a row.
 ///
 /// # Errors
 ///
-/// `BadMember` where there is no such member, or it is no number up to 8.
+/// `BadMember` where there is no such member, or it is not a number up to 8.
 pub(crate) fn depth_in(case: &Value) -> Result<u8, RowFault>
     ensures reads { IfOk result (IsPart IsNumber (codes "depth") (view case.now)) }
     ensures within { IfOk result (λ depth. depth ≤ 8) }
@@ -198,7 +198,7 @@ fn rings(alloc: Global, case: &Value) -> Result<Vec<HmacRing>, RowFault> {
     Ok(rings)
 }
 
-/// Whether public keys are asked for: where the member is not there, they are not.
+/// Whether public keys are asked for: if the member is missing, they are not.
 fn public_keys(case: &Value) -> Result<bool, RowFault>
     ensures { IfOk result (IsPartOr IsBoolean false (codes "public_keys") (view case.now)) }
 {

@@ -6,12 +6,12 @@ use it_tables::row::{bytes_of, list_in};
 use serde_json::Value;
 use std::alloc::Global;
 
-/// How deep folders may lie.
+/// How deep folders may be nested.
 const MOST_DEPTH: u8 = 32;
 
 const BAD: RowFault = RowFault::BadMember("links");
 
-/// The files and folders that the member `links` of a case tells.
+/// The files and folders that the member `links` of a case describes.
 pub(crate) fn read_links(alloc: Global, links: &Value) -> Result<Bundle, RowFault> {
     read_folder(alloc, links, MOST_DEPTH)
 }

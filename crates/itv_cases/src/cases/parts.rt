@@ -15,7 +15,7 @@ use it_tables::row::{bytes_of, member_in};
 use serde_json::Value;
 use std::alloc::{AllocError, Global};
 
-/// The text that a member is.
+/// The text in a member.
 pub(crate) fn text_part(alloc: Global, case: &Value, name: &'static str) -> Result<Text, RowFault>
     ensures { IfOk result (IsPart IsText name.now (view case.now)) }
 {
@@ -23,7 +23,7 @@ pub(crate) fn text_part(alloc: Global, case: &Value, name: &'static str) -> Resu
     text.ok_or(RowFault::BadMember(name))
 }
 
-/// The number below 256 that a member is.
+/// The number below 256 in a member.
 pub(crate) fn number_part(case: &Value, name: &'static str) -> Result<u8, RowFault>
     ensures { IfOk result (IsPart IsNumber name.now (view case.now)) }
 {

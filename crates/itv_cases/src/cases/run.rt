@@ -10,7 +10,7 @@ use it_base::text::Text;
 pub(crate) struct Run {
     /// The name of the case.
     pub(crate) name: Text,
-    /// The answer of the other implementation.
+    /// The answer that is wanted.
     pub(crate) wanted: Wanted,
     /// The answer of `verify_with_notes`.
     pub(crate) given: Answer,

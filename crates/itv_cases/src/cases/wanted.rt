@@ -16,14 +16,14 @@ use std::alloc::{AllocError, Global};
 
 const BAD_NOTES: RowFault = RowFault::BadMember("notes");
 
-/// The report and the status that are wanted, and the notes where they are.
+/// The report and the status that are wanted, and the notes if any are.
 #[derive(Drop)]
 pub(crate) struct Wanted {
     /// The bytes of the report.
     pub(crate) report: Sequence<u8>,
     /// The exit status.
     pub(crate) status: u8,
-    /// The bytes of the notes, or `None` where the case says nothing of them.
+    /// The bytes of the notes, or `None` if the case says nothing about them.
     pub(crate) notes: Option<Sequence<u8>>,
 }
 
@@ -47,7 +47,7 @@ impl Wanted {
     }
 }
 
-/// The bytes of the notes that a case wants, or `None` where it says nothing of them.
+/// The bytes of the notes that a case wants, or `None` if it says nothing about them.
 fn notes(alloc: Global, case: &Value) -> Result<Option<Sequence<u8>>, RowFault>
     ensures { IfOk result (IsPartOr IsNotes None (codes "notes") (view case.now)) }
 {
@@ -57,7 +57,7 @@ fn notes(alloc: Global, case: &Value) -> Result<Option<Sequence<u8>>, RowFault>
     }
 }
 
-/// The text of the lines that a value lists, or `None` where it is no list of texts.
+/// The text of the lines that a value lists, or `None` if it is not a list of texts.
 fn lines_of(alloc: Global, value: &Value) -> Result<Option<Sequence<u8>>, AllocError>
     ensures { IfOk result (λ found. IfSome found (IsLines (view value.now))) }
 {

@@ -6,7 +6,7 @@ use std::fs::{Metadata, OpenFile};
 use std::io;
 use std::io::{Read, Seek, SeekFrom, Write};
 
-/// What an opened file has left: bytes, so many further ones, and then a fault where there is one.
+/// What an opened file has left: bytes, some blank ones, and then a fault, if there is one.
 #[derive(Drop)]
 pub(crate) struct Content<'a> {
     bytes: &'a [u8],
@@ -15,7 +15,7 @@ pub(crate) struct Content<'a> {
 }
 
 impl<'a> Content<'a> {
-    /// All that a file has.
+    /// Everything that a file has.
     pub(crate) fn of(file: &'a File) -> Content<'a> {
         Content {
             bytes: file.bytes.as_slice(),
@@ -84,12 +84,12 @@ impl OpenFile for Content<'_> {
     }
 }
 
-/// That the files do not do this.
+/// The error for what these files do not support.
 pub(crate) fn unsupported() -> io::Error {
     io::Error::from(io::ErrorKind::Unsupported)
 }
 
-/// What an opened folder has left. It gives one name a read.
+/// What an opened folder has left. It gives one name per read.
 #[derive(Drop)]
 pub(crate) struct Names<'a> {
     names: &'a [u8],
@@ -121,7 +121,7 @@ impl Read for Names<'_> {
     }
 }
 
-/// The name that is the number of a file, in seven digits, with a zero byte at its end.
+/// The name of a file by its number: seven digits, `.link`, and a zero byte.
 fn numbered(number: usize) -> [u8; 13] {
     let digit = |place: usize| b'0' + (number / place % 10) as u8;
     [

@@ -6,15 +6,15 @@ use std::fs::{Metadata, OpenOptions};
 use std::io;
 use std::rt::Files;
 
-/// Files in memory. What stands nowhere is an empty file, but for paths that say that it is gone.
-/// Of two at one path, the later one stands there.
+/// Files in memory. A path at which nothing is placed is an empty file, or missing if `gone` is in
+/// it. If several are placed at one path, the last of them is there.
 #[derive(Clone, Copy)]
 pub(crate) struct FakeFiles<'a> {
     pub(crate) files: &'a [Placed],
 }
 
 impl<'a> FakeFiles<'a> {
-    /// What stands at a path, or `None` for an empty file.
+    /// What is placed at a path, or `None` for an empty file.
     fn node(&self, path: &str) -> io::Result<Option<&'a Node>> {
         let path = path.strip_suffix("/").unwrap_or(path);
         for placed in self.files.iter().rev() {

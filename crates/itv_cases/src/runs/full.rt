@@ -2,7 +2,7 @@
 use std::io;
 use std::io::Write;
 
-/// Takes nothing, and says why where there is a reason.
+/// Takes nothing, and says why if there is a reason.
 #[derive(Drop)]
 pub(crate) struct Full {
     pub(crate) reason: Option<io::ErrorKind>,

@@ -1,12 +1,12 @@
-//! What stands at a path, as a row says it by its member `kind`.
+//! What is at a path, as the member `kind` of a row says.
 //!
 //! - `file`: a file of these `bytes`.
-//! - `repeated`: a file of what `begin`, `each` as many `times`, and `end` are.
-//! - `made`: a file of what the command `by` writes over the files before it.
-//! - `blank`: a file of this `length`, whichever its bytes are.
+//! - `repeated`: a file of `begin`, then `each` repeated `times` times, and then `end`.
+//! - `made`: a file of what the command `by` writes, run over the files before it.
+//! - `blank`: a file of this `length`, whatever its bytes are.
 //! - `failing`: what opens, gives these `bytes`, and then this `fault`.
-//! - `folder`, `linked folder`: a folder, or a symbolic link to one, with these `names`, which
-//!   slashes part, and as many `further` empty files.
+//! - `folder`, `linked folder`: a folder, or a symbolic link to one, with these `names`, separated
+//!   by slashes, and this many `further` empty files.
 //! - `dangling`: a symbolic link that leads nowhere.
 //! - `device`: neither a file nor a folder.
 use crate::runs::ran::run_over;
@@ -16,7 +16,7 @@ use serde_json::Value;
 use std::alloc::Global;
 use std::io::ErrorKind;
 
-/// What stands at a path.
+/// What is at a path.
 #[derive(Drop)]
 pub(crate) enum Node {
     /// A file, or what opens like one.
@@ -34,9 +34,9 @@ pub(crate) enum Node {
 pub(crate) struct File {
     /// What it begins with.
     pub(crate) bytes: Vec<u8>,
-    /// How many bytes come then, whichever they are.
+    /// How many bytes follow, whatever they are.
     pub(crate) blank: usize,
-    /// Why the system fails to read on then, where it does.
+    /// Why the system then fails to read on, if it does.
     pub(crate) fault: Option<ErrorKind>,
 }
 
@@ -45,30 +45,30 @@ pub(crate) struct File {
 pub(crate) struct Folder {
     /// Names in it, each with a zero byte at its end.
     pub(crate) names: Vec<u8>,
-    /// How many files it has besides, of which each is empty and its name a number.
+    /// How many further files it has, each empty and named by a number.
     pub(crate) further: usize,
     /// Whether it is a symbolic link to a folder.
     pub(crate) is_linked: bool,
 }
 
-/// A path, and what stands there.
+/// A path, and what is there.
 #[derive(Drop)]
 pub(crate) struct Placed {
     /// The path.
     pub(crate) path: String,
-    /// What stands there.
+    /// What is there.
     pub(crate) node: Node,
 }
 
-/// What a row of files says that stands at a path. What a command makes is made over the files
-/// that are `placed` before it.
+/// What a row of files says is at a path. A command that makes a file runs over the files that are
+/// `placed` before it.
 pub(crate) fn placed_in(alloc: Global, placed: &[Placed], row: &Value) -> Result<Placed, RowFault> {
     let path = String::from_str(alloc, text_in(row, "path")?)?;
     let node = node_in(alloc, placed, row)?;
     Ok(Placed { path, node })
 }
 
-/// What a row says that stands somewhere.
+/// What a row says is at some path.
 pub(crate) fn node_in(alloc: Global, placed: &[Placed], row: &Value) -> Result<Node, RowFault> {
     match text_in(row, "kind")? {
         "file" => Ok(whole(bytes_in(alloc, row, "bytes")?)),
@@ -93,7 +93,7 @@ fn whole(bytes: Vec<u8>) -> Node {
     })
 }
 
-/// What it begins with, so many times what comes then, and its end.
+/// The bytes of `begin`, then `each` repeated `times` times, and then `end`.
 fn repeated(alloc: Global, row: &Value) -> Result<Vec<u8>, RowFault> {
     let mut bytes = bytes_in(alloc, row, "begin")?;
     let each = text_in(row, "each")?.as_bytes();
@@ -104,7 +104,7 @@ fn repeated(alloc: Global, row: &Value) -> Result<Vec<u8>, RowFault> {
     Ok(bytes)
 }
 
-/// What a command writes that ends with the status 0.
+/// What a command writes, which must end with the status 0.
 fn made(alloc: Global, placed: &[Placed], row: &Value) -> Result<Vec<u8>, RowFault> {
     let ran = run_over(alloc, placed, text_in(row, "by")?)?;
     if ran.status == 0 {
@@ -114,7 +114,7 @@ fn made(alloc: Global, placed: &[Placed], row: &Value) -> Result<Vec<u8>, RowFau
     }
 }
 
-/// A file of so many bytes, whichever they are.
+/// A file of this many bytes, whatever they are.
 fn blank(alloc: Global, row: &Value) -> Result<Node, RowFault> {
     Ok(Node::File(File {
         bytes: Vec::new(alloc),
@@ -144,7 +144,7 @@ pub(crate) fn fault_in(row: &Value) -> Result<ErrorKind, RowFault> {
     }
 }
 
-/// A folder. In the row a slash parts the names.
+/// A folder. In the row, slashes separate the names.
 fn folder_in(alloc: Global, row: &Value, is_linked: bool) -> Result<Node, RowFault> {
     let mut names = bytes_in(alloc, row, "names")?;
     if !names.is_empty() {

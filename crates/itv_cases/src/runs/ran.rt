@@ -5,18 +5,18 @@ use it_program::{exit_status, run_words};
 use it_tables::devices::words;
 use std::alloc::{AllocError, Global};
 
-/// What came of a run.
+/// The result of a run.
 #[derive(Drop)]
 pub(crate) struct Ran {
     /// The exit status.
     pub(crate) status: u8,
     /// What went out, and then the fault where the command stopped.
     pub(crate) text: Vec<u8>,
-    /// What there was to say beside the output.
+    /// The notes that were written beside the output.
     pub(crate) notes: Vec<u8>,
 }
 
-/// Runs a command over the files. Blanks part its words, and the first is the program's name.
+/// Runs a command over the files. Blanks separate its words; the first is the program's name.
 pub(crate) fn run_over(alloc: Global, files: &[Placed], command: &str) -> Result<Ran, AllocError> {
     let words = words(alloc, command)?;
     let mut text = Vec::new(alloc);

@@ -14,8 +14,8 @@ use it_tables::row::{number_in, text_in};
 use serde_json::Value;
 use std::alloc::{AllocError, Global};
 
-/// The outcome of the layout of a row over its links: each step, and the number of signatures that
-/// were tried; or the fault, and where it lies.
+/// The outcome of the layout of a row over its links: each step, and how many signatures were
+/// tried; or the fault, and where it lies.
 pub(crate) fn chain(alloc: Global, row: &Value) -> Result<String, RowFault> {
     let layout = read_layout(alloc, text_in(row, "layout")?.as_bytes())
         .ok()

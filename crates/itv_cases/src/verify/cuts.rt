@@ -1,4 +1,4 @@
-//! Each document of a verification cut to each shorter beginning, the others staying whole.
+//! Each document of a verification cut to each shorter beginning, while the others stay whole.
 ghost use Rattle.std.specs.Prelude.{◌≡◌, OnOk};
 
 use crate::cases::case::inputs_in;
@@ -15,11 +15,11 @@ use it_verify::inputs::Inputs;
 use serde_json::Value;
 use std::alloc::Global;
 
-/// The lengths of which a row speaks are longer than what is cut.
+/// A length that a row gives is greater than that of what is cut.
 const TOO_LONG: RowFault = RowFault::BadMember("to");
 
-/// What comes of the document that a row names, cut to each length from `from` to below `to`: one
-/// answer for all of them, or the first that is another, after its length.
+/// The answers with the document that a row names cut to each length from `from` to below `to`: one
+/// answer if all are the same, otherwise the first that differs, after its length.
 pub(crate) fn answer_of_cuts(alloc: Global, row: &Value) -> Result<String, RowFault> {
     let from = length_in(row, "from")?;
     let answer = answer_of_cut(alloc, row, from)?;
@@ -32,7 +32,7 @@ pub(crate) fn answer_of_cuts(alloc: Global, row: &Value) -> Result<String, RowFa
     Ok(answer)
 }
 
-/// Of a ring that is cut to this length the fault, and of another document the report.
+/// The fault of a ring cut to this length, or the report with another document cut to it.
 fn answer_of_cut(alloc: Global, row: &Value, kept: usize) -> Result<String, RowFault> {
     match text_in(row, "cut")? {
         "ring" => fault_of_cut_ring(alloc, row, kept),

@@ -18,8 +18,8 @@ pub(crate) fn has_folder(alloc: Global, row: &Value) -> Result<String, RowFault>
     Ok(format!(in alloc; "{is_there}")?)
 }
 
-/// Whether a second folder, which holds one of the name `mark`, is handed back, and whether such a
-/// one is in the folder that is there.
+/// Whether a second folder, which holds one named `mark`, is handed back, and whether the folder
+/// that is there holds one of that name.
 pub(crate) fn second_folder(alloc: Global, row: &Value) -> Result<String, RowFault> {
     let mut links = folder_in(alloc, row, "links")?;
     let second = folder_in(alloc, row, "second")?;

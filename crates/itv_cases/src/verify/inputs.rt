@@ -6,14 +6,14 @@ use it_tables::row::{member_in, number_in};
 use serde_json::Value;
 use std::alloc::Global;
 
-/// The length that a member of a row is.
+/// The length in a member of a row.
 pub(crate) fn length_in(row: &Value, name: &'static str) -> Result<usize, RowFault> {
     usize::try_from(number_in(row, name)?)
         .ok()
         .ok_or(RowFault::BadMember(name))
 }
 
-/// The files and folders that a member of a row tells, as a case does.
+/// The files and folders that a member of a row describes, as a case does.
 pub(crate) fn folder_in(
     alloc: Global,
     row: &Value,

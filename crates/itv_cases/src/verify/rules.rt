@@ -39,7 +39,7 @@ struct Recorded {
 }
 
 impl Recorded {
-    /// What the members of a row, or of a link of it, give.
+    /// What the members of a row, or of one of its links, give.
     fn read(alloc: Global, value: &Value) -> Result<Recorded, RowFault> {
         Ok(Recorded {
             materials: artifacts(alloc, text_in(value, "materials")?)?,
@@ -84,7 +84,7 @@ fn digest_set(word: &str) -> DigestSet {
     }
 }
 
-/// The rules of a row, each written as its texts with a space between each two.
+/// The rules of a row, each written as its texts, separated by spaces.
 fn rules_in(alloc: Global, row: &Value) -> Result<Vec<Rule>, RowFault> {
     let mut rules = Vec::new(alloc);
     for line in list_in(row, "rules")? {
@@ -108,7 +108,7 @@ fn side_in(row: &Value) -> Result<Side, RowFault> {
     }
 }
 
-/// The first rule of a row that fails, from 0, and its path; `none` where none does.
+/// The first rule of a row that fails, counted from 0, and its path; `none` if none does.
 pub(crate) fn first_fault(alloc: Global, row: &Value) -> Result<String, RowFault> {
     match fault_in(alloc, row)? {
         None => Ok(String::from_str(alloc, "none")?),

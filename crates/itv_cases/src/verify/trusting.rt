@@ -14,7 +14,7 @@ use it_verify::inputs::Inputs;
 use serde_json::Value;
 use std::alloc::Global;
 
-/// A check that knows each id, all by one key, and holds each signature valid.
+/// A check that knows every id, all by one key, and takes every signature as valid.
 #[derive(Drop)]
 struct Trusting {
     key: u32,
@@ -42,7 +42,7 @@ impl SignatureCheck for Trusting {
 const TRUSTING: Trusting = Trusting { key: 1 };
 
 /// The exit status and the report of the verification of a row, by its ring and by this check,
-/// which stands before the ring or behind it.
+/// which comes before or after the ring.
 pub(crate) fn report_beside_ring(alloc: Global, row: &Value) -> Result<String, RowFault> {
     let inputs = inputs_in(alloc, row)?;
     let ring = ring_in(alloc, row)?;

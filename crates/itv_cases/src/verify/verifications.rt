@@ -34,14 +34,14 @@ pub(crate) fn report_of(alloc: Global, inputs: &Inputs, ring: HmacRing) -> Resul
     Ok(report)
 }
 
-/// The text that bytes are.
+/// The text in some bytes.
 pub(crate) fn text_of(bytes: Vec<u8>) -> Result<String, RowFault> {
     String::from_utf8(bytes)
         .ok()
         .ok_or(RowFault::BadMember("gives"))
 }
 
-/// How often it is asked whether a signature is valid, in the verification of a row.
+/// How often the verification of a row asks whether a signature is valid.
 pub(crate) fn asked(alloc: Global, row: &Value) -> Result<String, RowFault> {
     let inputs = inputs_in(alloc, row)?;
     let panel: [Box<dyn SignatureCheck>; 1] = [Box::new(alloc, ring_in(alloc, row)?)?];

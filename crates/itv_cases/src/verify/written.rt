@@ -14,8 +14,8 @@ use std::alloc::Global;
 /// The most room that a writer has: that of the report of the smallest delivery.
 const MOST_ROOM: usize = 31;
 
-/// How the verification of a row ends, and what it writes, where the writer takes a byte a call and
-/// has room for none, for one and so on: a line for each room.
+/// How the verification of a row ends, and what it writes, where the writer takes one byte per call
+/// and has room for none, for one and so on: a line for each.
 pub(crate) fn written_in_each_room(alloc: Global, row: &Value) -> Result<String, RowFault> {
     let mut lines = String::new(alloc);
     for room in 0..=MOST_ROOM {
@@ -24,7 +24,7 @@ pub(crate) fn written_in_each_room(alloc: Global, row: &Value) -> Result<String,
     Ok(lines)
 }
 
-/// The line of a writer with so much room.
+/// The line of a writer with this much room.
 fn written_in(alloc: Global, row: &Value, room: usize) -> Result<String, RowFault> {
     let mut pipe = Pipe {
         taken: Vec::new(alloc),
@@ -37,7 +37,7 @@ fn written_in(alloc: Global, row: &Value, room: usize) -> Result<String, RowFaul
     Ok(format!(in alloc; "{ended:?} {:?}\n", written.as_str())?)
 }
 
-/// How the verification of a row ends that writes its report into a pipe.
+/// How the verification of a row ends, with its report written into a pipe.
 fn verify_into(
     alloc: Global,
     row: &Value,

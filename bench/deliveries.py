@@ -1,6 +1,6 @@
 """Deliveries of any size, made with Python's json, base64 and hmac, and runs of the program on them.
 
-Everybody's secret is the own name. Used by bench/run and trials/hostile.
+Everybody's secret is their own name. Used by bench/run and trials/hostile, among others.
 """
 
 import ast
@@ -17,9 +17,9 @@ TYPE = "application/vnd.in-toto+json"
 MOMENT = "2029-12-31T00:00:00Z"
 
 
-# Runs a command and writes its seconds, its peak memory in bytes and its status to a descriptor. A
-# process of its own, since the peak of a process counts that of the one which started it, and the
-# one that makes deliveries is larger than the program.
+# Runs a command and writes its seconds, its peak memory in bytes and its status to a descriptor. It
+# is a process of its own, since the peak of a process counts that of the process that started it,
+# and the one that makes deliveries is larger than the program.
 RUNNER = """
 import os, sys, time
 start = time.perf_counter()
@@ -74,12 +74,12 @@ def envelope(payload, signatures, kind=TYPE):
 
 
 def compact(document):
-    """The bytes of a document, as short as JSON has them."""
+    """The bytes of a document, as JSON without spaces."""
     return json.dumps(document, separators=(",", ":")).encode()
 
 
 def signed(document, *people, kind=TYPE):
-    """The text of a document's envelope of a type that these people signed."""
+    """The text of a document's envelope, of this type and signed by these people."""
     payload = compact(document)
     return envelope(payload, [signature(who, payload, kind=kind) for who in people], kind)
 
@@ -103,7 +103,7 @@ def step(name, people, materials=(), products=(), threshold=None):
 
 
 def layout(people, steps):
-    """The body of a layout that these people may sign for."""
+    """The body of a layout with the keys of these people."""
     return {"_type": "layout", "expires": "2030-01-01T00:00:00Z", "inspect": [], "steps": steps,
             "keys": {who: key_object() for who in people}}
 
@@ -118,7 +118,7 @@ def statement(paths):
 
 
 def policy(deliver, ignore=()):
-    """A policy of one owner that believes the builder `ci`."""
+    """A policy of one owner that trusts the builder `ci`."""
     builder = {"id": "ci", "keys": {"builder": key_object()}}
     return {"owners": {"owner": key_object()}, "deliver": deliver,
             "expectations": [{"files": "*", "builders": [builder], "buildType": "make",
@@ -181,10 +181,10 @@ class Delivery:
 
 
 def chain(folder, steps, people, files, statements=1, rules=1):
-    """A chain: each step makes so many files from those of the step before, signed by so many people.
+    """A chain: each step makes this many files from those of the step before.
 
-    So many Statements have the files of the last step as subjects, and a step has so many rules on
-    its products before the last one.
+    This many people sign each step, and this many Statements have the files of the last step as
+    subjects. A step has this many rules on its products before the last one.
     """
     people = [f"person-{n:03}" for n in range(people)]
     made = [[f"{n}/file-{m}" for m in range(files)] for n in range(steps)]

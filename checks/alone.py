@@ -1,5 +1,5 @@
 #!/usr/bin/env python3
-"""Fails where a text cites what is not in this repository: a paper, a demand, a machine's path."""
+"""Fails where a text cites what is outside this repository: a paper, a demand, a machine's path."""
 
 import re
 import sys
@@ -9,7 +9,7 @@ import tree
 CITATION = re.compile(
     r"\b[TDWR][0-9]+\b|\b[Rr]ow [0-9]+|\bdocument 0[1-4]\b|/(?:work|opt|home)/"
 )
-# What looks so and is none: base64, hexadecimal digits, and the time of day in a moment.
+# What looks like a citation but is not: base64, hexadecimal digits, the time of day in a moment.
 ALLOWED = [
     re.compile(r"[A-Za-z0-9+/]{20,}={1,2}"),
     re.compile(r"\b[0-9A-Fa-f]{8,}\b"),
@@ -19,7 +19,7 @@ ENDINGS = {".rt", ".antt", ".edit", ".md"}
 
 
 def texts():
-    """The files that are looked at."""
+    """The files to check."""
     for folder in ("crates", "docs", "examples", "conformance", "trials", "bench"):
         for path in sorted((tree.TOP / folder).rglob("*")):
             is_made = "out" in path.relative_to(tree.TOP).parts
@@ -29,7 +29,7 @@ def texts():
 
 
 def without_allowed(line):
-    """The line without what is allowed."""
+    """The line with what is allowed taken out."""
     for pattern in ALLOWED:
         line = pattern.sub("", line)
     return line

@@ -1,5 +1,5 @@
 #!/usr/bin/env python3
-"""Whether cases and rows are those that the quick scripts in conformance/ write."""
+"""Checks that the cases and rows are those that the quick scripts in conformance/ write."""
 
 import pathlib
 import subprocess
@@ -9,7 +9,7 @@ CONFORMANCE = pathlib.Path(__file__).resolve().parent.parent / "conformance"
 
 
 def main():
-    """Runs each script, and answers the exit status."""
+    """Runs each script, and returns the exit status."""
     scripts = sorted(CONFORMANCE.glob("*_of_*"))
     failed = [path.name for path in scripts
               if subprocess.run([sys.executable, path, "--check"], check=False).returncode]

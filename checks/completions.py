@@ -3,7 +3,7 @@
 MADE = "Made by checks/manual.py from docs/commands.json."
 TYPE = "application/vnd.in-toto+json"
 DEPTHS = " ".join(str(depth) for depth in range(9))
-# What each shell offers for a value, by its kind. Nothing is offered for the others.
+# What each shell offers for a value, by its kind. For other kinds it offers nothing.
 BASH = {
     "file": "compgen -f -- \"$word\"",
     "folder": "compgen -d -- \"$word\"",
@@ -83,7 +83,7 @@ def takes_files(command):
 
 
 def option_names(command):
-    """The options of a command, one behind another."""
+    """The options of a command, separated by spaces."""
     return " ".join(f"--{option['name']}" for option in command["options"])
 
 
@@ -95,8 +95,8 @@ def offers_of(command):
 
 
 def value_lines(listed):
-    """What bash offers after each option: for its value, if anything is known of that; where it has
-    none, for a word of the command."""
+    """What bash offers after each option: values, if their kind is known; after an option without a
+    value, words of the command."""
     for command in listed["commands"]:
         for option in command["options"]:
             named = f"        {command['name']}--{option['name']})"
@@ -126,7 +126,7 @@ def bash(listed):
 
 
 def zsh_text(text):
-    """A text as a part of a quoted word of zsh's completions."""
+    """A text escaped for a quoted word of zsh's completions."""
     for one in "\\[]:":
         text = text.replace(one, "\\" + one)
     return text.replace("'", "'\\''")

@@ -8,13 +8,13 @@ import tree
 
 ITEM = re.compile(r"#|(pub|impl|trait|struct|enum|fn|mod|use|ghost|const|static|type|macro)\b")
 MEMBER = re.compile(r"    (#\[|pub\b|fn\b|ghost\b|const\b|type\b)")
-# What a type is made with, and what a caller never sees of it.
+# The ghost members that a type is made with, and that a caller never sees.
 INNER_GHOSTS = {"coded", "view", "size", "size_decreases", "invariant"}
 
 
 @dataclass
 class Contract:
-    """A piece of a source with clauses: a function, a ghost member, a type or a trait."""
+    """A part of a source that has clauses: a function, a ghost member, a type or a trait."""
 
     crate: str
     module: str
@@ -60,7 +60,7 @@ def capital_names(text):
 
 
 def clauses_of(text):
-    """The clauses of a function's text: what stands in braces after `requires` and `ensures`."""
+    """The clauses in a function's text: what is in braces after `requires` and `ensures`."""
     parts = []
     for found in re.finditer(r"\b(?:requires|ensures)\b[^{\n]*\{", text):
         depth, end = 1, found.end()
@@ -84,7 +84,7 @@ def head_of_function(lines, indent):
 
 
 def expand_use(text):
-    """The paths that a Rust use item names, each with the name that it gets."""
+    """The paths that a Rust use item names, each with the name that it is imported as."""
     if "{" not in text:
         path, _, renamed = text.partition(" as ")
         return [(path.strip(), (renamed or path.split("::")[-1]).strip())]
@@ -111,7 +111,7 @@ def read_rust_uses(text):
 
 
 def public_names(crate):
-    """The modules that a library opens, and the names that it brings out of others."""
+    """The modules that a library makes public, and the names that it re-exports from others."""
     path = tree.TOP / "crates" / crate / "src" / "lib.rt"
     text = without_comments(path.read_text())
     return set(re.findall(r"^pub mod (\w+);", text, re.MULTILINE)), {
@@ -121,7 +121,7 @@ def public_names(crate):
 
 
 def uses_brought_out(text):
-    """The paths that `pub use` items bring out."""
+    """The paths that `pub use` items re-export."""
     paths = []
     for found in re.finditer(r"^pub use\s+([^;]+);", text, re.MULTILINE):
         paths += [path.split("::") for path, _ in expand_use(found[1].replace("\n", " "))]
@@ -129,7 +129,7 @@ def uses_brought_out(text):
 
 
 def ghost_imports(items):
-    """What the `ghost use` items among items bring in."""
+    """What the `ghost use` items among some items import."""
     uses = ["\n".join(item) for item in items if item[0].lstrip().startswith("ghost use")]
     return specs.read_imports("\n".join(uses) + "\n")
 
@@ -156,7 +156,7 @@ class Reader:
         return self.module.split(".")[0] in modules or (self.module, name) in names
 
     def add(self, named, types, clauses, scope, is_inner=False):
-        """Keeps a contract, of a name, an owner, and whether it is public."""
+        """Adds a contract; `named` is its name, its owner, and whether it is public."""
         place = (self.crate, self.module)
         self.source.contracts.append(Contract(*place, *named, types, clauses, scope, is_inner))
 
@@ -200,7 +200,7 @@ class Reader:
             self.read_members(item[1:], (name, self.source.types[name], True, False), scope)
 
     def read_impl(self, item, scope):
-        """Reads an impl: of a trait all members are as public as the type."""
+        """Reads an impl: if it is of a trait, all its members are as public as the type."""
         head = re.sub(r"<[^<>]*(<[^<>]*>)?[^<>]*>", "", " ".join(item[0].split()))
         found = re.match(r"impl\s+(?:(\w+)\s+for\s+)?&?(?:mut )?(\w+)", head)
         if not found:
@@ -210,7 +210,7 @@ class Reader:
         self.read_members(item[1:], owner, scope)
 
     def is_public_type(self, name):
-        """Whether a type can be named from outside; one that is not of this crate can."""
+        """Whether a type can be named from outside; a type of another crate can."""
         return self.source.types.get(name, self.crate_types.get(name, True))
 
     def read_members(self, lines, owner, scope):
@@ -238,7 +238,7 @@ class Reader:
 
 
 def read_crate(crate):
-    """The source files of a crate but those of tests."""
+    """The source files of a crate, except those of tests."""
     opened = public_names(crate) if tree.is_library(crate) else None
     paths = tree.folder_files(crate, "src", ".rt")
     readers = [Reader(crate, path, opened) for path in paths]
@@ -249,6 +249,6 @@ def read_crate(crate):
 
 
 def read_all():
-    """Every source file but those of tests, by crate and module."""
+    """Every source file, except those of tests, by crate and module."""
     sources = [source for crate in tree.crate_names() for source in read_crate(crate)]
     return {(source.crate, source.module): source for source in sources}

@@ -1,9 +1,9 @@
 #!/usr/bin/env python3
-"""Keeps docs/must-fail.md, the index of the must-fail edits: by crate, and there by rule.
+"""Keeps docs/must-fail.md, the index of the must-fail edits, by crate and then by rule.
 
-A rule stands in a source file of its own, so an edit is listed under the file that it changes, and
-with the first sentence of what that file says of itself. Fails where the page is not what this
-script writes, and where an edit changes no source file, or one that says nothing of itself.
+Each rule has a source file of its own, so an edit is listed under the file that it changes, with
+the first sentence of the comment at the head of that file. Fails where the page is not what this
+script writes, and where an edit changes no source file, or one without such a comment.
 
     edits.py          checks
     edits.py --write  writes the page
@@ -32,7 +32,7 @@ def edits_of(crate):
 
 
 def subject_of(path):
-    """The first sentence of what a source file says of itself."""
+    """The first sentence of the comment at the head of a source file."""
     lines = []
     for line in path.read_text().splitlines() if path.exists() else []:
         if not line.startswith("//!"):
@@ -84,7 +84,7 @@ def faults():
 
 
 def main():
-    """Does what the words say."""
+    """Does what the arguments say."""
     words = tree.words_of(__doc__)
     words.add_argument("--write", action="store_true")
     if words.parse_args().write:

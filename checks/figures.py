@@ -1,8 +1,8 @@
 #!/usr/bin/env python3
-"""Fails where a page gives another figure than what is counted in the tree.
+"""Fails where a figure that a page gives is not the one counted in the tree.
 
     figures.py          checks
-    figures.py --write  puts the figures that are counted into the pages
+    figures.py --write  puts the counted figures into the pages
 """
 
 import json
@@ -20,7 +20,7 @@ NUMBER = r"(?P<figure>\d[\d,]*)"
 # The folders of tables of rows, with the program that tries them.
 OF_ROWS = {"values": "it_rows", "reports": "it_rows", "commands": "it_rows",
            "verify": "itv_cases", "runs": "itv_cases"}
-# The name of each figure with the pages that give it, each with the words around it.
+# The name of each figure, with a page that gives it and the words around it there.
 PLACES = [
     ("verify", "README.md", "the definitions, {} lines of them for the verdict"),
     ("verify", "docs/trusted.md", "`verify` rests on {} lines"),
@@ -45,7 +45,7 @@ PLACES = [
     ("version", "examples/ci/github.yml", "ref: v{}"),
     ("version", "examples/ci/gitlab.yml", "--branch v{} "),
     ("version", "examples/ci/README.md", "its tag `v{}`"),
-    ("version", "CHANGELOG.md", "\n## {}\n"),
+    ("version", "CHANGELOG.md", "commands.json).\n\n## {}\n"),
     ("logic", "README.md", "The toolchain (a `rattle-kit-13` of `logic {}`)"),
     ("logic", "docs/trusted.md", "The toolchain (a `rattle-kit-13` of `logic {}`)"),
     ("logic", "CONTRIBUTING.md", "`rt version` prints a `rattle-kit-13` and `logic {}`"),
@@ -53,13 +53,13 @@ PLACES = [
 
 
 def lines_reached(graph, functions):
-    """How many lines of specs/ the contracts of these functions rest on, or all public ones."""
+    """How many lines of specs/ the contracts of these functions, or all public ones, rest on."""
     reached = graph.reached(reach.keys_of(graph, functions))
     return sum(reach.lines_by_crate(graph, reached).values())
 
 
 def lines(program, pattern):
-    """How many lines the files of a pattern hold among the data of a program."""
+    """How many lines there are in the data files of a program that match a pattern."""
     files = (CRATES / program / "data").glob(pattern)
     return sum(path.read_bytes().count(b"\n") for path in files)
 
@@ -71,12 +71,14 @@ RATIOS = [
     ("| one before it | ", "`verify`, 500 wrong signatures before the right one"),
     ("| `sha256sum` | ", "`digest`, 1 GiB"),
 ]
-# A line of conformance/README.md on files of cases or vectors, which ends with how many each has.
+# How long ./build and the gate took, in CONTRIBUTING.md.
+TIMES = re.compile(r"took (\d+) processor minutes and (\d+) minutes elapsed")
+# A line of conformance/README.md that names files of cases or vectors and how many each has.
 OF_FILES = re.compile(r"^- (?P<names>`[\w-]+\.jsonl`.*?): (?P<counts>\d+((, | and )\d+)*)", re.M)
 
 
 def of_cases():
-    """The figures of the cases by where their answers and their signatures come from."""
+    """The numbers of cases, by where their answers and their signatures come from."""
     twice = [path for name in ("base", "sha384", "levels", "panel")
              for path in CASES.glob(f"*-{name}.jsonl")]
     others = [path for path in CASES.glob("*.jsonl") if path not in twice]
@@ -89,7 +91,7 @@ def of_cases():
 
 
 def faults_of_files():
-    """Where conformance/README.md gives another number of cases or vectors of a file."""
+    """Where conformance/README.md gives a wrong number of cases or vectors for a file, or none."""
     seen = set()
     for found in OF_FILES.finditer((tree.TOP / "conformance" / "README.md").read_text()):
         names = re.findall(r"`([\w-]+\.jsonl)`", found["names"])
@@ -105,7 +107,7 @@ def faults_of_files():
 
 
 def faults_of_ratios():
-    """Where README.md gives another ratio than docs/performance.md."""
+    """Where a ratio in README.md is not the one in docs/performance.md."""
     readme = (tree.TOP / "README.md").read_text()
     rows = (tree.TOP / "docs" / "performance.md").read_text().splitlines()
     for words, begin in RATIOS:
@@ -114,10 +116,24 @@ def faults_of_ratios():
             yield f"README.md: the ratio after {words!r} is not that of docs/performance.md"
 
 
-def counted():
-    """Each figure as it is written, by its name; the toolchain's logic only where there is one.
+def faults_of_times():
+    """Where README.md or the build gives other times than CONTRIBUTING.md, in tens of minutes."""
+    measured = TIMES.findall((tree.TOP / "CONTRIBUTING.md").read_text())
+    if len(measured) != 2:
+        yield "CONTRIBUTING.md: the times of ./build and of the gate are not there"
+        return
+    build, gate = ([round(int(figure), -1) for figure in times] for times in measured)
+    for name, words in (("README.md", "about {} processor minutes, {} elapsed on".format(*build)),
+                        ("README.md", "about {} processor minutes, {} elapsed; half".format(*gate)),
+                        ("build", "about {} processor minutes from nothing".format(*build))):
+        if words not in (tree.TOP / name).read_text():
+            yield f"{name}: {words!r} is not there"
 
-    Kits of one logic prove the same, so the letter of the kit does not matter.
+
+def counted():
+    """Each figure as it is written, by its name; the toolchain's logic only where rt is on PATH.
+
+    Kits with the same logic prove the same, so the letter of the kit does not matter.
     """
     graph, every = reach.Graph(), lines("itv_cases", "cases/*.jsonl")
     thrown, vectors = lines("itv_cases", "cases/random-*.jsonl"), lines("it_vectors", "*.jsonl")
@@ -137,7 +153,7 @@ def counted():
 
 
 def pattern_of(name, words):
-    """What finds a figure among the words around it."""
+    """The pattern that finds a figure by the words around it."""
     figure = {"logic": r"(?P<figure>[0-9a-f]+)",
               "version": r"(?P<figure>\d+(\.\d+)+)"}.get(name, NUMBER)
     before, after = (re.escape(part) for part in words.split("{}"))
@@ -145,13 +161,15 @@ def pattern_of(name, words):
 
 
 def faults(found):
-    """What the pages give otherwise."""
+    """Where the pages give something else."""
     for name, page, words in PLACES:
-        given = pattern_of(name, words).search((tree.TOP / page).read_text())
+        places = pattern_of(name, words).finditer((tree.TOP / page).read_text())
+        given = {place["figure"] for place in places}
         if not given:
             yield f"{page}: the words {words.format('N')!r} are not there"
-        elif name in found and given["figure"] != found[name]:
-            yield f"{page}: {words.format(given['figure'])!r} should be {found[name]}"
+        for figure in sorted(given):
+            if figure != found.get(name, figure):
+                yield f"{page}: {words.format(figure)!r} should be {found[name]}"
 
 
 def write(found):
@@ -163,13 +181,14 @@ def write(found):
 
 
 def main():
-    """Does what the words say."""
+    """Does what the arguments say."""
     words = tree.words_of(__doc__)
     words.add_argument("--write", action="store_true")
     is_written, found = words.parse_args().write, counted()
     if is_written:
         write(found)
-    return tree.report([*faults(found), *faults_of_files(), *faults_of_ratios()])
+    return tree.report([*faults(found), *faults_of_files(), *faults_of_ratios(),
+                        *faults_of_times()])
 
 
 if __name__ == "__main__":

@@ -12,7 +12,7 @@ import tree
 
 PICTURE = tree.TOP / "docs" / "flow.svg"
 WIDTH, HEIGHT = 920, 480
-# The stages in order: what is asked, in lines, what is looked at for it, and the refusals.
+# The stages in order: the question, in two lines, what is read to answer it, and the refusals.
 STAGES = [
     ("Do the policy, the digest list", "and the moment read?", "policy, sums, at", "10 – 14"),
     ("Is the layout signed", "by every owner?", "layout, policy", "20 – 23"),
@@ -21,7 +21,7 @@ STAGES = [
     ("Do the delivered files keep", "the policy's deliver rules?", "sums, policy", "40"),
     ("Does each file have signed", "provenance as expected?", "provenance, policy", "60 – 61"),
 ]
-# Who brings what.
+# Where each input comes from.
 SOURCES = [
     ("comes with the delivery", ["layout.envelope.json", "links/", "provenance.jsonl"], "#fff3dc"),
     ("from the delivered files", ["sums, by itv digest"], "#e6f2e6"),
@@ -65,7 +65,7 @@ def sources():
 
 
 def stages():
-    """The boxes of what is asked, each with the refusals that it ends in."""
+    """The boxes of the questions, each with the refusals that it can end in."""
     for number, (first, second, given, refusals) in enumerate(STAGES):
         top = 50 + STEP * number
         middle = top + STAGE_HEIGHT // 2
@@ -116,7 +116,7 @@ def picture():
 
 
 def main():
-    """Does what the words say."""
+    """Does what the arguments say."""
     words = tree.words_of(__doc__)
     words.add_argument("--write", action="store_true")
     if words.parse_args().write:

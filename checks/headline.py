@@ -2,14 +2,15 @@
 """Keeps docs/headline.md true, and Headline.antt and HeadlineParts.antt of it_verify/specs.
 
 Each quotation in docs/headline.md follows a line <!-- FILE: NAME NAME -->, which says which
-definitions of a file (as it_verify/specs/Made.antt), or which types of a source file, it has. Fails
-where a quotation is not what stands there, where a definition that the headline rests on is not
-quoted, where one is quoted on which it does not rest, and where the two entry pages do not name
-just these definitions in this order: HeadlineParts.antt those from the heading of path patterns on.
+definitions of a file (such as it_verify/specs/Made.antt), or which types of a source file, it
+quotes. Fails where a quotation is not what the file has, where a definition that the headline rests
+on is not quoted, where one that it does not rest on is quoted, and where the two entry pages do not
+name exactly these definitions in this order: HeadlineParts.antt has those from the heading on path
+patterns on.
 
     headline.py          checks
-    headline.py --write  quotes anew, and writes the entry pages; a definition that moved to another
-                         file is found there
+    headline.py --write  quotes anew, and writes the entry pages; finds a definition that moved to
+                         another file
     headline.py --list   lists what is not quoted yet
 """
 
@@ -24,7 +25,7 @@ import tree
 PAGE = tree.TOP / "docs" / "headline.md"
 ENTRIES = tree.TOP / "crates" / "it_verify" / "specs"
 SECOND_PART = "\n## Path patterns\n"
-# The comments of definitions that have none of their own where they stand.
+# Comments for definitions that have none of their own.
 COMMENTS = {
     "Items": "the items of a list",
     "Fields": "the members of an object",
@@ -36,8 +37,6 @@ COMMENTS = {
     "Algorithm": "the algorithms of digests that are known",
     "folder_at": "the folder of a name in a bundle",
     "empty": "the bundle without files and folders",
-    "summary": "both: what a sublayout stands for",
-    "last_products": "the products of the last step",
     "equal": "whether two trees are equal",
     "same_flag": "whether two truth values are equal",
     "equal_items": "whether two lists of trees are equal",
@@ -63,7 +62,7 @@ PARTS = {
 
 
 def the_one(keys):
-    """The key, where there is just one."""
+    """The key, if there is exactly one."""
     return keys[0] if len(keys) == 1 else None
 
 
@@ -74,7 +73,7 @@ def exact_key(file, name):
 
 
 def key_of(graph, file, name):
-    """The definition of a name in a file, or else that of its crate, or that the headline needs."""
+    """The definition of a name: in a file, failing that in its crate, or one the headline needs."""
     key = exact_key(file, name)
     if key in graph.definitions:
         return key
@@ -86,7 +85,7 @@ def key_of(graph, file, name):
 
 
 def type_in(path, name):
-    """The text of a type in a source file, if it stands there."""
+    """The text of a type in a source file, if it is there."""
     text = path.read_text() if path.exists() else ""
     head = rf"^(?:///[^\n]*\n)*(?:pub(?:\(crate\))? )?(?:struct|enum|trait) {name}\b.*?^}}\n"
     plain = re.sub(r"^#\[.*\n", "", text, flags=re.MULTILINE)
@@ -95,7 +94,7 @@ def type_in(path, name):
 
 
 def type_file(file, name):
-    """The source file in which a type stands: this one, or another of its crate or of all."""
+    """The source file that has a type: this one, another of its crate, or one of any crate."""
     crates = [file.partition("/")[0]] + tree.crate_names()
     paths = [tree.TOP / "crates" / file]
     paths += [path for crate in crates for path in tree.folder_files(crate, "src", ".rt")]
@@ -129,7 +128,7 @@ def quoted_definitions(graph, keys):
 
 
 def by_place(pairs):
-    """Pairs of a place and a name as places, each with the names that follow one another there."""
+    """Groups pairs of a place and a name: each place with its names that follow one another."""
     groups = []
     for place, name in pairs:
         if not groups or groups[-1][0] != place:
@@ -139,7 +138,7 @@ def by_place(pairs):
 
 
 def quotation(graph, file, names):
-    """A quotation with the line before it, or several where the names stand in several files."""
+    """A quotation with the line before it, or several where the names are in several files."""
     is_type = file.endswith(".rt") and type_file(file, names[0])
     if is_type:
         groups = by_place((type_file(file, name), name) for name in names)
@@ -153,7 +152,7 @@ def quotation(graph, file, names):
 
 
 def quotation_as(graph, found):
-    """A quotation that was found, as it should be."""
+    """What a quotation on the page should be."""
     return quotation(graph, found["file"], found["names"].split())
 
 
@@ -169,7 +168,7 @@ def quoted_keys(graph, page):
 
 
 def lost_names(graph, page):
-    """The names on a page that are those of no definition and no type, or of several."""
+    """The names on a page that have no definition and no type, or several."""
     for found in QUOTATION.finditer(page):
         for name in found["names"].split():
             is_type = found["file"].endswith(".rt") and type_file(found["file"], name)
@@ -178,7 +177,7 @@ def lost_names(graph, page):
 
 
 def root_key(graph, root):
-    """The definition of a root, also where it moved within its crate."""
+    """The definition of a root, even if it moved within its crate."""
     file, name = root.split(":")
     crate = file.partition("/")[0]
     alike = [key for key in graph.definitions if (key[0], key[2]) == (crate, name)]
@@ -198,15 +197,15 @@ def needed_keys(graph):
 
 
 def alias_of(key, keys):
-    """The name of a definition on the entry page: its own where no other has it."""
+    """The name of a definition on the entry page: its own, if no other has it."""
     alike = [other for other in keys if other[2].lower() == key[2].lower()]
     return key[2] if len(alike) == 1 else f"{key[0].removeprefix('it_')}_{key[2]}"
 
 
 def words_of(definition):
-    """The words of a definition's comment."""
+    """The text of a definition's comment."""
     own = " ".join(line.lstrip("- ").strip() for line in definition.comment)
-    return own or COMMENTS.get(definition.name, "told by its equation")
+    return own or COMMENTS.get(definition.name, "as its equation says")
 
 
 def comment_of(words):
@@ -234,7 +233,7 @@ def entry_page(graph, name, keys, quoted):
 
 
 def foreign_names(graph):
-    """The names of crates that are not of this repository, nor std, on which the headline rests."""
+    """The names on which the headline rests of crates outside this repository, other than std."""
     own = set(tree.crate_names()) | {"std"}
     for key in needed_keys(graph):
         module = graph.modules[(key[0], key[1])]
@@ -268,7 +267,7 @@ def faults(graph, page):
 
 
 def main():
-    """Does what the words say."""
+    """Does what the arguments say."""
     words = tree.words_of(__doc__)
     words.add_argument("--write", action="store_true")
     words.add_argument("--list", action="store_true")

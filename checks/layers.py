@@ -1,11 +1,13 @@
 #!/usr/bin/env python3
-"""Fails where docs/layers.md has another table of crates than crates.txt and the crates say.
+"""Fails where the table of crates in docs/layers.md is not what crates.txt and the crates give, or
+where its tables of rules name files that do not exist.
 
-A row has what the crate's own comment says first of it, and the crates that it stands on: those of
-crates.txt, without the ones that these stand on themselves. It comes after the rows of these.
+A row of the table of crates has the first sentence of the crate's own comment, and the crates that
+it stands on: those of crates.txt, without the ones that these stand on themselves. It comes after
+the rows of the crates that it stands on.
 
     layers.py          checks
-    layers.py --write  puts the table into the page
+    layers.py --write  puts the table of crates into the page
 """
 
 import re
@@ -15,6 +17,9 @@ import tree
 
 PAGE = tree.TOP / "docs" / "layers.md"
 TABLE = re.compile(r"^\| Crate \| .*\n(?:\|.*\n)+", re.MULTILINE)
+# A table of a crate's rules, with a column for each of these folders.
+RULES = re.compile(r"^In `(?P<crate>\w+)`.*\n\n.*\n.*\n(?P<rows>(?:\|.*\n)+)", re.MULTILINE)
+FOLDERS = ("src", "specs", "proofs")
 
 
 def uses_of():
@@ -27,7 +32,7 @@ def uses_of():
 
 
 def below(name, uses):
-    """All crates that a crate stands on, by whatever way."""
+    """All crates that a crate stands on, directly or through others."""
     found = set(uses[name])
     for used in uses[name]:
         found |= below(used, uses)
@@ -35,7 +40,7 @@ def below(name, uses):
 
 
 def stands_on(name, uses):
-    """The crates that a crate uses and that none of the others which it uses stands on."""
+    """The crates that a crate uses, without those that another crate it uses stands on."""
     implied = set().union(*(below(used, uses) for used in uses[name]))
     return [used for used in uses[name] if used not in implied]
 
@@ -56,7 +61,7 @@ def in_order(uses):
 
 
 def sentence_of(name):
-    """The first sentence of a crate's comment, without the name of a program and its words."""
+    """The first sentence of a crate's comment, without a program's name and arguments."""
     root = "lib.rt" if tree.is_library(name) else "main.rt"
     lines = (tree.TOP / "crates" / name / "src" / root).read_text().splitlines()
     comment = []
@@ -79,17 +84,41 @@ def table():
     return "\n".join(rows) + "\n"
 
 
-def main(words):
-    """Checks the page, or writes its table."""
+def files_named(rows):
+    """The files that a table's rows name, each with its folder, remarks in parentheses aside."""
+    for row in rows.splitlines():
+        for folder, cell in zip(FOLDERS, row.strip("|").split("|")[1:]):
+            for name in re.findall(r"`([^`]+)`", re.sub(r"\(.*?\)", "", cell)):
+                yield f"{folder}/{name}"
+
+
+def faults_of_rules(text):
+    """The files that the tables of rules name and that do not exist."""
+    tables = list(RULES.finditer(text))
+    if not tables:
+        yield "docs/layers.md: there is no table of rules"
+    for found in tables:
+        for name in files_named(found["rows"]):
+            path = tree.TOP / "crates" / found["crate"] / name
+            if not path.exists() and not path.with_suffix(".antt").exists():
+                yield f"docs/layers.md: {found['crate']} has no {name}"
+
+
+def faults_of_crates(text):
+    """The fault where the page has another table of crates."""
+    if not TABLE.search(text) or TABLE.sub(lambda _: table(), text, count=1) != text:
+        yield "docs/layers.md: not the crates as they are: run checks/layers.py --write"
+
+
+def main():
+    """Checks the page, or writes its table, and returns the exit status."""
+    words = tree.words_of(__doc__)
+    words.add_argument("--write", action="store_true", help="put the table of crates into the page")
+    if words.parse_args().write:
+        PAGE.write_text(TABLE.sub(lambda _: table(), PAGE.read_text(), count=1))
     text = PAGE.read_text()
-    wanted = TABLE.sub(lambda _: table(), text, count=1)
-    if words == ["--write"]:
-        PAGE.write_text(wanted)
-    elif wanted != text or not TABLE.search(text):
-        print("docs/layers.md: not the crates as they are: run checks/layers.py --write")
-        return 1
-    return 0
+    return tree.report([*faults_of_crates(text), *faults_of_rules(text)])
 
 
 if __name__ == "__main__":
-    sys.exit(main(sys.argv[1:]))
+    sys.exit(main())

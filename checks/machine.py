@@ -1,8 +1,8 @@
 #!/usr/bin/env python3
 """Prints how many checks this machine can run side by side.
 
-That is one for each processor that this process may use, as far as there are 5 GB of free memory for
-each, and one at least. The variable RT_JOBS, where it is set to a number, is the answer instead.
+That is one for each processor that this process may use, but no more than have 5 GB of free memory
+each, and at least one. If the variable RT_JOBS is set to a positive number, it prints that instead.
 """
 
 import os
@@ -10,18 +10,18 @@ import re
 import sys
 from pathlib import Path
 
-# The memory of a check, in bytes.
+# The memory that a check may take, in bytes.
 MEMORY = 5_000_000_000
 # A control group's limit of memory and what it holds, in the two versions of control groups.
 GROUPS = [("/sys/fs/cgroup/memory.max", "/sys/fs/cgroup/memory.current"),
           ("/sys/fs/cgroup/memory/memory.limit_in_bytes",
            "/sys/fs/cgroup/memory/memory.usage_in_bytes")]
-# Where a control group's share of the processors stands: the time that it has in each period.
+# The file with a control group's share of the processors: its time in each period.
 SHARE = Path("/sys/fs/cgroup/cpu.max")
 
 
 def number_in(path, pattern=r"(\d+)"):
-    """The first number in a file that fits a pattern, or None."""
+    """The first number in a file that matches a pattern, or None."""
     try:
         found = re.search(pattern, Path(path).read_text())
     except OSError:
@@ -30,7 +30,7 @@ def number_in(path, pattern=r"(\d+)"):
 
 
 def free_memory():
-    """How many bytes of memory are free, for this process's control group too."""
+    """How many bytes of memory are free on the machine and in this process's control group."""
     free = [1024 * (number_in("/proc/meminfo", r"MemAvailable:\s+(\d+)") or 0)]
     for limit, held in GROUPS:
         limit, held = number_in(limit), number_in(held)
@@ -40,7 +40,7 @@ def free_memory():
 
 
 def processors():
-    """How many processors there are to use."""
+    """How many processors this process may use."""
     found = len(os.sched_getaffinity(0))
     time, period = number_in(SHARE, r"^(\d+)"), number_in(SHARE, r" (\d+)")
     return min(found, max(time // period, 1)) if time and period else found

@@ -1,9 +1,9 @@
 #!/usr/bin/env python3
-"""Keeps what tells of the commands as the list docs/commands.json has it.
+"""Keeps what describes the commands in step with the list docs/commands.json.
 
 That is docs/itv.1, the man page, the completions for bash, zsh and fish, and the usages that itv
 itself writes. Fails where one of them is not what the list gives, and where docs/commands.md does not
-show the words of a command as the list has them.
+show the arguments of a command as the list has them.
 
     manual.py          checks
     manual.py --write  writes the files
@@ -22,7 +22,7 @@ TABLE = tree.TOP / "docs" / "commands.md"
 PAGE = tree.TOP / "docs" / "itv.1"
 COMPLETIONS = tree.TOP / "completions"
 USAGES = tree.TOP / "crates" / "it_words" / "src" / "words" / "usages.rt"
-# How many columns a usage has.
+# The most columns that a line of a usage has.
 COLUMNS = 79
 USAGE_SOURCE = """\
 //! The usages of the commands. Made by checks/manual.py from docs/commands.json.
@@ -51,7 +51,7 @@ pub(super) const {constant}: Usage = Usage {{
 
 
 def text_of(words):
-    """A text as roff has it."""
+    """A text escaped for roff."""
     plain = words.replace("\\", "\\e").replace("-", "\\-")
     return "\\&" + plain if plain.startswith((".", "'")) else plain
 
@@ -63,7 +63,7 @@ def option_of(option):
 
 
 def choice_of(options):
-    """Options of which those of one choice must be given, the choices parted by a bar."""
+    """Options of which those of one choice must be given; a bar separates the choices."""
     choices = {}
     for option in options:
         words = f"--{option['name']} {option['value']}"
@@ -72,7 +72,7 @@ def choice_of(options):
 
 
 def words_of(command):
-    """The words after the name of a command, as a synopsis has them."""
+    """The arguments of a command, as a synopsis shows them."""
     forms = {"needed": "--{} {}", "any": "[--{} {}..]", "free": "[--{} {}]", "bare": "[--{}]"}
     words = [argument["value"] for argument in command["arguments"]]
     for use, options in itertools.groupby(command["options"], key=lambda option: option["use"]):
@@ -84,7 +84,7 @@ def words_of(command):
 
 
 def command_lines(program, command):
-    """What the page says of a command."""
+    """What the man page says about a command."""
     yield f".SS \"{program} {command['name']}\""
     yield text_of(command["text"])
     for option in command["options"]:
@@ -125,18 +125,18 @@ def page_lines(listed):
 
 
 def literal_of(text):
-    """A text as a literal of the source has it between its quotes."""
+    """A text escaped for a string literal of the source."""
     return text.replace("\\", "\\\\").replace('"', '\\"')
 
 
 def wrapped(words, first, rest):
-    """A text in lines, of which the first begins with one text and the others with another."""
+    """A text wrapped into lines: the first begins with one text, the others with another."""
     return textwrap.fill(words, COLUMNS, initial_indent=first, subsequent_indent=rest,
                          break_long_words=False, break_on_hyphens=False)
 
 
 def usage_line(program, command):
-    """The words of a command as its usage has them: an option stays with its value."""
+    """A command and its arguments, as its usage shows them: an option stays with its value."""
     parts = words_of(command).replace(" --", "\n--").replace(" [--", "\n[--").replace(" (--", "\n(--")
     words = wrapped(parts.replace(" ", "\0").replace("\n", " "), f"{program} {command['name']} ",
                     "    ")
@@ -168,7 +168,7 @@ def usages(listed):
 
 
 def made(listed):
-    """The text of each file that is made, by its path."""
+    """The text of each file that this script makes, by its path."""
     page = "\n".join(page_lines(listed)) + "\n"
     program = listed["program"]
     return {PAGE: page, USAGES: usages(listed),
@@ -178,7 +178,7 @@ def made(listed):
 
 
 def faults(listed):
-    """What is not as the list has it."""
+    """What is not as the list gives it."""
     told = f"is not what {tree.name_of(LIST)} gives"
     for path, text in made(listed).items():
         if not path.exists() or path.read_text() != text:
@@ -191,7 +191,7 @@ def faults(listed):
 
 
 def main():
-    """Does what the words say."""
+    """Does what the arguments say."""
     words = tree.words_of(__doc__)
     words.add_argument("--write", action="store_true")
     is_written = words.parse_args().write

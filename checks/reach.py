@@ -8,8 +8,8 @@ public contract reaches into a folder specs/inside/, and where an import leads n
     reach.py              the table
     reach.py --unreached  lists the definitions outside specs/inside/ that no public contract
                           reaches
-    reach.py --from NAME  lists the definitions that one rests on, it first; NAME is that of a public
-                          function, or of a definition (as it_verify/specs/Made.antt:Made)
+    reach.py --from NAME  lists what NAME rests on: a public function, or a definition (such as
+                          it_verify/specs/Made.antt:Made), which then comes first
 """
 
 import sys
@@ -39,7 +39,7 @@ class Graph:
         self.edges = {}
 
     def add_module(self, module):
-        """Keeps what a module defines, by the names under which others find it."""
+        """Adds what a module defines, by the names under which others find it."""
         own = self.names.setdefault((module.crate, module.name), {})
         for definition in module.definitions:
             self.definitions[definition.key] = definition
@@ -57,7 +57,7 @@ class Graph:
         return None
 
     def in_module(self, module, name):
-        """What a name is in a module, also one that the module brings in."""
+        """What a name means in a module, even one that the module imports."""
         if name in self.names.get(module, {}):
             return self.names[module][name]
         if module in self.modules and name in self.modules[module].imports:
@@ -65,7 +65,7 @@ class Graph:
         return None
 
     def type_at(self, crate, parts, name):
-        """The Rust type of a declared module, also where the name is one of its variants."""
+        """The Rust type of a declared module, even if the name is one of its variants."""
         shown = [part for part in parts if part != "TheVariants"]
         for length in range(len(shown), -1, -1):
             module = "declared." + (".".join(shown[:length]) or "lib")
@@ -156,7 +156,7 @@ class Graph:
         return self.edges[key]
 
     def reached(self, starts):
-        """All that is reached from some keys, each with the one that led to it."""
+        """Everything reached from some keys, each with the key that led to it."""
         led = {}
         waiting = [(start, None) for start in starts]
         while waiting:
@@ -172,18 +172,18 @@ class Graph:
                 if contract.is_public and not contract.is_inner]
 
     def inner_contracts(self):
-        """What public types say of their private fields."""
+        """What public types say about their private fields."""
         return [contract for source in self.sources.values() for contract in source.contracts
                 if contract.is_public and contract.is_inner]
 
 
 def is_inside(key):
-    """Whether a definition stands in specs/inside/."""
+    """Whether a definition is in specs/inside/."""
     return key[1].split(".")[0] == "inside"
 
 
 def shown(key):
-    """A definition or a type as it is told."""
+    """A definition or a type as a fault names it."""
     if key[1].startswith("declared."):
         return f"{key[0]}/src/{key[1][len('declared.'):].replace('.', '/')}.rt {key[2]}"
     return f"{key[0]}/specs/{key[1].replace('.', '/')}.antt {key[2]}"
@@ -199,14 +199,14 @@ def chain_to(led, key):
 
 
 def told(contract):
-    """A contract as it is told."""
+    """A contract as a fault names it."""
     owner = contract.owner if contract.owner != contract.name else None
     name = f"{owner}::{contract.name}" if owner else contract.name
     return f"{contract.crate}/src/{contract.module.replace('.', '/')}.rt: the contract of {name}"
 
 
 def inside_faults(graph):
-    """The public contracts that reach into specs/inside/ (of a program: of another crate)."""
+    """The public contracts that reach into specs/inside/ (for a program: that of another crate)."""
     faults = []
     for contract in graph.public_contracts():
         led = graph.reached(graph.of_contract(contract))
@@ -240,7 +240,7 @@ def lines_by_crate(graph, led):
 
 
 def keys_of(graph, functions=None):
-    """What the public contracts name: of these functions, or all."""
+    """What the public contracts of these functions, or all public contracts, name."""
     return [key for contract in graph.public_contracts()
             if functions is None or (contract.crate, contract.name) in functions
             for key in graph.of_contract(contract)]
@@ -270,7 +270,7 @@ def print_unreached(graph):
 
 
 def depth_first(graph, start):
-    """What a definition rests on, it first, and each before what only it leads to."""
+    """What a definition rests on, itself first, and each before what only that one leads to."""
     order, waiting = {}, [start]
     while waiting:
         key = waiting.pop()
@@ -281,7 +281,7 @@ def depth_first(graph, start):
 
 
 def start_named(graph, name):
-    """The keys that a name of a definition or of a public function stands for."""
+    """The keys that the name of a definition or of a public function leads to."""
     if ":" in name:
         file, own = name.split(":")
         crate, _, module = file.partition("/specs/")
@@ -300,7 +300,7 @@ def print_from(graph, name):
 
 
 def main():
-    """Does what the words say."""
+    """Does what the arguments say."""
     words = tree.words_of(__doc__)
     words.add_argument("--unreached", action="store_true")
     words.add_argument("--from", dest="start", metavar="NAME")

@@ -2,7 +2,7 @@
 """Fails where a product file, a line or the body of a function is too long.
 
     shape.py           files, lines and bodies of src/ and specs/
-    shape.py --proofs  the lines of proofs/ too, but for those that name a goal and its answer
+    shape.py --proofs  the lines of proofs/ too, except those that name a goal and its answer
 """
 
 import re
@@ -13,7 +13,7 @@ import tree
 MOST_LINES = 250
 MOST_COLUMNS = 100
 MOST_BODY_LINES = 35
-# A line of a proof that has two names alone, both of which the check gives.
+# A line of a proof with nothing but two names, both given by the check.
 ANSWER = re.compile(r"\s*(abbrev )?(pub )?\S+ : goal\.\S+$")
 FUNCTION = re.compile(r"( *)(?:pub(?:\([a-z]+\))? )?(?:unsafe )?(?:const )?fn (\w+)")
 
@@ -37,7 +37,7 @@ def long_lines(path, lines):
 
 
 def body_of(lines, start, indent):
-    """The places of the first and the last line of a body, which begins at or after a line."""
+    """The places of a body's first line, which is at or after a line, and of its closing brace."""
     first = start
     while not lines[first].endswith("{") or re.search(r"\b(requires|ensures)\b", lines[first]):
         if lines[first].rstrip().endswith((";", "{}")):
@@ -61,7 +61,7 @@ def long_bodies(path, lines):
 
 
 def file_faults(path):
-    """All that is too long in a file."""
+    """Everything that is too long in a file."""
     lines = path.read_text().splitlines()
     yield from long_file(path, lines)
     yield from long_lines(path, lines)
@@ -70,7 +70,7 @@ def file_faults(path):
 
 
 def main():
-    """Does what the words say."""
+    """Does what the arguments say."""
     words = tree.words_of(__doc__)
     words.add_argument("--proofs", action="store_true")
     chosen = words.parse_args()

@@ -28,12 +28,12 @@ class Definition:
 
     @property
     def key(self):
-        """What tells it from every other."""
+        """What identifies it."""
         return (self.crate, self.module, self.name)
 
     @property
     def place(self):
-        """The file in which it stands."""
+        """The file that has it."""
         return f"{self.crate}/specs/{self.module.replace('.', '/')}.antt"
 
     def code(self):
@@ -137,7 +137,7 @@ def constructors_of(lines):
 
 
 def read_block(crate, module, lines, around):
-    """The definitions that stand in lines."""
+    """The definitions in some lines."""
     found = []
     for comment, item in items_of(lines):
         number, head = item[0]
@@ -169,7 +169,7 @@ def read_module(crate, path):
 
 
 def without_uses(lines):
-    """The lines without use items, also those that go over several lines."""
+    """The lines without use items, even those that span several lines."""
     kept, depth = [], 0
     for number, line in lines:
         if depth or re.match(r"(pub )?use ", line):

@@ -1,12 +1,12 @@
 #!/usr/bin/env python3
-"""Runs a command, and says how long it took before the last line that it writes.
+"""Runs a command, and before its last line of output says how long it took.
 
-    timed.py COMMAND WORD..
+    timed.py COMMAND ARGUMENT..
 
-What the command writes to standard output goes on line by line, but for its last line: before that
-comes a line with the minutes of wall and of processors that the command took, with all that it
-started. The status is the command's own, 128 and the number of the signal that ended it, if one
-did. A signal to end that comes here is handed on.
+What the command writes to standard output is passed on line by line; before its last line comes one
+with the minutes of wall time and of processor time that the command took, with all that it started.
+The status is the command's own, or 128 plus the number of the signal that ended it. Signals that
+ask this script to end are passed on to the command.
 """
 
 import resource
@@ -17,13 +17,13 @@ import time
 
 
 def handed_on(process):
-    """Has the signals that ask for an end reach the command."""
+    """Passes the signals that ask for an end on to the command."""
     for number in (signal.SIGTERM, signal.SIGHUP, signal.SIGINT):
         signal.signal(number, lambda got, _: process.send_signal(got))
 
 
 def copy_but_last(lines, out):
-    """Copies the lines, each as it comes, but for the last, which is the answer."""
+    """Copies the lines as they come, except the last, which it returns."""
     last = b""
     for line in lines:
         out.write(last)
@@ -33,19 +33,19 @@ def copy_but_last(lines, out):
 
 
 def processor_time():
-    """The seconds of processors that the commands took which this process has waited for."""
+    """The processor seconds of the commands that this process has waited for."""
     used = resource.getrusage(resource.RUSAGE_CHILDREN)
     return used.ru_utime + used.ru_stime
 
 
 def time_line(command, wall, used):
-    """What a command took, of seconds."""
+    """The line on how long a command took, from seconds."""
     minutes = f"{wall / 60:.1f} minutes of wall, {used / 60:.1f} processor minutes"
     return f"{command} took {minutes}\n"
 
 
 def main():
-    """Does what the words say."""
+    """Does what the arguments say."""
     words, out = sys.argv[1:], sys.stdout.buffer
     if not words:
         sys.exit(__doc__)

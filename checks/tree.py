@@ -1,4 +1,4 @@
-"""What stands where in this repository: its crates, and their files."""
+"""Where things are in this repository: its crates, and their files."""
 
 import argparse
 import re
@@ -28,18 +28,18 @@ def folder_files(crate, folder, ending):
 
 
 def name_of(path):
-    """A path as it is told: from the top of the repository."""
+    """A path as it is shown: from the top of the repository."""
     return str(path.relative_to(TOP))
 
 
 def words_of(text):
-    """The reader of a script's words, with the script's text as help."""
+    """The parser of a script's arguments, with the script's docstring as help."""
     layout = argparse.RawDescriptionHelpFormatter
     return argparse.ArgumentParser(description=text, formatter_class=layout)
 
 
 def report(faults):
-    """Writes the faults, and answers the exit status."""
+    """Writes the faults, and returns the exit status."""
     for fault in faults:
         print(fault)
     return 1 if faults else 0

@@ -1,7 +1,7 @@
 """A small delivery that is accepted: one step, one functionary, one file.
 
-What letters of its documents stand for: K for a key object, "A" for the SHA-256 of `abc` and "B"
-for that of no bytes. Everybody's secret is the own id, but for `bobz`, whose is `bob` with a zero
+Letters in its documents are abbreviations: K is a key object, "A" the SHA-256 of `abc` and "B" that
+of no bytes. Everybody's secret is their own id, except that of `bobz`, which is `bob` with a zero
 byte at its end. Envelopes are written as `itv sign` writes them.
 """
 
@@ -57,7 +57,7 @@ ACCEPTED = "accepted\nstep build 1\nfile app\n"
 
 
 def filled(text, *changes):
-    """A text with these changes made in turn, and then with what its letters stand for."""
+    """A text with these changes made in turn, and then its letters written out."""
     for old, new in [*changes, *LETTERS]:
         text = text.replace(old, new)
     return text
@@ -69,7 +69,7 @@ def secret(who):
 
 
 def signed(who, body, kind=IN_TOTO):
-    """The text of the envelope of a body of a type, signed by somebody."""
+    """The text of the envelope of a body of this type, signed by somebody."""
     payload = body.encode()
     message = f"DSSEv1 {len(kind)} {kind} {len(payload)} ".encode() + payload
     code = hmac.new(secret(who), message, hashlib.sha256).digest()
@@ -110,7 +110,7 @@ def folder(files, folders=()):
 
 
 def base(**changed):
-    """The inputs of the base case, but for these."""
+    """The inputs of the base case, with these in place of its own."""
     inputs = {"policy": filled(POLICY), "layout": layout(),
               "links": folder([("build.alice.link", link("alice"))]),
               "provenance": signed("builder", filled(STATEMENT)) + "\n",

@@ -1,6 +1,6 @@
-"""What the scripts of deliveries share that are signed by public keys.
+"""What the scripts for deliveries signed by public keys share.
 
-A person is a key of `signing_keys`, under the id of the person's choice.
+A person is a key of `signing_keys`, under any id.
 """
 
 import base64
@@ -34,7 +34,7 @@ def public_text(made):
 
 
 def key(made, text=None, **changed):
-    """The object of a key, with another text in place of its public part where one is given."""
+    """The object of a key, with `text` in place of its public part, if it is given."""
     keytype, scheme = KINDS[type(made)]
     public = public_text(made) if text is None else text
     return {"keytype": keytype, "scheme": scheme, "keyval": {"public": public}, **changed}
@@ -78,7 +78,7 @@ def laid_out(keys, steps):
 
 
 def believing(owners, builders):
-    """The policy of these owners, which believes a builder with these keys."""
+    """The policy of these owners, which trusts a builder with these keys."""
     made = policy(DELIVER)
     made["owners"] = owners
     made["expectations"][0]["builders"][0]["keys"] = builders
@@ -117,30 +117,30 @@ NO_PROVENANCE = ["refused 61 NoProvenance", "at -", "path app"]
 
 
 def owner_notes(**signed):
-    """What is noted of owners: whether each of them signed the layout."""
+    """The notes on owners: whether each of them signed the layout."""
     return [f"layout: owner {who} {'signed' if did else 'did not sign'} the layout"
             for who, did in signed.items()]
 
 
 def counts(file, *ids):
-    """What is noted of a file that counts for these ids."""
+    """The note on a file that counts for these ids."""
     return f"{file}: counts for {' '.join(ids)}"
 
 
 def not_signed(file, *tried):
-    """What is noted of a file that no key of the step signed, which is tried for these ids."""
+    """The notes on a file that no key of the step signed, and that is tried for these ids."""
     tries = f"signatures are tried for {' '.join(tried)}" if tried \
         else "no signature is tried for a key id of the step"
     return [f"{file}: signed by no key of the step", f"{file}: by keyid, {tries}"]
 
 
 def without_key(who):
-    """What is noted of an id of the step `build` that has no key object: here, and at the end."""
+    """The notes on an id of the step `build` that has no key object: one here, one at the end."""
     return [f"{who}: the layout has no key of this id",
             f'layout: step "build" may be signed for by key "{who}", '
             "and keys has no key object of that id"]
 
 
 def held_in(file, who):
-    """What is noted of a sublayout of the step `build`: the file that holds it."""
+    """The note on a sublayout of the step `build`: the file that holds it."""
     return f"layout: for key {who} of step build the sublayout is in file {file}"

@@ -1,6 +1,6 @@
-"""Whole verifications as data: a small good delivery, what a case changes of it, what it wants.
+"""Whole verifications as data: a small good delivery, what a case changes in it, what it expects.
 
-The documents are made by bench/deliveries.py, where everybody's secret is the own name.
+The documents are made by bench/deliveries.py, where everybody's secret is their own name.
 """
 
 import json
@@ -37,18 +37,18 @@ def good():
 
 
 def over(body, *files, **changed):
-    """What a layout and its files change of `good`: a file is a name, a document and a signer."""
+    """What a layout and its files change in `good`: a file is a name, a document and a signer."""
     return {"layout": signed(body, "owner"), **changed,
             "links": folder([(name, signed(document, who)) for name, document, who in files])}
 
 
 def case(name, report, notes, **changed):
-    """A case: its name, the lines of the report and of the notes, and what it changes of `good`."""
+    """A case: its name, the lines of the report and of the notes, and what it changes in `good`."""
     status = 0 if report[0] == "accepted" else 1
     return {"name": name, **good(), **changed, "report": "".join(line + "\n" for line in report),
             "status": status, "notes": list(notes)}
 
 
 def write(name, cases):
-    """Writes a file of cases, each on a line of its own; with `--check` it must be there already."""
+    """Writes a file of cases, each on a line of its own; with `--check`, fails if it differs."""
     lines.write(DATA / name, cases)

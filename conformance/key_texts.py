@@ -38,6 +38,6 @@ def point(coordinates):
 
 
 def modulus(bits, exponent=65537):
-    """The PEM text of an RSA key whose modulus is so many ones, in bits."""
+    """The PEM text of an RSA key whose modulus is this many bits, all ones."""
     numbers = [n.to_bytes(n.bit_length() // 8 + 1, "big") for n in (2 ** bits - 1, exponent)]
     return pem(RSA, der(48, b"".join(der(2, number) for number in numbers)))

@@ -1,4 +1,4 @@
-"""Files of JSON objects, one a line, which scripts write and check."""
+"""Files of JSON objects, one per line, which scripts write and check."""
 
 import json
 import pathlib
@@ -8,7 +8,7 @@ TOP = pathlib.Path(__file__).resolve().parent.parent
 
 
 def write(path, documents):
-    """Writes a file of documents, each on a line; with `--check` it must be there already."""
+    """Writes a file of documents, each on a line; with `--check`, fails if it differs."""
     lines = [json.dumps(one, ensure_ascii=False, separators=(",", ":")) for one in documents]
     text = "".join(line + "\n" for line in lines)
     if sys.argv[1:] != ["--check"]:

@@ -1,4 +1,4 @@
-"""Artifact rules by their definitions in docs/formats.md: each path is judged by itself.
+"""Artifact rules by their definitions in docs/formats.md: each path is judged on its own.
 
 Nothing is kept from one rule to the next. Shares nothing with rules_by_queue.py.
 """
@@ -35,7 +35,7 @@ def set_of(body):
 
 
 def is_run(items, text):
-    """Whether a text is a run of what the items take."""
+    """Whether the items match a whole text."""
     if not items:
         return not text
     first, rest = items[0], items[1:]
@@ -93,7 +93,7 @@ def claims(rule, side, item, links, path):
 
 
 def is_free(earlier, side, item, links, path):
-    """Whether a path stands on the side and no earlier rule claims it."""
+    """Whether a path is on the side and no earlier rule claims it."""
     return path in item[side] and not any(claims(rule, side, item, links, path)
                                           for rule in earlier)
 

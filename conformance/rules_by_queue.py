@@ -1,8 +1,8 @@
 """Artifact rules run by a queue (in-toto 1.0, section 4.3.3): each rule takes paths out of it.
 
-What a rule consumes is told from what became of a path between the materials and the products.
-Shares nothing with rules_by_definition.py; patterns are those of Python's fnmatch, whose reading is
-the same where no set has a range.
+What a rule consumes depends on what became of a path between the materials and the products. Shares
+nothing with rules_by_definition.py; patterns are those of Python's fnmatch, which reads them the
+same way where no set has a range.
 """
 
 from fnmatch import fnmatchcase
@@ -28,7 +28,7 @@ def change_of(item, path):
 
 
 def below(prefix, path):
-    """What stands behind a prefix, which means a folder, in a path; `None` where it does not."""
+    """What follows a prefix, which means a folder, in a path; `None` where it does not begin it."""
     if not path.startswith(prefix):
         return None
     rest = path[len(prefix):]
@@ -38,7 +38,7 @@ def below(prefix, path):
 
 
 def put_below(prefix, rest):
-    """The path that stands behind a prefix, which means a folder."""
+    """The path with a prefix, which means a folder, put before it."""
     between = "" if prefix == "" or prefix[-1] == "/" else "/"
     return prefix + between + rest
 

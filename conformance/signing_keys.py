@@ -15,7 +15,7 @@ ORDER = 0xFFFFFFFF00000000FFFFFFFFFFFFFFFFBCE6FAADA7179E84F3B9CAC2FC632551
 
 
 def stream(seed, size):
-    """So many bytes from a seed: the mask generation function MGF1 (RFC 8017, section B.2.1)."""
+    """This many bytes from a seed: the mask generation function MGF1 (RFC 8017, section B.2.1)."""
     blocks = (hashlib.sha256(seed + n.to_bytes(4, "big")).digest() for n in range(size // 32 + 1))
     return b"".join(blocks)[:size]
 
@@ -39,7 +39,7 @@ def is_prime(n):
 
 
 def prime(seed):
-    """A prime of 1,024 bits whose first two are set, less 1 not a multiple of 3."""
+    """A prime of 1,024 bits whose first two bits are set; it less 1 is no multiple of 3."""
     n = int.from_bytes(stream(seed, 128), "big") | 3 << 1022 | 1
     while n % 3 == 1 or any(n % p == 0 for p in (3, 5, 7, 11, 13)) or not is_prime(n):
         n += 2

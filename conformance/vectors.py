@@ -1,4 +1,4 @@
-"""Vectors of public keys as data: what is tried with a key, and what the rules say of it."""
+"""Vectors of public keys as data: what is tried with a key, and what the rules say about it."""
 
 import sys
 
@@ -20,7 +20,7 @@ def of_signature(name, kind, key, message, signature, valid):
 
 
 def write(name, vectors):
-    """Writes a file of vectors, whose names differ; with `--check` it must be there already."""
+    """Writes a file of vectors, whose names differ; with `--check`, fails if it differs."""
     made = list(vectors)
     names = [one["name"] for one in made]
     twice = sorted({one for one in names if names.count(one) > 1})

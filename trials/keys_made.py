@@ -1,6 +1,6 @@
-"""Deliveries by chance, whose keys are of every kind and whose signatures are partly wrong.
+"""Random deliveries, whose keys are of every kind and whose signatures are partly wrong.
 
-Most of what is thrown is right, so that deliveries get far before something fails.
+Most of each is right, so that deliveries get far before something fails.
 """
 
 import base64
@@ -54,7 +54,7 @@ class InDigits:
         self.made, self.sign = made, functools.cache(made.sign)
 
     def text(self, dice):
-        """The public part of its key object, in digits of either case."""
+        """The public part of its key object, in digits of lower or upper case."""
         return dice.choice([self.made.digits, self.made.digits, self.made.digits.upper()])
 
 
@@ -65,7 +65,7 @@ class InPem:
         self.made, self.scheme, self.sign = made, scheme, functools.cache(made.sign)
 
     def text(self, dice):
-        """The public part of its key object, with lines of some length and end."""
+        """The public part of its key object, with lines of one of several lengths and endings."""
         lines = pem(self.made).split("\n")
         joined, width = "".join(lines[1:-2]), dice.choice([64, 64, 64, 76, 40])
         inner = [joined[at:at + width] for at in range(0, len(joined), width)]
@@ -75,7 +75,7 @@ class InPem:
 
 @functools.cache
 def holders():
-    """All who may sign: three of a ring, of whom two have one key, and three of each other kind."""
+    """All who may sign: three of a ring, two of whom share a key, and three of each other kind."""
     digits = [InDigits(Ed25519Key(who)) for who in ("e0", "e1", "e2")]
     ecdsa = [InPem(P256Key(who), SCHEMES[2]) for who in ("p0", "p1", "p2")]
     pss = [InPem(RsaKey(*of), SCHEMES[3]) for of in [("r0",), ("r0", 3), ("r1",)]]
@@ -83,7 +83,7 @@ def holders():
 
 
 def damaged(dice, made):
-    """A key object that is perhaps that of another scheme, or has another text."""
+    """A key object with another scheme, another text or other damage."""
     text = made["keyval"]["public"]
     return {**made, **dice.choice([
         {"scheme": dice.choice(SCHEMES + ["ecdsa-sha2-nistp384"])}, {"keytype": "unknown"},
@@ -93,11 +93,11 @@ def damaged(dice, made):
 
 
 class Dice:
-    """What is thrown for one delivery."""
+    """The random choices for one delivery."""
 
     def __init__(self, dice):
         self.dice = dice
-        # Some deliveries are right but for little, others have faults all over.
+        # Some deliveries are right or nearly so, others have faults all over.
         self.wrong = dice.choice([0, 0.01, 0.03, 0.1])
 
     def is_wrong(self, times=1):
@@ -133,7 +133,7 @@ class Dice:
         return {"keyid": hint, "sig": base64.b64encode(sig).decode()}
 
     def envelope(self, body, signers):
-        """The text of an envelope of a body that these have signed, by their ids."""
+        """The text of an envelope of a body, signed by these pairs of an id and a holder."""
         kind = "text/plain" if self.is_wrong(0.5) else TYPE
         message = f"DSSEv1 {len(kind)} {kind} {len(body)} ".encode() + body
         signatures = [self.signature(holder, name, message) for name, holder in signers]
@@ -144,7 +144,7 @@ class Dice:
                            "signatures": signatures})
 
     def body(self, name):
-        """The body of a link of a step, which now and then is another one."""
+        """The body of a link of a step, now and then with something changed."""
         made = link(name, [], ["app"])
         if self.is_wrong():
             made["products"]["app"] = {"sha256": digest("another app")}
@@ -218,5 +218,5 @@ class Delivery:
 
 
 def delivery(dice):
-    """A delivery by these dice."""
+    """A delivery from this source of random numbers."""
     return Delivery(dice)

@@ -1,7 +1,7 @@
-"""What `itv verify` has to answer about a delivery of keys_made, in plain Python.
+"""What `itv verify` has to answer for a delivery of keys_made, in plain Python.
 
-Written from docs/formats.md and docs/keys.md: it shares nothing with the program, and the notation
-of documents with what makes the deliveries.
+Written from docs/formats.md and docs/keys.md: it shares nothing with the program, and with what
+makes the deliveries only the notation of documents.
 """
 
 import base64
@@ -51,7 +51,7 @@ def info_in(text):
 
 
 def is_taken(key, scheme):
-    """Whether a key is one of those that are checked under a scheme."""
+    """Whether a key is one that is checked under a scheme."""
     if scheme == "ecdsa-sha2-nistp256":
         return isinstance(key, ec.EllipticCurvePublicKey) and isinstance(key.curve, ec.SECP256R1)
     if scheme != "rsassa-pss-sha256" or not isinstance(key, rsa.RSAPublicKey):
@@ -83,7 +83,7 @@ class Checks:
         self.public_keys = public_keys
 
     def key(self, name, made):
-        """The key that an id and an object name, as its scheme and what tells it apart, or None."""
+        """The key that an id and an object name, as its scheme and what identifies it, or None."""
         scheme, text = made.get("scheme"), made.get("keyval", {}).get("public", "")
         if scheme == "hmac-sha256":
             secret = self.secrets.get(name)
@@ -139,7 +139,7 @@ class Envelope:
 
 
 def counted_envelope(text, checks):
-    """The envelope in a text, where it is one of in-toto's type that is not left out, or None."""
+    """The envelope in a text, if it is one of in-toto's type that is not left out, or None."""
     try:
         found = Envelope(text)
     except ValueError:
@@ -153,7 +153,7 @@ def record_of(document):
 
 
 class Level:
-    """A layout, the files below it, and what they are checked with."""
+    """A layout, the files for it, and what they are checked with."""
 
     def __init__(self, checks, moment, layout, bundle, depth):
         self.checks, self.moment, self.layout = checks, moment, layout
@@ -198,7 +198,7 @@ class Level:
         return next(iter(records.values())), len(keys)
 
     def record(self, step, who, document):
-        """The record of a body: that of a link, or what a sublayout comes to."""
+        """The record of a body: that of a link, or the one that a sublayout results in."""
         if document["_type"] == "link":
             return record_of(document)
         at = f"{step}/{who}"
@@ -215,7 +215,7 @@ class Level:
 
 
 def verdict(delivery):
-    """The lines of an accepted delivery, or none where its layout is not read; or its refusal."""
+    """The lines of an accepted delivery, or none if its layout is not read; raises its refusal."""
     checks = Checks(delivery, ring=True, public_keys=delivery.public_keys)
     policy = json.loads(delivery.policy)
     envelope = Envelope(delivery.layout)
@@ -266,7 +266,7 @@ ORDER = ["verdict", "number", "name", "at", "steps", "files"]
 
 
 def json_text(document):
-    """The text of a report as JSON: its first members in their order, and then as they come."""
+    """The text of a report as JSON: the members in ORDER first, and then the others."""
     first = {name: document[name] for name in ORDER if name in document}
     return json.dumps({**first, **document}, separators=(",", ":")) + "\n"
 
@@ -280,7 +280,7 @@ def signers(delivery):
 
 
 def answers(delivery):
-    """What `verify`, `verify --json` and `signed --keys` answer: each time a status and a text."""
+    """What `verify`, `verify --json` and `signed --keys` answer: for each, a status and a text."""
     status, lines, document = verified(delivery)
     yield status, "".join(line + "\n" for line in lines)
     yield status, json_text(document) if document else ""

@@ -1,6 +1,6 @@
 #!/bin/sh
 # install-itv.sh [SHA256]: installs itv from the package in package/, and what the workflows and the
-# other scripts need. Where a SHA-256 is given, the package must have it and be the only one there.
+# other scripts need. If a SHA-256 is given, the package must have it and be the only one there.
 # Needs Debian or Ubuntu, and root or sudo.
 set -eu
 if [ $# -gt 0 ] && [ "$(sha256sum package/itv_*.deb | cut -c 1-64)" != "$1" ]; then

@@ -1,5 +1,5 @@
 #!/bin/sh
-# package-itv.sh TREE: builds itv in the tree of its sources, and puts its Debian package into package/.
+# package-itv.sh TREE: builds itv in its source tree, and puts its Debian package into package/.
 # Needs the Rattle toolchain, Python and dpkg-dev.
 set -eu
 mkdir -p package

@@ -1,6 +1,6 @@
 #!/bin/sh
-# sign-link.sh STEP ID: signs the link of a step, made from the lists `before` and `after`, and puts it
-# into links/. Needs what sign.sh needs, SIGNING_KEY too.
+# sign-link.sh STEP ID: signs the link of a step, made from the lists `before` and `after`, and puts
+# it into links/. Needs what sign.sh needs, including SIGNING_KEY.
 set -eu
 mkdir -p links
 itv link --name "$1" --materials before --products after > body

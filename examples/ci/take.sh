@@ -1,7 +1,7 @@
 #!/bin/sh
 # take.sh FOLDER NAME..: copies these files and folders, and nothing else, out of the folder that
-# holds what another job handed over. Takes none where one of them is here already, or where one is
-# or has in it what is no regular file and no folder, as a symbolic link.
+# holds what another job handed over. Takes none if one of them is here already, or if one is or
+# contains anything but regular files and folders, such as a symbolic link.
 set -eu
 from=$1
 shift

@@ -123,9 +123,10 @@ def faults_of_times():
         yield "CONTRIBUTING.md: the times of ./build and of the gate are not there"
         return
     build, gate = ([round(int(figure), -1) for figure in times] for times in measured)
-    for name, words in (("README.md", "about {} processor minutes, {} elapsed on".format(*build)),
-                        ("README.md", "about {} processor minutes, {} elapsed; half".format(*gate)),
-                        ("build", "about {} processor minutes from nothing".format(*build))):
+    wanted = [("README.md", "about {} processor minutes, {} elapsed on".format(*build)),
+              ("README.md", "| {} to 350 processor minutes, about {} elapsed".format(*gate)),
+              ("build", "about {} processor minutes from nothing".format(*build))]
+    for name, words in wanted:
         if words not in (tree.TOP / name).read_text():
             yield f"{name}: {words!r} is not there"
 

@@ -15,11 +15,14 @@ import reach
 import tree
 
 CRATES = tree.TOP / "crates"
-CASES = CRATES / "itv_cases" / "data" / "cases"
+# The folders of tables: those of the programs that `rt ci` runs, and that of conformance/run.
+TABLES = {name: CRATES / name / "data" for name in ("it_rows", "itv_cases", "it_vectors")}
+TABLES["conformance"] = tree.TOP / "conformance" / "data"
+OF_CASES = ("itv_cases", "conformance")
 NUMBER = r"(?P<figure>\d[\d,]*)"
-# The folders of tables of rows, with the program that tries them.
-OF_ROWS = {"values": "it_rows", "reports": "it_rows", "commands": "it_rows",
-           "verify": "itv_cases", "runs": "itv_cases"}
+# The folders of tables of rows, with where they are.
+OF_ROWS = {"values": ["it_rows"], "reports": ["it_rows"], "commands": ["it_rows"],
+           "verify": ["itv_cases"], "runs": OF_CASES}
 # The name of each figure, with a page that gives it and the words around it there.
 PLACES = [
     ("verify", "README.md", "the definitions, {} lines of them for the verdict"),
@@ -36,7 +39,9 @@ PLACES = [
     ("rows of verify", "docs/testing.md", "that the cases cannot show, in {} rows"),
     ("rows of commands", "docs/testing.md", "commands over bytes, in {} rows"),
     ("rows of reports", "docs/testing.md", "reports, most as JSON, in {} rows"),
-    ("rows of runs", "docs/testing.md", "in some rows the notes, in {} rows"),
+    ("rows of runs", "docs/testing.md", "of the program's commands, in {} rows"),
+    ("cases in memory", "docs/testing.md", "{} of the cases and"),
+    ("runs in memory", "docs/testing.md", "of the cases and {} of the runs"),
     ("answered twice", "conformance/README.md", "The answers of the {} cases in the eight files"),
     ("by hand", "conformance/README.md", "Those of the other {} were written down by hand"),
     ("by hand", "conformance/README.md", "The signatures of these {} were made"),
@@ -58,10 +63,20 @@ def lines_reached(graph, functions):
     return sum(reach.lines_by_crate(graph, reached).values())
 
 
-def lines(program, pattern):
-    """How many lines there are in the data files of a program that match a pattern."""
-    files = (CRATES / program / "data").glob(pattern)
-    return sum(path.read_bytes().count(b"\n") for path in files)
+def files_in(places, pattern):
+    """The tables at some places that match a pattern, in the order of their names."""
+    return sorted((path for place in places for path in TABLES[place].glob(pattern)),
+                  key=lambda path: path.name)
+
+
+def lines_of(paths):
+    """How many lines some files have."""
+    return sum(path.read_bytes().count(b"\n") for path in paths)
+
+
+def lines(places, pattern):
+    """How many lines there are in the tables at some places that match a pattern."""
+    return lines_of(files_in(places, pattern))
 
 
 # Ratios of README.md: the words before each, and the beginning of its row in docs/performance.md.
@@ -80,14 +95,14 @@ OF_FILES = re.compile(r"^- (?P<names>`[\w-]+\.jsonl`.*?): (?P<counts>\d+((, | an
 def of_cases():
     """The numbers of cases, by where their answers and their signatures come from."""
     twice = [path for name in ("base", "sha384", "levels", "panel")
-             for path in CASES.glob(f"*-{name}.jsonl")]
-    others = [path for path in CASES.glob("*.jsonl") if path not in twice]
+             for path in files_in(OF_CASES, f"cases/*-{name}.jsonl")]
+    others = [path for path in files_in(OF_CASES, "cases/*.jsonl") if path not in twice]
     noted = [path for path in others for line in path.read_text().splitlines()
              if json.loads(line).get("notes") is not None]
-    by_keys = [CASES / "public-keys.jsonl", CASES / "in-toto-golang.jsonl"]
+    by_keys = [path for name in ("public-keys", "in-toto-golang")
+               for path in files_in(OF_CASES, f"cases/{name}.jsonl")]
     groups = {"answered twice": twice, "by hand": others, "by keys": by_keys}
-    return {"noted": len(noted), **{name: sum(path.read_bytes().count(b"\n") for path in paths)
-                                    for name, paths in groups.items()}}
+    return {"noted": len(noted), **{name: lines_of(paths) for name, paths in groups.items()}}
 
 
 def faults_of_files():
@@ -96,14 +111,12 @@ def faults_of_files():
     for found in OF_FILES.finditer((tree.TOP / "conformance" / "README.md").read_text()):
         names = re.findall(r"`([\w-]+\.jsonl)`", found["names"])
         for name, given in zip(names, re.findall(r"\d+", found["counts"])):
-            paths = [CASES / name, CRATES / "it_vectors" / "data" / name]
-            count = sum(path.read_bytes().count(b"\n") for path in paths if path.exists())
+            count = lines(OF_CASES, f"cases/{name}") + lines(["it_vectors"], name)
             seen.add(name)
             if count != int(given):
                 yield f"conformance/README.md: {name} has {count} lines, and not {given}"
-    for path in CASES.glob("*.jsonl"):
-        if path.name not in seen:
-            yield f"conformance/README.md: how many cases {path.name} has is not said"
+    for name in sorted({path.name for path in files_in(OF_CASES, "cases/*.jsonl")} - seen):
+        yield f"conformance/README.md: how many cases {name} has is not said"
 
 
 def faults_of_ratios():
@@ -136,15 +149,17 @@ def counted():
 
     Kits with the same logic prove the same, so the letter of the kit does not matter.
     """
-    graph, every = reach.Graph(), lines("itv_cases", "cases/*.jsonl")
-    thrown, vectors = lines("itv_cases", "cases/random-*.jsonl"), lines("it_vectors", "*.jsonl")
+    graph, every = reach.Graph(), lines(OF_CASES, "cases/*.jsonl")
+    thrown, vectors = lines(OF_CASES, "cases/random-*.jsonl"), lines(["it_vectors"], "*.jsonl")
     numbers = {"verify": lines_reached(graph, reach.VERIFY),
                "run_verify": lines_reached(graph, reach.VERIFYING),
                "public": lines_reached(graph, None),
                "cases": every, "random": thrown, "worked": every - thrown,
                "vectors": vectors, **of_cases(),
-               **{f"rows of {folder}": lines(program, f"{folder}/*.jsonl")
-                  for folder, program in OF_ROWS.items()}}
+               "cases in memory": lines(["itv_cases"], "cases/*.jsonl"),
+               "runs in memory": lines(["itv_cases"], "runs/*.jsonl"),
+               **{f"rows of {folder}": lines(places, f"{folder}/*.jsonl")
+                  for folder, places in OF_ROWS.items()}}
     found = {name: f"{number:,}" for name, number in numbers.items()}
     found["version"] = json.loads((tree.TOP / "docs" / "commands.json").read_text())["version"]
     if shutil.which("rt"):

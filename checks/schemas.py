@@ -17,7 +17,7 @@ import tree
 
 DOCS = tree.TOP / "docs"
 NAMES = tree.TOP / "crates" / "it_member_notes" / "specs" / "MemberNames.antt"
-CASES = tree.TOP / "crates" / "itv_cases" / "data" / "cases"
+CASES = [tree.TOP / place / "data" / "cases" for place in ("conformance", "crates/itv_cases")]
 # Where the schemas say what the definitions say of a place.
 PLACES = {"Policy": ("policy", ""), "Expectation": ("policy", "expectation"),
           "Builder": ("policy", "builder"), "Layout": ("layout", ""), "Step": ("layout", "step"),
@@ -122,7 +122,7 @@ def document_in(case, name):
 def faults_of_cases():
     """The cases in which a document does not read that is as its schema says."""
     schemas = {name: schema_of(name) for name in REFUSALS}
-    for path in sorted(CASES.glob("*.jsonl")):
+    for path in sorted(path for folder in CASES for path in folder.glob("*.jsonl")):
         for case in map(json.loads, path.read_bytes().splitlines()):
             report = bytes_of(case["report"]).decode(errors="replace")
             for name, (refusal, beyond) in REFUSALS.items():

@@ -8,11 +8,14 @@ import sys
 
 sys.dont_write_bytecode = True
 import lines
+from cases_on_disk import can_run, lacks_notes
 
 sys.path.insert(0, str(lines.TOP / "bench"))
 from deliveries import MOMENT, compact, digest, layout, link, policy, signed, statement, step
 
-DATA = lines.TOP / "crates" / "itv_cases" / "data" / "cases"
+# Where the cases are that the built program is given as files, and where the others.
+ON_DISK = lines.TOP / "conformance" / "data" / "cases"
+IN_MEMORY = lines.TOP / "crates" / "itv_cases" / "data" / "cases"
 PEOPLE = ["owner", "builder", "alice", "bob", "carol"]
 DELIVER = [["MATCH", "*", "WITH", "PRODUCTS", "FROM", "build"], ["DISALLOW", "*"]]
 
@@ -49,6 +52,17 @@ def case(name, report, notes, **changed):
             "status": status, "notes": list(notes)}
 
 
+def is_on_disk(one):
+    """Whether the built program can show all that a case expects."""
+    return can_run(one) and not lacks_notes(one)
+
+
 def write(name, cases):
-    """Writes a file of cases, each on a line of its own; with `--check`, fails if it differs."""
-    lines.write(DATA / name, cases)
+    """Writes cases, each on a line of its own, to the files of this name in the two places.
+
+    With `--check`, fails if a file differs.
+    """
+    lines.write(ON_DISK / name, [one for one in cases if is_on_disk(one)])
+    others = [one for one in cases if not is_on_disk(one)]
+    if others or (IN_MEMORY / name).exists():
+        lines.write(IN_MEMORY / name, others)

@@ -1,5 +1,5 @@
-//! `itv_runs TABLE..`: whether runs of the program over files in memory give what the lines of tables
-//! say.
+//! `itv_runs TABLE..`: whether runs of the program over files in memory give what the lines of
+//! tables say.
 //!
 //! A line is a row, whose member `call` names what is called. Writes each line that differs, and
 //! how many agree.

@@ -16,13 +16,14 @@ import tree
 
 CRATES = tree.TOP / "crates"
 # The folders of tables: those of the programs that `rt ci` runs, and that of conformance/run.
-TABLES = {name: CRATES / name / "data" for name in ("it_rows", "itv_cases", "it_vectors")}
+TABLES = {name: CRATES / name / "data" for name in ("it_values", "it_rows", "itv_cases", "itv_runs",
+                                                "it_vectors")}
 TABLES["conformance"] = tree.TOP / "conformance" / "data"
-OF_CASES = ("itv_cases", "conformance")
+OF_CASES, OF_RUNS = ("itv_cases", "conformance"), ("itv_runs", "conformance")
 NUMBER = r"(?P<figure>\d[\d,]*)"
 # The folders of tables of rows, with where they are.
-OF_ROWS = {"values": ["it_rows"], "reports": ["it_rows"], "commands": ["it_rows"],
-           "verify": ["itv_cases"], "runs": OF_CASES}
+OF_ROWS = {"values": ["it_values"], "reports": ["it_rows"], "commands": ["it_rows"],
+           "verify": ["itv_cases"], "runs": OF_RUNS}
 # The name of each figure, with a page that gives it and the words around it there.
 PLACES = [
     ("verify", "README.md", "the definitions, {} lines of them for the verdict"),
@@ -37,11 +38,11 @@ PLACES = [
     ("random", "docs/testing.md", "by hand and {} changed at random"),
     ("rows of values", "docs/testing.md", "envelopes, rings and documents, in {} rows"),
     ("rows of verify", "docs/testing.md", "that the cases cannot show, in {} rows"),
-    ("rows of commands", "docs/testing.md", "commands over bytes, in {} rows"),
+    ("rows of commands", "docs/testing.md", "and the exit status, in {} rows"),
     ("rows of reports", "docs/testing.md", "reports, most as JSON, in {} rows"),
-    ("rows of runs", "docs/testing.md", "of the program's commands, in {} rows"),
-    ("cases in memory", "docs/testing.md", "{} of the cases and"),
-    ("runs in memory", "docs/testing.md", "of the cases and {} of the runs"),
+    ("rows of runs", "docs/testing.md", "good and of wrong words, in {} rows"),
+    ("cases in memory", "docs/testing.md", "`itv_cases` tries {} of the cases"),
+    ("runs in memory", "docs/testing.md", "`itv_runs` {} of the runs"),
     ("answered twice", "conformance/README.md", "The answers of the {} cases in the eight files"),
     ("by hand", "conformance/README.md", "Those of the other {} were written down by hand"),
     ("by hand", "conformance/README.md", "The signatures of these {} were made"),
@@ -157,7 +158,7 @@ def counted():
                "cases": every, "random": thrown, "worked": every - thrown,
                "vectors": vectors, **of_cases(),
                "cases in memory": lines(["itv_cases"], "cases/*.jsonl"),
-               "runs in memory": lines(["itv_cases"], "runs/*.jsonl"),
+               "runs in memory": lines(["itv_runs"], "runs/*.jsonl"),
                **{f"rows of {folder}": lines(places, f"{folder}/*.jsonl")
                   for folder, places in OF_ROWS.items()}}
     found = {name: f"{number:,}" for name, number in numbers.items()}

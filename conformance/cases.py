@@ -8,7 +8,7 @@ import sys
 
 sys.dont_write_bytecode = True
 import lines
-from cases_on_disk import can_run, lacks_notes
+from cases_on_disk import can_run
 
 sys.path.insert(0, str(lines.TOP / "bench"))
 from deliveries import MOMENT, compact, digest, layout, link, policy, signed, statement, step
@@ -52,17 +52,12 @@ def case(name, report, notes, **changed):
             "status": status, "notes": list(notes)}
 
 
-def is_on_disk(one):
-    """Whether the built program can show all that a case expects."""
-    return can_run(one) and not lacks_notes(one)
-
-
 def write(name, cases):
     """Writes cases, each on a line of its own, to the files of this name in the two places.
 
     With `--check`, fails if a file differs.
     """
-    lines.write(ON_DISK / name, [one for one in cases if is_on_disk(one)])
-    others = [one for one in cases if not is_on_disk(one)]
+    lines.write(ON_DISK / name, [one for one in cases if can_run(one)])
+    others = [one for one in cases if not can_run(one)]
     if others or (IN_MEMORY / name).exists():
         lines.write(IN_MEMORY / name, others)

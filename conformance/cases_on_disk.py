@@ -27,8 +27,8 @@ def is_in_order(links):
             and all(is_in_order(inner) for _, inner in links.get("folders", [])))
 
 
-def lacks_notes(case):
-    """Whether the case wants notes, which the program may give in another order."""
+def may_reorder(case):
+    """Whether the program may give the notes that the case expects in another order."""
     return case.get("notes") is not None and not is_in_order(case["links"])
 
 
@@ -70,17 +70,27 @@ class Difference:
     given: bytes
 
 
+def notes(case, given):
+    """The notes that a case expects and those that were given, sorted if the order may differ.
+
+    Where the case says nothing about notes, it expects those that were given.
+    """
+    if case.get("notes") is None:
+        return given.err, given.err
+    wanted = "".join(line + "\n" for line in case["notes"]).encode()
+    if may_reorder(case):
+        return tuple(b"".join(sorted(one.splitlines(keepends=True))) for one in (wanted, given.err))
+    return wanted, given.err
+
+
 def differences(program, case, folder):
     """Verifies a case twice, for the report in lines and as JSON, and compares the answers."""
     words, report = lay_out(case, folder), bytes_of(case["report"])
-    notes = None
-    if case.get("notes") is not None and not lacks_notes(case):
-        notes = "".join(line + "\n" for line in case["notes"]).encode()
     as_json = json_of_lines(report.decode()).encode()
     for form, wanted, more in (("report", report, []), ("JSON", as_json, ["--json"])):
         given = program.run([*words, *more], folder)
-        pairs = [("status", str(case["status"]).encode(), str(given.status).encode()),
-                 (form, wanted, given.out), ("notes", notes, given.err)]
-        for kind, wanted_part, part in pairs:
-            if wanted_part not in (None, part):
+        parts = [("status", str(case["status"]).encode(), str(given.status).encode()),
+                 (form, wanted, given.out), ("notes", *notes(case, given))]
+        for kind, wanted_part, part in parts:
+            if wanted_part != part:
                 yield Difference(kind, [*words, *more], wanted_part, part)

@@ -5,6 +5,7 @@ A root user runs the program as nobody, so that the permissions of files hold.
 
 import dataclasses
 import os
+import resource
 import shutil
 import subprocess
 import tempfile
@@ -59,16 +60,32 @@ class Program:
         shutil.copyfile(path, self.path)
         os.chmod(self.path, 0o755)
 
-    def run(self, words, folder, out=subprocess.PIPE):
+    def run(self, words, folder, **how):
         """Runs a command, whose first word is the name of the program, in a folder."""
         whose = NOBODY if os.geteuid() == 0 else {}
+        how = {"stdout": subprocess.PIPE, **whose, **how}
         try:
-            done = subprocess.run(words, executable=self.path, cwd=folder, timeout=LIMIT, stdout=out,
-                                  stdin=subprocess.DEVNULL, stderr=subprocess.PIPE, check=False,
-                                  **whose)
+            done = subprocess.run(words, executable=self.path, cwd=folder, timeout=LIMIT, check=False,
+                                  stdin=subprocess.DEVNULL, stderr=subprocess.PIPE, **how)
         except subprocess.TimeoutExpired:
             return Answer(None, b"", b"")
         return Answer(done.returncode, done.stdout or b"", done.stderr)
+
+    def run_to_full_disk(self, words, folder):
+        """Runs a command whose output the system does not take."""
+        with open("/dev/full", "wb") as full:
+            return self.run(words, folder, stdout=full)
+
+    def run_into(self, room, words, folder):
+        """Runs a command whose output goes to a file that has room for this many bytes."""
+        def limit():
+            resource.setrlimit(resource.RLIMIT_FSIZE, (room, room))
+
+        with tempfile.TemporaryFile() as file:
+            # Python ignores the signal for what exceeds the room, and so does what it starts.
+            given = self.run(words, folder, stdout=file, preexec_fn=limit, restore_signals=False)
+            file.seek(0)
+            return dataclasses.replace(given, out=file.read())
 
 
 def new_folder():

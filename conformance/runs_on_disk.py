@@ -13,7 +13,7 @@ from on_disk import bytes_of
 
 # More files than this take too long to make.
 MOST_FILES = 2000
-CALLS = ("run", "run with notes", "run to a full disk", "count words")
+CALLS = ("run", "run with notes", "run to a full disk", "count words", "note")
 # Reasons for which a file can be made not to be readable.
 FAULTS = ("IsADirectory", "PermissionDenied")
 
@@ -115,7 +115,7 @@ def words_of(row):
     """The words of a run, whose first is the name of the program."""
     if row["call"] == "count words":
         return bytes_of(row["line"]).split(b"/")
-    return row["command"].split(" ")
+    return row["words"] if "words" in row else row["command"].split(" ")
 
 
 def text_of(row, given):
@@ -129,15 +129,31 @@ def text_of(row, given):
     return b"".join(lines) + str(given.status).encode() + b" " + given.out + given.fault()
 
 
+def run_of(program, row, folder):
+    """Runs the command of a row."""
+    words = words_of(row)
+    if row["call"] == "run to a full disk":
+        return program.run_to_full_disk(words, folder)
+    if "room" in row:
+        return program.run_into(row["room"], words, folder)
+    return program.run(words, folder)
+
+
+def is_noted(row, given):
+    """Whether the words are no command, and what is said about them is as the row has it."""
+    note = given.fault().decode()
+    return (given.status == 2 and not given.out and "\n\nitv " in note
+            and note == row.get("gives", note) and note.startswith(row.get("begins", ""))
+            and row.get("has", "") in note
+            and row.get("first_line_has", "") in note.split("\n")[0])
+
+
 def differences(program, row, folder):
     """Runs the command of a row, and compares what it gives."""
     lay_out(row, folder, program)
-    words = words_of(row)
-    if row["call"] == "run to a full disk":
-        with open("/dev/full", "wb") as full:
-            given = program.run(words, folder, full)
-    else:
-        given = program.run(words, folder)
-    text = text_of(row, given)
-    if text != row["gives"].encode():
-        yield Difference(row["call"], words, row["gives"].encode(), text)
+    given = run_of(program, row, folder)
+    if row["call"] == "note":
+        if not is_noted(row, given):
+            yield Difference("note", words_of(row), json.dumps(row).encode(), given.err)
+    elif text_of(row, given) != bytes_of(row["gives"]):
+        yield Difference(row["call"], words_of(row), bytes_of(row["gives"]), text_of(row, given))

@@ -12,8 +12,6 @@ pub(crate) struct Ran {
     pub(crate) status: u8,
     /// What went out, and then the fault where the command stopped.
     pub(crate) text: Vec<u8>,
-    /// The notes that were written beside the output.
-    pub(crate) notes: Vec<u8>,
 }
 
 /// Runs a command over the files. Blanks separate its words; the first is the program's name.
@@ -29,6 +27,5 @@ pub(crate) fn run_over(alloc: Global, files: &[Placed], command: &str) -> Result
     Ok(Ran {
         status: exit_status(&outcome),
         text,
-        notes,
     })
 }

@@ -41,8 +41,7 @@ impl<'a> Files for FakeFiles<'a> {
     fn open_file(&self, _how: &OpenOptions, path: &str) -> io::Result<Content<'a>> {
         match self.node(path)? {
             Some(Node::File(file)) => Ok(Content::of(file)),
-            Some(Node::Folder(_) | Node::Device) => Err(unsupported()),
-            Some(Node::Dangling) => Err(missing()),
+            Some(Node::Folder(_)) => Err(unsupported()),
             None => Ok(Content::empty()),
         }
     }
@@ -58,15 +57,11 @@ impl<'a> Files for FakeFiles<'a> {
         match self.node(path)? {
             Some(Node::File(_)) | None => Ok(Metadata::of_file(0)),
             Some(Node::Folder(_)) => Ok(Metadata::of_dir()),
-            Some(Node::Device) => Ok(Metadata::of_symlink(0)),
-            Some(Node::Dangling) => Err(missing()),
         }
     }
 
     fn symlink_metadata(&self, path: &str) -> io::Result<Metadata> {
         match self.node(path)? {
-            Some(Node::Dangling) => Ok(Metadata::of_symlink(0)),
-            Some(Node::Folder(folder)) if folder.is_linked => Ok(Metadata::of_symlink(0)),
             Some(Node::Folder(_)) => Ok(Metadata::of_dir()),
             _ => Err(unsupported()),
         }

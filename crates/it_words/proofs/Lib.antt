@@ -1,4 +1,1 @@
-pub mod Adding
-pub mod CommandLemmas
-pub mod Missing
-pub mod Only
+pub mod Folding

@@ -1,10 +1,10 @@
 use Rattle.std.proofs.Common.{◌≡◌, ◌≤◌, ◌<◌, ◌∙◌, ℕ, List, Option, Some, None, Result, refl, sym}
-use Rattle.std.proofs.Common.{arith}
+use Rattle.std.proofs.Common.{ap, arith, codes, rules}
 use Rattle.std.specs.Str.Parse.{ExplainsUnsignedError, HasUnsignedDigitsIfOk, ParsesUnsigned}
-use Rattle.clap.specs.Words.{ReadsOne, Text, found_of}
+use Rattle.clap.specs.Words.{ReadsOne, Text, found_of, one_of}
 use Rattle.clap.proofs.WalkLemmas.{one_text-rows}
 use Rattle.it_words.specs.Values.{IsDepth}
-use Rattle.it_words.proofs.words.verify_words.depth.Goals as goal
+use Rattle.it_words.proofs.words.values.Values.depth.Goals as goal
 
 -- the text was read as a byte is
 record Reads {E : Type 0} (P : List ℕ → Result ℕ E → Type 0) (given : Option Text)
@@ -54,34 +54,36 @@ module _ {E : Type 0} (P : List ℕ → Result ℕ E → Type 0) where
       let same : number ≡ depth = cc in
       omega (arith, found_is.1)
 
-pub returns-then-depth-le8 : goal.returns-then-depth-le8
-returns-then-depth-le8 c =
-    let same = one_text-rows (found_of c.args.values.now) _ in
+pub returns-then-depth-le8-clause-found : goal.returns-then-depth-le8-clause-found
+returns-then-depth-le8-clause-found c =
+    let same = one_text-rows (found_of c.self.inside.found.now) _
+    ∙ ap (one_of (codes "depth")) c.self.view_is in
     written (λ text result. ParsesUnsigned 8 10 text result × ExplainsUnsignedError 10 text result
     × HasUnsignedDigitsIfOk text result) _ c.get_one.result (record {
       none = λ none. c.get_one.ensures.none (same ∙ none);
       value = λ text is. c.get_one.ensures.value text (same ∙ is);
       as_byte = λ text result parsed. parsed.0;
-    }) _ c.in_ok-depth.was c.if-depth-le8.true
+    }) _ c.in-Some.is c.if-depth-le8.true
 
-pub returns-in_err-depth : goal.returns-in_err-depth
-returns-in_err-depth c =
-    let same = one_text-rows (found_of c.args.values.now) _ in
-    rw c.from_residual.ensures
-    (unread (λ text result. ParsesUnsigned 8 10 text result
+pub returns-in_default-clause-unfit : goal.returns-in_default-clause-unfit
+returns-in_default-clause-unfit c = λ _.
+    let same = one_text-rows (found_of c.self.inside.found.now) _
+    ∙ ap (one_of (codes "depth")) c.self.view_is in
+    unread (λ text result. ParsesUnsigned 8 10 text result
     × ExplainsUnsignedError 10 text result × HasUnsignedDigitsIfOk text result) _
     c.get_one.result (record {
       none = λ none. c.get_one.ensures.none (same ∙ none);
       value = λ text is. c.get_one.ensures.value text (same ∙ is);
       as_byte = λ text result parsed. parsed.0;
-    }) c.in_err-depth.was)
+    }) (search rules)
 
-pub returns-else-depth-le8 : goal.returns-else-depth-le8
-returns-else-depth-le8 c =
-    let same = one_text-rows (found_of c.args.values.now) _ in
+pub returns-else-depth-le8-clause-unfit : goal.returns-else-depth-le8-clause-unfit
+returns-else-depth-le8-clause-unfit c = λ _.
+    let same = one_text-rows (found_of c.self.inside.found.now) _
+    ∙ ap (one_of (codes "depth")) c.self.view_is in
     deeper (λ text result. ParsesUnsigned 8 10 text result × ExplainsUnsignedError 10 text result
     × HasUnsignedDigitsIfOk text result) _ c.get_one.result (record {
       none = λ none. c.get_one.ensures.none (same ∙ none);
       value = λ text is. c.get_one.ensures.value text (same ∙ is);
       as_byte = λ text result parsed. parsed.0;
-    }) _ c.in_ok-depth.was c.if-depth-le8.false
+    }) _ c.in-Some.is c.if-depth-le8.false

@@ -7,8 +7,9 @@
 What the commands write to standard output is passed on line by line, except their last lines, which
 count what passed; instead, each is followed by a line with the minutes of wall time and of
 processor time that it took, with all that it started, and by what it counted. The last line is the
-sum, `N passed, M failed`. The status is 0 if every command's is. Signals that ask this script to
-end are passed on to the command that is running, and no further one is started.
+sum, `N passed, M failed`, or for crates alone the last line of `rt ci`. The status is 0 if every
+command's is. Signals that ask this script to end are passed on to the command that is running, and
+no further one is started.
 """
 
 import re
@@ -35,13 +36,14 @@ class Command:
         self.process = subprocess.Popen(words, stdout=subprocess.PIPE, cwd=tree.TOP)
         for number in (signal.SIGTERM, signal.SIGHUP, signal.SIGINT):
             signal.signal(number, self.hand_on)
-        last = copy_but_last(self.process.stdout, sys.stdout.buffer)
+        self.last = copy_but_last(self.process.stdout, sys.stdout.buffer)
         self.status = self.process.wait()
         self.took = time.monotonic() - begun, processor_time() - used
-        counted = COUNTED.match(last)
+        counted = COUNTED.match(self.last)
         self.passed, self.failed = map(int, counted.groups()) if counted else (0, 1)
         if not counted:
-            sys.stdout.buffer.write(last)
+            sys.stdout.buffer.write(self.last)
+            self.last = b""
         self.words = words
 
     def hand_on(self, number, _):
@@ -87,7 +89,10 @@ def main():
             print(f"{command[0]} cannot be started: {error.strerror}", file=sys.stderr)
             return 127
         done[-1].tell()
-    print(f"{sum(one.passed for one in done)} passed, {sum(one.failed for one in done)} failed")
+    if len(commands) > 1:
+        print(f"{sum(one.passed for one in done)} passed, {sum(one.failed for one in done)} failed")
+    else:
+        print(done[0].last.decode(), end="")
     if Command.ended_by:
         return 128 + Command.ended_by
     return 1 if any(one.status or one.failed for one in done) else 0

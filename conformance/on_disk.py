@@ -33,7 +33,7 @@ def opened(folder):
 
 @dataclasses.dataclass
 class Answer:
-    """What a run gave: its status, or None if it did not end in time, and what it wrote."""
+    """What a run gave: its status, or None if it did not begin or end in time, and what it wrote."""
 
     status: int
     out: bytes
@@ -67,8 +67,8 @@ class Program:
         try:
             done = subprocess.run(words, executable=self.path, cwd=folder, timeout=LIMIT, check=False,
                                   stdin=subprocess.DEVNULL, stderr=subprocess.PIPE, **how)
-        except subprocess.TimeoutExpired:
-            return Answer(None, b"", b"")
+        except (OSError, subprocess.TimeoutExpired) as error:
+            return Answer(None, b"", f"{error}\n".encode())
         return Answer(done.returncode, done.stdout or b"", done.stderr)
 
     def run_to_full_disk(self, words, folder):

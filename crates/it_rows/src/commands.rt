@@ -1,10 +1,11 @@
-//! What words are read as, how commands end over devices that fail, and the exit status.
+//! What words are read as, what some commands give, also over devices that fail, and the exit
+//! status.
+mod bytes;
 mod command_line;
 mod devices;
-mod digests;
+mod envelopes;
 mod exits;
 mod shown_words;
-mod signers;
 
 use it_tables::RowFault;
 use serde_json::Value;
@@ -14,10 +15,13 @@ use std::alloc::Global;
 pub(crate) fn answer(alloc: Global, call: &str, row: &Value) -> Result<String, RowFault> {
     match call {
         "words" => command_line::words(alloc, row),
-        "digest" => digests::digest(alloc, row),
-        "digest_unread" => digests::digest_unread(alloc, row),
-        "digest_of_broken" => digests::digest_of_broken(alloc, row),
-        "signed" => signers::signed(alloc, row),
+        "match" => bytes::matches(alloc, row),
+        "pae" => bytes::pae(alloc, row),
+        "digest" => bytes::digest(alloc, row),
+        "digest_unread" => bytes::digest_unread(alloc, row),
+        "digest_of_broken" => bytes::digest_of_broken(alloc, row),
+        "sign" => envelopes::sign(alloc, row),
+        "signed" => envelopes::signed(alloc, row),
         "exit" => exits::exit(alloc, row),
         _ => Err(RowFault::UnknownCall),
     }

@@ -6,16 +6,16 @@ use it_words::words::{WordsFault, read_words};
 use serde_json::Value;
 use std::alloc::Global;
 
-/// The values of the command that the `words` are.
+/// The values of the command that the `words` are, or that they are none.
 ///
 /// # Errors
 ///
-/// `BadMember` where they are not texts, or no command; `OutOfMemory` where memory was refused.
+/// `BadMember` where they are not texts; `OutOfMemory` where memory was refused.
 pub(crate) fn words(alloc: Global, row: &Value) -> Result<String, RowFault> {
     let words = texts_in(alloc, row, "words")?;
     match read_words(alloc, words.as_slice()) {
         Ok(words) => Ok(shown(alloc, &words)?),
-        Err(WordsFault::Unread(_)) => Err(RowFault::BadMember("words")),
+        Err(WordsFault::Unread(_)) => Ok(String::from_str(alloc, "no command")?),
         Err(WordsFault::OutOfMemory) => Err(RowFault::OutOfMemory),
     }
 }

@@ -33,7 +33,7 @@ use std::str;
 /// What a row gives, by the call of this name.
 pub(crate) fn answer(alloc: Global, call: &str, row: &Value) -> Result<String, RowFault> {
     match call {
-        "run" => ran(alloc, row),
+        "run" => told_run(alloc, row),
         "records" => records(alloc, row),
         "run to a full disk" => run_to_full(alloc, row),
         "count words" => told_words(alloc, row),
@@ -44,7 +44,7 @@ pub(crate) fn answer(alloc: Global, call: &str, row: &Value) -> Result<String, R
 
 /// The exit status of the run of the row's command over its files, and what went out with the
 /// fault.
-fn ran(alloc: Global, row: &Value) -> Result<String, RowFault> {
+fn told_run(alloc: Global, row: &Value) -> Result<String, RowFault> {
     let files = files_in(alloc, row)?;
     let ran = run_over(alloc, files.as_slice(), text_in(row, "command")?)?;
     let text = text_of(ran.text.as_slice())?;

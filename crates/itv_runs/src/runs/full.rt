@@ -3,6 +3,7 @@ use std::io;
 use std::io::Write;
 
 /// Takes nothing, and gives no reason.
+#[derive(Drop)]
 pub(crate) struct Full;
 
 impl Write for Full {

@@ -59,16 +59,16 @@ pub(crate) fn placed_in(alloc: Global, row: &Value) -> Result<Placed, RowFault> 
 /// What a row says is at some path.
 pub(crate) fn node_in(alloc: Global, row: &Value) -> Result<Node, RowFault> {
     match text_in(row, "kind")? {
-        "file" => Ok(Node::File(file(bytes_in(alloc, row, "bytes")?, None))),
+        "file" => Ok(Node::File(file_of(bytes_in(alloc, row, "bytes")?, None))),
         "failing" => Ok(Node::File(failing(alloc, row)?)),
         "blank" => blank(alloc, row),
-        "folder" => folder(alloc, row),
+        "folder" => folder_of(alloc, row),
         _ => Err(RowFault::BadMember("kind")),
     }
 }
 
 /// A file of these bytes, which the system then fails to read on for this reason, if there is one.
-fn file(bytes: Vec<u8>, fault: Option<ErrorKind>) -> File {
+fn file_of(bytes: Vec<u8>, fault: Option<ErrorKind>) -> File {
     File {
         bytes,
         blank: 0,
@@ -83,7 +83,7 @@ fn failing(alloc: Global, row: &Value) -> Result<File, RowFault> {
         "TimedOut" => ErrorKind::TimedOut,
         _ => return Err(RowFault::BadMember("fault")),
     };
-    Ok(file(bytes_in(alloc, row, "bytes")?, Some(fault)))
+    Ok(file_of(bytes_in(alloc, row, "bytes")?, Some(fault)))
 }
 
 /// A file of this many bytes, whatever they are.
@@ -96,7 +96,7 @@ fn blank(alloc: Global, row: &Value) -> Result<Node, RowFault> {
 }
 
 /// A folder. In the row, slashes separate the names.
-fn folder(alloc: Global, row: &Value) -> Result<Node, RowFault> {
+fn folder_of(alloc: Global, row: &Value) -> Result<Node, RowFault> {
     let mut names = bytes_in(alloc, row, "names")?;
     if !names.is_empty() {
         names.push(b'/')?;

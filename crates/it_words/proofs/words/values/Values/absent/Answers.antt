@@ -1,4 +1,4 @@
-use Rattle.std.proofs.Common.{◌≡◌, sym, None}
+use Rattle.std.proofs.Common.{sym}
 use Rattle.it_words.proofs.words.values.Values.absent.Goals as goal
 
 pub returns-in-Some-clause-unfit : goal.returns-in-Some-clause-unfit

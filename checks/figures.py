@@ -87,8 +87,11 @@ RATIOS = [
     ("| one before it | ", "`verify`, 500 wrong signatures before the right one"),
     ("| `sha256sum` | ", "`digest`, 1 GiB"),
 ]
-# How long ./build and the gate took, in CONTRIBUTING.md.
-TIMES = re.compile(r"took (\d+) processor minutes and (\d+) minutes elapsed")
+# How long ./build took, and what the parts of the gate did, in CONTRIBUTING.md.
+OF_BUILD = re.compile(r"took (\d+) processor minutes and (\d+) minutes elapsed")
+OF_GATE = re.compile(r"its parts took (?P<all>\d+) processor minutes: the libraries (\d+), the second "
+                     r"proofs of the crates with edits (\d+), the edits (\d+), and the programs of "
+                     r"tests (\d+)\.")
 # A line of conformance/README.md that names files of cases or vectors and how many each has.
 OF_FILES = re.compile(r"^- (?P<names>`[\w-]+\.jsonl`.*?): (?P<counts>\d+((, | and )\d+)*)", re.M)
 
@@ -132,14 +135,18 @@ def faults_of_ratios():
 
 def faults_of_times():
     """Where README.md or the build gives other times than CONTRIBUTING.md, in tens of minutes."""
-    measured = TIMES.findall((tree.TOP / "CONTRIBUTING.md").read_text())
-    if len(measured) != 2:
+    text = (tree.TOP / "CONTRIBUTING.md").read_text()
+    build, gate = OF_BUILD.findall(text), OF_GATE.search(text)
+    if len(build) != 1 or not gate:
         yield "CONTRIBUTING.md: the times of ./build and of the gate are not there"
         return
-    build, gate = ([round(int(figure), -1) for figure in times] for times in measured)
-    wanted = [("README.md", "about {} processor minutes, {} elapsed on".format(*build)),
-              ("README.md", "| at most {} to 350 processor minutes, about {} elapsed".format(*gate)),
-              ("build", "about {} processor minutes from nothing".format(*build))]
+    whole, *parts = map(int, gate.groups())
+    if whole != sum(parts):
+        yield f"CONTRIBUTING.md: the parts of the gate took {sum(parts)} minutes, and not {whole}"
+    processor, elapsed = (round(int(figure), -1) for figure in build[0])
+    wanted = [("README.md", f"about {processor} processor minutes, {elapsed} elapsed on"),
+              ("README.md", f"| about {round(whole, -1)} processor minutes where other work runs"),
+              ("build", f"about {processor} processor minutes from nothing")]
     for name, words in wanted:
         if words not in (tree.TOP / name).read_text():
             yield f"{name}: {words!r} is not there"

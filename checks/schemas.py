@@ -15,6 +15,9 @@ import sys
 
 import tree
 
+sys.path.insert(0, str(tree.TOP / "conformance"))
+from on_disk import bytes_of
+
 DOCS = tree.TOP / "docs"
 NAMES = tree.TOP / "crates" / "it_member_notes" / "specs" / "MemberNames.antt"
 CASES = [tree.TOP / place / "data" / "cases" for place in ("conformance", "crates/itv_cases")]
@@ -103,11 +106,6 @@ def faults_of_examples():
         for path in sorted((tree.TOP / "examples").glob(f"*/{pattern}")):
             if not fits(schema, json.loads(path.read_text()), schema):
                 yield f"{tree.name_of(path)}: is not as docs/{name}.schema.json says"
-
-
-def bytes_of(part):
-    """The bytes given by a text, or by an object with hexadecimal digits."""
-    return bytes.fromhex(part["hex"]) if isinstance(part, dict) else part.encode()
 
 
 def document_in(case, name):

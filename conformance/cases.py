@@ -8,11 +8,14 @@ import sys
 
 sys.dont_write_bytecode = True
 import lines
+from cases_on_disk import can_run
 
 sys.path.insert(0, str(lines.TOP / "bench"))
 from deliveries import MOMENT, compact, digest, layout, link, policy, signed, statement, step
 
-DATA = lines.TOP / "crates" / "itv_cases" / "data" / "cases"
+# Where the cases are that the built program is given as files, and where the others.
+ON_DISK = lines.TOP / "conformance" / "data" / "cases"
+IN_MEMORY = lines.TOP / "crates" / "itv_cases" / "data" / "cases"
 PEOPLE = ["owner", "builder", "alice", "bob", "carol"]
 DELIVER = [["MATCH", "*", "WITH", "PRODUCTS", "FROM", "build"], ["DISALLOW", "*"]]
 
@@ -50,5 +53,11 @@ def case(name, report, notes, **changed):
 
 
 def write(name, cases):
-    """Writes a file of cases, each on a line of its own; with `--check`, fails if it differs."""
-    lines.write(DATA / name, cases)
+    """Writes cases, each on a line of its own, to the files of this name in the two places.
+
+    With `--check`, fails if a file differs.
+    """
+    lines.write(ON_DISK / name, [one for one in cases if can_run(one)])
+    others = [one for one in cases if not can_run(one)]
+    if others or (IN_MEMORY / name).exists():
+        lines.write(IN_MEMORY / name, others)

@@ -13,12 +13,17 @@ for id in owner build-job attest-job; do
 done
 jq -s add keys/owner.json keys/build-job.json keys/attest-job.json > release/keys.json
 
-jq '{
+# The key objects of some ids; stops at an id that has none.
+only='def only($ids): . as $keys
+  | reduce $ids[] as $id ({}; .[$id] = ($keys[$id] // error("no key has the id \($id)")));'
+
+jq "$only"'{
   _type: "layout",
   expires: (now + 365 * 86400 | floor | todate),
-  keys: {"build-job"},
+  readme: "", keys: only(["build-job"]),
   steps: [
     {
+      _type: "step", expected_command: [],
       name: "build", threshold: 1, pubkeys: ["build-job"],
       expected_materials: [["ALLOW", "src/*"], ["DISALLOW", "*"]],
       expected_products: [["CREATE", "dist/*"], ["DISALLOW", "*"]]
@@ -29,17 +34,18 @@ jq '{
 SIGNING_KEY=$(sed -n 2p keys/owner.pem) "$here/sign.sh" release/layout.json owner \
     > release/layout.envelope.json
 
-jq --arg repository "$1" '{
-  owners: {owner},
+# The release's own ref is not in this policy: verify-release.sh adds it, and without it no provenance
+# passes.
+jq --arg repository "$1" "$only"'{
+  owners: only(["owner"]),
   deliver: [["MATCH", "dist/*", "WITH", "PRODUCTS", "FROM", "build"], ["DISALLOW", "*"]],
   expectations: [
     {
       files: "dist/*",
-      builders: [{id: "https://ci.example/attest", keys: {"attest-job"}, level: 2}],
+      builders: [{id: "https://ci.example/attest", keys: only(["attest-job"]), level: 2}],
       level: 2,
       buildType: "https://ci.example/archive",
-      parameters: {repository: $repository},
-      ignore: ["ref"]
+      parameters: {repository: $repository}
     }
   ]
 }' release/keys.json > release/policy.json

@@ -1,3 +1,2 @@
 pub mod AnyTable
-pub mod Pairs
 pub mod Stopping

@@ -1,22 +1,11 @@
 -- What has gone out where a command stopped (this profile's choice).
-use Rattle.std.specs.Prelude.{◌≡◌, ◌⊎◌, ℕ, List, Option, take}
-use Rattle.std.specs.Io.KnownBytes.{Appends}
+use Rattle.std.specs.Prelude.{◌≡◌, ℕ, List, Option}
 use Rattle.it_disk.specs.Reading.{Holdings}
 use Rattle.it_words.specs.Words.{AreWordsOf}
 use Rattle.it_words.specs.declared.words.Words.{Words}
 use Rattle.it_words.specs.declared.words.Words.TheVariants.{Digest}
 use Rattle.it_words.specs.declared.words.digest_words.DigestWords.{DigestWords}
-use Rattle.it_program.specs.Commands.{AreLinesOf, AreNamed}
-
--- digest: the lines of the first `count` files that the words name have gone out
-pub record ListsFirst (disk : Holdings) (words : DigestWords) (old new : Option (List ℕ))
-    : Type 0 where
-  pub files : List (List ℕ)
-  pub are_named : AreNamed disk words files
-  pub count : ℕ
-  pub text : List ℕ
-  pub are_lines : AreLinesOf disk (take count files) text
-  pub appends : Appends old new text
+use Rattle.it_file_commands.specs.Stopped.{ListsFirst}
 
 -- the command is digest, and such lines have gone out
 pub record IsDigestBegun (disk : Holdings) (command : Words) (old new : Option (List ℕ))

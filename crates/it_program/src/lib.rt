@@ -12,24 +12,12 @@
 #![tactic(auto)]
 
 mod command_line;
-mod digest_command;
-mod key_command;
 pub mod laws;
-mod link_command;
-mod made_fault;
-mod match_command;
-mod pae_command;
-mod payload_command;
-mod remembering;
 mod running;
-mod sign_command;
-mod sign_onto_command;
-mod signed_command;
-mod statement_command;
 mod status;
 mod verify_command;
 
 pub use command_line::words;
-pub use remembering::Remembering;
+pub use it_file_commands::Remembering;
 pub use running::{run_to, run_words};
 pub use status::exit_status;

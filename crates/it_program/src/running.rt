@@ -5,12 +5,12 @@ ghost use Rattle.it_words.specs.Words.{AreWordsOf, GoesNoDeeper};
 ghost use Rattle.it_program.specs.Commands.{IsOutputOf};
 ghost use Rattle.it_program.specs.Stopped.{IsDigestBegun, NamesDigestBegun};
 
-use crate::remembering::Remembering;
-use crate::{
-    digest_command, key_command, link_command, match_command, pae_command, payload_command,
-    sign_command, signed_command, statement_command, verify_command,
-};
+use crate::verify_command;
 use it_disk::{Disk, Fault};
+use it_file_commands::{
+    Remembering, digest_command, key_command, link_command, match_command, pae_command,
+    payload_command, sign_command, signed_command, statement_command,
+};
 use it_outcome::{RunFault, Status};
 use it_words::words::{Words, read_words};
 use std::io::Write;

@@ -1,5 +1,5 @@
 //! `itv verify`: whether delivered files were made as the owners prescribed.
-ghost use Rattle.std.specs.Prelude.{◌≡◌, ◌≢◌, ◌≤◌, IfErr, IfOk, IsTrue, map};
+ghost use Rattle.std.specs.Prelude.{◌≡◌, ◌≢◌, ◌≤◌, IfErr, IfOk, IsTrue, OnOk, map};
 ghost use Rattle.std.specs.Io.KnownBytes.{Appends};
 ghost use Rattle.std.specs.List.{AllZip};
 ghost use Rattle.it_dsse.specs.Panel.{panel_of};
@@ -152,9 +152,18 @@ fn layout<R: Disk + AllocGlobal>(rt: &R, words: &VerifyWords) -> Result<Sequence
         (λ layout. IsTrue words.now.public_keys → IsWithinLimit layout) }
 {
     let layout = bytes(rt, &words.layout)?;
-    match too_many(rt.alloc(), layout.as_slice(), words.public_keys)? {
-        Some(count) => Err(TooMany(count).in_file(rt.alloc(), words.layout.as_str())?),
-        None => Ok(layout),
+    let path = words.layout.as_str();
+    refuse_too_many(rt.alloc(), path, layout.as_slice(), words.public_keys)?;
+    Ok(layout)
+}
+
+/// Refuses the bytes of the file at a path where signatures are limited and it has too many.
+fn refuse_too_many(alloc: Global, path: &str, bytes: &[u8], limited: bool) -> Result<(), Fault>
+    ensures { OnOk result (IsTrue limited → IsWithinLimit bytes.now) }
+{
+    match too_many(alloc, bytes, limited)? {
+        Some(count) => Err(TooMany(count).in_file(alloc, path)?),
+        None => Ok(()),
     }
 }
 

@@ -2,7 +2,7 @@
 //! takes, and `gives` is what it must give.
 ghost use Rattle.it_tables.specs.Comparison.{IsRowDifference};
 
-use crate::{commands, reports, values};
+use crate::{commands, reports};
 use it_tables::comparison::compare;
 use it_tables::row::text_in;
 use it_tables::{RowFault, Trial};
@@ -24,17 +24,8 @@ impl Trial for Calls {
 /// The answer of the first group of calls that has a call of this name.
 fn answer(alloc: Global, row: &Value) -> Result<String, RowFault> {
     let call = text_in(row, "call")?;
-    let mut answer = values::answer(alloc, call, row);
-    if is_unknown(&answer) {
-        answer = reports::answer(alloc, call, row);
+    match reports::answer(alloc, call, row) {
+        Err(RowFault::UnknownCall) => commands::answer(alloc, call, row),
+        answer => answer,
     }
-    if is_unknown(&answer) {
-        answer = commands::answer(alloc, call, row);
-    }
-    answer
-}
-
-/// Whether a group has no such call.
-fn is_unknown(answer: &Result<String, RowFault>) -> bool {
-    matches!(answer, Err(RowFault::UnknownCall))
 }

@@ -1,4 +1,4 @@
-//! `it_rows TABLE..`: whether the libraries give what the lines of tables say.
+//! `it_rows TABLE..`: whether reports and the command line are what the lines of tables say.
 //!
 //! A line is a row, whose member `call` names what is called. Writes each line that differs, and
 //! how many agree.
@@ -7,7 +7,6 @@
 mod calls;
 mod commands;
 mod reports;
-mod values;
 
 use calls::Calls;
 use it_tables::run_tables;

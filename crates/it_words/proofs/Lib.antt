@@ -1,4 +1,2 @@
-pub mod Adding
-pub mod CommandLemmas
-pub mod Missing
-pub mod Only
+pub mod Folding
+pub mod Unfit

@@ -1,5 +1,5 @@
 -- The commands and the program, in the parser's own terms (this profile's choice).
-use Rattle.std.specs.Prelude.{true, codes}
+use Rattle.std.specs.Prelude.{List, [], ◌∷◌, true, codes, fold}
 use Rattle.clap.specs.Words.{App, new_app, with_rule, with_subcommand}
 use Rattle.it_words.specs.Arguments.{
   bare_option,
@@ -94,16 +94,12 @@ without_command = record (new_app (codes "itv")) {
   };
 }
 
--- the program with the commands that look at files alone, or at two words
-unfoldable pub reading_program : App
-reading_program =
-    with_subcommand (with_subcommand (with_subcommand (with_subcommand (with_subcommand
-    without_command signed_command.top) match_command.top) pae_command.top) payload_command.top)
-    key_command.top
+-- the commands, in the order in which the parser looks for their names
+abbrev pub commands : List App
+commands =
+    signed_command ∷ match_command ∷ pae_command ∷ payload_command ∷ key_command ∷ sign_command
+    ∷ digest_command ∷ link_command ∷ statement_command ∷ verify_command ∷ []
 
 -- the program with all of its commands
 unfoldable pub program : App
-program =
-    with_subcommand (with_subcommand (with_subcommand (with_subcommand (with_subcommand
-    reading_program sign_command.top) digest_command.top) link_command.top) statement_command.top)
-    verify_command.top
+program = fold (λ app command. with_subcommand app command.top) without_command commands

@@ -1,2 +1,2 @@
-pub mod Twos
-pub mod VerifyParts
+pub mod Rows
+pub mod Unfit

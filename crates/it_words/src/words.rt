@@ -19,8 +19,10 @@ mod program;
 pub mod sign_words;
 pub mod signed_words;
 pub mod statement_words;
+mod table;
 mod usage;
 mod usages;
+mod values;
 pub mod verify_words;
 
 pub use self::{
@@ -40,6 +42,7 @@ use signed_words::SignedWords;
 use statement_words::StatementWords;
 use std::alloc::{AllocError, Global};
 use thiserror::Error;
+use values::ValuesFault;
 use verify_words::VerifyWords;
 
 /// A command with its values.
@@ -107,9 +110,10 @@ pub fn read_words(alloc: Global, words: &[String]) -> Result<Words, WordsFault>
         → AreWordsOf (map string_bytes words.now) command → fault ≡ WordsFault.OutOfMemory) }
 {
     let matches = parsed(alloc, words)?;
-    match named::named(alloc, &matches)? {
-        Some(command) => Ok(command),
-        None => Err(note::unfit(alloc, words)),
+    match named::named(alloc, &matches) {
+        Ok(command) => Ok(command),
+        Err(ValuesFault::Unfit) => Err(note::unfit(alloc, words)),
+        Err(ValuesFault::OutOfMemory) => Err(WordsFault::OutOfMemory),
     }
 }
 

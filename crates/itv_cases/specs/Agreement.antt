@@ -1,15 +1,12 @@
 -- Which cases agree (words of this project).
-use Rattle.std.specs.Prelude.{◌≡◌, ◌==◌, ◌&&◌, ℕ, List, Option, Some, None, Bool, true, IfSome}
-use Rattle.std.specs.Prelude.{MatchOption, String, codes, nat_eq}
+use Rattle.std.specs.Prelude.{◌≡◌, ◌==◌, ◌&&◌, Option, Bool}
+use Rattle.std.specs.Prelude.{MatchOption, String, codes, map, nat_eq}
 use Rattle.std.specs.Cmp.Lexicographic.{pointwise}
 use Rattle.std.specs.declared.alloc.Global.{Global}
 use Rattle.serde_json.specs.Data.{Data}
 use Rattle.it_base.specs.Document.{member_at}
 use Rattle.it_dsse.specs.Panel.{panel_of}
-use Rattle.it_public_keys.specs.AnyCheck.{checks_of}
-use Rattle.it_program.specs.Sources.{sources_in}
-use Rattle.it_public_keys.specs.Collected.{IsTableFor}
-use Rattle.it_public_keys.specs.Keys.{Keys}
+use Rattle.it_dsse.specs.Ring.{ring_check}
 use Rattle.it_tables.specs.Comparison.{IsRowDifference}
 use Rattle.itv_cases.specs.Answer.{IsAnswer}
 use Rattle.itv_cases.specs.Cases.{CaseOf}
@@ -18,35 +15,25 @@ use Rattle.itv_cases.specs.declared.cases.case.Case.{Case}
 use Rattle.itv_cases.specs.declared.cases.run.Run.{Run}
 use Rattle.itv_cases.specs.declared.cases.wanted.Wanted.{Wanted}
 
--- the answer is what is wanted: the same status, the same bytes of the report, and, where notes are
--- wanted, the same bytes of the notes
+-- the answer is what is wanted: the same status, and the same bytes of the report
 abbrev pub Meets : Wanted → Answer → Type 0
 Meets wanted answer = (answer.status ≡ wanted.status) × (answer.report ≡ wanted.report)
-    × IfSome wanted.notes (λ notes. answer.notes ≡ notes)
 
 -- the verification gave what is wanted
 abbrev pub Agrees : Run → Type 0
 Agrees run = Meets run.wanted run.given
 
--- the notes are these, where any are wanted, as a truth value
-abbrev pub has_notes : Option (List ℕ) → List ℕ → Bool
-has_notes None notes = true
-has_notes (Some wanted) notes = pointwise nat_eq notes wanted
-
 -- the verification gave what is wanted, as a truth value
 abbrev pub agrees : Run → Bool
 agrees run = (run.given.status == run.wanted.status)
     && pointwise nat_eq run.given.report run.wanted.report
-    && has_notes run.wanted.notes run.given.notes
 
 -- the run of a case: what the case wants, and what the verification of its inputs gives, by its
--- rings and, where the case asks for them, by public keys
+-- rings
 pub record IsRunOf (case : Case) (run : Run) : Type 0 where
   pub name : run.name ≡ case.name
   pub wanted : run.wanted ≡ case.wanted
-  pub table : Option Keys
-  pub is_table : IsTableFor case.public_keys (sources_in case.inputs case.rings) table
-  pub given : IsAnswer (panel_of (checks_of case.rings table)) case.inputs run.given
+  pub given : IsAnswer (panel_of (map ring_check case.rings)) case.inputs run.given
 
 -- how a case differs: not at all where its run agrees
 pub record IsCaseDifference (document : Data) (difference : Option (String Global)) : Type 0 where

@@ -1,6 +1,5 @@
 pub mod Agreement
 pub mod Answer
 pub mod Cases
-pub mod Notes
 pub mod Part
 pub mod Reading

@@ -1,12 +1,11 @@
 -- What a document says of a case (a format of this project).
-use Rattle.std.specs.Prelude.{[], None, codes}
+use Rattle.std.specs.Prelude.{[], codes}
 use Rattle.serde_json.specs.Data.{Data}
 use Rattle.it_base.specs.Parts.{IsPart, IsPartOr}
 use Rattle.it_base.specs.Sequence.{IsList}
 use Rattle.it_base.specs.Text.{IsText}
 use Rattle.it_verify.specs.declared.inputs.Inputs.{Inputs}
 use Rattle.it_tables.specs.Part.{IsBytes, IsNumber}
-use Rattle.itv_cases.specs.Notes.{IsNotes}
 use Rattle.itv_cases.specs.Part.{IsNamed}
 use Rattle.itv_cases.specs.declared.cases.wanted.Wanted.{Wanted}
 
@@ -20,8 +19,7 @@ pub record InputsOf (d : Data) (inputs : Inputs) : Type 0 where
   pub moment : IsPart IsText (codes "at") d inputs.moment
   pub depth : IsPart IsNumber (codes "depth") d inputs.depth
 
--- what is wanted: the report, the status, and the notes where the member is there
+-- what is wanted: the report and the status
 pub record WantedOf (d : Data) (wanted : Wanted) : Type 0 where
   pub report : IsPart IsBytes (codes "report") d wanted.report
   pub status : IsPart IsNumber (codes "status") d wanted.status
-  pub notes : IsPartOr IsNotes None (codes "notes") d wanted.notes

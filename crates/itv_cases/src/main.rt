@@ -1,5 +1,5 @@
-//! `itv_cases TABLE..`: whether whole verifications, whole runs of the program, and the parts of a
-//! verification give what the lines of tables say.
+//! `itv_cases TABLE..`: whether whole verifications, and the parts of a verification, give what the
+//! lines of tables say.
 //!
 //! A line is a case, which is a whole verification, or a row, whose member `call` names what is
 //! called. Writes each line that differs, and how many agree.
@@ -7,7 +7,6 @@
 
 mod cases;
 mod lines;
-mod runs;
 mod verify;
 
 use it_tables::run_tables;
@@ -15,5 +14,5 @@ use lines::Lines;
 use std::process::ExitCode;
 
 fn main(rt: HostRuntime) -> ExitCode {
-    run_tables(&rt, "itv_cases", &Lines::of(&rt))
+    run_tables(&rt, "itv_cases", &Lines)
 }

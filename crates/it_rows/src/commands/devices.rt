@@ -1,8 +1,8 @@
 //! What the commands of rows write to, and how they ended.
-use crate::commands::members::count_or_most;
+use it_base::document::member;
 use it_tables::RowFault;
 use it_tables::devices::{Full, Pipe};
-use it_tables::row::is_set;
+use it_tables::row::{is_set, number_in};
 use serde_json::Value;
 use std::alloc::Global;
 use std::fmt::Debug;
@@ -29,17 +29,22 @@ pub(crate) fn pipe_of(alloc: Global, row: &Value) -> Result<Pipe, RowFault> {
     })
 }
 
-/// A line on how a command ended, and what it wrote: as it is if that is text, otherwise in
-/// hexadecimal digits.
+/// The number of bytes that the member of this name gives, or the greatest if there is none.
+fn count_or_most(row: &Value, name: &'static str) -> Result<usize, RowFault> {
+    match member(row, name) {
+        Some(_) => Ok(number_in(row, name)? as usize),
+        None => Ok(usize::MAX),
+    }
+}
+
+/// A line on how a command ended, and the text that it wrote.
 ///
 /// # Errors
 ///
-/// `OutOfMemory` where memory was refused.
+/// `BadMember` where that is no text; `OutOfMemory` where memory was refused.
 pub(crate) fn ended<O: Debug>(alloc: Global, outcome: &O, pipe: &Pipe) -> Result<String, RowFault> {
-    let written = pipe.taken.as_slice();
-    if let Ok(text) = str::from_utf8(written) {
-        return Ok(format!(in alloc; "{outcome:?}\n{text}")?);
-    }
-    let digits = hex::encode(alloc, written)?;
-    Ok(format!(in alloc; "{outcome:?}\n{digits}")?)
+    let text = str::from_utf8(pipe.taken.as_slice())
+        .ok()
+        .ok_or(RowFault::BadMember("gives"))?;
+    Ok(format!(in alloc; "{outcome:?}\n{text}")?)
 }

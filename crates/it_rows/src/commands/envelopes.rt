@@ -1,8 +1,7 @@
-//! The commands on envelopes: their signing, who signed them, and their payloads.
+//! The commands on envelopes: their signing, and who signed them.
 use crate::commands::devices::{ended, pipe_of};
-use it_commands::{run_payload, run_sign, run_sign_onto, run_signed};
+use it_commands::{run_sign, run_signed};
 use it_dsse::check::SignatureCheck;
-use it_dsse::signing::NewSignature;
 use it_outcome::{RunFault, Status};
 use it_tables::RowFault;
 use it_tables::devices::Pipe;
@@ -24,35 +23,6 @@ pub(crate) fn sign(alloc: Global, row: &Value) -> Result<String, RowFault> {
     let mut pipe = pipe_of(alloc, row)?;
     let outcome = run_sign(alloc, &ring, id, kind, body.as_slice(), &mut pipe);
     ended(alloc, &outcome, &pipe)
-}
-
-/// How adding a signature under the `id` of the `ring` to the `envelope` ends, which is of the
-/// `body` and the `type`.
-///
-/// # Errors
-///
-/// `BadMember` where a member is missing or unfit; `OutOfMemory` where memory was refused.
-pub(crate) fn onto(alloc: Global, row: &Value) -> Result<String, RowFault> {
-    let mut pipe = pipe_of(alloc, row)?;
-    let outcome = add_signature(alloc, row, &mut pipe)?;
-    ended(alloc, &outcome, &pipe)
-}
-
-fn add_signature(
-    alloc: Global,
-    row: &Value,
-    pipe: &mut Pipe,
-) -> Result<Result<Status, RunFault>, RowFault> {
-    let envelope = text_in(row, "envelope")?;
-    let body = bytes_in(alloc, row, "body")?;
-    let ring = ring_in(alloc, row)?;
-    let signature = NewSignature {
-        ring: &ring,
-        id: text_in(row, "id")?,
-        kind: text_in(row, "type")?,
-        body: body.as_slice(),
-    };
-    Ok(run_sign_onto(alloc, &signature, envelope.as_bytes(), pipe))
 }
 
 /// How asking who of the `ring` signed the `envelope` ends.
@@ -84,16 +54,4 @@ fn name_signers(
         pipe,
     );
     Ok(outcome)
-}
-
-/// How writing the payload of the `envelope` ends.
-///
-/// # Errors
-///
-/// `BadMember` where a member is missing or unfit; `OutOfMemory` where memory was refused.
-pub(crate) fn payload(alloc: Global, row: &Value) -> Result<String, RowFault> {
-    let envelope = text_in(row, "envelope")?;
-    let mut pipe = pipe_of(alloc, row)?;
-    let outcome = run_payload(alloc, envelope.as_bytes(), &mut pipe);
-    ended(alloc, &outcome, &pipe)
 }

@@ -1,19 +1,11 @@
 //! The words of `itv key`.
-ghost use Rattle.std.specs.Prelude.{◌≡◌, ◌↔◌, false, IfOk, IsTrue};
-ghost use Rattle.clap.specs.Words.{app_of, found_of};
-ghost use Rattle.clap.specs.Walk.{rows_of};
-ghost use Rattle.clap.specs.declared.builder.command.Command.TheViews.{out-Command};
-ghost use Rattle.it_base.specs.Finds.{Finds};
-ghost use Rattle.it_words.specs.Commands.{key_command};
+ghost use Rattle.std.specs.Prelude.{◌↔◌, IfErr, IfOk, IsTrue};
 ghost use Rattle.it_words.specs.Values.{IsKey, MayBeNamed};
+ghost use Rattle.it_words.specs.inside.Unfit.{FitsNone};
 
-use super::arguments::{
-    command_of, needed_words, plain_option, text_if_given, texts, value, values as values_of,
-};
-use clap::{ArgMatches, Command};
+use super::values::{Values, ValuesFault};
 use it_base::sequence::Sequence;
 use it_base::text::Text;
-use std::alloc::{AllocError, Global};
 
 /// The values of `itv key`.
 #[derive(Drop)]
@@ -24,31 +16,17 @@ pub struct KeyWords {
     pub name: Option<Text>,
 }
 
-/// The command, as the parser takes it.
-pub(super) fn command<'a>(alloc: Global) -> Result<Command<'a>, AllocError>
-    ensures app { IfOk result (λ command. app_of command ≡ key_command) }
-    ensures local { IfOk result (λ command. (out-Command command).has_globals ≡ false) }
+/// The command's values, or `Unfit` where there is no file, or an id for several.
+pub(super) fn read(values: &Values<'_, '_>) -> Result<KeyWords, ValuesFault>
+    ensures found { IfOk result (IsKey values.now) }
+    ensures unfit { IfErr result (FitsNone (IsKey values.now)) }
 {
-    let arguments = vec![in alloc;
-        needed_words(alloc, "file", "FILE"),
-        plain_option(alloc, "name", "ID"),
-    ]?;
-    command_of(alloc, "key", arguments)
-}
-
-/// The command's values, or `None` where there is no file, or an id for several.
-pub(super) fn read(alloc: Global, values: &ArgMatches<'_>) -> Result<Option<KeyWords>, AllocError>
-    ensures { IfOk result (Finds (IsKey (rows_of (found_of values.now)))) }
-{
-    let Some(files) = values_of(values, "file") else {
-        return Ok(None);
-    };
-    let name = text_if_given(alloc, value(values, "name"))?;
-    let files = texts(alloc, files)?;
+    let files = values.all("file")?;
+    let name = values.optional("name")?;
     if !may_be_named(files.as_slice(), &name) {
-        return Ok(None);
+        return Err(ValuesFault::Unfit);
     }
-    Ok(Some(KeyWords { files, name }))
+    Ok(KeyWords { files, name })
 }
 
 /// Whether there is no id, or one file.

@@ -1,16 +1,10 @@
 //! The words of `itv link`.
-ghost use Rattle.std.specs.Prelude.{◌≡◌, false, IfOk};
-ghost use Rattle.clap.specs.Words.{app_of, found_of};
-ghost use Rattle.clap.specs.Walk.{rows_of};
-ghost use Rattle.clap.specs.declared.builder.command.Command.TheViews.{out-Command};
-ghost use Rattle.it_base.specs.Finds.{Finds};
-ghost use Rattle.it_words.specs.Commands.{link_command};
+ghost use Rattle.std.specs.Prelude.{IfErr, IfOk};
 ghost use Rattle.it_words.specs.Values.{IsLink};
+ghost use Rattle.it_words.specs.inside.Unfit.{FitsNone};
 
-use super::arguments::{command_of, needed_option, plain_option, text_if_given, value};
-use clap::{ArgMatches, Command};
+use super::values::{Values, ValuesFault};
 use it_base::text::Text;
-use std::alloc::{AllocError, Global};
 
 /// The values of `itv link`.
 #[derive(Drop)]
@@ -23,29 +17,14 @@ pub struct LinkWords {
     pub products: Option<Text>,
 }
 
-/// The command, as the parser takes it.
-pub(super) fn command<'a>(alloc: Global) -> Result<Command<'a>, AllocError>
-    ensures app { IfOk result (λ command. app_of command ≡ link_command) }
-    ensures local { IfOk result (λ command. (out-Command command).has_globals ≡ false) }
+/// The command's values, or `Unfit` where one is missing.
+pub(super) fn read(values: &Values<'_, '_>) -> Result<LinkWords, ValuesFault>
+    ensures found { IfOk result (IsLink values.now) }
+    ensures unfit { IfErr result (FitsNone (IsLink values.now)) }
 {
-    let arguments = vec![in alloc;
-        needed_option(alloc, "name", "NAME"),
-        plain_option(alloc, "materials", "SUMS"),
-        plain_option(alloc, "products", "SUMS"),
-    ]?;
-    command_of(alloc, "link", arguments)
-}
-
-/// The command's values, or `None` where one is missing.
-pub(super) fn read(alloc: Global, values: &ArgMatches<'_>) -> Result<Option<LinkWords>, AllocError>
-    ensures { IfOk result (Finds (IsLink (rows_of (found_of values.now)))) }
-{
-    let Some(name) = value(values, "name") else {
-        return Ok(None);
-    };
-    Ok(Some(LinkWords {
-        name: Text::copy(alloc, name)?,
-        materials: text_if_given(alloc, value(values, "materials"))?,
-        products: text_if_given(alloc, value(values, "products"))?,
-    }))
+    Ok(LinkWords {
+        name: values.needed("name")?,
+        materials: values.optional("materials")?,
+        products: values.optional("products")?,
+    })
 }

@@ -1,16 +1,10 @@
 //! The words of `itv match`.
-ghost use Rattle.std.specs.Prelude.{◌≡◌, false, IfOk};
-ghost use Rattle.clap.specs.Words.{app_of, found_of};
-ghost use Rattle.clap.specs.Walk.{rows_of};
-ghost use Rattle.clap.specs.declared.builder.command.Command.TheViews.{out-Command};
-ghost use Rattle.it_base.specs.Finds.{Finds};
-ghost use Rattle.it_words.specs.Commands.{match_command};
+ghost use Rattle.std.specs.Prelude.{IfErr, IfOk};
 ghost use Rattle.it_words.specs.Values.{IsMatch};
+ghost use Rattle.it_words.specs.inside.Unfit.{FitsNone};
 
-use super::arguments::{command_of, needed_word, value};
-use clap::{ArgMatches, Command};
+use super::values::{Values, ValuesFault};
 use it_base::text::Text;
-use std::alloc::{AllocError, Global};
 
 /// The values of `itv match`.
 #[derive(Drop)]
@@ -21,30 +15,13 @@ pub struct MatchWords {
     pub path: Text,
 }
 
-/// The command, as the parser takes it.
-pub(super) fn command<'a>(alloc: Global) -> Result<Command<'a>, AllocError>
-    ensures app { IfOk result (λ command. app_of command ≡ match_command) }
-    ensures local { IfOk result (λ command. (out-Command command).has_globals ≡ false) }
+/// The command's values, or `Unfit` where one is missing.
+pub(super) fn read(values: &Values<'_, '_>) -> Result<MatchWords, ValuesFault>
+    ensures found { IfOk result (IsMatch values.now) }
+    ensures unfit { IfErr result (FitsNone (IsMatch values.now)) }
 {
-    let arguments = vec![in alloc;
-        needed_word(alloc, "pattern", "PATTERN"),
-        needed_word(alloc, "path", "PATH"),
-    ]?;
-    command_of(alloc, "match", arguments)
-}
-
-/// The command's values, or `None` where one is missing.
-pub(super) fn read(alloc: Global, values: &ArgMatches<'_>) -> Result<Option<MatchWords>, AllocError>
-    ensures { IfOk result (Finds (IsMatch (rows_of (found_of values.now)))) }
-{
-    let Some(pattern) = value(values, "pattern") else {
-        return Ok(None);
-    };
-    let Some(path) = value(values, "path") else {
-        return Ok(None);
-    };
-    Ok(Some(MatchWords {
-        pattern: Text::copy(alloc, pattern)?,
-        path: Text::copy(alloc, path)?,
-    }))
+    Ok(MatchWords {
+        pattern: values.needed("pattern")?,
+        path: values.needed("path")?,
+    })
 }

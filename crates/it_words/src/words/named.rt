@@ -1,92 +1,114 @@
 //! The command that the parser found.
-ghost use Rattle.std.specs.Prelude.{IfOk, codes};
-ghost use Rattle.clap.specs.Walk.{rows_of};
-ghost use Rattle.clap.specs.Words.{found_of, subcommand_rows_of};
-ghost use Rattle.it_base.specs.Finds.{Finds};
+ghost use Rattle.std.specs.Prelude.{IfErr, IfOk, codes};
+ghost use Rattle.clap.specs.Words.{subcommand_rows_of};
 ghost use Rattle.it_words.specs.Words.{IsCommand, NamesCommand};
+ghost use Rattle.it_words.specs.inside.Unfit.{FitsNone};
 
+use super::values::{Values, ValuesFault};
 use super::{
     Words, digest_words, key_words, link_words, match_words, pae_words, payload_words, sign_words,
     signed_words, statement_words, verify_words,
 };
 use clap::ArgMatches;
-use std::alloc::{AllocError, Global};
+use std::alloc::Global;
 
-/// The command that was found with its values, or `None` where it is none or a value is missing.
-pub(super) fn named(alloc: Global, matches: &ArgMatches<'_>) -> Result<Option<Words>, AllocError>
-    ensures { IfOk result (Finds (NamesCommand (subcommand_rows_of matches.now))) }
+/// The command that was found with its values, or `Unfit` where it is none or a value is missing.
+pub(super) fn named(alloc: Global, matches: &ArgMatches<'_>) -> Result<Words, ValuesFault>
+    ensures found { IfOk result (NamesCommand (subcommand_rows_of matches.now)) }
+    ensures unfit { IfErr result (FitsNone (NamesCommand (subcommand_rows_of matches.now))) }
 {
     match matches.subcommand() {
-        Some(("signed", values)) => signed(alloc, values),
-        Some(("match", values)) => matching(alloc, values),
-        Some(("pae", values)) => pae(alloc, values),
-        Some(("sign", values)) => sign(alloc, values),
-        Some(("digest", values)) => digest(alloc, values),
-        Some(("link", values)) => link(alloc, values),
-        Some(("statement", values)) => statement(alloc, values),
-        Some(("payload", values)) => payload(alloc, values),
-        Some(("key", values)) => key(alloc, values),
-        Some(("verify", values)) => verify(alloc, values),
-        _ => Ok(None),
+        Some((name, found)) => command(name, &Values::new(alloc, found)),
+        None => Err(ValuesFault::Unfit),
     }
 }
 
-fn signed(alloc: Global, values: &ArgMatches<'_>) -> Result<Option<Words>, AllocError>
-    ensures { IfOk result (Finds (IsCommand (codes "signed", rows_of (found_of values.now)))) }
+/// The command of this name with its values.
+fn command(name: &str, values: &Values<'_, '_>) -> Result<Words, ValuesFault>
+    ensures found { IfOk result (IsCommand (name.now, values.now)) }
+    ensures unfit { IfErr result (FitsNone (IsCommand (name.now, values.now))) }
 {
-    Ok(signed_words::read(alloc, values)?.map(Words::Signed))
+    match name {
+        "signed" => signed(values),
+        "match" => matching(values),
+        "pae" => pae(values),
+        "sign" => sign(values),
+        "digest" => digest(values),
+        "link" => link(values),
+        "statement" => statement(values),
+        "payload" => payload(values),
+        "key" => key(values),
+        "verify" => verify(values),
+        _ => Err(ValuesFault::Unfit),
+    }
 }
 
-fn matching(alloc: Global, values: &ArgMatches<'_>) -> Result<Option<Words>, AllocError>
-    ensures { IfOk result (Finds (IsCommand (codes "match", rows_of (found_of values.now)))) }
+fn signed(values: &Values<'_, '_>) -> Result<Words, ValuesFault>
+    ensures found { IfOk result (IsCommand (codes "signed", values.now)) }
+    ensures unfit { IfErr result (FitsNone (IsCommand (codes "signed", values.now))) }
 {
-    Ok(match_words::read(alloc, values)?.map(Words::Match))
+    Ok(Words::Signed(signed_words::read(values)?))
 }
 
-fn pae(alloc: Global, values: &ArgMatches<'_>) -> Result<Option<Words>, AllocError>
-    ensures { IfOk result (Finds (IsCommand (codes "pae", rows_of (found_of values.now)))) }
+fn matching(values: &Values<'_, '_>) -> Result<Words, ValuesFault>
+    ensures found { IfOk result (IsCommand (codes "match", values.now)) }
+    ensures unfit { IfErr result (FitsNone (IsCommand (codes "match", values.now))) }
 {
-    Ok(pae_words::read(alloc, values)?.map(Words::Pae))
+    Ok(Words::Match(match_words::read(values)?))
 }
 
-fn sign(alloc: Global, values: &ArgMatches<'_>) -> Result<Option<Words>, AllocError>
-    ensures { IfOk result (Finds (IsCommand (codes "sign", rows_of (found_of values.now)))) }
+fn pae(values: &Values<'_, '_>) -> Result<Words, ValuesFault>
+    ensures found { IfOk result (IsCommand (codes "pae", values.now)) }
+    ensures unfit { IfErr result (FitsNone (IsCommand (codes "pae", values.now))) }
 {
-    Ok(sign_words::read(alloc, values)?.map(Words::Sign))
+    Ok(Words::Pae(pae_words::read(values)?))
 }
 
-fn digest(alloc: Global, values: &ArgMatches<'_>) -> Result<Option<Words>, AllocError>
-    ensures { IfOk result (Finds (IsCommand (codes "digest", rows_of (found_of values.now)))) }
+fn sign(values: &Values<'_, '_>) -> Result<Words, ValuesFault>
+    ensures found { IfOk result (IsCommand (codes "sign", values.now)) }
+    ensures unfit { IfErr result (FitsNone (IsCommand (codes "sign", values.now))) }
 {
-    Ok(digest_words::read(alloc, values)?.map(Words::Digest))
+    Ok(Words::Sign(sign_words::read(values)?))
 }
 
-fn link(alloc: Global, values: &ArgMatches<'_>) -> Result<Option<Words>, AllocError>
-    ensures { IfOk result (Finds (IsCommand (codes "link", rows_of (found_of values.now)))) }
+fn digest(values: &Values<'_, '_>) -> Result<Words, ValuesFault>
+    ensures found { IfOk result (IsCommand (codes "digest", values.now)) }
+    ensures unfit { IfErr result (FitsNone (IsCommand (codes "digest", values.now))) }
 {
-    Ok(link_words::read(alloc, values)?.map(Words::Link))
+    Ok(Words::Digest(digest_words::read(values)?))
 }
 
-fn statement(alloc: Global, values: &ArgMatches<'_>) -> Result<Option<Words>, AllocError>
-    ensures { IfOk result (Finds (IsCommand (codes "statement", rows_of (found_of values.now)))) }
+fn link(values: &Values<'_, '_>) -> Result<Words, ValuesFault>
+    ensures found { IfOk result (IsCommand (codes "link", values.now)) }
+    ensures unfit { IfErr result (FitsNone (IsCommand (codes "link", values.now))) }
 {
-    Ok(statement_words::read(alloc, values)?.map(Words::Statement))
+    Ok(Words::Link(link_words::read(values)?))
 }
 
-fn payload(alloc: Global, values: &ArgMatches<'_>) -> Result<Option<Words>, AllocError>
-    ensures { IfOk result (Finds (IsCommand (codes "payload", rows_of (found_of values.now)))) }
+fn statement(values: &Values<'_, '_>) -> Result<Words, ValuesFault>
+    ensures found { IfOk result (IsCommand (codes "statement", values.now)) }
+    ensures unfit { IfErr result (FitsNone (IsCommand (codes "statement", values.now))) }
 {
-    Ok(payload_words::read(alloc, values)?.map(Words::Payload))
+    Ok(Words::Statement(statement_words::read(values)?))
 }
 
-fn key(alloc: Global, values: &ArgMatches<'_>) -> Result<Option<Words>, AllocError>
-    ensures { IfOk result (Finds (IsCommand (codes "key", rows_of (found_of values.now)))) }
+fn payload(values: &Values<'_, '_>) -> Result<Words, ValuesFault>
+    ensures found { IfOk result (IsCommand (codes "payload", values.now)) }
+    ensures unfit { IfErr result (FitsNone (IsCommand (codes "payload", values.now))) }
 {
-    Ok(key_words::read(alloc, values)?.map(Words::Key))
+    Ok(Words::Payload(payload_words::read(values)?))
 }
 
-fn verify(alloc: Global, values: &ArgMatches<'_>) -> Result<Option<Words>, AllocError>
-    ensures { IfOk result (Finds (IsCommand (codes "verify", rows_of (found_of values.now)))) }
+fn key(values: &Values<'_, '_>) -> Result<Words, ValuesFault>
+    ensures found { IfOk result (IsCommand (codes "key", values.now)) }
+    ensures unfit { IfErr result (FitsNone (IsCommand (codes "key", values.now))) }
 {
-    Ok(verify_words::read(alloc, values)?.map(Words::Verify))
+    Ok(Words::Key(key_words::read(values)?))
+}
+
+fn verify(values: &Values<'_, '_>) -> Result<Words, ValuesFault>
+    ensures found { IfOk result (IsCommand (codes "verify", values.now)) }
+    ensures unfit { IfErr result (FitsNone (IsCommand (codes "verify", values.now))) }
+{
+    Ok(Words::Verify(verify_words::read(values)?))
 }

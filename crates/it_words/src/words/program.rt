@@ -1,13 +1,12 @@
 //! The program with its commands, as the parser takes them.
-ghost use Rattle.std.specs.Prelude.{◌≡◌, false, IfOk, IsOkAnd};
-ghost use Rattle.clap.specs.Words.{app_of, with_subcommand};
+ghost use Rattle.std.specs.Prelude.{◌≡◌, false, IfOk};
+ghost use Rattle.clap.specs.Words.{app_of};
 ghost use Rattle.clap.specs.declared.builder.command.Command.TheViews.{out-Command};
-ghost use Rattle.it_words.specs.Commands.{program, reading_program, without_command};
+ghost use Rattle.it_words.specs.Commands.{program, without_command};
+ghost use Rattle.it_words.specs.inside.Rows.{app_of_row};
 
-use super::{
-    digest_words, key_words, link_words, match_words, pae_words, payload_words, sign_words,
-    signed_words, statement_words, verify_words,
-};
+use super::arguments::argument_of;
+use super::table::{CommandRow, rows};
 use clap::Command;
 use std::alloc::{AllocError, Global};
 
@@ -15,23 +14,11 @@ use std::alloc::{AllocError, Global};
 pub(super) fn command<'a>(alloc: Global) -> Result<Command<'a>, AllocError>
     ensures { IfOk result (λ command. app_of command ≡ program) }
 {
-    let program = reading_command(alloc)?;
-    let program = with_command(program, sign_words::command(alloc))?;
-    let program = with_command(program, digest_words::command(alloc))?;
-    let program = with_command(program, link_words::command(alloc))?;
-    let program = with_command(program, statement_words::command(alloc))?;
-    with_command(program, verify_words::command(alloc))
-}
-
-/// The program with the commands that look at files alone, or at two words.
-fn reading_command<'a>(alloc: Global) -> Result<Command<'a>, AllocError>
-    ensures { IfOk result (λ command. app_of command ≡ reading_program) }
-{
-    let program = with_command(without_command(alloc), signed_words::command(alloc))?;
-    let program = with_command(program, match_words::command(alloc))?;
-    let program = with_command(program, pae_words::command(alloc))?;
-    let program = with_command(program, payload_words::command(alloc))?;
-    with_command(program, key_words::command(alloc))
+    let mut program = without_command(alloc);
+    for row in rows() {
+        program = program.subcommand(command_of(alloc, row)?)?;
+    }
+    Ok(program)
 }
 
 /// The program with no command: one has to be named, and no word asks for help.
@@ -44,14 +31,14 @@ fn without_command<'a>(alloc: Global) -> Command<'a>
         .subcommand_required(true)
 }
 
-/// The program with one command more, where that one could be made.
-fn with_command<'a>(
-    program: Command<'a>,
-    command: Result<Command<'a>, AllocError>,
-) -> Result<Command<'a>, AllocError>
-    requires { IfOk command (λ command. (out-Command command).has_globals ≡ false) }
-    ensures { IfOk result (λ both. IsOkAnd command.entry (λ command. app_of both
-        ≡ with_subcommand (app_of program.entry) (app_of command).top)) }
+/// The command of a row, of whose arguments none is global.
+fn command_of<'a>(alloc: Global, row: &CommandRow) -> Result<Command<'a>, AllocError>
+    ensures app { IfOk result (λ command. app_of command ≡ app_of_row row.now) }
+    ensures local { IfOk result (λ command. (out-Command command).has_globals ≡ false) }
 {
-    program.subcommand(command?)
+    let mut command = Command::new(alloc, row.name);
+    for argument in row.arguments {
+        command = command.arg(argument_of(alloc, argument))?;
+    }
+    Ok(command)
 }

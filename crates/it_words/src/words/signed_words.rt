@@ -1,16 +1,10 @@
 //! The words of `itv signed`.
-ghost use Rattle.std.specs.Prelude.{◌≡◌, false, IfOk};
-ghost use Rattle.clap.specs.Words.{app_of, found_of};
-ghost use Rattle.clap.specs.Walk.{rows_of};
-ghost use Rattle.clap.specs.declared.builder.command.Command.TheViews.{out-Command};
-ghost use Rattle.it_base.specs.Finds.{Finds};
-ghost use Rattle.it_words.specs.Commands.{signed_command};
+ghost use Rattle.std.specs.Prelude.{IfErr, IfOk};
 ghost use Rattle.it_words.specs.Values.{IsSigned, IsSignedBy};
+ghost use Rattle.it_words.specs.inside.Unfit.{FitsNone};
 
-use super::arguments::{command_of, needed_word, plain_option, value};
-use clap::{ArgMatches, Command};
+use super::values::{Values, ValuesFault};
 use it_base::text::Text;
-use std::alloc::{AllocError, Global};
 
 /// The values of `itv signed`.
 #[derive(Drop)]
@@ -30,45 +24,27 @@ pub enum SignedBy {
     Keys(Text),
 }
 
-/// The command, as the parser takes it.
-pub(super) fn command<'a>(alloc: Global) -> Result<Command<'a>, AllocError>
-    ensures app { IfOk result (λ command. app_of command ≡ signed_command) }
-    ensures local { IfOk result (λ command. (out-Command command).has_globals ≡ false) }
+/// The command's values, or `Unfit` where one is missing.
+pub(super) fn read(values: &Values<'_, '_>) -> Result<SignedWords, ValuesFault>
+    ensures found { IfOk result (IsSigned values.now) }
+    ensures unfit { IfErr result (FitsNone (IsSigned values.now)) }
 {
-    let arguments = vec![in alloc;
-        needed_word(alloc, "envelope", "ENVELOPE"),
-        plain_option(alloc, "ring", "F"),
-        plain_option(alloc, "keys", "F"),
-    ]?;
-    command_of(alloc, "signed", arguments)
+    Ok(SignedWords {
+        envelope: values.needed("envelope")?,
+        by: signed_by(values)?,
+    })
 }
 
-/// The command's values, or `None` where one is missing.
-pub(super) fn read(
-    alloc: Global,
-    values: &ArgMatches<'_>,
-) -> Result<Option<SignedWords>, AllocError>
-    ensures { IfOk result (Finds (IsSigned (rows_of (found_of values.now)))) }
+/// What signatures are checked by, or `Unfit` where neither a ring nor keys are given, or both.
+fn signed_by(values: &Values<'_, '_>) -> Result<SignedBy, ValuesFault>
+    ensures found { IfOk result (IsSignedBy values.now) }
+    ensures unfit { IfErr result (FitsNone (IsSignedBy values.now)) }
 {
-    let Some(envelope) = value(values, "envelope") else {
-        return Ok(None);
-    };
-    let Some(by) = signed_by(alloc, values)? else {
-        return Ok(None);
-    };
-    Ok(Some(SignedWords {
-        envelope: Text::copy(alloc, envelope)?,
-        by,
-    }))
-}
-
-/// What signatures are checked by, or `None` where neither a ring nor keys are given, or both.
-fn signed_by(alloc: Global, values: &ArgMatches<'_>) -> Result<Option<SignedBy>, AllocError>
-    ensures { IfOk result (Finds (IsSignedBy (rows_of (found_of values.now)))) }
-{
-    match (value(values, "ring"), value(values, "keys")) {
-        (Some(ring), None) => Ok(Some(SignedBy::Ring(Text::copy(alloc, ring)?))),
-        (None, Some(keys)) => Ok(Some(SignedBy::Keys(Text::copy(alloc, keys)?))),
-        _ => Ok(None),
+    match values.optional("ring")? {
+        Some(ring) => {
+            values.absent("keys")?;
+            Ok(SignedBy::Ring(ring))
+        }
+        None => Ok(SignedBy::Keys(values.needed("keys")?)),
     }
 }

@@ -27,21 +27,19 @@ pub(super) fn usage_of(name: &str) -> Option<&'static Usage> {
 pub(super) fn of_all(alloc: Global, wrong: &str) -> Result<String, AllocError> {
     let mut text = format!(in alloc; "{wrong}\n\n{VERSION} {SUMMARY}")?;
     for usage in USAGES.as_slice() {
-        push(&mut text, usage)?;
+        text.push_str(below(alloc, usage)?.as_str())?;
     }
     Ok(text)
 }
 
 /// What was wrong, and the usage of a command.
 pub(super) fn of_one(alloc: Global, wrong: &str, usage: &Usage) -> Result<String, AllocError> {
-    let mut text = String::from_str(alloc, wrong)?;
-    push(&mut text, usage)?;
-    Ok(text)
+    let usage = below(alloc, usage)?;
+    format!(in alloc; "{wrong}{usage}")
 }
 
-fn push(text: &mut String, usage: &Usage) -> Result<(), AllocError> {
-    text.push_str("\n\n")?;
-    text.push_str(usage.line)?;
-    text.push_str("\n")?;
-    text.push_str(usage.text)
+/// A usage as it stands below other text.
+fn below(alloc: Global, usage: &Usage) -> Result<String, AllocError> {
+    let Usage { line, text, .. } = usage;
+    format!(in alloc; "\n\n{line}\n{text}")
 }

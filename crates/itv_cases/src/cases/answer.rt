@@ -1,52 +1,36 @@
 //! The answer of a verification.
-ghost use Rattle.std.specs.Prelude.{◌≡◌, ◌≤◌, ◌↔◌, IsTrue, IfOk, IfSome, map};
+ghost use Rattle.std.specs.Prelude.{◌≡◌, ◌≤◌, ◌↔◌, IsTrue, IfOk, map};
 ghost use Rattle.it_dsse.specs.Panel.{panel_of};
 
 use crate::cases::wanted::Wanted;
 use it_base::sequence::Sequence;
 use it_dsse::check::SignatureCheck;
-use it_json_report::form::ReportForm;
-use it_notes::verify_with_notes::verify_with_notes;
 use it_outcome::exit_of;
 use it_verify::inputs::Inputs;
+use it_verify::run_verify;
 use std::alloc::{AllocError, Global};
 
-/// A report, the status that goes with it, and the notes.
+/// A report, and the status that goes with it.
 #[derive(Drop)]
 pub(crate) struct Answer {
     /// The bytes of the report.
     pub(crate) report: Sequence<u8>,
     /// The exit status.
     pub(crate) status: u8,
-    /// The bytes of the notes.
-    pub(crate) notes: Sequence<u8>,
 }
 
 impl Answer {
     ghost use Rattle.itv_cases.specs.Agreement.{Meets};
     ghost use Rattle.itv_cases.specs.Answer.{IsAnswer};
 
-    /// Whether it is what is wanted: each byte of the report, the status, and, where notes are
-    /// wanted, each byte of them.
+    /// Whether it is what is wanted: each byte of the report, and the status.
     pub(crate) fn meets(&self, wanted: &Wanted) -> bool
         ensures { IsTrue result ↔ Meets wanted.now self.now }
     {
-        self.status == wanted.status
-            && self.report.as_slice() == wanted.report.as_slice()
-            && self.has_notes(&wanted.notes)
+        self.status == wanted.status && self.report.as_slice() == wanted.report.as_slice()
     }
 
-    /// Whether the notes are these, where any are wanted.
-    fn has_notes(&self, wanted: &Option<Sequence<u8>>) -> bool
-        ensures { IsTrue result ↔ IfSome wanted.now (λ notes. self.now.notes ≡ notes) }
-    {
-        match wanted {
-            Some(notes) => self.notes.as_slice() == notes.as_slice(),
-            None => true,
-        }
-    }
-
-    /// The answer of `verify_with_notes`.
+    /// The answer of `run_verify`.
     ///
     /// # Errors
     ///
@@ -60,19 +44,10 @@ impl Answer {
         ensures { IfOk result (IsAnswer (panel_of (map meaning panel.now)) inputs.now) }
     {
         let mut report = Vec::new(alloc);
-        let mut notes = Vec::new(alloc);
-        match verify_with_notes(
-            alloc,
-            inputs,
-            panel,
-            ReportForm::Lines,
-            &mut report,
-            &mut notes,
-        ) {
+        match run_verify(alloc, inputs, panel, &mut report) {
             Ok(status) => Ok(Answer {
                 report: Sequence::from(report),
                 status: exit_of(&Ok(status)),
-                notes: Sequence::from(notes),
             }),
             // A vector takes all that is written to it, where memory suffices.
             Err(_) => Err(AllocError),

@@ -1,13 +1,11 @@
 //! A case: the inputs of a verification, and the answer that is wanted.
-ghost use Rattle.std.specs.Prelude.{◌≤◌, [], false, codes, IfOk, map};
+ghost use Rattle.std.specs.Prelude.{◌≤◌, [], codes, IfOk, map};
 ghost use Rattle.serde_json.specs.View.{view};
 ghost use Rattle.it_base.specs.Parts.{IsPart, IsPartOr};
 ghost use Rattle.it_base.specs.Sequence.{IsList};
 ghost use Rattle.it_dsse.specs.Panel.{panel_of};
-ghost use Rattle.it_public_keys.specs.AnyCheck.{check_of};
-ghost use Rattle.it_program.specs.Sources.{sources_in};
-ghost use Rattle.it_public_keys.specs.Collected.{IsTableFor};
-ghost use Rattle.it_tables.specs.Part.{IsBoolean, IsBytes, IsNumber};
+ghost use Rattle.it_dsse.specs.Ring.{ring_check};
+ghost use Rattle.it_tables.specs.Part.{IsBytes, IsNumber};
 ghost use Rattle.itv_cases.specs.Answer.{IsAnswer};
 ghost use Rattle.itv_cases.specs.Part.{IsNamed};
 ghost use Rattle.itv_cases.specs.Reading.{InputsOf};
@@ -22,9 +20,6 @@ use it_base::sequence::Sequence;
 use it_base::text::Text;
 use it_dsse::check::SignatureCheck;
 use it_dsse::ring::HmacRing;
-use it_public_keys::any_check::{AnyCheck, checks_of};
-use it_public_keys::sources::Sources;
-use it_public_keys::{PublicKeys, table_if};
 use it_tables::RowFault;
 use it_tables::rings::read_ring;
 use it_tables::row::{bytes_of, bytes_part, member_in};
@@ -46,8 +41,6 @@ pub(crate) struct Case {
     pub(crate) inputs: Inputs,
     /// The rings of secrets that signatures are checked with, in their order.
     pub(crate) rings: Sequence<HmacRing>,
-    /// Whether signatures are checked by public keys too.
-    pub(crate) public_keys: bool,
     /// The answer that is wanted.
     pub(crate) wanted: Wanted,
     ghost within_depth: { inputs.depth ≤ 8 },
@@ -70,7 +63,6 @@ impl Case {
             name: text_part(alloc, document, "name")?,
             inputs: inputs_in(alloc, document)?,
             rings: Sequence::from(rings(alloc, document)?),
-            public_keys: public_keys(document)?,
             wanted: Wanted::of_case(alloc, document)?,
         })
     }
@@ -87,12 +79,9 @@ impl Case {
             name,
             inputs,
             rings,
-            public_keys,
             wanted,
         } = self;
-        let table = table_for(alloc, public_keys, &inputs, rings.as_slice())?;
-        let checks = checks_of(alloc, rings.into_vec(), table)?;
-        let given = answer_by(alloc, &inputs, checks)?;
+        let given = answer_by(alloc, &inputs, rings.into_vec())?;
         Ok(Run {
             name,
             wanted,
@@ -101,34 +90,14 @@ impl Case {
     }
 }
 
-/// The table of all public keys that the verification could ask for beside the rings, if public
-/// keys are asked for.
-fn table_for(
-    alloc: Global,
-    is_wanted: bool,
-    inputs: &Inputs,
-    rings: &[HmacRing],
-) -> Result<Option<PublicKeys>, AllocError>
-    ensures { IfOk result (IsTableFor is_wanted (sources_in inputs.now rings.now)) }
-{
-    let sources = Sources {
-        policy: inputs.policy.as_slice(),
-        layout: inputs.layout.as_slice(),
-        links: &inputs.links,
-        depth: inputs.depth,
-        rings,
-    };
-    table_if(alloc, is_wanted, &sources)
-}
-
-/// The answer of the verification, with signatures checked by the checks.
-fn answer_by(alloc: Global, inputs: &Inputs, checks: Vec<AnyCheck>) -> Result<Answer, AllocError>
+/// The answer of the verification, with signatures checked by the rings.
+fn answer_by(alloc: Global, inputs: &Inputs, rings: Vec<HmacRing>) -> Result<Answer, AllocError>
     requires { inputs.now.depth ≤ 8 }
-    ensures { IfOk result (IsAnswer (panel_of (map check_of checks.items)) inputs.now) }
+    ensures { IfOk result (IsAnswer (panel_of (map ring_check rings.items)) inputs.now) }
 {
     let mut panel: Vec<Box<dyn SignatureCheck>> = Vec::new(alloc);
-    for check in checks {
-        panel.push(Box::new(alloc, check)?)?;
+    for ring in rings {
+        panel.push(Box::new(alloc, ring)?)?;
     }
     Answer::of(alloc, inputs, panel.as_slice())
 }
@@ -196,14 +165,4 @@ fn rings(alloc: Global, case: &Value) -> Result<Vec<HmacRing>, RowFault> {
         rings.push(read_ring(alloc, bytes.as_slice(), "rings")?)?;
     }
     Ok(rings)
-}
-
-/// Whether public keys are asked for: if the member is missing, they are not.
-fn public_keys(case: &Value) -> Result<bool, RowFault>
-    ensures { IfOk result (IsPartOr IsBoolean false (codes "public_keys") (view case.now)) }
-{
-    match member(case, "public_keys") {
-        Some(value) => value.as_bool().ok_or(RowFault::BadMember("public_keys")),
-        None => Ok(false),
-    }
 }

@@ -3,7 +3,7 @@ use crate::cases::run::Run;
 use it_base::sequence::Sequence;
 use std::alloc::{AllocError, Global};
 
-/// What a case wants, and what is given in its place: the status, the report, and the notes.
+/// What a case wants, and what is given in its place: the status and the report.
 ///
 /// # Errors
 ///
@@ -16,11 +16,7 @@ pub(crate) fn difference_text(alloc: Global, run: &Run) -> Result<String, AllocE
     } = run;
     let mut text = format!(in alloc; "is {}\n", name.as_str())?;
     push_report(alloc, &mut text, "wanted", wanted.status, &wanted.report)?;
-    if let Some(notes) = &wanted.notes {
-        push_notes(alloc, &mut text, "wanted", notes)?;
-    }
     push_report(alloc, &mut text, "given", given.status, &given.report)?;
-    push_notes(alloc, &mut text, "given", &given.notes)?;
     Ok(text)
 }
 
@@ -34,15 +30,4 @@ fn push_report(
     let report = String::from_utf8_lossy(alloc, report.as_slice())?;
     let report = report.as_str();
     text.push_str(format!(in alloc; "{title}, with status {status}:\n{report}")?.as_str())
-}
-
-fn push_notes(
-    alloc: Global,
-    text: &mut String,
-    title: &str,
-    notes: &Sequence<u8>,
-) -> Result<(), AllocError> {
-    let notes = String::from_utf8_lossy(alloc, notes.as_slice())?;
-    let notes = notes.as_str();
-    text.push_str(format!(in alloc; "{title}, as notes:\n{notes}")?.as_str())
 }

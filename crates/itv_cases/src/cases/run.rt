@@ -12,7 +12,7 @@ pub(crate) struct Run {
     pub(crate) name: Text,
     /// The answer that is wanted.
     pub(crate) wanted: Wanted,
-    /// The answer of `verify_with_notes`.
+    /// The answer of `run_verify`.
     pub(crate) given: Answer,
 }
 

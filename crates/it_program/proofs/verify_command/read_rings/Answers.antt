@@ -1,7 +1,7 @@
 use Rattle.std.proofs.Common.{◌≡◌, ◌∙◌, ◌+◌, ◌++◌, [], ◌∷◌, take, ap, sym}
 use Rattle.std.proofs.lemmas.List.{take_more}
 use Rattle.it_disk.specs.Reading.{HoldsRing}
-use Rattle.it_program.proofs.Pairs.{with_last}
+use Rattle.it_file_commands.proofs.Pairs.{with_last}
 use Rattle.it_program.proofs.verify_command.read_rings.Goals as goal
 
 pub loop-path-preserved : goal.loop-path-preserved

@@ -4,15 +4,15 @@ use Rattle.clap.specs.Words.{HasKind, Kinds, app_of, fault_of, is_simple, is_sim
 use Rattle.clap.specs.Words.{kind_of, subcommand_of}
 use Rattle.clap.specs.declared.error.Error.{Error}
 use Rattle.clap.specs.declared.error.kind.ErrorKind.TheVariants as ErrorKind
-use Rattle.it_words.specs.Commands.{program, reading_program}
+use Rattle.it_words.specs.Commands.{program}
 use Rattle.it_words.proofs.words.parsed.Goals as goal
 
 is_plain : is_simple program ≡ true
-unfolding program reading_program
+unfolding program
 is_plain = refl
 
 is_free : is_simple_and_free program ≡ true
-unfolding program reading_program
+unfolding program
 is_free = refl
 
 -- an error that has one of no kinds is for want of memory

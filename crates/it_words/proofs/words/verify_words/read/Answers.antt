@@ -1,55 +1,33 @@
-use Rattle.std.proofs.Common.{◌≡◌, List, Option, Some, None}
-use Rattle.clap.specs.Words.{Row}
-use Rattle.it_base.specs.Finds.{Finds}
-use Rattle.it_words.specs.Values.{IsVerify}
-use Rattle.it_words.specs.declared.words.verify_words.Inputs.{Inputs}
-use Rattle.it_words.specs.declared.words.verify_words.Settings.{Settings}
-use Rattle.it_words.specs.declared.words.verify_words.VerifyWords.{VerifyWords}
-use Rattle.it_words.specs.inside.VerifyParts.{AreInputs, AreSettings}
+use Rattle.it_words.specs.Values.{IsDepth, IsVerify}
+use Rattle.it_words.proofs.Unfit.{missing, part_unfit}
 use Rattle.it_words.proofs.words.verify_words.read.Goals as goal
 
--- with no first part there are no values
-no_inputs : (values : List Row) (found : Option Inputs) → Finds (AreInputs values) found
-    → found ≡ None → (words : VerifyWords) → ¬ IsVerify values words
-no_inputs values None finds none words is = finds (record {
-  policy = words.policy;
-  layout = words.layout;
-  links = words.links;
-  sums = words.sums;
-  at = words.at;
-}) (record {
-  policy = is.policy;
-  layout = is.layout;
-  links = is.links;
-  sums = is.sums;
-  at = is.at;
-})
-no_inputs values (Some inputs) finds none words is = cc
+pub returns-in_err-needed-clause-unfit : goal.returns-in_err-needed-clause-unfit
+returns-in_err-needed-clause-unfit c =
+    missing (IsVerify _) _ _ c.from_residual-in_err-needed.ensures.1 _ (λ words. words.policy)
+    (λ words is. is.policy) c.in_err-needed.ensures.unfit
 
--- with no second part there are none either
-no_settings : (values : List Row) (found : Option Settings) → Finds (AreSettings values) found
-    → found ≡ None → (words : VerifyWords) → ¬ IsVerify values words
-no_settings values None finds none words is = finds (record {
-  rings = words.rings;
-  public_keys = words.public_keys;
-  json = words.json;
-  provenance = words.provenance;
-  records = words.records;
-  depth = words.depth;
-}) (record {
-  rings = is.rings;
-  public_keys = is.public_keys;
-  has_check = is.has_check;
-  json = is.json;
-  provenance = is.provenance;
-  records = is.records;
-  depth = is.depth;
-})
-no_settings values (Some settings) finds none words is = cc
+pub returns-in_err-needed-2-clause-unfit : goal.returns-in_err-needed-2-clause-unfit
+returns-in_err-needed-2-clause-unfit c =
+    missing (IsVerify _) _ _ c.from_residual-in_err-needed-2.ensures.1 _ (λ words. words.layout)
+    (λ words is. is.layout) c.in_err-needed-2.ensures.unfit
 
-pub returns-in_default : goal.returns-in_default
-returns-in_default c = no_inputs _ c.in_ok-inputs.field-0 c.in_ok-inputs.ensures c.in_default.is
+pub returns-in_err-needed-3-clause-unfit : goal.returns-in_err-needed-3-clause-unfit
+returns-in_err-needed-3-clause-unfit c =
+    missing (IsVerify _) _ _ c.from_residual-in_err-needed-3.ensures.1 _ (λ words. words.links)
+    (λ words is. is.links) c.in_err-needed-3.ensures.unfit
 
-pub returns-in_default-2 : goal.returns-in_default-2
-returns-in_default-2 c = no_settings _ c.in_ok-settings.field-0 c.in_ok-settings.ensures
-    c.in_default-2.is
+pub returns-in_err-needed-4-clause-unfit : goal.returns-in_err-needed-4-clause-unfit
+returns-in_err-needed-4-clause-unfit c =
+    missing (IsVerify _) _ _ c.from_residual-in_err-needed-4.ensures.1 _ (λ words. words.sums)
+    (λ words is. is.sums) c.in_err-needed-4.ensures.unfit
+
+pub returns-in_err-needed-5-clause-unfit : goal.returns-in_err-needed-5-clause-unfit
+returns-in_err-needed-5-clause-unfit c =
+    missing (IsVerify _) _ _ c.from_residual-in_err-needed-5.ensures.1 _ (λ words. words.at)
+    (λ words is. is.at) c.in_err-needed-5.ensures.unfit
+
+pub returns-in_err-depth-clause-unfit : goal.returns-in_err-depth-clause-unfit
+returns-in_err-depth-clause-unfit c =
+    part_unfit (IsVerify _) _ _ c.from_residual-in_err-depth.ensures.1 (IsDepth _)
+    (λ words. words.depth) (λ words is. is.depth) c.in_err-depth.ensures.unfit

@@ -5,7 +5,5 @@ pub returns : goal.returns
 returns c = record {
   name = refl;
   wanted = refl;
-  table = c.in_ok-table.table;
-  is_table = rw c.as_slice.ensures at c.in_ok-table.ensures;
-  given = rw (c.in_ok-checks.ensures, c.into_vec.ensures) at c.in_ok-given.ensures;
+  given = rw c.into_vec.ensures at c.in_ok-given.ensures;
 }

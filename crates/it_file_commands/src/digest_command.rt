@@ -1,0 +1,111 @@
+//! `itv digest [--recursive] PATH..`.
+ghost use Rattle.std.specs.Prelude.{◌≡◌, ◌≢◌, ◌⊎◌, Ok, IfErr, IfOk, take};
+ghost use Rattle.std.specs.Io.KnownBytes.{Appends};
+ghost use Rattle.it_file_commands.specs.Commands.{AreLinesOf, IsLineOf, ListsDigests};
+ghost use Rattle.it_file_commands.specs.Stopped.{ListsFirst};
+
+use crate::remembering::Remembering;
+use it_base::text::Text;
+use it_commands::{check_name, run_digest};
+use it_digest::reader::DigestFault;
+use it_disk::{Disk, Fault, Shown};
+use it_files_below::files_at_each;
+use it_outcome::{RunFault, Status};
+use it_words::words::digest_words::DigestWords;
+use std::alloc::{AllocError, Global};
+use std::io;
+use std::io::Write;
+
+/// How many bytes a file may have.
+const MOST_BYTES: u64 = 1_099_511_627_776;
+
+/// Writes the line of each file that the words name, file by file. With `--recursive` all folders
+/// are read before the first line is written. The lines before a file that fails remain.
+///
+/// # Errors
+///
+/// The fault of a path that cannot be read, or of a file that has no line, and `Fault::Run` where
+/// the output could not be written, or memory was refused.
+pub fn run<R: Disk + AllocGlobal, W: Write>(
+    rt: &R,
+    words: &DigestWords,
+    out: &mut W,
+) -> Result<Status, Fault>
+    ensures ok { IfOk result (λ status. (text : _) × ListsDigests R.holdings words.now text status
+        × Appends (W.contents out.old) (W.contents out.new) text) }
+    ensures stopped { IfErr result (λ fault. fault ≢ Fault.Run RunFault.Write
+        → (out.new ≡ out.old) ⊎ ListsFirst R.holdings words.now (W.contents out.old)
+        (W.contents out.new)) }
+{
+    let paths = words.paths.as_slice();
+    if words.recursive {
+        let files = files_at_each(rt, paths)?;
+        digest_files(rt, files.as_slice(), out)?;
+    } else {
+        digest_files(rt, paths, out)?;
+    }
+    Ok(Status::Good)
+}
+
+fn digest_files<R: Disk + AllocGlobal, W: Write>(
+    rt: &R,
+    files: &[Text],
+    out: &mut W,
+) -> Result<(), Fault>
+    ensures ok { IfOk result (λ _. (text : _) × AreLinesOf R.holdings files.now text
+        × Appends (W.contents out.old) (W.contents out.new) text) }
+    ensures stopped { IfErr result (λ fault. fault ≢ Fault.Run RunFault.Write
+        → (count : _) × (text : _) × AreLinesOf R.holdings (take count files.now) text
+        × Appends (W.contents out.old) (W.contents out.new) text) }
+{
+    for file in files {
+        digest_file(rt, file, out)?;
+    }
+    Ok(())
+}
+
+fn digest_file<R: Disk + AllocGlobal, W: Write>(
+    rt: &R,
+    file: &Text,
+    out: &mut W,
+) -> Result<(), Fault>
+    ensures ok { IfOk result (λ _. (line : _) × IsLineOf R.holdings file.now line
+        × Appends (W.contents out.old) (W.contents out.new) line) }
+    ensures nothing { IfErr result (λ fault. fault ≢ Fault.Run RunFault.Write → out.new ≡ out.old) }
+{
+    let alloc = rt.alloc();
+    let path = file.as_str();
+    if let Err(fault) = check_name(path) {
+        return Err(told(alloc, path, fault, None)?);
+    }
+    let mut input = Remembering::new(rt.open(path)?);
+    match run_digest(alloc, path, &mut input, MOST_BYTES, out) {
+        Ok(_) => Ok(()),
+        Err(fault) => Err(told(alloc, path, fault, input.error)?),
+    }
+}
+
+/// The fault of a file that has no line, with the last error that its reader returned.
+fn told(
+    alloc: Global,
+    path: &str,
+    fault: RunFault,
+    error: Option<io::Error>,
+) -> Result<Fault, AllocError>
+    ensures { fault ≡ RunFault.Write → result ≡ Ok (Fault.Run RunFault.Write) }
+{
+    match fault {
+        RunFault::BadName => Ok(Fault::Unlistable {
+            path: Shown::of(alloc, path)?,
+        }),
+        RunFault::Digest(DigestFault::TooLarge) => Ok(Fault::TooLarge {
+            path: Shown::of(alloc, path)?,
+            limit: MOST_BYTES,
+        }),
+        RunFault::Digest(DigestFault::Read) => {
+            let error = error.unwrap_or(io::Error::from(io::ErrorKind::Other));
+            Fault::unreadable(alloc, path, &error)
+        }
+        fault => Ok(Fault::Run(fault)),
+    }
+}

@@ -1,9 +1,0 @@
-use Rattle.std.proofs.Common.{ℕ, List, take}
-use Rattle.std.specs.Io.KnownBytes.{Appends}
-use Rattle.it_program.specs.Commands.{AreLinesOf}
-use Rattle.it_program.proofs.digest_command.digest_files.Given as goal
-
-abbrev pub invariant-loop-file : goal.invariant-loop-file
-invariant-loop-file g l = (text : List ℕ) × AreLinesOf g.R.Disk.holdings
-    (take l.file-index l.files) text
-    × Appends (g.W.Write.contents l.fn.out) (g.W.Write.contents l.out) text

@@ -1,5 +1,0 @@
-use Rattle.std.proofs.Common.{◌≡◌, map, take}
-use Rattle.it_words.proofs.words.arguments.texts.Given as goal
-
-abbrev pub invariant-loop-word : goal.invariant-loop-word
-invariant-loop-word l = l.texts.items ≡ map (λ word. word.now) (take l.word-index l.words)

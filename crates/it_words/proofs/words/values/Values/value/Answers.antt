@@ -1,0 +1,10 @@
+use Rattle.std.proofs.Common.{◌∙◌, ap}
+use Rattle.clap.specs.Words.{found_of}
+use Rattle.clap.specs.Walk.{first_of}
+use Rattle.clap.proofs.WalkLemmas.{first_value-rows}
+use Rattle.it_words.proofs.words.values.Values.value.Goals as goal
+
+pub returns : goal.returns
+returns c = c.get_str.ensures
+    ∙ first_value-rows (found_of c.self.inside.found.now) c.args.name.now
+    ∙ ap (first_of c.args.name.now) c.self.view_is

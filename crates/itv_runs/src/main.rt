@@ -1,0 +1,17 @@
+//! `itv_runs TABLE..`: whether runs of the program over files in memory give what the lines of
+//! tables say.
+//!
+//! A line is a row, whose member `call` names what is called. Writes each line that differs, and
+//! how many agree.
+#![tactic(auto)]
+
+mod calls;
+mod runs;
+
+use calls::Calls;
+use it_tables::run_tables;
+use std::process::ExitCode;
+
+fn main(rt: HostRuntime) -> ExitCode {
+    run_tables(&rt, "itv_runs", &Calls)
+}

@@ -2,6 +2,7 @@ pub mod AddedSignatures
 pub mod Decided
 pub mod Documents
 pub mod Keeping
+pub mod Numbers
 pub mod Panels
 pub mod Places
 pub mod RingIds

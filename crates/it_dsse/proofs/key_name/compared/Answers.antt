@@ -1,0 +1,10 @@
+use Rattle.std.proofs.Common.{rules, ◌≡◌, ◌<◌, ◌∙◌, get_or, ℕ, length, sym}
+use Rattle.it_dsse.proofs.Numbers.{cmp_big}
+use Rattle.it_dsse.proofs.key_name.compared.Goals as goal
+
+pub returns : goal.returns
+returns c =
+    let small : (k : ℕ) → get_or c.args.one.now k 0 < 256 = λ k. search rules in
+    let other : (k : ℕ) → get_or c.args.other.now k 0 < 256 = λ k. search rules in
+    let long : length c.args.one.now ≡ length c.args.other.now = c.told-one ∙ sym c.told-other in
+    c.cmp.ensures ∙ cmp_big c.args.one.now c.args.other.now long small other

@@ -1,0 +1,115 @@
+//! Checks that the caller boxed.
+ghost use Rattle.std.specs.Prelude.{◌≡◌, ◌<◌, IfSome, length, map};
+ghost use Rattle.it_dsse.specs.Joined.{joined};
+ghost use Rattle.it_dsse.specs.Meter.{raised};
+ghost use Rattle.it_dsse.specs.Panel.{panel_of};
+ghost use Rattle.it_dsse.specs.Signed.{tries_for};
+ghost use Rattle.it_dsse.specs.Vouched.{is_vouched, is_vouched_by, tries_by};
+
+use crate::checks::Checks;
+use crate::key_name::KeyName;
+use crate::check::SignatureCheck;
+use crate::envelope::Signature;
+use crate::key_object::KeyObject;
+use crate::meter::Meter;
+
+/// A panel of boxed checks, which was lent. A key's name is the place of its check and its number
+/// there.
+pub struct Boxed<'a> {
+    /// The checks.
+    pub panel: &'a [Box<dyn SignatureCheck>],
+}
+
+impl Drop for Boxed<'_> {
+    fn drop(self) {
+        let Boxed { panel: _ } = self;
+    }
+}
+
+impl Checks for Boxed<'_> {
+    type Found = (usize, u32);
+
+    ghost panel = { λ s. panel_of
+        (map (λ check. (SignatureCheck-box check).meaning check.value) s.panel.now) };
+
+    ghost number = { λ s key. key };
+
+    ghost stands = { λ s key. key.0 < length s.panel.now };
+
+    fn find(&self, id: &str, object: &KeyObject) -> Option<(usize, u32)> {
+        key_in(self.panel, id, object)
+    }
+
+    fn any_valid(
+        &self,
+        key: &(usize, u32),
+        message: &[&[u8]],
+        signatures: &[Signature],
+        id: &str,
+        meter: &mut Meter,
+    ) -> bool {
+        any_valid_in(self.panel, *key, message, signatures, id, meter)
+    }
+
+    fn name(&self, key: &(usize, u32)) -> KeyName {
+        let (place, number) = *key;
+        KeyName::numbered(place, number)
+    }
+}
+
+/// The key that the id and the object name: the first place whose check knows it, and its number
+/// there.
+fn key_in(panel: &[Box<dyn SignatureCheck>], id: &str, object: &KeyObject) -> Option<(usize, u32)>
+    ensures key { result ≡ (panel_of (map meaning panel.now)).key_of id.now object.now }
+    ensures placed { IfSome result (λ key. key.0 < length panel.now) }
+{
+    for (place, check) in panel.iter().enumerate() {
+        if let Some(number) = number_of(check, id, object) {
+            return Some((place, number));
+        }
+    }
+    None
+}
+
+/// Whether one of the signatures is admitted for an id and valid for a key, by the check at the
+/// key's place, for the message that the parts make. The meter counts those that the check tries.
+fn any_valid_in(
+    panel: &[Box<dyn SignatureCheck>],
+    key: (usize, u32),
+    message: &[&[u8]],
+    signatures: &[Signature],
+    id: &str,
+    meter: &mut Meter,
+) -> bool
+    requires placed { key.0 < length panel.now }
+    ensures answer { result ≡ is_vouched (panel_of (map meaning panel.now)) id.now key
+        (joined message.now) signatures.now }
+    ensures counted { meter.new ≡ raised meter.old (tries_for (panel_of (map meaning panel.now))
+        id.now key (joined message.now) signatures.now) }
+{
+    let (place, number) = key;
+    any_valid(&panel[place], number, message, signatures, id, meter)
+}
+
+/// The number of a key, if the check knows it.
+fn number_of(check: &Box<dyn SignatureCheck>, id: &str, object: &KeyObject) -> Option<u32>
+    ensures { result ≡ (meaning check.now).key_of id.now object.now }
+{
+    check.key(id, object)
+}
+
+fn any_valid(
+    check: &Box<dyn SignatureCheck>,
+    number: u32,
+    message: &[&[u8]],
+    signatures: &[Signature],
+    id: &str,
+    meter: &mut Meter,
+) -> bool
+    ensures answer { result ≡ is_vouched_by (meaning check.now) id.now number (joined message.now)
+        signatures.now }
+    ensures counted { meter.new ≡ raised meter.old (tries_by (meaning check.now) id.now number
+        (joined message.now) signatures.now) }
+{
+    check.any_valid(number, message, signatures, id, meter)
+}

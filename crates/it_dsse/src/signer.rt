@@ -1,0 +1,94 @@
+//! Who signed an envelope, by checks of any kind.
+ghost use Rattle.std.specs.Prelude.{◌≡◌, ◌↔◌, IsTrue, option_map};
+ghost use Rattle.std.specs.List.{list_any};
+ghost use Rattle.it_base.specs.Finds.{Finds};
+ghost use Rattle.it_dsse.specs.Meter.{raised};
+ghost use Rattle.it_dsse.specs.Signed.{IsSigner, Signed, is_admitted, message_of, tries, tries_for};
+ghost use Rattle.it_dsse.specs.Vouched.{is_vouched};
+
+use crate::checks::Checks;
+use crate::decimal::{MOST_DIGITS, decimal_in};
+use crate::envelope::{Envelope, Signature};
+use crate::key_object::KeyObject;
+use crate::meter::Meter;
+
+/// The key that signed the envelope, where the id and the object name a key that is known and some
+/// signature is valid for it; `None` otherwise (DSSE v1.0, "Protocol").
+///
+/// The signatures whose hint is empty or equals `id` are tried in order until one is valid, and the
+/// meter rises by the number tried. Where no signature has such a hint, no key is asked for. Takes
+/// no memory.
+pub fn signer_by<C: Checks>(
+    envelope: &Envelope,
+    id: &str,
+    object: &KeyObject,
+    checks: &C,
+    meter: &mut Meter,
+) -> Option<C::Found>
+    ensures answer { Finds (Signed (C.panel checks.now) envelope.now id.now object.now)
+        (option_map (C.number checks.now) result) }
+    ensures counted { meter.new
+        ≡ raised meter.old (tries (C.panel checks.now) envelope.now id.now object.now) }
+{
+    if !any_admitted(envelope.signatures.as_slice(), id) {
+        return None;
+    }
+    let Some(key) = checks.find(id, object) else {
+        return None;
+    };
+    let vouched = is_vouched_for(envelope, id, &key, checks, meter);
+    if vouched { Some(key) } else { None }
+}
+
+/// Whether some signature is admitted for an id.
+fn any_admitted(signatures: &[Signature], id: &str) -> bool
+    ensures { result ≡ list_any (is_admitted id.now) signatures.now }
+{
+    signatures.iter().any(|signature| signature.is_admitted(id))
+}
+
+/// Whether some signature that is admitted for an id is valid for a key. The signed message is
+/// handed over in the parts of its pre-authentication encoding.
+#[tactic(auto, unfolding(crate::specs::Pae::pae_of))]
+fn is_vouched_for<C: Checks>(
+    envelope: &Envelope,
+    id: &str,
+    key: &C::Found,
+    checks: &C,
+    meter: &mut Meter,
+) -> bool
+    requires { C.stands checks.now key.now }
+    ensures answer { result ≡ is_vouched (C.panel checks.now) id.now (C.number checks.now key.now)
+        (message_of envelope.now) envelope.now.signatures }
+    ensures counted { meter.new
+        ≡ raised meter.old (tries_for (C.panel checks.now) id.now (C.number checks.now key.now)
+        (message_of envelope.now) envelope.now.signatures) }
+{
+    let kind = envelope.payload_type.as_str().as_bytes();
+    let body = envelope.payload.as_slice();
+    let (mut kind_digits, mut body_digits) = ([0; MOST_DIGITS], [0; MOST_DIGITS]);
+    let kind_len = decimal_in(kind.len(), &mut kind_digits);
+    let body_len = decimal_in(body.len(), &mut body_digits);
+    let message: [&[u8]; 8] = [b"DSSEv1 ", kind_len, b" ", kind, b" ", body_len, b" ", body];
+    let signatures = envelope.signatures.as_slice();
+    checks.any_valid(key, &message, signatures, id, meter)
+}
+
+/// Whether the key that `id` and `object` name signed the envelope: the key is known, and some
+/// signature is valid for it (DSSE v1.0, "Protocol").
+///
+/// The meter rises by the number of signatures that [`signer_by`] tries. Takes no memory.
+pub fn is_signer<C: Checks>(
+    envelope: &Envelope,
+    id: &str,
+    object: &KeyObject,
+    checks: &C,
+    meter: &mut Meter,
+) -> bool
+    ensures answer { IsTrue result
+        ↔ IsSigner (C.panel checks.now) envelope.now object.now id.now }
+    ensures counted { meter.new
+        ≡ raised meter.old (tries (C.panel checks.now) envelope.now id.now object.now) }
+{
+    signer_by(envelope, id, object, checks, meter).is_some()
+}

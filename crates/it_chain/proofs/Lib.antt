@@ -2,7 +2,6 @@ pub mod AlikePanels
 pub mod Alikes
 pub mod Asking
 pub mod Candidates
-pub mod ClaimedEnvelopes
 pub mod ClaimedFiles
 pub mod ClaimedNames
 pub mod Costing

@@ -18,4 +18,4 @@ pub use pae_output::run_pae;
 pub use payload_output::run_payload;
 pub use sign_onto_output::run_sign_onto;
 pub use sign_output::{put_line, run_sign};
-pub use signed_output::{names_text, run_signed};
+pub use signed_output::{names_text, run_signed, run_signed_by};

@@ -15,10 +15,12 @@ ghost use Rattle.it_commands.specs.inside.SignerNames.{ListsNames};
 
 use crate::no_envelope::no_envelope_output;
 use it_base::text::Text;
+use it_dsse::boxed::Boxed;
 use it_dsse::check::SignatureCheck;
+use it_dsse::checks::Checks;
 use it_dsse::envelope::{Envelope, EnvelopeFault};
 use it_dsse::key_object::KeyObject;
-use it_dsse::signed_ids;
+use it_dsse::signed_ids_by;
 use it_outcome::output::{Output, put};
 use it_outcome::{RunFault, Status};
 use it_report::name::push_name;
@@ -54,53 +56,85 @@ pub fn run_signed<W: Write>(
     ensures memory { IsErrOf result RunFault.OutOfMemory → out.new ≡ out.old }
     ensures faults { IfErr result IsOutputFault }
 {
-    let output = signed_output(alloc, envelope, ids, panel)?;
+    run_signed_by(alloc, envelope, ids, &Boxed { panel }, out)
+}
+
+/// Writes those of `ids` that signed the envelope, in the order given, each on a line of its own,
+/// as a report writes a name. The `checks` are asked with the key object `hmac`, `hmac-sha256` and
+/// an empty public part (DSSE v1.0, "Protocol").
+///
+/// The answer is `Good` where some id signed, and `Refused` otherwise. Where the bytes are not an
+/// envelope, the report of that refusal is written.
+///
+/// # Errors
+///
+/// `Write` where the output could not be written; a beginning of it went out. `OutOfMemory` where
+/// memory was refused; nothing went out.
+pub fn run_signed_by<C: Checks, W: Write>(
+    alloc: Global,
+    envelope: &[u8],
+    ids: &[String],
+    checks: &C,
+    out: &mut W,
+) -> Result<Status, RunFault>
+    ensures ok { IfOk result (λ status. (text : _)
+        × IsSignedOutput (C.panel checks.now) (map string_bytes ids.now)
+        envelope.now text status
+        × Appends (W.contents out.old) (W.contents out.new) text) }
+    ensures write { IsErrOf result RunFault.Write → (text : _) × (status : _)
+        × IsSignedOutput (C.panel checks.now) (map string_bytes ids.now)
+        envelope.now text status
+        × AppendsBeginning (W.contents out.old) (W.contents out.new) text }
+    ensures memory { IsErrOf result RunFault.OutOfMemory → out.new ≡ out.old }
+    ensures faults { IfErr result IsOutputFault }
+{
+    let output = signed_output(alloc, envelope, ids, checks)?;
     put(out, &output)
 }
 
-fn signed_output(
+fn signed_output<C: Checks>(
     alloc: Global,
     bytes: &[u8],
     ids: &[String],
-    panel: &[Box<dyn SignatureCheck>],
+    checks: &C,
 ) -> Result<Output, AllocError>
-    ensures { IfOk result (λ output. IsSignedOutput (panel_of (map meaning panel.now)) (map
+    ensures { IfOk result (λ output. IsSignedOutput (C.panel checks.now) (map
         string_bytes ids.now)
         bytes.now output.text.items output.status) }
 {
     match Envelope::read(alloc, bytes) {
-        Ok(envelope) => signers_output(alloc, &envelope, ids, panel),
+        Ok(envelope) => signers_output(alloc, &envelope, ids, checks),
         Err(EnvelopeFault::BadEnvelope) => no_envelope_output(alloc),
         Err(EnvelopeFault::OutOfMemory) => Err(AllocError),
     }
 }
 
-fn signers_output(
+fn signers_output<C: Checks>(
     alloc: Global,
     envelope: &Envelope,
     ids: &[String],
-    panel: &[Box<dyn SignatureCheck>],
+    checks: &C,
 ) -> Result<Output, AllocError>
-    ensures { IfOk result (λ output. NamesSigners (panel_of (map meaning panel.now)) (map
+    ensures { IfOk result (λ output. NamesSigners (C.panel checks.now) (map
         string_bytes ids.now)
         envelope.now output.text.items output.status) }
 {
-    let signers = signers(alloc, envelope, ids, panel)?;
+    let signers = signers(alloc, envelope, ids, checks)?;
     names_output(alloc, signers.as_slice())
 }
 
-fn signers(
+fn signers<C: Checks>(
     alloc: Global,
     envelope: &Envelope,
     ids: &[String],
-    panel: &[Box<dyn SignatureCheck>],
+    checks: &C,
 ) -> Result<Vec<String>, AllocError>
     ensures { IfOk result (λ signers. AreThose
-        (IsSigner (panel_of (map meaning panel.now)) envelope.now ring_object)
+        (IsSigner (C.panel checks.now) envelope.now ring_object)
         (map string_bytes ids.now) (map string_bytes signers.items)) }
 {
     let object = ring_object(alloc)?;
-    signed_ids(alloc, envelope, ids, &object, panel)
+    signed_ids_by(alloc, envelope, ids, &object, checks)
 }
 
 fn ring_object(alloc: Global) -> Result<KeyObject, AllocError>

@@ -6,12 +6,12 @@ ghost use Rattle.it_dsse.specs.Ring.{ring_check};
 ghost use Rattle.it_commands.specs.SignedOutput.{IsSignedOutput};
 ghost use Rattle.it_file_commands.specs.Commands.{ShowsKeySigners, ShowsRingSigners, ShowsSigners};
 
-use it_commands::run_signed;
+use it_commands::run_signed_by;
 use it_disk::{Disk, Fault, read_keys, read_ring};
-use it_dsse::check::SignatureCheck;
 use it_dsse::ring::HmacRing;
 use it_key_commands::run_signed_by_keys;
 use it_outcome::{RunFault, Status};
+use it_public_keys::own_checks::OwnChecks;
 use it_words::words::signed_words::{SignedBy, SignedWords};
 use std::alloc::Global;
 use std::io::Write;
@@ -71,8 +71,11 @@ fn show_by<W: Write>(
         × Appends (W.contents out.old) (W.contents out.new) text) }
     ensures nothing { IfErr result (λ fault. fault ≢ Fault.Run RunFault.Write → out.new ≡ out.old) }
 {
-    let panel: [Box<dyn SignatureCheck>; 1] = [Box::new(alloc, ring)?];
-    Ok(run_signed(alloc, envelope, ids, &panel, out)?)
+    let checks = OwnChecks {
+        rings: vec![in alloc; ring]?,
+        public_keys: false,
+    };
+    Ok(run_signed_by(alloc, envelope, ids, &checks, out)?)
 }
 
 /// Reads the public keys, and writes the ids of those that signed the envelope.

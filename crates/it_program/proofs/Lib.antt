@@ -1,2 +1,1 @@
-pub mod AnyTable
 pub mod Stopping

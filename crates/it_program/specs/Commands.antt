@@ -1,5 +1,5 @@
 -- What the commands write and find, by their words and by what is at the paths in them.
-use Rattle.std.specs.Prelude.{ℕ, List, Bool, true, false, Option}
+use Rattle.std.specs.Prelude.{ℕ, List, Bool, true, false}
 use Rattle.std.specs.List.{AllZip}
 use Rattle.it_dsse.specs.Panel.{panel_of}
 use Rattle.it_dsse.specs.declared.ring_entry.RingEntry.{RingEntry}
@@ -7,9 +7,7 @@ use Rattle.it_commands.specs.MatchOutput.{IsMatchOutput}
 use Rattle.it_json_report.specs.declared.form.ReportForm.{ReportForm}
 use Rattle.it_json_report.specs.declared.form.ReportForm.TheVariants.{Lines, Json}
 use Rattle.it_notes.specs.VerifyOutputIn.{IsVerifyOutputIn}
-use Rattle.it_public_keys.specs.AnyCheck.{checks_of}
-use Rattle.it_public_keys.specs.Collected.{IsTableFor}
-use Rattle.it_public_keys.specs.Keys.{Keys}
+use Rattle.it_public_keys.specs.OwnChecks.{own_checks}
 use Rattle.it_verify.specs.declared.inputs.Inputs.{Inputs}
 use Rattle.it_outcome.specs.declared.outcome.Status.{Status}
 use Rattle.it_words.specs.declared.words.Words.{Words}
@@ -21,7 +19,6 @@ use Rattle.it_file_commands.specs.Commands.{Encodes, ListsDigests, MakesKeys, Ma
 use Rattle.it_file_commands.specs.Commands.{MakesStatement, ShowsPayload, ShowsSigners}
 use Rattle.it_file_commands.specs.Commands.{SignsAsAsked}
 use Rattle.it_program.specs.Inputs.{AreInputs}
-use Rattle.it_program.specs.Sources.{sources_in}
 
 -- the form that is asked for
 abbrev pub form_asked : Bool → ReportForm
@@ -29,18 +26,15 @@ form_asked false = Lines
 form_asked true = Json
 
 -- verify: the output of verifying the inputs, checked by the rings in the order of the words, and
--- then, where they are asked for, by a table of all public keys that could be asked for; there is
--- such a table then, and the output is the same with any
+-- then, where they are asked for, by public keys
 pub record Verifies (disk : Holdings) (words : VerifyWords) (text : List ℕ)
     (status : Status) : Type 0 where
   pub inputs : Inputs
   pub are_inputs : AreInputs disk words inputs
   pub rings : List (List RingEntry)
   pub holds_rings : AllZip (HoldsRing disk) words.rings rings
-  pub table : Option Keys
-  pub is_table : IsTableFor words.public_keys (sources_in inputs rings) table
-  pub is_output : (any : Option Keys) → IsTableFor words.public_keys (sources_in inputs rings) any
-      → IsVerifyOutputIn (form_asked words.json) (panel_of (checks_of rings any)) inputs text status
+  pub is_output : IsVerifyOutputIn (form_asked words.json)
+      (panel_of (own_checks rings words.public_keys)) inputs text status
 
 -- what a command writes and finds
 abbrev pub IsOutputOf : Holdings → Words → List ℕ → Status → Type 0

@@ -12,7 +12,6 @@
 #![tactic(auto)]
 
 mod command_line;
-pub mod laws;
 mod running;
 mod status;
 mod verify_command;

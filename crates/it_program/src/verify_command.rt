@@ -1,16 +1,11 @@
 //! `itv verify`: whether delivered files were made as the owners prescribed.
-ghost use Rattle.std.specs.Prelude.{◌≡◌, ◌≢◌, ◌≤◌, IfErr, IfOk, IsTrue, OnOk, map};
+ghost use Rattle.std.specs.Prelude.{◌≡◌, ◌≢◌, ◌≤◌, IfErr, IfOk, IsTrue, OnOk};
 ghost use Rattle.std.specs.Io.KnownBytes.{Appends};
 ghost use Rattle.std.specs.List.{AllZip};
-ghost use Rattle.it_dsse.specs.Panel.{panel_of};
-ghost use Rattle.it_public_keys.specs.AnyCheck.{check_of};
-ghost use Rattle.it_public_keys.specs.Collected.{IsTableFor};
-ghost use Rattle.it_notes.specs.VerifyOutputIn.{IsVerifyOutputIn};
 ghost use Rattle.it_program.specs.Commands.{Verifies, form_asked};
 ghost use Rattle.it_limits.specs.Limit.{IsWithinLimit};
 ghost use Rattle.it_disk.specs.Reading.{AreLimited, HoldsIfGiven, HoldsRing};
 ghost use Rattle.it_program.specs.Inputs.{AreInputs, HoldsLookedAt};
-ghost use Rattle.it_program.specs.Sources.{sources_in};
 
 use it_base::sequence::Sequence;
 use it_base::text::Text;
@@ -18,22 +13,19 @@ use it_chain::bundle::Bundle;
 use it_disk::{
     Disk, Fault, LeftOut, TooMany, bytes, bytes_if_given, note_left_out, read_ring, too_many,
 };
-use it_dsse::check::SignatureCheck;
 use it_dsse::ring::HmacRing;
 use it_json_report::form::ReportForm;
 use it_limits::lines_within_limit;
 use it_notes::verify_with_notes::verify_with_notes;
 use it_outcome::{RunFault, Status};
-use it_public_keys::any_check::{AnyCheck, checks_of};
-use it_public_keys::sources::Sources;
-use it_public_keys::{PublicKeys, table_if};
+use it_public_keys::own_checks::OwnChecks;
 use it_verify::inputs::Inputs;
 use it_words::words::verify_words::VerifyWords;
-use std::alloc::{AllocError, Global};
+use std::alloc::Global;
 use std::io::Write;
 
-/// Reads all files and folders and the rings, makes the table of public keys where they are asked
-/// for, notes what is left out, and writes the report of the verdict and then the notes on it.
+/// Reads all files and folders and the rings, notes what is left out, and writes the report of the
+/// verdict and then the notes on it.
 pub(crate) fn run<R: Disk + AllocGlobal, W: Write, N: Write>(
     rt: &R,
     words: &VerifyWords,
@@ -49,11 +41,13 @@ pub(crate) fn run<R: Disk + AllocGlobal, W: Write, N: Write>(
     let mut left_out = Vec::new(alloc);
     let inputs = inputs(rt, words, &mut left_out)?;
     let rings = read_rings(rt, words.rings.as_slice())?;
-    let table = table_for(alloc, words, &inputs, rings.as_slice())?;
-    let checks = checks_of(alloc, rings, table)?;
+    let checks = OwnChecks {
+        rings,
+        public_keys: words.public_keys,
+    };
     let form = form_asked(words.json);
     note_left_out(alloc, left_out.as_slice(), notes);
-    Ok(verify_by(alloc, &inputs, checks, form, out, notes)?)
+    Ok(verify_with_notes(alloc, &inputs, &checks, form, out, notes)?)
 }
 
 /// The form that is asked for.
@@ -65,51 +59,6 @@ fn form_asked(json: bool) -> ReportForm
     } else {
         ReportForm::Lines
     }
-}
-
-/// The table of all public keys that the verification could ask for alongside the rings, where
-/// public keys are asked for.
-fn table_for(
-    alloc: Global,
-    words: &VerifyWords,
-    inputs: &Inputs,
-    rings: &[HmacRing],
-) -> Result<Option<PublicKeys>, AllocError>
-    ensures { IfOk result
-        (IsTableFor words.now.public_keys (sources_in inputs.now rings.now)) }
-{
-    let sources = Sources {
-        policy: inputs.policy.as_slice(),
-        layout: inputs.layout.as_slice(),
-        links: &inputs.links,
-        depth: inputs.depth,
-        rings,
-    };
-    table_if(alloc, words.public_keys, &sources)
-}
-
-/// Writes the report of the verdict on the inputs, and then the notes on it, with signatures
-/// checked by `checks`.
-fn verify_by<W: Write, N: Write>(
-    alloc: Global,
-    inputs: &Inputs,
-    checks: Vec<AnyCheck>,
-    form: ReportForm,
-    out: &mut W,
-    notes: &mut N,
-) -> Result<Status, Fault>
-    requires { inputs.now.depth ≤ 8 }
-    ensures ok { IfOk result (λ status. (text : _)
-        × IsVerifyOutputIn form (panel_of (map check_of checks.items)) inputs.now text status
-        × Appends (W.contents out.old) (W.contents out.new) text) }
-    ensures nothing { IfErr result (λ fault. fault ≢ Fault.Run RunFault.Write → out.new ≡ out.old) }
-{
-    let mut panel: Vec<Box<dyn SignatureCheck>> = Vec::new(alloc);
-    for check in checks {
-        panel.push(Box::new(alloc, check)?)?;
-    }
-    let panel = panel.as_slice();
-    Ok(verify_with_notes(alloc, inputs, panel, form, out, notes)?)
 }
 
 /// The rings at the paths, in their order.

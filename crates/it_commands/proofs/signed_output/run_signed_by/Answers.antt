@@ -1,4 +1,4 @@
-use Rattle.it_commands.proofs.signed_output.run_signed.Goals as goal
+use Rattle.it_commands.proofs.signed_output.run_signed_by.Goals as goal
 
 pub returns-clause-write : goal.returns-clause-write
 returns-clause-write g c = λ fault. (

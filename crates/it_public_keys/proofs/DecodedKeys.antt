@@ -96,7 +96,7 @@ p256_all info key is e =
 coordinate : (x : ℕ) → x < prime → big (big_bytes 32 x) ≡ x
 coordinate x below = let fits : x < 2 ^ (8 * 32) = omega arith in big-bytes 32 x fits
 
-front : (xs ys : List ℕ) (n : ℕ) → length xs ≡ n → take n (xs ++ ys) ≡ xs
+pub front : (xs ys : List ℕ) (n : ℕ) → length xs ≡ n → take n (xs ++ ys) ≡ xs
 front xs ys n long = take-append-le n xs ys (omega arith) ∙ take_all n xs (omega arith)
 
 rest : (xs ys : List ℕ) (n : ℕ) → length xs ≡ n → drop n (xs ++ ys) ≡ ys
@@ -184,9 +184,9 @@ key_if_so : (test : Bool) (found key : Key) → test ≡ true → found ≡ key
     → key_if test found ≡ Some key
 key_if_so test found key e same = rw (e, same) refl
 
-key_if_not : (test : Bool) (found : Key) → ¬ test ≡ true → None ≡ key_if test found
-key_if_not true found no = absurd (no refl)
-key_if_not false found no = refl
+key_if_not : (test : Bool) (found : Key) → (test ≡ true → ⊥) → None ≡ key_if test found
+key_if_not true found fails = absurd (fails refl)
+key_if_not false found fails = refl
 
 -- each key is decoded from its bytes
 pub ed25519_there : (bytes : List ℕ) → IsPublicKey bytes
@@ -210,20 +210,20 @@ rsa_there info key is same =
 
 -- and no other bytes are decoded
 pub ed25519_missing : (bytes : List ℕ) → ¬ IsPublicKey bytes → None ≡ ed25519_key bytes
-ed25519_missing bytes no =
-    key_if_not (is_ed25519_key bytes) (Ed25519 bytes) (λ e. no (ed_sound bytes e))
+ed25519_missing bytes none =
+    key_if_not (is_ed25519_key bytes) (Ed25519 bytes) (λ e. none (ed_sound bytes e))
 
 pub p256_missing : (info : List ℕ)
     → ((key : P256Key) → IsP256Key key → info ≡ p256_info key → ⊥) → None ≡ p256_key info
-p256_missing info no =
+p256_missing info none =
     key_if_not (is_p256_key info (coordinates_in info)) (P256 (coordinates_in info))
-    (λ e. (let is = p256_sound info (coordinates_in info) e in no (coordinates_in info) is.0 is.1))
+    (λ e. (let is = p256_sound info (coordinates_in info) e in none (coordinates_in info) is.0 is.1))
 
 pub rsa_missing : (info : List ℕ)
     → ((key : RsaKey) → IsRsaKey key → info ≡ rsa_info key → ⊥) → None ≡ rsa_key info
-rsa_missing info no =
+rsa_missing info none =
     key_if_not (is_rsa_key info (numbers_in info)) (Rsa (numbers_in info))
-    (λ e. (let is = rsa_sound info (numbers_in info) e in no (numbers_in info) is.0 is.1))
+    (λ e. (let is = rsa_sound info (numbers_in info) e in none (numbers_in info) is.0 is.1))
 
 -- what is decoded is a key, of these bytes
 pub record IsEd25519 (bytes : List ℕ) (key : Key) : Type 0 where

@@ -1,8 +1,7 @@
 -- The keys that bytes encode.
-use Rattle.std.proofs.Common.{◌≡◌, ◌∙◌, ◌↔◌, ℕ, ◌+◌, ◌-◌, ◌*◌, ◌%◌, ◌^◌, ◌<◌, ◌≤◌, ◌&&◌, List, ◌∷◌}
+use Rattle.std.proofs.Common.{◌≡◌, ◌∙◌, ℕ, ◌+◌, ◌-◌, ◌*◌, ◌%◌, ◌^◌, ◌<◌, ◌≤◌, ◌&&◌, List, ◌∷◌}
 use Rattle.std.proofs.Common.{◌++◌, Bool, true, false, not, Option, Some, None, option_map, unwrap_or}
-use Rattle.std.proofs.Common.{arith, ap, length, take, drop, get_or, nat_eq, nat_lt, nat_le, refl, sym}
-use Rattle.std.proofs.Common.{subst}
+use Rattle.std.proofs.Common.{arith, ap, length, take, drop, get_or, nat_eq, nat_lt, nat_le, refl}
 use Rattle.std.specs.Str.{bytes_eq}
 use Rattle.std.proofs.lemmas.Bool.{ltb-true, leb-true}
 use Rattle.std.proofs.lemmas.Bool.Decides.{Decides-eqb, nat_tests}

@@ -1,5 +1,5 @@
 -- Names of keys.
-use Rattle.std.proofs.Common.{◌≡◌, ℕ, ◌+◌, ◌≤◌, List, ◌++◌, arith, ap, length, length-append, refl}
+use Rattle.std.proofs.Common.{◌≡◌, ◌+◌, ◌≤◌, ◌++◌, arith, ap, length, length-append, refl}
 use Rattle.it_numbers.specs.Bytes.{big_bytes}
 use Rattle.it_p256.specs.Key.{Key as P256Key, info_of as p256_info, info_prefix}
 use Rattle.it_p256.proofs.Infos.{both_long, same_key as same_p256}

@@ -1,12 +1,9 @@
 -- The ids of the keys that signed a message, one after another.
-use Rattle.std.proofs.Common.{◌≡◌, ◌∙◌, ◌↔◌, ◌++◌, ◌≢◌, ℕ, List, [], ◌∷◌, Contains, map, refl, sym}
-use Rattle.std.proofs.Common.{ap, subst, append-nil, append_assoc, Some}
-use Rattle.std.specs.FinMap.{entries, get}
+use Rattle.std.proofs.Common.{◌≡◌, ◌∙◌, ◌↔◌, ◌++◌, ◌≢◌, ℕ, List, [], ◌∷◌, map, refl, sym}
+use Rattle.std.proofs.Common.{ap, subst, append-nil, append_assoc}
+use Rattle.std.specs.FinMap.{entries}
 use Rattle.std.proofs.lemmas.List.{map-append}
-use Rattle.std.proofs.lemmas.List.Elements.{Contains-append_right}
 use Rattle.it_base.specs.Table.{Named}
-use Rattle.it_base.proofs.Members.{in_head}
-use Rattle.it_chain.proofs.Entries.{entry_known}
 use Rattle.it_dsse.specs.Signed.{AreThose, message_of}
 use Rattle.it_dsse.specs.declared.envelope.Envelope.{Envelope}
 use Rattle.it_dsse.specs.declared.envelope.Signature.{Signature}
@@ -45,15 +42,6 @@ module _ (objects : Named KeyObject) (message : List ℕ) (signatures : List Sig
     are_those = refl;
     names_are = refl;
   }
-
-  -- the next object is one of the table's
-  pub known_here : (entry : Entry) (left : List Entry) (names : List (List ℕ))
-      → AreNamesSoFar objects message signatures (entry ∷ left) names
-      → get objects entry.0 ≡ Some entry.1
-  known_here entry left names so_far =
-      entry_known objects entry
-      (subst (λ all. Contains all entry) so_far.whole
-      (Contains-append_right so_far.seen (entry ∷ left) entry (in_head entry left)))
 
   moved : (entry : Entry) (left : List Entry) (names : List (List ℕ))
       → (so_far : AreNamesSoFar objects message signatures (entry ∷ left) names)

@@ -12,7 +12,6 @@ use it_dsse::envelope::Signature;
 use it_dsse::key_object::KeyObject;
 use it_dsse::pae;
 use it_outcome::RunFault;
-use it_public_keys::PublicKeys;
 use std::alloc::{AllocError, Global};
 
 /// A signature that was made elsewhere, with its body and its key's id.
@@ -40,9 +39,8 @@ impl MadeSignature<'_> {
         let Some(object) = objects.get(self.id) else {
             return Err(KeyFault::UnknownId);
         };
-        let keys = PublicKeys::of(alloc, objects)?;
         let message = pae(alloc, self.kind, self.body)?;
-        check_signature(&keys, object, message.as_slice(), self.signature)
+        check_signature(object, message.as_slice(), self.signature)
     }
 
     /// The signature as an envelope holds it.

@@ -6,8 +6,6 @@ ghost use Rattle.it_dsse.specs.Signed.{message_of};
 ghost use Rattle.it_key_commands.specs.SignedByKeysOutput.{IsSignedByKeysOutput, NamesKeySigners};
 ghost use Rattle.it_key_commands.specs.inside.SignerNames.{AreSignerNames};
 ghost use Rattle.it_outcome.specs.Outcome.{IsOutputFault};
-ghost use Rattle.it_public_keys.specs.Collected.{HoldsKeys};
-ghost use Rattle.it_public_keys.specs.KeyTable.{IsKeyTable};
 
 use crate::signer::is_signed_under;
 use it_base::table::Table;
@@ -17,7 +15,6 @@ use it_dsse::key_object::KeyObject;
 use it_dsse::pae;
 use it_outcome::output::{Output, put};
 use it_outcome::{RunFault, Status};
-use it_public_keys::PublicKeys;
 use std::alloc::{AllocError, Global};
 use std::io::Write;
 
@@ -103,28 +100,24 @@ fn signer_names(
 {
     let kind = envelope.payload_type.as_str();
     let message = pae(alloc, kind, envelope.payload.as_slice())?;
-    let keys = PublicKeys::of(alloc, objects)?;
     let signatures = envelope.signatures.as_slice();
-    names_of(alloc, &keys, objects, message.as_slice(), signatures)
+    names_of(alloc, objects, message.as_slice(), signatures)
 }
 
-/// The ids of the objects whose keys signed a message. The table holds the keys.
+/// The ids of the objects whose keys signed a message.
 fn names_of(
     alloc: Global,
-    keys: &PublicKeys,
     objects: &Table<KeyObject>,
     message: &[u8],
     signatures: &[Signature],
 ) -> Result<Vec<String>, AllocError>
-    requires table { IsKeyTable keys.now }
-    requires held { HoldsKeys keys.now objects.now }
     ensures { IfOk result (λ names. AreSignerNames objects.now message.now signatures.now
         (map string_bytes names.items)) }
 {
     let mut names = Vec::new(alloc);
     for (id, object) in objects.iter() {
         let text = id.as_str();
-        if is_signed_under(keys, text, object, message, signatures) {
+        if is_signed_under(text, object, message, signatures) {
             names.push(String::from_str(alloc, text)?)?;
         }
     }

@@ -2,8 +2,8 @@
 //! contract says what was proved.
 ghost use Rattle.it_key_notes.specs.Laws.{AskedKeysAreKnown};
 
-/// Where a table of public keys has the key that an object describes, there is no note on the
-/// object: that public keys should be checked is said only where no check knows the object.
+/// Where public keys are checked, there is no note on an object that describes one: that they
+/// should be checked is said only where no check knows the object.
 pub fn asked_keys_are_known()
     ensures { AskedKeysAreKnown }
 {}

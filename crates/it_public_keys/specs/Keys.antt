@@ -10,10 +10,6 @@ use Rattle.it_rsa.specs.Signature.{IsSignature as IsRsaSignature}
 use Rattle.it_public_keys.specs.declared.key.Key.{Key}
 use Rattle.it_public_keys.specs.declared.key.Key.TheVariants.{Ed25519, P256, Rsa}
 
--- keys in the order of their numbers
-abbrev pub Keys : Type 0
-Keys = List Key
-
 -- what its kind takes as a key
 abbrev pub IsKey : Key → Type 0
 IsKey (Ed25519 bytes) = IsPublicKey bytes

@@ -2,7 +2,7 @@ use Rattle.std.proofs.Common.{◌≡◌, ◌∷◌, ◌∙◌, true, map, string
 use Rattle.std.proofs.lemmas.List.{map-append}
 use Rattle.it_base.specs.Table.{named_entries}
 use Rattle.it_key_commands.specs.Signers.{SignedUnder}
-use Rattle.it_key_commands.proofs.Naming.{AreNamesSoFar, Entry, known_here, name_more, names_done}
+use Rattle.it_key_commands.proofs.Naming.{AreNamesSoFar, Entry, name_more, names_done}
 use Rattle.it_key_commands.proofs.Naming.{names_start, pass_more}
 use Rattle.it_key_commands.proofs.signed_by_keys_output.names_of.Goals as goal
 
@@ -12,19 +12,6 @@ loop-id-init c =
     (names_start c.args.objects.now c.args.message.now c.args.signatures.now
     (named_entries c.into_iter-id-iterator.result)
     (ap named_entries c.into_iter-id-iterator.ensures.into_iter_gives ∙ c.iter-id-items.ensures))
-
-pub is_signed_under-requires-clause-held : goal.is_signed_under-requires-clause-held
-is_signed_under-requires-clause-held c =
-    let at = c.loop-id in
-    let entry : Entry = (string_bytes c.in-Some.id.now, c.in-Some.object.now) in
-    let left = named_entries c.next.new.self in
-    let steps : named_entries at.id-iterator ≡ entry ∷ left =
-    ap named_entries c.in-Some.ensures.steps in
-    let names = map string_bytes at.names.items in
-    c.requires.held entry.0 entry.1
-    (known_here c.args.objects.now c.args.message.now c.args.signatures.now entry left names
-    (subst (λ rest. AreNamesSoFar c.args.objects.now c.args.message.now c.args.signatures.now rest
-    names) steps at.invariant))
 
 pub loop-id-preserved-in_ok-push : goal.loop-id-preserved-in_ok-push
 loop-id-preserved-in_ok-push c =

@@ -1,30 +1,27 @@
-use Rattle.std.proofs.Common.{◌∙◌, [], append-nil, ap, sym}
-use Rattle.it_public_keys.specs.KeyTable.{key_check}
-use Rattle.it_key_commands.proofs.Checked.{keyless, known, refused_by_table, valid_by_table}
+use Rattle.std.proofs.Common.{◌∙◌, append-nil, ap, sym}
+use Rattle.it_public_keys.specs.Validity.{is_signature_of}
+use Rattle.it_key_commands.proofs.Checked.{found, keyless, refused_by_key, valid_by_key}
 use Rattle.it_key_commands.proofs.signer.check_signature.Goals as goal
 
 pub returns-in_default-clause-err : goal.returns-in_default-clause-err
-returns-in_default-clause-err c =
-    keyless c.args.keys.now [] c.args.object.now c.requires.held c.in_default.ensures
+returns-in_default-clause-err c = keyless c.args.object.now c.in_default.ensures
 
-pub returns-then-valid-clause-ok : goal.returns-then-valid-clause-ok
-returns-then-valid-clause-ok c =
-    let keys = c.args.keys.now in
-    let n = c.in-Some.key in
-    let found = known keys [] c.args.object.now n c.requires.table c.in-Some.ensures in
-    let answer = c.valid.ensures.answer
-    ∙ ap (λ message. (key_check keys).is_valid n message c.args.signature.now)
+pub returns-then-is_signature-clause-ok : goal.returns-then-is_signature-clause-ok
+returns-then-is_signature-clause-ok c =
+    let object = c.args.object.now in
+    let key = c.in-Some.key in
+    let answer = c.is_signature.ensures
+    ∙ ap (λ message. is_signature_of key message c.args.signature.now)
     (append-nil c.args.message.now) in
-    (valid_by_table keys c.args.object.now n found.0 c.args.message.now c.args.signature.now
-    found.1 found.2).0 (sym answer ∙ c.if-valid.true)
+    (valid_by_key object key (found object key c.in-Some.ensures) c.args.message.now
+    c.args.signature.now).0 (sym answer ∙ c.if-is_signature.true)
 
-pub returns-else-valid-clause-err : goal.returns-else-valid-clause-err
-returns-else-valid-clause-err c =
-    let keys = c.args.keys.now in
-    let n = c.in-Some.key in
-    let found = known keys [] c.args.object.now n c.requires.table c.in-Some.ensures in
-    let answer = c.valid.ensures.answer
-    ∙ ap (λ message. (key_check keys).is_valid n message c.args.signature.now)
+pub returns-else-is_signature-clause-err : goal.returns-else-is_signature-clause-err
+returns-else-is_signature-clause-err c =
+    let object = c.args.object.now in
+    let key = c.in-Some.key in
+    let answer = c.is_signature.ensures
+    ∙ ap (λ message. is_signature_of key message c.args.signature.now)
     (append-nil c.args.message.now) in
-    refused_by_table keys c.args.object.now n found.0 c.args.message.now c.args.signature.now
-    found.1 found.2 (sym answer ∙ c.if-valid.false)
+    refused_by_key object key (found object key c.in-Some.ensures) c.args.message.now
+    c.args.signature.now (sym answer ∙ c.if-is_signature.false)

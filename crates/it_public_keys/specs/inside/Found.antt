@@ -1,0 +1,17 @@
+-- Keys that were found.
+use Rattle.std.specs.Prelude.{◌≡◌, ◌<◌, true, length}
+use Rattle.it_dsse.specs.Panel.{KeyNumber}
+use Rattle.it_public_keys.specs.NamedKeys.{number_of}
+use Rattle.it_public_keys.specs.declared.own_checks.OwnChecks.{OwnChecks}
+use Rattle.it_public_keys.specs.declared.own_checks.OwnKey.{OwnKey}
+use Rattle.it_public_keys.specs.declared.own_checks.OwnKey.TheVariants.{Ring, Public}
+
+-- the number of a key in the panel
+abbrev pub found_number : OwnChecks → OwnKey → KeyNumber
+found_number checks (Ring place number) = (place, number)
+found_number checks (Public key) = (length checks.rings.items, number_of key)
+
+-- the key was found by these checks
+abbrev pub Stands : OwnChecks → OwnKey → Type 0
+Stands checks (Ring place number) = place < length checks.rings.items
+Stands checks (Public key) = checks.public_keys ≡ true

@@ -1,0 +1,79 @@
+//! The checks of a command: rings of secrets, and public keys.
+ghost use Rattle.it_dsse.specs.Panel.{panel_of};
+
+use crate::named_key::{NamedKey, key_of};
+use crate::rings::{any_valid, key_in};
+use it_dsse::checks::Checks;
+use it_dsse::envelope::Signature;
+use it_dsse::key_name::KeyName;
+use it_dsse::key_object::KeyObject;
+use it_dsse::meter::Meter;
+use it_dsse::ring::HmacRing;
+
+/// The checks of a command: its rings, in order, and after them that of public keys, where it is
+/// asked for.
+#[derive(Drop)]
+pub struct OwnChecks {
+    /// The rings.
+    pub rings: Vec<HmacRing>,
+    /// Whether public keys are known.
+    pub public_keys: bool,
+}
+
+/// A key that was found.
+#[derive(Drop)]
+pub enum OwnKey {
+    /// That of a ring, by the ring's place and the key's number there.
+    Ring(usize, u32),
+    /// A public key.
+    Public(NamedKey),
+}
+
+impl Checks for OwnChecks {
+    type Found = OwnKey;
+
+    ghost use Rattle.it_public_keys.specs.OwnChecks.{own_checks};
+    ghost use Rattle.it_public_keys.specs.inside.Found.{found_number, Stands};
+
+    ghost panel = { λ s. panel_of (own_checks s.rings.items s.public_keys) };
+
+    ghost number = { found_number };
+
+    ghost stands = { Stands };
+
+    fn find(&self, id: &str, object: &KeyObject) -> Option<OwnKey> {
+        if let Some((place, number)) = key_in(self.rings.as_slice(), id, object) {
+            return Some(OwnKey::Ring(place, number));
+        }
+        if !self.public_keys {
+            return None;
+        }
+        match key_of(object) {
+            Some(key) => Some(OwnKey::Public(key)),
+            None => None,
+        }
+    }
+
+    fn any_valid(
+        &self,
+        key: &OwnKey,
+        message: &[&[u8]],
+        signatures: &[Signature],
+        id: &str,
+        meter: &mut Meter,
+    ) -> bool {
+        match key {
+            OwnKey::Ring(place, number) => {
+                any_valid(&self.rings[*place], *number, message, signatures, id, meter)
+            }
+            OwnKey::Public(key) => key.any_valid(message, signatures, id, meter),
+        }
+    }
+
+    fn name(&self, key: &OwnKey) -> KeyName {
+        match key {
+            OwnKey::Ring(place, number) => KeyName::numbered(*place, *number),
+            OwnKey::Public(key) => key.name(self.rings.len()),
+        }
+    }
+}

@@ -1,12 +1,11 @@
 //! The layout that a refusal is about.
-ghost use Rattle.std.specs.Prelude.{IfOk, IfSome, map};
-ghost use Rattle.it_dsse.specs.Panel.{panel_of};
+ghost use Rattle.std.specs.Prelude.{IfOk, IfSome};
 ghost use Rattle.it_notes.specs.Level.{IsBelow, IsLevel, IsTop, LeadsTo};
 
 use crate::reading::moment_in;
 use it_base::text::Text;
 use it_chain::bundle::Bundle;
-use it_dsse::check::SignatureCheck;
+use it_dsse::checks::Checks;
 use it_step_notes::signed_layout::SignedLayout;
 use it_step_notes::sublayout::sublayout_at;
 use it_verify::inputs::Inputs;
@@ -25,19 +24,19 @@ pub struct FaultLevel<'a> {
 
 /// The layout to which the places lead down from the given one, or `None` where they lead to none,
 /// or the folder of one is missing.
-pub(crate) fn level_at<'a>(
+pub(crate) fn level_at<'a, C: Checks>(
     alloc: Global,
     inputs: &'a Inputs,
     at: &[(Text, Text)],
-    panel: &[Box<dyn SignatureCheck>],
+    checks: &C,
 ) -> Result<Option<FaultLevel<'a>>, AllocError>
     ensures { IfOk result (λ found. IfSome found
-        (IsLevel (panel_of (map meaning panel.now)) inputs.now at.now)) }
+        (IsLevel (C.panel checks.now) inputs.now at.now)) }
 {
     let Some(top) = top_level(alloc, inputs)? else {
         return Ok(None);
     };
-    level_below(alloc, top, at, panel)
+    level_below(alloc, top, at, checks)
 }
 
 /// The outermost layout.
@@ -58,35 +57,35 @@ fn top_level<'a>(alloc: Global, inputs: &'a Inputs) -> Result<Option<FaultLevel<
 }
 
 /// The layout that the places lead down to.
-fn level_below<'a>(
+fn level_below<'a, C: Checks>(
     alloc: Global,
     level: FaultLevel<'a>,
     at: &[(Text, Text)],
-    panel: &[Box<dyn SignatureCheck>],
+    checks: &C,
 ) -> Result<Option<FaultLevel<'a>>, AllocError>
     ensures { IfOk result (λ found. IfSome found
-        (LeadsTo (panel_of (map meaning panel.now)) level.entry at.now)) }
+        (LeadsTo (C.panel checks.now) level.entry at.now)) }
 {
     let Some((place, rest)) = at.split_first() else {
         return Ok(Some(level));
     };
-    let Some(next) = next_level(alloc, &level, place, panel)? else {
+    let Some(next) = next_level(alloc, &level, place, checks)? else {
         return Ok(None);
     };
-    level_below(alloc, next, rest, panel)
+    level_below(alloc, next, rest, checks)
 }
 
 /// The sublayout at a place.
-fn next_level<'a>(
+fn next_level<'a, C: Checks>(
     alloc: Global,
     level: &FaultLevel<'a>,
     place: &(Text, Text),
-    panel: &[Box<dyn SignatureCheck>],
+    checks: &C,
 ) -> Result<Option<FaultLevel<'a>>, AllocError>
     ensures { IfOk result (λ found. IfSome found
-        (IsBelow (panel_of (map meaning panel.now)) level.now place.now)) }
+        (IsBelow (C.panel checks.now) level.now place.now)) }
 {
-    let Some(below) = sublayout_at(alloc, &level.signed.layout, level.links, place, panel)? else {
+    let Some(below) = sublayout_at(alloc, &level.signed.layout, level.links, place, checks)? else {
         return Ok(None);
     };
     let Some(links) = below.folder else {

@@ -1,6 +1,5 @@
 //! The key objects that a refusal depends on and no check knows.
-ghost use Rattle.std.specs.Prelude.{All, IfOk, map};
-ghost use Rattle.it_dsse.specs.Panel.{panel_of};
+ghost use Rattle.std.specs.Prelude.{All, IfOk};
 ghost use Rattle.it_notes.specs.KeyNotes.{IsOfBuilder, IsOfOwner, IsOfStep, TellsKey};
 
 use crate::fault_level::level_at;
@@ -8,7 +7,7 @@ use crate::provenance::speaking;
 use crate::reading::policy_in;
 use crate::steps::step_named;
 use it_base::text::Text;
-use it_dsse::check::SignatureCheck;
+use it_dsse::checks::Checks;
 use it_key_notes::unknown_key::UnknownKey;
 use it_key_notes::{unknown_in, unknown_of_builders, unknown_under};
 use it_report::refusal::{Fault, Refusal};
@@ -17,72 +16,72 @@ use std::alloc::{AllocError, Global};
 
 /// Notes on the key objects that a refusal depends on and no check knows: the owners', those of the
 /// step for which too few keys signed, or those of the expected builders.
-pub(crate) fn key_notes(
+pub(crate) fn key_notes<C: Checks>(
     alloc: Global,
     inputs: &Inputs,
     refusal: &Refusal,
-    panel: &[Box<dyn SignatureCheck>],
+    checks: &C,
 ) -> Result<Vec<UnknownKey>, AllocError>
-    ensures { IfOk result (λ notes. All (TellsKey (panel_of (map meaning panel.now)) inputs.now
+    ensures { IfOk result (λ notes. All (TellsKey (C.panel checks.now) inputs.now
         refusal.now.at refusal.now.fault) notes.items) }
 {
     match &refusal.fault {
-        Fault::OwnerMissing(_) => owner_keys(alloc, inputs, panel),
+        Fault::OwnerMissing(_) => owner_keys(alloc, inputs, checks),
         Fault::Threshold { step, .. } => {
-            step_keys(alloc, inputs, refusal.at.as_slice(), step.as_str(), panel)
+            step_keys(alloc, inputs, refusal.at.as_slice(), step.as_str(), checks)
         }
-        Fault::NoProvenance(path, _) => builder_keys(alloc, inputs, path.as_str(), panel),
+        Fault::NoProvenance(path, _) => builder_keys(alloc, inputs, path.as_str(), checks),
         _ => Ok(Vec::new(alloc)),
     }
 }
 
 /// Those of the policy's owners.
-fn owner_keys(
+fn owner_keys<C: Checks>(
     alloc: Global,
     inputs: &Inputs,
-    panel: &[Box<dyn SignatureCheck>],
+    checks: &C,
 ) -> Result<Vec<UnknownKey>, AllocError>
     ensures { IfOk result (λ notes. All
-        (IsOfOwner (panel_of (map meaning panel.now)) inputs.now) notes.items) }
+        (IsOfOwner (C.panel checks.now) inputs.now) notes.items) }
 {
     let Some(policy) = policy_in(alloc, inputs.policy.as_slice())? else {
         return Ok(Vec::new(alloc));
     };
-    let notes = unknown_in(alloc, &policy.owners, panel)?;
+    let notes = unknown_in(alloc, &policy.owners, checks)?;
     Ok(notes)
 }
 
 /// Those under the key ids of the named step, in the layout to which the places lead.
-fn step_keys(
+fn step_keys<C: Checks>(
     alloc: Global,
     inputs: &Inputs,
     at: &[(Text, Text)],
     name: &str,
-    panel: &[Box<dyn SignatureCheck>],
+    checks: &C,
 ) -> Result<Vec<UnknownKey>, AllocError>
     ensures { IfOk result (λ notes. All
-        (IsOfStep (panel_of (map meaning panel.now)) inputs.now at.now name.now) notes.items) }
+        (IsOfStep (C.panel checks.now) inputs.now at.now name.now) notes.items) }
 {
-    let Some(level) = level_at(alloc, inputs, at, panel)? else {
+    let Some(level) = level_at(alloc, inputs, at, checks)? else {
         return Ok(Vec::new(alloc));
     };
     let layout = &level.signed.layout;
     let Some(step) = step_named(layout.steps.as_slice(), name) else {
         return Ok(Vec::new(alloc));
     };
-    let notes = unknown_under(alloc, step.pubkeys.as_slice(), &layout.keys, panel)?;
+    let notes = unknown_under(alloc, step.pubkeys.as_slice(), &layout.keys, checks)?;
     Ok(notes)
 }
 
 /// Those of the builders of the expectation that speaks of the file at a path.
-fn builder_keys(
+fn builder_keys<C: Checks>(
     alloc: Global,
     inputs: &Inputs,
     path: &str,
-    panel: &[Box<dyn SignatureCheck>],
+    checks: &C,
 ) -> Result<Vec<UnknownKey>, AllocError>
     ensures { IfOk result (λ notes. All
-        (IsOfBuilder (panel_of (map meaning panel.now)) inputs.now path.now) notes.items) }
+        (IsOfBuilder (C.panel checks.now) inputs.now path.now) notes.items) }
 {
     let Some(policy) = policy_in(alloc, inputs.policy.as_slice())? else {
         return Ok(Vec::new(alloc));
@@ -90,6 +89,6 @@ fn builder_keys(
     let Some(expectation) = speaking(policy.expectations.as_slice(), path) else {
         return Ok(Vec::new(alloc));
     };
-    let notes = unknown_of_builders(alloc, expectation.builders.as_slice(), panel)?;
+    let notes = unknown_of_builders(alloc, expectation.builders.as_slice(), checks)?;
     Ok(notes)
 }

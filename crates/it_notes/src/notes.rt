@@ -1,6 +1,5 @@
 //! The notes on a verification.
-ghost use Rattle.std.specs.Prelude.{IfOk, IfSome, map};
-ghost use Rattle.it_dsse.specs.Panel.{panel_of};
+ghost use Rattle.std.specs.Prelude.{IfOk, IfSome};
 ghost use Rattle.it_notes.specs.KeyNotes.{TellsKeys};
 ghost use Rattle.it_notes.specs.Notes.{AreTrue, TellsLayout, TellsVerdict, TellsWhere};
 
@@ -9,7 +8,7 @@ use crate::key_notes::key_notes;
 use crate::layout_notes::LayoutNotes;
 use crate::place_notes::{PlaceNotes, place_notes};
 use crate::refusal_notes::refusal_notes;
-use it_dsse::check::SignatureCheck;
+use it_dsse::checks::Checks;
 use it_key_notes::unknown_key::UnknownKey;
 use it_member_notes::member_notes::MemberNotes;
 use it_member_notes::policy_notes;
@@ -83,26 +82,26 @@ pub struct RuleNotes {
 
 impl Notes {
     /// The notes on the `verdict` of a verification of the `inputs`. Signatures are checked by the
-    /// `panel` again, but only after a refusal.
+    /// `checks` again, but only after a refusal.
     ///
     /// # Errors
     ///
     /// `AllocError` where memory was refused.
-    pub fn of(
+    pub fn of<C: Checks>(
         alloc: Global,
         inputs: &Inputs,
         verdict: &Verdict,
-        panel: &[Box<dyn SignatureCheck>],
+        checks: &C,
     ) -> Result<Notes, AllocError>
-        ensures { IfOk result (AreTrue (panel_of (map meaning panel.now)) inputs.now verdict.now) }
+        ensures { IfOk result (AreTrue (C.panel checks.now) inputs.now verdict.now) }
     {
         let policy = policy_notes(alloc, inputs.policy.as_slice())?;
         let layout = signed_layout_notes(alloc, inputs, verdict)?;
-        let place = verdict_place(alloc, inputs, verdict, panel)?;
-        let keys = verdict_keys(alloc, inputs, verdict, panel)?;
+        let place = verdict_place(alloc, inputs, verdict, checks)?;
+        let keys = verdict_keys(alloc, inputs, verdict, checks)?;
         Ok(Notes {
             place,
-            refusal: verdict_notes(alloc, inputs, verdict, panel)?,
+            refusal: verdict_notes(alloc, inputs, verdict, checks)?,
             keys,
             policy,
             layout,
@@ -111,49 +110,49 @@ impl Notes {
 }
 
 /// Why the verdict refuses, if it does.
-fn verdict_notes(
+fn verdict_notes<C: Checks>(
     alloc: Global,
     inputs: &Inputs,
     verdict: &Verdict,
-    panel: &[Box<dyn SignatureCheck>],
+    checks: &C,
 ) -> Result<RefusalNotes, AllocError>
-    ensures { IfOk result (TellsVerdict (panel_of (map meaning panel.now)) inputs.now verdict.now) }
+    ensures { IfOk result (TellsVerdict (C.panel checks.now) inputs.now verdict.now) }
 {
     match verdict {
         Verdict::Accepted { .. } => Ok(RefusalNotes::Nothing),
-        Verdict::Refused(refusal) => refusal_notes(alloc, inputs, refusal, panel),
+        Verdict::Refused(refusal) => refusal_notes(alloc, inputs, refusal, checks),
     }
 }
 
 /// The key objects that the verdict depends on and no check knows, if it refuses.
-fn verdict_keys(
+fn verdict_keys<C: Checks>(
     alloc: Global,
     inputs: &Inputs,
     verdict: &Verdict,
-    panel: &[Box<dyn SignatureCheck>],
+    checks: &C,
 ) -> Result<Vec<UnknownKey>, AllocError>
     ensures { IfOk result (λ notes.
-        TellsKeys (panel_of (map meaning panel.now)) inputs.now verdict.now notes.items) }
+        TellsKeys (C.panel checks.now) inputs.now verdict.now notes.items) }
 {
     match verdict {
         Verdict::Accepted { .. } => Ok(Vec::new(alloc)),
-        Verdict::Refused(refusal) => key_notes(alloc, inputs, refusal, panel),
+        Verdict::Refused(refusal) => key_notes(alloc, inputs, refusal, checks),
     }
 }
 
 /// The place of the sublayout that the verdict is about, if any.
-fn verdict_place(
+fn verdict_place<C: Checks>(
     alloc: Global,
     inputs: &Inputs,
     verdict: &Verdict,
-    panel: &[Box<dyn SignatureCheck>],
+    checks: &C,
 ) -> Result<Option<PlaceNotes>, AllocError>
     ensures { IfOk result (λ found. IfSome found
-        (TellsWhere (panel_of (map meaning panel.now)) inputs.now verdict.now)) }
+        (TellsWhere (C.panel checks.now) inputs.now verdict.now)) }
 {
     match verdict {
         Verdict::Accepted { .. } => Ok(None),
-        Verdict::Refused(refusal) => place_notes(alloc, inputs, refusal, panel),
+        Verdict::Refused(refusal) => place_notes(alloc, inputs, refusal, checks),
     }
 }
 

@@ -1,12 +1,11 @@
 //! The place of the sublayout that a refusal is about.
-ghost use Rattle.std.specs.Prelude.{IfOk, IfSome, map};
-ghost use Rattle.it_dsse.specs.Panel.{panel_of};
+ghost use Rattle.std.specs.Prelude.{IfOk, IfSome};
 ghost use Rattle.it_step_notes.specs.Folder.{LacksFolder};
 ghost use Rattle.it_notes.specs.PlaceNotes.{TellsFile, TellsPlace};
 
 use crate::fault_level::{FaultLevel, level_at};
 use it_base::text::Text;
-use it_dsse::check::SignatureCheck;
+use it_dsse::checks::Checks;
 use it_report::refusal::{Fault, Refusal};
 use it_rule_notes::level::Level;
 use it_rule_notes::sublayout_note::{SublayoutNote, sublayout_note};
@@ -25,42 +24,42 @@ pub struct PlaceNotes {
 
 /// The place of the sublayout that a refusal is about, or `None` if it is about none, or its places
 /// lead to none.
-pub(crate) fn place_notes(
+pub(crate) fn place_notes<C: Checks>(
     alloc: Global,
     inputs: &Inputs,
     refusal: &Refusal,
-    panel: &[Box<dyn SignatureCheck>],
+    checks: &C,
 ) -> Result<Option<PlaceNotes>, AllocError>
     ensures { IfOk result (λ found. IfSome found
-        (TellsPlace (panel_of (map meaning panel.now)) inputs.now refusal.now.at)) }
+        (TellsPlace (C.panel checks.now) inputs.now refusal.now.at)) }
 {
     let Some((last, before)) = refusal.at.as_slice().split_last() else {
         return Ok(None);
     };
-    let Some(level) = level_at(alloc, inputs, before, panel)? else {
+    let Some(level) = level_at(alloc, inputs, before, checks)? else {
         return Ok(None);
     };
-    let file = file_of(alloc, &level, last, panel)?;
+    let file = file_of(alloc, &level, last, checks)?;
     let folder = missing_folder(alloc, &level, last, &refusal.fault)?;
     Ok(Some(PlaceNotes { file, folder }))
 }
 
 /// The file that holds the sublayout at a place.
-fn file_of(
+fn file_of<C: Checks>(
     alloc: Global,
     level: &FaultLevel,
     place: &(Text, Text),
-    panel: &[Box<dyn SignatureCheck>],
+    checks: &C,
 ) -> Result<Option<SublayoutNote>, AllocError>
     ensures { IfOk result (λ found. IfSome found
-        (TellsFile (panel_of (map meaning panel.now)) level.now place.now)) }
+        (TellsFile (C.panel checks.now) level.now place.now)) }
 {
     let level = Level {
         layout: &level.signed.layout,
         links: level.links,
         moment: level.moment,
     };
-    sublayout_note(alloc, &level, place.0.as_str(), place.1.as_str(), panel)
+    sublayout_note(alloc, &level, place.0.as_str(), place.1.as_str(), checks)
 }
 
 /// The folder of the sublayout at a place, where it is missing and a step has too few keys. Nothing

@@ -1,6 +1,5 @@
 //! Why a delivered file has no provenance.
-ghost use Rattle.std.specs.Prelude.{IfOk, IfSome, Option, ℕ, map};
-ghost use Rattle.it_dsse.specs.Panel.{panel_of};
+ghost use Rattle.std.specs.Prelude.{IfOk, IfSome, Option, ℕ};
 ghost use Rattle.it_prov.specs.Fits.{Fits};
 ghost use Rattle.it_report.specs.declared.refusal.Fault.TheVariants.{NoProvenance};
 ghost use Rattle.it_notes.specs.RefusalNotes.{IsDelivered, TellsInputs};
@@ -10,7 +9,7 @@ use crate::reading::policy_in;
 use it_digest::compare::DigestSet;
 use it_digest::sums::{SumsFault, read_sums};
 use it_docs::policy::Expectation;
-use it_dsse::check::SignatureCheck;
+use it_dsse::checks::Checks;
 use it_prov::fits::fitting;
 use it_prov_notes::delivery::Delivery;
 use it_prov_notes::{is_laid_out, missing_notes};
@@ -19,14 +18,14 @@ use std::alloc::{AllocError, Global};
 
 /// What the lines of the provenance miss of the expectation that speaks of the delivered file at a
 /// path.
-pub(crate) fn provenance_told(
+pub(crate) fn provenance_told<C: Checks>(
     alloc: Global,
     inputs: &Inputs,
     path: &str,
-    panel: &[Box<dyn SignatureCheck>],
+    checks: &C,
 ) -> Result<RefusalNotes, AllocError>
     ensures { IfOk result (λ told. (best : Option ℕ) → TellsInputs
-        (panel_of (map meaning panel.now)) inputs.now (NoProvenance path.now best) told) }
+        (C.panel checks.now) inputs.now (NoProvenance path.now best) told) }
 {
     if is_laid_out(alloc, inputs.provenance.as_slice())? {
         return Ok(RefusalNotes::LaidOut);
@@ -45,7 +44,7 @@ pub(crate) fn provenance_told(
         expectation,
         provenance: inputs.provenance.as_slice(),
     };
-    let notes = missing_notes(alloc, &delivery, panel)?;
+    let notes = missing_notes(alloc, &delivery, checks)?;
     Ok(RefusalNotes::Provenance(notes))
 }
 

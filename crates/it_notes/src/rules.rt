@@ -1,6 +1,5 @@
 //! Which artifact rule failed, and what it met.
-ghost use Rattle.std.specs.Prelude.{IfOk, IfSome, List, ℕ, map};
-ghost use Rattle.it_dsse.specs.Panel.{panel_of};
+ghost use Rattle.std.specs.Prelude.{IfOk, IfSome, List, ℕ};
 ghost use Rattle.it_report.specs.declared.refusal.Fault.TheVariants.{RuleFailed};
 ghost use Rattle.it_notes.specs.RefusalNotes.{TellsAt, TellsMetAt};
 
@@ -9,7 +8,7 @@ use crate::notes::{RefusalNotes, RuleNotes};
 use crate::reading::policy_in;
 use it_chain::refusal::RuleItem;
 use it_docs::rule::Side;
-use it_dsse::check::SignatureCheck;
+use it_dsse::checks::Checks;
 use it_rule_notes::level::Level;
 use it_rule_notes::met_note::{MetNote, met_note};
 use it_rule_notes::rule_note::rule_note;
@@ -32,14 +31,14 @@ pub(crate) struct FailedRule<'a> {
 const DEEPEST: u8 = 8;
 
 /// The text of the rule that failed, and what it met.
-pub(crate) fn rule_told(
+pub(crate) fn rule_told<C: Checks>(
     alloc: Global,
     inputs: &Inputs,
     level: &FaultLevel,
     rule: &FailedRule,
-    panel: &[Box<dyn SignatureCheck>],
+    checks: &C,
 ) -> Result<RefusalNotes, AllocError>
-    ensures { IfOk result (λ told. (path : List ℕ) → TellsAt (panel_of (map meaning panel.now))
+    ensures { IfOk result (λ told. (path : List ℕ) → TellsAt (C.panel checks.now)
         inputs.now level.now
         (RuleFailed rule.now.item.now rule.now.side rule.now.index path) told) }
 {
@@ -53,19 +52,19 @@ pub(crate) fn rule_told(
     let Some(rule) = rule_note(alloc, &book, rule.item, rule.side, rule.index)? else {
         return Ok(RefusalNotes::Nothing);
     };
-    let met = met_at(alloc, inputs.depth, level, &rule.place, panel)?;
+    let met = met_at(alloc, inputs.depth, level, &rule.place, checks)?;
     Ok(RefusalNotes::Rule(RuleNotes { rule, met }))
 }
 
 /// What the rule at a place of a layout met.
-fn met_at(
+fn met_at<C: Checks>(
     alloc: Global,
     depth: u8,
     level: &FaultLevel,
     place: &RulePlace,
-    panel: &[Box<dyn SignatureCheck>],
+    checks: &C,
 ) -> Result<Option<MetNote>, AllocError>
-    ensures { IfOk result (λ found. IfSome found (TellsMetAt (panel_of (map meaning panel.now))
+    ensures { IfOk result (λ found. IfSome found (TellsMetAt (C.panel checks.now)
         depth level.now place.now)) }
 {
     if depth > DEEPEST {
@@ -76,5 +75,5 @@ fn met_at(
         links: level.links,
         moment: level.moment,
     };
-    met_note(alloc, &rule_level, depth, place, panel)
+    met_note(alloc, &rule_level, depth, place, checks)
 }

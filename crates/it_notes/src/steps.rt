@@ -1,6 +1,5 @@
 //! Why too few keys signed a step.
-ghost use Rattle.std.specs.Prelude.{◌≡◌, Contains, IfOk, IfSome, ℕ, map};
-ghost use Rattle.it_dsse.specs.Panel.{panel_of};
+ghost use Rattle.std.specs.Prelude.{◌≡◌, Contains, IfOk, IfSome, ℕ};
 ghost use Rattle.it_report.specs.declared.refusal.Fault.TheVariants.{Threshold};
 ghost use Rattle.it_verify.specs.declared.inputs.Inputs.{Inputs};
 ghost use Rattle.it_notes.specs.RefusalNotes.{TellsAt};
@@ -9,26 +8,26 @@ use crate::details::with_details;
 use crate::fault_level::FaultLevel;
 use crate::notes::RefusalNotes;
 use it_docs::step::Step;
-use it_dsse::check::SignatureCheck;
+use it_dsse::checks::Checks;
 use it_step_notes::threshold_notes;
 use std::alloc::{AllocError, Global};
 
 /// The notes on the step of this name, for which too few keys signed.
-pub(crate) fn step_told(
+pub(crate) fn step_told<C: Checks>(
     alloc: Global,
     level: &FaultLevel,
     name: &str,
-    panel: &[Box<dyn SignatureCheck>],
+    checks: &C,
 ) -> Result<RefusalNotes, AllocError>
     ensures { IfOk result (λ told. (inputs : Inputs) (found : ℕ) (needed : ℕ) → TellsAt
-        (panel_of (map meaning panel.now)) inputs level.now (Threshold name.now found needed)
+        (C.panel checks.now) inputs level.now (Threshold name.now found needed)
         told) }
 {
     let layout = &level.signed.layout;
     let Some(step) = step_named(layout.steps.as_slice(), name) else {
         return Ok(RefusalNotes::Nothing);
     };
-    let notes = threshold_notes(alloc, layout, level.links, step, panel)?;
+    let notes = threshold_notes(alloc, layout, level.links, step, checks)?;
     let told = with_details(alloc, level.links, step, notes)?;
     Ok(RefusalNotes::Step(told))
 }

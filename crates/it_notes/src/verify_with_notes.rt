@@ -1,24 +1,23 @@
 //! `itv verify`, with notes for people.
-ghost use Rattle.std.specs.Prelude.{◌≡◌, ◌≤◌, IfErr, IfOk, IsErrOf, map};
+ghost use Rattle.std.specs.Prelude.{◌≡◌, ◌≤◌, IfErr, IfOk, IsErrOf};
 ghost use Rattle.std.specs.Io.KnownBytes.{Appends};
 ghost use Rattle.it_base.specs.Writing.{AppendsBeginning};
-ghost use Rattle.it_dsse.specs.Panel.{panel_of};
 ghost use Rattle.it_outcome.specs.Outcome.{IsOutputFault};
 ghost use Rattle.it_notes.specs.VerifyOutputIn.{IsVerifyOutputIn};
 
 use crate::notes::Notes;
 use crate::verdict_output::write_in;
-use it_dsse::check::SignatureCheck;
+use it_dsse::checks::Checks;
 use it_json_report::form::ReportForm;
 use it_outcome::{RunFault, Status};
 use it_report::verdict::Verdict;
 use it_verify::inputs::Inputs;
-use it_verify::verify;
+use it_verify::verify_by;
 use std::alloc::{AllocError, Global};
 use std::io::Write;
 
-/// Verifies delivered files, as `verify` of `it_verify` does, writes the report in this form, and
-/// then writes the notes on the verdict to `notes`.
+/// Verifies delivered files, as `verify_by` of `it_verify` does, writes the report in this form,
+/// and then writes the notes on the verdict to `notes`.
 ///
 /// The answer is `Good` where the verdict accepts, and `Refused` where it refuses. The notes affect
 /// neither it nor the report: where memory is refused for them, there are none, and where they
@@ -28,51 +27,51 @@ use std::io::Write;
 ///
 /// `Write` where the report could not be written; a beginning of it went out. `OutOfMemory` where
 /// memory was refused for the verdict or the report; nothing went out.
-pub fn verify_with_notes<W: Write, N: Write>(
+pub fn verify_with_notes<C: Checks, W: Write, N: Write>(
     alloc: Global,
     inputs: &Inputs,
-    panel: &[Box<dyn SignatureCheck>],
+    checks: &C,
     form: ReportForm,
     out: &mut W,
     notes: &mut N,
 ) -> Result<Status, RunFault>
     requires { inputs.now.depth ≤ 8 }
     ensures ok { IfOk result (λ status. (text : _)
-        × IsVerifyOutputIn form (panel_of (map meaning panel.now)) inputs.now text status
+        × IsVerifyOutputIn form (C.panel checks.now) inputs.now text status
         × Appends (W.contents out.old) (W.contents out.new) text) }
     ensures write { IsErrOf result RunFault.Write → (text : _) × (status : _)
-        × IsVerifyOutputIn form (panel_of (map meaning panel.now)) inputs.now text status
+        × IsVerifyOutputIn form (C.panel checks.now) inputs.now text status
         × AppendsBeginning (W.contents out.old) (W.contents out.new) text }
     ensures memory { IsErrOf result RunFault.OutOfMemory → out.new ≡ out.old }
     ensures faults { IfErr result IsOutputFault }
 {
-    let answer = verify(alloc, inputs, panel)?;
+    let answer = verify_by(alloc, inputs, checks)?;
     let outcome = write_in(alloc, form, &answer.verdict, out);
     if outcome.is_ok() {
-        note(alloc, inputs, &answer.verdict, panel, notes);
+        note(alloc, inputs, &answer.verdict, checks, notes);
     }
     outcome
 }
 
 /// Writes the notes on a verdict, as far as memory suffices and they can be written.
-fn note<N: Write>(
+fn note<C: Checks, N: Write>(
     alloc: Global,
     inputs: &Inputs,
     verdict: &Verdict,
-    panel: &[Box<dyn SignatureCheck>],
+    checks: &C,
     notes: &mut N,
 ) {
-    if let Ok(text) = notes_text(alloc, inputs, verdict, panel) {
+    if let Ok(text) = notes_text(alloc, inputs, verdict, checks) {
         let _ = notes.write_all(text.as_slice());
     }
 }
 
 /// The lines of the notes on a verdict.
-fn notes_text(
+fn notes_text<C: Checks>(
     alloc: Global,
     inputs: &Inputs,
     verdict: &Verdict,
-    panel: &[Box<dyn SignatureCheck>],
+    checks: &C,
 ) -> Result<Vec<u8>, AllocError> {
-    Notes::of(alloc, inputs, verdict, panel)?.text(alloc)
+    Notes::of(alloc, inputs, verdict, checks)?.text(alloc)
 }

@@ -1,7 +1,7 @@
 //! What an envelope misses.
-ghost use Rattle.std.specs.Prelude.{List, ℕ, IfOk, IfSome, map};
+ghost use Rattle.std.specs.Prelude.{List, ℕ, IfOk, IfSome};
 ghost use Rattle.it_dsse.specs.Envelope.{EnvelopeOf};
-ghost use Rattle.it_dsse.specs.Panel.{Panel, panel_of};
+ghost use Rattle.it_dsse.specs.Panel.{Panel};
 ghost use Rattle.it_prov_notes.specs.ProvenanceNotes.{Misses};
 ghost use Rattle.it_prov_notes.specs.inside.Judged.{AreSigners};
 
@@ -14,25 +14,25 @@ use it_base::text::Text;
 use it_docs::fault::DocumentFault;
 use it_docs::policy::Builder;
 use it_docs::statement::read_statement;
-use it_dsse::check::SignatureCheck;
+use it_dsse::checks::Checks;
 use it_dsse::envelope::Envelope;
 use it_dsse::payload_type::IN_TOTO;
 use std::alloc::{AllocError, Global};
 
 /// What an envelope misses. One that no expected builder signed is noted only where it is about the
 /// file.
-pub(crate) fn envelope_misses(
+pub(crate) fn envelope_misses<C: Checks>(
     alloc: Global,
     envelope: &Envelope,
     delivery: &Delivery<'_>,
-    panel: &[Box<dyn SignatureCheck>],
+    checks: &C,
 ) -> Result<Option<Shortfall>, AllocError>
     ensures { (line : List ℕ) → EnvelopeOf line envelope.now → IfOk result (λ found.
-        IfSome found (Misses (panel_of (map meaning panel.now)) delivery.now.expectation.now
+        IfSome found (Misses (C.panel checks.now) delivery.now.expectation.now
         delivery.now.digests line)) }
 {
     let builders = delivery.expectation.builders.as_slice();
-    let signers = signers_among(alloc, builders, envelope, panel)?;
+    let signers = signers_among(alloc, builders, envelope, checks)?;
     if !signers.is_empty() {
         return signed_misses(alloc, envelope, delivery, signers.as_slice());
     }

@@ -1,13 +1,12 @@
 //! The notes on the lines of the provenance.
-ghost use Rattle.std.specs.Prelude.{All, IfOk, map};
-ghost use Rattle.it_dsse.specs.Panel.{panel_of};
+ghost use Rattle.std.specs.Prelude.{All, IfOk};
 ghost use Rattle.it_prov_notes.specs.ProvenanceNotes.{Holds};
 
 use crate::delivery::Delivery;
 use crate::line::line_misses;
 use crate::note::ProvenanceNote;
 use it_digest::sums::split_line;
-use it_dsse::check::SignatureCheck;
+use it_dsse::checks::Checks;
 use std::alloc::{AllocError, Global};
 
 /// What the lines of the provenance miss of the expectation that speaks of a delivered file, in
@@ -16,18 +15,18 @@ use std::alloc::{AllocError, Global};
 /// There is a note for each line that is not an envelope. For an envelope that an expected builder
 /// signed, or with a subject that has the digests of the file, there is one with the first thing
 /// that it misses. There is none for an empty line, for an envelope that misses nothing, or for one
-/// that is about other files and that none of the builders signed. The `panel` checks each
+/// that is about other files and that none of the builders signed. The `checks` check each
 /// envelope's signatures, each at most once for each key of the expected builders.
 ///
 /// # Errors
 ///
 /// `AllocError` where memory was refused.
-pub fn missing_notes(
+pub fn missing_notes<C: Checks>(
     alloc: Global,
     delivery: &Delivery<'_>,
-    panel: &[Box<dyn SignatureCheck>],
+    checks: &C,
 ) -> Result<Vec<ProvenanceNote>, AllocError>
-    ensures { IfOk result (λ notes. All (Holds (panel_of (map meaning panel.now))
+    ensures { IfOk result (λ notes. All (Holds (C.panel checks.now)
         delivery.now.expectation.now delivery.now.digests delivery.now.provenance.now)
         notes.items) }
 {
@@ -37,7 +36,7 @@ pub fn missing_notes(
     while !rest.is_empty() {
         let (line, after) = split_line(rest);
         number += 1;
-        if let Some(shortfall) = line_misses(alloc, line, delivery, panel)? {
+        if let Some(shortfall) = line_misses(alloc, line, delivery, checks)? {
             notes.push(ProvenanceNote {
                 line: number,
                 shortfall,

@@ -1,32 +1,31 @@
 //! Who signed an envelope.
-ghost use Rattle.std.specs.Prelude.{IfOk, map};
-ghost use Rattle.it_dsse.specs.Panel.{panel_of};
+ghost use Rattle.std.specs.Prelude.{IfOk};
 ghost use Rattle.it_dsse.specs.Signed.{AreThose};
 ghost use Rattle.it_prov.specs.Meets.{SignedByBuilder};
 ghost use Rattle.it_prov_notes.specs.inside.Judged.{lent_builders};
 
 use it_docs::policy::Builder;
-use it_dsse::check::SignatureCheck;
+use it_dsse::checks::Checks;
 use it_dsse::envelope::Envelope;
 use it_dsse::meter::Meter;
 use it_prov::answers::has_signed;
 use std::alloc::{AllocError, Global};
 
 /// Those of the builders that signed an envelope, in their order. Each is asked about once.
-pub(crate) fn signers_among<'a>(
+pub(crate) fn signers_among<'a, C: Checks>(
     alloc: Global,
     builders: &'a [Builder],
     envelope: &Envelope,
-    panel: &[Box<dyn SignatureCheck>],
+    checks: &C,
 ) -> Result<Vec<&'a Builder>, AllocError>
     ensures { IfOk result (λ signers. AreThose
-        (SignedByBuilder (panel_of (map meaning panel.now)) envelope.now) builders.now
+        (SignedByBuilder (C.panel checks.now) envelope.now) builders.now
         (lent_builders signers.items)) }
 {
     let mut meter = Meter { asked: 0 };
     let mut signers = Vec::new(alloc);
     for builder in builders {
-        if has_signed(builder, envelope, panel, &mut meter) {
+        if has_signed(builder, envelope, checks, &mut meter) {
             signers.push(builder)?;
         }
     }

@@ -2,9 +2,8 @@
 ghost use Rattle.std.specs.Bool.{OnTrue};
 ghost use Rattle.std.specs.List.{cons_option};
 ghost use Rattle.std.specs.Prelude.{◌≡◌, ◌↔◌, ◌++◌, [], All, Contains, IfOk, IfSome, IsTrue};
-ghost use Rattle.std.specs.Prelude.{OnOk, map};
+ghost use Rattle.std.specs.Prelude.{OnOk};
 ghost use Rattle.it_chain.specs.ClaimedFiles.{IsClaimed};
-ghost use Rattle.it_dsse.specs.Panel.{panel_of};
 ghost use Rattle.it_rule_notes.specs.CountingFile.{FileCounts, IsLayoutBody, setting_of};
 ghost use Rattle.it_rule_notes.specs.inside.CountingFile.{HasBody, IsEnvelope, IsListed, IsSigned};
 
@@ -19,7 +18,7 @@ use it_docs::layout_fault::LayoutFault;
 use it_docs::layout_reading::read_layout;
 use it_docs::link::read_link;
 use it_docs::step::Step;
-use it_dsse::check::SignatureCheck;
+use it_dsse::checks::Checks;
 use it_dsse::envelope::{Envelope, EnvelopeFault};
 use it_dsse::is_signer;
 use it_dsse::key_object::KeyObject;
@@ -46,15 +45,15 @@ pub(crate) struct Signer<'a> {
 }
 
 /// The files that hold what counts for a key id of a step, in their order.
-pub(crate) fn counting_files(
+pub(crate) fn counting_files<C: Checks>(
     alloc: Global,
     level: &Level,
     step: &Step,
     id: &str,
-    panel: &[Box<dyn SignatureCheck>],
+    checks: &C,
 ) -> Result<Vec<CountingFile>, AllocError>
     ensures { IfOk result (λ files. All
-        (FileCounts (setting_of (panel_of (map meaning panel.now)) level.now.moment)
+        (FileCounts (setting_of (C.panel checks.now) level.now.moment)
         level.now.layout.now level.now.links.now step.now id.now) files.items) }
 {
     let mut found = Vec::new(alloc);
@@ -62,7 +61,7 @@ pub(crate) fn counting_files(
         return Ok(found);
     };
     for file in level.links.files() {
-        let counting = counting_file(alloc, file, step.name.as_str(), &signer, panel)?;
+        let counting = counting_file(alloc, file, step.name.as_str(), &signer, checks)?;
         keep(&mut found, counting)?;
     }
     Ok(found)
@@ -102,15 +101,15 @@ fn lists(ids: &[Text], id: &str) -> bool
 }
 
 /// What counts for a step in a file, if the signer's key signed it.
-fn counting_file(
+fn counting_file<C: Checks>(
     alloc: Global,
     file: &File,
     step: &str,
     signer: &Signer,
-    panel: &[Box<dyn SignatureCheck>],
+    checks: &C,
 ) -> Result<Option<CountingFile>, AllocError>
     ensures { IfOk result (λ found. IfSome found
-        (IsSigned (panel_of (map meaning panel.now)) step.now signer.now file.now)) }
+        (IsSigned (C.panel checks.now) step.now signer.now file.now)) }
 {
     if !is_claimed(step, file.name.as_str()) {
         return Ok(None);
@@ -119,7 +118,7 @@ fn counting_file(
         return Ok(None);
     };
     let mut meter = Meter { asked: 0 };
-    if !is_signer(&envelope, signer.id, signer.object, panel, &mut meter) {
+    if !is_signer(&envelope, signer.id, signer.object, checks, &mut meter) {
         return Ok(None);
     }
     if !has_body(alloc, step, envelope.payload.as_slice())? {

@@ -1,6 +1,5 @@
 //! Two files whose links differ.
-ghost use Rattle.std.specs.Prelude.{◌≡◌, ◌++◌, IfOk, IfSome, OnOk, map};
-ghost use Rattle.it_dsse.specs.Panel.{panel_of};
+ghost use Rattle.std.specs.Prelude.{◌≡◌, ◌++◌, IfOk, IfSome, OnOk};
 ghost use Rattle.it_rule_notes.specs.CountingFile.{setting_of};
 ghost use Rattle.it_rule_notes.specs.Disagree.{IsOtherLink, TellsDisagree, difference_form};
 ghost use Rattle.it_rule_notes.specs.Disagree.{disagree_line, links_form};
@@ -12,7 +11,7 @@ use crate::link_file::{LinkFile, link_file};
 use crate::rule_place::{step_named, word_of};
 use it_base::text::Text;
 use it_docs::step::Step;
-use it_dsse::check::SignatureCheck;
+use it_dsse::checks::Checks;
 use std::alloc::{AllocError, Global};
 
 /// A file whose link differs from another.
@@ -38,31 +37,31 @@ pub struct DisagreeNote {
 /// Says which file of a step holds a different link from the file of a key id, and where they
 /// differ (in-toto 1.0, section 5.2; that all must agree is this profile's choice).
 ///
-/// `step` is the name of a step of the layout of `level`, `id` the key id, and `panel` the checks
-/// that are asked. The answer is `None` where no link for a key id of the step differs from that of
+/// `step` is the name of a step of the layout of `level`, `id` the key id, and the `checks` check
+/// the signatures. The answer is `None` where no link for a key id of the step differs from that of
 /// `id`, or there is none for `id`.
 ///
 /// # Errors
 ///
 /// `AllocError` where memory was refused.
-pub fn disagree_note(
+pub fn disagree_note<C: Checks>(
     alloc: Global,
     level: &Level,
     step: &str,
     id: &str,
-    panel: &[Box<dyn SignatureCheck>],
+    checks: &C,
 ) -> Result<Option<DisagreeNote>, AllocError>
     ensures { IfOk result (λ found. IfSome found (λ note. (note.step ≡ step.now)
-        × TellsDisagree (setting_of (panel_of (map meaning panel.now)) level.now.moment)
+        × TellsDisagree (setting_of (C.panel checks.now) level.now.moment)
         level.now.layout.now level.now.links.now note)) }
 {
     let Some(asked) = step_named(level.layout.steps.as_slice(), step) else {
         return Ok(None);
     };
-    let Some(first) = link_file(alloc, level, asked, id, panel)? else {
+    let Some(first) = link_file(alloc, level, asked, id, checks)? else {
         return Ok(None);
     };
-    let Some(second) = other_link(alloc, level, asked, &first, panel)? else {
+    let Some(second) = other_link(alloc, level, asked, &first, checks)? else {
         return Ok(None);
     };
     let step = Text::copy(alloc, step)?;
@@ -74,19 +73,19 @@ pub fn disagree_note(
 }
 
 /// The first file of a key id that the step lists whose link differs from that of another file.
-fn other_link(
+fn other_link<C: Checks>(
     alloc: Global,
     level: &Level,
     step: &Step,
     first: &LinkFile,
-    panel: &[Box<dyn SignatureCheck>],
+    checks: &C,
 ) -> Result<Option<OtherLink>, AllocError>
     ensures { IfOk result (λ found. IfSome found (IsOtherLink
-        (setting_of (panel_of (map meaning panel.now)) level.now.moment)
+        (setting_of (C.panel checks.now) level.now.moment)
         level.now.layout.now level.now.links.now step.now first.now)) }
 {
     for id in step.pubkeys.as_slice() {
-        if let Some(file) = link_file(alloc, level, step, id.as_str(), panel)? {
+        if let Some(file) = link_file(alloc, level, step, id.as_str(), checks)? {
             if let Some(difference) = difference_of(alloc, &first.link, &file.link)? {
                 return Ok(Some(OtherLink { file, difference }));
             }

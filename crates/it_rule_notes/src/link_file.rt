@@ -1,7 +1,6 @@
 //! The links that count for key ids of a step.
-ghost use Rattle.std.specs.Prelude.{Contains, IfOk, IfSome, map};
+ghost use Rattle.std.specs.Prelude.{Contains, IfOk, IfSome};
 ghost use Rattle.it_docs.specs.Link.{LinkOf};
-ghost use Rattle.it_dsse.specs.Panel.{panel_of};
 ghost use Rattle.it_rule_notes.specs.CountingFile.{setting_of};
 ghost use Rattle.it_rule_notes.specs.LinkFile.{HoldsLink};
 
@@ -11,7 +10,7 @@ use it_base::text::Text;
 use it_docs::fault::DocumentFault;
 use it_docs::link::{Link, read_link};
 use it_docs::step::Step;
-use it_dsse::check::SignatureCheck;
+use it_dsse::checks::Checks;
 use std::alloc::{AllocError, Global};
 
 /// A file that holds a link which counts for a key id.
@@ -26,18 +25,18 @@ pub struct LinkFile {
 }
 
 /// The first file that holds a link which counts for a key id of a step.
-pub(crate) fn link_file(
+pub(crate) fn link_file<C: Checks>(
     alloc: Global,
     level: &Level,
     step: &Step,
     id: &str,
-    panel: &[Box<dyn SignatureCheck>],
+    checks: &C,
 ) -> Result<Option<LinkFile>, AllocError>
     ensures { IfOk result (λ found. IfSome found (HoldsLink
-        (setting_of (panel_of (map meaning panel.now)) level.now.moment)
+        (setting_of (C.panel checks.now) level.now.moment)
         level.now.layout.now level.now.links.now step.now)) }
 {
-    let files = counting_files(alloc, level, step, id, panel)?;
+    let files = counting_files(alloc, level, step, id, checks)?;
     let Some(file) = first_of(files.as_slice()) else {
         return Ok(None);
     };

@@ -1,8 +1,7 @@
 //! What a failed artifact rule of a step met.
-ghost use Rattle.std.specs.Prelude.{◌≡◌, ◌≤◌, ◌++◌, Contains, IfOk, IfSome, OnOk, map};
+ghost use Rattle.std.specs.Prelude.{◌≡◌, ◌≤◌, ◌++◌, Contains, IfOk, IfSome, OnOk};
 ghost use Rattle.it_chain.specs.StepRules.{links_in};
 ghost use Rattle.it_chain.specs.declared.refusal.RuleItem.TheVariants.{Step as of_step};
-ghost use Rattle.it_dsse.specs.Panel.{panel_of};
 ghost use Rattle.it_rules.specs.Rules.{NamesDiffer};
 ghost use Rattle.it_rule_notes.specs.CountingFile.{setting_of};
 ghost use Rattle.it_rule_notes.specs.MetNote.{MeetsOver, TellsMet, met_line};
@@ -17,7 +16,7 @@ use it_chain::refusal::RuleItem;
 use it_docs::layout::Layout;
 use it_docs::rule::Side;
 use it_docs::step::Step;
-use it_dsse::check::SignatureCheck;
+use it_dsse::checks::Checks;
 use std::alloc::{AllocError, Global};
 
 /// Where a rule stands, and what it met.
@@ -33,7 +32,7 @@ pub struct MetNote {
 /// that it forbids, at most the first ten; for a `REQUIRE`, the earlier rule that consumed its
 /// path, or that the path is not there.
 ///
-/// `place` is where the rule stands, `panel` are the checks that are asked, and sublayouts of
+/// `place` is where the rule stands, the `checks` check the signatures, and sublayouts of
 /// `level` may be up to `depth` deep, at most 8. The answer has the rule's place and what it met.
 /// It is `None` where no rule of a step stands there, where the rule is neither of the two or does
 /// not fail, and where the steps have no records because something other than their rules fails.
@@ -41,22 +40,22 @@ pub struct MetNote {
 /// # Errors
 ///
 /// `AllocError` where memory was refused.
-pub fn met_note(
+pub fn met_note<C: Checks>(
     alloc: Global,
     level: &Level,
     depth: u8,
     place: &RulePlace,
-    panel: &[Box<dyn SignatureCheck>],
+    checks: &C,
 ) -> Result<Option<MetNote>, AllocError>
     requires { depth ≤ 8 }
     ensures { IfOk result (λ found. IfSome found (λ note. (note.place ≡ place.now)
-        × TellsMet (setting_of (panel_of (map meaning panel.now)) level.now.moment) depth
+        × TellsMet (setting_of (C.panel checks.now) level.now.moment) depth
         level.now.layout.now level.now.links.now note)) }
 {
     let Some(step) = step_of(level.layout, &place.item) else {
         return Ok(None);
     };
-    let Some(chain) = step_records(alloc, level, depth, panel)? else {
+    let Some(chain) = step_records(alloc, level, depth, checks)? else {
         return Ok(None);
     };
     let results = chain.steps.as_slice();

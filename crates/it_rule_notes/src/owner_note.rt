@@ -1,14 +1,13 @@
 //! Which owners of a policy signed the layout.
 ghost use Rattle.std.specs.FinMap.{entries};
 ghost use Rattle.std.specs.List.{AllZip};
-ghost use Rattle.std.specs.Prelude.{◌≡◌, ◌++◌, All, IfOk, OnOk, map};
-ghost use Rattle.it_dsse.specs.Panel.{panel_of};
+ghost use Rattle.std.specs.Prelude.{◌≡◌, ◌++◌, All, IfOk, OnOk};
 ghost use Rattle.it_rule_notes.specs.Owner.{IsOnOwner, TellsOwner, owner_line};
 
 use crate::line::push_told;
 use it_base::table::Table;
 use it_base::text::Text;
-use it_dsse::check::SignatureCheck;
+use it_dsse::checks::Checks;
 use it_dsse::envelope::Envelope;
 use it_dsse::is_signer;
 use it_dsse::key_object::KeyObject;
@@ -27,44 +26,44 @@ pub enum OwnerNote {
 /// Says for each owner, in byte order of the ids, whether the owner's key signed the envelope of
 /// the layout (in-toto 1.0, section 5.2).
 ///
-/// `owners` are the key objects of a policy's owners under their ids, and `panel` the checks that
-/// are asked. The answer has one note for each owner.
+/// `owners` are the key objects of a policy's owners under their ids, and the `checks` check the
+/// signatures. The answer has one note for each owner.
 ///
 /// # Errors
 ///
 /// `AllocError` where memory was refused.
-pub fn owner_notes(
+pub fn owner_notes<C: Checks>(
     alloc: Global,
     owners: &Table<KeyObject>,
     envelope: &Envelope,
-    panel: &[Box<dyn SignatureCheck>],
+    checks: &C,
 ) -> Result<Vec<OwnerNote>, AllocError>
     ensures each { IfOk result (λ notes. AllZip
-        (IsOnOwner (panel_of (map meaning panel.now)) envelope.now)
+        (IsOnOwner (C.panel checks.now) envelope.now)
         (entries owners.now) notes.items) }
     ensures told { IfOk result (λ notes. All
-        (TellsOwner (panel_of (map meaning panel.now)) envelope.now owners.now) notes.items) }
+        (TellsOwner (C.panel checks.now) envelope.now owners.now) notes.items) }
 {
     let mut notes = Vec::new(alloc);
     for (id, object) in owners.iter() {
-        notes.push(owner_note(alloc, id.as_str(), object, envelope, panel)?)?;
+        notes.push(owner_note(alloc, id.as_str(), object, envelope, checks)?)?;
     }
     Ok(notes)
 }
 
 /// Says whether the key with this id and object signed the envelope.
-fn owner_note(
+fn owner_note<C: Checks>(
     alloc: Global,
     id: &str,
     object: &KeyObject,
     envelope: &Envelope,
-    panel: &[Box<dyn SignatureCheck>],
+    checks: &C,
 ) -> Result<OwnerNote, AllocError>
-    ensures { IfOk result (IsOnOwner (panel_of (map meaning panel.now)) envelope.now
+    ensures { IfOk result (IsOnOwner (C.panel checks.now) envelope.now
         (id.now, object.now)) }
 {
     let mut meter = Meter { asked: 0 };
-    let signed = is_signer(envelope, id, object, panel, &mut meter);
+    let signed = is_signer(envelope, id, object, checks, &mut meter);
     let id = Text::copy(alloc, id)?;
     if signed {
         Ok(OwnerNote::Signed(id))

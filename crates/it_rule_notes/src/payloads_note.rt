@@ -1,6 +1,5 @@
 //! Two files whose bodies count for one key id and differ.
-ghost use Rattle.std.specs.Prelude.{◌≡◌, ◌≢◌, ◌++◌, Contains, IfOk, IfSome, OnOk, map};
-ghost use Rattle.it_dsse.specs.Panel.{panel_of};
+ghost use Rattle.std.specs.Prelude.{◌≡◌, ◌≢◌, ◌++◌, Contains, IfOk, IfSome, OnOk};
 ghost use Rattle.it_rule_notes.specs.CountingFile.{setting_of};
 ghost use Rattle.it_rule_notes.specs.Payloads.{TellsPayloads, files_form, payloads_line};
 
@@ -9,7 +8,7 @@ use crate::level::Level;
 use crate::line::{push_key, push_told};
 use crate::rule_place::step_named;
 use it_base::text::Text;
-use it_dsse::check::SignatureCheck;
+use it_dsse::checks::Checks;
 use std::alloc::{AllocError, Global};
 
 /// Two files with bodies that both count for one key id of a step, and differ.
@@ -28,28 +27,28 @@ pub struct PayloadsNote {
 /// Says which two files hold bodies that count for a key id of a step and differ (in-toto 1.0,
 /// section 5.2; that no two may differ is this profile's choice).
 ///
-/// `step` is the name of a step of the layout, `id` the key id, and `panel` the checks that are
-/// asked. The answer is `None` where there are no two such files.
+/// `step` is the name of a step of the layout, `id` the key id, and the `checks` check the
+/// signatures. The answer is `None` where there are no two such files.
 ///
 /// # Errors
 ///
 /// `AllocError` where memory was refused.
-pub fn payloads_note(
+pub fn payloads_note<C: Checks>(
     alloc: Global,
     level: &Level,
     step: &str,
     id: &str,
-    panel: &[Box<dyn SignatureCheck>],
+    checks: &C,
 ) -> Result<Option<PayloadsNote>, AllocError>
     ensures { IfOk result (λ found. IfSome found (λ note.
         (note.step ≡ step.now) × (note.id ≡ id.now)
-        × TellsPayloads (setting_of (panel_of (map meaning panel.now)) level.now.moment)
+        × TellsPayloads (setting_of (C.panel checks.now) level.now.moment)
         level.now.layout.now level.now.links.now note)) }
 {
     let Some(asked) = step_named(level.layout.steps.as_slice(), step) else {
         return Ok(None);
     };
-    let files = counting_files(alloc, level, asked, id, panel)?;
+    let files = counting_files(alloc, level, asked, id, checks)?;
     let Some((first, second)) = differing(files.as_slice()) else {
         return Ok(None);
     };

@@ -1,7 +1,6 @@
 //! The records of the steps of a layout over a bundle, whether or not its rules hold over it.
-ghost use Rattle.std.specs.Prelude.{◌≡◌, ◌≤◌, Contains, IfOk, IfSome, map};
+ghost use Rattle.std.specs.Prelude.{◌≡◌, ◌≤◌, Contains, IfOk, IfSome};
 ghost use Rattle.it_chain.specs.StepRules.{links_in, recorded_in};
-ghost use Rattle.it_dsse.specs.Panel.{panel_of};
 ghost use Rattle.it_rules.specs.Item.{links_of, recorded_of};
 ghost use Rattle.it_rules.specs.Rules.{NamesDiffer};
 ghost use Rattle.it_rule_notes.specs.BareLayout.{AreRecords};
@@ -11,35 +10,35 @@ use crate::bare_layout::bare_layout;
 use crate::level::Level;
 use it_chain::chain::{Chain, StepResult};
 use it_chain::refusal::ChainError;
-use it_chain::verify_chain;
-use it_dsse::check::SignatureCheck;
+use it_chain::verify_chain_by;
+use it_dsse::checks::Checks;
 use it_dsse::meter::Meter;
 use it_rules::item::{Item, Named};
 use std::alloc::{AllocError, Global};
 
 /// The records of the steps of a level, where sublayouts may be up to `depth` deep.
-pub(crate) fn step_records(
+pub(crate) fn step_records<C: Checks>(
     alloc: Global,
     level: &Level,
     depth: u8,
-    panel: &[Box<dyn SignatureCheck>],
+    checks: &C,
 ) -> Result<Option<Chain>, AllocError>
     requires { depth ≤ 8 }
     ensures are { IfOk result (λ found. IfSome found (λ chain. AreRecords
-        (setting_of (panel_of (map meaning panel.now)) level.now.moment) depth
+        (setting_of (C.panel checks.now) level.now.moment) depth
         level.now.layout.now level.now.links.now chain.steps)) }
     ensures differ { IfOk result (λ found. IfSome found (λ chain.
         NamesDiffer (links_in chain.steps))) }
 {
     let bare = bare_layout(alloc, level.layout)?;
     let mut meter = Meter { asked: 0 };
-    match verify_chain(
+    match verify_chain_by(
         alloc,
         &bare,
         level.links,
         level.moment,
         depth,
-        panel,
+        checks,
         &mut meter,
     ) {
         Ok(chain) => Ok(Some(chain)),

@@ -1,6 +1,5 @@
 //! The file that a sublayout is in.
-ghost use Rattle.std.specs.Prelude.{◌≡◌, ◌++◌, Contains, IfOk, IfSome, OnOk, map};
-ghost use Rattle.it_dsse.specs.Panel.{panel_of};
+ghost use Rattle.std.specs.Prelude.{◌≡◌, ◌++◌, Contains, IfOk, IfSome, OnOk};
 ghost use Rattle.it_rule_notes.specs.CountingFile.{IsLayoutBody, setting_of};
 ghost use Rattle.it_rule_notes.specs.Sublayout.{TellsSublayout, sublayout_line};
 
@@ -9,7 +8,7 @@ use crate::level::Level;
 use crate::line::{push_key, push_told};
 use crate::rule_place::step_named;
 use it_base::text::Text;
-use it_dsse::check::SignatureCheck;
+use it_dsse::checks::Checks;
 use std::alloc::{AllocError, Global};
 
 /// A file that holds a sublayout which counts for a key id of a step.
@@ -25,28 +24,28 @@ pub struct SublayoutNote {
 
 /// Says which file holds a sublayout that counts for a key id of a step (in-toto 1.0, section 5.2).
 ///
-/// `step` is the name of a step of the layout of `level`, `id` the key id, and `panel` the checks
-/// that are asked. The answer is `None` where no file holds such a sublayout.
+/// `step` is the name of a step of the layout of `level`, `id` the key id, and the `checks` check
+/// the signatures. The answer is `None` where no file holds such a sublayout.
 ///
 /// # Errors
 ///
 /// `AllocError` where memory was refused.
-pub fn sublayout_note(
+pub fn sublayout_note<C: Checks>(
     alloc: Global,
     level: &Level,
     step: &str,
     id: &str,
-    panel: &[Box<dyn SignatureCheck>],
+    checks: &C,
 ) -> Result<Option<SublayoutNote>, AllocError>
     ensures { IfOk result (λ found. IfSome found (λ note.
         (note.step ≡ step.now) × (note.id ≡ id.now)
-        × TellsSublayout (setting_of (panel_of (map meaning panel.now)) level.now.moment)
+        × TellsSublayout (setting_of (C.panel checks.now) level.now.moment)
         level.now.layout.now level.now.links.now note)) }
 {
     let Some(asked) = step_named(level.layout.steps.as_slice(), step) else {
         return Ok(None);
     };
-    let files = counting_files(alloc, level, asked, id, panel)?;
+    let files = counting_files(alloc, level, asked, id, checks)?;
     let Some(file) = layout_among(alloc, files.as_slice())? else {
         return Ok(None);
     };

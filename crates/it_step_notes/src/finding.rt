@@ -1,6 +1,5 @@
 //! What is found in a file that is claimed for a step.
-ghost use Rattle.std.specs.Prelude.{◌↔◌, IfOk, IsTrue, MatchOption, map};
-ghost use Rattle.it_dsse.specs.Panel.{panel_of};
+ghost use Rattle.std.specs.Prelude.{◌↔◌, IfOk, IsTrue, MatchOption};
 ghost use Rattle.it_docs.specs.Layout.{LayoutOf};
 ghost use Rattle.it_docs.specs.declared.layout.Layout.{Layout};
 ghost use Rattle.it_chain.specs.CountedBodies.{Body, BodyOf};
@@ -12,44 +11,44 @@ use crate::step_at::StepAt;
 use it_base::sequence::Sequence;
 use it_base::text::Text;
 use it_chain::{envelope_in, layout_in, link_in};
-use it_dsse::check::SignatureCheck;
+use it_dsse::checks::Checks;
 use it_dsse::envelope::Envelope;
 use it_dsse::payload_type::IN_TOTO;
 use std::alloc::{AllocError, Global};
 
 /// What is found in a file's bytes for a step.
-pub(crate) fn finding_in(
+pub(crate) fn finding_in<C: Checks>(
     alloc: Global,
     at: &StepAt,
     bytes: &[u8],
-    panel: &[Box<dyn SignatureCheck>],
+    checks: &C,
 ) -> Result<Finding, AllocError>
-    ensures { IfOk result (IsFinding (panel_of (map meaning panel.now)) at.now.layout.now
+    ensures { IfOk result (IsFinding (C.panel checks.now) at.now.layout.now
         at.now.step.now bytes.now) }
 {
     match envelope_in(alloc, bytes)? {
-        Some(envelope) => finding_of(alloc, at, &envelope, panel),
+        Some(envelope) => finding_of(alloc, at, &envelope, checks),
         None => Ok(Finding::NoEnvelope),
     }
 }
 
-fn finding_of(
+fn finding_of<C: Checks>(
     alloc: Global,
     at: &StepAt,
     envelope: &Envelope,
-    panel: &[Box<dyn SignatureCheck>],
+    checks: &C,
 ) -> Result<Finding, AllocError>
-    ensures { IfOk result (IsFindingOf (panel_of (map meaning panel.now)) at.now.layout.now
+    ensures { IfOk result (IsFindingOf (C.panel checks.now) at.now.layout.now
         at.now.step.now envelope.now) }
 {
     let kind = envelope.payload_type.as_str();
     if kind != IN_TOTO {
         return Ok(Finding::PayloadType(Text::copy(alloc, kind)?));
     }
-    let ids = signing_ids(alloc, at, envelope, panel)?;
+    let ids = signing_ids(alloc, at, envelope, checks)?;
     let signed = ids.as_slice();
     if signed.is_empty() {
-        let others = other_ids(alloc, at, envelope, panel)?;
+        let others = other_ids(alloc, at, envelope, checks)?;
         return Ok(Finding::NoSignature(Sequence::from(others)));
     }
     match no_body(alloc, at.step.name.as_str(), envelope.payload.as_slice())? {

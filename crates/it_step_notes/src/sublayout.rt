@@ -1,8 +1,7 @@
 //! From a layout down to a sublayout (in-toto 1.0 sections 4.4 and 5.2).
 ghost use Rattle.std.specs.Prelude.{◌≡◌, ◌≢◌, ◌↔◌, All, Contains, IfOk, IfSome, IsTrue};
-ghost use Rattle.std.specs.Prelude.{MatchOption, map, option_map};
+ghost use Rattle.std.specs.Prelude.{MatchOption, option_map};
 ghost use Rattle.it_base.specs.Finds.{Finds, FindsAs};
-ghost use Rattle.it_dsse.specs.Panel.{panel_of};
 ghost use Rattle.it_chain.specs.Contents.{folder_at};
 ghost use Rattle.it_chain.specs.Sublayouts.{folder_name as folder_name_of};
 ghost use Rattle.it_step_notes.specs.Sublayout.{HoldsLayout, IsSublayoutIn, IsSublayoutOf};
@@ -17,7 +16,7 @@ use it_chain::bundle::{Bundle, File};
 use it_chain::{envelope_in, folder_name};
 use it_docs::layout::Layout;
 use it_docs::step::Step;
-use it_dsse::check::SignatureCheck;
+use it_dsse::checks::Checks;
 use it_dsse::payload_type::IN_TOTO;
 use std::alloc::{AllocError, Global};
 
@@ -33,20 +32,20 @@ pub struct Sublayout<'a> {
 /// A sublayout that a key id signed for a step of a layout, in a file of the bundle that is claimed
 /// for the step, and the folder that its files are in: one place down, as a refusal names it
 /// (in-toto 1.0 sections 4.4 and 5.2). `place` is the name of the step and the key id. `None` where
-/// there is no such sublayout. Signatures are checked by the `panel`.
+/// there is no such sublayout. Signatures are checked by the `checks`.
 ///
 /// # Errors
 ///
 /// `AllocError` where memory was refused.
-pub fn sublayout_at<'a>(
+pub fn sublayout_at<'a, C: Checks>(
     alloc: Global,
     layout: &Layout,
     bundle: &'a Bundle,
     place: &(Text, Text),
-    panel: &[Box<dyn SignatureCheck>],
+    checks: &C,
 ) -> Result<Option<Sublayout<'a>>, AllocError>
     ensures leads { IfOk result (FindsAs (λ below. below.signed)
-        (LeadsDown (panel_of (map meaning panel.now)) layout.now bundle.now place.now.0
+        (LeadsDown (C.panel checks.now) layout.now bundle.now place.now.0
         place.now.1)) }
     ensures folder { IfOk result (λ found. IfSome found (λ below.
         option_map (λ folder. folder.now) below.folder
@@ -61,7 +60,7 @@ pub fn sublayout_at<'a>(
         bundle,
         step,
     };
-    let Some(signed) = sublayout_of(alloc, &at, id, panel)? else {
+    let Some(signed) = sublayout_of(alloc, &at, id, checks)? else {
         return Ok(None);
     };
     let folder = folder_name(alloc, name, id)?;
@@ -84,20 +83,20 @@ fn step_named<'a>(steps: &'a [Step], name: &str) -> Option<&'a Step>
 }
 
 /// The sublayout that a key id signed for a step.
-fn sublayout_of(
+fn sublayout_of<C: Checks>(
     alloc: Global,
     at: &StepAt,
     id: &str,
-    panel: &[Box<dyn SignatureCheck>],
+    checks: &C,
 ) -> Result<Option<SignedLayout>, AllocError>
-    ensures { IfOk result (Finds (IsSublayoutOf (panel_of (map meaning panel.now))
+    ensures { IfOk result (Finds (IsSublayoutOf (C.panel checks.now)
         at.now.layout.now at.now.bundle.now at.now.step.now id.now)) }
 {
     if !is_listed(at.step.pubkeys.as_slice(), id) {
         return Ok(None);
     }
     for file in at.bundle.files() {
-        if let Some(found) = sublayout_in(alloc, at, id, file, panel)? {
+        if let Some(found) = sublayout_in(alloc, at, id, file, checks)? {
             return Ok(Some(found));
         }
     }
@@ -111,31 +110,31 @@ fn is_listed(ids: &[Text], id: &str) -> bool
 }
 
 /// The sublayout that a file holds, where a key id signed it for the step.
-fn sublayout_in(
+fn sublayout_in<C: Checks>(
     alloc: Global,
     at: &StepAt,
     id: &str,
     file: &File,
-    panel: &[Box<dyn SignatureCheck>],
+    checks: &C,
 ) -> Result<Option<SignedLayout>, AllocError>
-    ensures { IfOk result (Finds (IsSublayoutIn (panel_of (map meaning panel.now))
+    ensures { IfOk result (Finds (IsSublayoutIn (C.panel checks.now)
         at.now.layout.now at.now.step.now id.now file.now)) }
 {
     if !is_claimed(at.step.name.as_str(), file.name.as_str()) {
         return Ok(None);
     }
-    signed_layout(alloc, at.layout, id, file.bytes.as_slice(), panel)
+    signed_layout(alloc, at.layout, id, file.bytes.as_slice(), checks)
 }
 
 /// The layout in the payload of an envelope that is signed under a key id.
-fn signed_layout(
+fn signed_layout<C: Checks>(
     alloc: Global,
     layout: &Layout,
     id: &str,
     bytes: &[u8],
-    panel: &[Box<dyn SignatureCheck>],
+    checks: &C,
 ) -> Result<Option<SignedLayout>, AllocError>
-    ensures { IfOk result (Finds (HoldsLayout (panel_of (map meaning panel.now))
+    ensures { IfOk result (Finds (HoldsLayout (C.panel checks.now)
         layout.now id.now bytes.now)) }
 {
     let Some(envelope) = envelope_in(alloc, bytes)? else {
@@ -144,7 +143,7 @@ fn signed_layout(
     if envelope.payload_type.as_str() != IN_TOTO {
         return Ok(None);
     }
-    if !is_signed_under(layout, &envelope, id, panel) {
+    if !is_signed_under(layout, &envelope, id, checks) {
         return Ok(None);
     }
     SignedLayout::in_envelope(alloc, envelope)

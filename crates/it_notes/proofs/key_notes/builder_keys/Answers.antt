@@ -1,7 +1,6 @@
-use Rattle.std.proofs.Common.{map, rules}
+use Rattle.std.proofs.Common.{rules}
 use Rattle.std.proofs.lemmas.List.Elements.{All-weaker}
 use Rattle.it_docs.specs.Policy.{PolicyOf}
-use Rattle.it_dsse.specs.Panel.{panel_of}
 use Rattle.it_key_notes.specs.UnknownKeys.{IsUnknownOfBuilders}
 use Rattle.it_prov.specs.Fits.{Fits}
 use Rattle.it_notes.specs.KeyNotes.{IsOfBuilder}
@@ -9,9 +8,7 @@ use Rattle.it_notes.proofs.key_notes.builder_keys.Goals as goal
 
 pub returns : goal.returns
 returns g c =
-    let panel = panel_of
-    (map (λ check. (goal.SignatureCheck-dyn g (check.vtable, check.value)).meaning check.value)
-    c.args.panel.now) in
+    let panel = g.C.Checks.panel c.args.checks.now in
     let inputs = c.args.inputs.now in
     let path = c.args.path.now in
     let policy = c.in-Some.policy in

@@ -1,16 +1,13 @@
-use Rattle.std.proofs.Common.{map, rules}
+use Rattle.std.proofs.Common.{rules}
 use Rattle.std.proofs.lemmas.List.Elements.{All-weaker}
 use Rattle.it_docs.specs.Policy.{PolicyOf}
-use Rattle.it_dsse.specs.Panel.{panel_of}
 use Rattle.it_key_notes.specs.UnknownKeys.{IsUnknownIn}
 use Rattle.it_notes.specs.KeyNotes.{IsOfOwner}
 use Rattle.it_notes.proofs.key_notes.owner_keys.Goals as goal
 
 pub returns : goal.returns
 returns g c =
-    let panel = panel_of
-    (map (λ check. (goal.SignatureCheck-dyn g (check.vtable, check.value)).meaning check.value)
-    c.args.panel.now) in
+    let panel = g.C.Checks.panel c.args.checks.now in
     let policy = c.in-Some.policy in
     let reads : PolicyOf c.args.inputs.now.policy policy = search rules in
     All-weaker (IsUnknownIn panel policy.owners) (IsOfOwner panel c.args.inputs.now)

@@ -1,6 +1,5 @@
-use Rattle.std.proofs.Common.{Contains, map}
+use Rattle.std.proofs.Common.{Contains}
 use Rattle.std.proofs.lemmas.List.Elements.{All-weaker}
-use Rattle.it_dsse.specs.Panel.{panel_of}
 use Rattle.it_key_notes.specs.UnknownKeys.{IsUnknownUnder}
 use Rattle.it_notes.specs.KeyNotes.{IsOfStep}
 use Rattle.it_notes.specs.Level.{IsLevel}
@@ -8,9 +7,7 @@ use Rattle.it_notes.proofs.key_notes.step_keys.Goals as goal
 
 pub returns : goal.returns
 returns g c =
-    let panel = panel_of
-    (map (λ check. (goal.SignatureCheck-dyn g (check.vtable, check.value)).meaning check.value)
-    c.args.panel.now) in
+    let panel = g.C.Checks.panel c.args.checks.now in
     let inputs = c.args.inputs.now in
     let level = c.in-Some.level in
     let step = c.in-Some-step_named.step.now in

@@ -1,5 +1,4 @@
 use Rattle.std.proofs.Common.{All, IfSome, ap, map, sym}
-use Rattle.it_dsse.specs.Panel.{panel_of}
 use Rattle.it_report.specs.declared.refusal.Fault.TheVariants.{Threshold}
 use Rattle.it_step_notes.specs.StepNotes.{Holds}
 use Rattle.it_step_notes.specs.declared.note.StepNote.{StepNote}
@@ -11,9 +10,7 @@ use Rattle.it_notes.proofs.steps.step_told.Goals as goal
 
 pub returns : goal.returns
 returns g c =
-    let panel = panel_of
-    (map (λ check. (goal.SignatureCheck-dyn g (check.vtable, check.value)).meaning check.value)
-    c.args.panel.now) in
+    let panel = g.C.Checks.panel c.args.checks.now in
     let level = c.args.level.now in
     let step = c.in-Some.step.now in
     let P : StepNote → Type 0 = Holds panel level.signed.layout level.links.now step in

@@ -1,5 +1,4 @@
-use Rattle.std.proofs.Common.{◌≡◌, ◌∙◌, List, eqb-true, length, map, subst, sym}
-use Rattle.it_dsse.specs.Panel.{panel_of}
+use Rattle.std.proofs.Common.{◌≡◌, ◌∙◌, List, eqb-true, length, subst, sym}
 use Rattle.it_dsse.specs.Signed.{AreThose}
 use Rattle.it_docs.specs.declared.policy.Builder.{Builder}
 use Rattle.it_prov.specs.Meets.{SignedByBuilder}
@@ -9,9 +8,7 @@ use Rattle.it_prov_notes.proofs.envelope.envelope_misses.Goals as goal
 
 pub returns-then-not-is_empty : goal.returns-then-not-is_empty
 returns-then-not-is_empty g c =
-    let panel = panel_of
-    (map (λ check. (goal.SignatureCheck-dyn g (check.vtable, check.value)).meaning check.value)
-    c.args.panel.now) in
+    let panel = g.C.Checks.panel c.args.checks.now in
     let signers = c.in_ok-signers.signers.items in
     let are : AreSigners panel c.args.delivery.now.expectation.now c.args.envelope.now signers =
     subst (λ (builders : List Builder). AreThose (SignedByBuilder panel c.args.envelope.now)
@@ -20,9 +17,7 @@ returns-then-not-is_empty g c =
 
 pub returns-then-branch : goal.returns-then-branch
 returns-then-branch g c =
-    let panel = panel_of
-    (map (λ check. (goal.SignatureCheck-dyn g (check.vtable, check.value)).meaning check.value)
-    c.args.panel.now) in
+    let panel = g.C.Checks.panel c.args.checks.now in
     let signers = c.in_ok-signers.signers.items in
     let are : AreSigners panel c.args.delivery.now.expectation.now c.args.envelope.now signers =
     subst (λ (builders : List Builder). AreThose (SignedByBuilder panel c.args.envelope.now)

@@ -1,6 +1,5 @@
-use Rattle.std.proofs.Common.{◌+◌, arith, map}
+use Rattle.std.proofs.Common.{◌+◌, arith}
 use Rattle.std.proofs.lemmas.List.Elements.{All-push}
-use Rattle.it_dsse.specs.Panel.{panel_of}
 use Rattle.it_prov_notes.specs.ProvenanceNotes.{Holds}
 use Rattle.it_prov_notes.specs.declared.note.ProvenanceNote.{ProvenanceNote}
 use Rattle.it_prov_notes.proofs.Following.{next_follows, next_line}
@@ -8,9 +7,7 @@ use Rattle.it_prov_notes.proofs.notes.missing_notes.Goals as goal
 
 pub loop-rest-preserved-in_ok-push : goal.loop-rest-preserved-in_ok-push
 loop-rest-preserved-in_ok-push g c =
-    let panel = panel_of
-    (map (λ check. (goal.SignatureCheck-dyn g (check.vtable, check.value)).meaning check.value)
-    c.args.panel.now) in
+    let panel = g.C.Checks.panel c.args.checks.now in
     let delivery = c.args.delivery.now in
     let provenance = delivery.provenance.now in
     let l = c.loop-rest.invariant in

@@ -1,5 +1,4 @@
-use Rattle.std.proofs.Common.{◌+◌, ◌≤◌, All, length, map}
-use Rattle.it_dsse.specs.Panel.{panel_of}
+use Rattle.std.proofs.Common.{◌+◌, ◌≤◌, All, length}
 use Rattle.it_prov_notes.specs.ProvenanceNotes.{Holds}
 use Rattle.it_prov_notes.proofs.Following.{Follows}
 use Rattle.it_prov_notes.proofs.notes.missing_notes.Given as goal
@@ -7,9 +6,8 @@ use Rattle.it_prov_notes.proofs.notes.missing_notes.Given as goal
 -- the notes so far are true, and the rest follows so many lines
 abbrev pub invariant-loop-rest : goal.invariant-loop-rest
 invariant-loop-rest g l = record {
-  are_true : All (Holds (panel_of
-      (map (λ check. (goal.SignatureCheck-dyn g (check.vtable, check.value)).meaning check.value)
-      l.panel)) l.delivery.expectation.now l.delivery.digests l.delivery.provenance.now)
+  are_true : All (Holds (g.C.Checks.panel l.checks)
+      l.delivery.expectation.now l.delivery.digests l.delivery.provenance.now)
       l.notes.items;
   so_far : Follows l.delivery.provenance.now l.number l.rest;
   in_range : l.number + length l.rest ≤ length l.delivery.provenance.now;

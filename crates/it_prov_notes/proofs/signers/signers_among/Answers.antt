@@ -1,5 +1,4 @@
-use Rattle.std.proofs.Common.{◌≡◌, Bor, map, true, refl}
-use Rattle.it_dsse.specs.Panel.{panel_of}
+use Rattle.std.proofs.Common.{◌≡◌, Bor, true, refl}
 use Rattle.it_dsse.proofs.Keeping.{keep_more, pass_more}
 use Rattle.it_docs.specs.declared.policy.Builder.{Builder}
 use Rattle.it_prov.specs.Meets.{SignedByBuilder}
@@ -9,9 +8,7 @@ use Rattle.it_prov_notes.proofs.signers.signers_among.Goals.{else-has_signed}
 
 pub loop-builder-preserved : goal.loop-builder-preserved
 loop-builder-preserved g c =
-    let panel = panel_of
-    (map (λ check. (goal.SignatureCheck-dyn g (check.vtable, check.value)).meaning check.value)
-    c.args.panel.now) in
+    let panel = g.C.Checks.panel c.args.checks.now in
     let signs = SignedByBuilder panel c.args.envelope.now in
     let itself = λ (builder : Builder). builder in
     elim c.if-has_signed.branch [

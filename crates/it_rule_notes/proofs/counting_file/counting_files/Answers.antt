@@ -1,14 +1,11 @@
-use Rattle.std.proofs.Common.{◌<◌, Contains, arith, length, map, subst, sym}
+use Rattle.std.proofs.Common.{◌<◌, Contains, arith, length, subst, sym}
 use Rattle.std.proofs.lemmas.List.Elements.{Contains-get_or}
-use Rattle.it_dsse.specs.Panel.{panel_of}
 use Rattle.it_rule_notes.proofs.CountingFiles.{more_counting}
 use Rattle.it_rule_notes.proofs.counting_file.counting_files.Goals as goal
 
 pub loop-file-preserved : goal.loop-file-preserved
 loop-file-preserved g c =
-    let panel = panel_of
-    (map (λ check. (goal.SignatureCheck-dyn g (check.vtable, check.value)).meaning check.value)
-    c.args.panel.now) in
+    let panel = g.C.Checks.panel c.args.checks.now in
     let files = c.files-file-items.result.now in
     let below : c.loop-file.file-index < length files = omega arith in
     let stands = subst (Contains files) (sym c.file-item.is)

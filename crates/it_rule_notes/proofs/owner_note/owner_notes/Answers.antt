@@ -1,10 +1,9 @@
-use Rattle.std.proofs.Common.{◌≡◌, ◌∙◌, ℕ, List, [], ◌∷◌, ◌++◌, map, string_bytes, ap, subst, sym}
+use Rattle.std.proofs.Common.{◌≡◌, ◌∙◌, ℕ, List, [], ◌∷◌, ◌++◌, string_bytes, ap, subst, sym}
 use Rattle.std.proofs.Common.{append_assoc, append-nil}
 use Rattle.std.specs.FinMap.{entries}
 use Rattle.std.specs.List.{AllZip}
 use Rattle.std.proofs.lemmas.Slice.Zip.{all_zipped_more}
 use Rattle.it_base.specs.Table.{named_entries}
-use Rattle.it_dsse.specs.Panel.{panel_of}
 use Rattle.it_dsse.specs.declared.key_object.KeyObject.{KeyObject}
 use Rattle.it_rule_notes.specs.Owner.{IsOnOwner}
 use Rattle.it_rule_notes.proofs.Owners.{each_told}
@@ -15,9 +14,7 @@ loop-id-init g c = ([], cc, rw c.new-notes.ensures.items tt)
 
 pub loop-id-preserved : goal.loop-id-preserved
 loop-id-preserved g c =
-    let panel = panel_of
-    (map (λ check. (goal.SignatureCheck-dyn g (check.vtable, check.value)).meaning check.value)
-    c.args.panel.now) in
+    let panel = g.C.Checks.panel c.args.checks.now in
     let l = c.loop-id in
     let done = l.invariant.0 in
     let owner : List ℕ × KeyObject = (string_bytes c.in-Some.id.now, c.in-Some.object.now) in
@@ -34,9 +31,7 @@ loop-id-preserved g c =
 
 pub returns-clause-each : goal.returns-clause-each
 returns-clause-each g c =
-    let panel = panel_of
-    (map (λ check. (goal.SignatureCheck-dyn g (check.vtable, check.value)).meaning check.value)
-    c.args.panel.now) in
+    let panel = g.C.Checks.panel c.args.checks.now in
     let l = c.loop-id in
     let whole : entries c.args.owners.now ≡ l.invariant.0 = l.invariant.1
     ∙ ap (λ es. l.invariant.0 ++ named_entries es) c.in-None.ensures.steps.0
@@ -46,8 +41,6 @@ returns-clause-each g c =
 
 pub returns-clause-told : goal.returns-clause-told
 returns-clause-told g c =
-    let panel = panel_of
-    (map (λ check. (goal.SignatureCheck-dyn g (check.vtable, check.value)).meaning check.value)
-    c.args.panel.now) in
+    let panel = g.C.Checks.panel c.args.checks.now in
     each_told panel c.args.envelope.now c.args.owners.now c.loop-id.notes.items
     (returns-clause-each g c)

@@ -1,6 +1,5 @@
-use Rattle.std.proofs.Common.{map, rules, w64}
+use Rattle.std.proofs.Common.{rules, w64}
 use Rattle.std.proofs.lemmas.Int.{to_z-of_z}
-use Rattle.it_dsse.specs.Panel.{panel_of}
 use Rattle.it_rule_notes.specs.CountingFile.{setting_of}
 use Rattle.it_rule_notes.proofs.StepRecords.{records_differ}
 use Rattle.it_rule_notes.proofs.step_records.step_records.Goals as goal
@@ -14,9 +13,7 @@ returns-in-Ok-clause-are g c = record {
 
 pub returns-in-Ok-clause-differ : goal.returns-in-Ok-clause-differ
 returns-in-Ok-clause-differ g c =
-    let panel = panel_of
-    (map (λ check. (goal.SignatureCheck-dyn g (check.vtable, check.value)).meaning check.value)
-    c.args.panel.now) in
+    let panel = g.C.Checks.panel c.args.checks.now in
     records_differ (setting_of panel c.args.level.now.moment) c.args.depth c.in_ok-bare.bare
     c.args.level.now.links.now c.in-Ok.chain.steps
     (rw (to_z-of_z w64 c.args.level.now.moment (search rules)) at c.in-Ok.ensures.ok)

@@ -1,5 +1,4 @@
-use Rattle.std.proofs.Common.{◌∙◌, map, sym}
-use Rattle.it_dsse.specs.Panel.{panel_of}
+use Rattle.std.proofs.Common.{◌∙◌, sym}
 use Rattle.it_rule_notes.specs.CountingFile.{setting_of}
 use Rattle.it_rule_notes.specs.declared.sublayout_note.SublayoutNote.{SublayoutNote}
 use Rattle.it_rule_notes.proofs.Told.{sublayout_told}
@@ -7,9 +6,7 @@ use Rattle.it_rule_notes.proofs.sublayout_note.sublayout_note.Goals as goal
 
 pub returns : goal.returns
 returns g c =
-    let panel = panel_of
-    (map (λ check. (goal.SignatureCheck-dyn g (check.vtable, check.value)).meaning check.value)
-    c.args.panel.now) in
+    let panel = g.C.Checks.panel c.args.checks.now in
     let note : SublayoutNote = record {
       step = c.in_ok-copy.field-0;
       id = c.in_ok-copy-2.field-0;

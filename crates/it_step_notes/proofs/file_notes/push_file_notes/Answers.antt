@@ -1,5 +1,4 @@
-use Rattle.std.proofs.Common.{Contains, List, map, subst}
-use Rattle.it_dsse.specs.Panel.{panel_of}
+use Rattle.std.proofs.Common.{Contains, List, subst}
 use Rattle.it_chain.specs.declared.bundle.File.{File}
 use Rattle.it_step_notes.specs.StepNotes.{Holds}
 use Rattle.it_base.proofs.Elements.{contains_at, kept_all}
@@ -13,9 +12,7 @@ file_note-requires g c =
 
 pub loop-file-preserved : goal.loop-file-preserved
 loop-file-preserved g c =
-    let panel = panel_of
-    (map (λ check. (goal.SignatureCheck-dyn g (check.vtable, check.value)).meaning check.value)
-    c.args.panel.now) in
+    let panel = g.C.Checks.panel c.args.checks.now in
     rw c.in_ok-keep.ensures
     (kept_all (Holds panel c.args.at.now.layout.now c.args.at.now.bundle.now c.args.at.now.step.now)
     c.loop-file.notes.items _ c.loop-file.invariant c.in_ok-file_note.ensures)

@@ -1,5 +1,4 @@
-use Rattle.std.proofs.Common.{◌≡◌, ◌∙◌, ◌==◌, [], ap, length, map, rules, sym, true}
-use Rattle.it_dsse.specs.Panel.{panel_of}
+use Rattle.std.proofs.Common.{◌≡◌, ◌∙◌, ◌==◌, [], ap, length, rules, sym, true}
 use Rattle.it_chain.proofs.Walks.{nil_of}
 use Rattle.it_step_notes.specs.Signing.{IsSignedUnder}
 use Rattle.it_step_notes.proofs.Those.{none_holds, those_hold, those_stand}
@@ -7,9 +6,7 @@ use Rattle.it_step_notes.proofs.finding.finding_of.Goals as goal
 
 pub returns-then-is_empty : goal.returns-then-is_empty
 returns-then-is_empty g c =
-    let panel = panel_of
-    (map (λ check. (goal.SignatureCheck-dyn g (check.vtable, check.value)).meaning check.value)
-    c.args.panel.now) in
+    let panel = g.C.Checks.panel c.args.checks.now in
     let none : c.in_ok-ids.ids.items ≡ [] = sym c.as_slice-signed.ensures.value
     ∙ nil_of c.as_slice-signed.result.now (sym c.is_empty.ensures ∙ c.if-is_empty.true) in
     let P = IsSignedUnder panel c.args.at.now.layout.now c.args.envelope.now in
@@ -22,9 +19,7 @@ returns-then-is_empty g c =
 
 pub returns-in-None : goal.returns-in-None
 returns-in-None g c =
-    let panel = panel_of
-    (map (λ check. (goal.SignatureCheck-dyn g (check.vtable, check.value)).meaning check.value)
-    c.args.panel.now) in
+    let panel = g.C.Checks.panel c.args.checks.now in
     let P = IsSignedUnder panel c.args.at.now.layout.now c.args.envelope.now in
     let pubkeys = c.args.at.now.step.now.pubkeys in
     let ids = c.in_ok-ids.ids.items in

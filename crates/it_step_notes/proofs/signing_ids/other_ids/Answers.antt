@@ -3,7 +3,6 @@ use Rattle.std.proofs.Common.{append_assoc, append-nil, subst}
 use Rattle.std.proofs.lemmas.List.{map-append}
 use Rattle.std.specs.FinMap.{entries}
 use Rattle.it_base.specs.Table.{Named, named_entries}
-use Rattle.it_dsse.specs.Panel.{panel_of}
 use Rattle.it_dsse.specs.Signed.{AreThose}
 use Rattle.it_dsse.specs.declared.key_object.KeyObject.{KeyObject}
 use Rattle.it_dsse.proofs.Keeping.{keep_last, pass_last}
@@ -22,9 +21,7 @@ one_named keys done e before left all step =
 
 pub loop-id-preserved-in_ok-push : goal.loop-id-preserved-in_ok-push
 loop-id-preserved-in_ok-push g c =
-    let panel = panel_of
-    (map (λ check. (goal.SignatureCheck-dyn g (check.vtable, check.value)).meaning check.value)
-    c.args.panel.now) in
+    let panel = g.C.Checks.panel c.args.checks.now in
     let P = IsNamedSigner panel c.args.at.now.layout.now c.args.envelope.now in
     let at = c.loop-id.invariant in
     let e : List ℕ × KeyObject = (string_bytes c.in-Some.id.now, c.in-Some.field-0-1.now) in
@@ -45,9 +42,7 @@ loop-id-preserved-in_ok-push g c =
 
 pub loop-id-preserved : goal.loop-id-preserved
 loop-id-preserved g c =
-    let panel = panel_of
-    (map (λ check. (goal.SignatureCheck-dyn g (check.vtable, check.value)).meaning check.value)
-    c.args.panel.now) in
+    let panel = g.C.Checks.panel c.args.checks.now in
     let P = IsNamedSigner panel c.args.at.now.layout.now c.args.envelope.now in
     let at = c.loop-id.invariant in
     let e : List ℕ × KeyObject = (string_bytes c.in-Some.id.now, c.in-Some.field-0-1.now) in
@@ -66,9 +61,7 @@ loop-id-preserved g c =
 
 pub returns : goal.returns
 returns g c =
-    let panel = panel_of
-    (map (λ check. (goal.SignatureCheck-dyn g (check.vtable, check.value)).meaning check.value)
-    c.args.panel.now) in
+    let panel = g.C.Checks.panel c.args.checks.now in
     let P = IsNamedSigner panel c.args.at.now.layout.now c.args.envelope.now in
     let at = c.loop-id.invariant in
     let name = λ (x : List ℕ × KeyObject). x.0 in

@@ -1,7 +1,6 @@
 use Rattle.std.proofs.Common.{◌≡◌, ℕ, List, ◌++◌, map}
 use Rattle.std.specs.FinMap.{entries}
 use Rattle.it_base.specs.Table.{named_entries}
-use Rattle.it_dsse.specs.Panel.{panel_of}
 use Rattle.it_dsse.specs.Signed.{AreThose}
 use Rattle.it_dsse.specs.declared.key_object.KeyObject.{KeyObject}
 use Rattle.it_step_notes.specs.Signing.{IsNamedSigner}
@@ -12,6 +11,5 @@ abbrev pub invariant-loop-id : goal.invariant-loop-id
 invariant-loop-id g l =
     (done : List (List ℕ × KeyObject))
     × (entries l.at.layout.now.keys ≡ done ++ named_entries l.id-iterator)
-    × AreThose (IsNamedSigner (panel_of
-    (map (λ check. (goal.SignatureCheck-dyn g (check.vtable, check.value)).meaning check.value)
-    l.panel)) l.at.layout.now l.envelope) (map (λ e. e.0) done) l.ids.items
+    × AreThose (IsNamedSigner (g.C.Checks.panel l.checks) l.at.layout.now l.envelope)
+    (map (λ e. e.0) done) l.ids.items

@@ -1,5 +1,4 @@
-use Rattle.std.proofs.Common.{◌≡◌, ◌∙◌, map, true}
-use Rattle.it_dsse.specs.Panel.{panel_of}
+use Rattle.std.proofs.Common.{◌≡◌, ◌∙◌, true}
 use Rattle.it_step_notes.specs.Signing.{IsSignedUnder}
 use Rattle.it_step_notes.proofs.Those.{one_kept, one_passed}
 use Rattle.it_step_notes.proofs.signing_ids.signing_ids.Goals as goal
@@ -10,9 +9,7 @@ use Rattle.it_step_notes.proofs.signing_ids.signing_ids.Goals.{
 
 pub loop-id-preserved : goal.loop-id-preserved
 loop-id-preserved g c =
-    let panel = panel_of
-    (map (λ check. (goal.SignatureCheck-dyn g (check.vtable, check.value)).meaning check.value)
-    c.args.panel.now) in
+    let panel = g.C.Checks.panel c.args.checks.now in
     let P = IsSignedUnder panel c.args.at.now.layout.now c.args.envelope.now in
     let ids = c.as_slice-id-items.result.now in
     elim c.if-is_signed_under.branch [

@@ -1,11 +1,9 @@
-use Rattle.std.proofs.Common.{map, take}
-use Rattle.it_dsse.specs.Panel.{panel_of}
+use Rattle.std.proofs.Common.{take}
 use Rattle.it_dsse.specs.Signed.{AreThose}
 use Rattle.it_step_notes.specs.Signing.{IsSignedUnder}
 use Rattle.it_step_notes.proofs.signing_ids.signing_ids.Given as goal
 
 -- those of the ids so far that signed
 abbrev pub invariant-loop-id : goal.invariant-loop-id
-invariant-loop-id g l = AreThose (IsSignedUnder (panel_of
-    (map (λ check. (goal.SignatureCheck-dyn g (check.vtable, check.value)).meaning check.value)
-    l.panel)) l.at.layout.now l.envelope) (take l.id-index l.id-items) l.ids.items
+invariant-loop-id g l = AreThose (IsSignedUnder (g.C.Checks.panel l.checks)
+    l.at.layout.now l.envelope) (take l.id-index l.id-items) l.ids.items

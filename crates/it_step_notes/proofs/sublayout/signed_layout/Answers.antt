@@ -1,5 +1,4 @@
-use Rattle.std.proofs.Common.{◌≡◌, map, refl, rules, subst, true}
-use Rattle.it_dsse.specs.Panel.{panel_of}
+use Rattle.std.proofs.Common.{◌≡◌, refl, rules, subst, true}
 use Rattle.it_docs.specs.Layout.{LayoutOf}
 use Rattle.it_dsse.specs.Envelope.{EnvelopeOf}
 use Rattle.it_dsse.specs.declared.envelope.Envelope.{Envelope}
@@ -12,9 +11,7 @@ use Rattle.it_step_notes.proofs.sublayout.signed_layout.Goals as goal
 
 pub returns : goal.returns
 returns g c =
-    let panel = panel_of
-    (map (λ check. (goal.SignatureCheck-dyn g (check.vtable, check.value)).meaning check.value)
-    c.args.panel.now) in
+    let panel = g.C.Checks.panel c.args.checks.now in
     let bytes = c.args.bytes.now in
     let envelope = c.in-Some.envelope in
     let reads : EnvelopeOf bytes envelope = rw c.in-Some.is at c.in_ok-envelope.ensures in
@@ -42,9 +39,7 @@ returns-in_default g c = λ below is.
 
 pub returns-then-not-is_signed_under : goal.returns-then-not-is_signed_under
 returns-then-not-is_signed_under g c = λ below is.
-    let panel = panel_of
-    (map (λ check. (goal.SignatureCheck-dyn g (check.vtable, check.value)).meaning check.value)
-    c.args.panel.now) in
+    let panel = g.C.Checks.panel c.args.checks.now in
     let bytes = c.args.bytes.now in
     let envelope = c.in-Some.envelope in
     let reads : EnvelopeOf bytes envelope = rw c.in-Some.is at c.in_ok-envelope.ensures in

@@ -1,7 +1,6 @@
 use Rattle.std.proofs.Common.{◌≡◌, ◌∙◌, Contains, map, subst, sym}
 use Rattle.std.proofs.lemmas.Map.Made.{AllPairs-from_IsDistinct}
 use Rattle.std.proofs.lemmas.Slice.Eq.{bytes_eq-Decides}
-use Rattle.it_dsse.specs.Panel.{panel_of}
 use Rattle.it_docs.specs.Step.{names_of}
 use Rattle.it_docs.specs.declared.step.Inspection.{Inspection}
 use Rattle.it_docs.specs.declared.step.Step.{Step}
@@ -19,9 +18,7 @@ returns-clause-leads g c = record {
 
 pub returns-in_default-2-clause-leads : goal.returns-in_default-2-clause-leads
 returns-in_default-2-clause-leads g c = λ below down.
-    let panel = panel_of
-    (map (λ check. (goal.SignatureCheck-dyn g (check.vtable, check.value)).meaning check.value)
-    c.args.panel.now) in
+    let panel = g.C.Checks.panel c.args.checks.now in
     let layout = c.args.layout.now in
     let found = c.in-Some.step.now in
     let stands : Contains layout.steps found = rw c.as_slice.ensures at c.in-Some.ensures.0 in

@@ -1,14 +1,11 @@
-use Rattle.std.proofs.Common.{map, refl}
-use Rattle.it_dsse.specs.Panel.{panel_of}
+use Rattle.std.proofs.Common.{refl}
 use Rattle.it_step_notes.specs.Sublayout.{HoldsLayout, IsSublayoutIn}
 use Rattle.it_step_notes.proofs.Outcomes.{ok_finds_alike}
 use Rattle.it_step_notes.proofs.sublayout.sublayout_in.Goals as goal
 
 pub returns : goal.returns
 returns g c =
-    let panel = panel_of
-    (map (λ check. (goal.SignatureCheck-dyn g (check.vtable, check.value)).meaning check.value)
-    c.args.panel.now) in
+    let panel = g.C.Checks.panel c.args.checks.now in
     let at = c.args.at.now in
     let file = c.args.file.now in
     ok_finds_alike (HoldsLayout panel at.layout.now c.args.id.now file.bytes)

@@ -1,7 +1,6 @@
-use Rattle.std.proofs.Common.{◌+◌, List, All, ap, arith, length, map, subst, sym, take}
+use Rattle.std.proofs.Common.{◌+◌, List, All, ap, arith, length, subst, sym, take}
 use Rattle.std.proofs.lemmas.List.{take_all}
 use Rattle.std.proofs.lemmas.List.Elements.{All-contains, All-more}
-use Rattle.it_dsse.specs.Panel.{panel_of}
 use Rattle.it_chain.specs.Contents.{files_of}
 use Rattle.it_chain.specs.declared.bundle.File.{File}
 use Rattle.it_step_notes.specs.Sublayout.{IsSublayoutIn}
@@ -10,9 +9,7 @@ use Rattle.it_step_notes.proofs.sublayout.sublayout_of.Goals as goal
 
 pub loop-file-preserved : goal.loop-file-preserved
 loop-file-preserved g c =
-    let panel = panel_of
-    (map (λ check. (goal.SignatureCheck-dyn g (check.vtable, check.value)).meaning check.value)
-    c.args.panel.now) in
+    let panel = g.C.Checks.panel c.args.checks.now in
     let at = c.args.at.now in
     let Passed = λ (file : File). (below : SignedLayout)
     → ¬ IsSublayoutIn panel at.layout.now at.step.now c.args.id.now file below in
@@ -26,9 +23,7 @@ loop-file-preserved g c =
 
 pub returns : goal.returns
 returns g c = λ below of.
-    let panel = panel_of
-    (map (λ check. (goal.SignatureCheck-dyn g (check.vtable, check.value)).meaning check.value)
-    c.args.panel.now) in
+    let panel = g.C.Checks.panel c.args.checks.now in
     let at = c.args.at.now in
     let Passed = λ (file : File). (below : SignedLayout)
     → ¬ IsSublayoutIn panel at.layout.now at.step.now c.args.id.now file below in

@@ -33,7 +33,7 @@ impl Checks for OwnChecks {
     type Found = OwnKey;
 
     ghost use Rattle.it_public_keys.specs.OwnChecks.{own_checks};
-    ghost use Rattle.it_public_keys.specs.inside.Found.{found_number, Stands};
+    ghost use Rattle.it_public_keys.specs.OwnKeys.{found_number, Stands};
 
     ghost panel = { λ s. panel_of (own_checks s.rings.items s.public_keys) };
 

@@ -1,4 +1,4 @@
--- Keys that were found.
+-- The keys that the checks of a command find (this profile's choice).
 use Rattle.std.specs.Prelude.{◌≡◌, ◌<◌, true, length}
 use Rattle.it_dsse.specs.Panel.{KeyNumber}
 use Rattle.it_public_keys.specs.NamedKeys.{number_of}

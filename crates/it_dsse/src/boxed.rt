@@ -6,10 +6,10 @@ ghost use Rattle.it_dsse.specs.Panel.{panel_of};
 ghost use Rattle.it_dsse.specs.Signed.{tries_for};
 ghost use Rattle.it_dsse.specs.Vouched.{is_vouched, is_vouched_by, tries_by};
 
-use crate::checks::Checks;
-use crate::key_name::KeyName;
 use crate::check::SignatureCheck;
+use crate::checks::Checks;
 use crate::envelope::Signature;
+use crate::key_name::KeyName;
 use crate::key_object::KeyObject;
 use crate::meter::Meter;
 

@@ -6,8 +6,8 @@ ghost use Rattle.it_dsse.specs.Panel.{KeyNumber, Panel};
 ghost use Rattle.it_dsse.specs.Signed.{tries_for};
 ghost use Rattle.it_dsse.specs.Vouched.{is_vouched};
 
-use crate::key_name::KeyName;
 use crate::envelope::Signature;
+use crate::key_name::KeyName;
 use crate::key_object::KeyObject;
 use crate::meter::Meter;
 

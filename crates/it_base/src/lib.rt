@@ -7,6 +7,7 @@ pub mod base64_text;
 pub mod document;
 pub mod hexadecimal_text;
 pub mod list;
+pub mod optional;
 pub mod parts;
 pub mod sequence;
 pub mod table;

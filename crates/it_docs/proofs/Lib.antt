@@ -3,6 +3,7 @@ pub mod LayoutParts
 pub mod LinkDecided
 pub mod MomentDecided
 pub mod Moments
+pub mod OneName
 pub mod OnePart
 pub mod PartsDecided
 pub mod PolicyDecided

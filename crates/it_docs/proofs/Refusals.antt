@@ -49,7 +49,7 @@ no_repeat name (f ∷ front) rest h there =
     no_repeat name front rest h.1 (or_false (bytes_eq name f) (list_any (bytes_eq name) front)
     (nat_list_eq_equiv.symm name f ∙ apart_later name f front rest h.0) there)
 
-layout_reads : (d : Data) (layout : Layout) → IsLayout d layout → (part : LayoutPart)
+pub layout_reads : (d : Data) (layout : Layout) → IsLayout d layout → (part : LayoutPart)
     → layout_part.PartReads d part
 layout_reads d layout is l.Json = part_of_object IsText (codes "_type") d
     (codes "layout") is.type_is
@@ -77,7 +77,7 @@ pub no_layout : (bytes : List ℕ) (part : LayoutPart) → layout_part.LayoutPar
     → (layout : Layout) → LayoutOf bytes layout → ⊥
 no_layout bytes part first layout is = first.fails (is.0, is.1, layout_reads is.0 layout is.2 part)
 
-policy_reads : (d : Data) (policy : Policy) → IsPolicy d policy → (part : PolicyPart)
+pub policy_reads : (d : Data) (policy : Policy) → IsPolicy d policy → (part : PolicyPart)
     → policy_part.PartReads d part
 policy_reads d policy is p.Json = part_of_object (IsTable IsKeyObject) (codes "owners") d
     policy.owners is.owners

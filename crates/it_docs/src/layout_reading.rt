@@ -20,7 +20,7 @@ use crate::repeats::first_repeat;
 use crate::step::{Inspection, Step};
 use it_base::document::read_document;
 use it_base::list::{ListFault, numbered_list};
-use it_base::parts::part_or;
+use it_base::parts::{FromDocument, part_or};
 use it_base::sequence::Sequence;
 use it_base::table::Table;
 use it_base::text::{Text, has_text};
@@ -42,6 +42,19 @@ pub fn read_layout(alloc: Global, bytes: &[u8]) -> Result<Layout, LayoutFault>
     match read_document(alloc, bytes)? {
         Some(document) => layout_of(alloc, &document),
         None => Err(LayoutFault::BadLayout(LayoutPart::Json)),
+    }
+}
+
+impl FromDocument for Layout {
+    ghost is_of = { IsLayout };
+
+    /// The layout, where no part of it fails.
+    fn from_document(alloc: Global, value: &Value) -> Result<Option<Layout>, AllocError> {
+        match layout_of(alloc, value) {
+            Ok(layout) => Ok(Some(layout)),
+            Err(LayoutFault::BadLayout(_)) => Ok(None),
+            Err(LayoutFault::OutOfMemory) => Err(AllocError),
+        }
     }
 }
 

@@ -33,10 +33,7 @@ pub fn read_link(alloc: Global, bytes: &[u8]) -> Result<Link, DocumentFault>
     ensures bad { IsErrOf result DocumentFault.BadDocument
         → (link : _) → ¬ LinkOf bytes.now link }
 {
-    match from_bytes::<Link>(alloc, bytes)? {
-        Some(link) => Ok(link),
-        None => Err(DocumentFault::BadDocument),
-    }
+    from_bytes::<Link>(alloc, bytes)?.ok_or(DocumentFault::BadDocument)
 }
 
 impl FromDocument for Link {

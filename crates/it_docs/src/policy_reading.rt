@@ -14,7 +14,7 @@ use crate::policy_fault::{PolicyFault, PolicyPart};
 use crate::rule::Rule;
 use it_base::document::read_document;
 use it_base::list::{ListFault, list_or_empty, numbered_list};
-use it_base::parts::part;
+use it_base::parts::{FromDocument, part};
 use it_base::sequence::Sequence;
 use it_base::table::Table;
 use it_dsse::key_object::KeyObject;
@@ -34,6 +34,19 @@ pub fn read_policy(alloc: Global, bytes: &[u8]) -> Result<Policy, PolicyFault>
     match read_document(alloc, bytes)? {
         Some(document) => policy_of(alloc, &document),
         None => Err(PolicyFault::BadPolicy(PolicyPart::Json)),
+    }
+}
+
+impl FromDocument for Policy {
+    ghost is_of = { IsPolicy };
+
+    /// The policy, where no part of it fails.
+    fn from_document(alloc: Global, value: &Value) -> Result<Option<Policy>, AllocError> {
+        match policy_of(alloc, value) {
+            Ok(policy) => Ok(Some(policy)),
+            Err(PolicyFault::BadPolicy(_)) => Ok(None),
+            Err(PolicyFault::OutOfMemory) => Err(AllocError),
+        }
     }
 }
 

@@ -51,10 +51,7 @@ pub fn read_statement(alloc: Global, bytes: &[u8]) -> Result<Statement, Document
     ensures bad { IsErrOf result DocumentFault.BadDocument
         → (statement : _) → ¬ StatementOf bytes.now statement }
 {
-    match from_bytes::<Statement>(alloc, bytes)? {
-        Some(statement) => Ok(statement),
-        None => Err(DocumentFault::BadDocument),
-    }
+    from_bytes::<Statement>(alloc, bytes)?.ok_or(DocumentFault::BadDocument)
 }
 
 impl FromDocument for Statement {

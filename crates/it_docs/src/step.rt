@@ -1,5 +1,5 @@
 //! Steps and inspections of layouts (in-toto 1.0 section 4.3).
-ghost use Rattle.std.specs.Prelude.{◌≡◌, ◌≤◌, IfOk, IfErr, IfSome, MatchOption};
+ghost use Rattle.std.specs.Prelude.{◌≡◌, ◌≢◌, ◌≤◌, All, Contains, IfOk, IfErr, IfSome, MatchOption};
 ghost use Rattle.serde_json.specs.View.{view};
 ghost use Rattle.it_base.specs.Finds.{Finds};
 ghost use Rattle.it_docs.specs.Threshold.{IsThreshold, IsThresholdPart};
@@ -39,6 +39,19 @@ pub struct Inspection {
     pub expected_materials: Sequence<Rule>,
     /// The rules on what the inspection made.
     pub expected_products: Sequence<Rule>,
+}
+
+/// The first step of this name. Takes no memory.
+pub fn step_named<'a>(steps: &'a [Step], name: &str) -> Option<&'a Step>
+    ensures { MatchOption result (All (λ step. step.name ≢ name.now) steps.now)
+        (λ step. Contains steps.now step.now × (step.now.name ≡ name.now)) }
+{
+    for step in steps {
+        if step.name.as_str() == name {
+            return Some(step);
+        }
+    }
+    None
 }
 
 impl FromDocument for Step {

@@ -9,7 +9,7 @@ use Rattle.std.proofs.lemmas.Cmp.{ranked, by_ranked}
 use Rattle.std.proofs.lemmas.Bool.Decides.{nat_tests}
 use Rattle.std.proofs.lemmas.Bool.Decides.{Decides-eqb}
 use Rattle.std.proofs.lemmas.Slice.Eq.{slice_eq-Decides}
-use Rattle.std.proofs.lemmas.List.{append-nil, take_all, drop_all, take-replicate, length-append, length-replicate}
+use Rattle.std.proofs.lemmas.List.{append-nil, take_all, drop_all, take-replicate, length-replicate}
 use borrow.Rule.Slice.PartMut.{put_mid}
 use Rattle.std.proofs.lemmas.Slice.{put_mid-paste}
 use Rattle.it_numbers.specs.Bytes.{big, big_bytes}

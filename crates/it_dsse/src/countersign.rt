@@ -1,13 +1,12 @@
 //! Adding a signature to an envelope.
-ghost use Rattle.std.specs.Prelude.{◌≡◌, ◌↔◌, ◌∷◌, ◌++◌, [], IfOk, IsErrOf};
+ghost use Rattle.std.specs.Prelude.{◌≡◌, ◌↔◌, IfOk, IsErrOf};
 ghost use Rattle.it_dsse.specs.Countersigned.{HasOtherPayload, HasOtherType, IsCountersigned};
 ghost use Rattle.it_dsse.specs.Countersigned.{LacksKey};
 ghost use Rattle.it_dsse.specs.declared.countersign.CountersignFault.TheVariants as fault;
 
-use crate::envelope::{Envelope, Signature};
+use crate::envelope::Envelope;
 use crate::ring::HmacRing;
 use crate::sign::signature_under;
-use it_base::sequence::Sequence;
 use std::alloc::{AllocError, Global};
 
 /// A signature to be made: the body that it signs, and the key of a ring that makes it.
@@ -78,24 +77,5 @@ pub fn countersign(
     };
     let secret = entry.secret.as_slice();
     let signature = signature_under(alloc, secret, added.id, added.kind, added.body)?;
-    Ok(with_signature(envelope, signature)?)
-}
-
-/// The envelope with a signature after its own.
-fn with_signature(envelope: Envelope, signature: Signature) -> Result<Envelope, AllocError>
-    ensures { IfOk result (λ more. more
-        ≡ record envelope { signatures = envelope.signatures ++ signature ∷ [] }) }
-{
-    let Envelope {
-        payload,
-        payload_type,
-        signatures,
-    } = envelope;
-    let mut signatures = signatures.into_vec();
-    signatures.push(signature)?;
-    Ok(Envelope {
-        payload,
-        payload_type,
-        signatures: Sequence::from(signatures),
-    })
+    Ok(envelope.with_signature(signature)?)
 }

@@ -1,5 +1,5 @@
 //! Envelopes, and reading them.
-ghost use Rattle.std.specs.Prelude.{◌≡◌, IfOk, IsErrOf};
+ghost use Rattle.std.specs.Prelude.{◌≡◌, ◌∷◌, ◌++◌, [], IfOk, IsErrOf};
 ghost use Rattle.serde_json.specs.View.{view};
 ghost use Rattle.it_base.specs.Finds.{Finds};
 ghost use Rattle.it_dsse.specs.declared.envelope.EnvelopeFault.TheVariants.{OutOfMemory};
@@ -73,10 +73,55 @@ impl Envelope {
         ensures bad { IsErrOf result EnvelopeFault.BadEnvelope
             → (envelope : _) → ¬ EnvelopeOf bytes.now envelope }
     {
-        match from_bytes::<Envelope>(alloc, bytes)? {
-            Some(envelope) => Ok(envelope),
-            None => Err(EnvelopeFault::BadEnvelope),
-        }
+        from_bytes::<Envelope>(alloc, bytes)?.ok_or(EnvelopeFault::BadEnvelope)
+    }
+
+    /// The envelope of a body of type `kind`, such as `application/vnd.in-toto+json`, with one
+    /// signature.
+    ///
+    /// # Errors
+    ///
+    /// `AllocError` where memory was refused.
+    pub fn of_body(
+        alloc: Global,
+        kind: &str,
+        body: &[u8],
+        signature: Signature,
+    ) -> Result<Envelope, AllocError>
+        ensures { IfOk result (λ envelope. envelope ≡ record {
+          payload = body.now;
+          payload_type = kind.now;
+          signatures = signature ∷ [];
+        }) }
+    {
+        Ok(Envelope {
+            payload: Sequence::from(Vec::from_slice(alloc, body)?),
+            payload_type: Text::copy(alloc, kind)?,
+            signatures: Sequence::from(Vec::from_array(alloc, [signature])?),
+        })
+    }
+
+    /// The envelope with a signature after its own.
+    ///
+    /// # Errors
+    ///
+    /// `AllocError` where memory was refused.
+    pub fn with_signature(self, signature: Signature) -> Result<Envelope, AllocError>
+        ensures { IfOk result (λ more. more
+            ≡ record self { signatures = self.signatures ++ signature ∷ [] }) }
+    {
+        let Envelope {
+            payload,
+            payload_type,
+            signatures,
+        } = self;
+        let mut signatures = signatures.into_vec();
+        signatures.push(signature)?;
+        Ok(Envelope {
+            payload,
+            payload_type,
+            signatures: Sequence::from(signatures),
+        })
     }
 }
 

@@ -80,10 +80,7 @@ impl HmacRing {
         ensures ok { IfOk result (λ ring. RingOf bytes.now ring) }
         ensures bad { IsErrOf result RingFault.BadRing → (ring : _) → ¬ RingOf bytes.now ring }
     {
-        match ring_of(alloc, bytes)? {
-            Some(ring) => Ok(ring),
-            None => Err(RingFault::BadRing),
-        }
+        ring_of(alloc, bytes)?.ok_or(RingFault::BadRing)
     }
 
     /// The ids of the entries, in the order of their bytes.

@@ -5,8 +5,8 @@ ghost use Rattle.it_dsse.specs.Signing.{IsSignedUnder, signature_of, signed_enve
 ghost use Rattle.it_dsse.specs.declared.sign.SignFault.TheVariants.{OutOfMemory};
 
 use crate::envelope::{Envelope, Signature};
-use crate::mac::hmac_sha256;
-use crate::pre_authentication::pae;
+use crate::mac::hmac_sha256_parts;
+use crate::pre_authentication::{LengthDigits, parts_of};
 use crate::ring::HmacRing;
 use it_base::sequence::Sequence;
 use it_base::text::Text;
@@ -64,11 +64,7 @@ fn envelope_under(
         (λ envelope. envelope ≡ signed_envelope secret.now id.now kind.now body.now) }
 {
     let signature = signature_under(alloc, secret, id, kind, body)?;
-    Ok(Envelope {
-        payload: Sequence::from(Vec::from_slice(alloc, body)?),
-        payload_type: Text::copy(alloc, kind)?,
-        signatures: Sequence::from(Vec::from_array(alloc, [signature])?),
-    })
+    Envelope::of_body(alloc, kind, body, signature)
 }
 
 /// The signature of a body under a secret, with the id as its hint.
@@ -82,8 +78,8 @@ pub(crate) fn signature_under(
     ensures { IfOk result
         (λ signature. signature ≡ signature_of secret.now id.now kind.now body.now) }
 {
-    let message = pae(alloc, kind, body)?;
-    let code = hmac_sha256(secret, message.as_slice());
+    let mut digits = LengthDigits::new();
+    let code = hmac_sha256_parts(secret, &parts_of(kind, body, &mut digits));
     Ok(Signature {
         keyid: Text::copy(alloc, id)?,
         sig: Sequence::from(Vec::from_slice(alloc, &code)?),

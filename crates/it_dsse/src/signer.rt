@@ -7,10 +7,10 @@ ghost use Rattle.it_dsse.specs.Signed.{IsSigner, Signed, is_admitted, message_of
 ghost use Rattle.it_dsse.specs.Vouched.{is_vouched};
 
 use crate::checks::Checks;
-use crate::decimal::{MOST_DIGITS, decimal_in};
 use crate::envelope::{Envelope, Signature};
 use crate::key_object::KeyObject;
 use crate::meter::Meter;
+use crate::pre_authentication::{LengthDigits, parts_of};
 
 /// The key that signed the envelope, where the id and the object name a key that is known and some
 /// signature is valid for it; `None` otherwise (DSSE v1.0, "Protocol").
@@ -49,7 +49,6 @@ fn any_admitted(signatures: &[Signature], id: &str) -> bool
 
 /// Whether some signature that is admitted for an id is valid for a key. The signed message is
 /// handed over in the parts of its pre-authentication encoding.
-#[tactic(auto, unfolding(crate::specs::Pae::pae_of))]
 fn is_vouched_for<C: Checks>(
     envelope: &Envelope,
     id: &str,
@@ -64,12 +63,10 @@ fn is_vouched_for<C: Checks>(
         ≡ raised meter.old (tries_for (C.panel checks.now) id.now (C.number checks.now key.now)
         (message_of envelope.now) envelope.now.signatures) }
 {
-    let kind = envelope.payload_type.as_str().as_bytes();
+    let kind = envelope.payload_type.as_str();
     let body = envelope.payload.as_slice();
-    let (mut kind_digits, mut body_digits) = ([0; MOST_DIGITS], [0; MOST_DIGITS]);
-    let kind_len = decimal_in(kind.len(), &mut kind_digits);
-    let body_len = decimal_in(body.len(), &mut body_digits);
-    let message: [&[u8]; 8] = [b"DSSEv1 ", kind_len, b" ", kind, b" ", body_len, b" ", body];
+    let mut digits = LengthDigits::new();
+    let message = parts_of(kind, body, &mut digits);
     let signatures = envelope.signatures.as_slice();
     checks.any_valid(key, &message, signatures, id, meter)
 }

@@ -1,8 +1,8 @@
 //! Writing envelopes.
 ghost use Rattle.std.specs.Prelude.{◌≡◌, IfOk, IsErrOf, OnOk, string_bytes};
 ghost use Rattle.std.specs.Io.KnownBytes.{Appends};
-ghost use Rattle.serde_json.specs.Data.{put, string};
-ghost use Rattle.serde_json.specs.View.{members_view, view};
+ghost use Rattle.serde_json.specs.Data.{string};
+ghost use Rattle.serde_json.specs.View.{view};
 ghost use Rattle.it_base.specs.Base64Text.{IsBase64, base64_encoded};
 ghost use Rattle.it_base.specs.Sequence.{IsList};
 ghost use Rattle.it_base.specs.Writing.{AppendsBeginning};
@@ -14,7 +14,7 @@ ghost use Rattle.it_dsse.specs.declared.written.WriteFault.TheVariants as fault;
 use crate::envelope::{Envelope, Signature};
 use it_base::base64_text::base64_text_of;
 use it_base::writing::{WriteError, write_all_of};
-use serde_json::{Map, Value};
+use serde_json::{Map, Value, put};
 use std::alloc::{AllocError, Global};
 use std::io::Write;
 
@@ -75,11 +75,11 @@ fn envelope_value(alloc: Global, envelope: &Envelope) -> Result<Value, AllocErro
 {
     let mut members = Map::new(alloc);
     let payload = base64_value(alloc, envelope.payload.as_slice())?;
-    put_member(alloc, &mut members, "payload", payload)?;
+    put(&mut members, alloc, "payload", payload)?;
     let payload_type = Value::try_from_str(alloc, envelope.payload_type.as_str())?;
-    put_member(alloc, &mut members, "payloadType", payload_type)?;
+    put(&mut members, alloc, "payloadType", payload_type)?;
     let signatures = signatures_value(alloc, envelope.signatures.as_slice())?;
-    put_member(alloc, &mut members, "signatures", signatures)?;
+    put(&mut members, alloc, "signatures", signatures)?;
     Ok(Value::from(members))
 }
 
@@ -101,9 +101,9 @@ fn signature_value(alloc: Global, signature: &Signature) -> Result<Value, AllocE
 {
     let mut members = Map::new(alloc);
     let keyid = Value::try_from_str(alloc, signature.keyid.as_str())?;
-    put_member(alloc, &mut members, "keyid", keyid)?;
+    put(&mut members, alloc, "keyid", keyid)?;
     let sig = base64_value(alloc, signature.sig.as_slice())?;
-    put_member(alloc, &mut members, "sig", sig)?;
+    put(&mut members, alloc, "sig", sig)?;
     Ok(Value::from(members))
 }
 
@@ -113,18 +113,4 @@ fn base64_value(alloc: Global, bytes: &[u8]) -> Result<Value, AllocError>
 {
     let text = base64_text_of(alloc, bytes)?;
     Ok(Value::from(text))
-}
-
-/// Puts a value under a name.
-fn put_member(
-    alloc: Global,
-    members: &mut Map<String, Value>,
-    name: &str,
-    value: Value,
-) -> Result<(), AllocError>
-    ensures { OnOk result (members_view members.new.entries
-        ≡ put name.now (view value) (members_view members.old.entries)) }
-{
-    members.insert(String::from_str(alloc, name)?, value)?;
-    Ok(())
 }

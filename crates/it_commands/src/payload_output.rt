@@ -6,7 +6,8 @@ ghost use Rattle.it_outcome.specs.Outcome.{IsOutputFault};
 ghost use Rattle.it_commands.specs.PayloadOutput.{IsPayloadOutput};
 
 use crate::no_envelope::no_envelope_output;
-use it_dsse::envelope::{Envelope, EnvelopeFault};
+use it_base::parts::from_bytes;
+use it_dsse::envelope::Envelope;
 use it_outcome::output::{Output, put};
 use it_outcome::{RunFault, Status};
 use std::alloc::{AllocError, Global};
@@ -43,12 +44,11 @@ fn payload_output(alloc: Global, bytes: &[u8]) -> Result<Output, AllocError>
     ensures { IfOk result
         (λ output. IsPayloadOutput bytes.now output.text.items output.status) }
 {
-    match Envelope::read(alloc, bytes) {
-        Ok(envelope) => Ok(Output {
+    match from_bytes::<Envelope>(alloc, bytes)? {
+        Some(envelope) => Ok(Output {
             text: envelope.payload.into_vec(),
             status: Status::Good,
         }),
-        Err(EnvelopeFault::BadEnvelope) => no_envelope_output(alloc),
-        Err(EnvelopeFault::OutOfMemory) => Err(AllocError),
+        None => no_envelope_output(alloc),
     }
 }

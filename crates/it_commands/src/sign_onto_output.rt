@@ -7,7 +7,8 @@ ghost use Rattle.it_dsse.specs.Envelope.{EnvelopeOf};
 ghost use Rattle.it_commands.specs.SignOntoOutput.{IsSignOntoFault, IsSignOntoOutput};
 
 use crate::sign_output::put_line;
-use it_dsse::envelope::{Envelope, EnvelopeFault};
+use it_base::parts::from_bytes;
+use it_dsse::envelope::Envelope;
 use it_dsse::signing::{CountersignFault, NewSignature, countersign};
 use it_outcome::{RunFault, Status};
 use std::alloc::Global;
@@ -58,10 +59,8 @@ fn countersigned(
         (IsSignOntoFault n.ring.now n.id.now n.kind.now n.body.now bytes.now) }
     ensures unwritten { IfErr result (λ fault. fault ≢ RunFault.Write) }
 {
-    let before = match Envelope::read(alloc, bytes) {
-        Ok(envelope) => envelope,
-        Err(EnvelopeFault::BadEnvelope) => return Err(RunFault::NoEnvelope),
-        Err(EnvelopeFault::OutOfMemory) => return Err(RunFault::OutOfMemory),
+    let Some(before) = from_bytes::<Envelope>(alloc, bytes)? else {
+        return Err(RunFault::NoEnvelope);
     };
     match countersign(alloc, added, before) {
         Ok(after) => Ok(after),

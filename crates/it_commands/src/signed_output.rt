@@ -14,11 +14,12 @@ ghost use Rattle.it_commands.specs.SignedOutput.{
 ghost use Rattle.it_commands.specs.inside.SignerNames.{ListsNames};
 
 use crate::no_envelope::no_envelope_output;
+use it_base::parts::from_bytes;
 use it_base::text::Text;
 use it_dsse::boxed::Boxed;
 use it_dsse::check::SignatureCheck;
 use it_dsse::checks::Checks;
-use it_dsse::envelope::{Envelope, EnvelopeFault};
+use it_dsse::envelope::Envelope;
 use it_dsse::key_object::KeyObject;
 use it_dsse::signed_ids_by;
 use it_outcome::output::{Output, put};
@@ -102,10 +103,9 @@ fn signed_output<C: Checks>(
         string_bytes ids.now)
         bytes.now output.text.items output.status) }
 {
-    match Envelope::read(alloc, bytes) {
-        Ok(envelope) => signers_output(alloc, &envelope, ids, checks),
-        Err(EnvelopeFault::BadEnvelope) => no_envelope_output(alloc),
-        Err(EnvelopeFault::OutOfMemory) => Err(AllocError),
+    match from_bytes::<Envelope>(alloc, bytes)? {
+        Some(envelope) => signers_output(alloc, &envelope, ids, checks),
+        None => no_envelope_output(alloc),
     }
 }
 

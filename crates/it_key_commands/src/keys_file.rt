@@ -27,7 +27,7 @@ fn keys_value(alloc: Global, keys: &Table<KeyObject>) -> Result<Value, AllocErro
     let mut members = Map::new(alloc);
     for (id, key) in keys.iter() {
         let value = key_value(alloc, key)?;
-        put_member(alloc, &mut members, id.as_str(), value)?;
+        serde_json::put(&mut members, alloc, id.as_str(), value)?;
     }
     Ok(Value::from(members))
 }
@@ -39,7 +39,7 @@ fn key_value(alloc: Global, key: &KeyObject) -> Result<Value, AllocError>
     put_text(alloc, &mut members, "keytype", key.keytype.as_str())?;
     let mut keyval = Map::new(alloc);
     put_text(alloc, &mut keyval, "public", key.public.as_str())?;
-    put_member(alloc, &mut members, "keyval", Value::from(keyval))?;
+    serde_json::put(&mut members, alloc, "keyval", Value::from(keyval))?;
     put_text(alloc, &mut members, "scheme", key.scheme.as_str())?;
     Ok(Value::from(members))
 }
@@ -54,18 +54,5 @@ fn put_text(
     ensures { OnOk result (members_view members.new.entries
         ≡ put name.now (string text.now) (members_view members.old.entries)) }
 {
-    put_member(alloc, members, name, Value::try_from_str(alloc, text)?)
-}
-
-/// Puts a value under a name.
-fn put_member(
-    alloc: Global,
-    members: &mut Map<String, Value>,
-    name: &str,
-    value: Value,
-) -> Result<(), AllocError>
-    ensures { OnOk result (members_view members.new.entries
-        ≡ put name.now (view value) (members_view members.old.entries)) }
-{
-    serde_json::put(members, alloc, name, value)
+    serde_json::put(members, alloc, name, Value::try_from_str(alloc, text)?)
 }

@@ -4,18 +4,18 @@ ghost use Rattle.std.specs.Io.KnownBytes.{Appends};
 ghost use Rattle.it_base.specs.Writing.{AppendsBeginning};
 ghost use Rattle.it_dsse.specs.Envelope.{EnvelopeOf};
 ghost use Rattle.it_key_commands.specs.SignMadeOntoOutput.{HoldsBody, IsSignMadeOntoFault};
-ghost use Rattle.it_key_commands.specs.SignMadeOntoOutput.{IsSignMadeOntoOutput, with_signature};
+ghost use Rattle.it_key_commands.specs.SignMadeOntoOutput.{IsSignMadeOntoOutput};
 ghost use Rattle.it_key_commands.specs.inside.BodyFaults.{IsBodyFault};
 
 use crate::fault::KeyFault;
 use crate::made_signature::MadeSignature;
-use it_base::sequence::Sequence;
+use it_base::parts::from_bytes;
 use it_base::table::Table;
 use it_commands::put_line;
-use it_dsse::envelope::{Envelope, EnvelopeFault, Signature};
+use it_dsse::envelope::Envelope;
 use it_dsse::key_object::KeyObject;
 use it_outcome::{RunFault, Status};
-use std::alloc::{AllocError, Global};
+use std::alloc::Global;
 use std::io::Write;
 
 /// Writes the envelope with one more signature, after those that it has, and a line feed (DSSE
@@ -54,7 +54,7 @@ pub fn run_sign_made_onto<W: Write>(
 {
     let before = envelope_with_body(alloc, made, envelope)?;
     made.check(alloc, keys)?;
-    let after = with_signature(before, made.in_envelope(alloc)?)?;
+    let after = before.with_signature(made.in_envelope(alloc)?)?;
     put_line(alloc, &after, out)?;
     Ok(Status::Good)
 }
@@ -69,10 +69,8 @@ fn envelope_with_body(
         × HoldsBody made.now.kind.now made.now.body.now envelope) }
     ensures err { IfErr result (IsBodyFault made.now.kind.now made.now.body.now bytes.now) }
 {
-    let envelope = match Envelope::read(alloc, bytes) {
-        Ok(envelope) => envelope,
-        Err(EnvelopeFault::BadEnvelope) => return Err(RunFault::NoEnvelope),
-        Err(EnvelopeFault::OutOfMemory) => return Err(RunFault::OutOfMemory),
+    let Some(envelope) = from_bytes::<Envelope>(alloc, bytes)? else {
+        return Err(RunFault::NoEnvelope);
     };
     if envelope.payload_type.as_str() != made.kind {
         return Err(RunFault::OtherType);
@@ -81,22 +79,4 @@ fn envelope_with_body(
         return Err(RunFault::OtherPayload);
     }
     Ok(envelope)
-}
-
-/// The envelope with a signature after its own.
-fn with_signature(envelope: Envelope, signature: Signature) -> Result<Envelope, AllocError>
-    ensures { IfOk result (λ more. more ≡ with_signature envelope signature) }
-{
-    let Envelope {
-        payload,
-        payload_type,
-        signatures,
-    } = envelope;
-    let mut signatures = signatures.into_vec();
-    signatures.push(signature)?;
-    Ok(Envelope {
-        payload,
-        payload_type,
-        signatures: Sequence::from(signatures),
-    })
 }

@@ -7,9 +7,7 @@ ghost use Rattle.it_key_commands.specs.SignMadeOutput.{made_envelope};
 
 use crate::fault::KeyFault;
 use crate::made_signature::MadeSignature;
-use it_base::sequence::Sequence;
 use it_base::table::Table;
-use it_base::text::Text;
 use it_commands::put_line;
 use it_dsse::envelope::Envelope;
 use it_dsse::key_object::KeyObject;
@@ -56,9 +54,5 @@ fn envelope_of(alloc: Global, made: &MadeSignature<'_>) -> Result<Envelope, Allo
         (λ envelope. envelope ≡ made_envelope m.id.now m.kind.now m.body.now m.signature.now) }
 {
     let signature = made.in_envelope(alloc)?;
-    Ok(Envelope {
-        payload: Sequence::from(Vec::from_slice(alloc, made.body)?),
-        payload_type: Text::copy(alloc, made.kind)?,
-        signatures: Sequence::from(Vec::from_array(alloc, [signature])?),
-    })
+    Envelope::of_body(alloc, made.kind, made.body, signature)
 }

@@ -8,9 +8,10 @@ ghost use Rattle.it_key_commands.specs.inside.SignerNames.{AreSignerNames};
 ghost use Rattle.it_outcome.specs.Outcome.{IsOutputFault};
 
 use crate::signer::is_signed_under;
+use it_base::parts::from_bytes;
 use it_base::table::Table;
 use it_commands::{names_text, no_envelope_output};
-use it_dsse::envelope::{Envelope, EnvelopeFault, Signature};
+use it_dsse::envelope::{Envelope, Signature};
 use it_dsse::key_object::KeyObject;
 use it_dsse::pae;
 use it_outcome::output::{Output, put};
@@ -57,10 +58,9 @@ fn signed_output(
     ensures { IfOk result (λ output. IsSignedByKeysOutput objects.now bytes.now
         output.text.items output.status) }
 {
-    match Envelope::read(alloc, bytes) {
-        Ok(envelope) => signers_output(alloc, &envelope, objects),
-        Err(EnvelopeFault::BadEnvelope) => no_envelope_output(alloc),
-        Err(EnvelopeFault::OutOfMemory) => Err(AllocError),
+    match from_bytes::<Envelope>(alloc, bytes)? {
+        Some(envelope) => signers_output(alloc, &envelope, objects),
+        None => no_envelope_output(alloc),
     }
 }
 

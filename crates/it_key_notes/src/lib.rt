@@ -1,7 +1,6 @@
 //! Notes on key objects that no check knows: sentences for people, which say why. Each is true.
 #![tactic(auto)]
 
-mod keep;
 mod known;
 pub mod laws;
 mod line;

@@ -6,9 +6,8 @@ ghost use Rattle.it_digest.specs.Digest.{IsDigestSet};
 ghost use Rattle.it_making.specs.ArtifactDocuments.{artifacts_document};
 
 use crate::digest_sets::digest_set_value;
-use crate::members::put_member;
 use it_digest::artifacts::Artifacts;
-use serde_json::{Map, Value};
+use serde_json::{Map, Value, put};
 use std::alloc::{AllocError, Global};
 
 /// The JSON object of an artifact map: a member for each path, with its digest set.
@@ -20,7 +19,7 @@ pub(crate) fn artifacts_value(alloc: Global, artifacts: &Artifacts) -> Result<Va
     let mut members = Map::new(alloc);
     for (path, digests) in artifacts.iter() {
         let value = digest_set_value(alloc, digests)?;
-        put_member(alloc, &mut members, path.as_str(), value)?;
+        put(&mut members, alloc, path.as_str(), value)?;
     }
     Ok(Value::from(members))
 }

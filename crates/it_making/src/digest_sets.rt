@@ -7,9 +7,8 @@ ghost use Rattle.it_digest.specs.Digest.{IsDigest, IsDigestSet};
 ghost use Rattle.it_making.specs.ArtifactDocuments.{digest_set_document};
 ghost use Rattle.it_making.specs.inside.DigestMembers.{with_digest};
 
-use crate::members::put_member;
 use it_digest::compare::DigestSet;
-use serde_json::{Map, Value};
+use serde_json::{Map, Value, put};
 use std::alloc::{AllocError, Global};
 
 /// The JSON object of a digest set: a text of lower-case hexadecimal digits for each algorithm in
@@ -40,7 +39,7 @@ fn put_digest<const N: usize>(
 {
     match digest {
         None => Ok(()),
-        Some(bytes) => put_member(alloc, members, name, digest_value(alloc, bytes)?),
+        Some(bytes) => put(members, alloc, name, digest_value(alloc, bytes)?),
     }
 }
 

@@ -5,7 +5,6 @@
 mod artifact_maps;
 mod digest_sets;
 mod link_output;
-mod members;
 mod nesting;
 mod parameters;
 mod statement_output;

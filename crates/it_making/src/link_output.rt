@@ -10,14 +10,13 @@ ghost use Rattle.it_making.specs.inside.LinkParts.{IsLinkOfLists, IsMaterialsFau
 ghost use Rattle.it_making.specs.inside.LinkParts.{IsProductsFault};
 
 use crate::artifact_maps::artifacts_value;
-use crate::members::put_member;
 use it_base::text::Text;
 use it_digest::artifacts::Artifacts;
 use it_digest::sums::{SumsFault, read_sums};
 use it_docs::link::Link;
 use it_outcome::output::put_text;
 use it_outcome::{RunFault, Status};
-use serde_json::{Map, Value};
+use serde_json::{Map, Value, put};
 use std::alloc::{AllocError, Global};
 use std::io::Write;
 
@@ -108,12 +107,12 @@ fn link_value(alloc: Global, link: &Link) -> Result<Value, AllocError>
 {
     let mut members = Map::new(alloc);
     let kind = Value::try_from_str(alloc, "link")?;
-    put_member(alloc, &mut members, "_type", kind)?;
+    put(&mut members, alloc, "_type", kind)?;
     let materials = artifacts_value(alloc, &link.materials)?;
-    put_member(alloc, &mut members, "materials", materials)?;
+    put(&mut members, alloc, "materials", materials)?;
     let name = Value::try_from_str(alloc, link.name.as_str())?;
-    put_member(alloc, &mut members, "name", name)?;
+    put(&mut members, alloc, "name", name)?;
     let products = artifacts_value(alloc, &link.products)?;
-    put_member(alloc, &mut members, "products", products)?;
+    put(&mut members, alloc, "products", products)?;
     Ok(Value::from(members))
 }

@@ -5,7 +5,7 @@ ghost use Rattle.it_report.specs.declared.refusal.Fault.TheVariants.{BadLayout, 
 ghost use Rattle.it_notes.specs.RefusalNotes.{TellsInputs};
 
 use crate::notes::RefusalNotes;
-use crate::reading::envelope_in;
+use it_chain::envelope_in;
 use it_docs::layout_fault::LayoutPart;
 use it_docs::policy_fault::PolicyPart;
 use it_part_notes::layout_part_note::layout_part_note;

@@ -2,9 +2,9 @@
 ghost use Rattle.std.specs.Prelude.{IfOk, IfSome};
 ghost use Rattle.it_notes.specs.Level.{IsBelow, IsLevel, IsTop, LeadsTo};
 
-use crate::reading::moment_in;
 use it_base::text::Text;
 use it_chain::bundle::Bundle;
+use it_docs::moment::read_moment;
 use it_dsse::checks::Checks;
 use it_step_notes::signed_layout::SignedLayout;
 use it_step_notes::sublayout::sublayout_at;
@@ -46,7 +46,7 @@ fn top_level<'a>(alloc: Global, inputs: &'a Inputs) -> Result<Option<FaultLevel<
     let Some(signed) = SignedLayout::read(alloc, inputs.layout.as_slice())? else {
         return Ok(None);
     };
-    let Some(moment) = moment_in(inputs.moment.as_str()) else {
+    let Ok(moment) = read_moment(inputs.moment.as_str()) else {
         return Ok(None);
     };
     Ok(Some(FaultLevel {

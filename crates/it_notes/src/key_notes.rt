@@ -4,9 +4,10 @@ ghost use Rattle.it_notes.specs.KeyNotes.{IsOfBuilder, IsOfOwner, IsOfStep, Tell
 
 use crate::fault_level::level_at;
 use crate::provenance::speaking;
-use crate::reading::policy_in;
-use crate::steps::step_named;
+use it_base::parts::from_bytes;
 use it_base::text::Text;
+use it_docs::policy::Policy;
+use it_docs::step::step_named;
 use it_dsse::checks::Checks;
 use it_key_notes::unknown_key::UnknownKey;
 use it_key_notes::{unknown_in, unknown_of_builders, unknown_under};
@@ -44,7 +45,7 @@ fn owner_keys<C: Checks>(
     ensures { IfOk result (λ notes. All
         (IsOfOwner (C.panel checks.now) inputs.now) notes.items) }
 {
-    let Some(policy) = policy_in(alloc, inputs.policy.as_slice())? else {
+    let Some(policy) = from_bytes::<Policy>(alloc, inputs.policy.as_slice())? else {
         return Ok(Vec::new(alloc));
     };
     let notes = unknown_in(alloc, &policy.owners, checks)?;
@@ -83,7 +84,7 @@ fn builder_keys<C: Checks>(
     ensures { IfOk result (λ notes. All
         (IsOfBuilder (C.panel checks.now) inputs.now path.now) notes.items) }
 {
-    let Some(policy) = policy_in(alloc, inputs.policy.as_slice())? else {
+    let Some(policy) = from_bytes::<Policy>(alloc, inputs.policy.as_slice())? else {
         return Ok(Vec::new(alloc));
     };
     let Some(expectation) = speaking(policy.expectations.as_slice(), path) else {

@@ -3,9 +3,10 @@ ghost use Rattle.std.specs.Prelude.{List, ℕ, IfOk, IfSome};
 ghost use Rattle.it_docs.specs.Layout.{LayoutOf};
 ghost use Rattle.it_notes.specs.Notes.{AreOfDelivery, AreOfLayout, TellsLayout};
 
-use crate::reading::{envelope_in, policy_in};
-use it_chain::layout_in;
+use it_base::parts::from_bytes;
+use it_chain::{envelope_in, layout_in};
 use it_docs::layout::Layout;
+use it_docs::policy::Policy;
 use it_member_notes::layout_note::LayoutNote;
 use it_member_notes::member_notes::MemberNotes;
 use it_member_notes::rule_list_note::RuleListNote;
@@ -56,7 +57,7 @@ fn delivery_notes(
     let Some(layout) = layout else {
         return Ok(Vec::new(alloc));
     };
-    let Some(policy) = policy_in(alloc, bytes)? else {
+    let Some(policy) = from_bytes::<Policy>(alloc, bytes)? else {
         return Ok(Vec::new(alloc));
     };
     rule_list_notes(alloc, layout, policy.deliver.as_slice())

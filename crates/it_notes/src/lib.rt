@@ -15,7 +15,6 @@ pub mod notes;
 mod owners;
 pub mod place_notes;
 mod provenance;
-mod reading;
 mod records;
 mod refusal_notes;
 mod rules;

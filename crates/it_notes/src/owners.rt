@@ -4,7 +4,9 @@ ghost use Rattle.it_report.specs.declared.refusal.Fault.TheVariants.{OwnerMissin
 ghost use Rattle.it_notes.specs.RefusalNotes.{TellsInputs};
 
 use crate::notes::RefusalNotes;
-use crate::reading::{envelope_in, policy_in};
+use it_base::parts::from_bytes;
+use it_chain::envelope_in;
+use it_docs::policy::Policy;
 use it_dsse::checks::Checks;
 use it_rule_notes::owner_note::owner_notes;
 use it_verify::inputs::Inputs;
@@ -19,7 +21,7 @@ pub(crate) fn owners_told<C: Checks>(
     ensures { IfOk result (λ told. (id : List ℕ) → TellsInputs
         (C.panel checks.now) inputs.now (OwnerMissing id) told) }
 {
-    let Some(policy) = policy_in(alloc, inputs.policy.as_slice())? else {
+    let Some(policy) = from_bytes::<Policy>(alloc, inputs.policy.as_slice())? else {
         return Ok(RefusalNotes::Nothing);
     };
     let Some(envelope) = envelope_in(alloc, inputs.layout.as_slice())? else {

@@ -5,10 +5,10 @@ ghost use Rattle.it_report.specs.declared.refusal.Fault.TheVariants.{NoProvenanc
 ghost use Rattle.it_notes.specs.RefusalNotes.{IsDelivered, TellsInputs};
 
 use crate::notes::RefusalNotes;
-use crate::reading::policy_in;
+use it_base::parts::from_bytes;
 use it_digest::compare::DigestSet;
 use it_digest::sums::{SumsFault, read_sums};
-use it_docs::policy::Expectation;
+use it_docs::policy::{Expectation, Policy};
 use it_dsse::checks::Checks;
 use it_prov::fits::fitting;
 use it_prov_notes::delivery::Delivery;
@@ -30,7 +30,7 @@ pub(crate) fn provenance_told<C: Checks>(
     if is_laid_out(alloc, inputs.provenance.as_slice())? {
         return Ok(RefusalNotes::LaidOut);
     }
-    let Some(policy) = policy_in(alloc, inputs.policy.as_slice())? else {
+    let Some(policy) = from_bytes::<Policy>(alloc, inputs.policy.as_slice())? else {
         return Ok(RefusalNotes::Nothing);
     };
     let Some(digests) = digests_of(alloc, inputs.sums.as_slice(), path)? else {

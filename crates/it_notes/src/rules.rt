@@ -5,8 +5,9 @@ ghost use Rattle.it_notes.specs.RefusalNotes.{TellsAt, TellsMetAt};
 
 use crate::fault_level::FaultLevel;
 use crate::notes::{RefusalNotes, RuleNotes};
-use crate::reading::policy_in;
+use it_base::parts::from_bytes;
 use it_chain::refusal::RuleItem;
+use it_docs::policy::Policy;
 use it_docs::rule::Side;
 use it_dsse::checks::Checks;
 use it_rule_notes::level::Level;
@@ -42,7 +43,7 @@ pub(crate) fn rule_told<C: Checks>(
         inputs.now level.now
         (RuleFailed rule.now.item.now rule.now.side rule.now.index path) told) }
 {
-    let Some(policy) = policy_in(alloc, inputs.policy.as_slice())? else {
+    let Some(policy) = from_bytes::<Policy>(alloc, inputs.policy.as_slice())? else {
         return Ok(RefusalNotes::Nothing);
     };
     let book = RuleBook {

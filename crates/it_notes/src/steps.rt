@@ -1,5 +1,5 @@
 //! Why too few keys signed a step.
-ghost use Rattle.std.specs.Prelude.{◌≡◌, Contains, IfOk, IfSome, ℕ};
+ghost use Rattle.std.specs.Prelude.{◌≡◌, IfOk, ℕ};
 ghost use Rattle.it_report.specs.declared.refusal.Fault.TheVariants.{Threshold};
 ghost use Rattle.it_verify.specs.declared.inputs.Inputs.{Inputs};
 ghost use Rattle.it_notes.specs.RefusalNotes.{TellsAt};
@@ -7,7 +7,7 @@ ghost use Rattle.it_notes.specs.RefusalNotes.{TellsAt};
 use crate::details::with_details;
 use crate::fault_level::FaultLevel;
 use crate::notes::RefusalNotes;
-use it_docs::step::Step;
+use it_docs::step::step_named;
 use it_dsse::checks::Checks;
 use it_step_notes::threshold_notes;
 use std::alloc::{AllocError, Global};
@@ -30,16 +30,4 @@ pub(crate) fn step_told<C: Checks>(
     let notes = threshold_notes(alloc, layout, level.links, step, checks)?;
     let told = with_details(alloc, level.links, step, notes)?;
     Ok(RefusalNotes::Step(told))
-}
-
-/// The step of this name.
-pub(crate) fn step_named<'a>(steps: &'a [Step], name: &str) -> Option<&'a Step>
-    ensures { IfSome result (λ step. Contains steps.now step.now × (step.now.name ≡ name.now)) }
-{
-    for step in steps {
-        if step.name.as_str() == name {
-            return Some(step);
-        }
-    }
-    None
 }

@@ -4,7 +4,6 @@ pub mod CountingFiles
 pub mod KeptPaths
 pub mod Meeting
 pub mod NamedEntries
-pub mod OneName
 pub mod Owners
 pub mod RuleWords
 pub mod RulesAt

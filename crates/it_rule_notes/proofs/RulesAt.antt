@@ -15,7 +15,7 @@ use Rattle.it_chain.specs.declared.refusal.RuleItem.TheVariants.{Step as of_step
 use Rattle.it_chain.specs.declared.refusal.RuleItem.TheVariants.{Inspection as of_inspection}
 use Rattle.it_chain.specs.declared.refusal.RuleItem.TheVariants.{Deliver as of_delivery}
 use Rattle.it_rule_notes.specs.RulePlace.{AreRulesAt, inspection_rules}
-use Rattle.it_rule_notes.proofs.OneName.{Differ, differ_back, one_named}
+use Rattle.it_docs.proofs.OneName.{Differ, differ_back, one_named}
 
 module _ (layout : Layout) where
   names : Differ (names_of layout.steps layout.inspections)

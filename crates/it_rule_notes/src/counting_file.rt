@@ -1,13 +1,12 @@
 //! The files that hold what counts for a key id of a step (in-toto 1.0, section 5.2).
 ghost use Rattle.std.specs.Bool.{OnTrue};
-ghost use Rattle.std.specs.List.{cons_option};
-ghost use Rattle.std.specs.Prelude.{◌≡◌, ◌↔◌, ◌++◌, [], All, Contains, IfOk, IfSome, IsTrue};
-ghost use Rattle.std.specs.Prelude.{OnOk};
+ghost use Rattle.std.specs.Prelude.{◌≡◌, ◌↔◌, All, Contains, IfOk, IfSome, IsTrue};
 ghost use Rattle.it_chain.specs.ClaimedFiles.{IsClaimed};
 ghost use Rattle.it_rule_notes.specs.CountingFile.{FileCounts, IsLayoutBody, setting_of};
 ghost use Rattle.it_rule_notes.specs.inside.CountingFile.{HasBody, IsEnvelope, IsListed, IsSigned};
 
 use crate::level::Level;
+use it_base::optional::push_some;
 use it_base::sequence::Sequence;
 use it_base::text::Text;
 use it_chain::bundle::File;
@@ -62,19 +61,9 @@ pub(crate) fn counting_files<C: Checks>(
     };
     for file in level.links.files() {
         let counting = counting_file(alloc, file, step.name.as_str(), &signer, checks)?;
-        keep(&mut found, counting)?;
+        push_some(&mut found, counting)?;
     }
     Ok(found)
-}
-
-/// Appends a file to the others, if there is one.
-fn keep(found: &mut Vec<CountingFile>, file: Option<CountingFile>) -> Result<(), AllocError>
-    ensures { OnOk result (found.new.items ≡ found.old.items ++ cons_option file []) }
-{
-    if let Some(file) = file {
-        found.push(file)?;
-    }
-    Ok(())
 }
 
 /// The key id with its key object, if the step lists the id and the layout has the object.

@@ -8,9 +8,9 @@ use crate::difference::{Difference, difference_of};
 use crate::level::Level;
 use crate::line::{push_text, push_told};
 use crate::link_file::{LinkFile, link_file};
-use crate::rule_place::{step_named, word_of};
+use crate::rule_place::word_of;
 use it_base::text::Text;
-use it_docs::step::Step;
+use it_docs::step::{Step, step_named};
 use it_dsse::checks::Checks;
 use std::alloc::{AllocError, Global};
 

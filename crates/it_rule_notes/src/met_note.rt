@@ -9,13 +9,13 @@ ghost use Rattle.it_rule_notes.specs.MetNote.{MeetsOver, TellsMet, met_line};
 use crate::judged::JudgedRules;
 use crate::level::Level;
 use crate::met::{Met, met_at, push_met};
-use crate::rule_place::{RulePlace, copy_of, push_place, rules_of_step, step_named};
+use crate::rule_place::{RulePlace, copy_of, push_place, rules_of_step};
 use crate::step_records::{item_of, links_to, record_named, step_records};
 use it_chain::chain::StepResult;
 use it_chain::refusal::RuleItem;
 use it_docs::layout::Layout;
 use it_docs::rule::Side;
-use it_docs::step::Step;
+use it_docs::step::{Step, step_named};
 use it_dsse::checks::Checks;
 use std::alloc::{AllocError, Global};
 

@@ -6,8 +6,8 @@ ghost use Rattle.it_rule_notes.specs.Payloads.{TellsPayloads, files_form, payloa
 use crate::counting_file::{CountingFile, counting_files};
 use crate::level::Level;
 use crate::line::{push_key, push_told};
-use crate::rule_place::step_named;
 use it_base::text::Text;
+use it_docs::step::step_named;
 use it_dsse::checks::Checks;
 use std::alloc::{AllocError, Global};
 

@@ -1,5 +1,5 @@
 //! Where artifact rules stand.
-ghost use Rattle.std.specs.Prelude.{◌≡◌, ◌≢◌, ◌++◌, All, Contains, IfOk, MatchOption, OnOk};
+ghost use Rattle.std.specs.Prelude.{◌≡◌, ◌++◌, IfOk, OnOk};
 ghost use Rattle.it_base.specs.Finds.{FindsAs};
 ghost use Rattle.it_report.specs.Report.{side_form};
 ghost use Rattle.it_rule_notes.specs.RulePlace.{AreRulesAt, document_form, inspection_rules};
@@ -11,7 +11,7 @@ use it_base::text::Text;
 use it_chain::refusal::RuleItem;
 use it_docs::layout::Layout;
 use it_docs::rule::{Rule, Side};
-use it_docs::step::{Inspection, Step};
+use it_docs::step::{Inspection, Step, step_named};
 use std::alloc::{AllocError, Global};
 
 /// The rules that a refusal can be about.
@@ -54,19 +54,6 @@ pub(crate) fn rules_at<'a>(book: &RuleBook<'a>, item: &RuleItem, side: Side) -> 
             Side::Products => Some(book.deliver),
         },
     }
-}
-
-/// A step of this name.
-pub(crate) fn step_named<'a>(steps: &'a [Step], name: &str) -> Option<&'a Step>
-    ensures { MatchOption result (All (λ step. step.name ≢ name.now) steps.now)
-        (λ step. Contains steps.now step.now × (step.now.name ≡ name.now)) }
-{
-    for step in steps {
-        if step.name.as_str() == name {
-            return Some(step);
-        }
-    }
-    None
 }
 
 /// The rules that a step has for a side.

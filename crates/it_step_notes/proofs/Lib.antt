@@ -1,6 +1,5 @@
 pub mod Findings
 pub mod Kept
-pub mod OneName
 pub mod Outcomes
 pub mod Telling
 pub mod Those

@@ -5,9 +5,9 @@ ghost use Rattle.it_step_notes.specs.StepNotes.{Holds};
 
 use crate::claimed::is_claimed;
 use crate::finding::finding_in;
-use crate::keep::keep;
 use crate::note::StepNote;
 use crate::step_at::StepAt;
+use it_base::optional::push_some;
 use it_base::text::Text;
 use it_chain::bundle::File;
 use it_dsse::checks::Checks;
@@ -26,7 +26,7 @@ pub(crate) fn push_file_notes<C: Checks>(
         at.now.bundle.now at.now.step.now) notes.new.items) }
 {
     for file in at.bundle.files() {
-        keep(notes, file_note(alloc, at, file, checks)?)?;
+        push_some(notes, file_note(alloc, at, file, checks)?)?;
     }
     Ok(())
 }

@@ -3,9 +3,9 @@ ghost use Rattle.std.specs.Prelude.{◌≡◌, ◌↔◌, All, Any, Contains, If
 ghost use Rattle.it_dsse.specs.Panel.{Panel};
 ghost use Rattle.it_step_notes.specs.StepNotes.{Holds};
 
-use crate::keep::keep;
 use crate::note::StepNote;
 use crate::step_at::StepAt;
+use it_base::optional::push_some;
 use it_base::text::Text;
 use it_chain::bundle::File;
 use it_chain::folder_name;
@@ -22,8 +22,8 @@ pub(crate) fn push_id_notes(
         at.now.bundle.now at.now.step.now) notes.new.items) }
 {
     for id in at.step.pubkeys.as_slice() {
-        keep(notes, no_key(alloc, at, id.as_str())?)?;
-        keep(notes, no_file(alloc, at, id.as_str())?)?;
+        push_some(notes, no_key(alloc, at, id.as_str())?)?;
+        push_some(notes, no_file(alloc, at, id.as_str())?)?;
     }
     Ok(())
 }

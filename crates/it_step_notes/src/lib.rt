@@ -7,7 +7,6 @@ mod file_notes;
 mod finding;
 pub mod folder_note;
 mod id_notes;
-mod keep;
 pub mod laws;
 mod line;
 mod near_names;

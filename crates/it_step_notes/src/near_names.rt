@@ -5,9 +5,9 @@ ghost use Rattle.it_chain.specs.Contents.{files_of};
 ghost use Rattle.it_step_notes.specs.StepNotes.{HasEnds, Holds, IsNear};
 
 use crate::claimed::is_claimed;
-use crate::keep::keep;
 use crate::note::StepNote;
 use crate::step_at::StepAt;
+use it_base::optional::push_some;
 use it_base::text::Text;
 use it_chain::bundle::File;
 use std::alloc::{AllocError, Global};
@@ -23,7 +23,7 @@ pub(crate) fn push_near_names(
         at.now.bundle.now at.now.step.now) notes.new.items) }
 {
     for file in at.bundle.files() {
-        keep(notes, near_name(alloc, at, file)?)?;
+        push_some(notes, near_name(alloc, at, file)?)?;
     }
     Ok(())
 }

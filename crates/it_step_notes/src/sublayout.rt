@@ -1,6 +1,6 @@
 //! From a layout down to a sublayout (in-toto 1.0 sections 4.4 and 5.2).
-ghost use Rattle.std.specs.Prelude.{◌≡◌, ◌≢◌, ◌↔◌, All, Contains, IfOk, IfSome, IsTrue};
-ghost use Rattle.std.specs.Prelude.{MatchOption, option_map};
+ghost use Rattle.std.specs.Prelude.{◌≡◌, ◌↔◌, Contains, IfOk, IfSome, IsTrue};
+ghost use Rattle.std.specs.Prelude.{option_map};
 ghost use Rattle.it_base.specs.Finds.{Finds, FindsAs};
 ghost use Rattle.it_chain.specs.Contents.{folder_at};
 ghost use Rattle.it_chain.specs.Sublayouts.{folder_name as folder_name_of};
@@ -15,7 +15,7 @@ use it_base::text::Text;
 use it_chain::bundle::{Bundle, File};
 use it_chain::{envelope_in, folder_name};
 use it_docs::layout::Layout;
-use it_docs::step::Step;
+use it_docs::step::step_named;
 use it_dsse::checks::Checks;
 use it_dsse::payload_type::IN_TOTO;
 use std::alloc::{AllocError, Global};
@@ -68,18 +68,6 @@ pub fn sublayout_at<'a, C: Checks>(
         signed,
         folder: bundle.dir(folder.as_str()),
     }))
-}
-
-fn step_named<'a>(steps: &'a [Step], name: &str) -> Option<&'a Step>
-    ensures { MatchOption result (All (λ step. step.name ≢ name.now) steps.now)
-        (λ step. Contains steps.now step.now × (step.now.name ≡ name.now)) }
-{
-    for step in steps {
-        if step.name.as_str() == name {
-            return Some(step);
-        }
-    }
-    None
 }
 
 /// The sublayout that a key id signed for a step.

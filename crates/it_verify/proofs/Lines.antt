@@ -1,7 +1,9 @@
 -- The lines of the provenance, one after another.
 use Rattle.std.proofs.Common.{◌≡◌, ℕ, ◌+◌, List, [], ◌∷◌, ◌++◌, length, inl, inr, ⊎_elim, refl, sym}
-use Rattle.std.proofs.Common.{ap, ◌∙◌, arith}
+use Rattle.std.proofs.Common.{ap, ◌∙◌, arith, append-nil, subst, Option, Some, None}
+use Rattle.std.specs.List.{cons_option}
 use Rattle.std.proofs.lemmas.List.Sums.{sum_by-cons}
+use Rattle.it_base.specs.Finds.{Finds}
 use Rattle.it_base.specs.Sum.{CostsIfFound, IsSum}
 use Rattle.it_dsse.specs.Envelope.{EnvelopeOf}
 use Rattle.it_dsse.specs.declared.envelope.Envelope.{Envelope}
@@ -11,7 +13,7 @@ use Rattle.it_prov.specs.Cost.{signature_count}
 use Rattle.it_verify.specs.inside.Provenance.{AreRead}
 
 -- one more line, which reads as an envelope or as none
-pub read_more : (lines : List (List ℕ)) (envelopes : List Envelope) (line : List ℕ)
+read_more : (lines : List (List ℕ)) (envelopes : List Envelope) (line : List ℕ)
     (envelope : Envelope) → AreRead lines envelopes → EnvelopeOf line envelope
     → AreRead (lines ++ line ∷ []) (envelopes ++ envelope ∷ [])
 read_more [] envelopes line envelope are reads =
@@ -26,13 +28,22 @@ read_more (l ∷ lines) envelopes line envelope are reads =
     ))
     (λ x. inr (x.0, read_more lines envelopes line envelope x.1 reads)) are
 
-pub read_past : (lines : List (List ℕ)) (envelopes : List Envelope) (line : List ℕ)
+read_past : (lines : List (List ℕ)) (envelopes : List Envelope) (line : List ℕ)
     → AreRead lines envelopes → ((envelope : Envelope) → ¬ EnvelopeOf line envelope)
     → AreRead (lines ++ line ∷ []) envelopes
 read_past [] envelopes line are none = inr (none, are)
 read_past (l ∷ lines) envelopes line are none =
     ⊎_elim (λ x. inl (x.0, x.1, x.2, x.3, read_past lines x.1 line x.4 none))
     (λ x. inr (x.0, read_past lines envelopes line x.1 none)) are
+
+pub read_next : (lines : List (List ℕ)) (envelopes : List Envelope) (line : List ℕ)
+    (found : Option Envelope) → AreRead lines envelopes → Finds (EnvelopeOf line) found
+    → AreRead (lines ++ line ∷ []) (envelopes ++ cons_option found [])
+read_next lines envelopes line (Some envelope) are reads =
+    read_more lines envelopes line envelope are reads
+read_next lines envelopes line None are none =
+    subst (AreRead (lines ++ line ∷ [])) (sym (append-nil envelopes))
+    (read_past lines envelopes line are none)
 
 -- ---- how many signatures lines have
 line_has : (line : List ℕ) (envelope : Envelope) → EnvelopeOf line envelope → (n : ℕ)

@@ -14,9 +14,9 @@ use crate::failure::{Failure, refused, rule_failed};
 use crate::inputs::Inputs;
 use it_base::sequence::Sequence;
 use it_base::text::Text;
+use it_chain::link_in;
 use it_chain::refusal::RuleItem;
-use it_docs::fault::DocumentFault;
-use it_docs::link::{Link, read_link};
+use it_docs::link::Link;
 use it_docs::rule::{Rule, Side};
 use it_docs::step::Inspection;
 use it_report::refusal::Fault;
@@ -84,11 +84,10 @@ fn recorded_link(alloc: Global, name: &str, bytes: Option<&[u8]>) -> Result<Link
 fn link_named(alloc: Global, name: &str, bytes: &[u8]) -> Result<Option<Link>, AllocError>
     ensures link { IfOk result (Finds (IsLinkNamed name.now bytes.now)) }
 {
-    match read_link(alloc, bytes) {
-        Ok(link) if link.name.as_str() == name => Ok(Some(link)),
-        Ok(_) => Ok(None),
-        Err(DocumentFault::BadDocument) => Ok(None),
-        Err(DocumentFault::OutOfMemory) => Err(AllocError),
+    match link_in(alloc, bytes)? {
+        Some(link) if link.name.as_str() == name => Ok(Some(link)),
+        Some(_) => Ok(None),
+        None => Ok(None),
     }
 }
 

@@ -10,7 +10,7 @@ loop-file-preserved g c =
     let below : c.loop-file.file-index < length files = omega arith in
     let stands = subst (Contains files) (sym c.file-item.is)
     (Contains-get_or files c.loop-file.file-index c.file-item.result below) in
-    rw c.in_ok-keep.ensures
+    rw c.in_ok-push_some.ensures
     (more_counting panel c.args.level.now.moment c.args.level.now.layout.now
     c.args.level.now.links.now c.args.step.now c.args.id.now c.in-Some.signer
     c.in-Some.ensures.0 c.in-Some.ensures.1 c.file-item.result

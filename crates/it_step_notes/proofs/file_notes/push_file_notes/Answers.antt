@@ -13,6 +13,6 @@ file_note-requires g c =
 pub loop-file-preserved : goal.loop-file-preserved
 loop-file-preserved g c =
     let panel = g.C.Checks.panel c.args.checks.now in
-    rw c.in_ok-keep.ensures
+    rw c.in_ok-push_some.ensures
     (kept_all (Holds panel c.args.at.now.layout.now c.args.at.now.bundle.now c.args.at.now.step.now)
     c.loop-file.notes.items _ c.loop-file.invariant c.in_ok-file_note.ensures)

@@ -21,7 +21,7 @@ no_file-requires c =
 pub loop-id-preserved : goal.loop-id-preserved
 loop-id-preserved c = λ panel before.
     let P = Holds panel c.args.at.now.layout.now c.args.at.now.bundle.now c.args.at.now.step.now in
-    rw (c.in_ok-keep-2.ensures, c.in_ok-keep.ensures)
+    rw (c.in_ok-push_some-2.ensures, c.in_ok-push_some.ensures)
     (kept_all P _ _ (kept_all P c.loop-id.notes.items _ (c.loop-id.invariant panel before)
     (given_at (λ other note. Holds other c.args.at.now.layout.now c.args.at.now.bundle.now
     c.args.at.now.step.now note) _ c.in_ok-no_key.ensures panel))

@@ -14,7 +14,7 @@ near_name-requires c =
 pub loop-file-preserved : goal.loop-file-preserved
 loop-file-preserved c = λ panel before.
     let P = Holds panel c.args.at.now.layout.now c.args.at.now.bundle.now c.args.at.now.step.now in
-    rw c.in_ok-keep.ensures
+    rw c.in_ok-push_some.ensures
     (kept_all P c.loop-file.notes.items _ (c.loop-file.invariant panel before)
     (given_at (λ other note. Holds other c.args.at.now.layout.now c.args.at.now.bundle.now
     c.args.at.now.step.now note) _ c.in_ok-near_name.ensures panel))

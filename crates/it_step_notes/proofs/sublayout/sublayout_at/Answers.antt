@@ -5,7 +5,7 @@ use Rattle.it_docs.specs.Step.{names_of}
 use Rattle.it_docs.specs.declared.step.Inspection.{Inspection}
 use Rattle.it_docs.specs.declared.step.Step.{Step}
 use Rattle.it_step_notes.specs.Sublayout.{IsSublayoutOf}
-use Rattle.it_step_notes.proofs.OneName.{one_named}
+use Rattle.it_docs.proofs.OneName.{one_named}
 use Rattle.it_step_notes.proofs.sublayout.sublayout_at.Goals as goal
 
 pub returns-clause-leads : goal.returns-clause-leads

@@ -1,8 +1,6 @@
-use Rattle.std.proofs.Common.{◌∙◌, Err, ap}
 use Rattle.it_verify.proofs.inspections.link_named.Goals as goal
 
-pub returns-in-Err-BadDocument : goal.returns-in-Err-BadDocument
-returns-in-Err-BadDocument c = record {
-  link = λ link named. c.read_link.ensures.bad (c.in-Err-BadDocument.is
-      ∙ ap Err c.in-Err-BadDocument.field-0-is) link named.0;
+pub returns-in-None : goal.returns-in-None
+returns-in-None c = record {
+  link = λ link named. (rw c.in-None.is at c.in_ok-link_in.ensures) link named.0;
 }

@@ -1,16 +1,18 @@
 -- What is found in a file counts for the step.
-use Rattle.std.proofs.Common.{◌≡◌, ◌↔◌, ℕ, ℤ, List, [], ◌++◌, Bool, true, false, IsTrue, All}
-use Rattle.std.proofs.Common.{Contains, IfSome, Option, Some, None, sym, subst, append-nil, refl}
+use Rattle.std.proofs.Common.{◌≡◌, ◌↔◌, ℕ, ℤ, List, [], ◌++◌, All}
+use Rattle.std.proofs.Common.{Contains, IfSome, Option, Some, None, is_some, sym, subst, append-nil, refl}
 use Rattle.std.specs.Bool.{OnTrue}
 use Rattle.std.specs.List.{cons_option}
 use Rattle.std.proofs.lemmas.List.Elements.{All-push}
+use Rattle.it_base.specs.Finds.{Finds, FindsAs}
 use Rattle.it_dsse.specs.Panel.{Panel}
-use Rattle.it_docs.specs.Link.{LinkOf}
+use Rattle.it_docs.specs.Layout.{LayoutOf}
 use Rattle.it_docs.specs.declared.layout.Layout.{Layout}
-use Rattle.it_docs.specs.declared.link.Link.{Link}
 use Rattle.it_docs.specs.declared.step.Step.{Step}
 use Rattle.it_chain.specs.Contents.{Contents, files_of}
-use Rattle.it_chain.specs.CountedBodies.{of_layout, of_link}
+use Rattle.it_chain.specs.Body.{as_body}
+use Rattle.it_chain.specs.CountedBodies.{BodyOf}
+use Rattle.it_chain.specs.declared.body.Body.{Body as Held}
 use Rattle.it_chain.specs.declared.bundle.File.{File}
 use Rattle.it_chain.proofs.Members.{in_head}
 use Rattle.it_rule_notes.specs.CountingFile.{FileCounts, IsLayoutBody, setting_of}
@@ -18,18 +20,17 @@ use Rattle.it_rule_notes.specs.declared.counting_file.CountingFile.{CountingFile
 use Rattle.it_rule_notes.specs.declared.counting_file.Signer.{Signer}
 use Rattle.it_rule_notes.specs.inside.CountingFile.{HasBody, IsListed, IsSigned}
 
--- a link of the step's name is a body for the step
-pub link_body : (step bytes : List ℕ) (link : Link) (same : Bool) → LinkOf bytes link
-    → (IsTrue same ↔ (link.name ≡ step)) → OnTrue same (HasBody step bytes)
-link_body step bytes link true reads named =
-    record { body = of_link link; reads = (reads, named.0 refl) }
-link_body step bytes link false reads named = tt
+-- what is found as a body for a step is one
+pub some_body : (step bytes : List ℕ) (found : Option Held)
+    → FindsAs as_body (BodyOf step bytes) found → OnTrue (is_some found) (HasBody step bytes)
+some_body step bytes None none = tt
+some_body step bytes (Some held) reads = record { body = as_body held; reads = reads }
 
--- and so is a layout
-pub layout_body : (step bytes : List ℕ) (is : Bool) → OnTrue is (IsLayoutBody bytes)
-    → OnTrue is (HasBody step bytes)
-layout_body step bytes true is = record { body = of_layout is.layout; reads = is.reads }
-layout_body step bytes false is = tt
+-- and as a layout
+pub some_layout : (bytes : List ℕ) (found : Option Layout) → Finds (LayoutOf bytes) found
+    → OnTrue (is_some found) (IsLayoutBody bytes)
+some_layout bytes None none = tt
+some_layout bytes (Some layout) reads = record { layout = layout; reads = reads }
 
 module _ (panel : Panel) (moment : ℤ) (layout : Layout) (bundle : Contents) (step : Step)
     (id : List ℕ) where

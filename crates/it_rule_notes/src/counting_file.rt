@@ -1,28 +1,22 @@
 //! The files that hold what counts for a key id of a step (in-toto 1.0, section 5.2).
 ghost use Rattle.std.specs.Bool.{OnTrue};
-ghost use Rattle.std.specs.Prelude.{◌≡◌, ◌↔◌, All, Contains, IfOk, IfSome, IsTrue};
-ghost use Rattle.it_chain.specs.ClaimedFiles.{IsClaimed};
+ghost use Rattle.std.specs.Prelude.{◌≡◌, All, Contains, IfOk, IfSome};
 ghost use Rattle.it_rule_notes.specs.CountingFile.{FileCounts, IsLayoutBody, setting_of};
-ghost use Rattle.it_rule_notes.specs.inside.CountingFile.{HasBody, IsEnvelope, IsListed, IsSigned};
+ghost use Rattle.it_rule_notes.specs.inside.CountingFile.{HasBody, IsListed, IsSigned};
 
 use crate::level::Level;
 use it_base::optional::push_some;
 use it_base::sequence::Sequence;
 use it_base::text::Text;
 use it_chain::bundle::File;
-use it_chain::claimed_step;
-use it_docs::fault::DocumentFault;
+use it_chain::{body_in, candidate_in, is_claimed, layout_in};
 use it_docs::layout::Layout;
-use it_docs::layout_fault::LayoutFault;
-use it_docs::layout_reading::read_layout;
-use it_docs::link::read_link;
 use it_docs::step::Step;
 use it_dsse::checks::Checks;
-use it_dsse::envelope::{Envelope, EnvelopeFault};
+use it_dsse::envelope::Envelope;
 use it_dsse::is_signer;
 use it_dsse::key_object::KeyObject;
 use it_dsse::meter::Meter;
-use it_dsse::payload_type::IN_TOTO;
 use std::alloc::{AllocError, Global};
 
 /// A file that holds what counts.
@@ -103,7 +97,7 @@ fn counting_file<C: Checks>(
     if !is_claimed(step, file.name.as_str()) {
         return Ok(None);
     }
-    let Some(envelope) = envelope_in(alloc, file.bytes.as_slice())? else {
+    let Some(envelope) = candidate_in(alloc, file.bytes.as_slice())? else {
         return Ok(None);
     };
     let mut meter = Meter { asked: 0 };
@@ -122,50 +116,16 @@ fn counting_file<C: Checks>(
     Ok(Some(CountingFile { name, payload }))
 }
 
-fn is_claimed(step: &str, name: &str) -> bool
-    ensures { OnTrue result (IsClaimed step.now name.now) }
-{
-    match claimed_step(name) {
-        Some(claimed) => claimed == step,
-        None => false,
-    }
-}
-
-/// The envelope of the in-toto type in the bytes.
-fn envelope_in(alloc: Global, bytes: &[u8]) -> Result<Option<Envelope>, AllocError>
-    ensures { IfOk result (λ found. IfSome found (IsEnvelope bytes.now)) }
-{
-    match Envelope::read(alloc, bytes) {
-        Ok(envelope) if envelope.payload_type.as_str() == IN_TOTO => Ok(Some(envelope)),
-        Ok(_) | Err(EnvelopeFault::BadEnvelope) => Ok(None),
-        Err(EnvelopeFault::OutOfMemory) => Err(AllocError),
-    }
-}
-
 /// Whether the bytes are a body for a step.
 fn has_body(alloc: Global, step: &str, bytes: &[u8]) -> Result<bool, AllocError>
     ensures { IfOk result (λ has. OnTrue has (HasBody step.now bytes.now)) }
 {
-    match read_link(alloc, bytes) {
-        Ok(link) => Ok(is_same(link.name.as_str(), step)),
-        Err(DocumentFault::BadDocument) => is_layout(alloc, bytes),
-        Err(DocumentFault::OutOfMemory) => Err(AllocError),
-    }
-}
-
-fn is_same(one: &str, other: &str) -> bool
-    ensures { IsTrue result ↔ (one.now ≡ other.now) }
-{
-    one == other
+    Ok(body_in(alloc, step, bytes)?.is_some())
 }
 
 /// Whether the bytes are a layout.
 pub(crate) fn is_layout(alloc: Global, bytes: &[u8]) -> Result<bool, AllocError>
     ensures { IfOk result (λ is. OnTrue is (IsLayoutBody bytes.now)) }
 {
-    match read_layout(alloc, bytes) {
-        Ok(_) => Ok(true),
-        Err(LayoutFault::BadLayout(_)) => Ok(false),
-        Err(LayoutFault::OutOfMemory) => Err(AllocError),
-    }
+    Ok(layout_in(alloc, bytes)?.is_some())
 }

@@ -1,14 +1,13 @@
 //! The links that count for key ids of a step.
 ghost use Rattle.std.specs.Prelude.{Contains, IfOk, IfSome};
-ghost use Rattle.it_docs.specs.Link.{LinkOf};
 ghost use Rattle.it_rule_notes.specs.CountingFile.{setting_of};
 ghost use Rattle.it_rule_notes.specs.LinkFile.{HoldsLink};
 
 use crate::counting_file::{CountingFile, counting_files};
 use crate::level::Level;
 use it_base::text::Text;
-use it_docs::fault::DocumentFault;
-use it_docs::link::{Link, read_link};
+use it_chain::link_in;
+use it_docs::link::Link;
 use it_docs::step::Step;
 use it_dsse::checks::Checks;
 use std::alloc::{AllocError, Global};
@@ -40,7 +39,7 @@ pub(crate) fn link_file<C: Checks>(
     let Some(file) = first_of(files.as_slice()) else {
         return Ok(None);
     };
-    let Some(link) = link_in(alloc, file)? else {
+    let Some(link) = link_in(alloc, file.payload.as_slice())? else {
         return Ok(None);
     };
     Ok(Some(LinkFile {
@@ -54,15 +53,4 @@ fn first_of(files: &[CountingFile]) -> Option<&CountingFile>
     ensures { IfSome result (λ file. Contains files.now file.now) }
 {
     files.first()
-}
-
-/// The link that a file holds.
-fn link_in(alloc: Global, file: &CountingFile) -> Result<Option<Link>, AllocError>
-    ensures { IfOk result (λ found. IfSome found (LinkOf file.now.payload)) }
-{
-    match read_link(alloc, file.payload.as_slice()) {
-        Ok(link) => Ok(Some(link)),
-        Err(DocumentFault::BadDocument) => Ok(None),
-        Err(DocumentFault::OutOfMemory) => Err(AllocError),
-    }
 }

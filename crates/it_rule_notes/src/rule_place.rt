@@ -1,5 +1,5 @@
 //! Where artifact rules stand.
-ghost use Rattle.std.specs.Prelude.{◌≡◌, ◌++◌, IfOk, OnOk};
+ghost use Rattle.std.specs.Prelude.{◌≡◌, ◌≢◌, ◌++◌, All, Contains, IfOk, MatchOption, OnOk};
 ghost use Rattle.it_base.specs.Finds.{FindsAs};
 ghost use Rattle.it_report.specs.Report.{side_form};
 ghost use Rattle.it_rule_notes.specs.RulePlace.{AreRulesAt, document_form, inspection_rules};

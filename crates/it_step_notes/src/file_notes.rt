@@ -3,13 +3,13 @@ ghost use Rattle.std.specs.Prelude.{All, Contains, IfOk, IfSome, OnOk};
 ghost use Rattle.it_chain.specs.Contents.{files_of};
 ghost use Rattle.it_step_notes.specs.StepNotes.{Holds};
 
-use crate::claimed::is_claimed;
 use crate::finding::finding_in;
 use crate::note::StepNote;
 use crate::step_at::StepAt;
 use it_base::optional::push_some;
 use it_base::text::Text;
 use it_chain::bundle::File;
+use it_chain::is_claimed;
 use it_dsse::checks::Checks;
 use std::alloc::{AllocError, Global};
 

@@ -2,7 +2,6 @@
 //! count, and what is odd about its key ids and nearly matching file names. Each note is true.
 #![tactic(auto)]
 
-mod claimed;
 mod file_notes;
 mod finding;
 pub mod folder_note;

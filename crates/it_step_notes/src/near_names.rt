@@ -4,12 +4,12 @@ ghost use Rattle.it_dsse.specs.Panel.{Panel};
 ghost use Rattle.it_chain.specs.Contents.{files_of};
 ghost use Rattle.it_step_notes.specs.StepNotes.{HasEnds, Holds, IsNear};
 
-use crate::claimed::is_claimed;
 use crate::note::StepNote;
 use crate::step_at::StepAt;
 use it_base::optional::push_some;
 use it_base::text::Text;
 use it_chain::bundle::File;
+use it_chain::is_claimed;
 use std::alloc::{AllocError, Global};
 
 /// Adds each file whose name nearly claims it for the step.

@@ -7,13 +7,12 @@ ghost use Rattle.it_chain.specs.Sublayouts.{folder_name as folder_name_of};
 ghost use Rattle.it_step_notes.specs.Sublayout.{HoldsLayout, IsSublayoutIn, IsSublayoutOf};
 ghost use Rattle.it_step_notes.specs.Sublayout.{LeadsDown};
 
-use crate::claimed::is_claimed;
 use crate::signed_layout::SignedLayout;
 use crate::signing_ids::is_signed_under;
 use crate::step_at::StepAt;
 use it_base::text::Text;
 use it_chain::bundle::{Bundle, File};
-use it_chain::{envelope_in, folder_name};
+use it_chain::{envelope_in, folder_name, is_claimed};
 use it_docs::layout::Layout;
 use it_docs::step::step_named;
 use it_dsse::checks::Checks;

@@ -1,23 +1,17 @@
 -- What is looked at in a file.
 use Rattle.std.specs.Prelude.{◌≡◌, ℕ, List, Some, Contains}
 use Rattle.std.specs.FinMap.{get}
-use Rattle.it_dsse.specs.Envelope.{EnvelopeOf}
 use Rattle.it_dsse.specs.Panel.{Panel}
 use Rattle.it_dsse.specs.Signed.{IsSigner}
 use Rattle.it_dsse.specs.declared.envelope.Envelope.{Envelope}
-use Rattle.it_docs.specs.PayloadType.{in_toto_type}
 use Rattle.it_docs.specs.declared.layout.Layout.{Layout}
 use Rattle.it_docs.specs.declared.step.Step.{Step}
+use Rattle.it_chain.specs.Candidate.{IsCandidate}
 use Rattle.it_chain.specs.ClaimedFiles.{IsClaimed}
 use Rattle.it_chain.specs.CountedBodies.{Body, BodyOf}
 use Rattle.it_chain.specs.declared.bundle.File.{File}
 use Rattle.it_rule_notes.specs.declared.counting_file.CountingFile.{CountingFile}
 use Rattle.it_rule_notes.specs.declared.counting_file.Signer.{Signer}
-
--- the bytes are an envelope of the in-toto type
-pub record IsEnvelope (bytes : List ℕ) (envelope : Envelope) : Type 0 where
-  pub is_envelope : EnvelopeOf bytes envelope
-  pub type_is : envelope.payload_type ≡ in_toto_type
 
 -- the bytes are some body for a step
 pub record HasBody (step bytes : List ℕ) : Type 0 where
@@ -35,7 +29,7 @@ pub record IsSigned (panel : Panel) (step : List ℕ) (signer : Signer) (file : 
   pub envelope : Envelope
   pub name_is : found.name ≡ file.name
   pub claimed : IsClaimed step file.name
-  pub is_envelope : IsEnvelope file.bytes envelope
+  pub is_envelope : IsCandidate file.bytes envelope
   pub payload_is : envelope.payload ≡ found.payload
   pub is_signer : IsSigner panel envelope signer.object.now signer.id.now
   pub has_body : HasBody step found.payload

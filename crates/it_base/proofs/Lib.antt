@@ -3,6 +3,7 @@ pub mod Decided
 pub mod Documents
 pub mod Elements
 pub mod Firsts
+pub mod Found
 pub mod Items
 pub mod ListDecided
 pub mod Lists

@@ -10,10 +10,10 @@ use crate::note::Shortfall;
 use crate::shape::type_in;
 use crate::signers::signers_among;
 use crate::statement::{is_about, statement_misses};
+use it_base::parts::from_bytes;
 use it_base::text::Text;
-use it_docs::fault::DocumentFault;
 use it_docs::policy::Builder;
-use it_docs::statement::read_statement;
+use it_docs::statement::Statement;
 use it_dsse::checks::Checks;
 use it_dsse::envelope::Envelope;
 use it_dsse::payload_type::IN_TOTO;
@@ -59,11 +59,8 @@ fn signed_misses(
         return Ok(Some(Shortfall::OtherPayloadType(Text::copy(alloc, kind)?)));
     }
     let payload = envelope.payload.as_slice();
-    match read_statement(alloc, payload) {
-        Ok(statement) => statement_misses(alloc, &statement, delivery, signers),
-        Err(DocumentFault::BadDocument) => {
-            Ok(Some(Shortfall::NoStatement(type_in(alloc, payload)?)))
-        }
-        Err(DocumentFault::OutOfMemory) => Err(AllocError),
+    match from_bytes::<Statement>(alloc, payload)? {
+        Some(statement) => statement_misses(alloc, &statement, delivery, signers),
+        None => Ok(Some(Shortfall::NoStatement(type_in(alloc, payload)?))),
     }
 }

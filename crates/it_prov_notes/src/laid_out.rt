@@ -3,8 +3,8 @@ ghost use Rattle.std.specs.Prelude.{◌↔◌, Any, IfOk, IsTrue};
 ghost use Rattle.it_digest.specs.Sums.{lines_of};
 ghost use Rattle.it_prov_notes.specs.LaidOut.{IsAnEnvelope, IsLaidOut};
 
+use it_chain::envelope_in;
 use it_digest::sums::split_line;
-use it_dsse::envelope::{Envelope, EnvelopeFault};
 use std::alloc::{AllocError, Global};
 
 /// Whether the provenance as a whole is one envelope that is laid out over several lines: the bytes
@@ -45,9 +45,5 @@ fn has_envelope_line(alloc: Global, bytes: &[u8]) -> Result<bool, AllocError>
 fn is_envelope(alloc: Global, bytes: &[u8]) -> Result<bool, AllocError>
     ensures { IfOk result (λ is. IsTrue is ↔ IsAnEnvelope bytes.now) }
 {
-    match Envelope::read(alloc, bytes) {
-        Ok(_) => Ok(true),
-        Err(EnvelopeFault::BadEnvelope) => Ok(false),
-        Err(EnvelopeFault::OutOfMemory) => Err(AllocError),
-    }
+    Ok(envelope_in(alloc, bytes)?.is_some())
 }

@@ -6,8 +6,8 @@ use crate::delivery::Delivery;
 use crate::envelope::envelope_misses;
 use crate::note::Shortfall;
 use crate::shape::shape_of;
+use it_chain::envelope_in;
 use it_dsse::checks::Checks;
-use it_dsse::envelope::{Envelope, EnvelopeFault};
 use std::alloc::{AllocError, Global};
 
 /// What a line misses. An empty line gets no note.
@@ -23,9 +23,8 @@ pub(crate) fn line_misses<C: Checks>(
     if line.is_empty() {
         return Ok(None);
     }
-    match Envelope::read(alloc, line) {
-        Ok(envelope) => envelope_misses(alloc, &envelope, delivery, checks),
-        Err(EnvelopeFault::BadEnvelope) => Ok(Some(Shortfall::NoEnvelope(shape_of(alloc, line)?))),
-        Err(EnvelopeFault::OutOfMemory) => Err(AllocError),
+    match envelope_in(alloc, line)? {
+        Some(envelope) => envelope_misses(alloc, &envelope, delivery, checks),
+        None => Ok(Some(Shortfall::NoEnvelope(shape_of(alloc, line)?))),
     }
 }

@@ -8,11 +8,11 @@ ghost use Rattle.it_prov_notes.specs.inside.Judged.{AreSigners, IsAbout};
 use crate::delivery::Delivery;
 use crate::note::Shortfall;
 use crate::provenance::provenance_misses;
+use it_base::parts::from_bytes;
 use it_base::text::Text;
 use it_digest::compare::DigestSet;
-use it_docs::fault::DocumentFault;
 use it_docs::policy::Builder;
-use it_docs::statement::{Statement, read_statement};
+use it_docs::statement::Statement;
 use it_dsse::envelope::Envelope;
 use it_prov::some_agrees;
 use std::alloc::{AllocError, Global};
@@ -25,10 +25,9 @@ pub(crate) fn is_about(
 ) -> Result<bool, AllocError>
     ensures { IfOk result (λ about. IsTrue about ↔ IsAbout digests.now envelope.now) }
 {
-    match read_statement(alloc, envelope.payload.as_slice()) {
-        Ok(statement) => Ok(some_agrees(statement.subjects.as_slice(), digests)),
-        Err(DocumentFault::BadDocument) => Ok(false),
-        Err(DocumentFault::OutOfMemory) => Err(AllocError),
+    match from_bytes::<Statement>(alloc, envelope.payload.as_slice())? {
+        Some(statement) => Ok(some_agrees(statement.subjects.as_slice(), digests)),
+        None => Ok(false),
     }
 }
 

@@ -1,4 +1,3 @@
-pub mod Findings
 pub mod Kept
 pub mod Outcomes
 pub mod Telling

@@ -1,25 +1,25 @@
-use Rattle.std.proofs.Common.{◌≡◌, ℕ, List, Err, IfSome, ap, subst}
+use Rattle.std.proofs.Common.{◌≡◌, ℕ, List, IfSome, subst}
 use Rattle.it_docs.specs.Statement.{StatementOf}
 use Rattle.it_prov_notes.specs.ProvenanceNotes.{IsDocumentThat, IsTyped}
 use Rattle.it_prov_notes.proofs.envelope.signed_misses.Goals as goal
 
-pub returns-in-Ok : goal.returns-in-Ok
-returns-in-Ok c = λ panel line reads are.
-    let says : StatementOf c.args.envelope.now.payload c.in-Ok.statement =
-    rw (← c.as_slice-payload.ensures) c.in-Ok.ensures.ok in
+pub returns-in-Some : goal.returns-in-Some
+returns-in-Some c = λ panel line reads are.
+    let says : StatementOf c.args.envelope.now.payload c.in-Some.statement =
+    rw (← c.as_slice-payload.ensures) (rw c.in-Some.is at c.in_ok-statement.ensures) in
     c.statement_misses.ensures panel line c.args.envelope.now
     (record { is_line = reads; reads = says }) are
 
-pub returns-in_ok-type_in-in-Err-BadDocument : goal.returns-in_ok-type_in-in-Err-BadDocument
-returns-in_ok-type_in-in-Err-BadDocument c = λ panel line reads are. (
+pub returns-in_ok-type_in-in-None : goal.returns-in_ok-type_in-in-None
+returns-in_ok-type_in-in-None c = λ panel line reads are. (
   c.args.envelope.now,
   reads,
   record {
-    none = λ statement says. c.in-Err-BadDocument.ensures.bad
-        (ap Err c.in-Err-BadDocument.field-0-is) statement (rw c.as_slice-payload.ensures says);
+    none = λ statement says. (rw c.in-None.is at c.in_ok-statement.ensures) statement
+        (rw c.as_slice-payload.ensures says);
     type_is = subst (λ (bytes : List ℕ).
-        IfSome c.in_ok-type_in-in-Err-BadDocument.field-0
+        IfSome c.in_ok-type_in-in-None.field-0
         (λ text. IsDocumentThat (IsTyped text) bytes))
-        c.as_slice-payload.ensures c.in_ok-type_in-in-Err-BadDocument.ensures;
+        c.as_slice-payload.ensures c.in_ok-type_in-in-None.ensures;
   },
 )

@@ -1,5 +1,5 @@
 use Rattle.it_docs.specs.Layout.{LayoutOf}
-use Rattle.it_step_notes.proofs.Findings.{finds_some}
+use Rattle.it_base.proofs.Found.{finds_some}
 use Rattle.it_step_notes.proofs.finding.is_layout.Goals as goal
 
 pub returns : goal.returns

@@ -1,7 +1,6 @@
 //! The records of the steps of a layout over a bundle, whether or not its rules hold over it.
 ghost use Rattle.std.specs.Prelude.{◌≡◌, ◌≤◌, Contains, IfOk, IfSome};
-ghost use Rattle.it_chain.specs.StepRules.{links_in, recorded_in};
-ghost use Rattle.it_rules.specs.Item.{links_of, recorded_of};
+ghost use Rattle.it_chain.specs.StepRules.{links_in};
 ghost use Rattle.it_rules.specs.Rules.{NamesDiffer};
 ghost use Rattle.it_rule_notes.specs.BareLayout.{AreRecords};
 ghost use Rattle.it_rule_notes.specs.CountingFile.{setting_of};
@@ -13,7 +12,6 @@ use it_chain::refusal::ChainError;
 use it_chain::verify_chain_by;
 use it_dsse::checks::Checks;
 use it_dsse::meter::Meter;
-use it_rules::item::{Item, Named};
 use std::alloc::{AllocError, Global};
 
 /// The records of the steps of a level, where sublayouts may be up to `depth` deep.
@@ -58,28 +56,4 @@ pub(crate) fn record_named<'a>(results: &'a [StepResult], name: &str) -> Option<
         }
     }
     None
-}
-
-/// The records under the names of their steps.
-pub(crate) fn links_to(alloc: Global, results: &[StepResult]) -> Result<Vec<Named<'_>>, AllocError>
-    ensures { IfOk result (λ links. links_of links.items ≡ links_in results.now) }
-{
-    let mut links = Vec::new(alloc);
-    for found in results {
-        links.push(Named {
-            name: found.name.as_str(),
-            item: item_of(found),
-        })?;
-    }
-    Ok(links)
-}
-
-/// The lent artifacts of a record.
-pub(crate) fn item_of(found: &StepResult) -> Item<'_>
-    ensures { recorded_of result ≡ recorded_in found.now }
-{
-    Item {
-        materials: &found.materials,
-        products: &found.products,
-    }
 }

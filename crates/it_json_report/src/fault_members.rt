@@ -7,11 +7,12 @@ ghost use Rattle.it_json_report.specs.Json.{further, member};
 ghost use Rattle.it_json_report.specs.JsonReport.{fault_members};
 
 use crate::members::{push_number_member, push_text_member};
-use crate::parts::{item_text, layout_part_text, policy_part_text, side_text};
+use crate::parts::{item_text, layout_part_text, policy_part_text};
 use it_base::text::Text;
 use it_chain::refusal::RuleItem;
 use it_docs::rule::Side;
 use it_report::refusal::Fault;
+use it_report::side_text;
 use std::alloc::{AllocError, Global};
 
 pub(super) fn push_fault(alloc: Global, json: &mut Vec<u8>, fault: &Fault) -> Result<(), AllocError>

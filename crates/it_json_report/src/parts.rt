@@ -1,13 +1,12 @@
-//! What a fault is about, as texts: parts of documents, whose rule it is, and sides.
+//! What a fault is about, as texts: parts of documents, and whose rule it is.
 ghost use Rattle.std.specs.Prelude.{◌≡◌, ◌++◌, IfOk, string_bytes};
-ghost use Rattle.it_report.specs.Report.{policy_part_form, side_form};
+ghost use Rattle.it_report.specs.Report.{policy_part_form};
 ghost use Rattle.it_json_report.specs.JsonReport.{item_text, layout_part_text};
 
 use it_base::text::Text;
 use it_chain::refusal::RuleItem;
 use it_docs::layout_fault::LayoutPart;
 use it_docs::policy_fault::PolicyPart;
-use it_docs::rule::Side;
 use std::alloc::{AllocError, Global};
 
 pub(super) fn policy_part_text(alloc: Global, part: PolicyPart) -> Result<String, AllocError>
@@ -45,15 +44,6 @@ pub(super) fn item_text(alloc: Global, item: &RuleItem) -> Result<String, AllocE
         RuleItem::Step(name) => named(alloc, "step ", name),
         RuleItem::Inspection(name) => named(alloc, "inspection ", name),
         RuleItem::Deliver => String::from_str(alloc, "deliver"),
-    }
-}
-
-pub(super) fn side_text(side: Side) -> &'static str
-    ensures { result.now ≡ side_form side }
-{
-    match side {
-        Side::Materials => "materials",
-        Side::Products => "products",
     }
 }
 

@@ -8,10 +8,10 @@ use crate::difference::{Difference, difference_of};
 use crate::level::Level;
 use crate::line::{push_text, push_told};
 use crate::link_file::{LinkFile, link_file};
-use crate::rule_place::word_of;
 use it_base::text::Text;
 use it_docs::step::{Step, step_named};
 use it_dsse::checks::Checks;
+use it_report::side_text;
 use std::alloc::{AllocError, Global};
 
 /// A file whose link differs from another.
@@ -126,6 +126,6 @@ fn push_difference(
         (text.new.items ≡ text.old.items ++ difference_form step.now difference.now) }
 {
     push_told(text, " of step ", step, " differ in the ")?;
-    push_text(text, word_of(difference.side))?;
+    push_text(text, side_text(difference.side))?;
     push_told(text, " at ", &difference.path, "\n")
 }

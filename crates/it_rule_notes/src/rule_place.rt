@@ -12,6 +12,7 @@ use it_chain::refusal::RuleItem;
 use it_docs::layout::Layout;
 use it_docs::rule::{Rule, Side};
 use it_docs::step::{Inspection, Step, step_named};
+use it_report::side_text;
 use std::alloc::{AllocError, Global};
 
 /// The rules that a refusal can be about.
@@ -109,7 +110,7 @@ pub(crate) fn push_place(text: &mut Vec<u8>, place: &RulePlace) -> Result<(), Al
     let number = format!(in alloc; ": rule {index} of the ")?;
     text.extend_from_slice(document_of(&place.item).as_bytes())?;
     text.extend_from_slice(number.as_bytes())?;
-    text.extend_from_slice(word_of(place.side).as_bytes())?;
+    text.extend_from_slice(side_text(place.side).as_bytes())?;
     push_item(text, &place.item)
 }
 
@@ -119,15 +120,6 @@ fn document_of(item: &RuleItem) -> &'static str
     match item {
         RuleItem::Step(_) | RuleItem::Inspection(_) => "layout",
         RuleItem::Deliver => "policy",
-    }
-}
-
-pub(crate) fn word_of(side: Side) -> &'static str
-    ensures { result.now ≡ side_form side }
-{
-    match side {
-        Side::Materials => "materials",
-        Side::Products => "products",
     }
 }
 

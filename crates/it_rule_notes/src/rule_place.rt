@@ -1,7 +1,6 @@
 //! Where artifact rules stand.
 ghost use Rattle.std.specs.Prelude.{◌≡◌, ◌≢◌, ◌++◌, All, Contains, IfOk, MatchOption, OnOk};
 ghost use Rattle.it_base.specs.Finds.{FindsAs};
-ghost use Rattle.it_report.specs.Report.{side_form};
 ghost use Rattle.it_rule_notes.specs.RulePlace.{AreRulesAt, document_form, inspection_rules};
 ghost use Rattle.it_rule_notes.specs.RulePlace.{item_form, place_form};
 ghost use Rattle.it_chain.specs.StepRules.{rules_on};

@@ -4,6 +4,7 @@ pub mod Asking
 pub mod Attesting
 pub mod BestLevel
 pub mod Candidates
+pub mod Distinct
 pub mod Entries
 pub mod Fitting
 pub mod Greatest
@@ -14,8 +15,10 @@ pub mod NameSets
 pub mod OneFit
 pub mod ParametersSettled
 pub mod Places
+pub mod SameKeys
 pub mod Saying
 pub mod Searching
+pub mod Sharing
 pub mod Signing
 pub mod Subjects
 pub mod Trees

@@ -11,7 +11,7 @@ use Rattle.it_dsse.specs.declared.key_object.KeyObject.{KeyObject}
 use Rattle.it_docs.specs.declared.policy.Builder.{Builder}
 use Rattle.it_docs.specs.declared.policy.Expectation.{Expectation}
 use Rattle.it_prov.specs.inside.Distinct.{AllHaveSameAt, AreAsked, ArePlaced, HasSameAt}
-use Rattle.it_prov.specs.inside.Distinct.{HaveSameAt, IsPlaced, IsUsed, keys_at}
+use Rattle.it_prov.specs.inside.Distinct.{HaveSameAt, IsPlaced, keys_at}
 use Rattle.it_prov.proofs.Holding.{zip_each}
 
 -- ---- builders that are added leave those before them where they stand
@@ -35,7 +35,7 @@ all_stay old more = zip_each (λ (e : Expectation) places. HaveSameAt old e.buil
 
 -- ---- one builder
 below_or : (n k : ℕ) → k < n + 1 → (k < n) ⊎ (k ≡ n)
-below_or n k below = elim (cases_lt k n) [ | inl less ↦ inl less | inr more ↦ inr (omega arith) ]
+below_or n k below = elim (cases_lt k n) [ inl less ↦ inl less | inr more ↦ inr (omega arith) ]
 
 pub placed_known : (old : List (Bor Builder)) (builder : Builder) (place : ℕ)
     → HasSameAt old builder place → IsPlaced old old builder place

@@ -9,6 +9,7 @@ pub mod Entries
 pub mod Fitting
 pub mod Greatest
 pub mod Holding
+pub mod Images
 pub mod Meeting
 pub mod Indexing
 pub mod NameSets

@@ -1,5 +1,5 @@
 -- Maps whose entries are walked side by side.
-use Rattle.std.proofs.Common.{◌≡◌, ◌∙◌, ◌++◌, ℕ, List, [], ◌∷◌, append_assoc, append-nil, refl}
+use Rattle.std.proofs.Common.{◌≡◌, ◌∙◌, ◌++◌, ℕ, List, [], ◌∷◌, append_assoc}
 use Rattle.std.proofs.Common.{sym, ap}
 use Rattle.std.specs.FinMap.{entries, same_entries_map}
 use Rattle.it_base.specs.Table.{Named}

@@ -1,12 +1,12 @@
 -- Answers that serve all builders with the same keys.
 use Rattle.std.proofs.Common.{◌≡◌, ◌∙◌, ◌*◌, ◌<◌, ◌≤◌, ℕ, zero, suc, List, [], ◌∷◌}
-use Rattle.std.proofs.Common.{Some, Any, IsTrue, Contains, length, get_or, map, option_map, false, refl, sym, ap, subst, arith}
+use Rattle.std.proofs.Common.{Some, Any, IsTrue, length, map, sym, subst, arith}
 use Rattle.std.specs.Borrow.{Bor}
 use Rattle.std.specs.FinMap.{get, len}
-use Rattle.std.specs.List.{AllZip, slice_get}
-use Rattle.std.proofs.lemmas.List.{get_or-map, get_or_default, length-map}
+use Rattle.std.specs.List.{AllZip}
+use Rattle.std.proofs.lemmas.List.{get_or_default}
 use Rattle.std.proofs.lemmas.List.Elements.{Contains-get_or}
-use Rattle.std.proofs.lemmas.Option.{same_Some, slice_get-map, slice_get_read}
+use Rattle.std.proofs.lemmas.Option.{same_Some}
 use Rattle.it_base.specs.Table.{Named}
 use Rattle.it_dsse.specs.Meter.{RaisedBy}
 use Rattle.it_dsse.specs.Panel.{Panel}
@@ -23,6 +23,7 @@ use Rattle.it_prov.specs.inside.Shared.{AreCovered, answer_at, answers_at}
 use Rattle.it_prov.proofs.Answering.{SomeSigned}
 use Rattle.it_prov.proofs.Asking.{raised_as}
 use Rattle.it_prov.proofs.Holding.{zip_before, zip_mapped}
+use Rattle.it_prov.proofs.Images.{in_images, of_images}
 
 -- ---- a builder with the same keys has the same answer
 module _ (panel : Panel) (envelope : Envelope) where
@@ -52,7 +53,8 @@ module _ (panel : Panel) (envelope : Envelope) where
       λ signs. h.answer.1 (signed_as other one (sym same) signs),
     );
     at_most = subst (λ (ks : Named KeyObject).
-        RaisedBy (λ n. n ≤ len ks * length envelope.signatures) unasked answer.asked) same h.at_most;
+        RaisedBy (λ n. n ≤ len ks * length envelope.signatures) unasked answer.asked) same
+        h.at_most;
     at_least = λ yes. raised_as (IsAskedOfBuilder panel envelope one)
         (IsAskedOfBuilder panel envelope other) (λ n. asked_as one other n same) unasked
         answer.asked (h.at_least yes);
@@ -103,56 +105,41 @@ asked_covered expectations distinct lists most same h = record {
   used = λ place below. h.used place (omega (arith, below, same));
 }
 
--- ---- what stands at a place of the images of a list
-module _ {X Y : Type 0} (f : X → Y) (xs : List X) (i : ℕ) where
-  pub within_mapped : (ys : List Y) → map f xs ≡ ys → i < length ys → i < length xs
-  within_mapped ys are below =
-      let same = ap length are in
-      let long = length-map xs f in
-      omega (arith, below, same, long)
-
-  pub stands_mapped : (x : X) (ys : List Y) → map f xs ≡ ys → i < length xs → x ≡ get_or xs i x
-      → slice_get ys i ≡ Some (f x)
-  stands_mapped x ys are below here = subst (λ zs. slice_get zs i ≡ Some (f x)) are
-      (slice_get-map f xs i ∙ ap (option_map f) (slice_get_read xs (length xs) i x refl below here))
-
 -- ---- some builder signed if some builder that was asked did
-mapped : {X Y : Type 0} (f : X → Y) (xs : List X) (x : X) → Contains xs x → Contains (map f xs) (f x)
-mapped f xs x c = (
-  c.0,
-  (let long = length-map xs f in omega (arith, c.1, long)),
-  get_or-map f xs c.0 x (f x) c.1 ∙ ap f c.2,
-)
-
-mapped_from : {X Y : Type 0} (f : X → Y) (xs : List X) (i : ℕ) (y : Y) → i < length (map f xs)
-    → get_or (map f xs) i y ≡ y → (x : X) × Contains xs x × (f x ≡ y)
-mapped_from f [] i y below e = absurd (omega (arith, below))
-mapped_from f (x ∷ xs) zero y below e = (x, (0, omega arith, refl), e)
-mapped_from f (x ∷ xs) (suc i) y below e =
-    let found = mapped_from f xs i y (omega (arith, below)) e in
-    (found.0, (suc found.1.0, omega (arith, found.1.1), found.1.2), found.2)
-
 module _ (distinct : List Answer) (lists : List (List ℕ)) (h : AreCovered (length distinct) lists)
-    where
-  pub some_shared : SomeSigned distinct → Any SomeSigned (map (answers_at distinct) lists)
-  some_shared some =
-      let place = some.0 in
-      let at = h.used place some.2 in
-      let of_one = mapped (answers_at distinct) lists at.0 at.1 in
-      let one = mapped (answer_at distinct) at.0 place at.2 in
-      let is : answer_at distinct place ≡ some.1 =
-      get_or_default distinct place _ some.1 some.2 ∙ some.3 in
-      (of_one.0, answers_at distinct at.0, of_one.1, of_one.2,
-      (one.0, answer_at distinct place, one.1, one.2,
-      subst (λ (a : Answer). IsTrue a.signed) (sym is) some.4))
+  where
+    pub some_shared : SomeSigned distinct → Any SomeSigned (map (answers_at distinct) lists)
+    some_shared some =
+        let place = some.0 in
+        let at = h.used place some.2 in
+        let of_one = in_images (answers_at distinct) lists at.0 at.1 in
+        let one = in_images (answer_at distinct) at.0 place at.2 in
+        let is : answer_at distinct place ≡ some.1 =
+        get_or_default distinct place _ some.1 some.2 ∙ some.3 in (
+          of_one.0,
+          answers_at distinct at.0,
+          of_one.1,
+          of_one.2,
+          (
+            one.0,
+            answer_at distinct place,
+            one.1,
+            one.2,
+            subst (λ (a : Answer). IsTrue a.signed) (sym is) some.4,
+          ),
+        )
 
-  pub some_distinct : Any SomeSigned (map (answers_at distinct) lists) → SomeSigned distinct
-  some_distinct some =
-      let of_one = mapped_from (answers_at distinct) lists some.0 some.1 some.2 some.3 in
-      let signed : SomeSigned (answers_at distinct of_one.0) =
-      subst SomeSigned (sym of_one.2) some.4 in
-      let one = mapped_from (answer_at distinct) of_one.0 signed.0 signed.1 signed.2 signed.3 in
-      let below = h.within of_one.0 of_one.1 one.0 one.1 in
-      let stands = Contains-get_or distinct one.0 (record { signed = false; asked = unasked }) below in
-      (stands.0, answer_at distinct one.0, stands.1, stands.2,
-      subst (λ (a : Answer). IsTrue a.signed) (sym one.2) signed.4)
+    pub some_distinct : Any SomeSigned (map (answers_at distinct) lists) → SomeSigned distinct
+    some_distinct some =
+        let of_one = of_images (answers_at distinct) lists some.0 some.1 some.2 some.3 in
+        let signed : SomeSigned (answers_at distinct of_one.0) =
+        subst SomeSigned (sym of_one.2) some.4 in
+        let one = of_images (answer_at distinct) of_one.0 signed.0 signed.1 signed.2 signed.3 in
+        let below = h.within of_one.0 of_one.1 one.0 one.1 in
+        let stands = Contains-get_or distinct one.0 _ below in (
+          stands.0,
+          answer_at distinct one.0,
+          stands.1,
+          stands.2,
+          subst (λ (a : Answer). IsTrue a.signed) (sym one.2) signed.4,
+        )

@@ -33,6 +33,8 @@ pub returns-then-builder-wanted-clause-answer : goal.returns-then-builder-wanted
 returns-then-builder-wanted-clause-answer c = λ panel envelope are.
     let one = answer_for panel envelope c.args.builders.now c.args.answers.now c.loop-index.index
     c.index-builders-index.result are c.loop-index-test.true c.index-builders-index.is in
+    let told = c.recall.ensures panel envelope c.index-builders-index.result
+    (one _ c.for_builder.ensures) in
     let id : c.args.id.now ≡ c.index-builders-index.result.id =
     sym ((bytes_eq-Decides _ _).0 (sym c.eq.ensures ∙ c.if-eq.true)) ∙ c.as_str.ensures in (
       (
@@ -42,8 +44,7 @@ returns-then-builder-wanted-clause-answer c = λ panel envelope are.
         record {
           id_is = id;
           level_is = refl;
-          signed = (c.recall.ensures panel envelope c.index-builders-index.result (one _ c.for_builder.ensures)).answer.0
-              c.if-recall.true;
+          signed = told.answer.0 c.if-recall.true;
         },
       ),
       λ short. absurd (let enough = c.if-builder-wanted.true in omega (arith, enough, short)),
@@ -53,6 +54,8 @@ pub returns-then-builder-wanted-clause-at_most : goal.returns-then-builder-wante
 returns-then-builder-wanted-clause-at_most c = λ panel envelope are.
     let one = answer_for panel envelope c.args.builders.now c.args.answers.now c.loop-index.index
     c.index-builders-index.result are c.loop-index-test.true c.index-builders-index.is in
+    let told = c.recall.ensures panel envelope c.index-builders-index.result
+    (one _ c.for_builder.ensures) in
     let s = length envelope.signatures in
     let i = c.loop-index.index in
     let builders = c.args.builders.now in
@@ -60,13 +63,14 @@ returns-then-builder-wanted-clause-at_most c = λ panel envelope are.
     c.recall.new.meter
     (leaves_builder c.args.meter.now c.loop-index.meter c.recall.new.meter i s builders
     c.index-builders-index.result c.loop-index-test.true c.index-builders-index.is
-    (c.loop-index.invariant panel envelope are).1
-    (c.recall.ensures panel envelope c.index-builders-index.result (one _ c.for_builder.ensures)).at_most)
+    (c.loop-index.invariant panel envelope are).1 told.at_most)
 
 pub returns-then-builder-wanted-clause-at_least : goal.returns-then-builder-wanted-clause-at_least
 returns-then-builder-wanted-clause-at_least c = λ panel envelope are.
     let one = answer_for panel envelope c.args.builders.now c.args.answers.now c.loop-index.index
     c.index-builders-index.result are c.loop-index-test.true c.index-builders-index.is in
+    let told = c.recall.ensures panel envelope c.index-builders-index.result
+    (one _ c.for_builder.ensures) in
     let builder = c.index-builders-index.result in
     let id : c.args.id.now ≡ builder.id =
     sym ((bytes_eq-Decides _ _).0 (sym c.eq.ensures ∙ c.if-eq.true)) ∙ c.as_str.ensures in
@@ -87,9 +91,7 @@ returns-then-builder-wanted-clause-at_least c = λ panel envelope are.
       is_enough = enough;
       tried = a.tried;
     })
-    c.loop-index.meter c.recall.new.meter
-    ((c.recall.ensures panel envelope c.index-builders-index.result (one _ c.for_builder.ensures)).at_least
-    c.if-recall.true))
+    c.loop-index.meter c.recall.new.meter (told.at_least c.if-recall.true))
 
 pub loop-index-preserved : goal.loop-index-preserved
 loop-index-preserved c = λ panel envelope are.
@@ -109,8 +111,8 @@ loop-index-preserved c = λ panel envelope are.
             greatest = built_greatest panel envelope c.args.id.now builder (record {
               id_is = id;
               level_is = refl;
-              signed =
-                  (w.recall.ensures panel envelope builder (one _ w.for_builder.ensures)).answer.0 w.if-recall.true;
+              signed = (w.recall.ensures panel envelope builder
+                  (one _ w.for_builder.ensures)).answer.0 w.if-recall.true;
             });
             short = w.if-builder-wanted.false;
             both = rw w.best-is w.greater-best.ensures;

@@ -1,5 +1,4 @@
-use Rattle.std.proofs.Common.{length, ◌≡◌, subst, arith}
-use Rattle.it_prov.specs.Answered.{AreAllAnswers}
+use Rattle.std.proofs.Common.{length}
 use Rattle.it_prov.proofs.Holding.{zip_length}
 use Rattle.it_prov.proofs.Sharing.{AreAnswered, answers_serve, asked_covered}
 use Rattle.it_prov.proofs.shared_answers.SharedAnswers.of.Goals as goal

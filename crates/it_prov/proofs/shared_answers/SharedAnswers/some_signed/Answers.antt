@@ -1,6 +1,4 @@
-use Rattle.std.proofs.Common.{◌↔◌, IsTrue, Any, subst, rules}
-use Rattle.it_prov.specs.inside.Shared.{answers_at}
-use Rattle.it_prov.specs.declared.answers.Answer.{Answer}
+use Rattle.std.proofs.Common.{◌↔◌, IsTrue, rules}
 use Rattle.it_prov.proofs.Answering.{SomeSigned}
 use Rattle.it_prov.proofs.Sharing.{some_distinct, some_shared}
 use Rattle.it_prov.proofs.shared_answers.SharedAnswers.some_signed.Goals as goal

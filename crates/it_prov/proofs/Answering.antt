@@ -1,8 +1,8 @@
 -- What is remembered of who signed an envelope.
 use Rattle.std.proofs.Common.{◌≡◌, ◌<◌, ℕ, List, Option, Some, None, IfSome, IsTrue, Any}
-use Rattle.std.proofs.Common.{length, get_or, arith}
+use Rattle.std.proofs.Common.{length, get_or, sym}
 use Rattle.std.specs.List.{slice_get}
-use Rattle.std.proofs.lemmas.List.{get_or_default}
+use Rattle.std.proofs.lemmas.Option.{get_or_from_slice_get}
 use Rattle.it_dsse.specs.Panel.{Panel}
 use Rattle.it_dsse.specs.declared.envelope.Envelope.{Envelope}
 use Rattle.it_docs.specs.declared.policy.Builder.{Builder}
@@ -14,10 +14,10 @@ use Rattle.it_prov.specs.declared.attestations.Attestation.{Attestation}
 use Rattle.it_prov.specs.inside.Judged.{HasAnswers}
 use Rattle.it_prov.proofs.Holding.{zip_before, zip_beside, zip_length, zip_read, zip_stands}
 
-module _ (panel : Panel) (envelope : Envelope) where
-  abbrev pub SomeSigned : List Answer → Type 0
-  SomeSigned = Any (λ (answer : Answer). IsTrue answer.signed)
+abbrev pub SomeSigned : List Answer → Type 0
+SomeSigned = Any (λ (answer : Answer). IsTrue answer.signed)
 
+module _ (panel : Panel) (envelope : Envelope) where
   pub signed_for_one : (expectations : List Expectation) (answers : List (List Answer))
       → AreAllAnswers panel envelope expectations answers → Any SomeSigned answers
       → SignedForOne panel expectations envelope
@@ -50,16 +50,15 @@ module _ (panel : Panel) (envelope : Envelope) where
       (by.1.0, by.0, by.1.1, by.1.2, by.2.answer.1 signs.signed) in
       (at.1.0, at.0, at.1.1, at.1.2, one)
 
-  -- the answer that was read at the place of a builder is the one for it
-  pub answer_at : (builders : List Builder) (answers : List Answer) (i : ℕ) (builder : Builder)
+  -- the answer that stands at the place of a builder is the one for it
+  pub answer_for : (builders : List Builder) (answers : List Answer) (i : ℕ) (builder : Builder)
       → AreAnswers panel envelope builders answers → i < length builders
       → builder ≡ get_or builders i builder
-      → (default : Answer) → IsAnswer panel envelope builder (get_or answers i default)
-  answer_at builders answers i builder are below here default = zip_read (IsAnswer panel envelope)
-      builders answers i builder (get_or answers i default) are below here
-      (get_or_default answers i default (get_or answers i default)
-      (let same = zip_length (IsAnswer panel envelope) builders answers are in
-      omega (arith, same, below)))
+      → (answer : Answer) → slice_get answers i ≡ Some answer
+      → IsAnswer panel envelope builder answer
+  answer_for builders answers i builder are below here answer stands =
+      zip_read (IsAnswer panel envelope) builders answers i builder answer are below here
+      (sym (get_or_from_slice_get answers i answer answer stands))
 
   -- what an envelope attests has an answer for each builder of each expectation
   pub has_answers : (expectations : List Expectation) (place : ℕ) (expectation : Expectation)

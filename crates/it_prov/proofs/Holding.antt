@@ -1,5 +1,5 @@
 -- Lists that stand side by side.
-use Rattle.std.proofs.Common.{◌≡◌, ◌<◌, ℕ, zero, suc, List, [], ◌∷◌, length, get_or}
+use Rattle.std.proofs.Common.{◌≡◌, ◌<◌, ℕ, zero, suc, List, [], ◌∷◌, length, get_or, map}
 use Rattle.std.proofs.Common.{Some, inl, inr, Contains, refl, sym, ap}
 use Rattle.std.proofs.Common.{subst, arith}
 use Rattle.std.specs.List.{AllZip, slice_get}
@@ -60,3 +60,21 @@ module _ {A B : Type 0} (R : A → B → Type 0) where
     | inl same ↦ (a, in_head a xs, subst (λ z. R a z) same h.0)
     | inr later ↦ let x = zip_before xs ys y h.1 later in (x.0, in_tail a xs x.0 x.1, x.2)
   ]
+
+-- where R holds side by side, and S wherever R does, S holds side by side: with the elements
+-- themselves, and with their images
+pub zip_each : {A B : Type 0} (R S : A → B → Type 0) → ((x : A) (y : B) → R x y → S x y)
+    → (xs : List A) (ys : List B) → AllZip R xs ys → AllZip S xs ys
+zip_each R S each [] [] h = tt
+zip_each R S each [] (y ∷ ys) h = absurd h
+zip_each R S each (x ∷ xs) [] h = absurd h
+zip_each R S each (x ∷ xs) (y ∷ ys) h = (each x y h.0, zip_each R S each xs ys h.1)
+
+pub zip_mapped : {A B C : Type 0} (R : A → B → Type 0) (S : A → C → Type 0) (f : B → C)
+    → ((x : A) (y : B) → R x y → S x (f y)) → (xs : List A) (ys : List B) → AllZip R xs ys
+    → AllZip S xs (map f ys)
+zip_mapped R S f each [] [] h = tt
+zip_mapped R S f each [] (y ∷ ys) h = absurd h
+zip_mapped R S f each (x ∷ xs) [] h = absurd h
+zip_mapped R S f each (x ∷ xs) (y ∷ ys) h =
+    (each x y h.0, zip_mapped R S f each xs ys h.1)

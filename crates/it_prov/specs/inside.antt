@@ -1,3 +1,5 @@
+pub mod Distinct
 pub mod Indexed
 pub mod Judged
+pub mod Shared
 pub mod Sought

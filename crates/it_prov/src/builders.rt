@@ -9,8 +9,8 @@ ghost use Rattle.it_prov.specs.Cost.{key_count};
 ghost use Rattle.it_prov.specs.inside.Judged.{IsAskedOfBuilders, IsBuiltBy};
 ghost use Rattle.it_prov.specs.inside.Judged.{IsEnoughOrGreatest, OfSome};
 
-use crate::answers::Answer;
 use crate::levels::greater;
+use crate::shared_answers::BuilderAnswers;
 use it_docs::policy::Builder;
 use it_dsse::meter::Meter;
 
@@ -19,7 +19,7 @@ use it_dsse::meter::Meter;
 /// builder with this id signed.
 pub(crate) fn level_of_builders(
     builders: &[Builder],
-    answers: &[Answer],
+    answers: &BuilderAnswers,
     id: &str,
     wanted: u8,
     meter: &mut Meter,
@@ -39,7 +39,7 @@ pub(crate) fn level_of_builders(
 {
     let mut best = None;
     for (index, builder) in builders.iter().enumerate() {
-        if builder.id.as_str() == id && answers[index].recall(meter) {
+        if builder.id.as_str() == id && answers.for_builder(index).recall(meter) {
             if builder.level >= wanted {
                 return Some(builder.level);
             }

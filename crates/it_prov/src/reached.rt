@@ -90,7 +90,7 @@ fn level_of_statement(
     };
     level_of_builders(
         expectation.builders.as_slice(),
-        attestation.answers.as_slice()[place].as_slice(),
+        &attestation.answers.for_builders(place),
         provenance.builder.as_str(),
         expectation.level,
         meter,

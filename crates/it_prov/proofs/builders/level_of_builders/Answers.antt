@@ -8,7 +8,7 @@ use Rattle.it_prov.specs.Answered.{IsAskedOfBuilder}
 use Rattle.it_prov.specs.Asked.{AtLeast}
 use Rattle.it_prov.specs.Cost.{key_count}
 use Rattle.it_prov.specs.inside.Judged.{IsAskedOfBuilders, IsBuiltBy}
-use Rattle.it_prov.proofs.Answering.{answer_at}
+use Rattle.it_prov.proofs.Answering.{answer_for}
 use Rattle.it_prov.proofs.Asking.{leaves_all, leaves_at_most, leaves_builder, raised_as}
 use Rattle.it_prov.proofs.Asking.{raised_none, raised_still}
 use Rattle.it_prov.proofs.Greatest.{Step, enough_or_greatest, short_or, so_far_all, so_far_more}
@@ -31,8 +31,10 @@ loop-index-init c = λ panel envelope are. (
 
 pub returns-then-builder-wanted-clause-answer : goal.returns-then-builder-wanted-clause-answer
 returns-then-builder-wanted-clause-answer c = λ panel envelope are.
-    let one = answer_at panel envelope c.args.builders.now c.args.answers.now c.loop-index.index
+    let one = answer_for panel envelope c.args.builders.now c.args.answers.now c.loop-index.index
     c.index-builders-index.result are c.loop-index-test.true c.index-builders-index.is in
+    let told = c.recall.ensures panel envelope c.index-builders-index.result
+    (one _ c.for_builder.ensures) in
     let id : c.args.id.now ≡ c.index-builders-index.result.id =
     sym ((bytes_eq-Decides _ _).0 (sym c.eq.ensures ∙ c.if-eq.true)) ∙ c.as_str.ensures in (
       (
@@ -42,8 +44,7 @@ returns-then-builder-wanted-clause-answer c = λ panel envelope are.
         record {
           id_is = id;
           level_is = refl;
-          signed = (c.recall.ensures panel envelope c.index-builders-index.result (one _)).answer.0
-              c.if-recall.true;
+          signed = told.answer.0 c.if-recall.true;
         },
       ),
       λ short. absurd (let enough = c.if-builder-wanted.true in omega (arith, enough, short)),
@@ -51,8 +52,10 @@ returns-then-builder-wanted-clause-answer c = λ panel envelope are.
 
 pub returns-then-builder-wanted-clause-at_most : goal.returns-then-builder-wanted-clause-at_most
 returns-then-builder-wanted-clause-at_most c = λ panel envelope are.
-    let one = answer_at panel envelope c.args.builders.now c.args.answers.now c.loop-index.index
+    let one = answer_for panel envelope c.args.builders.now c.args.answers.now c.loop-index.index
     c.index-builders-index.result are c.loop-index-test.true c.index-builders-index.is in
+    let told = c.recall.ensures panel envelope c.index-builders-index.result
+    (one _ c.for_builder.ensures) in
     let s = length envelope.signatures in
     let i = c.loop-index.index in
     let builders = c.args.builders.now in
@@ -60,13 +63,14 @@ returns-then-builder-wanted-clause-at_most c = λ panel envelope are.
     c.recall.new.meter
     (leaves_builder c.args.meter.now c.loop-index.meter c.recall.new.meter i s builders
     c.index-builders-index.result c.loop-index-test.true c.index-builders-index.is
-    (c.loop-index.invariant panel envelope are).1
-    (c.recall.ensures panel envelope c.index-builders-index.result (one _)).at_most)
+    (c.loop-index.invariant panel envelope are).1 told.at_most)
 
 pub returns-then-builder-wanted-clause-at_least : goal.returns-then-builder-wanted-clause-at_least
 returns-then-builder-wanted-clause-at_least c = λ panel envelope are.
-    let one = answer_at panel envelope c.args.builders.now c.args.answers.now c.loop-index.index
+    let one = answer_for panel envelope c.args.builders.now c.args.answers.now c.loop-index.index
     c.index-builders-index.result are c.loop-index-test.true c.index-builders-index.is in
+    let told = c.recall.ensures panel envelope c.index-builders-index.result
+    (one _ c.for_builder.ensures) in
     let builder = c.index-builders-index.result in
     let id : c.args.id.now ≡ builder.id =
     sym ((bytes_eq-Decides _ _).0 (sym c.eq.ensures ∙ c.if-eq.true)) ∙ c.as_str.ensures in
@@ -87,13 +91,11 @@ returns-then-builder-wanted-clause-at_least c = λ panel envelope are.
       is_enough = enough;
       tried = a.tried;
     })
-    c.loop-index.meter c.recall.new.meter
-    ((c.recall.ensures panel envelope c.index-builders-index.result (one _)).at_least
-    c.if-recall.true))
+    c.loop-index.meter c.recall.new.meter (told.at_least c.if-recall.true))
 
 pub loop-index-preserved : goal.loop-index-preserved
 loop-index-preserved c = λ panel envelope are.
-    let one = answer_at panel envelope c.args.builders.now c.args.answers.now c.loop-index.index
+    let one = answer_for panel envelope c.args.builders.now c.args.answers.now c.loop-index.index
     c.index-builders-index.result are c.loop-index-test.true c.index-builders-index.is in
     let built = IsBuiltBy panel envelope c.args.id.now in
     let s = length envelope.signatures in
@@ -109,8 +111,8 @@ loop-index-preserved c = λ panel envelope are.
             greatest = built_greatest panel envelope c.args.id.now builder (record {
               id_is = id;
               level_is = refl;
-              signed =
-                  (w.recall.ensures panel envelope builder (one _)).answer.0 w.if-recall.true;
+              signed = (w.recall.ensures panel envelope builder
+                  (one _ w.for_builder.ensures)).answer.0 w.if-recall.true;
             });
             short = w.if-builder-wanted.false;
             both = rw w.best-is w.greater-best.ensures;
@@ -120,7 +122,7 @@ loop-index-preserved c = λ panel envelope are.
           elim w.else-eq.branch [
             | else-eq-via-then-eq+else-recall v ↦ λ n b.
                 (let is : v.recall.result ≡ true = (v.recall.ensures panel envelope builder (one
-                _)).answer.1 b.signed in
+                _ v.for_builder.ensures)).answer.1 b.signed in
                 cc (is, v.if-recall.false))
             | else-eq-via-else-eq v ↦ λ n b. (let is : c.eq.result ≡ true = c.eq.ensures
                 ∙ (bytes_eq-Decides _ _).1 (c.as_str.ensures ∙ sym b.id_is) in
@@ -131,10 +133,10 @@ loop-index-preserved c = λ panel envelope are.
     let asked : RaisedBy (λ n. n ≤ len builder.keys * s) c.loop-index.meter c.if-eq.meter =
     elim c.if-eq.branch [
       | then-eq+then-recall+else-builder-wanted w ↦ rw w.meter-is (w.recall.ensures panel envelope
-          builder (one _)).at_most
+          builder (one _ w.for_builder.ensures)).at_most
       | else-eq w ↦ rw w.meter-is elim w.else-eq.branch [
         | else-eq-via-then-eq+else-recall v ↦ rw v.meter-is (v.recall.ensures panel envelope builder
-            (one _)).at_most
+            (one _ v.for_builder.ensures)).at_most
         | else-eq-via-else-eq v ↦ raised_none (len builder.keys * s) c.loop-index.meter
             w.else-eq.meter v.meter-is
       ]

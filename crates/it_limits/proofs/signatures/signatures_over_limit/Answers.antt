@@ -1,9 +1,11 @@
 use Rattle.std.proofs.Common.{◌≡◌, ◌<◌, ℕ, List, Option, Some, None, Err, length, ap, sym, ◌∙◌}
+use Rattle.std.proofs.Common.{arith}
 use Rattle.it_base.specs.Finds.{Finds}
 use Rattle.it_dsse.specs.Envelope.{EnvelopeOf}
 use Rattle.it_dsse.specs.declared.envelope.Envelope.{Envelope}
 use Rattle.it_chain.proofs.Documents.{envelope_same}
 use Rattle.it_limits.specs.Limit.{IsOverLimit, most_signatures}
+use Rattle.it_limits.proofs.FewBraces.{few_braces}
 use Rattle.it_limits.proofs.signatures.signatures_over_limit.Goals as goal
 
 -- what is found of the number of signatures holds of the bytes
@@ -20,6 +22,10 @@ found_of bytes envelope count (Some over) reads is some = record {
   count_is = some.0 ∙ is;
   is_over = some.1;
 }
+
+pub returns-then-braces_in : goal.returns-then-braces_in
+returns-then-braces_in c =
+    few_braces c.args.bytes.now (omega (arith, c.braces_in.ensures, c.if-braces_in.true))
 
 pub returns-in-Ok : goal.returns-in-Ok
 returns-in-Ok c =

@@ -1,2 +1,3 @@
+pub mod FewBraces
 pub mod LinesWritten
 pub mod LinksWithin

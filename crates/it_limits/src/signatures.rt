@@ -3,7 +3,8 @@ ghost use Rattle.std.specs.Prelude.{◌≡◌, ◌<◌, IfOk, length};
 ghost use Rattle.it_base.specs.Finds.{Finds};
 ghost use Rattle.it_limits.specs.Limit.{IsOverLimit, most_signatures};
 
-use it_dsse::envelope::{Envelope, EnvelopeFault};
+use it_chain::envelope_in;
+use it_objects::braces_in;
 use std::alloc::{AllocError, Global};
 
 /// The most signatures of an envelope that are looked at (this profile's choice).
@@ -18,10 +19,13 @@ pub const MOST_SIGNATURES: usize = 64;
 pub fn signatures_over_limit(alloc: Global, bytes: &[u8]) -> Result<Option<usize>, AllocError>
     ensures { IfOk result (Finds (IsOverLimit bytes.now)) }
 {
-    match Envelope::read(alloc, bytes) {
-        Ok(envelope) => Ok(over_limit(envelope.signatures.as_slice().len())),
-        Err(EnvelopeFault::BadEnvelope) => Ok(None),
-        Err(EnvelopeFault::OutOfMemory) => Err(AllocError),
+    // An envelope is an object, as is each of its signatures, and each object begins with a brace.
+    if braces_in(bytes) <= MOST_SIGNATURES + 1 {
+        return Ok(None);
+    }
+    match envelope_in(alloc, bytes)? {
+        Some(envelope) => Ok(over_limit(envelope.signatures.as_slice().len())),
+        None => Ok(None),
     }
 }
 

@@ -12,6 +12,7 @@ ghost use Rattle.it_report.specs.Report.{
 
 use crate::lines::{push_line, push_name_line, push_number_line};
 use crate::refusal::Fault;
+use crate::side::side_text;
 use it_base::text::Text;
 use it_chain::refusal::RuleItem;
 use it_docs::layout_fault::LayoutPart;
@@ -155,8 +156,5 @@ fn push_side(text: &mut Vec<u8>, side: Side) -> Result<(), AllocError>
     ensures { OnOk result (text.new.items
         ≡ text.old.items ++ line (codes "side") (side_form side)) }
 {
-    match side {
-        Side::Materials => push_line(text, "side", "materials"),
-        Side::Products => push_line(text, "side", "products"),
-    }
+    push_line(text, "side", side_text(side))
 }

@@ -8,6 +8,8 @@ pub mod name;
 mod place;
 pub mod refusal;
 mod reporting;
+mod side;
 pub mod verdict;
 
 pub use reporting::{refused_report, report};
+pub use side::side_text;

@@ -46,7 +46,7 @@ use Rattle.it_chain.proofs.+level.Goals as goal
 
 pushed_record : (given : Option IdRecord) → cons_option given [] ≡ with_record given []
 pushed_record None = refl
-pushed_record (Some record) = refl
+pushed_record (Some r) = refl
 
 pub id_records::verify_id-returns-in-One-clause-answer : goal.id_records::verify_id-returns-in-One-clause-answer
 id_records::verify_id-returns-in-One-clause-answer g t c =

@@ -21,45 +21,44 @@ use Rattle.it_docs.proofs.Same.{link_same}
 use Rattle.it_chain.specs.inside.Asked.{signature_count}
 use Rattle.it_chain.specs.inside.ClaimedFiles.{files_at}
 use Rattle.it_chain.specs.Cost.{HasSignatures}
-use Rattle.it_chain.specs.inside.Candidates.{AreRead, IsBody, IsRead, IsReadAt}
+use Rattle.it_chain.specs.Candidate.{IsCandidate}
+use Rattle.it_chain.specs.CountedBodies.{Body, of_link, of_layout, BodyOf}
+use Rattle.it_chain.specs.inside.Candidates.{AreRead, IsCandidateAt}
 use Rattle.it_chain.specs.declared.bundle.File.{File}
-use Rattle.it_chain.specs.declared.candidate.Body.{Body as Held}
-use Rattle.it_chain.specs.declared.candidate.Body.TheVariants.{Link as held_link}
-use Rattle.it_chain.specs.declared.candidate.Body.TheVariants.{Layout as held_layout}
 use Rattle.it_chain.proofs.Asking.{sum_last}
 use Rattle.it_chain.proofs.Documents.{envelope_same, link_or_layout}
 use Rattle.it_chain.proofs.Members.{in_head, in_cases, in_none}
 
 -- ---- what a payload is
 pub no_body : (step payload : List ℕ) → ((link : Link) → ¬ LinkOf payload link)
-    → ((layout : Layout) → ¬ LayoutOf payload layout) → (body : Held) → ¬ IsBody step payload body
-no_body step payload none no_layout (held_link link) h = none link h.0
-no_body step payload none no_layout (held_layout layout) h = no_layout layout h
+    → ((layout : Layout) → ¬ LayoutOf payload layout) → (body : Body) → ¬ BodyOf step payload body
+no_body step payload none no_layout (of_link link) h = none link h.0
+no_body step payload none no_layout (of_layout layout) h = no_layout layout h
 
 pub other_name : (step payload : List ℕ) (link : Link) → LinkOf payload link → link.name ≢ step
-    → (body : Held) → ¬ IsBody step payload body
-other_name step payload link is differs (held_link other) h =
+    → (body : Body) → ¬ BodyOf step payload body
+other_name step payload link is differs (of_link other) h =
     differs (ap (λ (l : Link). l.name) (link_same payload link other is h.0) ∙ h.1)
-other_name step payload link is differs (held_layout layout) h =
+other_name step payload link is differs (of_layout layout) h =
     link_or_layout payload link layout is h
 
 -- ---- what a file is
 pub other_type : (bytes : List ℕ) (envelope : Envelope) → EnvelopeOf bytes envelope
-    → envelope.payload_type ≢ in_toto_type → (other : Envelope) → ¬ IsRead bytes other
+    → envelope.payload_type ≢ in_toto_type → (other : Envelope) → ¬ IsCandidate bytes other
 other_type bytes envelope is differs other h =
     differs (ap (λ (e : Envelope). e.payload_type) (envelope_same bytes envelope other is
     h.is_envelope) ∙ h.type_is)
 
 module _ (files : List File) (place : ℕ) (file : File)
     (is : slice_get files place ≡ Some file) where
-  found_at : (found : Option Envelope) → Finds (IsRead file.bytes) found
-      → Finds (IsReadAt files place) found
-  found_at None none = λ e h. none e (subst (λ (f : File). IsRead f.bytes e)
+  found_at : (found : Option Envelope) → Finds (IsCandidate file.bytes) found
+      → Finds (IsCandidateAt files place) found
+  found_at None none = λ e h. none e (subst (λ (f : File). IsCandidate f.bytes e)
       (same_Some h.0 file (sym h.1 ∙ is)) h.2)
   found_at (Some e) h = (file, is, h)
 
   pub reads_at : {E : Type 0} → (result : Result (Option Envelope) E)
-      → IfOk result (Finds (IsRead file.bytes)) → IfOk result (Finds (IsReadAt files place))
+      → IfOk result (Finds (IsCandidate file.bytes)) → IfOk result (Finds (IsCandidateAt files place))
   reads_at (Ok found) h = found_at found h
   reads_at (Err e) h = h
 
@@ -75,16 +74,16 @@ none_yet = record {
 }
 
 module _ (files : List File) (file : File) (found : List Envelope) (are : AreRead files found) where
-  passed_all : ((envelope : Envelope) → ¬ IsRead file.bytes envelope) → (f : File)
-      (envelope : Envelope) → Contains (files ++ file ∷ []) f → IsRead f.bytes envelope
+  passed_all : ((envelope : Envelope) → ¬ IsCandidate file.bytes envelope) → (f : File)
+      (envelope : Envelope) → Contains (files ++ file ∷ []) f → IsCandidate f.bytes envelope
       → Contains found envelope
   passed_all none f envelope among is = ⊎_elim (λ before. are.all f envelope before is)
       (λ last. ⊎_elim (λ same. absurd
-      (none envelope (subst (λ (g : File). IsRead g.bytes envelope) (sym same) is)))
+      (none envelope (subst (λ (g : File). IsCandidate g.bytes envelope) (sym same) is)))
       (λ later. absurd (in_none f later)) (in_cases file [] f last))
       (Contains-append_cases files (file ∷ []) f among)
 
-  pub passed : ((envelope : Envelope) → ¬ IsRead file.bytes envelope)
+  pub passed : ((envelope : Envelope) → ¬ IsCandidate file.bytes envelope)
       → AreRead (files ++ file ∷ []) found
   passed none = record {
     each = λ e among. let f = are.each e among in
@@ -94,22 +93,22 @@ module _ (files : List File) (file : File) (found : List Envelope) (are : AreRea
         omega (arith, are.most parts.0 parts.2, parts.4);
   }
 
-  module _ (new : Envelope) (is : IsRead file.bytes new) where
+  module _ (new : Envelope) (is : IsCandidate file.bytes new) where
     added_each : (e : Envelope) → Contains (found ++ new ∷ []) e → (f : File)
-        × Contains (files ++ file ∷ []) f × IsRead f.bytes e
+        × Contains (files ++ file ∷ []) f × IsCandidate f.bytes e
     added_each e among = ⊎_elim (λ before. let f = are.each e before in
         (f.0, Contains-append_left files (file ∷ []) f.0 f.1, f.2))
         (λ last. ⊎_elim (λ same. (
           file,
           Contains-append_right files (file ∷ []) file
               (in_head file []),
-          subst (IsRead file.bytes) same is,
+          subst (IsCandidate file.bytes) same is,
         ))
         (λ later. absurd (in_none e later)) (in_cases new [] e last))
         (Contains-append_cases found (new ∷ []) e among)
 
     added_all : (f : File) (envelope : Envelope) → Contains (files ++ file ∷ []) f
-        → IsRead f.bytes envelope → Contains (found ++ new ∷ []) envelope
+        → IsCandidate f.bytes envelope → Contains (found ++ new ∷ []) envelope
     added_all f envelope among h = ⊎_elim
         (λ before. Contains-append_left found (new ∷ []) envelope (are.all f envelope before h))
         (λ last. ⊎_elim (λ same. subst (Contains (found ++ new ∷ []))
@@ -148,25 +147,25 @@ module _ (files : List File) (places : List ℕ) (place : ℕ) (found : List Env
   one_file file is = filter_map-append (slice_get files) places (place ∷ [])
       ∙ ap (λ o. files_at files places ++ cons_option o []) is
 
-  added_at : (new : Envelope) → IsReadAt files place new
+  added_at : (new : Envelope) → IsCandidateAt files place new
       → AreRead (files_at files (places ++ place ∷ [])) (found ++ new ∷ [])
   added_at new h = subst (λ fs. AreRead fs (found ++ new ∷ [])) (sym (one_file h.0 h.1))
       (added (files_at files places) h.0 found are new h.2)
 
   passed_if : (file : Option File) → slice_get files place ≡ file
-      → ((envelope : Envelope) → ¬ IsReadAt files place envelope)
+      → ((envelope : Envelope) → ¬ IsCandidateAt files place envelope)
       → AreRead (files_at files (places ++ place ∷ [])) found
   passed_if None is none = no_file is
   passed_if (Some file) is none = subst (λ fs. AreRead fs found) (sym (one_file file is))
       (passed (files_at files places) file found are
       (λ envelope h. none envelope (file, is, h)))
 
-  passed_at : ((envelope : Envelope) → ¬ IsReadAt files place envelope)
+  passed_at : ((envelope : Envelope) → ¬ IsCandidateAt files place envelope)
       → AreRead (files_at files (places ++ place ∷ [])) found
   passed_at = passed_if (slice_get files place) refl
 
   -- what is found at a place is kept
-  pub kept_at : (next : Option Envelope) → Finds (IsReadAt files place) next
+  pub kept_at : (next : Option Envelope) → Finds (IsCandidateAt files place) next
       → AreRead (files_at files (places ++ place ∷ [])) (found ++ cons_option next [])
   kept_at None none = subst (AreRead (files_at files (places ++ place ∷ [])))
       (sym (append-nil found)) (passed_at none)

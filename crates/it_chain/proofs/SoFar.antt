@@ -8,7 +8,7 @@ use Rattle.it_dsse.specs.Panel.{KeyNumber, Panel}
 use Rattle.it_dsse.specs.declared.envelope.Envelope.{Envelope}
 use Rattle.it_dsse.specs.declared.key_object.KeyObject.{KeyObject}
 use Rattle.it_chain.specs.inside.CountedBodies.{IsSigned, IsSignedBody, CountsOne, CountTwo}
-use Rattle.it_chain.specs.declared.candidate.Body.{Body as Held}
+use Rattle.it_chain.specs.declared.body.Body.{Body as Held}
 use Rattle.it_chain.specs.declared.counted_bodies.FoundBody.{FoundBody}
 use Rattle.it_chain.proofs.Members.{in_head, in_cases, in_none}
 

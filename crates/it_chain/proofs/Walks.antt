@@ -25,16 +25,17 @@ use Rattle.it_chain.specs.First.{places}
 use Rattle.it_chain.specs.Level.{Holding, LevelHolds, Records}
 use Rattle.it_chain.specs.ClaimedFiles.{IsClaimed}
 use Rattle.it_chain.specs.Sublayouts.{folder_of}
-use Rattle.it_chain.specs.inside.Candidates.{AreCandidates, as_body}
+use Rattle.it_chain.specs.Body.{as_body}
+use Rattle.it_chain.specs.inside.Candidates.{AreCandidates}
 use Rattle.it_chain.specs.inside.Sublayouts.{BodyComes, BodyFails, IsUnder, SublayoutComes}
 use Rattle.it_chain.specs.inside.CountedBodies.{CountTwo, CountsOne, IsSigned}
 use Rattle.it_chain.specs.inside.Walks.{FailsAt, Walks}
 use Rattle.it_chain.specs.inside.IdRecords.{Gives, IsRecordOf}
 use Rattle.it_chain.specs.inside.Below.{StandsAt, fails_below, holds_below}
 use Rattle.it_chain.specs.declared.bundle.File.{File}
-use Rattle.it_chain.specs.declared.candidate.Body.{Body as Held}
-use Rattle.it_chain.specs.declared.candidate.Body.TheVariants.{Link as held_link}
-use Rattle.it_chain.specs.declared.candidate.Body.TheVariants.{Layout as held_layout}
+use Rattle.it_chain.specs.declared.body.Body.{Body as Held}
+use Rattle.it_chain.specs.declared.body.Body.TheVariants.{Link as held_link}
+use Rattle.it_chain.specs.declared.body.Body.TheVariants.{Layout as held_layout}
 use Rattle.it_chain.specs.declared.chain.Chain.{Chain as ChainOf}
 use Rattle.it_chain.specs.declared.chain.StepResult.{StepResult}
 use Rattle.it_chain.specs.declared.record.IdRecord.{IdRecord}

@@ -2,8 +2,10 @@ pub mod Alike
 pub mod AlikePanels
 pub mod AllFiles
 pub mod Answer
+pub mod Body
 pub mod BundleCode
 pub mod BundleView
+pub mod Candidate
 pub mod Chain
 pub mod ClaimedFiles
 pub mod Contents

@@ -1,6 +1,7 @@
 //! Which files of a bundle are claimed for which steps (in-toto 1.0 section 4.4, names of link
 //! files).
-ghost use Rattle.std.specs.Prelude.{◌≡◌, List, ℕ, IfOk, OnOk, MatchOption, string_bytes};
+ghost use Rattle.std.specs.Prelude.{◌≡◌, ◌↔◌, List, ℕ, IfOk, IsTrue, OnOk, MatchOption};
+ghost use Rattle.std.specs.Prelude.{string_bytes};
 ghost use Rattle.it_chain.specs.inside.ClaimedFiles.{ClaimsIn, IsAdded, places_under};
 ghost use Rattle.it_chain.specs.ClaimedFiles.{IsClaimed};
 
@@ -59,4 +60,14 @@ pub fn claimed_step(name: &str) -> Option<&str>
     let front = name.strip_suffix(".link")?;
     let (step, middle) = front.rsplit_once('.')?;
     if middle.is_empty() { None } else { Some(step) }
+}
+
+/// Whether a file's name claims the file for a step (in-toto 1.0 section 4.4). Takes no memory.
+pub fn is_claimed(step: &str, name: &str) -> bool
+    ensures { IsTrue result ↔ IsClaimed step.now name.now }
+{
+    match claimed_step(name) {
+        Some(found) => found == step,
+        None => false,
+    }
 }

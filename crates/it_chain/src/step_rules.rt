@@ -1,19 +1,20 @@
 //! The artifact rules of a layout's steps.
-ghost use Rattle.std.specs.Prelude.{◌≡◌, IfOk, zip};
-ghost use Rattle.it_rules.specs.Item.{links_of, recorded_of};
+ghost use Rattle.std.specs.Prelude.{zip};
+ghost use Rattle.it_rules.specs.Item.{links_of};
 ghost use Rattle.it_rules.specs.Rules.{NamesDiffer};
-ghost use Rattle.it_chain.specs.StepRules.{links_in, recorded_in};
+ghost use Rattle.it_chain.specs.StepRules.{links_in};
 ghost use Rattle.it_chain.specs.inside.StepRules.{AreRuled, IsSideRuled};
 
 use crate::chain::StepResult;
 use crate::fault::refused;
+use crate::links::{item_of, links_to};
 use crate::refusal::{ChainError, ChainFault, RuleItem};
 use it_base::text::Text;
 use it_docs::rule::{Rule, Side};
 use it_docs::step::Step;
-use it_rules::item::{Item, Named};
+use it_rules::item::Named;
 use it_rules::rules::run_rules;
-use std::alloc::{AllocError, Global};
+use std::alloc::Global;
 
 /// Judges the rules of all steps over their records, for each step those on materials first.
 pub(crate) fn run_step_rules(
@@ -46,29 +47,6 @@ pub(crate) fn run_step_rules(
         )?;
     }
     Ok(())
-}
-
-/// The records under the names of their steps.
-fn links_to(alloc: Global, results: &[StepResult]) -> Result<Vec<Named<'_>>, AllocError>
-    ensures { IfOk result (λ links. links_of links.items ≡ links_in results.now) }
-{
-    let mut links = Vec::new(alloc);
-    for found in results {
-        links.push(Named {
-            name: found.name.as_str(),
-            item: item_of(found),
-        })?;
-    }
-    Ok(links)
-}
-
-fn item_of(found: &StepResult) -> Item<'_>
-    ensures { recorded_of result ≡ recorded_in found.now }
-{
-    Item {
-        materials: &found.materials,
-        products: &found.products,
-    }
 }
 
 fn run_side(

@@ -5,8 +5,8 @@ ghost use Rattle.it_chain.specs.inside.Asked.{Asks};
 ghost use Rattle.it_chain.specs.inside.Scope.{BodyAnswers, BodyCost, BodyTakes, scope_of};
 ghost use Rattle.it_chain.specs.inside.Scope.{SublayoutAnswers, SublayoutCost, SublayoutTakes};
 
+use crate::body::Body;
 use crate::bundle::Bundle;
-use crate::candidate::Body;
 use crate::chain::Chain;
 use crate::checking::Checking;
 use crate::fault::{refused, under};

@@ -2,11 +2,13 @@ use Rattle.std.proofs.Common.{IfOk, ◌≡◌, ◌∙◌, ◌<ℤ◌, ◌-◌, [
 use Rattle.std.proofs.Common.{Contains, map, zip, Err, flat_map, append-nil, rules, refl, sym, ap}
 use Rattle.std.proofs.Common.{subst, unwrap_or, length, take, take_all, arith}
 use Rattle.std.specs.FinMap.{keys}
+use Rattle.std.specs.List.{cons_option}
 use Rattle.std.proofs.lemmas.List.Elements.{Contains-get_or}
 use Rattle.std.proofs.lemmas.Result.{err_from_is_err_and}
 use Rattle.it_base.proofs.Elements.{zip_more}
 use Rattle.it_chain.specs.inside.Asked.{GivenFewest, RaisedAtLeast, RaisedWithin, RecordsFewest}
 use Rattle.it_chain.specs.inside.Asked.{SignaturesIn, cost_below, fewest_below, key_total}
+use Rattle.it_chain.specs.inside.Asked.{least_given}
 use Rattle.it_chain.specs.Answer.{signers as signers_of, with_record}
 use Rattle.it_chain.specs.Contents.{empty, files_of, folder_at}
 use Rattle.it_chain.specs.Cost.{StepCosts}
@@ -16,7 +18,8 @@ use Rattle.it_chain.specs.First.{step_places, at_id, at_records, at_threshold, h
 use Rattle.it_chain.specs.Level.{StepHolds}
 use Rattle.it_chain.specs.StepRules.{links_in}
 use Rattle.it_chain.specs.Signers.{entry_of}
-use Rattle.it_chain.specs.inside.Candidates.{AreCandidates, as_body}
+use Rattle.it_chain.specs.Body.{as_body}
+use Rattle.it_chain.specs.inside.Candidates.{AreCandidates}
 use Rattle.it_chain.specs.inside.StepRules.{AreRuled}
 use Rattle.it_chain.specs.inside.Walks.{FailsAt}
 use Rattle.it_chain.specs.inside.IdRecords.{Gives}
@@ -40,8 +43,10 @@ use Rattle.it_chain.proofs.Walks.{none_counts, none_more, one_counts, one_below,
 use Rattle.it_chain.proofs.Walks.{two_count, walks_behind, walks_given, walks_record, walks_two}
 use Rattle.it_chain.specs.inside.Scope.{LevelAnswers, LevelAsks, LevelTakes}
 use Rattle.it_chain.proofs.+level.Goals as goal
-use Rattle.it_chain.proofs.+level.Goals.{id_records::verify_ids-in-Some+in_ok-push}
-use Rattle.it_chain.proofs.+level.Goals.{id_records::verify_ids-in_default}
+
+pushed_record : (given : Option IdRecord) → cons_option given [] ≡ with_record given []
+pushed_record None = refl
+pushed_record (Some r) = refl
 
 pub id_records::verify_id-returns-in-One-clause-answer : goal.id_records::verify_id-returns-in-One-clause-answer
 id_records::verify_id-returns-in-One-clause-answer g t c =
@@ -140,43 +145,20 @@ id_records::verify_ids-loop-signer-preserved g t c =
     let i = c.loop-signer.signer-index in
     let signer = c.signer-item.result in
     let records = c.loop-signer.records.items in
-    let asked = signer_more s v.depth v.layout.now v.links.now c.args.meter.now c.loop-signer.meter
-    c.verify_id.new.meter i step c.args.found.now found signer records c.loop-signer-test.true
-    c.signer-item.is c.loop-signer.invariant.asked in
-    let more : (given : Option IdRecord)
-    → RaisedAtLeast (GivenFewest (fewest_below s v.depth) s v.layout.now v.links.now step given)
-    c.loop-signer.meter c.verify_id.new.meter
-    → RaisedAtLeast (RecordsFewest (fewest_below s v.depth) s v.layout.now v.links.now step
-    (records ++ with_record given [])) c.args.meter.now c.verify_id.new.meter =
-    λ given next. given_more (fewest_below s v.depth) (one_fewest_below s v.depth)
-    (some_fewest_below s v.depth) (holds_below s v.depth) s v.layout.now v.links.now step given
-    records c.args.meter.now c.loop-signer.meter c.verify_id.new.meter
-    c.loop-signer.invariant.fewest next in
-    elim c.match-record.branch [
-      | id_records::verify_ids-in-Some+in_ok-push w ↦
-          rw (w.records-is, w.in_ok-push.ensures.items)
-          (record {
-            walked = walked_more s v.depth v.layout.now v.links.now step found i signer records
-                c.loop-signer-test.true c.signer-item.is c.loop-signer.invariant.walked
-                (Some w.in-Some.record) c.in_ok-record.ensures.answer.0
-                (subst (Gives (holds_below s v.depth) s v.layout.now v.links.now step signer.id.now)
-                w.in-Some.is c.in_ok-record.ensures.answer.1);
-            asked = asked (Some w.in-Some.record) (rw w.in-Some.is at c.in_ok-record.ensures.asked);
-            fewest = more (Some w.in-Some.record)
-                (rw w.in-Some.is at c.in_ok-record.ensures.fewest);
-          })
-      | id_records::verify_ids-in_default w ↦
-          rw (w.records-is, ← (append-nil records))
-          (record {
-            walked = walked_more s v.depth v.layout.now v.links.now step found i signer records
-                c.loop-signer-test.true c.signer-item.is c.loop-signer.invariant.walked None
-                c.in_ok-record.ensures.answer.0
-                (subst (Gives (holds_below s v.depth) s v.layout.now v.links.now step signer.id.now)
-                w.in_default.is c.in_ok-record.ensures.answer.1);
-            asked = asked None (rw w.in_default.is at c.in_ok-record.ensures.asked);
-            fewest = more None (rw w.in_default.is at c.in_ok-record.ensures.fewest);
-          })
-    ]
+    let given = c.in_ok-record.record in
+    rw (c.in_ok-push_some.ensures, pushed_record given)
+    (record {
+      walked = walked_more s v.depth v.layout.now v.links.now step found i signer records
+          c.loop-signer-test.true c.signer-item.is c.loop-signer.invariant.walked given
+          c.in_ok-record.ensures.answer.0 c.in_ok-record.ensures.answer.1;
+      asked = signer_more s v.depth v.layout.now v.links.now c.args.meter.now c.loop-signer.meter
+          c.verify_id.new.meter i step c.args.found.now found signer records c.loop-signer-test.true
+          c.signer-item.is c.loop-signer.invariant.asked given c.in_ok-record.ensures.asked;
+      fewest = given_more (fewest_below s v.depth) (one_fewest_below s v.depth)
+          (some_fewest_below s v.depth) (holds_below s v.depth) s v.layout.now v.links.now step
+          given records c.args.meter.now c.loop-signer.meter c.verify_id.new.meter
+          c.loop-signer.invariant.fewest c.in_ok-record.ensures.fewest;
+    })
 
 pub id_records::verify_ids-returns-in_err-record-clause-asked : goal.id_records::verify_ids-returns-in_err-record-clause-asked
 id_records::verify_ids-returns-in_err-record-clause-asked g t c =
@@ -189,17 +171,17 @@ id_records::verify_ids-returns-in_err-record-clause-asked g t c =
     c.loop-signer-test.true c.signer-item.is c.loop-signer.invariant.asked 0
     c.in_err-record.ensures.asked)
 
-pub id_records::verify_ids-returns-in_err-push-clause-asked : goal.id_records::verify_ids-returns-in_err-push-clause-asked
-id_records::verify_ids-returns-in_err-push-clause-asked g t c =
+pub id_records::verify_ids-returns-in_err-push_some-clause-asked : goal.id_records::verify_ids-returns-in_err-push_some-clause-asked
+id_records::verify_ids-returns-in_err-push_some-clause-asked g t c =
     let s = g.C.Checking.setting c.args.checking.now in
     let v = c.args.level.now in
-    let p = err_from_is_err_and c.from_residual-in_err-push.result
-    c.from_residual-in_err-push.ensures.1 in
+    let p = err_from_is_err_and c.from_residual-in_err-push_some.result
+    c.from_residual-in_err-push_some.ensures.1 in
     rw p.1 (signer_fails s v.depth v.layout.now v.links.now c.args.meter.now c.loop-signer.meter
     c.verify_id.new.meter c.loop-signer.signer-index c.args.step.now c.args.found.now
     c.args.signers.now c.signer-item.result c.loop-signer.records.items
-    c.loop-signer-test.true c.signer-item.is c.loop-signer.invariant.asked 1
-    (rw c.in-Some.is at c.in_ok-record.ensures.asked))
+    c.loop-signer-test.true c.signer-item.is c.loop-signer.invariant.asked
+    (least_given c.in_ok-record.record) c.in_ok-record.ensures.asked)
 
 pub id_records::verify_ids-returns-clause-asked : goal.id_records::verify_ids-returns-clause-asked
 id_records::verify_ids-returns-clause-asked g t c =

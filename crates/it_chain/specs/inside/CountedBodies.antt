@@ -5,7 +5,7 @@ use Rattle.it_dsse.specs.Signed.{Signed}
 use Rattle.it_dsse.specs.declared.envelope.Envelope.{Envelope}
 use Rattle.it_dsse.specs.declared.key_object.KeyObject.{KeyObject}
 use Rattle.it_chain.specs.inside.Candidates.{IsBody}
-use Rattle.it_chain.specs.declared.candidate.Body.{Body as Held}
+use Rattle.it_chain.specs.declared.body.Body.{Body as Held}
 use Rattle.it_chain.specs.declared.counted_bodies.Counting.{Counting}
 use Rattle.it_chain.specs.declared.counted_bodies.Counting.TheVariants.{Nothing, One, Several}
 

@@ -21,11 +21,11 @@ use Rattle.it_chain.specs.inside.Asked.{Asks, BodyCosts, IdCosts, cost_below, ke
 use Rattle.it_chain.specs.inside.Asked.{BodyFewest, GivenFewest, RaisedAtLeast, RecordsFewest}
 use Rattle.it_chain.specs.inside.Asked.{fewest_below, signature_count}
 use Rattle.it_chain.specs.inside.Below.{StandsAt, fails_below, holds_below}
-use Rattle.it_chain.specs.inside.Candidates.{as_body}
+use Rattle.it_chain.specs.Body.{as_body}
 use Rattle.it_chain.specs.inside.IdRecords.{AreRecords, Gives}
 use Rattle.it_chain.specs.inside.Sublayouts.{BodyComes, SublayoutComes}
 use Rattle.it_chain.specs.inside.Walks.{Walks}
-use Rattle.it_chain.specs.declared.candidate.Body.{Body as Held}
+use Rattle.it_chain.specs.declared.body.Body.{Body as Held}
 use Rattle.it_chain.specs.declared.chain.Chain.{Chain as ChainOf}
 use Rattle.it_chain.specs.declared.chain.StepResult.{StepResult}
 use Rattle.it_chain.specs.declared.level.Level.{Level}

@@ -7,7 +7,7 @@ pub loop-place-preserved : goal.loop-place-preserved
 loop-place-preserved c =
     let so_far = take c.loop-place.place-index c.args.places.now in
     rw (
-      c.in_ok-keep.ensures,
+      c.in_ok-push_some.ensures,
       take_more c.args.places.now c.loop-place.place-index 0
           c.loop-place-test.true,
     )

@@ -1,5 +1,5 @@
 use Rattle.it_chain.proofs.Candidates.{no_body}
-use Rattle.it_chain.proofs.candidate.body_in.Goals as goal
+use Rattle.it_chain.proofs.body.body_in.Goals as goal
 
 pub returns-in_default : goal.returns-in_default
 returns-in_default c = no_body c.args.step.now c.args.payload.now

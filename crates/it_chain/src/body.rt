@@ -1,0 +1,63 @@
+//! What the body of an envelope can be for a step.
+ghost use Rattle.std.specs.Prelude.{◌≡◌, IfOk};
+ghost use Rattle.it_base.specs.Finds.{Finds, FindsAs};
+ghost use Rattle.it_docs.specs.Layout.{LayoutOf};
+ghost use Rattle.it_docs.specs.Link.{LinkOf};
+ghost use Rattle.it_chain.specs.Body.{as_body};
+ghost use Rattle.it_chain.specs.CountedBodies.{BodyOf};
+
+use it_base::parts::from_bytes;
+use it_docs::layout::Layout;
+use it_docs::link::Link;
+use std::alloc::{AllocError, Global};
+
+/// What the body of an envelope can be for a step.
+#[derive(Drop)]
+pub enum Body {
+    /// A link with the step's name.
+    Link(Link),
+    /// A layout.
+    Layout(Layout),
+}
+
+/// Reads a payload as a body for a step (in-toto 1.0 section 5.2), or `None` where it is not one.
+///
+/// # Errors
+///
+/// `AllocError` where memory was refused.
+pub fn body_in(alloc: Global, step: &str, payload: &[u8]) -> Result<Option<Body>, AllocError>
+    ensures { IfOk result (FindsAs as_body (BodyOf step.now payload.now)) }
+{
+    match link_in(alloc, payload)? {
+        Some(link) if link.name.as_str() == step => Ok(Some(Body::Link(link))),
+        Some(_) => Ok(None),
+        None => {
+            let Some(layout) = layout_in(alloc, payload)? else {
+                return Ok(None);
+            };
+            Ok(Some(Body::Layout(layout)))
+        }
+    }
+}
+
+/// Reads a payload as a link (in-toto 1.0 section 4.4), or `None` where it is not a link.
+///
+/// # Errors
+///
+/// `AllocError` where memory was refused.
+pub fn link_in(alloc: Global, bytes: &[u8]) -> Result<Option<Link>, AllocError>
+    ensures { IfOk result (Finds (LinkOf bytes.now)) }
+{
+    from_bytes(alloc, bytes)
+}
+
+/// Reads a payload as a layout (in-toto 1.0 section 4.3), or `None` where it is not a layout.
+///
+/// # Errors
+///
+/// `AllocError` where memory was refused.
+pub fn layout_in(alloc: Global, bytes: &[u8]) -> Result<Option<Layout>, AllocError>
+    ensures { IfOk result (Finds (LayoutOf bytes.now)) }
+{
+    from_bytes(alloc, bytes)
+}

@@ -24,7 +24,7 @@ loop-id-preserved c =
     let all : entries c.args.keys.now ≡ done ++ e ∷ left = l.invariant.1
     ∙ ap (λ es. done ++ named_entries es) c.in-Some.ensures.steps in
     let sorted = subst (λ es. T (is_sorted text_cmp es)) all (entries_sorted c.args.keys.now) in
-    let more = c.in_ok-put.ensures
+    let more = c.in_ok-put.ensures.ok
     ∙ ap (λ name. put name (view c.in_ok-value.value) old) c.as_str.ensures.value
     ∙ ap (λ d. put e.0 d old) c.in_ok-value.ensures
     ∙ ap (put e.0 (key_document e.1)) l.invariant.2

@@ -26,7 +26,7 @@ loop-path-preserved c =
     ∙ ap (λ es. done ++ path_entries es) c.in-Some.ensures.steps in
     let sorted = subst (λ es. T (is_sorted text_cmp es)) all
     (entries_sorted c.args.artifacts.now) in
-    let more = c.in_ok-put.ensures
+    let more = c.in_ok-put.ensures.ok
     ∙ ap (λ name. put name (view c.in_ok-value.value) old) c.as_str.ensures.value
     ∙ ap (λ d. put e.0 d old) c.in_ok-value.ensures.document
     ∙ ap (put e.0 document) l.invariant.2

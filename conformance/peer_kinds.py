@@ -4,6 +4,7 @@ Where a peer refuses, the kind is that of what it says. Where it accepts it says
 kind is that of what is odd in the delivery.
 """
 
+import collections
 import re
 
 import by_keys
@@ -12,10 +13,14 @@ from peer_documents import document_of, envelope_of
 from peer_keys import known_key, secrets_of
 
 DIGITS = re.compile("[0-9a-fA-F]{64}")
+# The members of layouts and of steps by in-toto 1.0.
+OF_LAYOUTS = {"_type", "expires", "readme", "keys", "steps", "inspect"}
+OF_STEPS = {"_type", "name", "threshold", "pubkeys", "expected_materials", "expected_products",
+            "expected_command"}
 # What a peer says where it refuses, and what that tells; the first that is found counts.
 SAID = [
     (r"unknown field", "It takes no document with a member that it does not know."),
-    (r"Layout\.readme of type string", "It reads `readme`, which must be a text."),
+    (r"Layout\.readme of type string|Invalid readme", "It reads `readme`, which must be a text."),
     (r"json: cannot unmarshal", "It reads a member that plays no part, and wants it to be of its "
      "type."),
 ]
@@ -79,8 +84,8 @@ def has_one_key_twice(case):
 
 def has_mixed_object(case):
     """Whether a key object has the `keytype` of one kind of key and the `scheme` of another."""
-    return any((one.get("keytype"), one.get("scheme")) not in
-               [*by_keys.KINDS.values(), ("hmac", "hmac-sha256")] for one in objects_of(case))
+    return any((one.get("keytype"), one.get("scheme")) not in by_keys.KINDS.values()
+               for one in objects_of(case) if one.get("scheme") != "hmac-sha256")
 
 
 def has_odd_pem(case):
@@ -101,27 +106,77 @@ def has_one_name_twice(case):
     return any(len({*names}) < len(names) for names in lists)
 
 
-# What may be odd in a delivery, in a sentence, with the fault that it leads to; the first counts.
+def has_other_keyid(case):
+    """Whether a key object has a `keyid` that is not the id under which it is listed."""
+    return any(thing.get("keyid", who) != who for _, keys in steps_of(case)
+               for who, thing in keys.items())
+
+
+def has_slash_behind(case):
+    """Whether a path of a link ends in a slash."""
+    return any(path.endswith("/") for _, link in of_type("link", case)
+               for side in ("materials", "products") for path in link.get(side) or {})
+
+
+def has_caret(case):
+    """Whether a pattern has a set that begins with `^`."""
+    return any("[^" in word for step, _ in steps_of(case)
+               for side in ("expected_materials", "expected_products")
+               for rule in step.get(side) or [] for word in rule[1:2])
+
+
+def has_private_key(case):
+    """Whether a key object has a private key."""
+    return any((thing.get("keyval") or {}).get("private") for thing in objects_of(case))
+
+
+def has_other_member(case):
+    """Whether a layout or a step has a member that in-toto 1.0 does not list."""
+    layouts = [layout for _, layout in of_type("layout", case)]
+    return any({*thing} - members for things, members in
+               ((layouts, OF_LAYOUTS), ([step for step, _ in steps_of(case)], OF_STEPS))
+               for thing in things)
+
+
+def has_links_apart(case):
+    """Whether links of a step with the threshold 1 have different artifacts."""
+    found = collections.defaultdict(list)
+    for name, link in of_type("link", case):
+        found[name].append((link.get("materials") or {}, link.get("products") or {}))
+    return any(one != found[step["name"]][0] for step, _ in steps_of(case)
+               if step.get("threshold", 1) == 1 for one in found[step["name"]])
+
+
+MIXED = ("A key object has the `keytype` of one kind of key and the `scheme` of another, or of "
+         "none; the definitions go by the `scheme`.")
+# What may be odd in a delivery, in a sentence, with the fault that it leads to by the definitions.
 ODD = [
     (23, has_bad_threshold, "A step has the threshold 0."),
     (23, has_one_name_twice, "Two steps have one name."),
     (33, has_other_name, "The name in a link is not that of the step."),
     (33, has_bad_digest, "A link has a digest that is not 64 hexadecimal digits, or something else "
      "than a digest set."),
-    (33, has_mixed_object, "A key object has the `keytype` of one kind of key and the `scheme` of "
-     "another."),
     (33, has_odd_pem, "The PEM text of a key has a line before it, an empty line behind it or "
      "another label."),
+    (33, has_mixed_object, MIXED),
     (33, has_one_key_twice, "Two ids of a step have one key, and count as two."),
+    (34, has_links_apart, "Links of a step differ whose threshold is 1; the definitions compare "
+     "all that count."),
+    (None, has_mixed_object, MIXED),
+    (None, has_private_key, "A key object has a private key, which the definitions ignore."),
+    (None, has_other_member, "A layout or a step has a member that in-toto 1.0 does not list; it is "
+     "signed with the others, and the definitions ignore it."),
+    (None, has_other_keyid, "A key object has a `keyid` that is not the id under which the layout "
+     "lists it; the definitions go by the latter."),
+    (None, has_slash_behind, "A path ends in `/`, and what is said names it without."),
+    (None, has_caret, "A pattern has a set that begins with `^`, in which the definitions take it "
+     "as a character like others."),
 ]
 
 
-def kind_of_refusal(said):
-    """The kind of what a peer says."""
-    return next((sentence for pattern, sentence in SAID if re.search(pattern, said)), said)
-
-
-def kind_of_acceptance(number, case):
-    """The kind of a delivery that a peer accepts though this fault is expected."""
-    return next((sentence for fault, is_odd, sentence in ODD if fault == number and is_odd(case)),
-                "Nothing that is told apart here.")
+def kind_of(fault, case, said):
+    """The kind of the difference between an answer and the fault, or None, that is expected."""
+    told = [sentence for pattern, sentence in SAID if re.search(pattern, said)][:1]
+    number = fault and fault[0]
+    odd = [sentence for of, is_odd, sentence in ODD if of == number and is_odd(case)]
+    return " ".join(told or odd) or "What is odd here is not told apart."

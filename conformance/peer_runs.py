@@ -11,7 +11,7 @@ import peer_page
 from on_disk import Program, new_folder, opened
 from peer_deliveries import delivery_of, fault_of
 from peer_documents import Inexpressible
-from peer_kinds import kind_of_acceptance, kind_of_refusal
+from peer_kinds import kind_of
 from peer_programs import PEERS, version_of
 
 # What came of a case: `left` says why it is not one for the peer, or is empty; `accepts` is whether
@@ -36,18 +36,10 @@ def size_of(contents):
                for content in contents.values())
 
 
-def kind_of(case, accepts, said):
-    """The kind of the difference between an answer and what a case expects, if they differ."""
-    fault = fault_of(case)
-    if accepts == (fault is None):
-        return ""
-    return kind_of_acceptance(fault[0], case) if accepts else kind_of_refusal(said)
-
-
 def outcome(program, name, trial):
     """Has a peer verify a case."""
-    case, peer = trial.document, PEERS[name]
-    about = trial.file, trial.name, fault_of(case)
+    case, peer, fault = trial.document, PEERS[name], fault_of(trial.document)
+    about = trial.file, trial.name, fault
     try:
         made = delivery_of(case, peer)
     except Inexpressible as reason:
@@ -59,8 +51,8 @@ def outcome(program, name, trial):
         given = program.run(peer.words(made.owners, folder), folder)
     accepts = given.status == 0
     said = "" if accepts else peer.said(given)
-    size = len(made.layout) + size_of(made.folder)
-    return Outcome(*about, "", accepts, said, kind_of(case, accepts, said), size)
+    kind = kind_of(fault, case, said) if accepts != (fault is None) else ""
+    return Outcome(*about, "", accepts, said, kind, len(made.layout) + size_of(made.folder))
 
 
 def show(outcomes):

@@ -23,11 +23,13 @@ OF_STEP = {"_type": "step", "pubkeys": [], "threshold": 1, "expected_materials":
            "expected_products": [], "expected_command": []}
 OF_LINK = {"materials": {}, "products": {}, "byproducts": {}, "command": [], "environment": {}}
 # The faults that rest on what is left out, with the reason.
-ON_PROVENANCE, ON_RECORDS = "the verdict rests on the provenance", "the verdict rests on inspections"
+ON_PROVENANCE = "the verdict rests on the provenance"
+ON_RECORDS = "the verdict rests on inspections"
 LEFT_OUT = {10: "the policy does not read", 12: "the digest list does not read",
             13: "the moment does not read", 14: "the digest list is empty",
             20: "the layout does not read as an envelope",
-            31: "the verdict rests on two bodies of one step and key", 32: "the verdict rests on the depth of sublayouts",
+            31: "the verdict rests on two bodies of one step and key",
+            32: "the verdict rests on the depth of sublayouts",
             35: ON_RECORDS, 50: ON_RECORDS, 51: ON_RECORDS, 60: ON_PROVENANCE, 61: ON_PROVENANCE}
 
 Delivery = collections.namedtuple("Delivery", "owners layout folder")

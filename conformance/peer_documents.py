@@ -78,7 +78,7 @@ def canonical(document):
     if isinstance(document, list):
         return "[" + ",".join(map(canonical, document)) + "]"
     if isinstance(document, dict):
-        pairs = (f"{canonical(name)}:{canonical(value)}" for name, value in sorted(document.items()))
+        pairs = (f"{canonical(name)}:{canonical(document[name])}" for name in sorted(document))
         return "{" + ",".join(pairs) + "}"
     if isinstance(document, float):
         raise Inexpressible("a number that canonical JSON does not have")

@@ -114,7 +114,7 @@ class Keys:
         return self.by_secret(name)
 
     def id_of(self, name):
-        """The id of a name: that of its key, or where another name has that id, made of the name."""
+        """The id of a name: that of its key, or one made of the name if another name has that."""
         if self.names.get(name) is None:
             key = self.key_of(name)
             made = name if key is None and len(name) == 64 else key and digits_of(key)

@@ -164,8 +164,8 @@ ODD = [
      "all that count."),
     (None, has_mixed_object, MIXED),
     (None, has_private_key, "A key object has a private key, which the definitions ignore."),
-    (None, has_other_member, "A layout or a step has a member that in-toto 1.0 does not list; it is "
-     "signed with the others, and the definitions ignore it."),
+    (None, has_other_member, "A layout or a step has a member that in-toto 1.0 does not list; it "
+     "is signed with the others, and the definitions ignore it."),
     (None, has_other_keyid, "A key object has a `keyid` that is not the id under which the layout "
      "lists it; the definitions go by the latter."),
     (None, has_slash_behind, "A path ends in `/`, and what is said names it without."),

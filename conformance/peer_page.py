@@ -1,4 +1,4 @@
-"""Writes the part of docs/peers.md that is on one other verifier, from the outcomes of its cases."""
+"""Writes the part of docs/peers.md on another verifier, from the outcomes of its cases."""
 
 import collections
 import re
@@ -9,35 +9,54 @@ PAGE = TOP / "docs" / "peers.md"
 BEGIN = """\
 # Other verifiers on the same cases
 
-The whole verifications of [conformance](../conformance/README.md), given to other verifiers of in-toto layouts: where they accept and refuse as the cases expect, and where not. Each part below was written by one run of
+The whole verifications of [conformance](../conformance/README.md), given to two other verifiers \
+of in-toto layouts: where they accept and refuse as the cases expect, and where not. Each part \
+below was written by one run of
 
     conformance/run --peer NAME --write PROGRAM
 
-over all cases that can be files of a disk; `conformance/peers` fetches the programs from Debian. The answers that are expected are those of the cases; `itv` was not run.
+over all cases that can be files of a disk; `conformance/peers` fetches the programs from Debian. \
+The answers that are expected are those of the cases; `itv` was not run.
 
-**What was done.** Each case was written anew in the forms of the other verifier, and signed anew:
+**What was done.** Each case was written anew in the forms of the other verifier, and signed anew.
 
-- Each secret of a ring became an Ed25519 key, made from the secret, and key objects of secrets those of such keys. A signature that was valid is one by that key over the new body; one that was not is by a key that nobody has. Public keys stayed what they are.
-- Key ids became the SHA-256 of the key, which is how these programs make them, with a second id for a second name of a key. A file of a link has the name `STEP.ID.link`, with the first 8 characters of the id whose key signed it, and the folder of a sublayout `STEP.ID`.
-- Members that these programs want, and that a case leaves out, were added with nothing in them: `readme`, `inspect`, `expected_command`, `byproducts`, `command`, `environment` and others.
-- What these programs do not have was left out: the policy but for its owners, the digest list, the provenance, inspections with their records, and the depth of sublayouts.
-- These programs take the moment from the clock. A layout's `expires` is in 2001 where it was before the moment of the case, and else in 2201, so the border between the two is not tried.
+- Each secret of a ring became an Ed25519 key that is made from the secret, and key objects of \
+secrets became those of such keys. Where a signature was valid, there is one by that key over the \
+new body; where it was not, one by a key that nobody has. Public keys stayed what they are.
+- A key's id is the one that these programs make of it; a further name of the same key has an id \
+that is made from the name. The file of a link is named `STEP.ID.link`, with the first 8 \
+characters of the id of the key that signed it, and the folder of a sublayout `STEP.ID`.
+- Members that these programs want, and that a case leaves out, were added with nothing in them: \
+`readme`, `inspect`, `expected_command`, `byproducts`, `command`, `environment` and others.
+- What these programs do not have was left out: the policy but for its owners, the digest list, \
+the provenance, and the depth of sublayouts; and so were inspections and their records.
+- These programs take the moment from the clock. A layout's `expires` is in 2001 where it was \
+before the moment of the case, and else in 2201, so the border between the two is not tried.
 
-**What was compared.** Only whether the program accepts, by its status: 0, or anything else. Where both refuse, they may do so for different reasons. A case that rests on what was left out, or that the forms of the program cannot say, was not tried; it is counted with its reason.
+**What was compared.** Only whether the program accepts, by its status: 0, or anything else. \
+Where both refuse, they may do so for different reasons. A case that rests on what was left out, \
+or that cannot be said in the forms of the program, was not tried, and is counted with the \
+reason. In the tables, "accepts instead" counts cases that are expected to be refused, and \
+"refuses instead" those that are expected to be accepted. Differences are sorted by what the \
+program says, or else by what is odd in the delivery, and of each kind the smallest case is \
+named.
 
-**How to read it.** in-toto 1.0 leaves much open, and `itv` has [chosen](formats.md): what a pattern is, which members are ignored, when a digest agrees. Where another verifier differs there, it has chosen otherwise. That a case has one answer here does not make every other answer an error.
+**How to read it.** in-toto 1.0 leaves much open, and the cases follow [what this profile \
+chose](formats.md): what a pattern is, which members are ignored, which digests agree, which \
+links are compared. Where another verifier differs, it may have chosen otherwise, and need not be \
+wrong.
 """
-# The rule behind each fault, and the section of in-toto 1.0 it comes from.
+# The rule that each fault is about.
 RULES = {
-    20: "the layout is an envelope", 21: "the layout has the payload type of in-toto",
-    22: "every owner signed the layout", 23: "the layout reads", 30: "the layout has not expired",
+    10: "the policy reads", 12: "the digest list reads", 13: "the moment reads",
+    14: "the digest list is not empty", 20: "the layout is an envelope",
+    21: "the layout has the payload type of in-toto", 22: "every owner signed the layout",
+    23: "the layout reads", 30: "the layout has not expired",
     31: "there is one body for each step and key", 32: "sublayouts do not lie too deep",
     33: "enough different keys signed for each step", 34: "the links of a step agree",
     35: "sublayouts have no inspections", 40: "the artifact rules hold",
-    10: "the policy reads", 12: "the digest list reads", 13: "the moment reads",
-    14: "the digest list is not empty", 50: "each inspection has a record",
-    51: "each record is a link of its inspection", 60: "an expectation applies to each file",
-    61: "provenance meets it"}
+    50: "each inspection has a record", 51: "each record is a link of its inspection",
+    60: "an expectation applies to each file", 61: "provenance meets it"}
 
 
 def title(fault):
@@ -106,15 +125,15 @@ def differences(outcomes, accepts):
     return "\n".join(kinds(some)) or "Nowhere."
 
 
-def part(peer, version, outcomes):
-    """The part of the page on a peer."""
+def part(peer, versions, outcomes):
+    """The part of the page on a peer, with the versions of its packages."""
     tried = [one for one in outcomes if is_tried(one)]
     by_fault = table(["Expected", "The rule"], outcomes, lambda one: one.fault or (), title)
     by_file = table(["File"], outcomes, lambda one: one.file, lambda file: f"`{file}`")
     return "\n\n".join([
         f"## {peer.name}",
-        f"Version {version} of Debian's package `{peer.package}`, by `{peer.command}`, with {peer.form}. "
-        f"Of {len(outcomes)} cases {len(tried)} were tried, and {sum(map(agrees, outcomes))} agree. "
+        f"What was run is `{peer.command}`, of Debian's {versions}, which reads {peer.form}.\n\n"
+        f"Of {len(outcomes)} cases {len(tried)} were tried, and {sum(map(agrees, tried))} agree. "
         f"Of {sum(one.fault is None for one in tried)} that are expected to be accepted it accepts "
         f"{sum(one.fault is None and one.accepts for one in tried)}.",
         by_fault, by_file,
@@ -123,10 +142,10 @@ def part(peer, version, outcomes):
         f"### What was not tried with {peer.name}", left_out(outcomes)]) + "\n"
 
 
-def write(peer, version, outcomes):
+def write(peer, versions, outcomes):
     """Puts the part on a peer into the page, beside those on others."""
     old = PAGE.read_text(encoding="utf-8") if PAGE.exists() else ""
     parts = {text.split("\n")[0]: text for text in re.split(r"^## ", old, flags=re.M)[1:]}
-    parts[peer.name] = part(peer, version, outcomes).removeprefix("## ")
+    parts[peer.name] = part(peer, versions, outcomes).removeprefix("## ")
     texts = [f"## {text.strip()}\n" for _, text in sorted(parts.items(), reverse=True)]
     PAGE.write_text("\n".join([BEGIN, *texts]), encoding="utf-8")

@@ -28,7 +28,7 @@ class Golang:
     """in-toto-golang, which reads envelopes by DSSE and keys as PEM texts."""
 
     name = "in-toto-golang"
-    package, command = "in-toto-golang", "in-toto-golang verify"
+    packages, command = ["in-toto-golang"], "in-toto-golang verify"
     form = "DSSE envelopes"
 
     @staticmethod
@@ -63,7 +63,7 @@ class Python:
     """in-toto for Python 1.3, which reads `signed` and `signatures`, over canonical JSON."""
 
     name = "in-toto"
-    package, command = "in-toto", "in-toto-verify"
+    packages, command = ["in-toto", "python3-securesystemslib"], "in-toto-verify"
     form = "the form `{\"signatures\": [..], \"signed\": {..}}`"
 
     @staticmethod
@@ -104,7 +104,8 @@ class Python:
 PEERS = {peer.name: peer for peer in (Golang, Python)}
 
 
-def version_of(peer, path):
-    """The version of a peer's package, as the file `versions` beside the program has it."""
+def versions_of(peer, path):
+    """The packages of a peer with their versions, as the file beside the program has them."""
     lines = (pathlib.Path(path).parent / "versions").read_text(encoding="utf-8").splitlines()
-    return dict(line.split("\t") for line in lines)[peer.package]
+    found = dict(line.split("\t") for line in lines)
+    return " and ".join(f"`{name}` {found[name]}" for name in peer.packages)

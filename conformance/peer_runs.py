@@ -12,7 +12,7 @@ from on_disk import Program, new_folder, opened
 from peer_deliveries import delivery_of, fault_of
 from peer_documents import Inexpressible
 from peer_kinds import kind_of
-from peer_programs import PEERS, version_of
+from peer_programs import PEERS, versions_of
 
 # What came of a case: `left` says why it is not one for the peer, or is empty; `accepts` is whether
 # the peer accepts, `said` what it says if not, `kind` the kind of a difference, and `size` how many
@@ -60,7 +60,8 @@ def show(outcomes):
     for one in outcomes:
         if peer_page.is_tried(one) and not peer_page.agrees(one):
             expected = "accepted" if one.fault is None else "refused {} {}".format(*one.fault)
-            print(f"{one.file}: {one.name}\n    expected: {expected}\n    it says: {one.said}")
+            given = f"refuses: {one.said}" if one.said else "accepts"
+            print(f"{one.file}: {one.name}\n    expected: {expected}\n    it {given}")
     for reason, count in collections.Counter(one.left for one in outcomes if one.left).items():
         print(f"{count} not tried: {reason}")
     print(f"{len(outcomes)} cases, {sum(map(peer_page.is_tried, outcomes))} tried, "
@@ -72,6 +73,7 @@ def main(name, path, trials, write):
     if name not in PEERS:
         print(f"the peers are {' and '.join(PEERS)}")
         return 2
+    versions = versions_of(PEERS[name], path) if write else ""
     with tempfile.TemporaryDirectory(prefix="itv-peer-") as room:
         program = Program(path, room)
         with concurrent.futures.ProcessPoolExecutor(machine.side_by_side()) as pool:
@@ -79,5 +81,5 @@ def main(name, path, trials, write):
             outcomes = list(pool.map(given, trials, chunksize=8))
     show(outcomes)
     if write:
-        peer_page.write(PEERS[name], version_of(PEERS[name], path), outcomes)
+        peer_page.write(PEERS[name], versions, outcomes)
     return 0

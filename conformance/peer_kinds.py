@@ -50,9 +50,14 @@ def steps_of(case):
             for step in layout.get("steps") or [] if isinstance(step, dict)]
 
 
+def listed(step, keys):
+    """The ids of a step that have a key object, each once with it."""
+    return [(who, keys[who]) for who in dict.fromkeys(step.get("pubkeys") or []) if who in keys]
+
+
 def objects_of(case):
     """The key objects that the steps of a case list."""
-    return [keys[who] for step, keys in steps_of(case) for who in step["pubkeys"] if who in keys]
+    return [thing for step, keys in steps_of(case) for _, thing in listed(step, keys)]
 
 
 def has_other_name(case):
@@ -77,8 +82,7 @@ def has_one_key_twice(case):
         public = known_key({**thing, "keyval": {"public": text.replace("\r", "")}})
         return secrets.get(who) or (public and by_keys.public_text(public)) or who
 
-    lists = [[key(who, keys[who]) for who in {*step["pubkeys"]} if who in keys]
-             for step, keys in steps_of(case)]
+    lists = [[key(*pair) for pair in listed(step, keys)] for step, keys in steps_of(case)]
     return any(len({*one}) < len(one) for one in lists)
 
 
@@ -174,9 +178,17 @@ ODD = [
 ]
 
 
+def applies(is_odd, case):
+    """Whether something is odd in a case; not where its documents lack what would tell."""
+    try:
+        return is_odd(case)
+    except (KeyError, TypeError, AttributeError):
+        return False
+
+
 def kind_of(fault, case, said):
     """The kind of the difference between an answer and the fault, or None, that is expected."""
     told = [sentence for pattern, sentence in SAID if re.search(pattern, said)][:1]
     number = fault and fault[0]
-    odd = [sentence for of, is_odd, sentence in ODD if of == number and is_odd(case)]
+    odd = [sentence for of, is_odd, sentence in ODD if of == number and applies(is_odd, case)]
     return " ".join(told or odd) or "What is odd here is not told apart."

@@ -54,9 +54,8 @@ class Golang:
 
     @staticmethod
     def said(answer):
-        """What the program says where it refuses: its first line, and whether it broke off."""
-        lines = (answer.err or answer.out).decode(errors="replace").splitlines()
-        return next((line for line in lines if line.startswith(("Error:", "panic:"))), lines[0])
+        """What the program says where it refuses: its first line."""
+        return next(iter((answer.err or answer.out).decode(errors="replace").splitlines()), "")
 
 
 class Python:
@@ -96,9 +95,9 @@ class Python:
 
     @staticmethod
     def said(answer):
-        """What the program says where it refuses: its last error."""
+        """What the program says where it refuses: the error that it names, or its last line."""
         lines = answer.err.decode(errors="replace").splitlines()
-        return next((line for line in lines if "(in-toto-verify)" in line), lines[-1])
+        return next((line for line in lines if "(in-toto-verify)" in line), [*lines, ""][-1])
 
 
 PEERS = {peer.name: peer for peer in (Golang, Python)}

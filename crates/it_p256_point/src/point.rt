@@ -105,9 +105,9 @@ impl Point {
     pub fn double(&self) -> Point
         ensures { result ≡ double_of self.now }
     {
-        let xx = self.x.multiply(&self.x);
-        let yy = self.y.multiply(&self.y);
-        let zz = self.z.multiply(&self.z);
+        let xx = self.x.square();
+        let yy = self.y.square();
+        let zz = self.z.square();
         let xy = self.x.multiply(&self.y);
         let xy2 = xy.add(&xy);
         let xz = self.x.multiply(&self.z);

@@ -5,6 +5,7 @@ ghost use Rattle.it_ed_point.specs.Curve.{neutral, base, sum_of, double_of, oppo
 ghost use Rattle.it_ed_point.specs.Curve.{multiple_of, is_neutral};
 ghost use Rattle.it_ed_point.specs.Encoding.{encoding_of, decoded};
 
+use crate::base_doubles::base_multiple;
 use crate::constants::{one, twice_curve_constant, zero};
 use crate::decoding::point_at;
 use crate::roots::inverse;
@@ -144,6 +145,13 @@ impl Point {
             step = step.double();
         }
         total
+    }
+
+    /// The base point times a number.
+    pub fn multiple_of_base(scalar: &Scalar) -> Point
+        ensures { result ≡ multiple_of scalar.now base }
+    {
+        base_multiple(scalar)
     }
 
     /// Whether this is the neutral point.

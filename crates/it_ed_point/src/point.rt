@@ -104,12 +104,12 @@ impl Point {
     pub fn double(&self) -> Point
         ensures { result ≡ double_of self.now }
     {
-        let a = self.x.multiply(&self.x);
-        let b = self.y.multiply(&self.y);
+        let a = self.x.square();
+        let b = self.y.square();
         let c = self.z.add(&self.z).multiply(&self.z);
         let h = a.add(&b);
         let s = self.x.add(&self.y);
-        let e = h.subtract(&s.multiply(&s));
+        let e = h.subtract(&s.square());
         let g = a.subtract(&b);
         let f = c.add(&g);
         Point {

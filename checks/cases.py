@@ -1,5 +1,5 @@
 #!/usr/bin/env python3
-"""Checks that the cases and rows are those that the quick scripts in conformance/ write."""
+"""Checks that cases, rows and tables are those that the quick scripts in conformance/ write."""
 
 import pathlib
 import subprocess

@@ -14,11 +14,11 @@ key_held bytes p q o t long d e f g h = record {
   is = h;
 }
 
-pub combination_by : (a p q b m n total : Point) (s k : ℕ) (bytes e : List ℕ) → decoded bytes ≡ Some p → q ≡ opposite_of p
-    → decoded bytes ≡ Some a → b ≡ base → m ≡ multiple_of s b → n ≡ multiple_of k q → total ≡ sum_of m n → e ≡ encoding_of total
+pub combination_by : (a p q m n total : Point) (s k : ℕ) (bytes e : List ℕ) → decoded bytes ≡ Some p → q ≡ opposite_of p
+    → decoded bytes ≡ Some a → m ≡ multiple_of s base → n ≡ multiple_of k q → total ≡ sum_of m n → e ≡ encoding_of total
     → e ≡ encoding_of (combination_of a s k)
 unfolding combination_of
-combination_by a p q b m n total s k bytes e d h f hb hm hn ht he =
+combination_by a p q m n total s k bytes e d h f hm hn ht he =
     let same : p ≡ a = same_Some p a (sym d ∙ f) in
     let opposite : q ≡ opposite_of a = h ∙ ap opposite_of same in
-    rw (he, ht, hm, hn, hb, opposite) refl
+    rw (he, ht, hm, hn, opposite) refl

@@ -67,8 +67,7 @@ impl PublicKey {
         ensures { (a : Point) → decoded self.now ≡ Some a → result ≡ encoding_of
             (combination_of a s.now k.now) }
     {
-        Point::base()
-            .multiply(s)
+        Point::multiple_of_base(s)
             .add(&self.opposite.multiply(k))
             .encode()
     }

@@ -1,2 +1,3 @@
 pub mod Curve
 pub mod Encoding
+pub mod inside

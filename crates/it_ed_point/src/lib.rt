@@ -2,6 +2,8 @@
 //! section 5.1).
 #![tactic(auto)]
 
+mod base_doubles;
+mod base_table;
 mod constants;
 mod decoding;
 pub mod point;

@@ -5,6 +5,7 @@ ghost use Rattle.it_ed_point.specs.Curve.{neutral, base, sum_of, double_of, oppo
 ghost use Rattle.it_ed_point.specs.Curve.{multiple_of, is_neutral};
 ghost use Rattle.it_ed_point.specs.Encoding.{encoding_of, decoded};
 
+use crate::base_doubles::base_multiple;
 use crate::constants::{one, twice_curve_constant, zero};
 use crate::decoding::point_at;
 use crate::roots::inverse;
@@ -103,12 +104,12 @@ impl Point {
     pub fn double(&self) -> Point
         ensures { result ≡ double_of self.now }
     {
-        let a = self.x.multiply(&self.x);
-        let b = self.y.multiply(&self.y);
+        let a = self.x.square();
+        let b = self.y.square();
         let c = self.z.add(&self.z).multiply(&self.z);
         let h = a.add(&b);
         let s = self.x.add(&self.y);
-        let e = h.subtract(&s.multiply(&s));
+        let e = h.subtract(&s.square());
         let g = a.subtract(&b);
         let f = c.add(&g);
         Point {
@@ -144,6 +145,13 @@ impl Point {
             step = step.double();
         }
         total
+    }
+
+    /// The base point times a number.
+    pub fn multiple_of_base(scalar: &Scalar) -> Point
+        ensures { result ≡ multiple_of scalar.now base }
+    {
+        base_multiple(scalar)
     }
 
     /// Whether this is the neutral point.

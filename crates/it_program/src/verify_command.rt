@@ -1,9 +1,10 @@
 //! `itv verify`: whether delivered files were made as the owners prescribed.
-ghost use Rattle.std.specs.Prelude.{◌≡◌, ◌≢◌, ◌≤◌, IfErr, IfOk, IsTrue, OnOk};
+ghost use Rattle.std.specs.Prelude.{◌≡◌, ◌≢◌, ◌≤◌, ◌⊎◌, IfErr, IfOk, IsTrue, OnOk};
 ghost use Rattle.std.specs.Io.KnownBytes.{Appends};
 ghost use Rattle.std.specs.List.{AllZip};
 ghost use Rattle.it_program.specs.Commands.{Verifies, form_asked};
 ghost use Rattle.it_limits.specs.Limit.{IsWithinLimit};
+ghost use Rattle.it_disk.specs.Faults.{IsUnreadable};
 ghost use Rattle.it_disk.specs.Reading.{AreLimited, HoldsIfGiven, HoldsRing};
 ghost use Rattle.it_program.specs.Inputs.{AreInputs, HoldsLookedAt};
 
@@ -111,8 +112,18 @@ fn refuse_too_many(alloc: Global, path: &str, bytes: &[u8], limited: bool) -> Re
     ensures { OnOk result (IsTrue limited → IsWithinLimit bytes.now) }
 {
     match too_many(alloc, bytes, limited)? {
-        Some(count) => Err(TooMany(count).in_file(alloc, path)?),
+        Some(count) => Err(too_many_in(alloc, path, count)),
         None => Ok(()),
+    }
+}
+
+/// The fault of the file at a path, which has this many signatures.
+fn too_many_in(alloc: Global, path: &str, count: usize) -> Fault
+    ensures { IsUnreadable path.now result ⊎ (result ≡ Fault.Run RunFault.OutOfMemory) }
+{
+    match TooMany(count).in_file(alloc, path) {
+        Ok(fault) => fault,
+        Err(error) => Fault::from(error),
     }
 }
 

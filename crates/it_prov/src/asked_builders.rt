@@ -121,7 +121,7 @@ impl<'a> Distinct<'a> {
         Ok(place)
     }
 
-    /// The place of a builder with the same keys as this one, if one is found by the text of them.
+    /// The place of a builder with the same keys as this one, which have this text.
     fn known(&self, text: &str, builder: &Builder) -> Option<usize>
         ensures { IfSome result (HasSameAt self.now.builders.items builder.now) }
     {

@@ -12,6 +12,8 @@ _itv_values() {
         verify--provenance) compgen -f -- "$word" ;;
         verify--records) compgen -d -- "$word" ;;
         verify--depth) compgen -W '0 1 2 3 4 5 6 7 8' -- "$word" ;;
+        check--policy) compgen -f -- "$word" ;;
+        check--layout) compgen -f -- "$word" ;;
         signed--ring) compgen -f -- "$word" ;;
         signed--keys) compgen -f -- "$word" ;;
         sign--ring) compgen -f -- "$word" ;;
@@ -38,12 +40,13 @@ _itv() {
         before=${COMP_WORDS[COMP_CWORD - 2]}
     fi
     if [ "$COMP_CWORD" = 1 ]; then
-        offered=$(compgen -W 'verify signed sign pae digest link statement payload key match' -- "$word")
+        offered=$(compgen -W 'verify check signed sign pae digest link statement payload key match' -- "$word")
     elif [[ $before == --* ]]; then
         offered=$(_itv_values "$command$before")
     else
         case $command in
             verify) offered=$(compgen -W '--policy --layout --links --sums --at --ring --public-keys --json --provenance --records --depth' -- "$word") ;;
+            check) offered=$(compgen -W '--policy --layout' -- "$word") ;;
             signed) offered=$(compgen -W '--ring --keys' -- "$word"; compgen -f -- "$word") ;;
             sign) offered=$(compgen -W '--ring --signature --keys --key --type --onto' -- "$word"; compgen -f -- "$word") ;;
             pae) offered=$(compgen -W '--type' -- "$word"; compgen -f -- "$word") ;;

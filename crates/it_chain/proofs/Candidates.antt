@@ -3,12 +3,13 @@ use Rattle.std.proofs.Common.{◌≡◌, ◌≢◌, ℕ, List, [], ◌∷◌, �
 use Rattle.std.proofs.Common.{None, slice_get, ⊎_elim, Contains, refl, sym, ap, subst, append-nil}
 use Rattle.std.proofs.Common.{◌∙◌}
 use Rattle.std.specs.List.{cons_option}
-use Rattle.std.proofs.Common.{Result, Ok, Err, IfOk}
+use Rattle.std.proofs.Common.{Bor, map, get_or, ◌<◌}
 use Rattle.std.proofs.lemmas.Option.{same_Some}
+use Rattle.std.proofs.lemmas.List.{get_or-map, length-map, map-append}
 use Rattle.std.proofs.lemmas.List.Sums.{sum_by_push}
 use Rattle.std.proofs.lemmas.List.Elements.{Contains-append_left, Contains-append_right}
 use Rattle.std.proofs.lemmas.List.Elements.{Contains-append_cases, filter_map-append}
-use Rattle.it_base.specs.Finds.{Finds}
+use Rattle.it_base.specs.Finds.{Finds, FindsAs}
 use Rattle.it_base.specs.Sum.{CostsIfFound, IsSum}
 use Rattle.it_dsse.specs.Envelope.{EnvelopeOf}
 use Rattle.it_dsse.specs.declared.envelope.Envelope.{Envelope}
@@ -51,16 +52,12 @@ other_type bytes envelope is differs other h =
 
 module _ (files : List File) (place : ℕ) (file : File)
     (is : slice_get files place ≡ Some file) where
-  found_at : (found : Option Envelope) → Finds (IsCandidate file.bytes) found
-      → Finds (IsCandidateAt files place) found
-  found_at None none = λ e h. none e (subst (λ (f : File). IsCandidate f.bytes e)
+  pub lent_at : (found : Option (Bor Envelope))
+      → FindsAs (λ (e : Bor Envelope). e.now) (IsCandidate file.bytes) found
+      → FindsAs (λ (e : Bor Envelope). e.now) (IsCandidateAt files place) found
+  lent_at None none = λ e h. none e (subst (λ (f : File). IsCandidate f.bytes e)
       (same_Some h.0 file (sym h.1 ∙ is)) h.2)
-  found_at (Some e) h = (file, is, h)
-
-  pub reads_at : {E : Type 0} → (result : Result (Option Envelope) E)
-      → IfOk result (Finds (IsCandidate file.bytes)) → IfOk result (Finds (IsCandidateAt files place))
-  reads_at (Ok found) h = found_at found h
-  reads_at (Err e) h = h
+  lent_at (Some e) h = (file, is, h)
 
 -- ---- the candidates of a list of files
 abbrev HasEnvelope : File → ℕ → Type 0
@@ -170,3 +167,32 @@ module _ (files : List File) (places : List ℕ) (place : ℕ) (found : List Env
   kept_at None none = subst (AreRead (files_at files (places ++ place ∷ [])))
       (sym (append-nil found)) (passed_at none)
   kept_at (Some new) is = added_at new is
+
+-- ---- envelopes that are lent
+abbrev pub shown : Bor Envelope → Envelope
+shown envelope = envelope.now
+
+-- what is found at a place is kept
+pub lent_kept : (files : List File) (places : List ℕ) (place : ℕ) (found : List (Bor Envelope))
+    → AreRead (files_at files places) (map shown found) → (next : Option (Bor Envelope))
+    → FindsAs shown (IsCandidateAt files place) next
+    → AreRead (files_at files (places ++ place ∷ [])) (map shown (found ++ cons_option next []))
+lent_kept files places place found are None none =
+    subst (AreRead (files_at files (places ++ place ∷ []))) (sym (map-append shown found []))
+    (kept_at files places place (map shown found) are None none)
+lent_kept files places place found are (Some new) is =
+    subst (AreRead (files_at files (places ++ place ∷ [])))
+    (sym (map-append shown found (new ∷ [])))
+    (kept_at files places place (map shown found) are (Some new.now) is)
+
+module _ (items : List (Bor Envelope)) (all : List Envelope) (are : map shown items ≡ all) where
+  pub lent_length : length items ≡ length all
+  lent_length = sym (length-map items shown) ∙ ap length are
+
+  pub lent_item : (i : ℕ) (item : Bor Envelope) → i < length items → item ≡ get_or items i item
+      → (i < length all) × (item.now ≡ get_or all i item.now)
+  lent_item i item below is = (
+    subst (λ n. i < n) lent_length below,
+    ap shown is ∙ sym (get_or-map shown items i item item.now below)
+        ∙ ap (λ (es : List Envelope). get_or es i item.now) are,
+  )

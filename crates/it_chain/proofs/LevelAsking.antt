@@ -19,6 +19,7 @@ use Rattle.it_chain.specs.Contents.{Contents, files_of}
 use Rattle.it_chain.specs.Cost.{ChainCosts, LevelCosts, StepCosts}
 use Rattle.it_chain.specs.CountedBodies.{Setting, Body, of_link, of_layout}
 use Rattle.it_chain.specs.Threshold.{same_key}
+use Rattle.it_chain.specs.Judged.{settled_by}
 use Rattle.it_chain.specs.Level.{Holding}
 use Rattle.it_chain.specs.Signers.{entry_of}
 use Rattle.it_chain.specs.inside.Candidates.{AreCandidates}
@@ -29,6 +30,7 @@ use Rattle.it_chain.specs.declared.chain.StepResult.{StepResult}
 use Rattle.it_chain.specs.declared.chain.Chain.{Chain as ChainOf}
 use Rattle.it_chain.specs.declared.record.IdRecord.{IdRecord}
 use Rattle.it_chain.specs.declared.refusal.ChainError.{ChainError}
+use Rattle.it_chain.specs.declared.refusal.ChainRefusal.{ChainRefusal}
 use Rattle.it_chain.specs.declared.signers.Signer.{Signer}
 use Rattle.it_chain.proofs.Asking.{sum_of, within_least, within_more, within_part, within_then}
 use Rattle.it_chain.proofs.Asking.{within_weaker}
@@ -258,3 +260,12 @@ module _ (setting : Setting) (depth : ℕ) (layout : Layout) (bundle : Contents)
       → IfOk a (λ chain. RaisedBy (λ m. key_total chain.steps ≤ m) old new)
   chain_at_least (Ok chain) h = (h.0, h.1.0, h.2)
   chain_at_least (Err e) h = tt
+
+  -- records over which a rule may fail
+  pub settled_asks : (chain : ChainOf) (failed : Option ChainRefusal)
+      → RaisedWithin (key_total chain.steps)
+      (LevelCosts (cost_below setting depth) setting layout bundle) old new
+      → AskedOf (settled_by chain failed)
+  settled_asks chain None h = h
+  settled_asks chain (Some r) h = within_least 0 (key_total chain.steps)
+      (LevelCosts (cost_below setting depth) setting layout bundle) old new (omega arith) h

@@ -73,11 +73,11 @@ module _ (setting : Setting) (layout : Layout) (bundle : Contents) (old new : Me
       (ChainFewest setting depth layout bundle) old new
       (λ n h. (n, fewest_of setting depth layout bundle n h, omega arith))
 
-  pub chain_takes : (depth : ℕ) (a : Result ChainOf ChainError)
-      → IfOk a (λ chain. RaisedAtLeast
-      (LevelFewest (fewest_below setting depth) setting layout bundle) old new)
-      → IfOk a (λ chain. RaisedAtLeast (ChainFewest setting depth layout bundle) old new)
-  chain_takes depth (Ok chain) h = level_takes depth h
+  pub chain_takes : {A : Type 0} (depth : ℕ) (a : Result A ChainError)
+      → IfOk a (λ x. RaisedAtLeast (LevelFewest (fewest_below setting depth) setting layout bundle)
+      old new)
+      → IfOk a (λ x. RaisedAtLeast (ChainFewest setting depth layout bundle) old new)
+  chain_takes depth (Ok x) h = level_takes depth h
   chain_takes depth (Err e) h = tt
 
   -- a sublayout takes what its own level does

@@ -1,5 +1,5 @@
 -- What a level comes to, from its steps and their rules.
-use Rattle.std.proofs.Common.{◌≡◌, ◌<ℤ◌, List, [], ◌∷◌, ◌++◌, flat_map, zip, Err, inl, inr, ⊎_elim}
+use Rattle.std.proofs.Common.{◌≡◌, ◌<ℤ◌, List, [], ◌∷◌, ◌++◌, flat_map, zip, Option, None, Some, inl, inr, ⊎_elim}
 use Rattle.std.proofs.Common.{Contains, refl, sym, subst}
 use Rattle.std.specs.List.{AllByRecursion, AllZip}
 use Rattle.it_base.specs.Places.{IsFirst, NoneAt}
@@ -11,13 +11,14 @@ use Rattle.it_chain.specs.Contents.{Contents}
 use Rattle.it_chain.specs.CountedBodies.{Setting}
 use Rattle.it_chain.specs.First.{Failing, ChainPlace, StandsInChain, at_expiry, here, places}
 use Rattle.it_chain.specs.First.{rule_places, step_places}
+use Rattle.it_chain.specs.Judged.{settled_by}
 use Rattle.it_chain.specs.Level.{Holding, LevelHolds, StepHolds}
 use Rattle.it_chain.specs.StepRules.{StepRulesHold, links_in}
 use Rattle.it_chain.specs.inside.StepRules.{AreRuled, IsFirstRuled}
-use Rattle.it_chain.specs.inside.Walks.{FailsAt}
+use Rattle.it_chain.specs.inside.Walks.{FailsAt, Walks}
 use Rattle.it_chain.specs.declared.chain.StepResult.{StepResult}
 use Rattle.it_chain.specs.declared.refusal.ChainError.{ChainError}
-use Rattle.it_chain.specs.declared.refusal.ChainError.TheVariants.{Refused, OutOfMemory}
+use Rattle.it_chain.specs.declared.refusal.ChainError.TheVariants.{Refused}
 use Rattle.it_chain.specs.declared.refusal.ChainFault.TheVariants.{Expired}
 use Rattle.it_chain.specs.declared.refusal.ChainRefusal.{ChainRefusal}
 use Rattle.it_chain.proofs.Excludes.{none_of_level}
@@ -91,17 +92,16 @@ module _ (sub : Holding) (fails : Failing) (one : HoldsOneWay sub) (apart : Hold
               )) x.1,
         )) h
 
-    -- an error of the rules
-    pub rules_fail : (e : ChainError) → ¬ (layout.expires <ℤ setting.moment)
+    -- the first rule that fails
+    rules_fail : (r : ChainRefusal) → ¬ (layout.expires <ℤ setting.moment)
         → NoneAt At (flat_map (step_places layout) layout.steps)
-        → AreRuled (links_in m) (zip layout.steps m) (Err e) → FailsAt At (places layout) e
-    rules_fail (Refused r) in_time none h =
+        → IsFirstRuled (links_in m) (zip layout.steps m) r → IsFirst At (places layout) r
+    rules_fail r in_time none h =
         fails_behind At (at_expiry ∷ []) (flat_map (step_places layout) layout.steps
         ++ flat_map rule_places layout.steps) (Refused r) (λ q x. in_time x.0, tt)
         (fails_behind At (flat_map (step_places layout) layout.steps)
         (flat_map rule_places layout.steps) (Refused r) none
         (rules_first layout.steps m holds (λ s q c. c) r h))
-    rules_fail OutOfMemory in_time none h = tt
 
     rules_of_pairs : (links : Links) (ss : List Step) (rs : List StepResult)
         → AllZip HoldsStep ss rs → AllByRecursion (λ p. StepRulesHold links p.0 p.1) (zip ss rs)
@@ -111,7 +111,7 @@ module _ (sub : Holding) (fails : Failing) (one : HoldsOneWay sub) (apart : Hold
     rules_of_pairs links (s ∷ ss) [] all h = absurd all
     rules_of_pairs links (s ∷ ss) (r ∷ rs) all h = (h.0, rules_of_pairs links ss rs all.1 h.1)
 
-    pub level_holds : ¬ (layout.expires <ℤ setting.moment)
+    level_holds : ¬ (layout.expires <ℤ setting.moment)
         → AllByRecursion (λ p. StepRulesHold (links_in m) p.0 p.1) (zip layout.steps m)
         → NoneAt At (places layout) × LevelHolds sub setting layout bundle m
     level_holds in_time rules =
@@ -122,3 +122,12 @@ module _ (sub : Holding) (fails : Failing) (one : HoldsOneWay sub) (apart : Hold
               rules_of_pairs (links_in m) layout.steps m holds rules;
         } in
         (none_of_level sub fails one apart setting layout bundle m h, h)
+
+    -- what the rules come to over the records
+    pub level_judged : (failed : Option ChainRefusal) → ¬ (layout.expires <ℤ setting.moment)
+        → NoneAt At (flat_map (step_places layout) layout.steps)
+        → AreRuled (links_in m) (zip layout.steps m) failed
+        → Walks At (places layout) (λ chain. LevelHolds sub setting layout bundle chain.steps)
+        (settled_by (record { steps = m }) failed)
+    level_judged None in_time none rules = level_holds in_time rules
+    level_judged (Some r) in_time none first = rules_fail r in_time none first

@@ -38,6 +38,7 @@ pub mod SoFar
 pub mod SomeCost
 pub mod Ruled
 pub mod SortedIds
+pub mod StepRecords
 pub mod StepWalks
 pub mod Summaries
 pub mod Uniques

@@ -1,16 +1,13 @@
 -- How the rules of pairs of steps and records are judged, one pair after the other.
-use Rattle.std.proofs.Common.{◌≡◌, ◌⊎◌, List, [], ◌∷◌, ◌++◌, zip, length, Err, inl, inr, ⊎_elim}
+use Rattle.std.proofs.Common.{◌≡◌, ◌⊎◌, List, [], ◌∷◌, ◌++◌, zip, length, inl, inr, ⊎_elim}
 use Rattle.std.proofs.Common.{refl, sym, subst, arith}
 use Rattle.std.specs.List.{AllByRecursion}
 use Rattle.it_docs.specs.declared.step.Step.{Step}
 use Rattle.it_docs.specs.declared.rule.Side.TheVariants.{Materials, Products}
 use Rattle.it_rules.specs.Item.{Links}
-use Rattle.it_rules.specs.Rules.{RulesHold}
-use Rattle.it_chain.specs.StepRules.{StepRulesHold, recorded_in}
-use Rattle.it_chain.specs.inside.StepRules.{AreRuled, IsFirstRuled, IsSideRuled}
+use Rattle.it_chain.specs.StepRules.{StepRulesHold}
+use Rattle.it_chain.specs.inside.StepRules.{IsFirstRuled, SideFails, SideHolds}
 use Rattle.it_chain.specs.declared.chain.StepResult.{StepResult}
-use Rattle.it_chain.specs.declared.refusal.ChainError.{ChainError}
-use Rattle.it_chain.specs.declared.refusal.ChainError.TheVariants.{Refused, OutOfMemory}
 use Rattle.it_chain.specs.declared.refusal.ChainRefusal.{ChainRefusal}
 
 pub zip_over : (ss : List Step) (rs : List StepResult) → (length ss ≡ 0) ⊎ (length rs ≡ 0)
@@ -35,19 +32,14 @@ module _ (links : Links) where
       inr (h.0.materials, inr (h.0.products, first_behind done rest r h.1 first))
 
   pub materials_fail : (pairs done rest : List (Step × StepResult)) (p : Step × StepResult)
-      (e : ChainError) → pairs ≡ done ++ p ∷ rest → Hold done
-      → IsSideRuled links p.0 Materials p.0.expected_materials p.1 (Err e)
-      → AreRuled links pairs (Err e)
-  materials_fail pairs done rest p (Refused r) all h fails = subst (λ ps. IsFirstRuled links ps r)
+      (r : ChainRefusal) → pairs ≡ done ++ p ∷ rest → Hold done → SideFails links p.0 Materials p.1 r
+      → IsFirstRuled links pairs r
+  materials_fail pairs done rest p r all h fails = subst (λ ps. IsFirstRuled links ps r)
       (sym all) (first_behind done (p ∷ rest) r h (inl fails))
-  materials_fail pairs done rest p OutOfMemory all h fails = tt
 
   pub products_fail : (pairs done rest : List (Step × StepResult)) (p : Step × StepResult)
-      (e : ChainError) → pairs ≡ done ++ p ∷ rest → Hold done
-      → RulesHold p.0.expected_materials Materials (recorded_in p.1) links
-      → IsSideRuled links p.0 Products p.0.expected_products p.1 (Err e)
-      → AreRuled links pairs (Err e)
-  products_fail pairs done rest p (Refused r) all h materials fails =
+      (r : ChainRefusal) → pairs ≡ done ++ p ∷ rest → Hold done → SideHolds links p.0 Materials p.1
+      → SideFails links p.0 Products p.1 r → IsFirstRuled links pairs r
+  products_fail pairs done rest p r all h materials fails =
       subst (λ ps. IsFirstRuled links ps r) (sym all)
       (first_behind done (p ∷ rest) r h (inr (materials, inl fails)))
-  products_fail pairs done rest p OutOfMemory all h materials fails = tt

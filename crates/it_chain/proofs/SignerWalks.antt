@@ -12,6 +12,7 @@ use Rattle.it_dsse.specs.declared.key_object.KeyObject.{KeyObject}
 use Rattle.it_docs.specs.declared.layout.Layout.{Layout}
 use Rattle.it_docs.specs.declared.step.Step.{Step}
 use Rattle.it_rules.proofs.Listed.{Contains-map, place_of}
+use Rattle.it_chain.specs.Chain.{holds_below}
 use Rattle.it_chain.specs.Answer.{signers, with_record}
 use Rattle.it_chain.specs.Contents.{Contents}
 use Rattle.it_chain.specs.CountedBodies.{Setting}
@@ -19,7 +20,7 @@ use Rattle.it_chain.specs.First.{ChainPlace, at_id}
 use Rattle.it_chain.specs.Signers.{entry_of}
 use Rattle.it_chain.specs.inside.IdRecords.{AreRecords, Gives}
 use Rattle.it_chain.specs.inside.Walks.{FailsAt}
-use Rattle.it_chain.specs.inside.Below.{StandsAt, fails_below, holds_below}
+use Rattle.it_chain.specs.inside.Below.{StandsAt, fails_below}
 use Rattle.it_chain.specs.declared.record.IdRecord.{IdRecord}
 use Rattle.it_chain.specs.declared.refusal.ChainError.{ChainError}
 use Rattle.it_chain.specs.declared.refusal.ChainError.TheVariants.{Refused, OutOfMemory}

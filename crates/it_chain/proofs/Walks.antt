@@ -16,7 +16,7 @@ use Rattle.it_dsse.specs.declared.key_object.KeyObject.{KeyObject}
 use Rattle.it_docs.specs.declared.layout.Layout.{Layout}
 use Rattle.it_docs.specs.declared.step.Step.{Step}
 use Rattle.it_chain.specs.Answer.{with_record}
-use Rattle.it_chain.specs.Chain.{Chain}
+use Rattle.it_chain.specs.Chain.{Chain, holds_below}
 use Rattle.it_rules.specs.Item.{Recorded}
 use Rattle.it_chain.specs.Contents.{Contents, empty, files_of}
 use Rattle.it_chain.specs.CountedBodies.{Setting, Body, of_link, of_layout, BodyOf, Counted}
@@ -31,7 +31,7 @@ use Rattle.it_chain.specs.inside.Sublayouts.{BodyComes, BodyFails, IsUnder, Subl
 use Rattle.it_chain.specs.inside.CountedBodies.{CountTwo, CountsOne, IsSigned}
 use Rattle.it_chain.specs.inside.Walks.{FailsAt, Walks}
 use Rattle.it_chain.specs.inside.IdRecords.{Gives, IsRecordOf}
-use Rattle.it_chain.specs.inside.Below.{StandsAt, fails_below, holds_below}
+use Rattle.it_chain.specs.inside.Below.{StandsAt, fails_below}
 use Rattle.it_chain.specs.declared.bundle.File.{File}
 use Rattle.it_chain.specs.declared.body.Body.{Body as Held}
 use Rattle.it_chain.specs.declared.body.Body.TheVariants.{Link as held_link}

@@ -14,3 +14,8 @@ none_holds layout bundle results = ⊥
 abbrev pub Chain : Setting → ℕ → Holding
 Chain setting zero = LevelHolds none_holds setting
 Chain setting (suc depth) = LevelHolds (Chain setting depth) setting
+
+-- the results of the sublayouts of a layout, where these may be nested so deep
+abbrev pub holds_below : Setting → ℕ → Holding
+holds_below setting zero = none_holds
+holds_below setting (suc depth) = Chain setting depth

@@ -14,6 +14,7 @@ pub mod CountedBodies
 pub mod Expiry
 pub mod Fewest
 pub mod First
+pub mod Judged
 pub mod Laws
 pub mod Level
 pub mod Lower

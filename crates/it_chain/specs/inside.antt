@@ -4,6 +4,7 @@ pub mod Below
 pub mod Candidates
 pub mod ClaimedFiles
 pub mod CountedBodies
+pub mod HeldFile
 pub mod IdRecords
 pub mod RecordCode
 pub mod Scope

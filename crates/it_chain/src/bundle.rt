@@ -2,6 +2,7 @@
 ghost use Rattle.std.specs.Prelude.{◌≡◌, OnOk, OnErr, IfErr, IsSome, None};
 ghost use Rattle.std.specs.Prelude.{option_map, string_bytes};
 
+use crate::held_file::HeldFile;
 use it_base::sequence::Sequence;
 use it_base::text::Text;
 use std::alloc::{AllocError, Global};
@@ -21,7 +22,7 @@ pub struct File {
 /// each itself a bundle. A contract sees both, the folders in the order of their names' bytes.
 #[derive(Drop)]
 pub struct Bundle {
-    files: Vec<File>,
+    files: Vec<HeldFile>,
     folders: BTreeMap<String, Bundle>,
 }
 
@@ -68,7 +69,8 @@ impl Bundle {
         }
     }
 
-    /// Adds a file after the existing ones, even if one of them has the same name.
+    /// Adds a file after the existing ones, even if one of them has the same name. Its bytes are
+    /// read as an envelope here, and nowhere again.
     ///
     /// # Errors
     ///
@@ -78,10 +80,23 @@ impl Bundle {
             ≡ with_file (record { name = string_bytes name; bytes = bytes.items }) self.old) }
         ensures err { OnErr result (self.new ≡ self.old) }
     {
+        let alloc = *self.files.allocator();
         let file = File {
             name: Text::from(name),
             bytes: Sequence::from(bytes),
         };
+        self.add_read(HeldFile::read(alloc, file)?)
+    }
+
+    /// Adds a file that was read, as `add_file` does.
+    ///
+    /// # Errors
+    ///
+    /// `AllocError` where memory was refused; the bundle is then unchanged.
+    pub fn add_read(&mut self, file: HeldFile) -> Result<(), AllocError>
+        ensures ok { OnOk result (self.new ≡ with_file file self.old) }
+        ensures err { OnErr result (self.new ≡ self.old) }
+    {
         self.files.push(file)?;
         Ok(())
     }
@@ -111,7 +126,7 @@ impl Bundle {
     }
 
     /// The files, in the order they were added. Takes no memory.
-    pub fn files(&self) -> &[File]
+    pub fn files(&self) -> &[HeldFile]
         ensures { result.now ≡ files_of self.now }
     {
         &self.files

@@ -5,7 +5,7 @@ ghost use Rattle.std.specs.Prelude.{string_bytes};
 ghost use Rattle.it_chain.specs.inside.ClaimedFiles.{ClaimsIn, IsAdded, places_under};
 ghost use Rattle.it_chain.specs.ClaimedFiles.{IsClaimed};
 
-use crate::bundle::File;
+use crate::held_file::HeldFile;
 use std::alloc::{AllocError, Global};
 use std::collections::BTreeMap;
 
@@ -17,12 +17,12 @@ pub(crate) struct Claims {
 
 impl Claims {
     /// The places of those files that are claimed for some step.
-    pub fn of(alloc: Global, files: &[File]) -> Result<Claims, AllocError>
+    pub fn of(alloc: Global, files: &[HeldFile]) -> Result<Claims, AllocError>
         ensures { IfOk result (ClaimsIn files.now) }
     {
         let mut by_step = BTreeMap::new(alloc);
         for (place, file) in files.iter().enumerate() {
-            if let Some(step) = claimed_step(file.name.as_str()) {
+            if let Some(step) = claimed_step(file.name()) {
                 add(&mut by_step, String::from_str(alloc, step)?, place)?;
             }
         }

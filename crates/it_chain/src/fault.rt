@@ -1,6 +1,6 @@
 //! How refusals are made.
 ghost use Rattle.std.specs.Prelude.{◌≡◌, IfOk};
-ghost use Rattle.it_chain.specs.First.{here, under as under_of};
+ghost use Rattle.it_chain.specs.First.{here as here_of, under as under_of};
 ghost use Rattle.it_chain.specs.inside.Sublayouts.{IsUnder};
 ghost use Rattle.it_chain.specs.declared.refusal.ChainError.TheVariants.{Refused};
 
@@ -9,14 +9,21 @@ use it_base::sequence::Sequence;
 use it_base::text::Text;
 use std::alloc::{AllocError, Global};
 
-/// The error for a fault of the layout itself.
-pub(crate) fn refused(alloc: Global, fault: ChainFault) -> ChainError
-    ensures { result ≡ Refused (here fault) }
+/// The refusal for a fault of the layout itself.
+pub(crate) fn here(alloc: Global, fault: ChainFault) -> ChainRefusal
+    ensures { result ≡ here_of fault }
 {
-    ChainError::Refused(ChainRefusal {
+    ChainRefusal {
         at: Sequence::from(Vec::new(alloc)),
         fault,
-    })
+    }
+}
+
+/// The error for a fault of the layout itself.
+pub(crate) fn refused(alloc: Global, fault: ChainFault) -> ChainError
+    ensures { result ≡ Refused (here_of fault) }
+{
+    ChainError::Refused(here(alloc, fault))
 }
 
 /// The error of the sublayout that is signed by a key id for a step.

@@ -2,21 +2,24 @@
 ghost use Rattle.std.specs.Prelude.{◌≤◌, IfOk};
 ghost use Rattle.it_chain.specs.Contents.{files_of};
 ghost use Rattle.it_chain.specs.inside.ClaimedFiles.{ClaimsIn};
-ghost use Rattle.it_chain.specs.inside.Scope.{LevelAnswers, LevelAsks, LevelTakes, scope_of};
+ghost use Rattle.it_chain.specs.Judged.{settles};
+ghost use Rattle.it_chain.specs.inside.Scope.{HoldsSteps, LevelAnswers, LevelAsks, LevelTakes};
+ghost use Rattle.it_chain.specs.inside.Scope.{scope_of};
 ghost use Rattle.it_chain.specs.inside.Scope.{StepAnswers, StepAsks, StepTakes};
 ghost use Rattle.it_chain.specs.inside.Scope.{StepsAnswer, StepsAsk};
 
 use crate::bundle::Bundle;
-use crate::candidate::candidates;
+use crate::candidate::Candidates;
 use crate::chain::{Chain, StepResult};
 use crate::checking::Checking;
 use crate::claimed_files::Claims;
 use crate::expiry::is_expired;
 use crate::fault::refused;
 use crate::id_records::verify_ids;
+use crate::judged::JudgedChain;
 use crate::refusal::{ChainError, ChainFault};
 use crate::signers::signers;
-use crate::step_rules::run_step_rules;
+use crate::step_rules::first_failed;
 use crate::threshold::judged;
 use it_base::sequence::Sequence;
 use it_docs::layout::Layout;
@@ -50,14 +53,35 @@ pub(crate) fn verify_level<C: Checking>(
     ensures fewest { IfOk result (λ _. LevelTakes (scope_of (C.setting checking.now) level.now)
         meter.old meter.new) }
 {
+    judge_level(alloc, checking, level, meter)?.settled()
+}
+
+/// The records with which a layout's steps hold for a bundle, and whether its rules hold over them.
+#[cycle(level)]
+pub(crate) fn judge_level<C: Checking>(
+    alloc: Global,
+    checking: &C,
+    level: &Level,
+    meter: &mut Meter,
+) -> Result<JudgedChain, ChainError>
+    requires shallow { level.now.depth ≤ 8 }
+    ensures answer { LevelAnswers (scope_of (C.setting checking.now) level.now) (settles result) }
+    ensures records { IfOk result (HoldsSteps (scope_of (C.setting checking.now) level.now)) }
+    ensures asked { LevelAsks (scope_of (C.setting checking.now) level.now)
+        meter.old meter.new (settles result) }
+    ensures fewest { IfOk result (λ _. LevelTakes (scope_of (C.setting checking.now) level.now)
+        meter.old meter.new) }
+{
     if is_expired(checking, level.layout) {
         return Err(refused(alloc, ChainFault::Expired));
     }
     let claims = Claims::of(alloc, level.links.files())?;
     let steps = verify_steps(alloc, checking, level, &claims, meter)?;
-    run_step_rules(alloc, level.layout.steps.as_slice(), steps.as_slice())?;
-    Ok(Chain {
-        steps: Sequence::from(steps),
+    let failed = first_failed(alloc, level.layout.steps.as_slice(), steps.as_slice())?;
+    let steps = Sequence::from(steps);
+    Ok(JudgedChain {
+        chain: Chain { steps },
+        failed,
     })
 }
 
@@ -104,17 +128,9 @@ fn verify_step<C: Checking>(
         step.now meter.old meter.new) }
 {
     let name = step.name.as_str();
-    let found = candidates(alloc, level.links.files(), claims.places(name))?;
+    let found = Candidates::at(alloc, level.links.files(), claims.places(name))?;
     let signers = signers(alloc, level.layout, step)?;
     let signers = signers.as_slice();
-    let records = verify_ids(
-        alloc,
-        checking,
-        level,
-        step,
-        signers,
-        found.as_slice(),
-        meter,
-    )?;
+    let records = verify_ids(alloc, checking, level, step, signers, &found, meter)?;
     judged(alloc, step, records)
 }

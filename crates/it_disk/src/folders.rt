@@ -6,11 +6,12 @@ ghost use Rattle.it_disk.specs.Reading.{AreLimited};
 
 use crate::fault::Fault;
 use crate::files::read_file;
-use crate::left_out::{LeftOut, too_many};
+use crate::left_out::{LeftOut, too_many_in};
 use crate::shown::Shown;
 use it_base::sequence::Sequence;
 use it_base::text::Text;
-use it_chain::bundle::{Bundle, BundleFault};
+use it_chain::bundle::{Bundle, BundleFault, File};
+use it_chain::held_file::HeldFile;
 use std::alloc::{AllocError, Global};
 use std::path::{Path, PathBuf};
 use std::rt::Files;
@@ -112,13 +113,15 @@ fn add_file<R: Files + AllocGlobal>(
         → AreLimited limited links.new.bundle) }
 {
     let alloc = rt.alloc();
-    let bytes = read_file(rt, entry.path.as_str())?;
-    match too_many(alloc, bytes.as_slice(), limited)? {
+    let bytes = Sequence::from(read_file(rt, entry.path.as_str())?);
+    let name = Text::from(entry.name);
+    let file = HeldFile::read(alloc, File { name, bytes })?;
+    match too_many_in(&file, limited) {
         Some(signatures) => {
             let path = Shown::of(alloc, entry.path.as_str())?;
             links.left_out.push(LeftOut::File { path, signatures })?;
         }
-        None => links.bundle.add_file(entry.name, bytes)?,
+        None => links.bundle.add_read(file)?,
     }
     Ok(())
 }

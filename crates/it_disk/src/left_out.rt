@@ -6,7 +6,8 @@ ghost use Rattle.it_disk.specs.Faults.{IsUnreadable};
 
 use crate::fault::Fault;
 use crate::shown::Shown;
-use it_limits::{LineOver, MOST_SIGNATURES, signatures_over_limit};
+use it_chain::held_file::HeldFile;
+use it_limits::{LineOver, MOST_SIGNATURES, file_over_limit, signatures_over_limit};
 use std::alloc::{AllocError, Global};
 use std::fmt;
 use std::fmt::{Display, Formatter};
@@ -59,6 +60,15 @@ pub fn too_many(alloc: Global, bytes: &[u8], limited: bool) -> Result<Option<usi
     } else {
         Ok(None)
     }
+}
+
+/// How many signatures the envelope in a file has, where signatures are limited and it has too
+/// many. Takes no memory.
+pub(crate) fn too_many_in(file: &HeldFile, limited: bool) -> Option<usize>
+    ensures within { IsNone result → IsTrue limited → IsWithinLimit file.now.bytes }
+    ensures over { IfSome result (λ count. IsTrue limited × IsOverLimit file.now.bytes count) }
+{
+    if limited { file_over_limit(file) } else { None }
 }
 
 /// What is left out.

@@ -11,6 +11,7 @@ use Rattle.it_dsse.specs.Panel.{panel_of}
 use Rattle.it_dsse.specs.Ring.{ids_of, ring_check}
 use Rattle.it_dsse.specs.declared.key_object.KeyObject.{KeyObject}
 use Rattle.it_dsse.specs.declared.ring_entry.RingEntry.{RingEntry}
+use Rattle.it_check.specs.CheckOutput.{IsCheckOutput}
 use Rattle.it_commands.specs.DigestOutput.{IsDigestLine}
 use Rattle.it_commands.specs.PayloadOutput.{IsPayloadOutput}
 use Rattle.it_commands.specs.SignedOutput.{IsSignedOutput}
@@ -24,6 +25,7 @@ use Rattle.it_making.specs.LinkOutput.{IsLinkOutput}
 use Rattle.it_making.specs.StatementOutput.{IsStatementOutput}
 use Rattle.it_outcome.specs.declared.outcome.Status.{Status}
 use Rattle.it_outcome.specs.declared.outcome.Status.TheVariants.{Good}
+use Rattle.it_words.specs.declared.words.check_words.CheckWords.{CheckWords}
 use Rattle.it_words.specs.declared.words.digest_words.DigestWords.{DigestWords}
 use Rattle.it_words.specs.declared.words.key_words.KeyWords.{KeyWords}
 use Rattle.it_words.specs.declared.words.link_words.LinkWords.{LinkWords}
@@ -158,6 +160,15 @@ pub record MakesStatement (disk : Holdings) (words : StatementWords) (text : Lis
   pub are_given : IsGiven disk.file words.parameters parameters
   pub is_output : IsStatementOutput sums words.build_type words.builder parameters text
   pub status_is : status ≡ Good
+
+-- check: what is found in the policy and in the layout, each where it is given
+pub record Checks (disk : Holdings) (words : CheckWords) (text : List ℕ) (status : Status)
+    : Type 0 where
+  pub policy : Option (List ℕ)
+  pub holds_policy : IsGiven disk.file words.policy policy
+  pub layout : Option (List ℕ)
+  pub holds_layout : IsGiven disk.file words.layout layout
+  pub is_output : IsCheckOutput policy layout text status
 
 -- key: the key objects of the files of public keys, under their ids
 pub record MakesKeys (disk : Holdings) (words : KeyWords) (text : List ℕ)

@@ -10,6 +10,7 @@
 //! ```
 #![tactic(auto)]
 
+pub mod check_command;
 pub mod digest_command;
 pub mod key_command;
 pub mod link_command;

@@ -1,6 +1,6 @@
 -- The line of a note on a key object that no check knows (this project's words).
 use Rattle.std.specs.Prelude.{ℕ, List, [], ◌++◌, codes}
-use Rattle.it_report.specs.Name.{name_form}
+use Rattle.it_report.specs.Name.{cut_form}
 use Rattle.it_key_notes.specs.declared.reason.Reason.{Reason}
 use Rattle.it_key_notes.specs.declared.reason.Reason.TheVariants.{OtherScheme, NoSecret, PublicKey}
 use Rattle.it_key_notes.specs.declared.reason.Reason.TheVariants.{NoDigits, NoEd25519Key}
@@ -22,11 +22,11 @@ phrase_of NoRsaKey =
 
 -- the name that follows
 abbrev pub detail_of : Reason → List ℕ
-detail_of (OtherScheme scheme) = name_form scheme
+detail_of (OtherScheme scheme) = cut_form scheme
 detail_of reason = []
 
 -- the line of a note
 unfoldable pub key_line : UnknownKey → List ℕ
 key_line note =
-    codes "key " ++ name_form note.id ++ phrase_of note.reason ++ detail_of note.reason
+    codes "key " ++ cut_form note.id ++ phrase_of note.reason ++ detail_of note.reason
     ++ codes "\n"

@@ -4,11 +4,11 @@ ghost use Rattle.it_key_notes.specs.Line.{detail_of, key_line, phrase_of};
 
 use crate::reason::Reason;
 use crate::unknown_key::UnknownKey;
-use it_report::name::push_name;
+use it_report::name::push_cut_name;
 use std::alloc::AllocError;
 
 impl UnknownKey {
-    /// Appends the line of the note, with names as a report writes them.
+    /// Appends the line of the note, with names as `push_cut_name` writes them.
     ///
     /// # Errors
     ///
@@ -18,7 +18,7 @@ impl UnknownKey {
         ensures { OnOk result (text.new.items ≡ text.old.items ++ key_line self.now) }
     {
         text.extend_from_slice(b"key ")?;
-        push_name(text, self.id.as_str().as_bytes())?;
+        push_cut_name(text, self.id.as_str().as_bytes())?;
         text.extend_from_slice(phrase(&self.reason).as_bytes())?;
         push_detail(text, &self.reason)?;
         text.push(b'\n')?;
@@ -50,7 +50,7 @@ fn push_detail(text: &mut Vec<u8>, reason: &Reason) -> Result<(), AllocError>
     ensures { OnOk result (text.new.items ≡ text.old.items ++ detail_of reason.now) }
 {
     match reason {
-        Reason::OtherScheme(scheme) => push_name(text, scheme.as_str().as_bytes()),
+        Reason::OtherScheme(scheme) => push_cut_name(text, scheme.as_str().as_bytes()),
         _ => Ok(()),
     }
 }

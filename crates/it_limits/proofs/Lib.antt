@@ -1,3 +1,4 @@
 pub mod FewBraces
 pub mod LinesWritten
 pub mod LinksWithin
+pub mod OverLimit

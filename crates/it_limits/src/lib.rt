@@ -11,4 +11,4 @@ mod lines;
 mod signatures;
 
 pub use lines::{LineOver, LinesWithin, lines_within_limit};
-pub use signatures::{MOST_SIGNATURES, signatures_over_limit};
+pub use signatures::{MOST_SIGNATURES, file_over_limit, signatures_over_limit};

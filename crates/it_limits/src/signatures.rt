@@ -4,6 +4,7 @@ ghost use Rattle.it_base.specs.Finds.{Finds};
 ghost use Rattle.it_limits.specs.Limit.{IsOverLimit, most_signatures};
 
 use it_chain::envelope_in;
+use it_chain::held_file::HeldFile;
 use it_objects::braces_in;
 use std::alloc::{AllocError, Global};
 
@@ -26,6 +27,17 @@ pub fn signatures_over_limit(alloc: Global, bytes: &[u8]) -> Result<Option<usize
     match envelope_in(alloc, bytes)? {
         Some(envelope) => Ok(over_limit(envelope.signatures.as_slice().len())),
         None => Ok(None),
+    }
+}
+
+/// How many signatures the envelope in a file has, where there are more than `MOST_SIGNATURES`;
+/// `None` where there are no more, or the file is not an envelope. Takes no memory.
+pub fn file_over_limit(file: &HeldFile) -> Option<usize>
+    ensures { Finds (IsOverLimit file.now.bytes) result }
+{
+    match file.envelope() {
+        Some(envelope) => over_limit(envelope.signatures.as_slice().len()),
+        None => None,
     }
 }
 

@@ -6,7 +6,7 @@ use std::alloc::{AllocError, Global};
 
 impl RuleListNote {
     /// Appends the note, on the policy's rules on what is delivered, as a line of English, which
-    /// ends with a line feed. Names are written as reports write them.
+    /// ends with a line feed. Names are written as `push_cut_name` does.
     ///
     /// # Errors
     ///

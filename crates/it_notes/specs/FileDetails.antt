@@ -12,7 +12,7 @@ use Rattle.it_dsse.specs.declared.envelope.Envelope.{Envelope}
 use Rattle.it_part_notes.specs.PartLines.{part_line}
 use Rattle.it_part_notes.specs.PartNotes.{TellsEnvelope, TellsLink}
 use Rattle.it_part_notes.specs.declared.part_note.PartNote.{PartNote}
-use Rattle.it_report.specs.Name.{name_form}
+use Rattle.it_report.specs.Name.{cut_form}
 use Rattle.it_step_notes.specs.declared.note.Finding.{Finding}
 use Rattle.it_step_notes.specs.declared.note.Finding.TheVariants.{NeitherLinkNorLayout, NoEnvelope}
 use Rattle.it_step_notes.specs.declared.note.Finding.TheVariants.{NoSignature}
@@ -63,7 +63,7 @@ TellsDetail bundle step note told = ⊥
 
 -- ---- the lines of details
 abbrev pub id_form : List ℕ → List ℕ
-id_form id = codes " " ++ name_form id
+id_form id = codes " " ++ cut_form id
 
 -- what comes before the ids, or in their place
 abbrev pub words_before : List (List ℕ) → List ℕ
@@ -79,4 +79,4 @@ detail_form (Tried ids) = tried_form ids ++ codes "\n"
 
 -- the line of a detail
 abbrev pub detail_line : FileDetail → List ℕ
-detail_line told = name_form told.name ++ codes ": " ++ detail_form told.detail
+detail_line told = cut_form told.name ++ codes ": " ++ detail_form told.detail

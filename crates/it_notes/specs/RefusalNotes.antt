@@ -81,7 +81,7 @@ module _ (panel : Panel) (inputs : Inputs) (level : FaultLevel) (fault : Fault) 
   -- when the layout expired
   pub record TellsEnd (note : ExpiryNote) : Type 0 where
     pub fault_is : fault ≡ faults.Expired
-    pub is_true : TellsExpiry level.signed.envelope.payload inputs.moment note
+    pub is_true : TellsExpiry level.signed.payload inputs.moment note
 
   -- which files hold bodies of the key id that differ
   pub record TellsTwo (note : PayloadsNote) : Type 0 where

@@ -4,12 +4,13 @@ ghost use Rattle.std.specs.List.{list_any};
 ghost use Rattle.it_dsse.specs.Signed.{is_admitted};
 ghost use Rattle.it_notes.specs.FileDetails.{TellsBytes, TellsDetail, TellsPayload, TellsTried};
 ghost use Rattle.it_notes.specs.FileDetails.{tried_ids};
+ghost use Rattle.it_part_notes.specs.PartNotes.{TellsEnvelope};
 
 use crate::file_detail::{Detail, DetailedNote, FileDetail};
 use it_base::sequence::Sequence;
 use it_base::text::Text;
-use it_chain::bundle::{Bundle, File};
-use it_chain::envelope_in;
+use it_chain::bundle::Bundle;
+use it_chain::held_file::HeldFile;
 use it_docs::step::Step;
 use it_dsse::envelope::{Envelope, Signature};
 use it_part_notes::envelope_part_note::envelope_part_note;
@@ -52,7 +53,7 @@ fn detail_of(
     let Some(file) = file_named(bundle.files(), name.as_str()) else {
         return Ok(None);
     };
-    let Some(detail) = detail_in(alloc, step, file.bytes.as_slice(), finding)? else {
+    let Some(detail) = detail_in(alloc, step, file, finding)? else {
         return Ok(None);
     };
     let name = Text::copy(alloc, name.as_str())?;
@@ -60,54 +61,68 @@ fn detail_of(
 }
 
 /// The first file of this name.
-fn file_named<'a>(files: &'a [File], name: &str) -> Option<&'a File>
+fn file_named<'a>(files: &'a [HeldFile], name: &str) -> Option<&'a HeldFile>
     ensures { IfSome result (λ file. Contains files.now file.now × (file.now.name ≡ name.now)) }
 {
     for file in files {
-        if file.name.as_str() == name {
+        if file.name() == name {
             return Some(file);
         }
     }
     None
 }
 
-/// The details of bytes, by what they are found to be for a step. A payload that no
-/// key of the step signed is not looked into.
+/// The details of a file, by what it is found to be for a step. A payload that no key of the step
+/// signed is not looked into.
 fn detail_in(
     alloc: Global,
     step: &Step,
-    bytes: &[u8],
+    file: &HeldFile,
     finding: &Finding,
 ) -> Result<Option<Detail>, AllocError>
     ensures { IfOk result (λ found.
-        IfSome found (TellsBytes step.now finding.now bytes.now)) }
+        IfSome found (TellsBytes step.now finding.now file.now.bytes)) }
 {
     match finding {
-        Finding::NoEnvelope => Ok(envelope_part_note(alloc, bytes)?.map(Detail::Part)),
-        Finding::NeitherLinkNorLayout => Ok(payload_part(alloc, bytes)?.map(Detail::Part)),
-        Finding::NoSignature(_) => Ok(tried_in(alloc, step, bytes)?.map(Detail::Tried)),
+        Finding::NoEnvelope => Ok(envelope_part(alloc, file)?.map(Detail::Part)),
+        Finding::NeitherLinkNorLayout => Ok(payload_part(alloc, file)?.map(Detail::Part)),
+        Finding::NoSignature(_) => Ok(tried_in(alloc, step, file)?.map(Detail::Tried)),
         _ => Ok(None),
     }
 }
 
-/// Why the payload of the envelope in bytes is not a link.
-fn payload_part(alloc: Global, bytes: &[u8]) -> Result<Option<PartNote>, AllocError>
-    ensures { IfOk result (λ found. IfSome found (TellsPayload bytes.now)) }
+/// Why a file's bytes are not an envelope.
+fn envelope_part(alloc: Global, file: &HeldFile) -> Result<Option<PartNote>, AllocError>
+    ensures { IfOk result (λ found. IfSome found (TellsEnvelope file.now.bytes)) }
 {
-    let Some(envelope) = envelope_in(alloc, bytes)? else {
+    match file.unread() {
+        Some(bytes) => envelope_part_note(alloc, bytes),
+        None => Ok(None),
+    }
+}
+
+/// Why the payload of the envelope in a file is not a link.
+fn payload_part(alloc: Global, file: &HeldFile) -> Result<Option<PartNote>, AllocError>
+    ensures { IfOk result (λ found. IfSome found (TellsPayload file.now.bytes)) }
+{
+    let Some(envelope) = file.envelope() else {
         return Ok(None);
     };
     link_part_note(alloc, envelope.payload.as_slice())
 }
 
-/// For which key ids of a step the signatures of the envelope in bytes are tried.
-fn tried_in(alloc: Global, step: &Step, bytes: &[u8]) -> Result<Option<Sequence<Text>>, AllocError>
-    ensures { IfOk result (λ found. IfSome found (TellsTried step.now bytes.now)) }
+/// For which key ids of a step the signatures of the envelope in a file are tried.
+fn tried_in(
+    alloc: Global,
+    step: &Step,
+    file: &HeldFile,
+) -> Result<Option<Sequence<Text>>, AllocError>
+    ensures { IfOk result (λ found. IfSome found (TellsTried step.now file.now.bytes)) }
 {
-    let Some(envelope) = envelope_in(alloc, bytes)? else {
+    let Some(envelope) = file.envelope() else {
         return Ok(None);
     };
-    let ids = tried_for(alloc, step, &envelope)?;
+    let ids = tried_for(alloc, step, envelope)?;
     Ok(Some(Sequence::from(ids)))
 }
 

@@ -19,7 +19,7 @@ pub(crate) fn expiry_told(
     ensures { IfOk result
         (λ told. (panel : Panel) → TellsAt panel inputs.now level.now Expired told) }
 {
-    let payload = level.signed.envelope.payload.as_slice();
+    let payload = level.signed.payload.as_slice();
     match expiry_note(alloc, payload, inputs.moment.as_str())? {
         Some(note) => Ok(RefusalNotes::Expiry(note)),
         None => Ok(RefusalNotes::Nothing),

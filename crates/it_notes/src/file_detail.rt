@@ -7,7 +7,7 @@ ghost use Rattle.it_notes.specs.FileDetails.{words_before};
 use it_base::sequence::Sequence;
 use it_base::text::Text;
 use it_part_notes::part_note::PartNote;
-use it_report::name::push_name;
+use it_report::name::push_cut_name;
 use it_step_notes::note::StepNote;
 use std::alloc::AllocError;
 
@@ -39,7 +39,7 @@ pub enum Detail {
 }
 
 impl FileDetail {
-    /// Appends its line, with names as a report writes them.
+    /// Appends its line, with names as `push_cut_name` writes them.
     ///
     /// # Errors
     ///
@@ -47,7 +47,7 @@ impl FileDetail {
     pub fn push_line(&self, text: &mut Vec<u8>) -> Result<(), AllocError>
         ensures { OnOk result (text.new.items ≡ text.old.items ++ detail_line self.now) }
     {
-        push_name(text, self.name.as_str().as_bytes())?;
+        push_cut_name(text, self.name.as_str().as_bytes())?;
         text.extend_from_slice(b": ")?;
         push_detail(text, &self.detail)
     }
@@ -95,5 +95,5 @@ fn push_id(text: &mut Vec<u8>, id: &Text) -> Result<(), AllocError>
     ensures { OnOk result (text.new.items ≡ text.old.items ++ id_form id.now) }
 {
     text.push(b' ')?;
-    push_name(text, id.as_str().as_bytes())
+    push_cut_name(text, id.as_str().as_bytes())
 }

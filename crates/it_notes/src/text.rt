@@ -27,7 +27,8 @@ use std::alloc::{AllocError, Global};
 impl Notes {
     /// The lines for people: those on the refusal first, then those on the policy and the layout,
     /// each with a line feed. There are at most 40; where there are more notes than that, the last
-    /// line says how many are not written out. Names are written as reports write them.
+    /// line says how many are not written out. Names are written as `push_cut_name`
+    /// does.
     ///
     /// # Errors
     ///

@@ -2,7 +2,7 @@
 -- project's words). The line of the last two follows the name of a file.
 use Rattle.std.specs.Prelude.{ℕ, List, [], ◌∷◌, ◌++◌, Option, Some, None, codes, decimal}
 use Rattle.std.specs.List.{flat_map}
-use Rattle.it_report.specs.Name.{name_form}
+use Rattle.it_report.specs.Name.{cut_form}
 use Rattle.it_part_notes.specs.Members.{Looked, shown}
 use Rattle.it_part_notes.specs.declared.member.Kind.{Kind}
 use Rattle.it_part_notes.specs.declared.member.Kind.TheVariants as kinds
@@ -63,7 +63,7 @@ unfit_form kinds.LinkWord = codes " is not the text link"
 unfit_form kinds.Artifacts = codes " is not an object of digest sets"
 
 abbrev pub word_form : List ℕ → List ℕ
-word_form word = codes " " ++ name_form word
+word_form word = codes " " ++ cut_form word
 
 -- why an item is not a rule: its words, if it has any
 abbrev pub words_form : Option (List (List ℕ)) → List ℕ

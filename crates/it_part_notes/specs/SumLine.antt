@@ -6,7 +6,7 @@ use Rattle.std.specs.Str.{IsUtf8}
 use Rattle.it_base.specs.HexadecimalText.{hexadecimal_decoded}
 use Rattle.it_digest.specs.Sums.{IsSum, lines_of}
 use Rattle.it_digest.specs.declared.compare.DigestSet.{DigestSet}
-use Rattle.it_report.specs.Name.{name_form}
+use Rattle.it_report.specs.Name.{cut_form}
 use Rattle.it_part_notes.specs.declared.sum_line_note.LineFault.{LineFault}
 use Rattle.it_part_notes.specs.declared.sum_line_note.LineFault.TheVariants.{NoDigits, NoMark}
 use Rattle.it_part_notes.specs.declared.sum_line_note.LineFault.TheVariants.{NoPath, NotUtf8}
@@ -75,7 +75,7 @@ pub record TellsSumLine (bytes : List ℕ) (note : SumLineNote) : Type 0 where
 -- ---- the lines of notes
 -- a name after a text, in the form of a report
 unfoldable pub told_form : List ℕ → List ℕ → List ℕ
-told_form before name = before ++ name_form name
+told_form before name = before ++ cut_form name
 
 -- a number between two texts
 unfoldable pub numbered_form : List ℕ → ℕ → List ℕ → List ℕ

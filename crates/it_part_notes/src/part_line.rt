@@ -10,13 +10,13 @@ use crate::member::{Kind, Member};
 use crate::part_note::{BadRule, Fault, PartNote, PartPlace, Problem};
 use it_base::sequence::Sequence;
 use it_base::text::Text;
-use it_report::name::push_name;
+use it_report::name::push_cut_name;
 use std::alloc::AllocError;
 
 impl PartNote {
     /// Appends the note as a line for people, which ends with a line feed. A note on an envelope or
-    /// a link is to follow the name of its file. The words of a rule are written as reports write
-    /// names.
+    /// a link is to follow the name of its file. The words of a rule are written as `push_cut_name`
+    /// writes names.
     ///
     /// # Errors
     ///
@@ -175,7 +175,7 @@ fn push_word(text: &mut Vec<u8>, word: &Text) -> Result<(), AllocError>
     ensures { OnOk result (text.new.items ≡ text.old.items ++ word_form word.now) }
 {
     push_text(text, " ")?;
-    push_name(text, word.as_str().as_bytes())
+    push_cut_name(text, word.as_str().as_bytes())
 }
 
 /// Appends the item at a place, after some words; for a whole policy or layout, nothing.

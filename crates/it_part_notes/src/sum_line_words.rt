@@ -5,11 +5,11 @@ ghost use Rattle.it_part_notes.specs.SumLine.{told_form};
 
 use crate::sum_line_note::{LineFault, SumLineNote};
 use it_base::text::Text;
-use it_report::name::push_name;
+use it_report::name::push_cut_name;
 use std::alloc::AllocError;
 
 impl SumLineNote {
-    /// Appends the note as a line for people, with a path as a report writes it.
+    /// Appends the note as a line for people, with a path as `push_cut_name` writes it.
     ///
     /// # Errors
     ///
@@ -53,7 +53,7 @@ fn push_told(text: &mut Vec<u8>, before: &str, name: &Text) -> Result<(), AllocE
     ensures { OnOk result (text.new.items ≡ text.old.items ++ told_form before.now name.now) }
 {
     push_text(text, before)?;
-    push_name(text, name.as_str().as_bytes())
+    push_cut_name(text, name.as_str().as_bytes())
 }
 
 /// Appends a number between two texts.

@@ -12,10 +12,11 @@ use Rattle.it_verify.specs.declared.inputs.Inputs.{Inputs}
 use Rattle.it_outcome.specs.declared.outcome.Status.{Status}
 use Rattle.it_words.specs.declared.words.Words.{Words}
 use Rattle.it_words.specs.declared.words.Words.TheVariants.{Signed, Match, Pae, Sign, Digest}
+use Rattle.it_words.specs.declared.words.Words.TheVariants.{Check}
 use Rattle.it_words.specs.declared.words.Words.TheVariants.{Verify, Link, Statement, Payload, Key}
 use Rattle.it_words.specs.declared.words.verify_words.VerifyWords.{VerifyWords}
 use Rattle.it_disk.specs.Reading.{Holdings, HoldsRing}
-use Rattle.it_file_commands.specs.Commands.{Encodes, ListsDigests, MakesKeys, MakesLink}
+use Rattle.it_file_commands.specs.Commands.{Checks, Encodes, ListsDigests, MakesKeys, MakesLink}
 use Rattle.it_file_commands.specs.Commands.{MakesStatement, ShowsPayload, ShowsSigners}
 use Rattle.it_file_commands.specs.Commands.{SignsAsAsked}
 use Rattle.it_program.specs.Inputs.{AreInputs}
@@ -48,3 +49,4 @@ IsOutputOf disk (Link words) text status = MakesLink disk words text status
 IsOutputOf disk (Statement words) text status = MakesStatement disk words text status
 IsOutputOf disk (Payload words) text status = ShowsPayload disk words text status
 IsOutputOf disk (Key words) text status = MakesKeys disk words text status
+IsOutputOf disk (Check words) text status = Checks disk words text status

@@ -8,8 +8,8 @@ ghost use Rattle.it_program.specs.Stopped.{IsDigestBegun, NamesDigestBegun};
 use crate::verify_command;
 use it_disk::{Disk, Fault};
 use it_file_commands::{
-    Remembering, digest_command, key_command, link_command, match_command, pae_command,
-    payload_command, sign_command, signed_command, statement_command,
+    Remembering, check_command, digest_command, key_command, link_command, match_command,
+    pae_command, payload_command, sign_command, signed_command, statement_command,
 };
 use it_outcome::{RunFault, Status};
 use it_words::words::{Words, read_words};
@@ -97,6 +97,7 @@ fn run_command<R: Disk + AllocGlobal, W: Write, N: Write>(
         Words::Statement(words) => statement_command::run(rt, words, out),
         Words::Payload(words) => payload_command::run(rt, words, out),
         Words::Key(words) => key_command::run(rt, words, out),
+        Words::Check(words) => check_command::run(rt, words, out, notes),
         Words::Verify(words) => verify_command::run(rt, words, out, notes),
     }
 }

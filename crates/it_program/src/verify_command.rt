@@ -42,10 +42,7 @@ pub(crate) fn run<R: Disk + AllocGlobal, W: Write, N: Write>(
     let mut left_out = Vec::new(alloc);
     let inputs = inputs(rt, words, &mut left_out)?;
     let rings = read_rings(rt, words.rings.as_slice())?;
-    let checks = OwnChecks {
-        rings,
-        public_keys: words.public_keys,
-    };
+    let checks = OwnChecks::new(alloc, rings, words.public_keys);
     let form = form_asked(words.json);
     note_left_out(alloc, left_out.as_slice(), notes);
     Ok(verify_with_notes(alloc, &inputs, &checks, form, out, notes)?)

@@ -2,7 +2,7 @@
 -- notes). What a line misses is a part of `Meets`, negated; what a line that is not an envelope
 -- looks like is said of its document.
 use Rattle.std.specs.Prelude.{◌≡◌, ◌≢◌, ◌<◌, ◌≤◌, ℕ, suc, List, Option, Some, None, Contains}
-use Rattle.std.specs.Prelude.{IfSome, IsSome, IsTrue, codes}
+use Rattle.std.specs.Prelude.{IfSome, IsSome, IsTrue, codes, length}
 use Rattle.std.specs.List.{slice_get}
 use Rattle.serde_json.specs.Data.{Data}
 use Rattle.serde_json.specs.Find.{as_array}
@@ -86,6 +86,12 @@ LooksLike line shape.Other = Unit {0}
 abbrev pub NoneSigned : Panel → Expectation → Envelope → Type 0
 NoneSigned panel expectation envelope = (builder : Builder)
     → Contains expectation.builders builder → ¬ SignedByBuilder panel envelope builder
+
+-- none of the expected builders signed it, and its payload has more than 256 KiB (this project's
+-- choice)
+abbrev pub IsTooLarge : Panel → Expectation → Envelope → Type 0
+IsTooLarge panel expectation envelope =
+    NoneSigned panel expectation envelope × (262144 < length envelope.payload)
 
 -- its payload is of this type, not that of in-toto
 abbrev pub IsOfOtherType : List ℕ → Envelope → Type 0
@@ -174,6 +180,8 @@ Misses panel expectation digests line (shortfall.NoEnvelope looks) =
     ((envelope : Envelope) → ¬ EnvelopeOf line envelope) × LooksLike line looks
 Misses panel expectation digests line shortfall.NotSigned =
     OfEnvelope (NoneSigned panel expectation) line
+Misses panel expectation digests line shortfall.TooLarge =
+    OfEnvelope (IsTooLarge panel expectation) line
 Misses panel expectation digests line (shortfall.OtherPayloadType found) =
     OfEnvelope (IsOfOtherType found) line
 Misses panel expectation digests line (shortfall.NoStatement found) =

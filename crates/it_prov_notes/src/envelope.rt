@@ -2,7 +2,7 @@
 ghost use Rattle.std.specs.Prelude.{List, ℕ, IfOk, IfSome};
 ghost use Rattle.it_dsse.specs.Envelope.{EnvelopeOf};
 ghost use Rattle.it_dsse.specs.Panel.{Panel};
-ghost use Rattle.it_prov_notes.specs.ProvenanceNotes.{Misses};
+ghost use Rattle.it_prov_notes.specs.ProvenanceNotes.{Misses, NoneSigned};
 ghost use Rattle.it_prov_notes.specs.inside.Judged.{AreSigners};
 
 use crate::delivery::Delivery;
@@ -19,8 +19,11 @@ use it_dsse::envelope::Envelope;
 use it_dsse::payload_type::IN_TOTO;
 use std::alloc::{AllocError, Global};
 
+/// The most bytes of a payload that is looked at though no expected builder signed it.
+const MOST_BYTES: usize = 262_144;
+
 /// What an envelope misses. One that no expected builder signed is noted only where it is about the
-/// file.
+/// file, or too large to be looked at.
 pub(crate) fn envelope_misses<C: Checks>(
     alloc: Global,
     envelope: &Envelope,
@@ -35,6 +38,24 @@ pub(crate) fn envelope_misses<C: Checks>(
     let signers = signers_among(alloc, builders, envelope, checks)?;
     if !signers.is_empty() {
         return signed_misses(alloc, envelope, delivery, signers.as_slice());
+    }
+    unsigned_misses(alloc, envelope, delivery)
+}
+
+/// What an envelope misses that none of the expected builders signed. A payload that is too large
+/// is not looked at, whatever it is about.
+fn unsigned_misses(
+    alloc: Global,
+    envelope: &Envelope,
+    delivery: &Delivery<'_>,
+) -> Result<Option<Shortfall>, AllocError>
+    ensures { (panel : Panel) (line : List ℕ) → EnvelopeOf line envelope.now
+        → NoneSigned panel delivery.now.expectation.now envelope.now
+        → IfOk result (λ found. IfSome found
+        (Misses panel delivery.now.expectation.now delivery.now.digests line)) }
+{
+    if envelope.payload.as_slice().len() > MOST_BYTES {
+        return Ok(Some(Shortfall::TooLarge));
     }
     if is_about(alloc, envelope, &delivery.digests)? {
         return Ok(Some(Shortfall::NotSigned));

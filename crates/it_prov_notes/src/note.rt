@@ -17,6 +17,8 @@ pub enum Shortfall {
     NoEnvelope(Shape),
     /// None of the expected builders signed it.
     NotSigned,
+    /// None of the expected builders signed it, and its payload is too large to be looked at.
+    TooLarge,
     /// Its payload is of this type, not that of in-toto.
     OtherPayloadType(Text),
     /// Its payload is not a Statement. The text is its `_type`, if it has one.

@@ -14,9 +14,11 @@ use std::alloc::{AllocError, Global};
 ///
 /// There is a note for each line that is not an envelope. For an envelope that an expected builder
 /// signed, or with a subject that has the digests of the file, there is one with the first thing
-/// that it misses. There is none for an empty line, for an envelope that misses nothing, or for one
-/// that is about other files and that none of the builders signed. The `checks` check each
-/// envelope's signatures, each at most once for each key of the expected builders.
+/// that it misses. For one that none of the builders signed, and whose payload has more than 256
+/// KiB, there is a note that it was not looked at. There is none for an empty line, for an envelope
+/// that misses nothing, or for any other that is about other files and that none of the builders
+/// signed. The `checks` check each envelope's signatures, each at most once for each key of the
+/// expected builders.
 ///
 /// # Errors
 ///

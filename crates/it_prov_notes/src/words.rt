@@ -2,12 +2,12 @@
 use crate::note::{ProvenanceNote, Shape, Shortfall};
 use it_base::text::Text;
 use it_dsse::payload_type::IN_TOTO;
-use it_report::name::push_name;
+use it_report::name::push_cut_name;
 use std::alloc::{AllocError, Global};
 
 impl ProvenanceNote {
     /// Appends what the note says as one line, with its line feed. Texts from the policy and the
-    /// provenance are in quotation marks, as a report writes a name.
+    /// provenance are in quotation marks, as `push_cut_name` writes a name.
     ///
     /// # Errors
     ///
@@ -25,6 +25,7 @@ fn push_shortfall(text: &mut Vec<u8>, shortfall: &Shortfall) -> Result<(), Alloc
     match shortfall {
         Shortfall::NoEnvelope(shape) => push_shape(text, shape),
         Shortfall::NotSigned => push_words(text, "none of the expected builders signed it"),
+        Shortfall::TooLarge => push_words(text, "was not looked at: too large"),
         Shortfall::OtherPayloadType(found) => {
             push_pair(text, "payload type", found.as_str(), IN_TOTO)
         }
@@ -98,7 +99,7 @@ fn push_quoting(
 ) -> Result<(), AllocError> {
     push_words(text, before)?;
     push_words(text, "\"")?;
-    push_name(text, name.as_bytes())?;
+    push_cut_name(text, name.as_bytes())?;
     push_words(text, "\"")?;
     push_words(text, after)
 }

@@ -66,11 +66,15 @@ is_rsa_key info key = bytes_eq info (rsa_info key)
 abbrev pub rsa_key : List ℕ → Option Key
 rsa_key info = key_if (is_rsa_key info (numbers_in info)) (Rsa (numbers_in info))
 
--- the key that an object describes, if it describes one, by its scheme (in-toto 1.0 section 4.2)
+-- the key that a public part gives by its scheme, if it gives one (in-toto 1.0 section 4.2)
+abbrev pub key_described : List ℕ → List ℕ → Option Key
+key_described scheme public = if bytes_eq scheme (codes "ed25519")
+    then option_and_then ed25519_key (result_ok (decode_sized public 32))
+    else (if bytes_eq scheme (codes "ecdsa-sha2-nistp256")
+    then option_and_then p256_key (info_in public)
+    else (if bytes_eq scheme (codes "rsassa-pss-sha256")
+    then option_and_then rsa_key (info_in public) else None))
+
+-- the key that an object describes
 abbrev pub key_in : KeyObject → Option Key
-key_in object = if bytes_eq object.scheme (codes "ed25519")
-    then option_and_then ed25519_key (result_ok (decode_sized object.public 32))
-    else (if bytes_eq object.scheme (codes "ecdsa-sha2-nistp256")
-    then option_and_then p256_key (info_in object.public)
-    else (if bytes_eq object.scheme (codes "rsassa-pss-sha256")
-    then option_and_then rsa_key (info_in object.public) else None))
+key_in object = key_described object.scheme object.public

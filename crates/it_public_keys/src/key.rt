@@ -1,7 +1,10 @@
 //! Public keys of three kinds.
-ghost use Rattle.std.specs.Prelude.{◌≡◌, ℕ, List};
+ghost use Rattle.std.specs.Prelude.{◌≡◌, ℕ, IfOk, List};
 ghost use Rattle.it_dsse.specs.Joined.{joined};
 ghost use Rattle.it_public_keys.specs.Validity.{is_signature_of, is_signature_with};
+
+use crate::joining::joined;
+use std::alloc::{AllocError, Global};
 
 /// A public key, decoded once.
 #[derive(Drop)]
@@ -26,6 +29,19 @@ impl Key {
             Key::Ed25519(_) => [0; 32],
             Key::P256(_) => it_p256::message_digest(message),
             Key::Rsa(_) => it_rsa::message_digest(message),
+        }
+    }
+
+    /// What a check looks at of the message that the parts make, beside its digest: the message
+    /// itself if the key's kind signs that, otherwise nothing.
+    pub(crate) fn looked_at(&self, alloc: Global, message: &[&[u8]]) -> Result<Vec<u8>, AllocError>
+        ensures { IfOk result (λ part. (digest signature : List ℕ)
+            → is_signature_with self.now digest part.items signature
+            ≡ is_signature_with self.now digest (joined message.now) signature) }
+    {
+        match self {
+            Key::Ed25519(_) => joined(alloc, message),
+            Key::P256(_) | Key::Rsa(_) => Ok(Vec::new(alloc)),
         }
     }
 

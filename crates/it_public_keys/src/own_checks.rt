@@ -1,7 +1,9 @@
 //! The checks of a command: rings of secrets, and public keys.
+ghost use Rattle.std.specs.Prelude.{◌≡◌};
 ghost use Rattle.it_dsse.specs.Panel.{panel_of};
 
-use crate::named_key::{NamedKey, key_of};
+use crate::found_key::FoundKey;
+use crate::memory::Memory;
 use crate::rings::{any_valid, key_in};
 use it_dsse::checks::Checks;
 use it_dsse::envelope::Signature;
@@ -9,15 +11,33 @@ use it_dsse::key_name::KeyName;
 use it_dsse::key_object::KeyObject;
 use it_dsse::meter::Meter;
 use it_dsse::ring::HmacRing;
+use std::alloc::Global;
 
 /// The checks of a command: its rings, in order, and after them that of public keys, where it is
-/// asked for.
+/// asked for. A public key is decoded once, and each signature is checked once for a key, as far as
+/// there is room to remember them.
 #[derive(Drop)]
 pub struct OwnChecks {
     /// The rings.
     pub rings: Vec<HmacRing>,
     /// Whether public keys are known.
     pub public_keys: bool,
+    /// What is remembered of public keys.
+    memory: Memory,
+}
+
+impl OwnChecks {
+    /// The checks by these rings and, where they are asked for, by public keys.
+    pub fn new(alloc: Global, rings: Vec<HmacRing>, public_keys: bool) -> OwnChecks
+        ensures rings { result.rings ≡ rings }
+        ensures public_keys { result.public_keys ≡ public_keys }
+    {
+        OwnChecks {
+            rings,
+            public_keys,
+            memory: Memory::new(alloc),
+        }
+    }
 }
 
 /// A key that was found.
@@ -26,7 +46,7 @@ pub enum OwnKey {
     /// That of a ring, by the ring's place and the key's number there.
     Ring(usize, u32),
     /// A public key.
-    Public(NamedKey),
+    Public(FoundKey),
 }
 
 impl Checks for OwnChecks {
@@ -48,7 +68,7 @@ impl Checks for OwnChecks {
         if !self.public_keys {
             return None;
         }
-        match key_of(object) {
+        match self.memory.find(object) {
             Some(key) => Some(OwnKey::Public(key)),
             None => None,
         }
@@ -66,14 +86,14 @@ impl Checks for OwnChecks {
             OwnKey::Ring(place, number) => {
                 any_valid(&self.rings[*place], *number, message, signatures, id, meter)
             }
-            OwnKey::Public(key) => key.any_valid(message, signatures, id, meter),
+            OwnKey::Public(key) => { self.memory.any_valid(key, message, signatures, id, meter) }
         }
     }
 
     fn name(&self, key: &OwnKey) -> KeyName {
         match key {
             OwnKey::Ring(place, number) => KeyName::numbered(*place, *number),
-            OwnKey::Public(key) => key.name(self.rings.len()),
+            OwnKey::Public(key) => key.as_key().name(self.rings.len()),
         }
     }
 }

@@ -1,6 +1,6 @@
--- How a report writes a name, an id or a path (this profile's choice).
+-- How a report, and how a note, writes a name, an id or a path (this profile's choice).
 use Rattle.std.specs.Prelude.{ℕ, ◌+◌, ◌-◌, ◌/◌, ◌%◌, List, [], ◌∷◌, ◌++◌, Bool, ◌&&◌, not, ◌==◌}
-use Rattle.std.specs.Prelude.{nat_le, nat_lt, if◌then◌else◌, codes}
+use Rattle.std.specs.Prelude.{nat_le, nat_lt, if◌then◌else◌, codes, length, take}
 use Rattle.std.specs.List.{flat_map}
 
 -- a byte that is written as it is: a visible ASCII character other than a backslash
@@ -30,3 +30,8 @@ inner_byte_form byte = if byte == 0x2f then codes "\\x2f" else byte_form byte
 unfoldable pub inner_form : List ℕ → List ℕ
 inner_form [] = codes "\\e"
 inner_form (byte ∷ bytes) = flat_map inner_byte_form (byte ∷ bytes)
+
+-- a name in a note: whole where it has at most 200 bytes, otherwise its first 200 and two dots
+unfoldable pub cut_form : List ℕ → List ℕ
+cut_form name =
+    if nat_le (length name) 200 then name_form name else name_form (take 200 name) ++ codes ".."

@@ -1,8 +1,9 @@
-//! How a report writes a name.
-ghost use Rattle.std.specs.Prelude.{◌≡◌, ◌++◌, ◌∷◌, ◌<◌, [], OnOk};
+//! How a report writes a name, and how a note does.
+ghost use Rattle.std.specs.Prelude.{◌≡◌, ◌++◌, ◌∷◌, ◌<◌, ◌≤◌, [], OnOk, length, take};
 ghost use Rattle.std.specs.List.{flat_map};
 ghost use Rattle.it_report.specs.Name.{
   byte_form,
+  cut_form,
   digit_form,
   inner_byte_form,
   inner_form,
@@ -27,6 +28,35 @@ pub fn push_name(text: &mut Vec<u8>, name: &[u8]) -> Result<(), AllocError>
         return Ok(());
     }
     push_bytes(text, name)
+}
+
+/// The most bytes of a name that a note writes.
+const MOST_BYTES: usize = 200;
+
+/// Appends a name, an id or a path in the form of a note: as `push_name` does where it has at most
+/// 200 bytes, otherwise its first 200 so, and `..`.
+///
+/// # Errors
+///
+/// `AllocError` where memory was refused; a part of the form may have been appended then.
+#[tactic(auto, unfolding(crate::specs::Name::cut_form))]
+pub fn push_cut_name(text: &mut Vec<u8>, name: &[u8]) -> Result<(), AllocError>
+    ensures { OnOk result (text.new.items ≡ text.old.items ++ cut_form name.now) }
+{
+    if name.len() <= MOST_BYTES {
+        return push_name(text, name);
+    }
+    push_name(text, front_of(name))?;
+    text.extend_from_slice(b"..")?;
+    Ok(())
+}
+
+/// What a note writes of a long name.
+fn front_of(name: &[u8]) -> &[u8]
+    requires { 200 ≤ length name.now }
+    ensures { result.now ≡ take 200 name.now }
+{
+    &name[..MOST_BYTES]
 }
 
 fn push_bytes(text: &mut Vec<u8>, bytes: &[u8]) -> Result<(), AllocError>

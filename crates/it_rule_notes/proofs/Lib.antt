@@ -1,11 +1,9 @@
 pub mod Appended
-pub mod BareLayouts
 pub mod CountingFiles
-pub mod KeptPaths
+pub mod Forbidden
+pub mod FreeBefore
 pub mod Meeting
-pub mod NamedEntries
 pub mod Owners
 pub mod RuleWords
 pub mod RulesAt
-pub mod StepRecords
 pub mod Told

@@ -1,4 +1,3 @@
-pub mod BareLayout
 pub mod CountingFile
 pub mod Difference
 pub mod Disagree

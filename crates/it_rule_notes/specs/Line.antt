@@ -1,10 +1,10 @@
 -- Lines for people (this project's words).
 use Rattle.std.specs.Prelude.{ℕ, List, [], ◌++◌, codes}
-use Rattle.it_report.specs.Name.{name_form}
+use Rattle.it_report.specs.Name.{cut_form}
 
 -- a name between two texts, in the form of a report
 unfoldable pub told_form : List ℕ → List ℕ → List ℕ → List ℕ
-told_form before name after = before ++ name_form name ++ after
+told_form before name after = before ++ cut_form name ++ after
 
 -- a key id of a step of the layout
 unfoldable pub key_form : List ℕ → List ℕ → List ℕ

@@ -1,14 +1,17 @@
 -- What a judged artifact rule meets (in-toto 1.0 section 4.3.3).
 use Rattle.std.specs.Prelude.{◌≡◌, ℕ, ◌<◌, List, ◌++◌, Bool, true, false, Some, All}
-use Rattle.std.specs.Prelude.{Contains, codes, decimal}
-use Rattle.std.specs.Bool.{OnTrue}
+use Rattle.std.specs.Prelude.{Contains, codes, decimal, length}
+use Rattle.std.specs.Bool.{OnFalse, OnTrue}
+use Rattle.std.specs.Cmp.Lexicographic.{slice_cmp}
 use Rattle.std.specs.List.{flat_map, slice_get}
+use Rattle.std.specs.Ordering.{nat_cmp}
+use Rattle.std.specs.declared.cmp.Ordering.TheVariants.{Less}
 use Rattle.it_docs.specs.Rule.{RuleOf}
 use Rattle.it_docs.specs.declared.rule.Rule.{Rule}
 use Rattle.it_docs.specs.declared.rule.Rule.TheVariants.{Disallow, Require}
 use Rattle.it_docs.specs.declared.rule.Side.{Side}
 use Rattle.it_rules.specs.Item.{Links, Recorded, artifacts_on}
-use Rattle.it_rules.specs.Rules.{Claims, IsFree, IsMatch, Stands}
+use Rattle.it_rules.specs.Rules.{AreFree, AreSorted, Claims, IsFree, IsMatch, Stands}
 use Rattle.it_rule_notes.specs.Line.{told_form}
 use Rattle.it_rule_notes.specs.Rule.{word_form}
 use Rattle.it_rule_notes.specs.declared.met.ConsumedPath.{ConsumedPath}
@@ -28,6 +31,10 @@ module _ (judging : Judging) where
   abbrev pub IsLeftAt : ℕ → List ℕ → Type 0
   IsLeftAt = IsFree judging.rules judging.side judging.item judging.links
 
+  -- these are the paths of the side that no rule before the index claims, in order
+  abbrev pub AreLeftAt : ℕ → List (List ℕ) → Type 0
+  AreLeftAt = AreFree judging.rules judging.side judging.item judging.links
+
   abbrev pub ClaimsPath : Rule → List ℕ → Type 0
   ClaimsPath rule path = Claims rule judging.side judging.item judging.links path
 
@@ -42,14 +49,21 @@ module _ (judging : Judging) where
     pub forbidden : IsForbidden index pattern path
     pub is_other : ¬ Contains paths path
 
-  -- a DISALLOW at the index forbids each of the paths, and others too if `others` is true
+  -- a DISALLOW at the index forbids these paths, in the order of their bytes; all others that it
+  -- forbids come after them, and there are others only after ten
   pub record AreForbiddenBy (index : ℕ) (pattern : List ℕ) (forbidden : ForbiddenPaths)
       : Type 0 where
+    pub in_order : AreSorted forbidden.paths
     pub each : All (IsForbidden index pattern) forbidden.paths
-    pub others : OnTrue forbidden.others (IsOther index pattern forbidden.paths)
+    pub come_first : (other : IsOther index pattern forbidden.paths)
+        → All (λ path. slice_cmp nat_cmp path other.path ≡ Less) forbidden.paths
+    pub others : OnTrue forbidden.others
+        ((length forbidden.paths ≡ 10) × IsOther index pattern forbidden.paths)
+    pub no_others : OnFalse forbidden.others (¬ IsOther index pattern forbidden.paths)
 
-  -- the rule at the index is a DISALLOW, which forbids the paths
+  -- the rule at the index is a DISALLOW, which forbids the paths, of which there are some
   pub record AreForbidden (index : ℕ) (forbidden : ForbiddenPaths) : Type 0 where
+    pub some : 0 < length forbidden.paths
     pub pattern : List ℕ
     pub is_rule : slice_get judging.rules index ≡ Some (Disallow pattern)
     pub are_forbidden : AreForbiddenBy index pattern forbidden

@@ -5,10 +5,10 @@ use Rattle.it_docs.specs.declared.rule.Side.{Side}
 use Rattle.it_docs.specs.declared.step.Step.{Step}
 use Rattle.it_chain.specs.Contents.{Contents}
 use Rattle.it_chain.specs.CountedBodies.{Setting}
+use Rattle.it_chain.specs.Judged.{AreStepRecords}
 use Rattle.it_chain.specs.StepRules.{links_in, recorded_in, rules_on}
 use Rattle.it_chain.specs.declared.chain.StepResult.{StepResult}
 use Rattle.it_chain.specs.declared.refusal.RuleItem.TheVariants.{Step as of_step}
-use Rattle.it_rule_notes.specs.BareLayout.{AreRecords}
 use Rattle.it_rule_notes.specs.Met.{Judging, Meets, met_form}
 use Rattle.it_rule_notes.specs.RulePlace.{place_form}
 use Rattle.it_rule_notes.specs.declared.met.Met.{Met}
@@ -39,7 +39,7 @@ pub record TellsMet (setting : Setting) (depth : ℕ) (layout : Layout) (bundle 
   pub results : List StepResult
   pub is_step : Contains layout.steps step
   pub item_is : note.place.item ≡ of_step step.name
-  pub are_records : AreRecords setting depth layout bundle results
+  pub are_records : AreStepRecords setting depth layout bundle results
   pub meets : MeetsOver results step note.place.side note.place.index note.met
 
 -- the line of a note (this project's words)

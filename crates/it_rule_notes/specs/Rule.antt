@@ -4,7 +4,7 @@ use Rattle.std.specs.List.{flat_map, slice_get}
 use Rattle.it_docs.specs.Rule.{RuleOf}
 use Rattle.it_docs.specs.declared.layout.Layout.{Layout}
 use Rattle.it_docs.specs.declared.rule.Rule.{Rule}
-use Rattle.it_report.specs.Name.{name_form}
+use Rattle.it_report.specs.Name.{cut_form}
 use Rattle.it_rule_notes.specs.RulePlace.{AreRulesAt, place_form}
 use Rattle.it_rule_notes.specs.RuleWords.{words_of_rule}
 use Rattle.it_rule_notes.specs.declared.rule_note.RuleNote.{RuleNote}
@@ -25,7 +25,7 @@ abbrev pub TellsRule : Layout → List Rule → RuleNote → Type 0
 TellsRule layout deliver note = AreWordsAt layout deliver note.place note.words
 
 abbrev pub word_form : List ℕ → List ℕ
-word_form word = codes " " ++ name_form word
+word_form word = codes " " ++ cut_form word
 
 -- the line of a note (this project's words)
 abbrev pub rule_line : RuleNote → List ℕ

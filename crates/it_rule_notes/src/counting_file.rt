@@ -8,12 +8,11 @@ use crate::level::Level;
 use it_base::optional::push_some;
 use it_base::sequence::Sequence;
 use it_base::text::Text;
-use it_chain::bundle::File;
+use it_chain::held_file::HeldFile;
 use it_chain::{body_in, candidate_in, is_claimed, layout_in};
 use it_docs::layout::Layout;
 use it_docs::step::Step;
 use it_dsse::checks::Checks;
-use it_dsse::envelope::Envelope;
 use it_dsse::is_signer;
 use it_dsse::key_object::KeyObject;
 use it_dsse::meter::Meter;
@@ -86,7 +85,7 @@ fn lists(ids: &[Text], id: &str) -> bool
 /// What counts for a step in a file, if the signer's key signed it.
 fn counting_file<C: Checks>(
     alloc: Global,
-    file: &File,
+    file: &HeldFile,
     step: &str,
     signer: &Signer,
     checks: &C,
@@ -94,25 +93,22 @@ fn counting_file<C: Checks>(
     ensures { IfOk result (λ found. IfSome found
         (IsSigned (C.panel checks.now) step.now signer.now file.now)) }
 {
-    if !is_claimed(step, file.name.as_str()) {
+    if !is_claimed(step, file.name()) {
         return Ok(None);
     }
-    let Some(envelope) = candidate_in(alloc, file.bytes.as_slice())? else {
+    let Some(envelope) = candidate_in(file) else {
         return Ok(None);
     };
     let mut meter = Meter { asked: 0 };
-    if !is_signer(&envelope, signer.id, signer.object, checks, &mut meter) {
+    if !is_signer(envelope, signer.id, signer.object, checks, &mut meter) {
         return Ok(None);
     }
-    if !has_body(alloc, step, envelope.payload.as_slice())? {
+    let payload = envelope.payload.as_slice();
+    if !has_body(alloc, step, payload)? {
         return Ok(None);
     }
-    let name = Text::copy(alloc, file.name.as_str())?;
-    let Envelope {
-        payload,
-        payload_type: _,
-        signatures: _,
-    } = envelope;
+    let payload = Sequence::from(Vec::from_slice(alloc, payload)?);
+    let name = Text::copy(alloc, file.name())?;
     Ok(Some(CountingFile { name, payload }))
 }
 

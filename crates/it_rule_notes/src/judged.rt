@@ -1,14 +1,13 @@
 //! Artifact rules judged on a side of an item.
-ghost use Rattle.std.specs.Bool.{OnTrue};
-ghost use Rattle.std.specs.Prelude.{◌↔◌, IfOk, IsTrue, MatchOption};
+ghost use Rattle.std.specs.Prelude.{◌↔◌, ◌≤◌, IfOk, IsTrue, MatchOption, length, map};
 ghost use Rattle.it_rules.specs.Item.{artifacts_on, links_of, recorded_of};
 ghost use Rattle.it_rules.specs.Rules.{NamesDiffer, Stands};
-ghost use Rattle.it_rule_notes.specs.Met.{IsForbidden};
+ghost use Rattle.it_rule_notes.specs.Met.{AreLeftAt};
 ghost use Rattle.it_rule_notes.specs.inside.JudgedRules.{IsFirstClaim, IsUnclaimed, judging_in};
 
 use it_docs::rule::{Rule, Side};
-use it_glob::Pattern;
 use it_rules::claims::claims;
+use it_rules::free::free_paths;
 use it_rules::item::{Item, Named};
 use std::alloc::{AllocError, Global};
 
@@ -65,23 +64,18 @@ pub(crate) fn stands(judged: &JudgedRules, path: &str) -> bool
     judged.item.artifacts_on(judged.side).get(path).is_some()
 }
 
-/// Whether a `DISALLOW` of this pattern at the index forbids a path.
-pub(crate) fn is_forbidden(
+/// The paths of the side that no rule before the index claims, in the order of their bytes.
+pub(crate) fn free_before<'a>(
     alloc: Global,
-    judged: &JudgedRules,
+    judged: &JudgedRules<'a>,
     index: usize,
-    pattern: &Pattern,
-    path: &str,
-) -> Result<bool, AllocError>
-    requires { NamesDiffer (links_of judged.now.links.now) }
-    ensures { IfOk result (λ forbidden. OnTrue forbidden
-        (IsForbidden (judging_in judged.now) index pattern.now path.now)) }
+) -> Result<Vec<&'a str>, AllocError>
+    requires names { NamesDiffer (links_of judged.now.links.now) }
+    requires index { index ≤ length judged.now.rules.now }
+    ensures { IfOk result (λ paths.
+        AreLeftAt (judging_in judged.now) index (map (λ path. path.now) paths.items)) }
 {
-    if !(pattern.matches(path) && stands(judged, path)) {
-        return Ok(false);
-    }
-    match first_claim(alloc, judged, index, path)? {
-        None => Ok(true),
-        Some(_) => Ok(false),
-    }
+    let rules = &judged.rules[..index];
+    let paths = free_paths(alloc, judged.side, rules, &judged.item, judged.links)?;
+    Ok(paths)
 }

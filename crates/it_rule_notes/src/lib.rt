@@ -2,7 +2,6 @@
 //! than its report does. A note is made only if its sentence is true.
 #![tactic(auto)]
 
-mod bare_layout;
 pub mod counting_file;
 pub mod difference;
 pub mod disagree_note;

@@ -3,7 +3,7 @@ ghost use Rattle.std.specs.Prelude.{◌≡◌, ◌++◌, OnOk};
 ghost use Rattle.it_rule_notes.specs.Line.{key_form, told_form};
 
 use it_base::text::Text;
-use it_report::name::push_name;
+use it_report::name::push_cut_name;
 use std::alloc::AllocError;
 
 /// Appends a text.
@@ -25,7 +25,7 @@ pub(crate) fn push_told(
         (text.new.items ≡ text.old.items ++ told_form before.now name.now after.now) }
 {
     push_text(text, before)?;
-    push_name(text, name.as_str().as_bytes())?;
+    push_cut_name(text, name.as_str().as_bytes())?;
     push_text(text, after)
 }
 

@@ -1,15 +1,16 @@
 //! What a judged artifact rule meets.
 ghost use Rattle.std.specs.List.{slice_get};
-ghost use Rattle.std.specs.Prelude.{◌≡◌, ◌++◌, IfOk, IfSome, OnOk, Some};
+ghost use Rattle.std.specs.Prelude.{◌≡◌, ◌++◌, ℕ, IfOk, IfSome, OnOk, Some, map};
 ghost use Rattle.it_docs.specs.Rule.{RuleOf};
 ghost use Rattle.it_docs.specs.declared.rule.Rule.TheVariants.{Disallow, Require};
 ghost use Rattle.it_rules.specs.Item.{links_of};
-ghost use Rattle.it_rules.specs.Rules.{NamesDiffer};
-ghost use Rattle.it_rule_notes.specs.Met.{AreForbiddenBy, Meets, consumed_form};
+ghost use Rattle.it_rules.specs.Rules.{AreSorted, NamesDiffer};
+ghost use Rattle.it_rule_notes.specs.Met.{AreForbiddenBy, AreLeftAt, Judging, Meets};
+ghost use Rattle.it_rule_notes.specs.Met.{consumed_form};
 ghost use Rattle.it_rule_notes.specs.Met.{consumer_form, forbidden_form, met_form, others_form};
 ghost use Rattle.it_rule_notes.specs.inside.JudgedRules.{judging_in};
 
-use crate::judged::{Claim, JudgedRules, first_claim, is_forbidden, stands};
+use crate::judged::{Claim, JudgedRules, first_claim, free_before, stands};
 use crate::line::{push_text, push_told};
 use crate::rule_note::push_words;
 use crate::rule_words::words_of;
@@ -87,18 +88,36 @@ fn forbidden(
     Ok(Some(Met::Forbidden(found)))
 }
 
+/// The first paths that the `DISALLOW` of this pattern at the index forbids.
 fn forbidden_paths(
     alloc: Global,
     judged: &JudgedRules,
     index: usize,
     pattern: &Pattern,
 ) -> Result<ForbiddenPaths, AllocError>
-    requires { NamesDiffer (links_of judged.now.links.now) }
+    requires names { NamesDiffer (links_of judged.now.links.now) }
+    requires rule { slice_get judged.now.rules.now index ≡ Some (Disallow pattern.now) }
     ensures { IfOk result (AreForbiddenBy (judging_in judged.now) index pattern.now) }
 {
+    let free = free_before(alloc, judged, index)?;
+    let found = forbidden_among(alloc, free.as_slice(), pattern)?;
+    Ok(found)
+}
+
+/// The first paths that a `DISALLOW` of this pattern forbids, if these are free before it.
+fn forbidden_among(
+    alloc: Global,
+    free: &[&str],
+    pattern: &Pattern,
+) -> Result<ForbiddenPaths, AllocError>
+    requires { AreSorted (map (λ path. path.now) free.now) }
+    ensures { IfOk result (λ forbidden. (judging : Judging) (index : ℕ)
+        → AreLeftAt judging index (map (λ path. path.now) free.now)
+        → AreForbiddenBy judging index pattern.now forbidden) }
+{
     let mut paths = Vec::new(alloc);
-    for path in judged.item.artifacts_on(judged.side).paths() {
-        if !is_forbidden(alloc, judged, index, pattern, path.as_str())? {
+    for path in free {
+        if !pattern.matches(path) {
             continue;
         }
         if paths.len() == MOST_PATHS {
@@ -107,7 +126,7 @@ fn forbidden_paths(
                 others: true,
             });
         }
-        paths.push(Text::copy(alloc, path.as_str())?)?;
+        paths.push(Text::copy(alloc, path)?)?;
     }
     Ok(ForbiddenPaths {
         paths: Sequence::from(paths),

@@ -10,7 +10,7 @@ use it_base::sequence::Sequence;
 use it_base::text::Text;
 use it_chain::refusal::RuleItem;
 use it_docs::rule::Side;
-use it_report::name::push_name;
+use it_report::name::push_cut_name;
 use std::alloc::{AllocError, Global};
 
 /// A rule in its words.
@@ -100,5 +100,5 @@ fn push_word(text: &mut Vec<u8>, word: &Text) -> Result<(), AllocError>
     ensures { OnOk result (text.new.items ≡ text.old.items ++ word_form word.now) }
 {
     text.push(b' ')?;
-    push_name(text, word.as_str().as_bytes())
+    push_cut_name(text, word.as_str().as_bytes())
 }

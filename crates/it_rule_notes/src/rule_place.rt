@@ -3,14 +3,14 @@ ghost use Rattle.std.specs.Prelude.{◌≡◌, ◌≢◌, ◌++◌, All, Contain
 ghost use Rattle.it_base.specs.Finds.{FindsAs};
 ghost use Rattle.it_rule_notes.specs.RulePlace.{AreRulesAt, document_form, inspection_rules};
 ghost use Rattle.it_rule_notes.specs.RulePlace.{item_form, place_form};
-ghost use Rattle.it_chain.specs.StepRules.{rules_on};
 
 use crate::line::{push_text, push_told};
 use it_base::text::Text;
 use it_chain::refusal::RuleItem;
+use it_chain::rules_of_step;
 use it_docs::layout::Layout;
 use it_docs::rule::{Rule, Side};
-use it_docs::step::{Inspection, Step, step_named};
+use it_docs::step::{Inspection, step_named};
 use it_report::side_text;
 use std::alloc::{AllocError, Global};
 
@@ -53,16 +53,6 @@ pub(crate) fn rules_at<'a>(book: &RuleBook<'a>, item: &RuleItem, side: Side) -> 
             Side::Materials => None,
             Side::Products => Some(book.deliver),
         },
-    }
-}
-
-/// The rules that a step has for a side.
-pub(crate) fn rules_of_step(step: &Step, side: Side) -> &[Rule]
-    ensures { result.now ≡ rules_on side step.now }
-{
-    match side {
-        Side::Materials => step.expected_materials.as_slice(),
-        Side::Products => step.expected_products.as_slice(),
     }
 }
 

@@ -1,15 +1,14 @@
 //! The records of the steps of a layout over a bundle, whether or not its rules hold over it.
 ghost use Rattle.std.specs.Prelude.{◌≡◌, ◌≤◌, Contains, IfOk, IfSome};
+ghost use Rattle.it_chain.specs.Judged.{AreStepRecords};
 ghost use Rattle.it_chain.specs.StepRules.{links_in};
 ghost use Rattle.it_rules.specs.Rules.{NamesDiffer};
-ghost use Rattle.it_rule_notes.specs.BareLayout.{AreRecords};
 ghost use Rattle.it_rule_notes.specs.CountingFile.{setting_of};
 
-use crate::bare_layout::bare_layout;
 use crate::level::Level;
 use it_chain::chain::{Chain, StepResult};
+use it_chain::judge_chain_by;
 use it_chain::refusal::ChainError;
-use it_chain::verify_chain_by;
 use it_dsse::checks::Checks;
 use it_dsse::meter::Meter;
 use std::alloc::{AllocError, Global};
@@ -22,24 +21,23 @@ pub(crate) fn step_records<C: Checks>(
     checks: &C,
 ) -> Result<Option<Chain>, AllocError>
     requires { depth ≤ 8 }
-    ensures are { IfOk result (λ found. IfSome found (λ chain. AreRecords
+    ensures are { IfOk result (λ found. IfSome found (λ chain. AreStepRecords
         (setting_of (C.panel checks.now) level.now.moment) depth
         level.now.layout.now level.now.links.now chain.steps)) }
     ensures differ { IfOk result (λ found. IfSome found (λ chain.
         NamesDiffer (links_in chain.steps))) }
 {
-    let bare = bare_layout(alloc, level.layout)?;
     let mut meter = Meter { asked: 0 };
-    match verify_chain_by(
+    match judge_chain_by(
         alloc,
-        &bare,
+        level.layout,
         level.links,
         level.moment,
         depth,
         checks,
         &mut meter,
     ) {
-        Ok(chain) => Ok(Some(chain)),
+        Ok(judged) => Ok(Some(judged.chain)),
         Err(ChainError::Refused(_)) => Ok(None),
         Err(ChainError::OutOfMemory) => Err(AllocError),
     }

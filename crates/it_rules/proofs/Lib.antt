@@ -3,6 +3,7 @@ pub mod ClaimsDecided
 pub mod FaultDecided
 pub mod Fronts
 pub mod LentPaths
+pub mod Kept
 pub mod Listed
 pub mod LookedAt
 pub mod Marking
@@ -10,3 +11,4 @@ pub mod PathOrder
 pub mod Reached
 pub mod Running
 pub mod Searching
+pub mod Unmarked

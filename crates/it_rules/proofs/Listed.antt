@@ -31,7 +31,7 @@ pub Contains-from_place : {X : Type 0} (xs : List X) (i : ℕ) (x : X) → slice
     → Contains xs x
 Contains-from_place xs i x e = (i, slice_get_within xs i x e, get_or_from_slice_get xs i x x e)
 
-mapped_place : {X Y : Type 0} (f : X → Y) (found : Option X) (y : Y) → option_map f found ≡ Some y
+pub mapped_place : {X Y : Type 0} (f : X → Y) (found : Option X) (y : Y) → option_map f found ≡ Some y
     → (x : X) × (found ≡ Some x) × (f x ≡ y)
 mapped_place f None y e = cc e
 mapped_place f (Some x) y e = (x, refl, cc e)

@@ -47,27 +47,34 @@ pub record Running (rules : List Rule) (side : Side) (item : Recorded) (links : 
   pub hold : (j : ℕ) → j < i → Holds rules side item links j
 
 module _ (rules : List Rule) (side : Side) (item : Recorded) (links : Links) where
+  pub free_more : (Queued Left : List ℕ → Type 0) (i : ℕ) (rule : Rule)
+      → ((path : List ℕ) → Queued path ↔ IsFree rules side item links i path)
+      → slice_get rules i ≡ Some rule
+      → ((path : List ℕ) → Left path ↔ (Queued path × ¬ Claims rule side item links path))
+      → (path : List ℕ) → Left path ↔ IsFree rules side item links (i + 1) path
+  free_more Queued Left i rule free here left path = (
+    λ l. let q = (left path).0 l in let f = (free path).0 q.0 in record {
+      stands = f.stands;
+      unclaimed =
+          λ j other lt e. places_more (λ r. ¬ Claims r side item links path) rules i rule
+          f.unclaimed here q.1 j other lt e;
+    },
+    λ f. (left path).1 (
+      (free path).1 (record {
+        stands = f.stands;
+        unclaimed = λ j other lt e. f.unclaimed j other (omega arith) e;
+      }),
+      f.unclaimed i rule (omega arith) here,
+    ),
+  )
+
   pub one_more : (Queued Left : List ℕ → Type 0) (i : ℕ) (rule : Rule)
       → Running rules side item links Queued i → slice_get rules i ≡ Some rule
       → HoldsOver rule Queued
       → ((path : List ℕ) → Left path ↔ (Queued path × ¬ Claims rule side item links path))
       → Running rules side item links Left (i + 1)
   one_more Queued Left i rule h here holds left = record {
-    free = λ path. (
-      λ l. let q = (left path).0 l in let f = (h.free path).0 q.0 in record {
-        stands = f.stands;
-        unclaimed =
-            λ j other lt e. places_more (λ r. ¬ Claims r side item links path) rules i rule
-            f.unclaimed here q.1 j other lt e;
-      },
-      λ f. (left path).1 (
-        (h.free path).1 (record {
-          stands = f.stands;
-          unclaimed = λ j other lt e. f.unclaimed j other (omega arith) e;
-        }),
-        f.unclaimed i rule (omega arith) here,
-      ),
-    );
+    free = free_more Queued Left i rule h.free here left;
     hold = λ j l. elim (cases_lt j i) [
       | inl k ↦ h.hold j k
       | inr g ↦ let same : i ≡ j = omega arith in subst (Holds rules side item links) same

@@ -1,7 +1,8 @@
 -- Artifact rules (in-toto 1.0, section 4.3.3). There is no queue here: each path is judged alone
 -- over the whole list of rules, and a rule sees earlier ones only through the paths that they
 -- claim. Paths are in the order of their bytes.
-use Rattle.std.specs.Prelude.{◌≡◌, ◌≢◌, ℕ, ◌<◌, List, ◌++◌, Some, Contains, AllPairs, ⊤, IsTrue}
+use Rattle.std.specs.Prelude.{◌≡◌, ◌≢◌, ◌↔◌, ℕ, ◌<◌, List, ◌++◌, Some, Contains, AllPairs, ⊤}
+use Rattle.std.specs.Prelude.{IsTrue}
 use Rattle.std.specs.List.{slice_get}
 use Rattle.std.specs.Ordering.{nat_cmp}
 use Rattle.std.specs.Cmp.Lexicographic.{slice_cmp}
@@ -81,6 +82,16 @@ pub record IsFree (rules : List Rule) (side : Side) (item : Recorded) (links : L
   pub stands : Stands (artifacts_on side item) path
   pub unclaimed : (j : ℕ) (rule : Rule) → j < i → slice_get rules j ≡ Some rule
       → ¬ Claims rule side item links path
+
+-- paths in the order of their bytes, each once
+abbrev pub AreSorted : List (List ℕ) → Type 0
+AreSorted paths = AllPairs (λ a b. slice_cmp nat_cmp a b ≡ Less) paths
+
+-- these are the free paths before the rule with the index i, in order
+pub record AreFree (rules : List Rule) (side : Side) (item : Recorded) (links : Links) (i : ℕ)
+    (paths : List (List ℕ)) : Type 0 where
+  pub in_order : AreSorted paths
+  pub exact : (path : List ℕ) → Contains paths path ↔ IsFree rules side item links i path
 
 -- a rule holds over the paths that are free before it: DISALLOW where it matches none of them,
 -- REQUIRE where its text, taken literally (this profile's choice), is one of them

@@ -4,6 +4,7 @@
 
 pub mod claims;
 mod folder_prefix;
+pub mod free;
 pub mod item;
 mod looked;
 mod marks;

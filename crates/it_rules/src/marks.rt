@@ -1,7 +1,8 @@
 //! The paths of one side of an item, with a mark on each that a rule has consumed.
-ghost use Rattle.std.specs.Prelude.{◌≡◌, ◌↔◌, List, ℕ, length, IfOk, OnOk, IsTrue, MatchOption};
+ghost use Rattle.std.specs.Prelude.{◌≡◌, ◌↔◌, List, ℕ, length, map, IfOk, OnOk, IsTrue};
+ghost use Rattle.std.specs.Prelude.{MatchOption};
 ghost use Rattle.it_rules.specs.Item.{links_of, recorded_of};
-ghost use Rattle.it_rules.specs.inside.Marks.{ArePaths, ArePathsOf, IsLeft};
+ghost use Rattle.it_rules.specs.inside.Marks.{AreLeft, ArePaths, ArePathsOf, IsLeft};
 ghost use Rattle.it_rules.specs.Rules.{Claims, IsLeastMatch, IsMatch, NamesDiffer};
 
 use crate::claims::claims;
@@ -82,4 +83,24 @@ pub(crate) fn is_left(paths: &[&str], marks: &[bool], path: &str) -> bool
         Ok(place) => !marks[place],
         Err(_) => false,
     }
+}
+
+/// The unmarked paths, in their order.
+pub(crate) fn unmarked<'a>(
+    alloc: Global,
+    paths: &[&'a str],
+    marks: &[bool],
+) -> Result<Vec<&'a str>, AllocError>
+    requires paths { ArePaths paths.now }
+    requires marks { length marks.now ≡ length paths.now }
+    ensures { IfOk result (λ left.
+        AreLeft paths.now marks.now (map (λ path. path.now) left.items)) }
+{
+    let mut left = Vec::new(alloc);
+    for place in 0..paths.len() {
+        if !marks[place] {
+            left.push(paths[place])?;
+        }
+    }
+    Ok(left)
 }

@@ -3,7 +3,7 @@
 use Rattle.std.specs.Prelude.{◌≡◌, ℕ, List, ◌++◌, None, codes}
 use Rattle.it_chain.specs.Contents.{Contents, folder_at}
 use Rattle.it_chain.specs.Sublayouts.{folder_name}
-use Rattle.it_report.specs.Name.{name_form}
+use Rattle.it_report.specs.Name.{cut_form}
 use Rattle.it_step_notes.specs.declared.folder_note.FolderNote.{FolderNote}
 
 -- the bundle has no folder for the sublayout that this key id signed for the step of this name
@@ -14,4 +14,4 @@ pub record LacksFolder (bundle : Contents) (step id : List ℕ) (note : FolderNo
 -- the line of a note (this project's words)
 abbrev pub folder_line : FolderNote → List ℕ
 folder_line note =
-    name_form note.folder ++ codes ": no such folder, in which the sublayout's files would be\n"
+    cut_form note.folder ++ codes ": no such folder, in which the sublayout's files would be\n"

@@ -1,7 +1,7 @@
 -- The lines of notes for people (this project's choice).
 use Rattle.std.specs.Prelude.{ℕ, List, [], ◌++◌, codes}
 use Rattle.std.specs.List.{flat_map}
-use Rattle.it_report.specs.Name.{name_form}
+use Rattle.it_report.specs.Name.{cut_form}
 use Rattle.it_step_notes.specs.declared.note.Finding.{Finding}
 use Rattle.it_step_notes.specs.declared.note.Finding.TheVariants.{NoEnvelope, PayloadType}
 use Rattle.it_step_notes.specs.declared.note.Finding.TheVariants.{NoSignature, Counts}
@@ -12,7 +12,7 @@ use Rattle.it_step_notes.specs.declared.note.StepNote.TheVariants.{NoKeyObject, 
 
 -- a name after a prefix
 abbrev pub behind : List ℕ → List ℕ → List ℕ
-behind prefix name = prefix ++ name_form name
+behind prefix name = prefix ++ cut_form name
 
 -- what is said of a file with this finding
 abbrev pub phrase_of : Finding → List ℕ
@@ -33,14 +33,14 @@ details_of (OtherName name) = behind (codes " ") name
 details_of (Counts ids) = flat_map (behind (codes " ")) ids
 
 abbrev pub finding_form : List ℕ → Finding → List ℕ
-finding_form name finding = name_form name ++ phrase_of finding ++ details_of finding
+finding_form name finding = cut_form name ++ phrase_of finding ++ details_of finding
 
 abbrev pub note_form : StepNote → List ℕ
 note_form (of_file name finding) = finding_form name finding
-note_form (NoKeyObject id) = name_form id ++ codes ": the layout has no key of this id"
+note_form (NoKeyObject id) = cut_form id ++ codes ": the layout has no key of this id"
 note_form (NoFile id name) =
-    name_form name ++ codes ": no such file, for the key id" ++ behind (codes " ") id
-note_form (NearlyClaims name) = name_form name ++ codes ": nearly named as a file for the step"
+    cut_form name ++ codes ": no such file, for the key id" ++ behind (codes " ") id
+note_form (NearlyClaims name) = cut_form name ++ codes ": nearly named as a file for the step"
 
 -- the line of a note
 abbrev pub note_line : StepNote → List ℕ

@@ -16,8 +16,8 @@ module _ (panel : Panel) (layout : Layout) where
   -- layout
   pub record HoldsLayout (id bytes : List ℕ) (below : SignedLayout) : Type 0 where
     pub is_layout : IsSignedLayout bytes below
-    pub type_is : below.envelope.payload_type ≡ in_toto_type
-    pub signed : IsSignedUnder panel layout below.envelope id
+    pub type_is : is_layout.envelope.payload_type ≡ in_toto_type
+    pub signed : IsSignedUnder panel layout is_layout.envelope id
 
   -- a file that is claimed for the step holds such a layout
   pub record IsSublayoutIn (step : Step) (id : List ℕ) (file : File) (below : SignedLayout)

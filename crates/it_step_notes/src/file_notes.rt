@@ -8,7 +8,7 @@ use crate::note::StepNote;
 use crate::step_at::StepAt;
 use it_base::optional::push_some;
 use it_base::text::Text;
-use it_chain::bundle::File;
+use it_chain::held_file::HeldFile;
 use it_chain::is_claimed;
 use it_dsse::checks::Checks;
 use std::alloc::{AllocError, Global};
@@ -34,16 +34,16 @@ pub(crate) fn push_file_notes<C: Checks>(
 fn file_note<C: Checks>(
     alloc: Global,
     at: &StepAt,
-    file: &File,
+    file: &HeldFile,
     checks: &C,
 ) -> Result<Option<StepNote>, AllocError>
     requires { Contains (files_of at.now.bundle.now) file.now }
     ensures { IfOk result (λ found. IfSome found (Holds (C.panel checks.now)
         at.now.layout.now at.now.bundle.now at.now.step.now)) }
 {
-    let name = file.name.as_str();
+    let name = file.name();
     if is_claimed(at.step.name.as_str(), name) {
-        let finding = finding_in(alloc, at, file.bytes.as_slice(), checks)?;
+        let finding = finding_in(alloc, at, file, checks)?;
         return Ok(Some(StepNote::File {
             name: Text::copy(alloc, name)?,
             finding,

@@ -10,24 +10,25 @@ use crate::signing_ids::{other_ids, signing_ids};
 use crate::step_at::StepAt;
 use it_base::sequence::Sequence;
 use it_base::text::Text;
-use it_chain::{envelope_in, layout_in, link_in};
+use it_chain::held_file::HeldFile;
+use it_chain::{layout_in, link_in};
 use it_dsse::checks::Checks;
 use it_dsse::envelope::Envelope;
 use it_dsse::payload_type::IN_TOTO;
 use std::alloc::{AllocError, Global};
 
-/// What is found in a file's bytes for a step.
+/// What is found in a file for a step.
 pub(crate) fn finding_in<C: Checks>(
     alloc: Global,
     at: &StepAt,
-    bytes: &[u8],
+    file: &HeldFile,
     checks: &C,
 ) -> Result<Finding, AllocError>
     ensures { IfOk result (IsFinding (C.panel checks.now) at.now.layout.now
-        at.now.step.now bytes.now) }
+        at.now.step.now file.now.bytes) }
 {
-    match envelope_in(alloc, bytes)? {
-        Some(envelope) => finding_of(alloc, at, &envelope, checks),
+    match file.envelope() {
+        Some(envelope) => finding_of(alloc, at, envelope, checks),
         None => Ok(Finding::NoEnvelope),
     }
 }

@@ -6,7 +6,7 @@ ghost use Rattle.it_step_notes.specs.Folder.{LacksFolder, folder_line};
 use it_base::text::Text;
 use it_chain::bundle::Bundle;
 use it_chain::folder_name;
-use it_report::name::push_name;
+use it_report::name::push_cut_name;
 use std::alloc::{AllocError, Global};
 
 /// A missing folder for the files of a sublayout.
@@ -49,7 +49,7 @@ impl FolderNote {
     pub fn push_line(&self, text: &mut Vec<u8>) -> Result<(), AllocError>
         ensures { OnOk result (text.new.items ≡ text.old.items ++ folder_line self.now) }
     {
-        push_name(text, self.folder.as_str().as_bytes())?;
+        push_cut_name(text, self.folder.as_str().as_bytes())?;
         text.extend_from_slice(b": no such folder, in which the sublayout's files would be\n")?;
         Ok(())
     }

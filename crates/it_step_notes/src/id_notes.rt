@@ -7,8 +7,8 @@ use crate::note::StepNote;
 use crate::step_at::StepAt;
 use it_base::optional::push_some;
 use it_base::text::Text;
-use it_chain::bundle::File;
 use it_chain::folder_name;
+use it_chain::held_file::HeldFile;
 use std::alloc::{AllocError, Global};
 
 /// Adds the notes on each key id that the step lists.
@@ -57,8 +57,8 @@ fn no_file(alloc: Global, at: &StepAt, id: &str) -> Result<Option<StepNote>, All
     }))
 }
 
-fn is_there(files: &[File], name: &str) -> bool
+fn is_there(files: &[HeldFile], name: &str) -> bool
     ensures { IsTrue result ↔ Any (λ file. file.name ≡ name.now) files.now }
 {
-    files.iter().any(|file| file.name.as_str() == name)
+    files.iter().any(|file| file.name() == name)
 }

@@ -1,17 +1,17 @@
 //! The text of a note.
 ghost use Rattle.std.specs.Prelude.{◌≡◌, ◌++◌, OnOk};
 ghost use Rattle.std.specs.List.{flat_map};
-ghost use Rattle.it_report.specs.Name.{name_form};
+ghost use Rattle.it_report.specs.Name.{cut_form};
 ghost use Rattle.it_step_notes.specs.Line.{behind, details_of, finding_form, note_form, note_line};
 ghost use Rattle.it_step_notes.specs.Line.{phrase_of};
 
 use crate::note::{Finding, StepNote};
 use it_base::text::Text;
-use it_report::name::push_name;
+use it_report::name::push_cut_name;
 use std::alloc::AllocError;
 
 impl StepNote {
-    /// Appends the line of the note, with names as a report writes them.
+    /// Appends the line of the note, with names as `push_cut_name` writes them.
     ///
     /// # Errors
     ///
@@ -89,12 +89,12 @@ fn push_behind(text: &mut Vec<u8>, prefix: &str, name: &Text) -> Result<(), Allo
     ensures { OnOk result (text.new.items ≡ text.old.items ++ behind prefix.now name.now) }
 {
     text.extend_from_slice(prefix.as_bytes())?;
-    push_name(text, name.as_str().as_bytes())
+    push_cut_name(text, name.as_str().as_bytes())
 }
 
 fn push_said(text: &mut Vec<u8>, name: &Text, phrase: &str) -> Result<(), AllocError>
-    ensures { OnOk result (text.new.items ≡ text.old.items ++ name_form name.now ++ phrase.now) }
+    ensures { OnOk result (text.new.items ≡ text.old.items ++ cut_form name.now ++ phrase.now) }
 {
-    push_name(text, name.as_str().as_bytes())?;
+    push_cut_name(text, name.as_str().as_bytes())?;
     text.extend_from_slice(phrase.as_bytes())
 }

@@ -8,7 +8,7 @@ use crate::note::StepNote;
 use crate::step_at::StepAt;
 use it_base::optional::push_some;
 use it_base::text::Text;
-use it_chain::bundle::File;
+use it_chain::held_file::HeldFile;
 use it_chain::is_claimed;
 use std::alloc::{AllocError, Global};
 
@@ -28,12 +28,12 @@ pub(crate) fn push_near_names(
     Ok(())
 }
 
-fn near_name(alloc: Global, at: &StepAt, file: &File) -> Result<Option<StepNote>, AllocError>
+fn near_name(alloc: Global, at: &StepAt, file: &HeldFile) -> Result<Option<StepNote>, AllocError>
     requires { Contains (files_of at.now.bundle.now) file.now }
     ensures { IfOk result (λ found. IfSome found (λ note. (panel : Panel)
         → Holds panel at.now.layout.now at.now.bundle.now at.now.step.now note)) }
 {
-    let name = file.name.as_str();
+    let name = file.name();
     let step = at.step.name.as_str();
     if is_claimed(step, name) {
         return Ok(None);

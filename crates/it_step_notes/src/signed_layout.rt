@@ -1,20 +1,20 @@
-//! A layout in its envelope.
+//! A layout with the payload that it is read from.
 ghost use Rattle.std.specs.Prelude.{◌≡◌, IfOk};
 ghost use Rattle.it_base.specs.Finds.{Finds};
 ghost use Rattle.it_docs.specs.Layout.{LayoutOf};
 ghost use Rattle.it_step_notes.specs.SignedLayout.{IsSignedLayout};
 
+use it_base::sequence::Sequence;
 use it_chain::{envelope_in, layout_in};
 use it_docs::layout::Layout;
-use it_dsse::envelope::Envelope;
 use std::alloc::{AllocError, Global};
 
-/// A layout in its envelope.
+/// A layout with the payload that it is read from.
 #[derive(Drop)]
 pub struct SignedLayout {
-    /// The envelope (DSSE v1.0).
-    pub envelope: Envelope,
-    /// The layout that is its payload (in-toto 1.0, section 4.3).
+    /// The payload of its envelope (DSSE v1.0).
+    pub payload: Sequence<u8>,
+    /// The layout that the payload is (in-toto 1.0, section 4.3).
     pub layout: Layout,
 }
 
@@ -31,20 +31,21 @@ impl SignedLayout {
         let Some(envelope) = envelope_in(alloc, bytes)? else {
             return Ok(None);
         };
-        SignedLayout::in_envelope(alloc, envelope)
+        SignedLayout::in_payload(alloc, envelope.payload.as_slice())
     }
 
-    /// The layout in the payload of an envelope, with that envelope.
-    pub(crate) fn in_envelope(
+    /// The layout that a payload is, with a copy of that payload.
+    pub(crate) fn in_payload(
         alloc: Global,
-        envelope: Envelope,
+        payload: &[u8],
     ) -> Result<Option<SignedLayout>, AllocError>
-        ensures { IfOk result (Finds (λ signed. (signed.envelope ≡ envelope)
-            × LayoutOf envelope.payload signed.layout)) }
+        ensures { IfOk result (Finds (λ signed. (signed.payload ≡ payload.now)
+            × LayoutOf payload.now signed.layout)) }
     {
-        let Some(layout) = layout_in(alloc, envelope.payload.as_slice())? else {
+        let Some(layout) = layout_in(alloc, payload)? else {
             return Ok(None);
         };
-        Ok(Some(SignedLayout { envelope, layout }))
+        let payload = Sequence::from(Vec::from_slice(alloc, payload)?);
+        Ok(Some(SignedLayout { payload, layout }))
     }
 }

@@ -11,8 +11,9 @@ use crate::signed_layout::SignedLayout;
 use crate::signing_ids::is_signed_under;
 use crate::step_at::StepAt;
 use it_base::text::Text;
-use it_chain::bundle::{Bundle, File};
-use it_chain::{envelope_in, folder_name, is_claimed};
+use it_chain::bundle::Bundle;
+use it_chain::held_file::HeldFile;
+use it_chain::{folder_name, is_claimed};
 use it_docs::layout::Layout;
 use it_docs::step::step_named;
 use it_dsse::checks::Checks;
@@ -101,16 +102,16 @@ fn sublayout_in<C: Checks>(
     alloc: Global,
     at: &StepAt,
     id: &str,
-    file: &File,
+    file: &HeldFile,
     checks: &C,
 ) -> Result<Option<SignedLayout>, AllocError>
     ensures { IfOk result (Finds (IsSublayoutIn (C.panel checks.now)
         at.now.layout.now at.now.step.now id.now file.now)) }
 {
-    if !is_claimed(at.step.name.as_str(), file.name.as_str()) {
+    if !is_claimed(at.step.name.as_str(), file.name()) {
         return Ok(None);
     }
-    signed_layout(alloc, at.layout, id, file.bytes.as_slice(), checks)
+    signed_layout(alloc, at.layout, id, file, checks)
 }
 
 /// The layout in the payload of an envelope that is signed under a key id.
@@ -118,20 +119,20 @@ fn signed_layout<C: Checks>(
     alloc: Global,
     layout: &Layout,
     id: &str,
-    bytes: &[u8],
+    file: &HeldFile,
     checks: &C,
 ) -> Result<Option<SignedLayout>, AllocError>
     ensures { IfOk result (Finds (HoldsLayout (C.panel checks.now)
-        layout.now id.now bytes.now)) }
+        layout.now id.now file.now.bytes)) }
 {
-    let Some(envelope) = envelope_in(alloc, bytes)? else {
+    let Some(envelope) = file.envelope() else {
         return Ok(None);
     };
     if envelope.payload_type.as_str() != IN_TOTO {
         return Ok(None);
     }
-    if !is_signed_under(layout, &envelope, id, checks) {
+    if !is_signed_under(layout, envelope, id, checks) {
         return Ok(None);
     }
-    SignedLayout::in_envelope(alloc, envelope)
+    SignedLayout::in_payload(alloc, envelope.payload.as_slice())
 }

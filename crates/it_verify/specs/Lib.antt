@@ -2,6 +2,7 @@ pub mod CostLaws
 pub mod Delivered
 pub mod Documents
 pub mod Evidence
+pub mod Grounds
 pub mod Headline
 pub mod HeadlineParts
 pub mod InputsAlike

@@ -10,7 +10,11 @@ use it_rules::item::{Item, Named};
 use std::alloc::{AllocError, Global};
 
 /// What the steps and the inspections of a layout recorded, each under its name.
-pub(crate) fn named_links<'a>(
+///
+/// # Errors
+///
+/// `AllocError` where memory was refused.
+pub fn named_links<'a>(
     alloc: Global,
     steps: &'a [StepResult],
     inspections: &'a [Link],

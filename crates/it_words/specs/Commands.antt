@@ -68,6 +68,12 @@ statement_command =
 abbrev pub payload_command : App
 payload_command = with_rule (new_app (codes "payload")) (needed_word (codes "envelope"))
 
+-- check, with one of --policy F --layout F or both
+abbrev pub check_command : App
+check_command =
+    with_rule (with_rule (new_app (codes "check")) (plain_option (codes "policy")))
+    (plain_option (codes "layout"))
+
 -- verify --policy F --layout F --links DIR --sums F --at MOMENT, and what may be left out:
 -- --ring F.. --public-keys --json --provenance F --records DIR --depth N
 abbrev pub needed_of_verify : App
@@ -98,7 +104,7 @@ without_command = record (new_app (codes "itv")) {
 abbrev pub commands : List App
 commands =
     signed_command ∷ match_command ∷ pae_command ∷ payload_command ∷ key_command ∷ sign_command
-    ∷ digest_command ∷ link_command ∷ statement_command ∷ verify_command ∷ []
+    ∷ digest_command ∷ link_command ∷ statement_command ∷ check_command ∷ verify_command ∷ []
 
 -- the program with all of its commands
 unfoldable pub program : App

@@ -15,11 +15,13 @@ use Rattle.std.specs.Prelude.{
   None,
   MatchOption,
   codes,
+  is_some,
   unwrap_or,
 }
 use Rattle.std.specs.Str.Parse.{IsNumeral, digits_value, without_leading_plus}
 use Rattle.clap.specs.Walk.{all_of, count_of}
 use Rattle.clap.specs.Words.{Row, Text, first_of, one_of}
+use Rattle.it_words.specs.declared.words.check_words.CheckWords.{CheckWords}
 use Rattle.it_words.specs.declared.words.digest_words.DigestWords.{DigestWords}
 use Rattle.it_words.specs.declared.words.key_words.KeyWords.{KeyWords}
 use Rattle.it_words.specs.declared.words.link_words.LinkWords.{LinkWords}
@@ -117,6 +119,16 @@ pub record IsKey (values : List Row) (words : KeyWords) : Type 0 where
   pub files : all_of (codes "file") values ≡ Some words.files
   pub name : first_of (codes "name") values ≡ words.name
   pub may_be_named : MayBeNamed words.files words.name
+
+-- some document is given: a policy, or a layout
+abbrev pub HasDocument : Option Text → Option Text → Type 0
+HasDocument policy layout = IsTrue (is_some policy || is_some layout)
+
+-- the values of the command check
+pub record IsCheck (values : List Row) (words : CheckWords) : Type 0 where
+  pub policy : first_of (codes "policy") values ≡ words.policy
+  pub layout : first_of (codes "layout") values ≡ words.layout
+  pub has_document : HasDocument words.policy words.layout
 
 -- these are the rings of the words, in their order: none where the option is not given, and 8 at
 -- most

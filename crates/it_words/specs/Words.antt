@@ -3,6 +3,7 @@ use Rattle.std.specs.Prelude.{◌≡◌, ◌≤◌, List, [], Option, MatchOptio
 use Rattle.clap.specs.Words.{Row, Text, fault_of, subcommand_of}
 use Rattle.it_words.specs.Commands.{program}
 use Rattle.it_words.specs.Values.{
+  IsCheck,
   IsDigest,
   IsKey,
   IsLink,
@@ -25,6 +26,7 @@ use Rattle.it_words.specs.declared.words.Words.TheVariants.{
   Statement,
   Payload,
   Key,
+  Check,
   Verify,
 }
 
@@ -39,6 +41,7 @@ IsCommand named (Link words) = (named.0 ≡ codes "link") × IsLink named.1 word
 IsCommand named (Statement words) = (named.0 ≡ codes "statement") × IsStatement named.1 words
 IsCommand named (Payload words) = (named.0 ≡ codes "payload") × IsPayload named.1 words
 IsCommand named (Key words) = (named.0 ≡ codes "key") × IsKey named.1 words
+IsCommand named (Check words) = (named.0 ≡ codes "check") × IsCheck named.1 words
 IsCommand named (Verify words) = (named.0 ≡ codes "verify") × IsVerify named.1 words
 
 -- the name and the values are there, and are those of this command
@@ -61,4 +64,5 @@ GoesNoDeeper (Link words) = Unit {0}
 GoesNoDeeper (Statement words) = Unit {0}
 GoesNoDeeper (Payload words) = Unit {0}
 GoesNoDeeper (Key words) = Unit {0}
+GoesNoDeeper (Check words) = Unit {0}
 GoesNoDeeper (Verify words) = words.depth ≤ 8

@@ -6,6 +6,7 @@ ghost use Rattle.it_words.specs.Words.{AreWordsOf, GoesNoDeeper};
 ghost use Rattle.it_words.specs.declared.words.WordsFault.TheVariants.{OutOfMemory};
 
 mod arguments;
+pub mod check_words;
 mod dashes;
 pub mod digest_words;
 pub mod key_words;
@@ -26,10 +27,12 @@ mod values;
 pub mod verify_words;
 
 pub use self::{
-    digest_words as digesting, key_words as keys, link_words as linking, match_words as matching,
-    pae_words as encoding, payload_words as unwrapping, sign_words as signing,
-    signed_words as signed, statement_words as stating, verify_words as verifying,
+    check_words as checking, digest_words as digesting, key_words as keys, link_words as linking,
+    match_words as matching, pae_words as encoding, payload_words as unwrapping,
+    sign_words as signing, signed_words as signed, statement_words as stating,
+    verify_words as verifying,
 };
+use check_words::CheckWords;
 use clap::ArgMatches;
 use digest_words::DigestWords;
 use key_words::KeyWords;
@@ -68,6 +71,9 @@ pub enum Words {
     Payload(PayloadWords),
     /// `itv key FILE.. [--name ID]`: public keys as an object from id to key object.
     Key(KeyWords),
+    /// `itv check [--policy F] [--layout F]`: what is found in a policy and in a layout, of which
+    /// one is given at least.
+    Check(CheckWords),
     /// `itv verify --policy F --layout F --links DIR --sums F --at MOMENT [--ring F..]
     /// [--public-keys] [--json] [--provenance F] [--records DIR] [--depth N]`: whether delivered
     /// files were made as the owners prescribed.

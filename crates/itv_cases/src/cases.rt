@@ -7,7 +7,7 @@ mod answer;
 pub(crate) mod case;
 mod difference_text;
 pub(crate) mod links;
-mod parts;
+pub(crate) mod parts;
 mod run;
 mod wanted;
 

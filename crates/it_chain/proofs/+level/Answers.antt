@@ -1,12 +1,13 @@
-use Rattle.std.proofs.Common.{IfOk, ◌≡◌, ◌∙◌, ◌<ℤ◌, ◌-◌, [], ◌∷◌, ◌++◌, Option, None, Some}
-use Rattle.std.proofs.Common.{Contains, map, zip, Err, flat_map, append-nil, rules, refl, sym, ap}
+use Rattle.std.proofs.Common.{IfOk, ◌≡◌, ◌∙◌, ◌<ℤ◌, ◌-◌, [], ◌∷◌, Option, None, Some}
+use Rattle.std.proofs.Common.{Contains, map, zip, Err, flat_map, rules, refl, sym, ap}
 use Rattle.std.proofs.Common.{subst, unwrap_or, length, take, take_all, arith}
 use Rattle.std.specs.FinMap.{keys}
 use Rattle.std.specs.List.{cons_option}
 use Rattle.std.proofs.lemmas.List.Elements.{Contains-get_or}
 use Rattle.std.proofs.lemmas.Result.{err_from_is_err_and}
 use Rattle.it_base.proofs.Elements.{zip_more}
-use Rattle.it_chain.specs.inside.Asked.{GivenFewest, RaisedAtLeast, RaisedWithin, RecordsFewest}
+use Rattle.it_chain.specs.Chain.{holds_below}
+use Rattle.it_chain.specs.inside.Asked.{RaisedAtLeast, RaisedWithin, RecordsFewest}
 use Rattle.it_chain.specs.inside.Asked.{SignaturesIn, cost_below, fewest_below, key_total}
 use Rattle.it_chain.specs.inside.Asked.{least_given}
 use Rattle.it_chain.specs.Answer.{signers as signers_of, with_record}
@@ -20,20 +21,18 @@ use Rattle.it_chain.specs.StepRules.{links_in}
 use Rattle.it_chain.specs.Signers.{entry_of}
 use Rattle.it_chain.specs.Body.{as_body}
 use Rattle.it_chain.specs.inside.Candidates.{AreCandidates}
-use Rattle.it_chain.specs.inside.StepRules.{AreRuled}
 use Rattle.it_chain.specs.inside.Walks.{FailsAt}
-use Rattle.it_chain.specs.inside.IdRecords.{Gives}
-use Rattle.it_chain.specs.inside.Below.{StandsAt, fails_below, holds_below}
+use Rattle.it_chain.specs.inside.Below.{StandsAt, fails_below}
 use Rattle.it_chain.specs.declared.record.IdRecord.{IdRecord}
 use Rattle.it_chain.specs.declared.refusal.ChainError.TheVariants.{Refused}
 use Rattle.it_chain.specs.declared.refusal.ChainFault.TheVariants.{TwoPayloads}
 use Rattle.it_chain.proofs.Asking.{least_more, least_none, least_of, within_least, within_none}
 use Rattle.it_chain.proofs.LevelAsking.{LevelSum, SignersSum, below_asks, candidates_raise}
-use Rattle.it_chain.proofs.LevelAsking.{record_asks, signer_fails, signer_more, step_asks}
-use Rattle.it_chain.proofs.LevelAsking.{step_fails, step_more, step_raises}
+use Rattle.it_chain.proofs.LevelAsking.{record_asks, settled_asks, signer_fails, signer_more}
+use Rattle.it_chain.proofs.LevelAsking.{step_asks, step_fails, step_more, step_raises}
 use Rattle.it_chain.proofs.LevelFewest.{FewestSum, below_takes, given_more, one_fewest_below}
 use Rattle.it_chain.proofs.LevelFewest.{record_takes, some_fewest_below, step_takes}
-use Rattle.it_chain.proofs.LevelWalks.{level_holds, rules_fail, steps_fail}
+use Rattle.it_chain.proofs.LevelWalks.{level_judged, steps_fail}
 use Rattle.it_chain.proofs.LevelRules.{links_differ}
 use Rattle.it_chain.proofs.StepWalks.{judged_walks}
 use Rattle.it_chain.proofs.SignerWalks.{AreWalked, signer_known, signer_listed, walked_all}
@@ -206,8 +205,8 @@ id_records::verify_ids-returns-clause-answer g t c =
     (subst (λ ss. AreWalked s v.depth v.layout.now v.links.now c.args.step.now ss
     c.loop-signer.records.items) all c.loop-signer.invariant.walked)
 
-pub level::verify_level-returns-in_err-steps-clause-answer : goal.level::verify_level-returns-in_err-steps-clause-answer
-level::verify_level-returns-in_err-steps-clause-answer g t c =
+pub level::judge_level-returns-in_err-steps-clause-answer : goal.level::judge_level-returns-in_err-steps-clause-answer
+level::judge_level-returns-in_err-steps-clause-answer g t c =
     let s = g.C.Checking.setting c.args.checking.now in
     let v = c.args.level.now in
     let in_time : ¬ (v.layout.now.expires <ℤ s.moment) =
@@ -219,44 +218,30 @@ level::verify_level-returns-in_err-steps-clause-answer g t c =
     (apart_below s v.depth) s v.layout.now v.links.now c.in_err-steps.field-0.0 in_time
     c.in_err-steps.ensures.answer)
 
-pub level::verify_level-run_step_rules-requires : goal.level::verify_level-run_step_rules-requires
-level::verify_level-run_step_rules-requires g t c =
+pub level::judge_level-first_failed-requires : goal.level::judge_level-first_failed-requires
+level::judge_level-first_failed-requires g t c =
     let s = g.C.Checking.setting c.args.checking.now in
     let v = c.args.level.now in
     rw c.as_slice-2.ensures.value (links_differ (holds_below s v.depth) (fails_below s v.depth)
     (one_below s v.depth) s v.layout.now v.links.now c.in_ok-steps.steps.items
     c.in_ok-steps.ensures.answer.1)
 
-pub level::verify_level-returns-in_err-run_step_rules-clause-answer : goal.level::verify_level-returns-in_err-run_step_rules-clause-answer
-level::verify_level-returns-in_err-run_step_rules-clause-answer g t c =
+pub level::judge_level-returns-clause-answer : goal.level::judge_level-returns-clause-answer
+level::judge_level-returns-clause-answer g t c =
     let s = g.C.Checking.setting c.args.checking.now in
     let v = c.args.level.now in
     let in_time : ¬ (v.layout.now.expires <ℤ s.moment) =
     not_when c.is_expired.result (v.layout.now.expires <ℤ s.moment) c.is_expired.ensures
     c.if-is_expired.false in
-    let p = err_from_is_err_and c.from_residual-in_err-run_step_rules.result
-    c.from_residual-in_err-run_step_rules.ensures.1 in
-    rw (p.1, p.2) (rules_fail (holds_below s v.depth) (fails_below s v.depth) (one_below s v.depth)
-    (apart_below s v.depth) s v.layout.now v.links.now c.in_ok-steps.steps.items
-    c.in_ok-steps.ensures.answer.1
-    c.in_err-run_step_rules.field-0.0 in_time c.in_ok-steps.ensures.answer.0
-    (subst (λ rs. AreRuled (links_in rs) (zip v.layout.now.steps rs)
-    (Err c.in_err-run_step_rules.field-0.0)) c.as_slice-2.ensures.value
-    (subst (λ ss. AreRuled (links_in c.as_slice-2.result.now) (zip ss c.as_slice-2.result.now)
-    (Err c.in_err-run_step_rules.field-0.0)) c.as_slice.ensures
-    c.in_err-run_step_rules.ensures)))
+    rw c.from-steps.ensures (level_judged (holds_below s v.depth) (fails_below s v.depth)
+    (one_below s v.depth) (apart_below s v.depth) s v.layout.now v.links.now
+    c.in_ok-steps.steps.items c.in_ok-steps.ensures.answer.1 c.in_ok-failed.failed in_time
+    c.in_ok-steps.ensures.answer.0
+    (rw (c.as_slice.ensures, c.as_slice-2.ensures.value) at c.in_ok-failed.ensures))
 
 pub level::verify_level-returns-clause-answer : goal.level::verify_level-returns-clause-answer
-level::verify_level-returns-clause-answer g t c =
-    let s = g.C.Checking.setting c.args.checking.now in
-    let v = c.args.level.now in
-    let in_time : ¬ (v.layout.now.expires <ℤ s.moment) =
-    not_when c.is_expired.result (v.layout.now.expires <ℤ s.moment) c.is_expired.ensures
-    c.if-is_expired.false in
-    rw c.from.ensures (level_holds (holds_below s v.depth) (fails_below s v.depth)
-    (one_below s v.depth) (apart_below s v.depth) s v.layout.now v.links.now
-    c.in_ok-steps.steps.items c.in_ok-steps.ensures.answer.1 in_time
-    (rw (c.as_slice.ensures, c.as_slice-2.ensures.value) at c.in_ok-run_step_rules.ensures))
+level::verify_level-returns-clause-answer g t c = rw c.settled.ensures
+    c.in_ok-judge_level.ensures.answer
 
 pub level::verify_step-returns-in_err-records-clause-answer : goal.level::verify_step-returns-in_err-records-clause-answer
 level::verify_step-returns-in_err-records-clause-answer g t c =
@@ -400,39 +385,48 @@ level::verify_steps-returns-clause-asked g t c =
     (LevelSum s v.depth v.layout.now v.links.now ss) c.args.meter.now c.loop-step.meter) all
     c.loop-step.invariant.asked
 
-pub level::verify_level-returns-then-is_expired-clause-asked : goal.level::verify_level-returns-then-is_expired-clause-asked
-level::verify_level-returns-then-is_expired-clause-asked g t c =
+pub level::judge_level-returns-then-is_expired-clause-asked : goal.level::judge_level-returns-then-is_expired-clause-asked
+level::judge_level-returns-then-is_expired-clause-asked g t c =
     let s = g.C.Checking.setting c.args.checking.now in
     let v = c.args.level.now in
     within_none (LevelSum s v.depth v.layout.now v.links.now v.layout.now.steps) c.args.meter.now
     c.args.meter.now refl
 
-pub level::verify_level-returns-in_err-claims-clause-asked : goal.level::verify_level-returns-in_err-claims-clause-asked
-level::verify_level-returns-in_err-claims-clause-asked g t c =
+pub level::judge_level-returns-in_err-claims-clause-asked : goal.level::judge_level-returns-in_err-claims-clause-asked
+level::judge_level-returns-in_err-claims-clause-asked g t c =
     let s = g.C.Checking.setting c.args.checking.now in
     let v = c.args.level.now in
     let p = err_from_is_err_and c.from_residual.result c.from_residual.ensures.1 in
     rw p.1 (within_none (LevelSum s v.depth v.layout.now v.links.now v.layout.now.steps)
     c.args.meter.now c.args.meter.now refl)
 
-pub level::verify_level-returns-in_err-steps-clause-asked : goal.level::verify_level-returns-in_err-steps-clause-asked
-level::verify_level-returns-in_err-steps-clause-asked g t c =
+pub level::judge_level-returns-in_err-steps-clause-asked : goal.level::judge_level-returns-in_err-steps-clause-asked
+level::judge_level-returns-in_err-steps-clause-asked g t c =
     let p = err_from_is_err_and c.from_residual-in_err-steps.result
     c.from_residual-in_err-steps.ensures.1 in
     rw p.1 c.in_err-steps.ensures.asked
 
-pub level::verify_level-returns-in_err-run_step_rules-clause-asked : goal.level::verify_level-returns-in_err-run_step_rules-clause-asked
-level::verify_level-returns-in_err-run_step_rules-clause-asked g t c =
+pub level::judge_level-returns-in_err-failed-clause-asked : goal.level::judge_level-returns-in_err-failed-clause-asked
+level::judge_level-returns-in_err-failed-clause-asked g t c =
     let s = g.C.Checking.setting c.args.checking.now in
     let v = c.args.level.now in
-    let p = err_from_is_err_and c.from_residual-in_err-run_step_rules.result
-    c.from_residual-in_err-run_step_rules.ensures.1 in
+    let p = err_from_is_err_and c.from_residual-in_err-failed.result
+    c.from_residual-in_err-failed.ensures.1 in
     rw p.1 (within_least 0 (key_total c.in_ok-steps.steps.items)
     (LevelSum s v.depth v.layout.now v.links.now v.layout.now.steps) c.args.meter.now
     c.verify_steps.new.meter (omega arith) c.in_ok-steps.ensures.asked)
 
+pub level::judge_level-returns-clause-asked : goal.level::judge_level-returns-clause-asked
+level::judge_level-returns-clause-asked g t c =
+    let s = g.C.Checking.setting c.args.checking.now in
+    let v = c.args.level.now in
+    rw c.from-steps.ensures (settled_asks s v.depth v.layout.now v.links.now c.args.meter.now
+    c.verify_steps.new.meter (record { steps = c.in_ok-steps.steps.items })
+    c.in_ok-failed.failed c.in_ok-steps.ensures.asked)
+
 pub level::verify_level-returns-clause-asked : goal.level::verify_level-returns-clause-asked
-level::verify_level-returns-clause-asked g t c = rw c.from.ensures c.in_ok-steps.ensures.asked
+level::verify_level-returns-clause-asked g t c = rw c.settled.ensures
+    c.in_ok-judge_level.ensures.asked
 
 pub level::verify_step-returns-in_err-found-clause-asked : goal.level::verify_step-returns-in_err-found-clause-asked
 level::verify_step-returns-in_err-found-clause-asked g t c =
@@ -457,11 +451,11 @@ level::verify_step-returns-in_err-records-clause-asked g t c =
     let v = c.args.level.now in
     let p = err_from_is_err_and c.from_residual-in_err-records.result
     c.from_residual-in_err-records.ensures.1 in
-    let are : AreCandidates c.args.step.now.name (files_of v.links.now) c.as_slice.result.now =
+    let are : AreCandidates c.args.step.now.name (files_of v.links.now) c.in_ok-found.found =
     search rules in
     let same : map entry_of c.as_slice-signers.result.now ≡ signers_of v.layout.now
     c.args.step.now = search rules in
-    rw p.1 (step_raises s v.depth v.layout.now v.links.now c.args.step.now c.as_slice.result.now are
+    rw p.1 (step_raises s v.depth v.layout.now v.links.now c.args.step.now c.in_ok-found.found are
     c.as_slice-signers.result.now same c.args.meter.now c.verify_ids.new.meter 0
     c.in_err-records.ensures.asked)
 
@@ -469,11 +463,11 @@ pub level::verify_step-returns-clause-asked : goal.level::verify_step-returns-cl
 level::verify_step-returns-clause-asked g t c =
     let s = g.C.Checking.setting c.args.checking.now in
     let v = c.args.level.now in
-    let are : AreCandidates c.args.step.now.name (files_of v.links.now) c.as_slice.result.now =
+    let are : AreCandidates c.args.step.now.name (files_of v.links.now) c.in_ok-found.found =
     search rules in
     let same : map entry_of c.as_slice-signers.result.now ≡ signers_of v.layout.now
     c.args.step.now = search rules in
-    step_asks s v.depth v.layout.now v.links.now c.args.step.now c.as_slice.result.now are
+    step_asks s v.depth v.layout.now v.links.now c.args.step.now c.in_ok-found.found are
     c.as_slice-signers.result.now same c.args.meter.now c.verify_ids.new.meter
     c.in_ok-records.records.items c.judged.result
     c.judged.ensures c.in_ok-records.ensures.asked
@@ -601,8 +595,12 @@ level::verify_steps-returns-clause-fewest g t c =
     subst (λ ss. RaisedAtLeast (FewestSum s v.depth v.layout.now v.links.now ss) c.args.meter.now
     c.loop-step.meter) all c.loop-step.invariant.fewest
 
-pub level::verify_level-returns-clause-fewest : goal.level::verify_level-returns-clause-fewest
-level::verify_level-returns-clause-fewest g t c = c.in_ok-steps.ensures.fewest
+pub level::judge_level-returns-clause-fewest : goal.level::judge_level-returns-clause-fewest
+level::judge_level-returns-clause-fewest g t c = c.in_ok-steps.ensures.fewest
+
+pub level::judge_level-returns-clause-records : goal.level::judge_level-returns-clause-records
+level::judge_level-returns-clause-records g t c = rw c.from-steps.ensures
+    c.in_ok-steps.ensures.answer.1
 
 pub level::verify_step-returns-clause-fewest : goal.level::verify_step-returns-clause-fewest
 level::verify_step-returns-clause-fewest g t c =

@@ -1,36 +1,40 @@
 use Rattle.std.proofs.Common.{◌+◌, ◌*◌, length, take, flat_map}
 use Rattle.std.specs.List.{AllZip}
 use Rattle.it_base.specs.Places.{NoneAt}
+use Rattle.it_chain.specs.Chain.{holds_below}
 use Rattle.it_chain.specs.inside.Asked.{RaisedAtLeast, RaisedWithin, RecordsFewest, fewest_below}
 use Rattle.it_chain.specs.inside.Asked.{key_total}
 use Rattle.it_chain.specs.First.{step_places}
 use Rattle.it_chain.specs.Level.{StepHolds}
-use Rattle.it_chain.specs.inside.Below.{StandsAt, holds_below}
+use Rattle.it_chain.specs.inside.Below.{StandsAt}
 use Rattle.it_chain.proofs.LevelAsking.{LevelSum, SignersSum}
 use Rattle.it_chain.proofs.LevelFewest.{FewestSum}
 use Rattle.it_chain.proofs.SignerWalks.{AreWalked}
 use Rattle.it_chain.proofs.+level.Given as goal
 
 abbrev pub decreases-sublayouts::verify_sublayout : goal.decreases-sublayouts::verify_sublayout
-decreases-sublayouts::verify_sublayout g l = 7 * l.level.now.depth
+decreases-sublayouts::verify_sublayout g l = 8 * l.level.now.depth
 
 abbrev pub decreases-sublayouts::verify_body : goal.decreases-sublayouts::verify_body
-decreases-sublayouts::verify_body g l = 7 * l.level.now.depth + 1
+decreases-sublayouts::verify_body g l = 8 * l.level.now.depth + 1
 
 abbrev pub decreases-id_records::verify_id : goal.decreases-id_records::verify_id
-decreases-id_records::verify_id g l = 7 * l.level.now.depth + 2
+decreases-id_records::verify_id g l = 8 * l.level.now.depth + 2
 
 abbrev pub decreases-id_records::verify_ids : goal.decreases-id_records::verify_ids
-decreases-id_records::verify_ids g l = 7 * l.level.now.depth + 3
+decreases-id_records::verify_ids g l = 8 * l.level.now.depth + 3
 
 abbrev pub decreases-level::verify_step : goal.decreases-level::verify_step
-decreases-level::verify_step g l = 7 * l.level.now.depth + 4
+decreases-level::verify_step g l = 8 * l.level.now.depth + 4
 
 abbrev pub decreases-level::verify_steps : goal.decreases-level::verify_steps
-decreases-level::verify_steps g l = 7 * l.level.now.depth + 5
+decreases-level::verify_steps g l = 8 * l.level.now.depth + 5
+
+abbrev pub decreases-level::judge_level : goal.decreases-level::judge_level
+decreases-level::judge_level g l = 8 * l.level.now.depth + 6
 
 abbrev pub decreases-level::verify_level : goal.decreases-level::verify_level
-decreases-level::verify_level g l = 7 * l.level.now.depth + 6
+decreases-level::verify_level g l = 8 * l.level.now.depth + 7
 
 -- nothing stands at the steps so far, which hold with the results, no more was asked than
 -- they cost, and no less than they take

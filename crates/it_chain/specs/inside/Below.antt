@@ -1,17 +1,12 @@
 -- The results of the sublayouts of a level. Nothing here is trusted.
 use Rattle.std.specs.Prelude.{ℕ, zero, suc}
 use Rattle.it_docs.specs.declared.layout.Layout.{Layout}
-use Rattle.it_chain.specs.Chain.{Chain, none_holds}
+use Rattle.it_chain.specs.Chain.{holds_below}
 use Rattle.it_chain.specs.Contents.{Contents}
 use Rattle.it_chain.specs.CountedBodies.{Setting}
 use Rattle.it_chain.specs.First.{Failing, FirstChainFailure, ChainPlace, StandsInChain, too_deep}
 use Rattle.it_chain.specs.First.{uninspected}
-use Rattle.it_chain.specs.Level.{Holding}
 use Rattle.it_chain.specs.declared.refusal.ChainRefusal.{ChainRefusal}
-
-abbrev pub holds_below : Setting → ℕ → Holding
-holds_below setting zero = none_holds
-holds_below setting (suc depth) = Chain setting depth
 
 abbrev pub fails_below : Setting → ℕ → Failing
 fails_below setting zero = too_deep

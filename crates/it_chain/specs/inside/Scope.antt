@@ -10,17 +10,19 @@ use Rattle.it_dsse.specs.declared.meter.Meter.{Meter}
 use Rattle.it_docs.specs.declared.layout.Layout.{Layout}
 use Rattle.it_docs.specs.declared.step.Step.{Step}
 use Rattle.it_rules.specs.Item.{Recorded}
+use Rattle.it_chain.specs.Chain.{holds_below}
 use Rattle.it_chain.specs.Contents.{Contents}
 use Rattle.it_chain.specs.Cost.{Costing, LevelCosts, StepCosts}
 use Rattle.it_chain.specs.CountedBodies.{Setting}
 use Rattle.it_chain.specs.Fewest.{LevelFewest, StepFewest}
 use Rattle.it_chain.specs.First.{ChainPlace, at_id, places, step_places}
+use Rattle.it_chain.specs.Judged.{AreStepRecords}
 use Rattle.it_chain.specs.Level.{Holding, LevelHolds, StepHolds}
 use Rattle.it_chain.specs.Sublayouts.{folder_of}
 use Rattle.it_chain.specs.inside.Asked.{Asks, BodyCosts, IdCosts, cost_below, key_total}
 use Rattle.it_chain.specs.inside.Asked.{BodyFewest, GivenFewest, RaisedAtLeast, RecordsFewest}
 use Rattle.it_chain.specs.inside.Asked.{fewest_below, signature_count}
-use Rattle.it_chain.specs.inside.Below.{StandsAt, fails_below, holds_below}
+use Rattle.it_chain.specs.inside.Below.{StandsAt, fails_below}
 use Rattle.it_chain.specs.Body.{as_body}
 use Rattle.it_chain.specs.inside.IdRecords.{AreRecords, Gives}
 use Rattle.it_chain.specs.inside.Sublayouts.{BodyComes, SublayoutComes}
@@ -28,6 +30,7 @@ use Rattle.it_chain.specs.inside.Walks.{Walks}
 use Rattle.it_chain.specs.declared.body.Body.{Body as Held}
 use Rattle.it_chain.specs.declared.chain.Chain.{Chain as ChainOf}
 use Rattle.it_chain.specs.declared.chain.StepResult.{StepResult}
+use Rattle.it_chain.specs.declared.judged.JudgedChain.{JudgedChain}
 use Rattle.it_chain.specs.declared.level.Level.{Level}
 use Rattle.it_chain.specs.declared.record.IdRecord.{IdRecord}
 use Rattle.it_chain.specs.declared.refusal.ChainError.{ChainError}
@@ -70,6 +73,11 @@ module _ (scope : Scope) where
   LevelAnswers result =
       Walks StandsIn (places scope.layout)
       (λ chain. LevelHolds below_holds scope.setting scope.layout scope.bundle chain.steps) result
+
+  -- the records with which its steps hold
+  abbrev pub HoldsSteps : JudgedChain → Type 0
+  HoldsSteps judged =
+      AreStepRecords scope.setting scope.depth scope.layout scope.bundle judged.chain.steps
 
   abbrev pub LevelAsks : Meter → Meter → Result ChainOf ChainError → Type 0
   LevelAsks old new result =

@@ -1,44 +1,43 @@
 -- How the rules of steps are judged. Nothing here is trusted.
-use Rattle.std.specs.Prelude.{◌≡◌, ◌⊎◌, ℕ, List, [], ◌∷◌, Result, Ok, Err, ⊤}
+use Rattle.std.specs.Prelude.{◌≡◌, ◌⊎◌, ℕ, List, [], ◌∷◌, Option, None, Some}
 use Rattle.std.specs.List.{AllByRecursion}
 use Rattle.it_docs.specs.declared.step.Step.{Step}
-use Rattle.it_docs.specs.declared.rule.Rule.{Rule}
 use Rattle.it_docs.specs.declared.rule.Side.{Side}
 use Rattle.it_docs.specs.declared.rule.Side.TheVariants.{Materials, Products}
 use Rattle.it_rules.specs.Item.{Links}
 use Rattle.it_rules.specs.Rules.{IsFirstFault, RulesHold}
 use Rattle.it_chain.specs.First.{here}
-use Rattle.it_chain.specs.StepRules.{StepRulesHold, recorded_in}
+use Rattle.it_chain.specs.StepRules.{StepRulesHold, recorded_in, rules_on}
 use Rattle.it_chain.specs.declared.chain.StepResult.{StepResult}
-use Rattle.it_chain.specs.declared.refusal.ChainError.{ChainError}
-use Rattle.it_chain.specs.declared.refusal.ChainError.TheVariants.{Refused, OutOfMemory}
 use Rattle.it_chain.specs.declared.refusal.ChainFault.TheVariants.{RuleFailed}
 use Rattle.it_chain.specs.declared.refusal.ChainRefusal.{ChainRefusal}
 use Rattle.it_chain.specs.declared.refusal.RuleItem.TheVariants.{Step as of_step}
 
-abbrev pub SideFails : Links → Step → Side → List Rule → StepResult → ChainRefusal → Type 0
-SideFails links step side rules found refusal =
-    (index : ℕ) × (path : List ℕ) × IsFirstFault rules side (recorded_in found) links index path
-    × (refusal ≡ here (RuleFailed (of_step step.name) side index path))
+module _ (links : Links) where
+  -- the rules of a step hold on a side of its record
+  abbrev pub SideHolds : Step → Side → StepResult → Type 0
+  SideHolds step side found = RulesHold (rules_on side step) side (recorded_in found) links
 
-abbrev pub IsSideRuled : Links → Step → Side → List Rule → StepResult → Result (Unit {0}) ChainError
-    → Type 0
-IsSideRuled links step side rules found (Ok x) = RulesHold rules side (recorded_in found) links
-IsSideRuled links step side rules found (Err (Refused refusal)) =
-    SideFails links step side rules found refusal
-IsSideRuled links step side rules found (Err OutOfMemory) = ⊤
+  -- the refusal by the first rule of a step that fails on a side of its record
+  abbrev pub SideFails : Step → Side → StepResult → ChainRefusal → Type 0
+  SideFails step side found refusal =
+      (index : ℕ) × (path : List ℕ)
+      × IsFirstFault (rules_on side step) side (recorded_in found) links index path
+      × (refusal ≡ here (RuleFailed (of_step step.name) side index path))
 
--- the first side that fails
-abbrev pub IsFirstRuled : Links → List (Step × StepResult) → ChainRefusal → Type 0
-IsFirstRuled links [] refusal = ⊥
-IsFirstRuled links (p ∷ ps) refusal =
-    SideFails links p.0 Materials p.0.expected_materials p.1 refusal
-    ⊎ (RulesHold p.0.expected_materials Materials (recorded_in p.1) links
-    × (SideFails links p.0 Products p.0.expected_products p.1 refusal
-    ⊎ (RulesHold p.0.expected_products Products (recorded_in p.1) links
-    × IsFirstRuled links ps refusal)))
+  abbrev pub IsSideRuled : Step → Side → StepResult → Option ChainRefusal → Type 0
+  IsSideRuled step side found None = SideHolds step side found
+  IsSideRuled step side found (Some refusal) = SideFails step side found refusal
 
-abbrev pub AreRuled : Links → List (Step × StepResult) → Result (Unit {0}) ChainError → Type 0
-AreRuled links pairs (Ok x) = AllByRecursion (λ p. StepRulesHold links p.0 p.1) pairs
-AreRuled links pairs (Err (Refused refusal)) = IsFirstRuled links pairs refusal
-AreRuled links pairs (Err OutOfMemory) = ⊤
+  -- the first side that fails
+  abbrev pub IsFirstRuled : List (Step × StepResult) → ChainRefusal → Type 0
+  IsFirstRuled [] refusal = ⊥
+  IsFirstRuled (p ∷ ps) refusal =
+      SideFails p.0 Materials p.1 refusal
+      ⊎ (SideHolds p.0 Materials p.1
+      × (SideFails p.0 Products p.1 refusal
+      ⊎ (SideHolds p.0 Products p.1 × IsFirstRuled ps refusal)))
+
+  abbrev pub AreRuled : List (Step × StepResult) → Option ChainRefusal → Type 0
+  AreRuled pairs None = AllByRecursion (λ p. StepRulesHold links p.0 p.1) pairs
+  AreRuled pairs (Some refusal) = IsFirstRuled pairs refusal

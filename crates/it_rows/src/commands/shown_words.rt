@@ -1,6 +1,7 @@
 //! The values of a command as a row writes them.
 use it_base::text::Text;
 use it_words::words::Words;
+use it_words::words::checking::CheckWords;
 use it_words::words::digesting::DigestWords;
 use it_words::words::keys::KeyWords;
 use it_words::words::linking::LinkWords;
@@ -125,6 +126,15 @@ fn shown_digest(alloc: Global, words: &DigestWords) -> Result<String, AllocError
     }
 }
 
+fn shown_check(alloc: Global, words: &CheckWords) -> Result<String, AllocError> {
+    let all = [
+        "check",
+        shown_or_none(&words.policy),
+        shown_or_none(&words.layout),
+    ];
+    spaced(alloc, &all)
+}
+
 fn shown_key(alloc: Global, words: &KeyWords) -> Result<String, AllocError> {
     let files = joined(alloc, words.files.as_slice())?;
     spaced(alloc, &["key", files.as_str(), shown_or_none(&words.name)])
@@ -153,6 +163,7 @@ pub(crate) fn shown(alloc: Global, words: &Words) -> Result<String, AllocError> 
         Words::Statement(words) => shown_statement(alloc, words),
         Words::Payload(words) => spaced(alloc, &["payload", words.envelope.as_str()]),
         Words::Key(words) => shown_key(alloc, words),
+        Words::Check(words) => shown_check(alloc, words),
         Words::Verify(words) => shown_verify(alloc, words),
     }
 }

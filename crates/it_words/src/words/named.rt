@@ -6,8 +6,8 @@ ghost use Rattle.it_words.specs.inside.Unfit.{FitsNone};
 
 use super::values::{Values, ValuesFault};
 use super::{
-    Words, digest_words, key_words, link_words, match_words, pae_words, payload_words, sign_words,
-    signed_words, statement_words, verify_words,
+    Words, check_words, digest_words, key_words, link_words, match_words, pae_words, payload_words,
+    sign_words, signed_words, statement_words, verify_words,
 };
 use clap::ArgMatches;
 use std::alloc::Global;
@@ -38,6 +38,7 @@ fn command(name: &str, values: &Values<'_, '_>) -> Result<Words, ValuesFault>
         "statement" => statement(values),
         "payload" => payload(values),
         "key" => key(values),
+        "check" => check(values),
         "verify" => verify(values),
         _ => Err(ValuesFault::Unfit),
     }
@@ -104,6 +105,13 @@ fn key(values: &Values<'_, '_>) -> Result<Words, ValuesFault>
     ensures unfit { IfErr result (FitsNone (IsCommand (codes "key", values.now))) }
 {
     Ok(Words::Key(key_words::read(values)?))
+}
+
+fn check(values: &Values<'_, '_>) -> Result<Words, ValuesFault>
+    ensures found { IfOk result (IsCommand (codes "check", values.now)) }
+    ensures unfit { IfErr result (FitsNone (IsCommand (codes "check", values.now))) }
+{
+    Ok(Words::Check(check_words::read(values)?))
 }
 
 fn verify(values: &Values<'_, '_>) -> Result<Words, ValuesFault>

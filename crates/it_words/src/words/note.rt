@@ -38,6 +38,7 @@ pub(super) fn unfit(alloc: Global, words: &[String]) -> WordsFault {
 /// What does not fit together in the values of a command.
 fn misfit(command: &str, values: &[String]) -> &'static str {
     match (command, gives(values, "--ring")) {
+        ("check", _) => "neither '--policy <F>' nor '--layout <F>' is given",
         ("verify", true) => "the option '--ring <F>' is given more than 8 times",
         ("verify", false) => "neither '--ring <F>' nor '--public-keys' is given",
         ("signed", true) => "the options '--ring <F>' and '--keys <F>' are both given",

@@ -34,7 +34,7 @@ pub(super) fn rows() -> &'static [CommandRow]
     ensures { map app_of_row result.now ≡ commands }
 {
     &[
-        SIGNED, MATCH, PAE, PAYLOAD, KEY, SIGN, DIGEST, LINK, STATEMENT, VERIFY,
+        SIGNED, MATCH, PAE, PAYLOAD, KEY, SIGN, DIGEST, LINK, STATEMENT, CHECK, VERIFY,
     ]
 }
 
@@ -122,6 +122,15 @@ const STATEMENT: CommandRow = CommandRow {
         Argument::NeededOption("builder", "ID"),
         Argument::NeededOption("build-type", "TYPE"),
         Argument::PlainOption("parameters", "F"),
+    ],
+};
+
+/// `itv check`.
+const CHECK: CommandRow = CommandRow {
+    name: "check",
+    arguments: &[
+        Argument::PlainOption("policy", "F"),
+        Argument::PlainOption("layout", "F"),
     ],
 };
 

@@ -9,8 +9,8 @@ pub(super) const SUMMARY: &str =
     "decides whether delivered files were made as their owners prescribed";
 
 /// The usages, in the order in which they are shown.
-pub(super) static USAGES: [Usage; 10] = [
-    VERIFY, SIGNED, SIGN, PAE, DIGEST, LINK, STATEMENT, PAYLOAD, KEY, MATCH,
+pub(super) static USAGES: [Usage; 11] = [
+    VERIFY, CHECK, SIGNED, SIGN, PAE, DIGEST, LINK, STATEMENT, PAYLOAD, KEY, MATCH,
 ];
 
 /// The usage of `itv verify`.
@@ -40,6 +40,18 @@ pub(super) const VERIFY: Usage = Usage {
                       without envelopes.
       --depth N       How deep sublayouts may lie, from 0 to 8; 4 where it is
                       not given.",
+};
+
+/// The usage of `itv check`.
+pub(super) const CHECK: Usage = Usage {
+    name: "check",
+    line: "itv check [--policy F] [--layout F]",
+    text: "    Writes what is found in a policy and in a layout that may let through what
+    their author did not mean, one finding a line; of a document that does not
+    read, why it is refused.
+      --policy F  The policy. It or a layout is given, or both.
+      --layout F  The layout, in its envelope or as the body that is signed. No
+                  signature is looked at.",
 };
 
 /// The usage of `itv signed`.

@@ -2,6 +2,7 @@
 ghost use Rattle.std.specs.Prelude.{◌≡◌, OnOk};
 
 use crate::cases::case::inputs_in;
+use crate::cases::parts::named_part;
 use crate::verify::inputs::length_in;
 use crate::verify::verifications::report_of;
 use it_base::sequence::Sequence;
@@ -10,7 +11,7 @@ use it_chain::bundle::Bundle;
 use it_dsse::ring::HmacRing;
 use it_tables::RowFault;
 use it_tables::rings::ring_in;
-use it_tables::row::text_in;
+use it_tables::row::{member_in, text_in};
 use it_verify::inputs::Inputs;
 use serde_json::Value;
 use std::alloc::Global;
@@ -50,18 +51,24 @@ fn fault_of_cut_ring(alloc: Global, row: &Value, kept: usize) -> Result<String, 
 
 fn report_of_cut(alloc: Global, row: &Value, part: &str, kept: usize) -> Result<String, RowFault> {
     let mut inputs = inputs_in(alloc, row)?;
-    cut(alloc, &mut inputs, part, kept)?;
+    cut(alloc, row, &mut inputs, part, kept)?;
     report_of(alloc, &inputs, ring_in(alloc, row)?)
 }
 
-/// Cuts the document of this name to this length.
-fn cut(alloc: Global, inputs: &mut Inputs, part: &str, kept: usize) -> Result<(), RowFault>
+/// Cuts the document of this name, in a row and its inputs, to this length.
+fn cut(
+    alloc: Global,
+    row: &Value,
+    inputs: &mut Inputs,
+    part: &str,
+    kept: usize,
+) -> Result<(), RowFault>
     ensures { OnOk result (inputs.new.depth ≡ inputs.old.depth) }
 {
     match part {
         "policy" => inputs.policy = beginning(alloc, &inputs.policy, kept)?,
         "layout" => inputs.layout = beginning(alloc, &inputs.layout, kept)?,
-        "link" => inputs.links = cut_links(alloc, &inputs.links, kept)?,
+        "link" => inputs.links = cut_links(alloc, row, kept)?,
         "provenance" => inputs.provenance = beginning(alloc, &inputs.provenance, kept)?,
         "sums" => inputs.sums = beginning(alloc, &inputs.sums, kept)?,
         "at" => inputs.moment = beginning_of_text(alloc, &inputs.moment, kept)?,
@@ -80,12 +87,12 @@ fn beginning_of_text(alloc: Global, whole: &Text, kept: usize) -> Result<Text, R
     Ok(Text::copy(alloc, text)?)
 }
 
-/// The files, each cut.
-fn cut_links(alloc: Global, links: &Bundle, kept: usize) -> Result<Bundle, RowFault> {
+/// The files that a row gives, each cut.
+fn cut_links(alloc: Global, row: &Value, kept: usize) -> Result<Bundle, RowFault> {
     let mut cut = Bundle::new(alloc);
-    for file in links.files() {
-        let name = String::from_str(alloc, file.name.as_str())?;
-        let bytes = beginning(alloc, &file.bytes, kept)?;
+    for (name, bytes) in named_part(alloc, member_in(row, "links")?, "files")? {
+        let name = String::from_str(alloc, name.as_str())?;
+        let bytes = beginning(alloc, &bytes, kept)?;
         cut.add_file(name, bytes.into_vec())?;
     }
     Ok(cut)

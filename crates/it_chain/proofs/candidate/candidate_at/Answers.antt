@@ -1,6 +1,6 @@
 use Rattle.std.proofs.Common.{◌≡◌, slice_get, Some, None, refl}
 use Rattle.std.proofs.lemmas.Option.{slice_get_past, slice_get_read}
-use Rattle.it_chain.proofs.Candidates.{reads_at}
+use Rattle.it_chain.proofs.Candidates.{lent_at}
 use Rattle.it_chain.proofs.candidate.candidate_at.Goals as goal
 
 pub returns-in-Some : goal.returns-in-Some
@@ -9,8 +9,7 @@ returns-in-Some c =
     let lookup = c.in-Some.ensures.lookup in
     let is : slice_get files c.args.place ≡ Some c.in-Some.file.now =
     slice_get_read files _ c.args.place c.in-Some.file.now refl lookup.3.0 lookup.1 in
-    reads_at files c.args.place c.in-Some.file.now is c.candidate_in.result
-    (rw c.as_slice.ensures at c.candidate_in.ensures)
+    lent_at files c.args.place c.in-Some.file.now is c.candidate_in.result c.candidate_in.ensures
 
 pub returns-in-None : goal.returns-in-None
 returns-in-None c = λ x h.

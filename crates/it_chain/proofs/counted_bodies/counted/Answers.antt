@@ -6,6 +6,7 @@ use Rattle.std.proofs.lemmas.Result.{err_from_is_err_and}
 use Rattle.it_chain.specs.inside.Asked.{SignaturesIn}
 use Rattle.it_dsse.specs.declared.envelope.Envelope.{Envelope}
 use Rattle.it_chain.proofs.Asking.{asked_first, asked_last, asked_more, within_none}
+use Rattle.it_chain.proofs.Candidates.{lent_item, lent_length}
 use Rattle.it_chain.proofs.SoFar.{begun, least_first, none_so_far, one_of, passed_by, repeated}
 use Rattle.it_chain.proofs.SoFar.{two_of}
 use Rattle.it_chain.proofs.counted_bodies.counted.Goals as goal
@@ -20,28 +21,34 @@ use Rattle.it_chain.proofs.counted_bodies.counted.Goals.{in_default}
 
 pub returns-in_err-signed-clause-asked : goal.returns-in_err-signed-clause-asked
 returns-in_err-signed-clause-asked g c =
+    let here = lent_item c.as_slice-envelope-items.result.now c.args.envelopes.now
+    c.as_slice-envelope-items.ensures c.loop-envelope.envelope-index c.envelope-item.result
+    c.loop-envelope-test.true c.envelope-item.is in
     let panel = (g.C.Checking.setting c.args.checking.now).panel in
     let p = err_from_is_err_and c.from_residual.result c.from_residual.ensures.1 in
     rw p.1 (asked_last panel c.args.signer.now.id.now c.args.signer.now.object.now
-    c.args.envelopes.now c.loop-envelope.envelope-index c.envelope-item.result
-    c.loop-envelope-test.true c.envelope-item.is c.args.meter.now c.loop-envelope.meter
+    c.args.envelopes.now c.loop-envelope.envelope-index c.envelope-item.result.now
+    here.0 here.1 c.args.meter.now c.loop-envelope.meter
     c.signed_body.new.meter (least_first c.loop-envelope.first) c.loop-envelope.invariant.asked
     c.signed_body.ensures.asked)
 
 pub returns-then-not-is_same_payload-clause-answer : goal.returns-then-not-is_same_payload-clause-answer
 returns-then-not-is_same_payload-clause-answer g c =
+    let here = lent_item c.as_slice-envelope-items.result.now c.args.envelopes.now
+    c.as_slice-envelope-items.ensures c.loop-envelope.envelope-index c.envelope-item.result
+    c.loop-envelope-test.true c.envelope-item.is in
     let panel = (g.C.Checking.setting c.args.checking.now).panel in
     let i = c.loop-envelope.envelope-index in
     let all = c.args.envelopes.now in
-    let new = c.envelope-item.result in
+    let new = c.envelope-item.result.now in
     let found = c.in-Some-first.found in
     let first = rw c.in-Some-first.is at c.loop-envelope.invariant.so_far in
     let signs = rw c.in-Some.is at c.in_ok-signed.ensures.answer in
     let before : Contains all found.envelope.now =
     subst (λ (xs : List Envelope). Contains xs found.envelope.now) (take-append-drop i all)
     (Contains-append_left (take i all) (drop i all) found.envelope.now first.is.stands) in
-    let there : Contains all new = subst (Contains all) (sym c.envelope-item.is)
-    (Contains-get_or all i new c.loop-envelope-test.true) in
+    let there : Contains all new = subst (Contains all) (sym here.1)
+    (Contains-get_or all i new here.0) in
     two_of panel c.args.step.now c.args.signer.now.id.now c.args.signer.now.object.now all found new
     c.in-Some.key c.in-Some.body
     (record { stands = before; signed = first.is.signed })
@@ -50,21 +57,23 @@ returns-then-not-is_same_payload-clause-answer g c =
 
 pub loop-envelope-preserved : goal.loop-envelope-preserved
 loop-envelope-preserved g c =
+    let here = lent_item c.as_slice-envelope-items.result.now c.args.envelopes.now
+    c.as_slice-envelope-items.ensures c.loop-envelope.envelope-index c.envelope-item.result
+    c.loop-envelope-test.true c.envelope-item.is in
     let panel = (g.C.Checking.setting c.args.checking.now).panel in
     let step = c.args.step.now in
     let id = c.args.signer.now.id.now in
     let object = c.args.signer.now.object.now in
     let i = c.loop-envelope.envelope-index in
     let all = c.args.envelopes.now in
-    let new = c.envelope-item.result in
+    let new = c.envelope-item.result.now in
     let old = c.args.meter.now in
     let now = c.loop-envelope.meter in
     let next = c.signed_body.new.meter in
     let more : take (i + 1) all ≡ take i all ++ new ∷ [] =
-    take_more all i new c.loop-envelope-test.true ∙ ap (λ x. take i all ++ x ∷ [])
-    (sym c.envelope-item.is) in
-    let one_more = asked_more panel id object all i new c.loop-envelope-test.true
-    c.envelope-item.is old now next (least_first c.loop-envelope.first)
+    take_more all i new here.0 ∙ ap (λ x. take i all ++ x ∷ [])
+    (sym here.1) in
+    let one_more = asked_more panel id object all i new here.0 here.1 old now next (least_first c.loop-envelope.first)
     c.loop-envelope.invariant.asked c.signed_body.ensures.asked in
     elim c.match-signed.branch [
       | in-Some+in-None w ↦
@@ -73,8 +82,7 @@ loop-envelope-preserved g c =
           (record {
             so_far = rw more (begun panel step id object (take i all) new _ w.in-Some.key
                 w.in-Some.body refl signs (rw w.in-None.is at c.loop-envelope.invariant.so_far));
-            asked = asked_first panel id object all i new c.loop-envelope-test.true
-                c.envelope-item.is old now next (least_first c.loop-envelope.first)
+            asked = asked_first panel id object all i new here.0 here.1 old now next (least_first c.loop-envelope.first)
                 c.loop-envelope.invariant.asked c.signed_body.ensures.asked w.in-Some.key signs.0;
           })
       | in-Some+in-Some-first+else-not-is_same_payload+in-Link-1 w ↦
@@ -105,14 +113,18 @@ loop-envelope-preserved g c =
 
 pub returns-in-None-first-clause-answer : goal.returns-in-None-first-clause-answer
 returns-in-None-first-clause-answer g c =
+    let long = lent_length c.as_slice-envelope-items.result.now c.args.envelopes.now
+    c.as_slice-envelope-items.ensures in
     let all : take c.loop-envelope.envelope-index c.args.envelopes.now ≡ c.args.envelopes.now =
-    take_all c.loop-envelope.envelope-index c.args.envelopes.now (omega arith) in
+    take_all c.loop-envelope.envelope-index c.args.envelopes.now (omega (arith, long, c.loop-envelope-test.false)) in
     rw (c.in-None-first.is, all) at c.loop-envelope.invariant.so_far
 
 pub returns-in-Some-first-2-clause-answer : goal.returns-in-Some-first-2-clause-answer
 returns-in-Some-first-2-clause-answer g c =
+    let long = lent_length c.as_slice-envelope-items.result.now c.args.envelopes.now
+    c.as_slice-envelope-items.ensures in
     let all : take c.loop-envelope.envelope-index c.args.envelopes.now ≡ c.args.envelopes.now =
-    take_all c.loop-envelope.envelope-index c.args.envelopes.now (omega arith) in
+    take_all c.loop-envelope.envelope-index c.args.envelopes.now (omega (arith, long, c.loop-envelope-test.false)) in
     one_of (g.C.Checking.setting c.args.checking.now).panel c.args.step.now
     c.args.signer.now.id.now c.args.signer.now.object.now c.args.envelopes.now
     c.in-Some-first-2.found (rw (c.in-Some-first-2.is, all) at c.loop-envelope.invariant.so_far)
@@ -126,21 +138,27 @@ loop-envelope-init g c = record {
 
 pub returns-then-not-is_same_payload-clause-asked : goal.returns-then-not-is_same_payload-clause-asked
 returns-then-not-is_same_payload-clause-asked g c =
+    let here = lent_item c.as_slice-envelope-items.result.now c.args.envelopes.now
+    c.as_slice-envelope-items.ensures c.loop-envelope.envelope-index c.envelope-item.result
+    c.loop-envelope-test.true c.envelope-item.is in
     let panel = (g.C.Checking.setting c.args.checking.now).panel in
     asked_last panel c.args.signer.now.id.now c.args.signer.now.object.now c.args.envelopes.now
-    c.loop-envelope.envelope-index c.envelope-item.result c.loop-envelope-test.true
-    c.envelope-item.is c.args.meter.now c.loop-envelope.meter c.signed_body.new.meter
+    c.loop-envelope.envelope-index c.envelope-item.result.now here.0 here.1 c.args.meter.now c.loop-envelope.meter c.signed_body.new.meter
     (least_first c.loop-envelope.first) c.loop-envelope.invariant.asked
     c.signed_body.ensures.asked
 
 pub returns-in-None-first-clause-asked : goal.returns-in-None-first-clause-asked
 returns-in-None-first-clause-asked g c =
+    let long = lent_length c.as_slice-envelope-items.result.now c.args.envelopes.now
+    c.as_slice-envelope-items.ensures in
     let all : take c.loop-envelope.envelope-index c.args.envelopes.now ≡ c.args.envelopes.now =
-    take_all c.loop-envelope.envelope-index c.args.envelopes.now (omega arith) in
+    take_all c.loop-envelope.envelope-index c.args.envelopes.now (omega (arith, long, c.loop-envelope-test.false)) in
     rw (c.in-None-first.is, all) at c.loop-envelope.invariant.asked
 
 pub returns-in-Some-first-2-clause-asked : goal.returns-in-Some-first-2-clause-asked
 returns-in-Some-first-2-clause-asked g c =
+    let long = lent_length c.as_slice-envelope-items.result.now c.args.envelopes.now
+    c.as_slice-envelope-items.ensures in
     let all : take c.loop-envelope.envelope-index c.args.envelopes.now ≡ c.args.envelopes.now =
-    take_all c.loop-envelope.envelope-index c.args.envelopes.now (omega arith) in
+    take_all c.loop-envelope.envelope-index c.args.envelopes.now (omega (arith, long, c.loop-envelope-test.false)) in
     rw (c.in-Some-first-2.is, all) at c.loop-envelope.invariant.asked

@@ -12,4 +12,5 @@ returns-clause-ok g c =
     × IsSignedOutput (panel_of (own_checks rings false)) (map string_bytes c.args.ids.now)
     c.args.envelope.now text c.in_ok-run_signed_by.field-0
     × Appends (g.W.Write.contents c.args.out.now) (g.W.Write.contents c.run_signed_by.new.out) text)
-    c.in_ok-vec.ensures.items c.in_ok-run_signed_by.ensures.ok
+    c.in_ok-vec.ensures.items
+    (rw (c.new-checks.ensures.rings, c.new-checks.ensures.public_keys) at c.in_ok-run_signed_by.ensures.ok)

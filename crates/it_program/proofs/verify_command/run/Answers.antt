@@ -10,7 +10,8 @@ returns-clause-ok g c =
         are_inputs = c.in_ok-inputs.ensures;
         rings = c.in_ok-rings.rings.items;
         holds_rings = search rules;
-        is_output = rw c.form_asked-form.ensures at told.1;
+        is_output = rw (c.new-checks.ensures.rings, c.new-checks.ensures.public_keys, c.form_asked-form.ensures)
+            at told.1;
       },
       told.2,
     )

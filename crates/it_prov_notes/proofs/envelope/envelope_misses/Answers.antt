@@ -15,8 +15,8 @@ returns-then-not-is_empty g c =
     builders (lent_builders signers)) c.as_slice-builders.ensures c.in_ok-signers.ensures in
     λ line reads. c.signed_misses.ensures panel line reads (rw c.as_slice.ensures.value are)
 
-pub returns-then-branch : goal.returns-then-branch
-returns-then-branch g c =
+pub returns : goal.returns
+returns g c =
     let panel = g.C.Checks.panel c.args.checks.now in
     let signers = c.in_ok-signers.signers.items in
     let are : AreSigners panel c.args.delivery.now.expectation.now c.args.envelope.now signers =
@@ -24,8 +24,5 @@ returns-then-branch g c =
     builders (lent_builders signers)) c.as_slice-builders.ensures c.in_ok-signers.ensures in
     let none : length signers ≡ 0 = sym (c.in_ok-signers.signers.ok.0)
     ∙ eqb-true c.in_ok-signers.signers.len 0 (sym c.is_empty.ensures ∙ c.if-not-is_empty.false) in
-    λ line reads. (
-      c.args.envelope.now,
-      reads,
-      none_signed panel c.args.delivery.now.expectation.now c.args.envelope.now signers are none,
-    )
+    λ line reads. c.unsigned_misses.ensures panel line reads
+    (none_signed panel c.args.delivery.now.expectation.now c.args.envelope.now signers are none)

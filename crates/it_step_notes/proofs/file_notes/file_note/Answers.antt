@@ -5,8 +5,8 @@ pub returns-then-is_claimed : goal.returns-then-is_claimed
 returns-then-is_claimed g c = record {
   file = c.args.file.now;
   stands = c.requires;
-  name_is = sym (c.in_ok-copy.ensures ∙ c.as_str-name.ensures);
-  claimed = rw (c.as_str.ensures, c.as_str-name.ensures) at
+  name_is = sym (c.in_ok-copy.ensures ∙ c.name-name.ensures);
+  claimed = rw (c.as_str.ensures, c.name-name.ensures) at
       (c.is_claimed.ensures.0 c.if-is_claimed.true);
-  is_so = rw c.as_slice.ensures at c.in_ok-finding.ensures;
+  is_so = c.in_ok-finding.ensures;
 }

@@ -11,7 +11,7 @@ returns g c =
     ok_finds_alike (HoldsLayout panel at.layout.now c.args.id.now file.bytes)
     (IsSublayoutIn panel at.layout.now at.step.now c.args.id.now file)
     (λ below holds. record {
-      claimed = rw (c.as_str.ensures, c.as_str-2.ensures) at
+      claimed = rw (c.as_str.ensures, c.name.ensures) at
           (c.if-not-is_claimed.ensures.0 refl);
       holds = holds;
-    }) (λ below is. is.holds) c.signed_layout.result (rw c.as_slice.ensures at c.signed_layout.ensures)
+    }) (λ below is. is.holds) c.signed_layout.result c.signed_layout.ensures

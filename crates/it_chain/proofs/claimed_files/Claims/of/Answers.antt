@@ -17,12 +17,12 @@ loop-place-preserved c = λ step.
       | in-Some+in_ok-from_str+in_ok-add w ↦
           let name = string_bytes w.in_ok-from_str.field-0 in
           let claimed = subst (λ s. IsClaimed s file.name) (sym w.in_ok-from_str.ensures.ok)
-          (subst (IsClaimed w.in-Some.step.now) c.as_str.ensures w.in-Some.ensures) in
+          (subst (IsClaimed w.in-Some.step.now) c.name.ensures w.in-Some.ensures) in
           rw w.by_step-is
           (claimed_or files i file c.loop-place-test.true c.index-files-place.is name step places _
           (bytes_eq step name) claimed refl (w.in_ok-add.ensures step) before)
       | in_default w ↦
-          let none = rw (w.in_default.is, c.as_str.ensures) at c.claimed_step.ensures in
+          let none = rw (w.in_default.is, c.name.ensures) at c.claimed_step.ensures in
           rw w.by_step-is (passed_by files i file c.loop-place-test.true c.index-files-place.is step
           places before (none step))
     ]

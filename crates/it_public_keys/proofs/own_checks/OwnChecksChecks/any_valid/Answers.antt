@@ -4,6 +4,7 @@ use Rattle.it_dsse.specs.Meter.{raised}
 use Rattle.it_dsse.specs.Ring.{ring_check}
 use Rattle.it_public_keys.specs.NamedKeys.{number_of, public_key_check}
 use Rattle.it_public_keys.specs.OwnChecks.{own_checks}
+use Rattle.it_public_keys.specs.OwnKeys.{found_key}
 use Rattle.it_public_keys.proofs.Following.{public_at, ring_at, tries_at, vouched_at}
 use Rattle.it_public_keys.proofs.own_checks.OwnChecksChecks.any_valid.Goals as goal
 
@@ -39,7 +40,7 @@ returns-in-Public-clause-answer c =
     rw c.in-Public.is
     (c.any_valid-in-Public.ensures.answer
     ∙ vouched_at (own_checks own.rings.items own.public_keys) (length own.rings.items)
-    public_key_check at c.args.id.now (number_of c.in-Public.key)
+    public_key_check at c.args.id.now (number_of (found_key c.in-Public.key))
     (joined c.args.message.now) c.args.signatures.now)
 
 pub returns-in-Public-clause-counted : goal.returns-in-Public-clause-counted
@@ -50,5 +51,5 @@ returns-in-Public-clause-counted c =
     rw c.in-Public.is
     (c.any_valid-in-Public.ensures.counted
     ∙ ap (raised c.args.meter.now) (tries_at (own_checks own.rings.items own.public_keys)
-    (length own.rings.items) public_key_check at c.args.id.now (number_of c.in-Public.key)
+    (length own.rings.items) public_key_check at c.args.id.now (number_of (found_key c.in-Public.key))
     (joined c.args.message.now) c.args.signatures.now))

@@ -9,11 +9,11 @@ returns-in-Some-clause-key c =
     c.args.self.now.public_keys (c.in-Some.place, c.in-Some.number)
     (rw c.as_slice.ensures.value at c.in-Some.ensures.key)
 
-pub returns-in-Some-key_of-clause-key : goal.returns-in-Some-key_of-clause-key
-returns-in-Some-key_of-clause-key c =
+pub returns-in-Some-find-clause-key : goal.returns-in-Some-find-clause-key
+returns-in-Some-find-clause-key c =
     let known = public_known c.args.id.now c.args.object.now c.args.self.now.rings.items _
     (rw c.as_slice.ensures.value at c.in_default.ensures.key)
-    (ap (option_map number_of) c.in-Some-key_of.ensures) in
+    (ap (option_map number_of) c.in-Some-find.ensures) in
     rw (c.if-not-self.false) known
 
 pub returns-in-None-clause-key : goal.returns-in-None-clause-key

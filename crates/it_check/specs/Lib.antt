@@ -1,0 +1,3 @@
+pub mod CheckOutput
+pub mod Documents
+pub mod FindingLine

@@ -1,0 +1,159 @@
+//! The documents of a check, and what they read as.
+ghost use Rattle.std.specs.Prelude.{◌≡◌, ◌↔◌, IfOk, IsTrue};
+ghost use Rattle.serde_json.specs.View.{view};
+ghost use Rattle.it_dsse.specs.Envelope.{EnvelopeOf};
+ghost use Rattle.it_check.specs.Documents.{IsBare, IsBareDocument, IsBodyReading, IsLayoutReading};
+ghost use Rattle.it_check.specs.Documents.{IsPolicyReading, ReadsAs, whole};
+
+use it_base::document::{member, read_document};
+use it_base::parts::from_bytes;
+use it_base::sequence::Sequence;
+use it_docs::layout::Layout;
+use it_docs::layout_fault::LayoutFault;
+use it_docs::layout_reading::read_layout;
+use it_docs::policy::Policy;
+use it_docs::policy_fault::PolicyFault;
+use it_docs::policy_reading::read_policy;
+use it_dsse::envelope::Envelope;
+use it_dsse::payload_type::IN_TOTO;
+use it_report::refusal::{Fault, Refusal};
+use serde_json::Value;
+use std::alloc::{AllocError, Global};
+
+/// What the bytes of a policy read as.
+#[derive(Drop)]
+pub enum PolicyReading {
+    /// A policy.
+    Read(Policy),
+    /// No policy: this is the refusal for its first part that fails.
+    Bad(Refusal),
+}
+
+/// What the bytes of a layout, in its envelope or not, read as.
+#[derive(Drop)]
+pub enum LayoutReading {
+    /// A layout.
+    Read(Layout),
+    /// No layout: this is the refusal of the envelope, of its type, or for the first part of the
+    /// layout that fails.
+    Bad(Refusal),
+}
+
+/// What a policy reads as, where one is given.
+///
+/// # Errors
+///
+/// `AllocError` where memory was refused.
+pub(crate) fn policy_given(
+    alloc: Global,
+    bytes: &Option<Sequence<u8>>,
+) -> Result<Option<PolicyReading>, AllocError>
+    ensures { IfOk result (ReadsAs IsPolicyReading bytes.now) }
+{
+    match bytes {
+        Some(bytes) => Ok(Some(policy_reading(alloc, bytes.as_slice())?)),
+        None => Ok(None),
+    }
+}
+
+/// What a layout reads as, where one is given.
+///
+/// # Errors
+///
+/// `AllocError` where memory was refused.
+pub(crate) fn layout_given(
+    alloc: Global,
+    bytes: &Option<Sequence<u8>>,
+) -> Result<Option<LayoutReading>, AllocError>
+    ensures { IfOk result (ReadsAs IsLayoutReading bytes.now) }
+{
+    match bytes {
+        Some(bytes) => Ok(Some(layout_reading(alloc, bytes.as_slice())?)),
+        None => Ok(None),
+    }
+}
+
+fn policy_reading(alloc: Global, bytes: &[u8]) -> Result<PolicyReading, AllocError>
+    ensures { IfOk result (IsPolicyReading bytes.now) }
+{
+    match read_policy(alloc, bytes) {
+        Ok(policy) => Ok(PolicyReading::Read(policy)),
+        Err(PolicyFault::BadPolicy(part)) => {
+            Ok(PolicyReading::Bad(whole(alloc, Fault::BadPolicy(part))))
+        }
+        Err(PolicyFault::OutOfMemory) => Err(AllocError),
+    }
+}
+
+fn layout_reading(alloc: Global, bytes: &[u8]) -> Result<LayoutReading, AllocError>
+    ensures { IfOk result (IsLayoutReading bytes.now) }
+{
+    match from_bytes::<Envelope>(alloc, bytes)? {
+        Some(envelope) => payload_reading(alloc, bytes, &envelope),
+        None => bare_reading(alloc, bytes),
+    }
+}
+
+/// What the payload of an envelope reads as.
+fn payload_reading(
+    alloc: Global,
+    bytes: &[u8],
+    envelope: &Envelope,
+) -> Result<LayoutReading, AllocError>
+    requires { EnvelopeOf bytes.now envelope.now }
+    ensures { IfOk result (IsLayoutReading bytes.now) }
+{
+    if envelope.payload_type.as_str() != IN_TOTO {
+        return Ok(LayoutReading::Bad(whole(alloc, Fault::WrongPayloadType)));
+    }
+    body_reading(alloc, envelope.payload.as_slice())
+}
+
+/// What bytes that are no envelope read as.
+fn bare_reading(alloc: Global, bytes: &[u8]) -> Result<LayoutReading, AllocError>
+    requires { (envelope : _) → ¬ EnvelopeOf bytes.now envelope }
+    ensures { IfOk result (IsLayoutReading bytes.now) }
+{
+    if !is_bare(alloc, bytes)? {
+        return Ok(LayoutReading::Bad(whole(alloc, Fault::BadEnvelope)));
+    }
+    body_reading(alloc, bytes)
+}
+
+fn body_reading(alloc: Global, body: &[u8]) -> Result<LayoutReading, AllocError>
+    ensures { IfOk result (IsBodyReading body.now) }
+{
+    match read_layout(alloc, body) {
+        Ok(layout) => Ok(LayoutReading::Read(layout)),
+        Err(LayoutFault::BadLayout(part)) => {
+            Ok(LayoutReading::Bad(whole(alloc, Fault::BadLayout(part))))
+        }
+        Err(LayoutFault::OutOfMemory) => Err(AllocError),
+    }
+}
+
+/// Whether the bytes are a JSON object without a payload.
+fn is_bare(alloc: Global, bytes: &[u8]) -> Result<bool, AllocError>
+    ensures { IfOk result (λ bare. IsTrue bare ↔ IsBare bytes.now) }
+{
+    match read_document(alloc, bytes)? {
+        Some(document) => Ok(is_bare_document(&document)),
+        None => Ok(false),
+    }
+}
+
+fn is_bare_document(document: &Value) -> bool
+    ensures { IsTrue result ↔ IsBareDocument (view document.now) }
+{
+    document.is_object() && member(document, "payload").is_none()
+}
+
+/// The refusal of a document as a whole.
+fn whole(alloc: Global, fault: Fault) -> Refusal
+    ensures { result ≡ whole fault }
+{
+    Refusal {
+        at: Sequence::from(Vec::new(alloc)),
+        fault,
+    }
+}

@@ -1,0 +1,12 @@
+//! `itv check`: what is found in a policy and in a layout, with no signature looked at.
+#![tactic(auto)]
+
+mod check_output;
+pub mod documents;
+mod finding_lines;
+mod part_notes;
+mod rule_lists;
+mod writing;
+
+pub use check_output::run_check;
+pub use finding_lines::{push_finding, push_findings};

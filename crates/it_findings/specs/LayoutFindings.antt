@@ -1,0 +1,43 @@
+-- What is found in a layout (in-toto 1.0 section 4.3; that something is found, and what, is a word
+-- of this project).
+use Rattle.std.specs.Prelude.{◌≡◌, ℕ, List, ◌++◌, Some}
+use Rattle.it_docs.specs.declared.layout.Layout.{Layout}
+use Rattle.it_docs.specs.declared.rule.Side.TheVariants.{Materials, Products}
+use Rattle.it_docs.specs.declared.step.Inspection.{Inspection}
+use Rattle.it_docs.specs.declared.step.Step.{Step}
+use Rattle.it_findings.specs.Joined.{Joined}
+use Rattle.it_findings.specs.RuleFindings.{ListFindings}
+use Rattle.it_findings.specs.declared.finding.Finding.{Finding}
+use Rattle.it_findings.specs.declared.finding.RuleList.TheVariants as lists
+
+-- what is found in the rules of a step, on its materials and then on its products
+pub record StepFindings (layout : Layout) (place : ℕ) (step : Step) (found : List Finding)
+    : Type 0 where
+  pub of_materials : List Finding
+  pub of_products : List Finding
+  pub found_are : found ≡ of_materials ++ of_products
+  pub materials : ListFindings (Some layout) (lists.OfStep place step.name Materials)
+      step.expected_materials of_materials
+  pub products : ListFindings (Some layout) (lists.OfStep place step.name Products)
+      step.expected_products of_products
+
+-- the same of an inspection
+pub record InspectionFindings (layout : Layout) (place : ℕ) (inspection : Inspection)
+    (found : List Finding) : Type 0 where
+  pub of_materials : List Finding
+  pub of_products : List Finding
+  pub found_are : found ≡ of_materials ++ of_products
+  pub materials : ListFindings (Some layout)
+      (lists.OfInspection place inspection.name Materials) inspection.expected_materials
+      of_materials
+  pub products : ListFindings (Some layout)
+      (lists.OfInspection place inspection.name Products) inspection.expected_products
+      of_products
+
+-- what is found in a layout: in its steps, and then in its inspections, each in its order
+pub record LayoutFindings (layout : Layout) (found : List Finding) : Type 0 where
+  pub of_steps : List Finding
+  pub of_inspections : List Finding
+  pub found_are : found ≡ of_steps ++ of_inspections
+  pub steps : Joined (StepFindings layout) layout.steps of_steps
+  pub inspections : Joined (InspectionFindings layout) layout.inspections of_inspections

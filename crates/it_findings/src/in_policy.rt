@@ -1,0 +1,27 @@
+//! What is found in a policy.
+ghost use Rattle.std.specs.Prelude.{IfOk};
+ghost use Rattle.std.specs.Option.{option_copied};
+ghost use Rattle.it_findings.specs.PolicyFindings.{PolicyFindings};
+
+use crate::finding::{Finding, RuleList};
+use crate::in_rules::list_findings;
+use it_docs::layout::Layout;
+use it_docs::policy::Policy;
+use std::alloc::{AllocError, Global};
+
+/// All that is found in a policy: in its rules on what is delivered. `MATCH` takes from what the
+/// `layout` has; where there is none, nothing is said of where it takes from.
+///
+/// # Errors
+///
+/// `AllocError` where memory was refused.
+pub fn policy_findings(
+    alloc: Global,
+    policy: &Policy,
+    layout: Option<&Layout>,
+) -> Result<Vec<Finding>, AllocError>
+    ensures { IfOk result (λ found.
+        PolicyFindings (option_copied layout.entry) policy.now found.items) }
+{
+    list_findings(alloc, layout, &RuleList::Deliver, policy.deliver.as_slice())
+}

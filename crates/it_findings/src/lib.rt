@@ -1,0 +1,13 @@
+//! Findings: what in a policy or a layout reads, and may let through what its author did not mean.
+//! The findings of a document are exactly those of its definition, in its order.
+#![tactic(auto)]
+
+mod closed;
+pub mod finding;
+mod in_layout;
+mod in_policy;
+mod in_rules;
+mod parameter;
+
+pub use in_layout::layout_findings;
+pub use in_policy::policy_findings;

@@ -1,0 +1,20 @@
+use Rattle.std.proofs.Common.{◌∙◌, ◌&&◌}
+use Rattle.std.specs.List.{filter, list_any}
+use Rattle.it_dsse.specs.Meter.{raised}
+use Rattle.it_dsse.specs.Signed.{first_place, is_admitted}
+use Rattle.it_public_keys.proofs.memory.Memory.any_valid.Goals as goal
+
+pub returns-clause-answer : goal.returns-clause-answer
+returns-clause-answer c =
+    let same = rw c.in-Ok-Some.field-0-is at c.in-Ok-Some.ensures in
+    c.any_valid-2.ensures.answer
+    ∙ (λ i. list_any (λ signature. is_admitted c.args.id.now signature
+    && same signature.sig i) c.args.signatures.now)
+
+pub returns-clause-counted : goal.returns-clause-counted
+returns-clause-counted c =
+    let same = rw c.in-Ok-Some.field-0-is at c.in-Ok-Some.ensures in
+    c.any_valid-2.ensures.counted
+    ∙ (λ i. raised c.args.meter.now
+    (first_place (λ signature. same signature.sig i)
+    (filter (is_admitted c.args.id.now) c.args.signatures.now)))

@@ -1,5 +1,0 @@
-use Rattle.it_step_notes.proofs.signed_layout.SignedLayout.in_envelope.Goals as goal
-
-pub returns-in_default : goal.returns-in_default
-returns-in_default c = λ signed is.
-    (rw (c.in_default.is, c.as_slice.ensures) at c.in_ok-layout.ensures) signed.layout is.1

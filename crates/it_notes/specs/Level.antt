@@ -1,7 +1,7 @@
 -- The layout that a refusal is about (in-toto 1.0 sections 4.4 and 5.2; how a place is named is
 -- this profile's choice).
 use Rattle.std.specs.Prelude.{◌≡◌, ℕ, List, [], ◌∷◌, None, Some, IfSome}
-use Rattle.it_chain.specs.Contents.{Contents, folder_at}
+use Rattle.it_chain.specs.Contents.{folder_at}
 use Rattle.it_chain.specs.Judged.{AreStepRecords}
 use Rattle.it_chain.specs.Sublayouts.{folder_name}
 use Rattle.it_docs.specs.Moment.{MomentOf}
@@ -9,7 +9,6 @@ use Rattle.it_dsse.specs.Panel.{Panel}
 use Rattle.it_rule_notes.specs.CountingFile.{setting_of}
 use Rattle.it_step_notes.specs.SignedLayout.{IsSignedLayout}
 use Rattle.it_step_notes.specs.Sublayout.{LeadsDown}
-use Rattle.it_step_notes.specs.declared.signed_layout.SignedLayout.{SignedLayout}
 use Rattle.it_verify.specs.declared.inputs.Inputs.{Inputs}
 use Rattle.it_notes.specs.declared.fault_level.FaultLevel.{FaultLevel}
 

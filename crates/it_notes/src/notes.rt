@@ -1,6 +1,7 @@
 //! The notes on a verification.
 ghost use Rattle.std.specs.Prelude.{IfOk, IfSome};
 ghost use Rattle.it_dsse.specs.Panel.{Panel};
+ghost use Rattle.it_verify.specs.declared.inputs.Inputs.{Inputs};
 ghost use Rattle.it_notes.specs.KeyNotes.{TellsKeys};
 ghost use Rattle.it_notes.specs.Known.{IsKnown, IsTold};
 ghost use Rattle.it_notes.specs.Notes.{AreTrue, TellsLayout, TellsVerdict, TellsWhere};
@@ -150,7 +151,8 @@ fn told_place<C: Checks>(
     told: &Told,
     checks: &C,
 ) -> Result<Option<PlaceNotes>, AllocError>
-    ensures { (inputs : Inputs) → IfSome told.now.known (IsKnown (C.panel checks.now) inputs)
+    requires { (inputs : Inputs) × IsTold (C.panel checks.now) inputs told.now }
+    ensures { (inputs : Inputs) → IsTold (C.panel checks.now) inputs told.now
         → IfOk result (λ found. IfSome found
         (TellsWhere (C.panel checks.now) inputs told.now.verdict)) }
 {

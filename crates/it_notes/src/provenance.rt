@@ -26,8 +26,7 @@ pub(crate) fn provenance_told<C: Checks>(
     ensures { IfOk result (λ told. (best : Option ℕ) → TellsInputs
         (C.panel checks.now) known.now.inputs.now (NoProvenance path.now best) told) }
 {
-    let provenance = known.inputs.provenance.as_slice();
-    if is_laid_out(alloc, provenance)? {
+    if is_laid_out(alloc, known.inputs.provenance.as_slice())? {
         return Ok(RefusalNotes::LaidOut);
     }
     let Some(digests) = known.delivered.get(path) else {
@@ -39,7 +38,7 @@ pub(crate) fn provenance_told<C: Checks>(
     let delivery = Delivery {
         digests,
         expectation,
-        provenance,
+        provenance: known.inputs.provenance.as_slice(),
     };
     let notes = missing_notes(alloc, &delivery, checks)?;
     Ok(RefusalNotes::Provenance(notes))

@@ -34,11 +34,11 @@ pub record MeetsOver (results : List StepResult) (step : Step) (side : Side) (in
 -- the rule at the note's place is one of a step of the layout, and it meets this over the records
 -- of the steps
 pub record TellsMetOver (layout : Layout) (results : List StepResult) (note : MetNote) : Type 0
-    where
-  pub step : Step
-  pub is_step : Contains layout.steps step
-  pub item_is : note.place.item ≡ of_step step.name
-  pub meets : MeetsOver results step note.place.side note.place.index note.met
+  where
+    pub step : Step
+    pub is_step : Contains layout.steps step
+    pub item_is : note.place.item ≡ of_step step.name
+    pub meets : MeetsOver results step note.place.side note.place.index note.met
 
 -- the same over the records with which the steps hold for a bundle
 abbrev pub TellsMet : Setting → ℕ → Layout → Contents → MetNote → Type 0

@@ -26,12 +26,13 @@ start = time.perf_counter()
 child = os.posix_spawnp(sys.argv[2], sys.argv[2:], os.environ)
 _, status, usage = os.wait4(child, 0)
 told = time.perf_counter() - start, usage.ru_maxrss * 1024, os.waitstatus_to_exitcode(status)
-os.write(int(sys.argv[1]), repr(told).encode())
+os.write(int(sys.argv[1]), repr((*told, usage.ru_utime + usage.ru_stime)).encode())
 """
 
 
 class Run:
-    """A run of a command: its output, its status, wall time in seconds, peak memory in bytes."""
+    """A run of a command: its output, its status, wall time and processor time in seconds, peak
+    memory in bytes."""
 
     def __init__(self, command):
         reader, writer = os.pipe()
@@ -40,8 +41,9 @@ class Run:
                               pass_fds=[writer]) as runner:
             os.close(writer)
             self.out = runner.stdout.read()
-        with os.fdopen(reader, "rb") as told:
-            self.seconds, self.peak, self.status = ast.literal_eval(told.read().decode())
+        with os.fdopen(reader, "rb") as answer:
+            told = ast.literal_eval(answer.read().decode())
+            self.seconds, self.peak, self.status, self.used = told
 
 
 def best(command, times=3):

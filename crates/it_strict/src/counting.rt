@@ -3,6 +3,7 @@ ghost use Rattle.std.specs.Prelude.{◌↔◌, ◌≢◌, IfOk, IsTrue};
 ghost use Rattle.std.specs.FinMap.{empty};
 ghost use Rattle.it_rules.specs.Item.{artifacts_on};
 ghost use Rattle.it_chain.specs.StepRules.{recorded_in};
+ghost use Rattle.it_findings.specs.Joined.{Said};
 ghost use Rattle.it_strict.specs.Counting.{AreCounting, Counts, HasPath, LayoutCounting};
 
 use it_chain::chain::StepResult;
@@ -38,15 +39,30 @@ fn counting_of(
 {
     let mut counting = Vec::new(alloc);
     for finding in all {
-        if counts(steps, &finding) {
-            counting.push(finding)?;
-        }
+        let mut here = if_counting(alloc, finding, steps)?;
+        counting.append(&mut here)?;
     }
     Ok(counting)
 }
 
+/// The finding alone where it counts, and otherwise none.
+fn if_counting(
+    alloc: Global,
+    finding: Finding,
+    steps: &[StepResult],
+) -> Result<Vec<Finding>, AllocError>
+    ensures { IfOk result (λ here. Said (Counts steps.now finding) finding here.items) }
+{
+    if !counts(&finding, steps) {
+        return Ok(Vec::new(alloc));
+    }
+    let mut here = Vec::new(alloc);
+    here.push(finding)?;
+    Ok(here)
+}
+
 /// Whether a finding counts where the steps have these records.
-fn counts(steps: &[StepResult], finding: &Finding) -> bool
+fn counts(finding: &Finding, steps: &[StepResult]) -> bool
     ensures { IsTrue result ↔ Counts steps.now finding.now }
 {
     match finding {

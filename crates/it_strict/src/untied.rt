@@ -1,5 +1,6 @@
 //! The delivered files that are tied to no step.
 ghost use Rattle.std.specs.Prelude.{◌≡◌, IfOk, map};
+ghost use Rattle.it_rules.specs.Item.{links_of};
 ghost use Rattle.it_rules.specs.Rules.{NamesDiffer};
 ghost use Rattle.it_ties.specs.Ties.{AreUntied};
 ghost use Rattle.it_verify.specs.Delivered.{delivery};
@@ -7,7 +8,7 @@ ghost use Rattle.it_verify.specs.Evidence.{evidence_links};
 
 use it_base::text::Text;
 use it_digest::artifacts::Artifacts;
-use it_rules::item::Item;
+use it_rules::item::{Item, Named};
 use it_ties::untied_paths;
 use it_verify::documents::Documents;
 use it_verify::evidence::Evidence;
@@ -29,8 +30,29 @@ pub(crate) fn untied_files(
         documents.now.policy.deliver (delivery documents.now.delivered)
         (evidence_links evidence.now) paths.items) }
 {
-    let steps = evidence.steps.as_slice();
-    let links = named_links(alloc, steps, evidence.inspections.as_slice())?;
+    let links = links_in(alloc, evidence)?;
+    untied_among(alloc, documents, links.as_slice())
+}
+
+/// What the `MATCH` rules of a delivery look at.
+fn links_in(alloc: Global, evidence: &Evidence) -> Result<Vec<Named<'_>>, AllocError>
+    ensures { IfOk result (λ links. links_of links.items ≡ evidence_links evidence.now) }
+{
+    let inspections = evidence.inspections.as_slice();
+    named_links(alloc, evidence.steps.as_slice(), inspections)
+}
+
+/// The same where the rules look at these links.
+fn untied_among(
+    alloc: Global,
+    documents: &Documents,
+    links: &[Named],
+) -> Result<Vec<Text>, AllocError>
+    requires { NamesDiffer (links_of links.now) }
+    ensures { IfOk result (λ paths. AreUntied documents.now.layout.steps
+        documents.now.policy.deliver (delivery documents.now.delivered)
+        (links_of links.now) paths.items) }
+{
     let none = Artifacts::new(alloc);
     let item = Item {
         materials: &none,
@@ -38,7 +60,7 @@ pub(crate) fn untied_files(
     };
     let steps = documents.layout.steps.as_slice();
     let rules = documents.policy.deliver.as_slice();
-    let paths = untied_paths(alloc, steps, rules, &item, links.as_slice())?;
+    let paths = untied_paths(alloc, steps, rules, &item, links)?;
     texts_of(alloc, paths.as_slice())
 }
 

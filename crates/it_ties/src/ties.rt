@@ -34,5 +34,8 @@ fn ties(steps: &[Step], rule: &Rule) -> bool
 fn names_step(steps: &[Step], name: &str) -> bool
     ensures { IsTrue result ↔ NamesStep steps.now name.now }
 {
-    step_named(steps, name).is_some()
+    match step_named(steps, name) {
+        Some(_) => true,
+        None => false,
+    }
 }

@@ -16,8 +16,9 @@ use Rattle.it_rules.specs.Rules.{Claims, IsFree, Stands}
 use Rattle.it_chain.specs.StepRules.{recorded_in}
 use Rattle.it_ties.specs.Ties.{Ties}
 use Rattle.it_verify.specs.Delivered.{delivery}
-use Rattle.it_verify.specs.Documents.{Documents}
-use Rattle.it_verify.specs.Evidence.{Evidence, IsEvidence, evidence_links}
+use Rattle.it_verify.specs.Evidence.{IsEvidence, evidence_links}
+use Rattle.it_verify.specs.declared.documents.Documents.{Documents}
+use Rattle.it_verify.specs.declared.evidence.Evidence.{Evidence}
 use Rattle.it_verify.specs.declared.inputs.Inputs.{Inputs}
 use Rattle.it_strict.specs.StrictLaws.{DeliveredAreProducts, IsProduct}
 use Rattle.it_strict.proofs.Stepped.{linked_is, step_with}

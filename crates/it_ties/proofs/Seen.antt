@@ -1,5 +1,5 @@
 -- The paths of a map, one after another, of which those are kept that have a property.
-use Rattle.std.proofs.Common.{◌≡◌, ◌∙◌, ◌↔◌, ℕ, ◌+◌, ◌<◌, List, [], ◌∷◌, ◌++◌, length, Some, refl}
+use Rattle.std.proofs.Common.{◌≡◌, ◌∙◌, ◌↔◌, ℕ, ◌+◌, List, [], ◌∷◌, ◌++◌, length, Some, refl}
 use Rattle.std.proofs.Common.{Contains, ap, arith, subst, sym, append-nil, append_assoc}
 use Rattle.std.proofs.Common.{Bor, Global, String, length-append, map, string_bytes}
 use Rattle.std.specs.FinMap.{keys}

@@ -21,11 +21,10 @@ fn ties(steps: &[Step], rule: &Rule) -> bool
     ensures { IsTrue result ↔ Ties steps.now rule.now }
 {
     match rule {
-        Rule::Match {
-            side: Side::Products,
-            from,
-            ..
-        } => names_step(steps, from.as_str()),
+        Rule::Match { side, from, .. } => match side {
+            Side::Products => names_step(steps, from.as_str()),
+            Side::Materials => false,
+        },
         _ => false,
     }
 }

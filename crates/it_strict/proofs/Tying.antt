@@ -1,6 +1,6 @@
 -- A path is tied to a step, or it is not.
 use Rattle.std.proofs.Common.{◌≡◌, ◌∙◌, ◌⊎◌, ◌↔◌, inl, inr, ℕ, zero, suc, ◌<◌, List, length, Option}
-use Rattle.std.proofs.Common.{Some, None, Bool, true, false, Decides, IsTrue, Any, refl, sym, ap}
+use Rattle.std.proofs.Common.{Some, None, Bool, true, false, Decides, IsTrue, Any, refl, ap}
 use Rattle.std.proofs.Common.{arith}
 use Rattle.std.specs.List.{list_any, slice_get}
 use Rattle.std.specs.Str.{bytes_eq}

@@ -8,7 +8,8 @@ pub returns : goal.returns
 unfolding untied_line
 returns c =
     let start = c.args.text.now.items in
-    let words = codes "policy untied-file /deliver: no MATCH rule WITH PRODUCTS FROM a step takes \"" in
+    let words =
+    codes "policy untied-file /deliver: no MATCH rule WITH PRODUCTS FROM a step takes \"" in
     let name = name_form c.args.path.now in
     let named : c.push_name.new.text.items ≡ start ++ (words ++ name) =
     c.in_ok-push_name.ensures

@@ -1,0 +1,4 @@
+pub mod Counted
+pub mod Stepped
+pub mod Taken
+pub mod Tying

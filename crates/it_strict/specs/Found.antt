@@ -1,0 +1,23 @@
+-- What is found where a delivery is accepted (this project's words).
+use Rattle.std.specs.Prelude.{◌≡◌, [], Some}
+use Rattle.it_findings.specs.PolicyFindings.{PolicyFindings}
+use Rattle.it_ties.specs.Ties.{AreUntied}
+use Rattle.it_verify.specs.Delivered.{delivery}
+use Rattle.it_verify.specs.Documents.{Documents}
+use Rattle.it_verify.specs.Evidence.{Evidence, evidence_links}
+use Rattle.it_strict.specs.Counting.{LayoutCounting}
+pub use Rattle.it_strict.specs.declared.found.Found.{Found}
+
+-- what is found: in the policy, whose MATCH may take from what the layout has; in the layout, as
+-- far as it counts; and the delivered files that are tied to no step
+pub record AreFound (documents : Documents) (evidence : Evidence) (found : Found) : Type 0 where
+  pub policy : PolicyFindings (Some documents.layout) documents.policy found.of_policy
+  pub layout : LayoutCounting documents.layout evidence.steps found.of_layout
+  pub untied : AreUntied documents.layout.steps documents.policy.deliver
+      (delivery documents.delivered) (evidence_links evidence) found.untied
+
+-- nothing is found
+pub record IsNothing (found : Found) : Type 0 where
+  pub of_policy : found.of_policy ≡ []
+  pub of_layout : found.of_layout ≡ []
+  pub untied : found.untied ≡ []

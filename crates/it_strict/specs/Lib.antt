@@ -1,0 +1,4 @@
+pub mod Counting
+pub mod Found
+pub mod FoundText
+pub mod StrictLaws

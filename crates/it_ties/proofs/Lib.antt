@@ -1,0 +1,3 @@
+pub mod ProductPaths
+pub mod Seen
+pub mod Tied

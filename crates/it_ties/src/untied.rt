@@ -1,0 +1,42 @@
+//! The paths of products that are not tied to a step.
+ghost use Rattle.std.specs.Prelude.{map, IfOk};
+ghost use Rattle.it_rules.specs.Item.{links_of, recorded_of};
+ghost use Rattle.it_rules.specs.Rules.{NamesDiffer};
+ghost use Rattle.it_ties.specs.Ties.{AreUntied};
+
+use crate::claimed::first_claim;
+use crate::ties::is_tying;
+use it_docs::rule::Rule;
+use it_docs::step::Step;
+use it_rules::item::{Item, Named};
+use std::alloc::{AllocError, Global};
+
+/// The paths of an item's products that no rule ties to one of the `steps`, in the order of their
+/// bytes. A path is tied where the first of the rules that claims it (in-toto 1.0, section 4.3.3)
+/// is a `MATCH` with the products of a step.
+///
+/// `links` are the items that `MATCH` rules may name, under names that all differ.
+///
+/// # Errors
+///
+/// `AllocError` where memory was refused.
+pub fn untied_paths<'a>(
+    alloc: Global,
+    steps: &[Step],
+    rules: &[Rule],
+    item: &Item<'a>,
+    links: &[Named],
+) -> Result<Vec<&'a str>, AllocError>
+    requires { NamesDiffer (links_of links.now) }
+    ensures { IfOk result (λ paths. AreUntied steps.now rules.now (recorded_of item.now)
+        (links_of links.now) (map (λ path. path.now) paths.items)) }
+{
+    let mut untied = Vec::new(alloc);
+    for path in item.products.paths() {
+        let path = path.as_str();
+        if !is_tying(steps, first_claim(alloc, rules, item, links, path)?) {
+            untied.push(path)?;
+        }
+    }
+    Ok(untied)
+}

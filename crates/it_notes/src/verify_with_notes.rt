@@ -54,7 +54,7 @@ pub fn verify_with_notes<C: Checks, W: Write, N: Write>(
 }
 
 /// Writes the notes on a verdict, as far as memory suffices and they can be written.
-fn note<C: Checks, N: Write>(
+pub(crate) fn note<C: Checks, N: Write>(
     alloc: Global,
     inputs: &Inputs,
     verdict: &Verdict,

@@ -51,9 +51,7 @@ pub fn verify_strictly<C: Checks, W: Write, N: Write>(
         → out.new ≡ out.old) }
 {
     let verdict = strict_verdict(alloc, inputs, checks, notes)?;
-    let outcome = write_in(alloc, form, &verdict, out);
-    if outcome.is_ok() {
-        note(alloc, inputs, &verdict, checks, notes);
-    }
-    Ok(outcome?)
+    let status = write_in(alloc, form, &verdict, out)?;
+    note(alloc, inputs, &verdict, checks, notes);
+    Ok(status)
 }

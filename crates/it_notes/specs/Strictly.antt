@@ -1,8 +1,9 @@
 -- What a strict verification finds (a word of this project).
 use Rattle.it_dsse.specs.Panel.{Panel}
-use Rattle.it_strict.specs.Found.{AreFound, Found, IsNothing}
-use Rattle.it_verify.specs.Documents.{Documents}
-use Rattle.it_verify.specs.Evidence.{Evidence}
+use Rattle.it_strict.specs.Found.{AreFound, IsNothing}
+use Rattle.it_strict.specs.declared.found.Found.{Found}
+use Rattle.it_verify.specs.declared.documents.Documents.{Documents}
+use Rattle.it_verify.specs.declared.evidence.Evidence.{Evidence}
 use Rattle.it_verify.specs.Made.{IsMadeBy}
 use Rattle.it_verify.specs.declared.inputs.Inputs.{Inputs}
 

@@ -2,7 +2,7 @@
 ghost use Rattle.std.specs.Prelude.{◌≡◌, ◌≤◌, ◌⊎◌, IfErr, IfOk, IsErrOf, OnOk};
 ghost use Rattle.it_base.specs.Writing.{AppendsBeginning};
 ghost use Rattle.it_dsse.specs.Panel.{Panel};
-ghost use Rattle.it_strict.specs.Found.{AreFound, Found, IsNothing};
+ghost use Rattle.it_strict.specs.Found.{AreFound, IsNothing};
 ghost use Rattle.it_strict.specs.FoundText.{found_text};
 ghost use Rattle.it_verify.specs.Made.{IsMadeBy, verdict_of};
 ghost use Rattle.it_verify.specs.Verdict.{IsVerdict, OnAccepted};

@@ -6,7 +6,7 @@ definitions of a file (such as it_verify/specs/Made.antt), or which types of a s
 quotes. Fails where a quotation is not what the file has, where a definition that the headline rests
 on is not quoted, where one that it does not rest on is quoted, and where the two entry pages do not
 name exactly these definitions in this order: HeadlineParts.antt has those from the heading on path
-patterns on.
+patterns on. A line <!-- beside FILE: NAME --> quotes what the headline does not rest on.
 
     headline.py          checks
     headline.py --write  quotes anew, and writes the entry pages; finds a definition that moved to
@@ -48,7 +48,8 @@ ROOTS = [
     "it_dsse/specs/Panel.antt:panel_of",
 ]
 QUOTATION = re.compile(
-    r"<!-- (?P<file>\S+): (?P<names>[^\n]+?) -->\n(?:```\w*\n(?P<text>.*?)```\n)?", re.DOTALL
+    r"<!-- (?P<beside>beside )?(?P<file>\S+): (?P<names>[^\n]+?) -->\n"
+    r"(?:```\w*\n(?P<text>.*?)```\n)?", re.DOTALL
 )
 HEAD = (
     "What the headline rests on: every definition that `Made` leads to, in the order in which "
@@ -153,7 +154,8 @@ def quotation(graph, file, names):
 
 def quotation_as(graph, found):
     """What a quotation on the page should be."""
-    return quotation(graph, found["file"], found["names"].split())
+    text = quotation(graph, found["file"], found["names"].split())
+    return text.replace("<!-- ", "<!-- beside ") if found["beside"] else text
 
 
 def with_quotations(graph, page):
@@ -162,9 +164,10 @@ def with_quotations(graph, page):
 
 
 def quoted_keys(graph, page):
-    """The definitions that a page quotes, in order."""
+    """The definitions that a page quotes, in order, but for those that are quoted beside."""
     return [key_of(graph, found["file"], name) for found in QUOTATION.finditer(page)
-            if not found["file"].endswith(".rt") for name in found["names"].split()]
+            if not found["file"].endswith(".rt") and not found["beside"]
+            for name in found["names"].split()]
 
 
 def lost_names(graph, page):

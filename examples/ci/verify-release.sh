@@ -6,4 +6,4 @@ set -eu
 jq --arg ref "${REF:?}" '.expectations[].parameters.ref = $ref' release/policy.json > policy.json
 itv digest --recursive dist > sums
 exec itv verify --policy policy.json --layout release/layout.envelope.json --links links \
-    --provenance provenance.jsonl --sums sums --at "$(date -u +%FT%TZ)" --public-keys "$@"
+    --provenance provenance.jsonl --sums sums --at "$(date -u +%FT%TZ)" --public-keys --strict "$@"

@@ -2,3 +2,4 @@ mod Both
 mod Delivering
 mod Levels
 mod Seeing
+pub mod Strict

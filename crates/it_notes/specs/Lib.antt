@@ -5,4 +5,5 @@ pub mod Level
 pub mod Notes
 pub mod PlaceNotes
 pub mod RefusalNotes
+pub mod Strictly
 pub mod VerifyOutputIn

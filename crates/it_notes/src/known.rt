@@ -1,14 +1,16 @@
 //! What the verification read and found, from which the notes are made.
 ghost use Rattle.std.specs.Prelude.{◌≤◌, IfOk, IfSome};
 ghost use Rattle.it_dsse.specs.Panel.{Panel};
-ghost use Rattle.it_verify.specs.Grounds.{IsFound};
+ghost use Rattle.it_verify.specs.Grounds.{IsFound, IsOutcome};
 ghost use Rattle.it_verify.specs.Made.{IsMadeBy};
+ghost use Rattle.it_verify.specs.declared.grounds.Outcome.TheVariants.{Refused};
 ghost use Rattle.it_notes.specs.Known.{IsKnown, IsTold};
 
 use crate::fault_level::FaultLevel;
 use it_digest::artifacts::Artifacts;
 use it_docs::policy::Policy;
 use it_dsse::checks::Checks;
+use it_report::refusal::Refusal;
 use it_report::verdict::Verdict;
 use it_step_notes::signed_layout::SignedLayout;
 use it_verify::documents::Documents;
@@ -56,10 +58,18 @@ pub(crate) fn verify_told<'a, C: Checks>(
 {
     match verify_grounds(alloc, inputs, checks)? {
         Outcome::Made(grounds) => made_told(alloc, inputs, grounds),
-        Outcome::Refused { refusal, found } => Ok(Told {
-            verdict: Verdict::Refused(refusal),
-            known: known_of(inputs, found),
-        }),
+        Outcome::Refused { refusal, found } => Ok(refused_told(inputs, refusal, found)),
+    }
+}
+
+/// The verdict that refuses, and what was found before it.
+pub(crate) fn refused_told(inputs: &Inputs, refusal: Refusal, found: Option<Found>) -> Told<'_>
+    ensures { (panel : Panel) → IsOutcome panel inputs.now (Refused refusal found)
+        → IsTold panel inputs.now result }
+{
+    Told {
+        verdict: Verdict::Refused(refusal),
+        known: known_of(inputs, found),
     }
 }
 

@@ -1,15 +1,17 @@
 -- What the commands write and find, by their words and by what is at the paths in them.
-use Rattle.std.specs.Prelude.{ℕ, List, Bool, true, false}
+use Rattle.std.specs.Prelude.{◌≡◌, ℕ, List, Bool, true, false, IsTrue}
 use Rattle.std.specs.List.{AllZip}
 use Rattle.it_dsse.specs.Panel.{panel_of}
 use Rattle.it_dsse.specs.declared.ring_entry.RingEntry.{RingEntry}
 use Rattle.it_commands.specs.MatchOutput.{IsMatchOutput}
 use Rattle.it_json_report.specs.declared.form.ReportForm.{ReportForm}
 use Rattle.it_json_report.specs.declared.form.ReportForm.TheVariants.{Lines, Json}
+use Rattle.it_notes.specs.Strictly.{HasFindings, StandsStrictly}
 use Rattle.it_notes.specs.VerifyOutputIn.{IsVerifyOutputIn}
 use Rattle.it_public_keys.specs.OwnChecks.{own_checks}
 use Rattle.it_verify.specs.declared.inputs.Inputs.{Inputs}
 use Rattle.it_outcome.specs.declared.outcome.Status.{Status}
+use Rattle.it_outcome.specs.declared.outcome.Status.TheVariants.{Good}
 use Rattle.it_words.specs.declared.words.Words.{Words}
 use Rattle.it_words.specs.declared.words.Words.TheVariants.{Signed, Match, Pae, Sign, Digest}
 use Rattle.it_words.specs.declared.words.Words.TheVariants.{Check}
@@ -27,7 +29,8 @@ form_asked false = Lines
 form_asked true = Json
 
 -- verify: the output of verifying the inputs, checked by the rings in the order of the words, and
--- then, where they are asked for, by public keys
+-- then, where they are asked for, by public keys; with --strict, nothing is found in what is
+-- accepted
 pub record Verifies (disk : Holdings) (words : VerifyWords) (text : List ℕ)
     (status : Status) : Type 0 where
   pub inputs : Inputs
@@ -36,6 +39,17 @@ pub record Verifies (disk : Holdings) (words : VerifyWords) (text : List ℕ)
   pub holds_rings : AllZip (HoldsRing disk) words.rings rings
   pub is_output : IsVerifyOutputIn (form_asked words.json)
       (panel_of (own_checks rings words.public_keys)) inputs text status
+  pub stands : IsTrue words.strict → status ≡ Good
+      → StandsStrictly (panel_of (own_checks rings words.public_keys)) inputs
+
+-- verify --strict: all that was prescribed holds of the inputs, and something is found
+pub record FindsAgainst (disk : Holdings) (words : VerifyWords) : Type 0 where
+  pub is_strict : IsTrue words.strict
+  pub inputs : Inputs
+  pub are_inputs : AreInputs disk words inputs
+  pub rings : List (List RingEntry)
+  pub holds_rings : AllZip (HoldsRing disk) words.rings rings
+  pub has_findings : HasFindings (panel_of (own_checks rings words.public_keys)) inputs
 
 -- what a command writes and finds
 abbrev pub IsOutputOf : Holdings → Words → List ℕ → Status → Type 0

@@ -14,9 +14,11 @@
 mod command_line;
 mod running;
 mod status;
+mod stop;
 mod verify_command;
 
 pub use command_line::words;
 pub use it_file_commands::Remembering;
 pub use running::{run_to, run_words};
 pub use status::exit_status;
+pub use stop::Stop;

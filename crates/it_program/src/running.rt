@@ -1,10 +1,13 @@
 //! A command, run by its words.
-ghost use Rattle.std.specs.Prelude.{◌≡◌, ◌≢◌, ◌⊎◌, None, IfErr, IfOk, map, string_bytes};
+ghost use Rattle.std.specs.Prelude.{◌≡◌, ◌≢◌, ◌⊎◌, None, IfErr, IfOk, IsErrOf, map};
+ghost use Rattle.std.specs.Prelude.{string_bytes};
 ghost use Rattle.std.specs.Io.KnownBytes.{Appends};
 ghost use Rattle.it_words.specs.Words.{AreWordsOf, GoesNoDeeper};
 ghost use Rattle.it_program.specs.Commands.{IsOutputOf};
-ghost use Rattle.it_program.specs.Stopped.{IsDigestBegun, NamesDigestBegun};
+ghost use Rattle.it_program.specs.Stopped.{IsDigestBegun, IsFoundAgainst, NamesDigestBegun};
+ghost use Rattle.it_program.specs.Stopped.{NamesFoundAgainst};
 
+use crate::stop::Stop;
 use crate::verify_command;
 use it_disk::{Disk, Fault};
 use it_file_commands::{
@@ -27,20 +30,22 @@ pub fn run_to<R: Disk + AllocGlobal, W: Write, N: Write>(
     words: &[String],
     out: &mut Remembering<W>,
     notes: &mut N,
-) -> Result<Status, Fault>
+) -> Result<Status, Stop>
     ensures ok { IfOk result (λ status. (command : _) × (text : _)
         × AreWordsOf (map string_bytes words.now) command
         × IsOutputOf R.holdings command text status
         × Appends (W.contents out.old.inner) (W.contents out.new.inner) text) }
-    ensures stopped { IfErr result (λ fault. fault ≢ Fault.Run RunFault.Write
+    ensures stopped { IfErr result (λ stop. stop ≢ Stop.OfFault (Fault.Run RunFault.Write)
         → out.new.error ≡ None → (out.new.inner ≡ out.old.inner)
         ⊎ NamesDigestBegun R.holdings (map string_bytes words.now) (W.contents out.old.inner)
         (W.contents out.new.inner)) }
+    ensures findings { IsErrOf result Stop.Findings
+        → NamesFoundAgainst R.holdings (map string_bytes words.now) }
 {
     let outcome = run_words(rt, words, out, notes);
     match (outcome, out.error) {
-        (Err(Fault::Run(RunFault::Write)), Some(error)) => {
-            Err(Fault::of_output(rt.alloc(), &error))
+        (Err(Stop::OfFault(Fault::Run(RunFault::Write))), Some(error)) => {
+            Err(Stop::OfFault(Fault::of_output(rt.alloc(), &error)))
         }
         (outcome, _) => outcome,
     }
@@ -51,7 +56,8 @@ pub fn run_to<R: Disk + AllocGlobal, W: Write, N: Write>(
 ///
 /// # Errors
 ///
-/// `Fault::Words` where the words do not parse, `Fault::Run` where the command stopped, and
+/// `Fault::Words` where the words do not parse, `Fault::Run` where the command stopped,
+/// `Stop::Findings` where `verify --strict` found something in what it would have accepted, and
 /// otherwise the fault of the file, folder, line or key that kept it from running. Then nothing has
 /// gone out, except for `digest` the lines of earlier files, and, where the output could not be
 /// written, a beginning of it.
@@ -60,14 +66,16 @@ pub fn run_words<R: Disk + AllocGlobal, W: Write, N: Write>(
     words: &[String],
     out: &mut W,
     notes: &mut N,
-) -> Result<Status, Fault>
+) -> Result<Status, Stop>
     ensures ok { IfOk result (λ status. (command : _) × (text : _)
         × AreWordsOf (map string_bytes words.now) command
         × IsOutputOf R.holdings command text status
         × Appends (W.contents out.old) (W.contents out.new) text) }
-    ensures stopped { IfErr result (λ fault. fault ≢ Fault.Run RunFault.Write
+    ensures stopped { IfErr result (λ stop. stop ≢ Stop.OfFault (Fault.Run RunFault.Write)
         → (out.new ≡ out.old) ⊎ NamesDigestBegun R.holdings (map string_bytes words.now)
         (W.contents out.old) (W.contents out.new)) }
+    ensures findings { IsErrOf result Stop.Findings
+        → NamesFoundAgainst R.holdings (map string_bytes words.now) × (out.new ≡ out.old) }
 {
     let command = read_words(rt.alloc(), words)?;
     run_command(rt, &command, out, notes)
@@ -78,26 +86,28 @@ fn run_command<R: Disk + AllocGlobal, W: Write, N: Write>(
     command: &Words,
     out: &mut W,
     notes: &mut N,
-) -> Result<Status, Fault>
+) -> Result<Status, Stop>
     requires { GoesNoDeeper command.now }
     ensures ok { IfOk result (λ status. (text : _)
         × IsOutputOf R.holdings command.now text status
         × Appends (W.contents out.old) (W.contents out.new) text) }
-    ensures stopped { IfErr result (λ fault. fault ≢ Fault.Run RunFault.Write
+    ensures stopped { IfErr result (λ stop. stop ≢ Stop.OfFault (Fault.Run RunFault.Write)
         → (out.new ≡ out.old) ⊎ IsDigestBegun R.holdings command.now (W.contents out.old)
         (W.contents out.new)) }
+    ensures findings { IsErrOf result Stop.Findings
+        → IsFoundAgainst R.holdings command.now × (out.new ≡ out.old) }
 {
     match command {
-        Words::Signed(words) => signed_command::run(rt, words, out),
-        Words::Match(words) => match_command::run(rt.alloc(), words, out),
-        Words::Pae(words) => pae_command::run(rt, words, out),
-        Words::Sign(words) => sign_command::run(rt, words, out),
-        Words::Digest(words) => digest_command::run(rt, words, out),
-        Words::Link(words) => link_command::run(rt, words, out),
-        Words::Statement(words) => statement_command::run(rt, words, out),
-        Words::Payload(words) => payload_command::run(rt, words, out),
-        Words::Key(words) => key_command::run(rt, words, out),
-        Words::Check(words) => check_command::run(rt, words, out, notes),
+        Words::Signed(words) => Ok(signed_command::run(rt, words, out)?),
+        Words::Match(words) => Ok(match_command::run(rt.alloc(), words, out)?),
+        Words::Pae(words) => Ok(pae_command::run(rt, words, out)?),
+        Words::Sign(words) => Ok(sign_command::run(rt, words, out)?),
+        Words::Digest(words) => Ok(digest_command::run(rt, words, out)?),
+        Words::Link(words) => Ok(link_command::run(rt, words, out)?),
+        Words::Statement(words) => Ok(statement_command::run(rt, words, out)?),
+        Words::Payload(words) => Ok(payload_command::run(rt, words, out)?),
+        Words::Key(words) => Ok(key_command::run(rt, words, out)?),
+        Words::Check(words) => Ok(check_command::run(rt, words, out, notes)?),
         Words::Verify(words) => verify_command::run(rt, words, out, notes),
     }
 }

@@ -1,22 +1,27 @@
 //! `itv verify`: whether delivered files were made as the owners prescribed.
-ghost use Rattle.std.specs.Prelude.{◌≡◌, ◌≢◌, ◌≤◌, ◌⊎◌, IfErr, IfOk, IsTrue, OnOk};
+ghost use Rattle.std.specs.Prelude.{◌≡◌, ◌≢◌, ◌≤◌, ◌⊎◌, IfErr, IfOk, IsErrOf, IsTrue, OnOk};
 ghost use Rattle.std.specs.Io.KnownBytes.{Appends};
 ghost use Rattle.std.specs.List.{AllZip};
-ghost use Rattle.it_program.specs.Commands.{Verifies, form_asked};
+ghost use Rattle.it_notes.specs.Strictly.{HasFindings, StandsStrictly};
+ghost use Rattle.it_notes.specs.VerifyOutputIn.{IsVerifyOutputIn};
+ghost use Rattle.it_program.specs.Commands.{FindsAgainst, Verifies, form_asked};
 ghost use Rattle.it_limits.specs.Limit.{IsWithinLimit};
 ghost use Rattle.it_disk.specs.Faults.{IsUnreadable};
 ghost use Rattle.it_disk.specs.Reading.{AreLimited, HoldsIfGiven, HoldsRing};
 ghost use Rattle.it_program.specs.Inputs.{AreInputs, HoldsLookedAt};
 
+use crate::stop::Stop;
 use it_base::sequence::Sequence;
 use it_base::text::Text;
 use it_chain::bundle::Bundle;
 use it_disk::{
     Disk, Fault, LeftOut, TooMany, bytes, bytes_if_given, note_left_out, read_ring, too_many,
 };
+use it_dsse::checks::Checks;
 use it_dsse::ring::HmacRing;
 use it_json_report::form::ReportForm;
 use it_limits::lines_within_limit;
+use it_notes::verify_strictly::verify_strictly;
 use it_notes::verify_with_notes::verify_with_notes;
 use it_outcome::{RunFault, Status};
 use it_public_keys::own_checks::OwnChecks;
@@ -26,26 +31,56 @@ use std::alloc::Global;
 use std::io::Write;
 
 /// Reads all files and folders and the rings, notes what is left out, and writes the report of the
-/// verdict and then the notes on it.
+/// verdict and then the notes on it. With `--strict` it stops where something is found in what it
+/// would accept, and the lines of that go to `notes`.
 pub(crate) fn run<R: Disk + AllocGlobal, W: Write, N: Write>(
     rt: &R,
     words: &VerifyWords,
     out: &mut W,
     notes: &mut N,
-) -> Result<Status, Fault>
+) -> Result<Status, Stop>
     requires { words.now.depth ≤ 8 }
     ensures ok { IfOk result (λ status. (text : _) × Verifies R.holdings words.now text status
         × Appends (W.contents out.old) (W.contents out.new) text) }
-    ensures nothing { IfErr result (λ fault. fault ≢ Fault.Run RunFault.Write → out.new ≡ out.old) }
+    ensures nothing { IfErr result (λ stop. stop ≢ Stop.OfFault (Fault.Run RunFault.Write)
+        → out.new ≡ out.old) }
+    ensures findings { IsErrOf result Stop.Findings → FindsAgainst R.holdings words.now }
 {
     let alloc = rt.alloc();
     let mut left_out = Vec::new(alloc);
     let inputs = inputs(rt, words, &mut left_out)?;
     let rings = read_rings(rt, words.rings.as_slice())?;
     let checks = OwnChecks::new(alloc, rings, words.public_keys);
-    let form = form_asked(words.json);
     note_left_out(alloc, left_out.as_slice(), notes);
-    Ok(verify_with_notes(alloc, &inputs, &checks, form, out, notes)?)
+    verify_as_asked(alloc, words, &inputs, &checks, out, notes)
+}
+
+/// Verifies the inputs by the checks, in the form and as strictly as the words ask.
+fn verify_as_asked<C: Checks, W: Write, N: Write>(
+    alloc: Global,
+    words: &VerifyWords,
+    inputs: &Inputs,
+    checks: &C,
+    out: &mut W,
+    notes: &mut N,
+) -> Result<Status, Stop>
+    requires { inputs.now.depth ≤ 8 }
+    ensures ok { IfOk result (λ status. (text : _)
+        × IsVerifyOutputIn (form_asked words.now.json) (C.panel checks.now) inputs.now text status
+        × Appends (W.contents out.old) (W.contents out.new) text) }
+    ensures stands { IfOk result (λ status. IsTrue words.now.strict → status ≡ Status.Good
+        → StandsStrictly (C.panel checks.now) inputs.now) }
+    ensures nothing { IfErr result (λ stop. stop ≢ Stop.OfFault (Fault.Run RunFault.Write)
+        → out.new ≡ out.old) }
+    ensures findings { IsErrOf result Stop.Findings
+        → IsTrue words.now.strict × HasFindings (C.panel checks.now) inputs.now }
+{
+    let form = form_asked(words.json);
+    if words.strict {
+        Ok(verify_strictly(alloc, inputs, checks, form, out, notes)?)
+    } else {
+        Ok(verify_with_notes(alloc, inputs, checks, form, out, notes)?)
+    }
 }
 
 /// The form that is asked for.

@@ -150,6 +150,7 @@ pub record IsVerify (values : List Row) (words : VerifyWords) : Type 0 where
   pub rings : AreRings (all_of (codes "ring") values) words.rings
   pub public_keys : words.public_keys ≡ nat_lt 0 (count_of (codes "public-keys") values)
   pub json : words.json ≡ nat_lt 0 (count_of (codes "json") values)
+  pub strict : words.strict ≡ nat_lt 0 (count_of (codes "strict") values)
   pub has_check : HasCheck words.rings words.public_keys
   pub provenance : first_of (codes "provenance") values ≡ words.provenance
   pub records : first_of (codes "records") values ≡ words.records

@@ -4,9 +4,9 @@
 //! its status.
 #![tactic(auto)]
 
-use it_disk::{Disk, Fault};
+use it_disk::Disk;
 use it_outcome::Status;
-use it_program::{Remembering, exit_status, run_to, words};
+use it_program::{Remembering, Stop, exit_status, run_to, words};
 use std::io;
 use std::io::Write;
 use std::process::ExitCode;
@@ -14,8 +14,8 @@ use std::rt::Env;
 
 fn main(rt: HostRuntime) -> ExitCode {
     let outcome = run(&rt, &mut rt.stderr());
-    if let Err(fault) = &outcome {
-        let _ = eprintln!(rt; "itv: {fault}");
+    if let Err(stop) = &outcome {
+        let _ = eprintln!(rt; "itv: {stop}");
     }
     ExitCode::from(exit_status(&outcome))
 }
@@ -24,7 +24,7 @@ fn main(rt: HostRuntime) -> ExitCode {
 fn run<R: Env + Disk + Print + AllocGlobal, N: Write>(
     rt: &R,
     notes: &mut N,
-) -> Result<Status, Fault> {
+) -> Result<Status, Stop> {
     let words = words(rt)?;
     run_to(
         rt,

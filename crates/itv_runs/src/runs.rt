@@ -103,7 +103,7 @@ fn run_to_full(alloc: Global, row: &Value) -> Result<String, RowFault> {
     let status = exit_status(&outcome);
     match outcome {
         Ok(_) => Ok(format!(in alloc; "{status}")?),
-        Err(fault) => Ok(format!(in alloc; "{status} {fault}")?),
+        Err(stop) => Ok(format!(in alloc; "{status} {stop}")?),
     }
 }
 

@@ -36,8 +36,8 @@ fn shown_or_none(text: &Option<Text>) -> &str {
     }
 }
 
-/// The rings, with a star if public keys are checked too, and a question mark if the report is to
-/// be JSON.
+/// The rings, with a star if public keys are checked too, a question mark if the report is to be
+/// JSON, and an exclamation mark if nothing may be found.
 fn shown_checks(alloc: Global, words: &VerifyWords) -> Result<String, AllocError> {
     let mut checks = joined(alloc, words.rings.as_slice())?;
     if words.public_keys {
@@ -45,6 +45,9 @@ fn shown_checks(alloc: Global, words: &VerifyWords) -> Result<String, AllocError
     }
     if words.json {
         checks.push('?')?;
+    }
+    if words.strict {
+        checks.push('!')?;
     }
     Ok(checks)
 }

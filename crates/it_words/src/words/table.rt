@@ -146,6 +146,7 @@ const VERIFY: CommandRow = CommandRow {
         Argument::PlainOptions("ring", "F"),
         Argument::BareOption("public-keys"),
         Argument::BareOption("json"),
+        Argument::BareOption("strict"),
         Argument::PlainOption("provenance", "F"),
         Argument::PlainOption("records", "DIR"),
         Argument::Depth,

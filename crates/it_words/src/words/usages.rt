@@ -17,7 +17,8 @@ pub(super) static USAGES: [Usage; 11] = [
 pub(super) const VERIFY: Usage = Usage {
     name: "verify",
     line: "itv verify --policy F --layout F --links DIR --sums F --at MOMENT [--ring F..]
-    [--public-keys] [--json] [--provenance F] [--records DIR] [--depth N]",
+    [--public-keys] [--json] [--strict] [--provenance F] [--records DIR]
+    [--depth N]",
     text: "    Writes the report of the verification: the line accepted with each step and
     each file, or the line refused with the first thing that does not hold.
       --policy F      The policy: the owners of the layout, what may be
@@ -35,6 +36,9 @@ pub(super) const VERIFY: Usage = Usage {
       --public-keys   Checks signatures by the public keys in the policy and in
                       the layouts too, after the rings.
       --json          Writes the report as one JSON object.
+      --strict        Refuses what would be accepted, with status 2, where
+                      something is found in the policy or in the layout, as itv
+                      check finds it, or a delivered file is tied to no step.
       --provenance F  The provenance, one envelope a line.
       --records DIR   The folder of the records of inspections, link bodies
                       without envelopes.

@@ -30,6 +30,8 @@ pub struct VerifyWords {
     pub public_keys: bool,
     /// Whether the report is written as JSON.
     pub json: bool,
+    /// Whether nothing is accepted against which findings stand.
+    pub strict: bool,
     /// The path of the provenance's file, where there is one.
     pub provenance: Option<Text>,
     /// The path of the folder that the records of inspections are in, where there is one.
@@ -58,6 +60,7 @@ pub(super) fn read(values: &Values<'_, '_>) -> Result<VerifyWords, ValuesFault>
         rings,
         public_keys,
         json: values.is_given("json"),
+        strict: values.is_given("strict"),
         provenance: values.optional("provenance")?,
         records: values.optional("records")?,
         depth: values.depth()?,

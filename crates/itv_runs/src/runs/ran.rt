@@ -10,7 +10,7 @@ use std::alloc::{AllocError, Global};
 pub(crate) struct Ran {
     /// The exit status.
     pub(crate) status: u8,
-    /// What went out, and then the fault where the command stopped.
+    /// What went out, and then why the command stopped, where it did.
     pub(crate) text: Vec<u8>,
 }
 
@@ -21,8 +21,8 @@ pub(crate) fn run_over(alloc: Global, files: &[Placed], command: &str) -> Result
     let mut notes = Vec::new(alloc);
     let disk = (FakeFiles { files }, alloc);
     let outcome = run_words(&disk, words.as_slice(), &mut text, &mut notes);
-    if let Err(fault) = &outcome {
-        text.extend_from_slice(format!(in alloc; "{fault}")?.as_bytes())?;
+    if let Err(stop) = &outcome {
+        text.extend_from_slice(format!(in alloc; "{stop}")?.as_bytes())?;
     }
     Ok(Ran {
         status: exit_status(&outcome),

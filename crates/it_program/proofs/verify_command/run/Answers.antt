@@ -1,17 +1,35 @@
-use Rattle.std.proofs.Common.{rules}
+use Rattle.std.proofs.Common.{Err, IfOk, Ok, Result, rules}
 use Rattle.it_program.proofs.verify_command.run.Goals as goal
+
+-- what is told of an answer in two parts
+both : {S E : Type 0} (P Q R : S → Type 0) (r : Result S E) → ((s : S) → P s → Q s → R s)
+    → IfOk r P → IfOk r Q → IfOk r R
+both P Q R (Ok s) join p q = join s p q
+both P Q R (Err e) join p q = tt
 
 pub returns-clause-ok : goal.returns-clause-ok
 returns-clause-ok g c =
-    let told = c.in_ok-verify_with_notes.ensures.ok in (
+    both _ _ _ c.verify_as_asked.result (λ status told stands. (
       told.0,
       record {
         inputs = c.in_ok-inputs.inputs;
         are_inputs = c.in_ok-inputs.ensures;
         rings = c.in_ok-rings.rings.items;
         holds_rings = search rules;
-        is_output = rw (c.new-checks.ensures.rings, c.new-checks.ensures.public_keys, c.form_asked-form.ensures)
-            at told.1;
+        is_output = rw (c.new-checks.ensures.rings, c.new-checks.ensures.public_keys) at told.1;
+        stands = rw (c.new-checks.ensures.rings, c.new-checks.ensures.public_keys) at stands;
       },
       told.2,
-    )
+    )) c.verify_as_asked.ensures.ok c.verify_as_asked.ensures.stands
+
+pub returns-clause-findings : goal.returns-clause-findings
+returns-clause-findings g c = λ is.
+    let told = c.verify_as_asked.ensures.findings is in
+    record {
+      is_strict = told.0;
+      inputs = c.in_ok-inputs.inputs;
+      are_inputs = c.in_ok-inputs.ensures;
+      rings = c.in_ok-rings.rings.items;
+      holds_rings = search rules;
+      has_findings = rw (c.new-checks.ensures.rings, c.new-checks.ensures.public_keys) at told.1;
+    }

@@ -1,0 +1,57 @@
+//! `itv verify --strict`, with notes for people.
+ghost use Rattle.std.specs.Prelude.{◌≡◌, ◌≢◌, ◌≤◌, IfErr, IfOk, IsErrOf};
+ghost use Rattle.std.specs.Io.KnownBytes.{Appends};
+ghost use Rattle.it_base.specs.Writing.{AppendsBeginning};
+ghost use Rattle.it_strict.specs.FoundText.{found_text};
+ghost use Rattle.it_strict.specs.Found.{IsNothing};
+ghost use Rattle.it_notes.specs.Strictly.{IsFoundIn, StandsStrictly};
+ghost use Rattle.it_notes.specs.VerifyOutputIn.{IsVerifyOutputIn};
+
+use crate::strict_fault::StrictFault;
+use crate::strict_verdict::strict_verdict;
+use crate::verdict_output::write_in;
+use crate::verify_with_notes::note;
+use it_dsse::checks::Checks;
+use it_json_report::form::ReportForm;
+use it_outcome::{RunFault, Status};
+use it_verify::inputs::Inputs;
+use std::alloc::Global;
+use std::io::Write;
+
+/// Verifies delivered files as `verify_with_notes` does, and writes the same report and notes, but
+/// where the verdict accepts and something is found, the lines of what is found go to `notes`, and
+/// nothing else is written.
+///
+/// # Errors
+///
+/// `Findings` where the verdict accepts and something is found. `Run` with `Write` where the report
+/// could not be written; a beginning of it went out. `Run` with `OutOfMemory` where memory was
+/// refused for the verdict, for what is found or for the report; nothing went out.
+pub fn verify_strictly<C: Checks, W: Write, N: Write>(
+    alloc: Global,
+    inputs: &Inputs,
+    checks: &C,
+    form: ReportForm,
+    out: &mut W,
+    notes: &mut N,
+) -> Result<Status, StrictFault>
+    requires { inputs.now.depth ≤ 8 }
+    ensures ok { IfOk result (λ status. (text : _)
+        × IsVerifyOutputIn form (C.panel checks.now) inputs.now text status
+        × Appends (W.contents out.old) (W.contents out.new) text) }
+    ensures stands { IfOk result (λ status. status ≡ Status.Good
+        → StandsStrictly (C.panel checks.now) inputs.now) }
+    ensures findings { IsErrOf result StrictFault.Findings → (found : _)
+        × IsFoundIn (C.panel checks.now) inputs.now found × (¬ IsNothing found)
+        × AppendsBeginning (N.contents notes.old) (N.contents notes.new) (found_text found) }
+    ensures write { IsErrOf result (StrictFault.Run RunFault.Write) → (text : _) × (status : _)
+        × IsVerifyOutputIn form (C.panel checks.now) inputs.now text status
+        × AppendsBeginning (W.contents out.old) (W.contents out.new) text }
+    ensures kept { IfErr result (λ fault. fault ≢ StrictFault.Run RunFault.Write
+        → out.new ≡ out.old) }
+{
+    let told = strict_verdict(alloc, inputs, checks, notes)?;
+    let status = write_in(alloc, form, &told.verdict, out)?;
+    note(alloc, inputs, &told, checks, notes);
+    Ok(status)
+}

@@ -1,2 +1,4 @@
 pub mod Joining
 pub mod Reaching
+pub mod Saying
+pub mod SeenIds

@@ -1,6 +1,7 @@
 //! Findings, and where they are.
 ghost use Rattle.std.specs.Prelude.{◌≡◌, IfOk};
 
+use crate::null_key::NullKey;
 use it_base::text::Text;
 use it_docs::rule::Side;
 use std::alloc::{AllocError, Global};
@@ -101,6 +102,8 @@ pub enum Finding {
         /// The level.
         level: u8,
     },
+    /// Null stands under a key id, which so counts as missing.
+    NullKey(NullKey),
 }
 
 impl StepPlace {

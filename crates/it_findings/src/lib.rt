@@ -9,8 +9,11 @@ mod in_layout;
 mod in_policy;
 mod in_rules;
 mod in_step_keys;
+pub mod null_key;
+mod null_keys;
 mod one;
 mod parameter;
 
 pub use in_layout::layout_findings;
 pub use in_policy::policy_findings;
+pub use null_keys::{layout_nulls, policy_nulls};

@@ -6,22 +6,16 @@ use Rattle.it_docs.specs.declared.rule.Side.{Side}
 use Rattle.it_docs.specs.declared.rule.Side.TheVariants.{Materials, Products}
 use Rattle.it_findings.specs.declared.finding.Finding.{Finding}
 use Rattle.it_findings.specs.declared.finding.Finding.TheVariants.{NoRules, OpenRules, Parameter}
-use Rattle.it_findings.specs.declared.finding.Finding.TheVariants.{UnknownItem}
+use Rattle.it_findings.specs.declared.finding.Finding.TheVariants.{HighThreshold, NoBuilders}
+use Rattle.it_findings.specs.declared.finding.Finding.TheVariants.{NoLevel, RepeatedKey}
+use Rattle.it_findings.specs.declared.finding.Finding.TheVariants.{UnknownItem, UnknownKey}
+use Rattle.it_findings.specs.declared.finding.Finding.TheVariants.{UnreachableLevel}
 use Rattle.it_findings.specs.declared.finding.RuleList.{RuleList}
 use Rattle.it_findings.specs.declared.finding.RuleList.TheVariants.{Deliver, OfStep, OfInspection}
-use Rattle.it_report.specs.Name.{name_form}
 use Rattle.it_report.specs.Report.{side_form}
-
--- a name in quotation marks
-unfoldable pub quoted : List ℕ → List ℕ
-quoted name = codes "\"" ++ name_form name ++ codes "\""
-
--- such a name, and a number, between two texts
-unfoldable pub told_form : List ℕ → List ℕ → List ℕ → List ℕ
-told_form before name after = before ++ quoted name ++ after
-
-unfoldable pub number_form : List ℕ → ℕ → List ℕ → List ℕ
-number_form before number after = before ++ decimal number ++ after
+use Rattle.it_check.specs.ExpectationLine.{no_builders_line, no_level_line, unreachable_level_line}
+use Rattle.it_check.specs.Pieces.{number_form, quoted, told_form}
+use Rattle.it_check.specs.StepKeyLine.{high_threshold_line, repeated_key_line, unknown_key_line}
 
 -- the document that has a list
 abbrev pub document_of : RuleList → List ℕ
@@ -68,7 +62,7 @@ on_rule name list place =
     document_of list ++ name ++ list_pointer list ++ codes "/" ++ decimal place ++ codes ": rule "
     ++ decimal place ++ codes " on " ++ scope_form list
 
--- the lines of each kind of finding
+-- the lines of each kind of finding on rules
 unfoldable pub no_rules_line : RuleList → List ℕ
 no_rules_line list =
     on_list (codes " no-rules ") (codes ": there are no rules on ") list
@@ -95,6 +89,12 @@ line_of (NoRules list) = no_rules_line list
 line_of (OpenRules list) = open_rules_line list
 line_of (UnknownItem list place name) = unknown_item_line list place name
 line_of (Parameter list place) = parameter_line list place
+line_of (HighThreshold step threshold ids) = high_threshold_line step threshold ids
+line_of (UnknownKey step place id) = unknown_key_line step place id
+line_of (RepeatedKey step place id) = repeated_key_line step place id
+line_of (NoBuilders place) = no_builders_line place
+line_of (NoLevel place) = no_level_line place
+line_of (UnreachableLevel place level) = unreachable_level_line place level
 
 -- how many findings a document has, where not all are written
 unfoldable pub count_form : List ℕ → ℕ → List ℕ

@@ -1,3 +1,6 @@
 pub mod CheckOutput
 pub mod Documents
+pub mod ExpectationLine
 pub mod FindingLine
+pub mod Pieces
+pub mod StepKeyLine

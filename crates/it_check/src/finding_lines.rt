@@ -5,7 +5,9 @@ ghost use Rattle.it_check.specs.FindingLine.{closing_form, count_form, findings_
 ghost use Rattle.it_check.specs.FindingLine.{more_form, no_rules_line, on_list, on_rule};
 ghost use Rattle.it_check.specs.FindingLine.{open_rules_line, parameter_line, unknown_item_line};
 
+use crate::expectation_lines::{push_no_builders, push_no_level, push_unreachable_level};
 use crate::rule_lists::{document_of, push_pointer, push_scope};
+use crate::step_key_lines::{push_high_threshold, push_repeated_key, push_unknown_key};
 use crate::writing::{push_number, push_text, push_told, push_told_number};
 use it_base::text::Text;
 use it_findings::finding::{Finding, RuleList};
@@ -88,6 +90,18 @@ pub fn push_finding(text: &mut Vec<u8>, finding: &Finding) -> Result<(), AllocEr
         Finding::OpenRules(list) => push_open_rules(text, list),
         Finding::UnknownItem { list, place, name } => push_unknown(text, list, *place, name),
         Finding::Parameter { list, place } => push_parameter(text, list, *place),
+        Finding::HighThreshold {
+            step,
+            threshold,
+            ids,
+        } => push_high_threshold(text, step, *threshold, *ids),
+        Finding::UnknownKey { step, place, id } => push_unknown_key(text, step, *place, id),
+        Finding::RepeatedKey { step, place, id } => push_repeated_key(text, step, *place, id),
+        Finding::NoBuilders(place) => push_no_builders(text, *place),
+        Finding::NoLevel(place) => push_no_level(text, *place),
+        Finding::UnreachableLevel { place, level } => {
+            push_unreachable_level(text, *place, *level)
+        }
     }
 }
 

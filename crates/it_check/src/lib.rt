@@ -3,9 +3,11 @@
 
 mod check_output;
 pub mod documents;
+mod expectation_lines;
 mod finding_lines;
 mod part_notes;
 mod rule_lists;
+mod step_key_lines;
 mod writing;
 
 pub use check_output::run_check;

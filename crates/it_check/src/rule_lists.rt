@@ -1,7 +1,8 @@
 //! Lists of rules, in lines on findings.
 ghost use Rattle.std.specs.Prelude.{◌≡◌, ◌++◌, OnOk, codes, decimal};
-ghost use Rattle.it_check.specs.FindingLine.{document_of as document_form, list_pointer, quoted};
+ghost use Rattle.it_check.specs.FindingLine.{document_of as document_form, list_pointer};
 ghost use Rattle.it_check.specs.FindingLine.{scope_form, side_member};
+ghost use Rattle.it_check.specs.Pieces.{quoted};
 ghost use Rattle.it_report.specs.Report.{side_form};
 
 use crate::writing::{push_number, push_quoted, push_text};

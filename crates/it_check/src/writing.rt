@@ -1,6 +1,6 @@
 //! Pieces of lines.
 ghost use Rattle.std.specs.Prelude.{◌≡◌, ◌++◌, OnOk, decimal};
-ghost use Rattle.it_check.specs.FindingLine.{number_form, quoted, told_form};
+ghost use Rattle.it_check.specs.Pieces.{number_form, quoted, told_form};
 
 use it_report::name::push_name;
 use std::alloc::AllocError;
@@ -22,7 +22,7 @@ pub(crate) fn push_number(text: &mut Vec<u8>, number: usize) -> Result<(), Alloc
 }
 
 /// Appends a name as reports write it, in quotation marks.
-#[tactic(auto, unfolding(crate::specs::FindingLine::quoted))]
+#[tactic(auto, unfolding(crate::specs::Pieces::quoted))]
 pub(crate) fn push_quoted(text: &mut Vec<u8>, name: &str) -> Result<(), AllocError>
     ensures { OnOk result (text.new.items ≡ text.old.items ++ quoted name.now) }
 {
@@ -32,7 +32,7 @@ pub(crate) fn push_quoted(text: &mut Vec<u8>, name: &str) -> Result<(), AllocErr
 }
 
 /// Appends a name in quotation marks between two texts.
-#[tactic(auto, unfolding(crate::specs::FindingLine::told_form))]
+#[tactic(auto, unfolding(crate::specs::Pieces::told_form))]
 pub(crate) fn push_told(
     text: &mut Vec<u8>,
     before: &str,
@@ -48,7 +48,7 @@ pub(crate) fn push_told(
 }
 
 /// Appends a number in decimal between two texts.
-#[tactic(auto, unfolding(crate::specs::FindingLine::number_form))]
+#[tactic(auto, unfolding(crate::specs::Pieces::number_form))]
 pub(crate) fn push_told_number(
     text: &mut Vec<u8>,
     before: &str,

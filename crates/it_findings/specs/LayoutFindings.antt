@@ -7,11 +7,12 @@ use Rattle.it_docs.specs.declared.step.Inspection.{Inspection}
 use Rattle.it_docs.specs.declared.step.Step.{Step}
 use Rattle.it_findings.specs.Joined.{Joined}
 use Rattle.it_findings.specs.RuleFindings.{ListFindings}
+use Rattle.it_findings.specs.StepKeyFindings.{StepKeyFindings}
 use Rattle.it_findings.specs.declared.finding.Finding.{Finding}
 use Rattle.it_findings.specs.declared.finding.RuleList.TheVariants as lists
 
 -- what is found in the rules of a step, on its materials and then on its products
-pub record StepFindings (layout : Layout) (place : ℕ) (step : Step) (found : List Finding)
+pub record StepRuleFindings (layout : Layout) (place : ℕ) (step : Step) (found : List Finding)
     : Type 0 where
   pub of_materials : List Finding
   pub of_products : List Finding
@@ -21,7 +22,16 @@ pub record StepFindings (layout : Layout) (place : ℕ) (step : Step) (found : L
   pub products : ListFindings (Some layout) (lists.OfStep place step.name Products)
       step.expected_products of_products
 
--- the same of an inspection
+-- what is found in a step: in its keys, and then in its rules
+pub record StepFindings (layout : Layout) (place : ℕ) (step : Step) (found : List Finding)
+    : Type 0 where
+  pub of_keys : List Finding
+  pub of_rules : List Finding
+  pub found_are : found ≡ of_keys ++ of_rules
+  pub keys : StepKeyFindings layout (record { place = place; name = step.name }) step of_keys
+  pub rules : StepRuleFindings layout place step of_rules
+
+-- what is found in the rules of an inspection, in the same way
 pub record InspectionFindings (layout : Layout) (place : ℕ) (inspection : Inspection)
     (found : List Finding) : Type 0 where
   pub of_materials : List Finding

@@ -1,7 +1,10 @@
 pub mod Closed
+pub mod ExpectationFindings
 pub mod Joined
 pub mod LayoutFindings
+pub mod NullKeys
 pub mod Parameters
 pub mod PolicyFindings
 pub mod Reaching
 pub mod RuleFindings
+pub mod StepKeyFindings

@@ -1,6 +1,7 @@
 //! Findings, and where they are.
 ghost use Rattle.std.specs.Prelude.{◌≡◌, IfOk};
 
+use crate::null_key::NullKey;
 use it_base::text::Text;
 use it_docs::rule::Side;
 use std::alloc::{AllocError, Global};
@@ -31,8 +32,16 @@ pub enum RuleList {
     },
 }
 
-/// Something in a policy or a layout that may let through what its author did not mean. Places
-/// count from 0.
+/// A step of a layout.
+#[derive(Drop)]
+pub struct StepPlace {
+    /// Its place in the layout, from 0.
+    pub place: usize,
+    /// Its name.
+    pub name: Text,
+}
+
+/// Something in a policy or a layout that may not do what its author meant. Places count from 0.
 #[derive(Drop)]
 pub enum Finding {
     /// The list has no rules, so that it lets every path through.
@@ -55,6 +64,62 @@ pub enum Finding {
         /// The rule's place in it.
         place: usize,
     },
+    /// A step needs more different keys than it lists, so that it never passes.
+    HighThreshold {
+        /// The step.
+        step: StepPlace,
+        /// How many different keys it needs.
+        threshold: u64,
+        /// How many different key ids it lists.
+        ids: u64,
+    },
+    /// A step lists a key id for which the layout has no key object.
+    UnknownKey {
+        /// The step.
+        step: StepPlace,
+        /// The id's place in its list.
+        place: usize,
+        /// The id.
+        id: Text,
+    },
+    /// A step lists a key id that stands earlier in its list as well.
+    RepeatedKey {
+        /// The step.
+        step: StepPlace,
+        /// The id's place in its list.
+        place: usize,
+        /// The id.
+        id: Text,
+    },
+    /// The expectation at this place has no builders, so that no provenance meets it.
+    NoBuilders(usize),
+    /// The expectation at this place asks for level 0, which every builder reaches.
+    NoLevel(usize),
+    /// An expectation has builders, and none of them reaches the level that it asks for.
+    UnreachableLevel {
+        /// The expectation's place.
+        place: usize,
+        /// The level.
+        level: u8,
+    },
+    /// Null stands under a key id, which so counts as missing.
+    NullKey(NullKey),
+}
+
+impl StepPlace {
+    /// A copy, in memory of `alloc`.
+    ///
+    /// # Errors
+    ///
+    /// `AllocError` where memory was refused.
+    pub fn copy(&self, alloc: Global) -> Result<StepPlace, AllocError>
+        ensures { IfOk result (λ copy. copy ≡ self.now) }
+    {
+        Ok(StepPlace {
+            place: self.place,
+            name: Text::copy(alloc, self.name.as_str())?,
+        })
+    }
 }
 
 impl RuleList {

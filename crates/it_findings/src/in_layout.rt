@@ -2,12 +2,13 @@
 ghost use Rattle.std.specs.Prelude.{IfOk, Some};
 ghost use Rattle.it_findings.specs.Joined.{Joined};
 ghost use Rattle.it_findings.specs.LayoutFindings.{InspectionFindings, LayoutFindings};
-ghost use Rattle.it_findings.specs.LayoutFindings.{StepFindings};
+ghost use Rattle.it_findings.specs.LayoutFindings.{StepFindings, StepRuleFindings};
 ghost use Rattle.it_findings.specs.RuleFindings.{ListFindings};
 ghost use Rattle.it_findings.specs.declared.finding.RuleList.TheVariants as lists;
 
-use crate::finding::{Finding, RuleList};
+use crate::finding::{Finding, RuleList, StepPlace};
 use crate::in_rules::list_findings;
+use crate::in_step_keys::step_key_findings;
 use it_base::text::Text;
 use it_docs::layout::Layout;
 use it_docs::rule::Side;
@@ -52,7 +53,7 @@ fn inspections_findings(alloc: Global, layout: &Layout) -> Result<Vec<Finding>, 
     Ok(found)
 }
 
-/// What is found in the rules of the step at a place.
+/// What is found in the step at a place: in its keys, and then in its rules.
 fn step_findings(
     alloc: Global,
     layout: &Layout,
@@ -60,6 +61,25 @@ fn step_findings(
     step: &Step,
 ) -> Result<Vec<Finding>, AllocError>
     ensures { IfOk result (λ found. StepFindings layout.now place step.now found.items) }
+{
+    let at = StepPlace {
+        place,
+        name: Text::copy(alloc, step.name.as_str())?,
+    };
+    let mut found = step_key_findings(alloc, layout, &at, step)?;
+    let mut of_rules = step_rule_findings(alloc, layout, place, step)?;
+    found.append(&mut of_rules)?;
+    Ok(found)
+}
+
+/// What is found in the rules of the step at a place.
+fn step_rule_findings(
+    alloc: Global,
+    layout: &Layout,
+    place: usize,
+    step: &Step,
+) -> Result<Vec<Finding>, AllocError>
+    ensures { IfOk result (λ found. StepRuleFindings layout.now place step.now found.items) }
 {
     let materials = RuleList::OfStep {
         place,

@@ -4,13 +4,15 @@ ghost use Rattle.std.specs.Option.{option_copied};
 ghost use Rattle.it_findings.specs.PolicyFindings.{PolicyFindings};
 
 use crate::finding::{Finding, RuleList};
+use crate::in_expectations::expectations_findings;
 use crate::in_rules::list_findings;
 use it_docs::layout::Layout;
 use it_docs::policy::Policy;
 use std::alloc::{AllocError, Global};
 
-/// All that is found in a policy: in its rules on what is delivered. `MATCH` takes from what the
-/// `layout` has; where there is none, nothing is said of where it takes from.
+/// All that is found in a policy: in its rules on what is delivered, and then in each of its
+/// expectations in order. `MATCH` takes from what the `layout` has; where there is none, nothing is
+/// said of where it takes from.
 ///
 /// # Errors
 ///
@@ -23,5 +25,10 @@ pub fn policy_findings(
     ensures { IfOk result (λ found.
         PolicyFindings (option_copied layout.entry) policy.now found.items) }
 {
-    list_findings(alloc, layout, &RuleList::Deliver, policy.deliver.as_slice())
+    let rules = policy.deliver.as_slice();
+    let mut found = list_findings(alloc, layout, &RuleList::Deliver, rules)?;
+    let expectations = policy.expectations.as_slice();
+    let mut of_expectations = expectations_findings(alloc, expectations)?;
+    found.append(&mut of_expectations)?;
+    Ok(found)
 }

@@ -1,5 +1,5 @@
 //! What is found in a list of artifact rules.
-ghost use Rattle.std.specs.Prelude.{◌≡◌, ◌↔◌, ◌∷◌, [], IfOk, IsTrue};
+ghost use Rattle.std.specs.Prelude.{◌≡◌, ◌↔◌, IfOk, IsTrue};
 ghost use Rattle.std.specs.Option.{option_copied};
 ghost use Rattle.it_findings.specs.Joined.{Joined, Said};
 ghost use Rattle.it_findings.specs.Parameters.{NamesParameter};
@@ -9,6 +9,7 @@ ghost use Rattle.it_findings.specs.RuleFindings.{OneFindings, WholeFindings};
 
 use crate::closed::is_closed;
 use crate::finding::{Finding, RuleList};
+use crate::one::one;
 use crate::parameter::names_parameter;
 use it_base::text::Text;
 use it_docs::layout::Layout;
@@ -126,15 +127,6 @@ fn name_findings(
         return Ok(Vec::new(alloc));
     }
     one(alloc, unknown_item(alloc, list, place, name)?)
-}
-
-/// One finding alone.
-fn one(alloc: Global, finding: Finding) -> Result<Vec<Finding>, AllocError>
-    ensures { IfOk result (λ found. found.items ≡ finding ∷ []) }
-{
-    let mut found = Vec::new(alloc);
-    found.push(finding)?;
-    Ok(found)
 }
 
 fn unknown_item(

@@ -1,5 +1,6 @@
 use Rattle.std.proofs.Common.{◌++◌, codes, ap, sym}
-use Rattle.it_check.specs.FindingLine.{on_rule, told_form, unknown_item_line}
+use Rattle.it_check.specs.FindingLine.{on_rule, unknown_item_line}
+use Rattle.it_check.specs.Pieces.{told_form}
 use Rattle.it_check.proofs.Appended.{appended}
 use Rattle.it_check.proofs.finding_lines.push_unknown.Goals as goal
 

@@ -1,5 +1,5 @@
 -- What is said of the elements of a list, and of one more at its end.
-use Rattle.std.proofs.Common.{◌≡◌, ◌∙◌, ℕ, ◌+◌, List, [], ◌∷◌, ◌++◌, refl, sym, ap, append_assoc}
+use Rattle.std.proofs.Common.{◌∙◌, ℕ, ◌+◌, List, [], ◌∷◌, ◌++◌, refl, sym, ap, append_assoc}
 use Rattle.std.proofs.Common.{append-nil}
 use Rattle.it_findings.specs.Joined.{Joined, JoinedFrom}
 

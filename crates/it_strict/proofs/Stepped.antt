@@ -14,9 +14,11 @@ use Rattle.it_chain.specs.CountedBodies.{Setting}
 use Rattle.it_chain.specs.Level.{StepHolds}
 use Rattle.it_chain.specs.StepRules.{links_in, recorded_in as recorded_by}
 use Rattle.it_chain.specs.declared.chain.StepResult.{StepResult}
-use Rattle.it_verify.specs.Documents.{Documents, setting_of}
-use Rattle.it_verify.specs.Evidence.{Evidence, IsEvidence, evidence_links}
+use Rattle.it_verify.specs.Documents.{setting_of}
+use Rattle.it_verify.specs.Evidence.{IsEvidence, evidence_links}
 use Rattle.it_verify.specs.Inspections.{recorded_in}
+use Rattle.it_verify.specs.declared.documents.Documents.{Documents}
+use Rattle.it_verify.specs.declared.evidence.Evidence.{Evidence}
 use Rattle.it_verify.specs.declared.inputs.Inputs.{Inputs}
 use Rattle.it_verify.proofs.NamesApart.{links_differ}
 use Rattle.it_strict.specs.StrictLaws.{IsStepWith}

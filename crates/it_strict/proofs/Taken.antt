@@ -1,6 +1,6 @@
 -- Where nothing is found, each delivered file is a product of a step.
-use Rattle.std.proofs.Common.{◌≡◌, ◌∙◌, ◌++◌, inl, inr, ℕ, List, [], Some, Contains, length, is_some}
-use Rattle.std.proofs.Common.{arith, ap, subst, sym}
+use Rattle.std.proofs.Common.{◌≡◌, ◌∙◌, ◌++◌, inl, inr, ℕ, List, [], Some, Contains, is_some}
+use Rattle.std.proofs.Common.{arith, ap, length, subst, sym}
 use Rattle.std.specs.FinMap.{get}
 use Rattle.std.specs.List.{slice_get}
 use Rattle.std.proofs.lemmas.Option.{slice_get-get_or}
@@ -16,8 +16,9 @@ use Rattle.it_rules.specs.Rules.{Claims, IsFree, Stands}
 use Rattle.it_chain.specs.StepRules.{recorded_in}
 use Rattle.it_ties.specs.Ties.{Ties}
 use Rattle.it_verify.specs.Delivered.{delivery}
-use Rattle.it_verify.specs.Documents.{Documents}
-use Rattle.it_verify.specs.Evidence.{Evidence, IsEvidence, evidence_links}
+use Rattle.it_verify.specs.Evidence.{IsEvidence, evidence_links}
+use Rattle.it_verify.specs.declared.documents.Documents.{Documents}
+use Rattle.it_verify.specs.declared.evidence.Evidence.{Evidence}
 use Rattle.it_verify.specs.declared.inputs.Inputs.{Inputs}
 use Rattle.it_strict.specs.StrictLaws.{DeliveredAreProducts, IsProduct}
 use Rattle.it_strict.proofs.Stepped.{linked_is, step_with}
@@ -46,7 +47,8 @@ module _ (panel : Panel) (inputs : Inputs) (documents : Documents) (evidence : E
       let linked : claims.linked ≡ recorded_in result =
       linked_is panel inputs documents evidence is_evidence ties.0 step result found.1 claims.linked
       named in
-      let here : claims.here ≡ digests = cc (claims.stands_here, delivered) in
+      let found_here : Some claims.here ≡ Some digests = sym claims.stands_here ∙ delivered in
+      let here : claims.here ≡ digests = cc found_here in
       record {
         place = ties.0;
         step = step;
@@ -76,12 +78,11 @@ none_in : {X : Type 0} (xs : List X) (x : X) → xs ≡ [] → ¬ Contains xs x
 none_in xs x empty h = let long = ap length empty in omega (arith, h.1, long)
 
 pub delivered_are_products : DeliveredAreProducts
-delivered_are_products panel inputs documents evidence found path digests made are nothing delivered =
-    let links = evidence_links evidence in
-    let stands : Stands documents.delivered path = ap is_some delivered in
-    elim (tied_or_not documents.policy.deliver (delivery documents.delivered) links path stands
-    documents.layout.steps) [
-      | inl tied ↦ taken_by panel inputs documents evidence made.is_evidence path digests delivered
+delivered_are_products panel inputs documents evidence found path digests made are nothing at =
+    let stands : Stands documents.delivered path = ap is_some at in
+    elim (tied_or_not documents.policy.deliver (delivery documents.delivered)
+    (evidence_links evidence) path stands documents.layout.steps) [
+      | inl tied ↦ taken_by panel inputs documents evidence made.is_evidence path digests at
           tied.place tied.rule tied.stands tied.ties tied.is_free tied.claims
       | inr free ↦ absurd
           (none_in found.untied path nothing.untied ((are.untied.exact path).1 (stands, free)))

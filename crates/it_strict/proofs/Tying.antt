@@ -1,10 +1,10 @@
 -- A path is tied to a step, or it is not.
 use Rattle.std.proofs.Common.{◌≡◌, ◌∙◌, ◌⊎◌, ◌↔◌, inl, inr, ℕ, zero, suc, ◌<◌, List, length, Option}
-use Rattle.std.proofs.Common.{Some, None, Bool, true, false, Decides, IsTrue, Any, refl, sym, ap}
+use Rattle.std.proofs.Common.{Some, None, Bool, true, false, Decides, IsTrue, Any, refl, ap}
 use Rattle.std.proofs.Common.{arith}
 use Rattle.std.specs.List.{list_any, slice_get}
 use Rattle.std.specs.Str.{bytes_eq}
-use Rattle.std.proofs.lemmas.Bool.{cases_lt}
+use Rattle.std.proofs.lemmas.Bool.{cases_lt, false≢true}
 use Rattle.std.proofs.lemmas.Bool.Decides.{not_from_Decides}
 use Rattle.std.proofs.lemmas.List.Folds.{Any-from_list_any, list_any-from_Any}
 use Rattle.std.proofs.lemmas.Slice.Eq.{bytes_eq-Decides}
@@ -39,7 +39,7 @@ names_step-Decides steps name =
 
 is_tie-Decides : (steps : List Step) (rule : Rule) → Decides (is_tie steps rule) (Ties steps rule)
 is_tie-Decides steps (Match pattern source Products target from) = names_step-Decides steps from
-is_tie-Decides steps rule = (λ h. absurd (cc), λ h. absurd h)
+is_tie-Decides steps rule = (λ h. absurd (false≢true h), λ h. absurd h)
 
 module _ (rules : List Rule) (item : Recorded) (links : Links) (path : List ℕ) where
   -- none of the rules before a place claims the path
@@ -100,7 +100,7 @@ module _ (rules : List Rule) (item : Recorded) (links : Links) (path : List ℕ)
       by_answer : (b : Bool) → IsTrue b ↔ IsTied steps rules item links path
           → IsTied steps rules item links path ⊎ ¬ IsTied steps rules item links path
       by_answer true h = inl (h.0 refl)
-      by_answer false h = inr (λ tied. let e = h.1 tied in cc)
+      by_answer false h = inr (λ tied. false≢true (h.1 tied))
 
       -- a path of the products is tied, or it is not
       pub tied_or_not : IsTied steps rules item links path
@@ -113,5 +113,5 @@ module _ (rules : List Rule) (item : Recorded) (links : Links) (path : List ℕ)
         | inr none ↦ by_answer false
             (tied_by steps rules item links path None false
             (record { stands = stands; unclaimed = none })
-            (λ t. absurd (cc), λ h. absurd h))
+            (λ t. absurd (false≢true t), λ h. absurd h))
       ]

@@ -3,8 +3,9 @@ use Rattle.std.specs.Prelude.{◌≡◌, [], Some}
 use Rattle.it_findings.specs.PolicyFindings.{PolicyFindings}
 use Rattle.it_ties.specs.Ties.{AreUntied}
 use Rattle.it_verify.specs.Delivered.{delivery}
-use Rattle.it_verify.specs.Documents.{Documents}
-use Rattle.it_verify.specs.Evidence.{Evidence, evidence_links}
+use Rattle.it_verify.specs.Evidence.{evidence_links}
+use Rattle.it_verify.specs.declared.documents.Documents.{Documents}
+use Rattle.it_verify.specs.declared.evidence.Evidence.{Evidence}
 use Rattle.it_strict.specs.Counting.{LayoutCounting}
 pub use Rattle.it_strict.specs.declared.found.Found.{Found}
 

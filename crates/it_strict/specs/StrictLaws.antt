@@ -15,9 +15,11 @@ use Rattle.it_chain.specs.Chain.{holds_below}
 use Rattle.it_chain.specs.Level.{StepHolds}
 use Rattle.it_chain.specs.declared.chain.StepResult.{StepResult}
 use Rattle.it_verify.specs.Delivered.{delivery}
-use Rattle.it_verify.specs.Documents.{Documents, setting_of}
-use Rattle.it_verify.specs.Evidence.{Evidence, evidence_links}
+use Rattle.it_verify.specs.Documents.{setting_of}
+use Rattle.it_verify.specs.Evidence.{evidence_links}
 use Rattle.it_verify.specs.Made.{IsMadeBy}
+use Rattle.it_verify.specs.declared.documents.Documents.{Documents}
+use Rattle.it_verify.specs.declared.evidence.Evidence.{Evidence}
 use Rattle.it_verify.specs.declared.inputs.Inputs.{Inputs}
 use Rattle.it_strict.specs.Found.{AreFound, Found, IsNothing}
 

@@ -11,6 +11,7 @@ use it_docs::layout::Layout;
 use it_docs::rule::Side;
 use it_findings::finding::{Finding, RuleList};
 use it_findings::layout_findings;
+use it_rules::item::Item;
 use std::alloc::{AllocError, Global};
 
 /// What is found in a layout and counts where its steps have these records.
@@ -85,9 +86,9 @@ fn has_path(steps: &[StepResult], place: usize, side: Side) -> bool
 fn recorded_some(step: &StepResult, side: Side) -> bool
     ensures { IsTrue result ↔ (artifacts_on side (recorded_in step.now) ≢ empty) }
 {
-    let artifacts = match side {
-        Side::Materials => &step.materials,
-        Side::Products => &step.products,
+    let item = Item {
+        materials: &step.materials,
+        products: &step.products,
     };
-    !artifacts.is_empty()
+    !item.artifacts_on(side).is_empty()
 }

@@ -35,7 +35,7 @@ pub struct Found {
 ///
 /// `AllocError` where memory was refused.
 pub fn found_in(alloc: Global, grounds: &Grounds) -> Result<Found, AllocError>
-    requires made { (panel : Panel) × (inputs : Inputs)
+    requires { (panel : Panel) × (inputs : Inputs)
         × IsMadeBy panel inputs grounds.now.documents grounds.now.evidence }
     ensures { IfOk result (λ found. AreFound grounds.now.documents grounds.now.evidence found) }
 {

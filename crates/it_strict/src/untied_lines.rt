@@ -1,7 +1,7 @@
 //! Delivered files that are tied to no step, as lines.
 ghost use Rattle.std.specs.Prelude.{◌≡◌, ◌++◌, OnOk, codes, take};
 ghost use Rattle.std.specs.List.{flat_map};
-ghost use Rattle.it_check.specs.FindingLine.{count_form, more_form};
+ghost use Rattle.it_check.specs.FindingLine.{count_form, more_form, number_form};
 ghost use Rattle.it_strict.specs.FoundText.{untied_line, untied_text};
 
 use it_base::text::Text;
@@ -65,22 +65,31 @@ fn push_more(text: &mut Vec<u8>, count: usize) -> Result<(), AllocError>
     }
 }
 
-#[tactic(
-    auto,
-    unfolding(
-        it_check::specs::FindingLine::count_form,
-        it_check::specs::FindingLine::number_form
-    )
-)]
+#[tactic(auto, unfolding(it_check::specs::FindingLine::count_form))]
 fn push_count(text: &mut Vec<u8>, count: usize) -> Result<(), AllocError>
     ensures { OnOk result
         (text.new.items ≡ text.old.items ++ count_form (codes "untied files") count) }
 {
+    push_text(text, "untied files")?;
+    push_told_number(text, ": 40 of ", count, " findings are written\n")
+}
+
+/// Appends a number in decimal between two texts.
+#[tactic(auto, unfolding(it_check::specs::FindingLine::number_form))]
+fn push_told_number(
+    text: &mut Vec<u8>,
+    before: &str,
+    number: usize,
+    after: &str,
+) -> Result<(), AllocError>
+    ensures { OnOk result
+        (text.new.items ≡ text.old.items ++ number_form before.now number after.now) }
+{
     let alloc = *text.allocator();
-    let digits = format!(in alloc; "{count}")?;
-    push_text(text, "untied files: 40 of ")?;
+    let digits = format!(in alloc; "{number}")?;
+    push_text(text, before)?;
     push_text(text, digits.as_str())?;
-    push_text(text, " findings are written\n")
+    push_text(text, after)
 }
 
 fn push_text(text: &mut Vec<u8>, added: &str) -> Result<(), AllocError>

@@ -1,13 +1,15 @@
 -- The paths of a map, one after another, of which those are kept that have a property.
-use Rattle.std.proofs.Common.{◌≡◌, ◌∙◌, ◌↔◌, ℕ, ◌+◌, ◌<◌, List, [], ◌∷◌, ◌++◌, length, Some, refl}
+use Rattle.std.proofs.Common.{◌≡◌, ◌∙◌, ◌↔◌, ℕ, ◌+◌, List, [], ◌∷◌, ◌++◌, length, Some, refl}
 use Rattle.std.proofs.Common.{Contains, ap, arith, subst, sym, append-nil, append_assoc}
-use Rattle.std.proofs.Common.{length-append}
+use Rattle.std.proofs.Common.{Bor, Global, String, length-append, map, string_bytes}
 use Rattle.std.specs.FinMap.{keys}
 use Rattle.std.specs.List.{slice_get}
+use Rattle.std.proofs.lemmas.List.{map-append}
 use Rattle.it_base.proofs.Elements.{at_length}
 use Rattle.it_digest.specs.Artifacts.{ArtifactMap}
 use Rattle.it_rules.specs.Rules.{AreSorted, Stands}
 use Rattle.it_rules.proofs.Kept.{Kept, kept_more, kept_none, kept_skip}
+use Rattle.it_rules.proofs.LentPaths.{bytes}
 use Rattle.it_rules.proofs.Listed.{slice_get_within}
 use Rattle.it_ties.proofs.ProductPaths.{path_stands, place_of_path}
 
@@ -61,6 +63,27 @@ module _ (artifacts : ArtifactMap) (P : List ℕ → Type 0) where
           (kept_skip (keys artifacts) AtAny kept (length seen.done) path next_at lacks
           seen.are_kept);
     }
+
+  -- the same of the next key, which is lent
+  module _ (kept : List (Bor (List ℕ))) (key : String Global) (rest : List (String Global))
+      (seen : Seen (map bytes kept) (map string_bytes (key ∷ rest))) (lent : Bor (List ℕ))
+      (is_key : lent.now ≡ string_bytes key) where
+    lent_seen : Seen (map bytes kept) (lent.now ∷ map string_bytes rest)
+    lent_seen = subst (λ path. Seen (map bytes kept) (path ∷ map string_bytes rest)) (sym is_key)
+        seen
+
+    pub lent_stands : Stands artifacts lent.now
+    lent_stands = next_stands (map bytes kept) (map string_bytes rest) lent.now lent_seen
+
+    pub lent_kept : AreSorted (keys artifacts) → P lent.now
+        → Seen (map bytes (kept ++ lent ∷ [])) (map string_bytes rest)
+    lent_kept sorted has = subst (λ paths. Seen paths (map string_bytes rest))
+        (sym (map-append bytes kept (lent ∷ [])))
+        (seen_kept (map bytes kept) (map string_bytes rest) lent.now lent_seen sorted has)
+
+    pub lent_skipped : ¬ P lent.now → Seen (map bytes kept) (map string_bytes rest)
+    lent_skipped lacks =
+        seen_skipped (map bytes kept) (map string_bytes rest) lent.now lent_seen lacks
 
   module _ (kept : List (List ℕ)) (seen : Seen kept []) where
     pub all_sorted : AreSorted kept

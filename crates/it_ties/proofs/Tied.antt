@@ -10,6 +10,10 @@ use Rattle.it_rules.proofs.Listed.{same_place, slice_get_within}
 use Rattle.it_ties.specs.Ties.{IsTied, Ties}
 use Rattle.it_ties.specs.inside.FirstClaim.{IsFirstClaim, IsUnclaimed}
 
+-- the path is not tied
+abbrev pub IsLoose : List Step → List Rule → Recorded → Links → List ℕ → Type 0
+IsLoose steps rules item links path = ¬ IsTied steps rules item links path
+
 module _ (steps : List Step) (rules : List Rule) (item : Recorded) (links : Links)
     (path : List ℕ) where
   -- the rule that ties a path is the first that claims it

@@ -21,11 +21,10 @@ fn ties(steps: &[Step], rule: &Rule) -> bool
     ensures { IsTrue result ↔ Ties steps.now rule.now }
 {
     match rule {
-        Rule::Match {
-            side: Side::Products,
-            from,
-            ..
-        } => names_step(steps, from.as_str()),
+        Rule::Match { side, from, .. } => match side {
+            Side::Products => names_step(steps, from.as_str()),
+            Side::Materials => false,
+        },
         _ => false,
     }
 }
@@ -34,5 +33,8 @@ fn ties(steps: &[Step], rule: &Rule) -> bool
 fn names_step(steps: &[Step], name: &str) -> bool
     ensures { IsTrue result ↔ NamesStep steps.now name.now }
 {
-    step_named(steps, name).is_some()
+    match step_named(steps, name) {
+        Some(_) => true,
+        None => false,
+    }
 }

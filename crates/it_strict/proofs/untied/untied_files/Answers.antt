@@ -5,4 +5,5 @@ use Rattle.it_strict.proofs.untied.untied_files.Goals as goal
 
 pub untied_among-requires : goal.untied_among-requires
 untied_among-requires c =
-    subst NamesDiffer (sym (ap links_of c.as_slice.ensures.value ∙ c.in_ok-links.ensures)) c.requires
+    let are = ap links_of c.as_slice.ensures.value ∙ c.in_ok-links.ensures in
+    subst NamesDiffer (sym are) c.requires

@@ -5,3 +5,4 @@ pub mod MemberNotes
 pub mod Places
 pub mod RuleListNotes
 pub mod UnreadMembers
+pub mod inside

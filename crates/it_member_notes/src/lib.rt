@@ -11,6 +11,7 @@ pub mod layout_note;
 mod list_notes;
 mod member_names;
 pub mod member_notes;
+mod named_layout;
 mod notes;
 mod object_at;
 pub mod place;

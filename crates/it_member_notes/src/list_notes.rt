@@ -2,7 +2,9 @@
 ghost use Rattle.std.specs.Prelude.{◌≡◌, ◌↔◌, All, IfOk, IsTrue};
 ghost use Rattle.it_member_notes.specs.RuleListNotes.{EndsOpen, HasInspection, HasStep};
 ghost use Rattle.it_member_notes.specs.RuleListNotes.{IsDisallow, IsOfRules};
+ghost use Rattle.it_member_notes.specs.inside.NamedLayout.{AreNamesOf};
 
+use crate::named_layout::NamedLayout;
 use crate::rule_list_note::RuleListNote;
 use it_base::text::Text;
 use it_docs::layout::Layout;
@@ -23,10 +25,24 @@ pub fn rule_list_notes(
 ) -> Result<Vec<RuleListNote>, AllocError>
     ensures { IfOk result (λ notes. All (IsOfRules layout.now rules.now) notes.items) }
 {
+    let named = NamedLayout::of(alloc, layout)?;
+    let notes = notes_on(alloc, &named, rules)?;
+    Ok(notes)
+}
+
+/// The same, where the names in the layout are known.
+pub(crate) fn notes_on(
+    alloc: Global,
+    named: &NamedLayout,
+    rules: &[Rule],
+) -> Result<Vec<RuleListNote>, AllocError>
+    requires { AreNamesOf named.now.layout.now named.now.names }
+    ensures { IfOk result (λ notes. All (IsOfRules named.now.layout.now rules.now) notes.items) }
+{
     let mut notes = Vec::new(alloc);
     for (place, rule) in rules.iter().enumerate() {
         if let Rule::Match { from, .. } = rule {
-            if !is_in(layout, from) {
+            if !is_in(named, from) {
                 notes.push(match_from_no_step(alloc, place, from)?)?;
             }
         }
@@ -63,18 +79,10 @@ fn is_disallow(rule: &Rule) -> bool
 }
 
 /// Whether a step or an inspection of the layout has the name.
-fn is_in(layout: &Layout, name: &Text) -> bool
-    ensures steps { HasStep layout.now name.now → IsTrue result }
-    ensures inspections { HasInspection layout.now name.now → IsTrue result }
+fn is_in(named: &NamedLayout, name: &Text) -> bool
+    requires { AreNamesOf named.now.layout.now named.now.names }
+    ensures steps { HasStep named.now.layout.now name.now → IsTrue result }
+    ensures inspections { HasInspection named.now.layout.now name.now → IsTrue result }
 {
-    layout
-        .steps
-        .as_slice()
-        .iter()
-        .any(|step| step.name.as_str() == name.as_str())
-        || layout
-            .inspections
-            .as_slice()
-            .iter()
-            .any(|inspection| inspection.name.as_str() == name.as_str())
+    named.names.get(name.as_str()).is_some()
 }

@@ -4,9 +4,11 @@ ghost use Rattle.std.specs.FinMap.{get};
 ghost use Rattle.it_member_notes.specs.LayoutNotes.{AreRulesOf, Holds};
 ghost use Rattle.it_member_notes.specs.LayoutNotes.{rules_of_inspection as inspection_rules};
 ghost use Rattle.it_member_notes.specs.LayoutNotes.{rules_of_step as step_rules};
+ghost use Rattle.it_member_notes.specs.inside.NamedLayout.{AreNamesOf};
 
 use crate::layout_note::{Item, LayoutNote};
-use crate::list_notes::rule_list_notes;
+use crate::list_notes::notes_on;
+use crate::named_layout::NamedLayout;
 use it_base::text::Text;
 use it_docs::layout::Layout;
 use it_docs::rule::{Rule, Side};
@@ -22,47 +24,50 @@ use std::alloc::{AllocError, Global};
 pub fn layout_rule_notes(alloc: Global, layout: &Layout) -> Result<Vec<LayoutNote>, AllocError>
     ensures { IfOk result (λ notes. All (Holds layout.now) notes.items) }
 {
+    let named = NamedLayout::of(alloc, layout)?;
     let mut notes = Vec::new(alloc);
     for step in layout.steps.as_slice() {
-        note_step(alloc, layout, step, &mut notes)?;
+        note_step(alloc, &named, step, &mut notes)?;
     }
     for inspection in layout.inspections.as_slice() {
-        note_inspection(alloc, layout, inspection, &mut notes)?;
+        note_inspection(alloc, &named, inspection, &mut notes)?;
     }
     Ok(notes)
 }
 
 fn note_step(
     alloc: Global,
-    layout: &Layout,
+    named: &NamedLayout,
     step: &Step,
     notes: &mut Vec<LayoutNote>,
 ) -> Result<(), AllocError>
-    requires in_layout { Contains layout.now.steps step.now }
-    requires before { All (Holds layout.now) notes.old.items }
-    ensures { OnOk result (All (Holds layout.now) notes.new.items) }
+    requires names { AreNamesOf named.now.layout.now named.now.names }
+    requires in_layout { Contains named.now.layout.now.steps step.now }
+    requires before { All (Holds named.now.layout.now) notes.old.items }
+    ensures { OnOk result (All (Holds named.now.layout.now) notes.new.items) }
 {
-    note_keys(alloc, layout, step, notes)?;
+    note_keys(alloc, named.layout, step, notes)?;
     for side in [Side::Materials, Side::Products] {
         let list = rules_of_step(alloc, step, side)?;
-        note_rules(alloc, layout, &list, notes)?;
+        note_rules(alloc, named, &list, notes)?;
     }
     Ok(())
 }
 
 fn note_inspection(
     alloc: Global,
-    layout: &Layout,
+    named: &NamedLayout,
     inspection: &Inspection,
     notes: &mut Vec<LayoutNote>,
 ) -> Result<(), AllocError>
-    requires in_layout { Contains layout.now.inspections inspection.now }
-    requires before { All (Holds layout.now) notes.old.items }
-    ensures { OnOk result (All (Holds layout.now) notes.new.items) }
+    requires names { AreNamesOf named.now.layout.now named.now.names }
+    requires in_layout { Contains named.now.layout.now.inspections inspection.now }
+    requires before { All (Holds named.now.layout.now) notes.old.items }
+    ensures { OnOk result (All (Holds named.now.layout.now) notes.new.items) }
 {
     for side in [Side::Materials, Side::Products] {
         let list = rules_of_inspection(alloc, inspection, side)?;
-        note_rules(alloc, layout, &list, notes)?;
+        note_rules(alloc, named, &list, notes)?;
     }
     Ok(())
 }
@@ -140,15 +145,17 @@ fn rules_of_inspection<'l>(
 
 fn note_rules(
     alloc: Global,
-    layout: &Layout,
+    named: &NamedLayout,
     list: &RuleList<'_>,
     notes: &mut Vec<LayoutNote>,
 ) -> Result<(), AllocError>
-    requires are_rules { AreRulesOf layout.now list.now.item list.now.side list.now.rules.now }
-    requires before { All (Holds layout.now) notes.old.items }
-    ensures { OnOk result (All (Holds layout.now) notes.new.items) }
+    requires names { AreNamesOf named.now.layout.now named.now.names }
+    requires are_rules { AreRulesOf named.now.layout.now list.now.item list.now.side
+        list.now.rules.now }
+    requires before { All (Holds named.now.layout.now) notes.old.items }
+    ensures { OnOk result (All (Holds named.now.layout.now) notes.new.items) }
 {
-    for note in rule_list_notes(alloc, layout, list.rules)? {
+    for note in notes_on(alloc, named, list.rules)? {
         notes.push(LayoutNote::Rules {
             item: list.item.copy(alloc)?,
             side: list.side,

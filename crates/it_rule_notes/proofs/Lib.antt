@@ -2,6 +2,7 @@ pub mod Appended
 pub mod CountingFiles
 pub mod Forbidden
 pub mod FreeBefore
+pub mod HeldLinks
 pub mod Meeting
 pub mod Owners
 pub mod RuleWords

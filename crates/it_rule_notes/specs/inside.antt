@@ -1,2 +1,3 @@
 pub mod CountingFile
+pub mod CountingLink
 pub mod JudgedRules

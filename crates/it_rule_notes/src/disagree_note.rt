@@ -4,11 +4,13 @@ ghost use Rattle.it_rule_notes.specs.CountingFile.{setting_of};
 ghost use Rattle.it_rule_notes.specs.Disagree.{IsOtherLink, TellsDisagree, difference_form};
 ghost use Rattle.it_rule_notes.specs.Disagree.{disagree_line, links_form};
 
+use crate::counting_link::counting_link;
 use crate::difference::{Difference, difference_of};
 use crate::level::Level;
 use crate::line::{push_text, push_told};
 use crate::link_file::{LinkFile, link_file};
 use it_base::text::Text;
+use it_chain::signers::signers;
 use it_docs::step::{Step, step_named};
 use it_dsse::checks::Checks;
 use it_report::side_text;
@@ -72,7 +74,8 @@ pub fn disagree_note<C: Checks>(
     }))
 }
 
-/// The first file of a key id that the step lists whose link differs from that of another file.
+/// The first file whose link counts for the step and differs from that of another file. Each file
+/// is read once, however many key ids the step lists.
 fn other_link<C: Checks>(
     alloc: Global,
     level: &Level,
@@ -84,10 +87,15 @@ fn other_link<C: Checks>(
         (setting_of (C.panel checks.now) level.now.moment)
         level.now.layout.now level.now.links.now step.now first.now)) }
 {
-    for id in step.pubkeys.as_slice() {
-        if let Some(file) = link_file(alloc, level, step, id.as_str(), checks)? {
-            if let Some(difference) = difference_of(alloc, &first.link, &file.link)? {
-                return Ok(Some(OtherLink { file, difference }));
+    let asked = signers(alloc, level.layout, step)?;
+    for file in level.links.files() {
+        let name = step.name.as_str();
+        if let Some(held) = counting_link(alloc, file, name, asked.as_slice(), checks)? {
+            if let Some(difference) = difference_of(alloc, &first.link, &held.link)? {
+                return Ok(Some(OtherLink {
+                    file: held,
+                    difference,
+                }));
             }
         }
     }

@@ -3,6 +3,7 @@
 #![tactic(auto)]
 
 pub mod counting_file;
+mod counting_link;
 pub mod difference;
 pub mod disagree_note;
 pub mod expiry_note;

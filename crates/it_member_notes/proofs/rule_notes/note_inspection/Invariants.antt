@@ -3,4 +3,4 @@ use Rattle.it_member_notes.specs.LayoutNotes.{Holds}
 use Rattle.it_member_notes.proofs.rule_notes.note_inspection.Given as goal
 
 abbrev pub invariant-loop-side : goal.invariant-loop-side
-invariant-loop-side l = All (Holds l.layout) l.notes.items
+invariant-loop-side l = All (Holds l.named.layout.now) l.notes.items

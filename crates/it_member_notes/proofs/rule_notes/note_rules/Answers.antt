@@ -6,10 +6,10 @@ use Rattle.it_member_notes.proofs.rule_notes.note_rules.Goals as goal
 pub loop-note-preserved : goal.loop-note-preserved
 loop-note-preserved c =
     let left = rw c.in-Some.ensures.steps.0 at c.loop-note.invariant.left in
-    let P = IsOfRules c.args.layout.now c.args.list.now.rules.now in
+    let P = IsOfRules c.args.named.now.layout.now c.args.list.now.rules.now in
     record {
       made = rw c.in_ok-push.ensures.items
-          (All-push (Holds c.args.layout.now) _ _ c.loop-note.invariant.made
+          (All-push (Holds c.args.named.now.layout.now) _ _ c.loop-note.invariant.made
           (record {
             rules = c.args.list.now.rules.now;
             are_rules = rw c.in_ok-copy.ensures c.requires.are_rules;

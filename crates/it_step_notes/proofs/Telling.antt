@@ -19,7 +19,7 @@ use Rattle.it_step_notes.specs.Signing.{IsSignedUnder}
 use Rattle.it_step_notes.specs.StepNotes.{CountsFor, IsFinding, IsNeither, IsOtherLink}
 use Rattle.it_step_notes.specs.declared.note.Finding.{Finding}
 use Rattle.it_step_notes.specs.declared.note.Finding.TheVariants.{NoEnvelope, PayloadType}
-use Rattle.it_step_notes.specs.declared.note.Finding.TheVariants.{NoSignature, Counts}
+use Rattle.it_step_notes.specs.declared.note.Finding.TheVariants.{NoSignature, Unsigned, Counts}
 use Rattle.it_step_notes.specs.declared.note.Finding.TheVariants.{NeitherLinkNorLayout, OtherName}
 
 -- a payload that is a body is no other thing
@@ -97,6 +97,8 @@ module _ (setting : Setting) (layout : Layout) (bundle : Contents) (step : Step)
         h.2.1 (sym h.2.0 ∙ type_here h.0 h.1 id payload c same)
     tells_of (NoSignature others) stands claimed h = λ id payload c same.
         h.2.unsigned id c.listed (signed_here h.0 h.1 id payload c same)
+    tells_of Unsigned stands claimed h = λ id payload c same.
+        h.2 id c.listed (signed_here h.0 h.1 id payload c same)
     tells_of NeitherLinkNorLayout stands claimed h = λ id payload c same.
         not_neither step.name h.0.payload c.body (reads_here h.0 h.1 id payload c same) h.2
     tells_of (OtherName name) stands claimed h = λ id payload c same.

@@ -4,7 +4,7 @@ use Rattle.std.specs.List.{flat_map}
 use Rattle.it_report.specs.Name.{cut_form}
 use Rattle.it_step_notes.specs.declared.note.Finding.{Finding}
 use Rattle.it_step_notes.specs.declared.note.Finding.TheVariants.{NoEnvelope, PayloadType}
-use Rattle.it_step_notes.specs.declared.note.Finding.TheVariants.{NoSignature, Counts}
+use Rattle.it_step_notes.specs.declared.note.Finding.TheVariants.{NoSignature, Unsigned, Counts}
 use Rattle.it_step_notes.specs.declared.note.Finding.TheVariants.{NeitherLinkNorLayout, OtherName}
 use Rattle.it_step_notes.specs.declared.note.StepNote.{StepNote}
 use Rattle.it_step_notes.specs.declared.note.StepNote.TheVariants.{File as of_file, NoFile}
@@ -19,6 +19,7 @@ abbrev pub phrase_of : Finding → List ℕ
 phrase_of NoEnvelope = codes ": no DSSE envelope"
 phrase_of (PayloadType other) = codes ": of another payload type,"
 phrase_of (NoSignature others) = codes ": signed by no key of the step"
+phrase_of Unsigned = codes ": signed by no key of the step, and not tried with others"
 phrase_of NeitherLinkNorLayout = codes ": neither a link nor a layout"
 phrase_of (OtherName name) = codes ": a link of another name,"
 phrase_of (Counts ids) = codes ": counts for"
@@ -28,6 +29,7 @@ abbrev pub details_of : Finding → List ℕ
 details_of NoEnvelope = []
 details_of (PayloadType other) = behind (codes " ") other
 details_of (NoSignature others) = flat_map (behind (codes ", but by ")) others
+details_of Unsigned = []
 details_of NeitherLinkNorLayout = []
 details_of (OtherName name) = behind (codes " ") name
 details_of (Counts ids) = flat_map (behind (codes " ")) ids

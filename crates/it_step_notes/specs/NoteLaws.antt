@@ -9,7 +9,7 @@ use Rattle.it_chain.specs.declared.bundle.File.{File}
 use Rattle.it_step_notes.specs.StepNotes.{IsFinding}
 use Rattle.it_step_notes.specs.declared.note.Finding.{Finding}
 use Rattle.it_step_notes.specs.declared.note.Finding.TheVariants.{NoEnvelope, PayloadType}
-use Rattle.it_step_notes.specs.declared.note.Finding.TheVariants.{NoSignature, Counts}
+use Rattle.it_step_notes.specs.declared.note.Finding.TheVariants.{NoSignature, Unsigned, Counts}
 use Rattle.it_step_notes.specs.declared.note.Finding.TheVariants.{NeitherLinkNorLayout, OtherName}
 
 module _ (setting : Setting) (layout : Layout) (bundle : Contents) (step : Step) (file : File)
@@ -30,6 +30,7 @@ module _ (setting : Setting) (layout : Layout) (bundle : Contents) (step : Step)
     Tells NoEnvelope = CountsNever
     Tells (PayloadType other) = CountsNever
     Tells (NoSignature others) = CountsNever
+    Tells Unsigned = CountsNever
     Tells NeitherLinkNorLayout = CountsNever
     Tells (OtherName name) = CountsNever
     Tells (Counts ids) = All CountsUnder ids

@@ -22,7 +22,7 @@ use Rattle.it_chain.specs.declared.bundle.File.{File}
 use Rattle.it_step_notes.specs.Signing.{IsNamedSigner, IsSignedUnder}
 use Rattle.it_step_notes.specs.declared.note.Finding.{Finding}
 use Rattle.it_step_notes.specs.declared.note.Finding.TheVariants.{NoEnvelope, PayloadType}
-use Rattle.it_step_notes.specs.declared.note.Finding.TheVariants.{NoSignature, Counts}
+use Rattle.it_step_notes.specs.declared.note.Finding.TheVariants.{NoSignature, Unsigned, Counts}
 use Rattle.it_step_notes.specs.declared.note.Finding.TheVariants.{NeitherLinkNorLayout, OtherName}
 use Rattle.it_step_notes.specs.declared.note.StepNote.{StepNote}
 use Rattle.it_step_notes.specs.declared.note.StepNote.TheVariants.{File as of_file, NoFile}
@@ -66,11 +66,15 @@ module _ (panel : Panel) (layout : Layout) (step : Step) where
     pub listed : All (Contains step.pubkeys) ids
     pub signed : All (IsSignedUnder panel layout envelope) ids
 
-  -- the envelope is signed under no id that the step lists; these others are those of the layout's
-  -- ids, each once, that its signatures name and under which it is signed
+  -- the envelope is signed under no id that the step lists
+  abbrev pub IsSignedByNone : Envelope → Type 0
+  IsSignedByNone envelope = (id : List ℕ) → Contains step.pubkeys id
+      → ¬ IsSignedUnder panel layout envelope id
+
+  -- it is signed under none of these; these others are those of the layout's ids, each once, that
+  -- its signatures name and under which it is signed
   pub record IsUnsigned (envelope : Envelope) (others : List (List ℕ)) : Type 0 where
-    pub unsigned : (id : List ℕ) → Contains step.pubkeys id
-        → ¬ IsSignedUnder panel layout envelope id
+    pub unsigned : IsSignedByNone envelope
     pub others_are : AreThose (IsNamedSigner panel layout envelope) (keys layout.keys) others
 
   -- what an envelope is for the step
@@ -79,6 +83,7 @@ module _ (panel : Panel) (layout : Layout) (step : Step) where
   IsFindingOf envelope (PayloadType other) =
       (envelope.payload_type ≡ other) × (other ≢ in_toto_type)
   IsFindingOf envelope (NoSignature others) = IsUnsigned envelope others
+  IsFindingOf envelope Unsigned = IsSignedByNone envelope
   IsFindingOf envelope (Counts ids) = CountsFor envelope ids
   IsFindingOf envelope finding = IsNoBody step.name envelope.payload finding
 

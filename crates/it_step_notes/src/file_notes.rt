@@ -5,6 +5,7 @@ ghost use Rattle.it_step_notes.specs.StepNotes.{Holds};
 
 use crate::finding::finding_in;
 use crate::note::StepNote;
+use crate::room::Room;
 use crate::step_at::StepAt;
 use it_base::optional::push_some;
 use it_base::text::Text;
@@ -25,8 +26,9 @@ pub(crate) fn push_file_notes<C: Checks>(
     ensures { OnOk result (All (Holds (C.panel checks.now) at.now.layout.now
         at.now.bundle.now at.now.step.now) notes.new.items) }
 {
+    let mut room = Room::new();
     for file in at.bundle.files() {
-        push_some(notes, file_note(alloc, at, file, checks)?)?;
+        push_some(notes, file_note(alloc, at, file, checks, &mut room)?)?;
     }
     Ok(())
 }
@@ -36,6 +38,7 @@ fn file_note<C: Checks>(
     at: &StepAt,
     file: &HeldFile,
     checks: &C,
+    room: &mut Room,
 ) -> Result<Option<StepNote>, AllocError>
     requires { Contains (files_of at.now.bundle.now) file.now }
     ensures { IfOk result (λ found. IfSome found (Holds (C.panel checks.now)
@@ -43,7 +46,7 @@ fn file_note<C: Checks>(
 {
     let name = file.name();
     if is_claimed(at.step.name.as_str(), name) {
-        let finding = finding_in(alloc, at, file, checks)?;
+        let finding = finding_in(alloc, at, file, checks, room)?;
         return Ok(Some(StepNote::File {
             name: Text::copy(alloc, name)?,
             finding,

@@ -3,9 +3,10 @@ ghost use Rattle.std.specs.Prelude.{◌↔◌, IfOk, IsTrue, MatchOption};
 ghost use Rattle.it_docs.specs.Layout.{LayoutOf};
 ghost use Rattle.it_docs.specs.declared.layout.Layout.{Layout};
 ghost use Rattle.it_chain.specs.CountedBodies.{Body, BodyOf};
-ghost use Rattle.it_step_notes.specs.StepNotes.{IsFinding, IsFindingOf, IsNoBody};
+ghost use Rattle.it_step_notes.specs.StepNotes.{IsFinding, IsFindingOf, IsNoBody, IsSignedByNone};
 
 use crate::note::Finding;
+use crate::room::Room;
 use crate::signing_ids::{other_ids, signing_ids};
 use crate::step_at::StepAt;
 use it_base::sequence::Sequence;
@@ -23,12 +24,13 @@ pub(crate) fn finding_in<C: Checks>(
     at: &StepAt,
     file: &HeldFile,
     checks: &C,
+    room: &mut Room,
 ) -> Result<Finding, AllocError>
     ensures { IfOk result (IsFinding (C.panel checks.now) at.now.layout.now
         at.now.step.now file.now.bytes) }
 {
     match file.envelope() {
-        Some(envelope) => finding_of(alloc, at, envelope, checks),
+        Some(envelope) => finding_of(alloc, at, envelope, checks, room),
         None => Ok(Finding::NoEnvelope),
     }
 }
@@ -38,6 +40,7 @@ fn finding_of<C: Checks>(
     at: &StepAt,
     envelope: &Envelope,
     checks: &C,
+    room: &mut Room,
 ) -> Result<Finding, AllocError>
     ensures { IfOk result (IsFindingOf (C.panel checks.now) at.now.layout.now
         at.now.step.now envelope.now) }
@@ -49,13 +52,33 @@ fn finding_of<C: Checks>(
     let ids = signing_ids(alloc, at, envelope, checks)?;
     let signed = ids.as_slice();
     if signed.is_empty() {
-        let others = other_ids(alloc, at, envelope, checks)?;
-        return Ok(Finding::NoSignature(Sequence::from(others)));
+        return unsigned_finding(alloc, at, envelope, checks, room);
     }
     match no_body(alloc, at.step.name.as_str(), envelope.payload.as_slice())? {
         Some(finding) => Ok(finding),
         None => Ok(Finding::Counts(Sequence::from(ids))),
     }
+}
+
+/// What is found in an envelope that is signed under no key id of a step: under which other ids, if
+/// there is room to check that.
+fn unsigned_finding<C: Checks>(
+    alloc: Global,
+    at: &StepAt,
+    envelope: &Envelope,
+    checks: &C,
+    room: &mut Room,
+) -> Result<Finding, AllocError>
+    requires { IsSignedByNone (C.panel checks.now) at.now.layout.now at.now.step.now
+        envelope.now }
+    ensures { IfOk result (IsFindingOf (C.panel checks.now) at.now.layout.now
+        at.now.step.now envelope.now) }
+{
+    if !room.takes(at.layout, envelope) {
+        return Ok(Finding::Unsigned);
+    }
+    let others = other_ids(alloc, at, envelope, checks)?;
+    Ok(Finding::NoSignature(Sequence::from(others)))
 }
 
 /// Why a payload is not a body for a step, where it is not one.

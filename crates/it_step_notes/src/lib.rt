@@ -10,6 +10,7 @@ pub mod laws;
 mod line;
 mod near_names;
 pub mod note;
+mod room;
 pub mod signed_layout;
 mod signing_ids;
 mod step_at;

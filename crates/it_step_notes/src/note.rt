@@ -13,6 +13,9 @@ pub enum Finding {
     /// It is signed under these key ids of the layout, each given once, which its signatures name
     /// and the step does not list.
     NoSignature(Sequence<Text>),
+    /// It has no valid signature under a key id that the step lists and the layout has a key for.
+    /// Whether it is signed under others was not looked at, since that would take too many checks.
+    Unsigned,
     /// Its payload is neither a link nor a layout.
     NeitherLinkNorLayout,
     /// Its payload is a link with this name, which is not the step's.

@@ -12,7 +12,7 @@ pub record IsFoundIn (panel : Panel) (inputs : Inputs) (found : Found) : Type 0 
   pub documents : Documents
   pub evidence : Evidence
   pub made : IsMadeBy panel inputs documents evidence
-  pub are_found : AreFound documents evidence found
+  pub are_found : AreFound inputs documents evidence found
 
 -- the same, and nothing is found
 abbrev pub StandsStrictly : Panel → Inputs → Type 0

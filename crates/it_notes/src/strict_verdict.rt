@@ -62,14 +62,14 @@ fn accepted<'a, N: Write>(
         → IsMadeBy panel inputs.now grounds.documents grounds.evidence
         → IfOk result (IsTold panel inputs.now) }
     ensures nothing { IfOk result (λ _. (found : _)
-        × AreFound grounds.documents grounds.evidence found × IsNothing found) }
+        × AreFound inputs.now grounds.documents grounds.evidence found × IsNothing found) }
     ensures findings { IsErrOf result StrictFault.Findings → (found : _)
-        × AreFound grounds.documents grounds.evidence found × (¬ IsNothing found)
+        × AreFound inputs.now grounds.documents grounds.evidence found × (¬ IsNothing found)
         × AppendsBeginning (N.contents notes.old) (N.contents notes.new) (found_text found) }
     ensures faults { IfErr result (λ fault. (fault ≡ StrictFault.Findings)
         ⊎ (fault ≡ StrictFault.Run RunFault.OutOfMemory)) }
 {
-    let found = found_in(alloc, &grounds)?;
+    let found = found_in(alloc, inputs, &grounds)?;
     if !found.is_nothing() {
         tell(alloc, &found, notes)?;
         return Err(StrictFault::Findings);

@@ -3,14 +3,11 @@ use Rattle.std.proofs.Common.{◌≡◌, ℕ, zero, suc, List, [], ◌∷◌, So
 use Rattle.std.specs.List.{AllZip, slice_get}
 use Rattle.std.proofs.lemmas.List.Elements.{Contains-append_left}
 use Rattle.it_dsse.specs.Panel.{Panel}
-use Rattle.it_docs.specs.declared.layout.Layout.{Layout}
 use Rattle.it_docs.specs.declared.link.Link.{Link}
 use Rattle.it_docs.specs.declared.step.Step.{Step}
 use Rattle.it_rules.specs.Item.{Recorded}
 use Rattle.it_rules.proofs.Listed.{Contains-map, named_once}
-use Rattle.it_chain.specs.Chain.{Chain, holds_below}
-use Rattle.it_chain.specs.Contents.{Contents}
-use Rattle.it_chain.specs.CountedBodies.{Setting}
+use Rattle.it_chain.specs.Chain.{holds_below}
 use Rattle.it_chain.specs.Level.{StepHolds}
 use Rattle.it_chain.specs.StepRules.{links_in, recorded_in as recorded_by}
 use Rattle.it_chain.specs.declared.chain.StepResult.{StepResult}
@@ -21,6 +18,7 @@ use Rattle.it_verify.specs.declared.documents.Documents.{Documents}
 use Rattle.it_verify.specs.declared.evidence.Evidence.{Evidence}
 use Rattle.it_verify.specs.declared.inputs.Inputs.{Inputs}
 use Rattle.it_verify.proofs.NamesApart.{links_differ}
+use Rattle.it_verify.proofs.Held.{chain_records}
 use Rattle.it_strict.specs.StrictLaws.{IsStepWith}
 
 -- at a place of one list the other has an element too
@@ -32,13 +30,6 @@ zip_at R (z ∷ xs) (y ∷ ys) h zero x e =
     let same : z ≡ x = cc e in (y, refl, subst (λ v. R v y) same h.0)
 zip_at R (z ∷ xs) (y ∷ ys) h (suc i) x e = zip_at R xs ys h.1 i x e
 
--- each step of a layout that holds, holds with its record
-steps_hold : (setting : Setting) (depth : ℕ) (layout : Layout) (bundle : Contents)
-    (results : List StepResult) → Chain setting depth layout bundle results
-    → AllZip (StepHolds (holds_below setting depth) setting layout bundle) layout.steps results
-steps_hold setting zero layout bundle results h = h.steps
-steps_hold setting (suc depth) layout bundle results h = h.steps
-
 module _ (panel : Panel) (inputs : Inputs) (documents : Documents) (evidence : Evidence)
     (is_evidence : IsEvidence panel inputs documents evidence) where
   -- the step at a place of the layout has a record
@@ -46,7 +37,7 @@ module _ (panel : Panel) (inputs : Inputs) (documents : Documents) (evidence : E
       → (result : StepResult) × IsStepWith panel inputs documents evidence place step result
   step_with place step here =
       let setting = setting_of panel documents in
-      let hold = steps_hold setting inputs.depth documents.layout inputs.links evidence.steps
+      let hold = chain_records setting inputs.depth documents.layout inputs.links evidence.steps
       is_evidence.steps in
       let found = zip_at
       (StepHolds (holds_below setting inputs.depth) setting documents.layout inputs.links)

@@ -9,9 +9,12 @@ use Rattle.it_chain.specs.StepRules.{recorded_in}
 use Rattle.it_chain.specs.declared.chain.StepResult.{StepResult}
 use Rattle.it_findings.specs.Joined.{Joined, Said}
 use Rattle.it_findings.specs.LayoutFindings.{LayoutFindings}
+use Rattle.it_findings.specs.NullKeys.{LayoutNulls, NullsOf}
 use Rattle.it_findings.specs.declared.finding.Finding.{Finding}
 use Rattle.it_findings.specs.declared.finding.Finding.TheVariants.{NoRules}
 use Rattle.it_findings.specs.declared.finding.RuleList.TheVariants.{OfStep}
+use Rattle.it_findings.specs.declared.null_key.NullKey.{NullKey}
+use Rattle.it_check.specs.CheckOutput.{IsFound}
 
 -- the step at a place recorded some path on a side
 abbrev pub HasPath : List StepResult → ℕ → Side → Type 0
@@ -30,9 +33,11 @@ abbrev pub AreCounting : List StepResult → List Finding → List Finding → T
 AreCounting steps all counting =
     Joined (λ place finding here. Said (Counts steps finding) finding here) all counting
 
--- what is found in a layout and counts
-pub record LayoutCounting (layout : Layout) (steps : List StepResult) (counting : List Finding)
-    : Type 0 where
+-- what is found in a layout, which is read from this payload, and counts
+pub record LayoutCounting (payload : List ℕ) (layout : Layout) (steps : List StepResult)
+    (counting : List Finding) : Type 0 where
+  pub nulls : List NullKey
   pub all : List Finding
-  pub are_all : LayoutFindings layout all
+  pub are_nulls : NullsOf LayoutNulls payload nulls
+  pub are_all : IsFound nulls (LayoutFindings layout) all
   pub are_counting : AreCounting steps all counting

@@ -1,19 +1,33 @@
 -- What is found where a delivery is accepted (this project's words).
-use Rattle.std.specs.Prelude.{◌≡◌, [], Some}
+use Rattle.std.specs.Prelude.{◌≡◌, ℕ, List, [], Some}
+use Rattle.it_findings.specs.NullKeys.{NullsOf, PolicyNulls}
 use Rattle.it_findings.specs.PolicyFindings.{PolicyFindings}
+use Rattle.it_findings.specs.declared.finding.Finding.{Finding}
+use Rattle.it_findings.specs.declared.null_key.NullKey.{NullKey}
+use Rattle.it_check.specs.CheckOutput.{IsFound}
 use Rattle.it_ties.specs.Ties.{AreUntied}
 use Rattle.it_verify.specs.Delivered.{delivery}
 use Rattle.it_verify.specs.Evidence.{evidence_links}
 use Rattle.it_verify.specs.declared.documents.Documents.{Documents}
 use Rattle.it_verify.specs.declared.evidence.Evidence.{Evidence}
+use Rattle.it_verify.specs.declared.inputs.Inputs.{Inputs}
 use Rattle.it_strict.specs.Counting.{LayoutCounting}
 pub use Rattle.it_strict.specs.declared.found.Found.{Found}
 
--- what is found: in the policy, whose MATCH may take from what the layout has; in the layout, as
--- far as it counts; and the delivered files that are tied to no step
-pub record AreFound (documents : Documents) (evidence : Evidence) (found : Found) : Type 0 where
-  pub policy : PolicyFindings (Some documents.layout) documents.policy found.of_policy
-  pub layout : LayoutCounting documents.layout evidence.steps found.of_layout
+-- what is found in the policy, which is read from these bytes, and whose MATCH may take from what
+-- the layout has
+abbrev pub PolicyFound : List ℕ → Documents → List Finding → Type 0
+PolicyFound bytes documents found =
+    (nulls : List NullKey) × NullsOf PolicyNulls bytes nulls
+    × IsFound nulls (PolicyFindings (Some documents.layout) documents.policy) found
+
+-- what is found: in the policy; in the layout, as far as it counts; and the delivered files that
+-- are tied to no step
+pub record AreFound (inputs : Inputs) (documents : Documents) (evidence : Evidence) (found : Found)
+    : Type 0 where
+  pub policy : PolicyFound inputs.policy documents found.of_policy
+  pub layout : LayoutCounting documents.envelope.payload documents.layout evidence.steps
+      found.of_layout
   pub untied : AreUntied documents.layout.steps documents.policy.deliver
       (delivery documents.delivered) (evidence_links evidence) found.untied
 

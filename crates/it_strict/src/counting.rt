@@ -7,26 +7,29 @@ ghost use Rattle.it_findings.specs.Joined.{Said};
 ghost use Rattle.it_strict.specs.Counting.{AreCounting, Counts, HasPath, LayoutCounting};
 
 use it_chain::chain::StepResult;
-use it_docs::layout::Layout;
+use it_check::findings_in_layout;
 use it_docs::rule::Side;
 use it_findings::finding::{Finding, RuleList};
-use it_findings::layout_findings;
+use it_findings::layout_nulls;
 use it_rules::item::Item;
+use it_verify::documents::Documents;
 use std::alloc::{AllocError, Global};
 
-/// What is found in a layout and counts where its steps have these records.
+/// What is found in the layout and counts where its steps have these records.
 ///
 /// # Errors
 ///
 /// `AllocError` where memory was refused.
 pub(crate) fn counting_findings(
     alloc: Global,
-    layout: &Layout,
+    documents: &Documents,
     steps: &[StepResult],
 ) -> Result<Vec<Finding>, AllocError>
-    ensures { IfOk result (λ counting. LayoutCounting layout.now steps.now counting.items) }
+    ensures { IfOk result (λ counting. LayoutCounting documents.now.envelope.payload
+        documents.now.layout steps.now counting.items) }
 {
-    let all = layout_findings(alloc, layout)?;
+    let nulls = layout_nulls(alloc, documents.envelope.payload.as_slice())?;
+    let all = findings_in_layout(alloc, &documents.layout, nulls.as_slice())?;
     counting_of(alloc, all, steps)
 }
 

@@ -2,8 +2,7 @@
 ghost use Rattle.std.specs.Prelude.{◌≡◌, ◌↔◌, ◌++◌, IfOk, IsTrue, OnOk};
 ghost use Rattle.it_dsse.specs.Panel.{Panel};
 ghost use Rattle.it_verify.specs.Made.{IsMadeBy};
-ghost use Rattle.it_verify.specs.declared.inputs.Inputs.{Inputs};
-ghost use Rattle.it_strict.specs.Found.{AreFound, IsNothing};
+ghost use Rattle.it_strict.specs.Found.{AreFound, IsNothing, PolicyFound};
 ghost use Rattle.it_strict.specs.FoundText.{found_text};
 
 use crate::counting::counting_findings;
@@ -11,10 +10,12 @@ use crate::untied::untied_files;
 use crate::untied_lines::push_untied;
 use it_base::sequence::Sequence;
 use it_base::text::Text;
-use it_check::push_findings;
+use it_check::{findings_in_policy, push_findings};
 use it_findings::finding::Finding;
-use it_findings::policy_findings;
+use it_findings::policy_nulls;
+use it_verify::documents::Documents;
 use it_verify::grounds::Grounds;
+use it_verify::inputs::Inputs;
 use std::alloc::{AllocError, Global};
 
 /// What is found where a delivery is accepted.
@@ -29,26 +30,40 @@ pub struct Found {
     pub untied: Sequence<Text>,
 }
 
-/// All that is found where a delivery is accepted on these grounds.
+/// All that is found where a delivery of the `inputs` is accepted on these grounds.
 ///
 /// # Errors
 ///
 /// `AllocError` where memory was refused.
-pub fn found_in(alloc: Global, grounds: &Grounds) -> Result<Found, AllocError>
-    requires { (panel : Panel) × (inputs : Inputs)
-        × IsMadeBy panel inputs grounds.now.documents grounds.now.evidence }
-    ensures { IfOk result (λ found. AreFound grounds.now.documents grounds.now.evidence found) }
+pub fn found_in(alloc: Global, inputs: &Inputs, grounds: &Grounds) -> Result<Found, AllocError>
+    requires { (panel : Panel)
+        × IsMadeBy panel inputs.now grounds.now.documents grounds.now.evidence }
+    ensures { IfOk result (λ found.
+        AreFound inputs.now grounds.now.documents grounds.now.evidence found) }
 {
     let documents = &grounds.documents;
     let evidence = &grounds.evidence;
-    let of_policy = policy_findings(alloc, &documents.policy, Some(&documents.layout))?;
-    let of_layout = counting_findings(alloc, &documents.layout, evidence.steps.as_slice())?;
+    let of_policy = found_in_policy(alloc, inputs.policy.as_slice(), documents)?;
+    let of_layout = counting_findings(alloc, documents, evidence.steps.as_slice())?;
     let untied = untied_files(alloc, documents, evidence)?;
     Ok(Found {
         of_policy: Sequence::from(of_policy),
         of_layout: Sequence::from(of_layout),
         untied: Sequence::from(untied),
     })
+}
+
+/// What is found in the policy, which is read from these bytes.
+fn found_in_policy(
+    alloc: Global,
+    bytes: &[u8],
+    documents: &Documents,
+) -> Result<Vec<Finding>, AllocError>
+    ensures { IfOk result (λ found. PolicyFound bytes.now documents.now found.items) }
+{
+    let nulls = policy_nulls(alloc, bytes)?;
+    let layout = Some(&documents.layout);
+    findings_in_policy(alloc, layout, &documents.policy, nulls.as_slice())
 }
 
 impl Found {

@@ -1,5 +1,6 @@
 pub mod FileDetails
 pub mod KeyNotes
+pub mod Known
 pub mod Level
 pub mod Notes
 pub mod PlaceNotes

@@ -184,6 +184,11 @@ pub record TellsLevel (panel : Panel) (inputs : Inputs) (at : List Place) (fault
   pub is_level : IsLevel panel inputs at level
   pub is_true : TellsAt panel inputs level fault told
 
+-- the same, or there are none
+abbrev pub TellsLevelOrNothing : Panel → Inputs → List Place → Fault → RefusalNotes → Type 0
+TellsLevelOrNothing panel inputs at fault told = (told ≡ notes.Nothing)
+    ⊎ TellsLevel panel inputs at fault told
+
 -- the notes are true, and about the refusal
 abbrev pub Tells : Panel → Inputs → Refusal → RefusalNotes → Type 0
 Tells panel inputs refusal told = TellsInputs panel inputs refusal.fault told

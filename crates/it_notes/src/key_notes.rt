@@ -1,8 +1,12 @@
 //! The key objects that a refusal depends on and no check knows.
-ghost use Rattle.std.specs.Prelude.{All, IfOk};
+ghost use Rattle.std.specs.Prelude.{All, IfOk, IfSome};
+ghost use Rattle.it_docs.specs.Policy.{PolicyOf};
+ghost use Rattle.it_verify.specs.declared.inputs.Inputs.{Inputs};
+ghost use Rattle.it_notes.specs.Known.{IsKnown};
 ghost use Rattle.it_notes.specs.KeyNotes.{IsOfBuilder, IsOfOwner, IsOfStep, TellsKey};
 
-use crate::fault_level::level_at;
+use crate::fault_level::{level_reached, sublayout_reached};
+use crate::known::Known;
 use crate::provenance::speaking;
 use it_base::parts::from_bytes;
 use it_base::text::Text;
@@ -20,18 +24,22 @@ use std::alloc::{AllocError, Global};
 pub(crate) fn key_notes<C: Checks>(
     alloc: Global,
     inputs: &Inputs,
+    known: &Option<Known>,
     refusal: &Refusal,
     checks: &C,
 ) -> Result<Vec<UnknownKey>, AllocError>
+    requires { IfSome known.now (IsKnown (C.panel checks.now) inputs.now) }
     ensures { IfOk result (λ notes. All (TellsKey (C.panel checks.now) inputs.now
         refusal.now.at refusal.now.fault) notes.items) }
 {
-    match &refusal.fault {
-        Fault::OwnerMissing(_) => owner_keys(alloc, inputs, checks),
-        Fault::Threshold { step, .. } => {
-            step_keys(alloc, inputs, refusal.at.as_slice(), step.as_str(), checks)
+    match (&refusal.fault, known) {
+        (Fault::OwnerMissing(_), _) => owner_keys(alloc, inputs, checks),
+        (Fault::Threshold { step, .. }, Some(known)) => {
+            step_keys(alloc, known, refusal.at.as_slice(), step.as_str(), checks)
         }
-        Fault::NoProvenance(path, _) => builder_keys(alloc, inputs, path.as_str(), checks),
+        (Fault::NoProvenance(path, _), Some(known)) => {
+            builder_keys(alloc, &known.policy, path.as_str(), checks)
+        }
         _ => Ok(Vec::new(alloc)),
     }
 }
@@ -55,15 +63,17 @@ fn owner_keys<C: Checks>(
 /// Those under the key ids of the named step, in the layout to which the places lead.
 fn step_keys<C: Checks>(
     alloc: Global,
-    inputs: &Inputs,
+    known: &Known,
     at: &[(Text, Text)],
     name: &str,
     checks: &C,
 ) -> Result<Vec<UnknownKey>, AllocError>
+    requires { IsKnown (C.panel checks.now) known.now.inputs.now known.now }
     ensures { IfOk result (λ notes. All
-        (IsOfStep (C.panel checks.now) inputs.now at.now name.now) notes.items) }
+        (IsOfStep (C.panel checks.now) known.now.inputs.now at.now name.now) notes.items) }
 {
-    let Some(level) = level_at(alloc, inputs, at, checks)? else {
+    let sublayout = sublayout_reached(alloc, known, at, checks)?;
+    let Some(level) = level_reached(known, at, &sublayout) else {
         return Ok(Vec::new(alloc));
     };
     let layout = &level.signed.layout;
@@ -77,16 +87,14 @@ fn step_keys<C: Checks>(
 /// Those of the builders of the expectation that speaks of the file at a path.
 fn builder_keys<C: Checks>(
     alloc: Global,
-    inputs: &Inputs,
+    policy: &Policy,
     path: &str,
     checks: &C,
 ) -> Result<Vec<UnknownKey>, AllocError>
-    ensures { IfOk result (λ notes. All
-        (IsOfBuilder (C.panel checks.now) inputs.now path.now) notes.items) }
+    ensures { (inputs : Inputs) → PolicyOf inputs.policy policy.now
+        → IfOk result (λ notes. All (IsOfBuilder (C.panel checks.now) inputs path.now)
+        notes.items) }
 {
-    let Some(policy) = from_bytes::<Policy>(alloc, inputs.policy.as_slice())? else {
-        return Ok(Vec::new(alloc));
-    };
     let Some(expectation) = speaking(policy.expectations.as_slice(), path) else {
         return Ok(Vec::new(alloc));
     };

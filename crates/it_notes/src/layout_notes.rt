@@ -1,12 +1,12 @@
 //! What in the layout, and in the policy's rules that see it, may not be what its author meant.
-ghost use Rattle.std.specs.Prelude.{List, ℕ, IfOk, IfSome};
-ghost use Rattle.it_docs.specs.Layout.{LayoutOf};
-ghost use Rattle.it_notes.specs.Notes.{AreOfDelivery, AreOfLayout, TellsLayout};
+ghost use Rattle.std.specs.Prelude.{IfOk, IfSome};
+ghost use Rattle.it_dsse.specs.Panel.{Panel};
+ghost use Rattle.it_notes.specs.Known.{IsKnown};
+ghost use Rattle.it_notes.specs.Notes.{TellsLayout};
+ghost use Rattle.it_verify.specs.declared.inputs.Inputs.{Inputs};
 
-use it_base::parts::from_bytes;
-use it_chain::{envelope_in, layout_in};
-use it_docs::layout::Layout;
-use it_docs::policy::Policy;
+use crate::known::Known;
+use it_chain::envelope_in;
 use it_member_notes::layout_note::LayoutNote;
 use it_member_notes::member_notes::MemberNotes;
 use it_member_notes::rule_list_note::RuleListNote;
@@ -26,50 +26,34 @@ pub struct LayoutNotes {
 }
 
 impl LayoutNotes {
-    /// The notes on the layout in the envelope that was given, and on the policy's rules that see
-    /// it, or `None` where there is no envelope.
-    pub(crate) fn of(alloc: Global, inputs: &Inputs) -> Result<Option<LayoutNotes>, AllocError>
+    /// The notes on the layout that was read, and on the policy's rules that see it.
+    pub(crate) fn of(alloc: Global, known: &Known) -> Result<LayoutNotes, AllocError>
+        ensures { (panel : Panel) (inputs : Inputs) → IsKnown panel inputs known.now
+            → IfOk result (TellsLayout inputs) }
+    {
+        let signed = &known.top.signed;
+        Ok(LayoutNotes {
+            deliver: rule_list_notes(alloc, &signed.layout, known.policy.deliver.as_slice())?,
+            members: layout_notes(alloc, signed.payload.as_slice())?,
+            rules: layout_rule_notes(alloc, &signed.layout)?,
+        })
+    }
+
+    /// The notes on the members of what is in the layout's envelope and is no layout, or `None`
+    /// where there is no envelope.
+    pub(crate) fn of_unread(
+        alloc: Global,
+        inputs: &Inputs,
+    ) -> Result<Option<LayoutNotes>, AllocError>
         ensures { IfOk result (λ found. IfSome found (TellsLayout inputs.now)) }
     {
         let Some(envelope) = envelope_in(alloc, inputs.layout.as_slice())? else {
             return Ok(None);
         };
-        let payload = envelope.payload.as_slice();
-        let layout = layout_in(alloc, payload)?;
         Ok(Some(LayoutNotes {
-            deliver: delivery_notes(alloc, inputs.policy.as_slice(), &layout)?,
-            members: layout_notes(alloc, payload)?,
-            rules: rule_notes(alloc, &layout)?,
+            deliver: Vec::new(alloc),
+            members: layout_notes(alloc, envelope.payload.as_slice())?,
+            rules: Vec::new(alloc),
         }))
-    }
-}
-
-/// The notes on what a policy's rules on what is delivered ask for; none where there is no policy
-/// or no layout.
-fn delivery_notes(
-    alloc: Global,
-    bytes: &[u8],
-    layout: &Option<Layout>,
-) -> Result<Vec<RuleListNote>, AllocError>
-    ensures { (payload : List ℕ) → IfSome layout.now (LayoutOf payload)
-        → IfOk result (λ notes. AreOfDelivery bytes.now payload notes.items) }
-{
-    let Some(layout) = layout else {
-        return Ok(Vec::new(alloc));
-    };
-    let Some(policy) = from_bytes::<Policy>(alloc, bytes)? else {
-        return Ok(Vec::new(alloc));
-    };
-    rule_list_notes(alloc, layout, policy.deliver.as_slice())
-}
-
-/// The notes on what a layout asks for; no notes where there is no layout.
-fn rule_notes(alloc: Global, layout: &Option<Layout>) -> Result<Vec<LayoutNote>, AllocError>
-    ensures { (payload : List ℕ) → IfSome layout.now (LayoutOf payload)
-        → IfOk result (λ notes. AreOfLayout payload notes.items) }
-{
-    match layout {
-        Some(layout) => layout_rule_notes(alloc, layout),
-        None => Ok(Vec::new(alloc)),
     }
 }

@@ -1,10 +1,14 @@
 //! The notes on a verification.
 ghost use Rattle.std.specs.Prelude.{IfOk, IfSome};
+ghost use Rattle.it_dsse.specs.Panel.{Panel};
+ghost use Rattle.it_verify.specs.declared.inputs.Inputs.{Inputs};
 ghost use Rattle.it_notes.specs.KeyNotes.{TellsKeys};
+ghost use Rattle.it_notes.specs.Known.{IsKnown, IsTold};
 ghost use Rattle.it_notes.specs.Notes.{AreTrue, TellsLayout, TellsVerdict, TellsWhere};
 
 use crate::file_detail::DetailedNote;
 use crate::key_notes::key_notes;
+use crate::known::Told;
 use crate::layout_notes::LayoutNotes;
 use crate::place_notes::{PlaceNotes, place_notes};
 use crate::refusal_notes::refusal_notes;
@@ -15,6 +19,7 @@ use it_member_notes::policy_notes;
 use it_part_notes::part_note::PartNote;
 use it_part_notes::sum_line_note::SumLineNote;
 use it_prov_notes::note::ProvenanceNote;
+use it_report::refusal::Fault;
 use it_report::verdict::Verdict;
 use it_rule_notes::disagree_note::DisagreeNote;
 use it_rule_notes::expiry_note::ExpiryNote;
@@ -24,9 +29,6 @@ use it_rule_notes::payloads_note::PayloadsNote;
 use it_rule_notes::rule_note::RuleNote;
 use it_verify::inputs::Inputs;
 use std::alloc::{AllocError, Global};
-
-/// The number of the last fault that is looked for before the layout is read.
-const OWNER_MISSING: u8 = 22;
 
 /// The notes for people on a verification. Each note is true.
 #[derive(Drop)]
@@ -81,7 +83,7 @@ pub struct RuleNotes {
 }
 
 impl Notes {
-    /// The notes on the `verdict` of a verification of the `inputs`. Signatures are checked by the
+    /// The notes on what the verification of the `inputs` told. Signatures are checked by the
     /// `checks` again, but only after a refusal.
     ///
     /// # Errors
@@ -90,18 +92,19 @@ impl Notes {
     pub fn of<C: Checks>(
         alloc: Global,
         inputs: &Inputs,
-        verdict: &Verdict,
+        told: &Told,
         checks: &C,
     ) -> Result<Notes, AllocError>
-        ensures { IfOk result (AreTrue (C.panel checks.now) inputs.now verdict.now) }
+        requires { IsTold (C.panel checks.now) inputs.now told.now }
+        ensures { IfOk result (AreTrue (C.panel checks.now) inputs.now told.now.verdict) }
     {
         let policy = policy_notes(alloc, inputs.policy.as_slice())?;
-        let layout = signed_layout_notes(alloc, inputs, verdict)?;
-        let place = verdict_place(alloc, inputs, verdict, checks)?;
-        let keys = verdict_keys(alloc, inputs, verdict, checks)?;
+        let layout = signed_layout_notes(alloc, inputs, told)?;
+        let place = told_place(alloc, told, checks)?;
+        let keys = told_keys(alloc, inputs, told, checks)?;
         Ok(Notes {
             place,
-            refusal: verdict_notes(alloc, inputs, verdict, checks)?,
+            refusal: told_refusal(alloc, inputs, told, checks)?,
             keys,
             policy,
             layout,
@@ -110,49 +113,52 @@ impl Notes {
 }
 
 /// Why the verdict refuses, if it does.
-fn verdict_notes<C: Checks>(
+fn told_refusal<C: Checks>(
     alloc: Global,
     inputs: &Inputs,
-    verdict: &Verdict,
+    told: &Told,
     checks: &C,
 ) -> Result<RefusalNotes, AllocError>
-    ensures { IfOk result (TellsVerdict (C.panel checks.now) inputs.now verdict.now) }
+    requires { IfSome told.now.known (IsKnown (C.panel checks.now) inputs.now) }
+    ensures { IfOk result (TellsVerdict (C.panel checks.now) inputs.now told.now.verdict) }
 {
-    match verdict {
+    match &told.verdict {
         Verdict::Accepted { .. } => Ok(RefusalNotes::Nothing),
-        Verdict::Refused(refusal) => refusal_notes(alloc, inputs, refusal, checks),
+        Verdict::Refused(refusal) => refusal_notes(alloc, inputs, &told.known, refusal, checks),
     }
 }
 
 /// The key objects that the verdict depends on and no check knows, if it refuses.
-fn verdict_keys<C: Checks>(
+fn told_keys<C: Checks>(
     alloc: Global,
     inputs: &Inputs,
-    verdict: &Verdict,
+    told: &Told,
     checks: &C,
 ) -> Result<Vec<UnknownKey>, AllocError>
+    requires { IfSome told.now.known (IsKnown (C.panel checks.now) inputs.now) }
     ensures { IfOk result (λ notes.
-        TellsKeys (C.panel checks.now) inputs.now verdict.now notes.items) }
+        TellsKeys (C.panel checks.now) inputs.now told.now.verdict notes.items) }
 {
-    match verdict {
+    match &told.verdict {
         Verdict::Accepted { .. } => Ok(Vec::new(alloc)),
-        Verdict::Refused(refusal) => key_notes(alloc, inputs, refusal, checks),
+        Verdict::Refused(refusal) => key_notes(alloc, inputs, &told.known, refusal, checks),
     }
 }
 
 /// The place of the sublayout that the verdict is about, if any.
-fn verdict_place<C: Checks>(
+fn told_place<C: Checks>(
     alloc: Global,
-    inputs: &Inputs,
-    verdict: &Verdict,
+    told: &Told,
     checks: &C,
 ) -> Result<Option<PlaceNotes>, AllocError>
-    ensures { IfOk result (λ found. IfSome found
-        (TellsWhere (C.panel checks.now) inputs.now verdict.now)) }
+    requires { (inputs : Inputs) × IsTold (C.panel checks.now) inputs told.now }
+    ensures { (inputs : Inputs) → IsTold (C.panel checks.now) inputs told.now
+        → IfOk result (λ found. IfSome found
+        (TellsWhere (C.panel checks.now) inputs told.now.verdict)) }
 {
-    match verdict {
-        Verdict::Accepted { .. } => Ok(None),
-        Verdict::Refused(refusal) => place_notes(alloc, inputs, refusal, checks),
+    match (&told.verdict, &told.known) {
+        (Verdict::Refused(refusal), Some(known)) => place_notes(alloc, known, refusal, checks),
+        _ => Ok(None),
     }
 }
 
@@ -161,22 +167,22 @@ fn verdict_place<C: Checks>(
 fn signed_layout_notes(
     alloc: Global,
     inputs: &Inputs,
-    verdict: &Verdict,
+    told: &Told,
 ) -> Result<Option<LayoutNotes>, AllocError>
-    ensures { IfOk result (λ found. IfSome found (TellsLayout inputs.now)) }
+    ensures { (panel : Panel) → IfSome told.now.known (IsKnown panel inputs.now)
+        → IfOk result (λ found. IfSome found (TellsLayout inputs.now)) }
 {
-    if is_signed(verdict) {
-        LayoutNotes::of(alloc, inputs)
-    } else {
-        Ok(None)
+    match &told.known {
+        Some(known) => Ok(Some(LayoutNotes::of(alloc, known)?)),
+        None if is_no_layout(&told.verdict) => LayoutNotes::of_unread(alloc, inputs),
+        None => Ok(None),
     }
 }
 
-/// Whether the owners signed the layout: the verdict accepts, or names a fault that is looked for
-/// after their signatures.
-fn is_signed(verdict: &Verdict) -> bool {
+/// Whether the owners signed something that is no layout.
+fn is_no_layout(verdict: &Verdict) -> bool {
     match verdict {
-        Verdict::Accepted { .. } => true,
-        Verdict::Refused(refusal) => refusal.number() > OWNER_MISSING,
+        Verdict::Accepted { .. } => false,
+        Verdict::Refused(refusal) => matches!(&refusal.fault, Fault::BadLayout(_)),
     }
 }

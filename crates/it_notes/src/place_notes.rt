@@ -1,16 +1,17 @@
 //! The place of the sublayout that a refusal is about.
 ghost use Rattle.std.specs.Prelude.{IfOk, IfSome};
 ghost use Rattle.it_step_notes.specs.Folder.{LacksFolder};
+ghost use Rattle.it_notes.specs.Known.{IsKnown};
 ghost use Rattle.it_notes.specs.PlaceNotes.{TellsFile, TellsPlace};
 
-use crate::fault_level::{FaultLevel, level_at};
+use crate::fault_level::{FaultLevel, level_reached, sublayout_reached};
+use crate::known::Known;
 use it_base::text::Text;
 use it_dsse::checks::Checks;
 use it_report::refusal::{Fault, Refusal};
 use it_rule_notes::level::Level;
 use it_rule_notes::sublayout_note::{SublayoutNote, sublayout_note};
 use it_step_notes::folder_note::{FolderNote, folder_note};
-use it_verify::inputs::Inputs;
 use std::alloc::{AllocError, Global};
 
 /// The place of the sublayout that a refusal is about.
@@ -26,21 +27,23 @@ pub struct PlaceNotes {
 /// lead to none.
 pub(crate) fn place_notes<C: Checks>(
     alloc: Global,
-    inputs: &Inputs,
+    known: &Known,
     refusal: &Refusal,
     checks: &C,
 ) -> Result<Option<PlaceNotes>, AllocError>
+    requires { IsKnown (C.panel checks.now) known.now.inputs.now known.now }
     ensures { IfOk result (λ found. IfSome found
-        (TellsPlace (C.panel checks.now) inputs.now refusal.now.at)) }
+        (TellsPlace (C.panel checks.now) known.now.inputs.now refusal.now.at)) }
 {
     let Some((last, before)) = refusal.at.as_slice().split_last() else {
         return Ok(None);
     };
-    let Some(level) = level_at(alloc, inputs, before, checks)? else {
+    let sublayout = sublayout_reached(alloc, known, before, checks)?;
+    let Some(level) = level_reached(known, before, &sublayout) else {
         return Ok(None);
     };
-    let file = file_of(alloc, &level, last, checks)?;
-    let folder = missing_folder(alloc, &level, last, &refusal.fault)?;
+    let file = file_of(alloc, level, last, checks)?;
+    let folder = missing_folder(alloc, level, last, &refusal.fault)?;
     Ok(Some(PlaceNotes { file, folder }))
 }
 

@@ -1,8 +1,10 @@
 //! Why a delivery was refused.
-ghost use Rattle.std.specs.Prelude.{IfOk};
+ghost use Rattle.std.specs.Prelude.{IfOk, IfSome};
+ghost use Rattle.it_notes.specs.Known.{IsKnown};
 ghost use Rattle.it_notes.specs.RefusalNotes.{Tells, TellsInputs};
 
 use crate::bad_parts::{layout_told, line_told, policy_told};
+use crate::known::Known;
 use crate::level_notes::level_told;
 use crate::notes::RefusalNotes;
 use crate::owners::owners_told;
@@ -16,30 +18,33 @@ use std::alloc::{AllocError, Global};
 pub(crate) fn refusal_notes<C: Checks>(
     alloc: Global,
     inputs: &Inputs,
+    known: &Option<Known>,
     refusal: &Refusal,
     checks: &C,
 ) -> Result<RefusalNotes, AllocError>
+    requires { IfSome known.now (IsKnown (C.panel checks.now) inputs.now) }
     ensures { IfOk result (Tells (C.panel checks.now) inputs.now refusal.now) }
 {
-    if is_of_level(&refusal.fault) {
-        if let Some(told) = level_told(alloc, inputs, refusal, checks)? {
-            return Ok(told);
-        }
+    match known {
+        Some(known) => known_notes(alloc, known, refusal, checks),
+        None => input_notes(alloc, inputs, &refusal.fault, checks),
     }
-    let told = input_notes(alloc, inputs, &refusal.fault, checks)?;
-    Ok(told)
 }
 
-/// Whether a fault is about a layout and its links.
-fn is_of_level(fault: &Fault) -> bool {
-    matches!(
-        fault,
-        Fault::Expired
-            | Fault::TwoPayloads { .. }
-            | Fault::Disagree { .. }
-            | Fault::Threshold { .. }
-            | Fault::RuleFailed { .. }
-    )
+/// The notes on a refusal where the documents read, and every owner signed the layout.
+fn known_notes<C: Checks>(
+    alloc: Global,
+    known: &Known,
+    refusal: &Refusal,
+    checks: &C,
+) -> Result<RefusalNotes, AllocError>
+    requires { IsKnown (C.panel checks.now) known.now.inputs.now known.now }
+    ensures { IfOk result (Tells (C.panel checks.now) known.now.inputs.now refusal.now) }
+{
+    match &refusal.fault {
+        Fault::NoProvenance(path, _) => provenance_told(alloc, known, path.as_str(), checks),
+        _ => level_told(alloc, known, refusal, checks),
+    }
 }
 
 /// The notes on a fault of the documents that were given.
@@ -56,7 +61,6 @@ fn input_notes<C: Checks>(
         Fault::BadSums(line) => line_told(alloc, inputs, *line),
         Fault::BadLayout(part) => layout_told(alloc, inputs, part),
         Fault::OwnerMissing(_) => owners_told(alloc, inputs, checks),
-        Fault::NoProvenance(path, _) => provenance_told(alloc, inputs, path.as_str(), checks),
         _ => Ok(RefusalNotes::Nothing),
     }
 }

@@ -1,20 +1,20 @@
 //! Which artifact rule failed, and what it met.
 ghost use Rattle.std.specs.Prelude.{IfOk, IfSome, List, ℕ};
 ghost use Rattle.it_report.specs.declared.refusal.Fault.TheVariants.{RuleFailed};
+ghost use Rattle.it_notes.specs.Known.{IsKnown};
+ghost use Rattle.it_notes.specs.Level.{StepsStand};
 ghost use Rattle.it_notes.specs.RefusalNotes.{TellsAt, TellsMetAt};
 
 use crate::fault_level::FaultLevel;
+use crate::known::Known;
 use crate::notes::{RefusalNotes, RuleNotes};
-use it_base::parts::from_bytes;
 use it_chain::refusal::RuleItem;
-use it_docs::policy::Policy;
 use it_docs::rule::Side;
 use it_dsse::checks::Checks;
 use it_rule_notes::level::Level;
-use it_rule_notes::met_note::{MetNote, met_note};
+use it_rule_notes::met_note::{MetNote, met_note, met_note_over};
 use it_rule_notes::rule_note::rule_note;
 use it_rule_notes::rule_place::{RuleBook, RulePlace};
-use it_verify::inputs::Inputs;
 use std::alloc::{AllocError, Global};
 
 /// The place of the rule that failed.
@@ -34,26 +34,25 @@ const DEEPEST: u8 = 8;
 /// The text of the rule that failed, and what it met.
 pub(crate) fn rule_told<C: Checks>(
     alloc: Global,
-    inputs: &Inputs,
+    known: &Known,
     level: &FaultLevel,
     rule: &FailedRule,
     checks: &C,
 ) -> Result<RefusalNotes, AllocError>
+    requires known { IsKnown (C.panel checks.now) known.now.inputs.now known.now }
+    requires steps { StepsStand (C.panel checks.now) known.now.inputs.now.depth level.now }
     ensures { IfOk result (λ told. (path : List ℕ) → TellsAt (C.panel checks.now)
-        inputs.now level.now
+        known.now.inputs.now level.now
         (RuleFailed rule.now.item.now rule.now.side rule.now.index path) told) }
 {
-    let Some(policy) = from_bytes::<Policy>(alloc, inputs.policy.as_slice())? else {
-        return Ok(RefusalNotes::Nothing);
-    };
     let book = RuleBook {
         layout: &level.signed.layout,
-        deliver: policy.deliver.as_slice(),
+        deliver: known.policy.deliver.as_slice(),
     };
     let Some(rule) = rule_note(alloc, &book, rule.item, rule.side, rule.index)? else {
         return Ok(RefusalNotes::Nothing);
     };
-    let met = met_at(alloc, inputs.depth, level, &rule.place, checks)?;
+    let met = met_at(alloc, known.inputs.depth, level, &rule.place, checks)?;
     Ok(RefusalNotes::Rule(RuleNotes { rule, met }))
 }
 
@@ -65,9 +64,13 @@ fn met_at<C: Checks>(
     place: &RulePlace,
     checks: &C,
 ) -> Result<Option<MetNote>, AllocError>
+    requires { StepsStand (C.panel checks.now) depth level.now }
     ensures { IfOk result (λ found. IfSome found (TellsMetAt (C.panel checks.now)
         depth level.now place.now)) }
 {
+    if let Some(steps) = &level.steps {
+        return met_note_over(alloc, &level.signed.layout, steps.as_slice(), place);
+    }
     if depth > DEEPEST {
         return Ok(None);
     }

@@ -3,16 +3,16 @@ ghost use Rattle.std.specs.Prelude.{◌≡◌, ◌≤◌, IfErr, IfOk, IsErrOf};
 ghost use Rattle.std.specs.Io.KnownBytes.{Appends};
 ghost use Rattle.it_base.specs.Writing.{AppendsBeginning};
 ghost use Rattle.it_outcome.specs.Outcome.{IsOutputFault};
+ghost use Rattle.it_notes.specs.Known.{IsTold};
 ghost use Rattle.it_notes.specs.VerifyOutputIn.{IsVerifyOutputIn};
 
+use crate::known::{Told, verify_told};
 use crate::notes::Notes;
 use crate::verdict_output::write_in;
 use it_dsse::checks::Checks;
 use it_json_report::form::ReportForm;
 use it_outcome::{RunFault, Status};
-use it_report::verdict::Verdict;
 use it_verify::inputs::Inputs;
-use it_verify::verify_by;
 use std::alloc::{AllocError, Global};
 use std::io::Write;
 
@@ -45,33 +45,37 @@ pub fn verify_with_notes<C: Checks, W: Write, N: Write>(
     ensures memory { IsErrOf result RunFault.OutOfMemory → out.new ≡ out.old }
     ensures faults { IfErr result IsOutputFault }
 {
-    let answer = verify_by(alloc, inputs, checks)?;
-    let outcome = write_in(alloc, form, &answer.verdict, out);
+    let told = verify_told(alloc, inputs, checks)?;
+    let outcome = write_in(alloc, form, &told.verdict, out);
     if outcome.is_ok() {
-        note(alloc, inputs, &answer.verdict, checks, notes);
+        note(alloc, inputs, &told, checks, notes);
     }
     outcome
 }
 
-/// Writes the notes on a verdict, as far as memory suffices and they can be written.
+/// Writes the notes on what was told, as far as memory suffices and they can be written.
 pub(crate) fn note<C: Checks, N: Write>(
     alloc: Global,
     inputs: &Inputs,
-    verdict: &Verdict,
+    told: &Told,
     checks: &C,
     notes: &mut N,
-) {
-    if let Ok(text) = notes_text(alloc, inputs, verdict, checks) {
+)
+    requires { IsTold (C.panel checks.now) inputs.now told.now }
+{
+    if let Ok(text) = notes_text(alloc, inputs, told, checks) {
         let _ = notes.write_all(text.as_slice());
     }
 }
 
-/// The lines of the notes on a verdict.
+/// The lines of the notes on what was told.
 fn notes_text<C: Checks>(
     alloc: Global,
     inputs: &Inputs,
-    verdict: &Verdict,
+    told: &Told,
     checks: &C,
-) -> Result<Vec<u8>, AllocError> {
-    Notes::of(alloc, inputs, verdict, checks)?.text(alloc)
+) -> Result<Vec<u8>, AllocError>
+    requires { IsTold (C.panel checks.now) inputs.now told.now }
+{
+    Notes::of(alloc, inputs, told, checks)?.text(alloc)
 }

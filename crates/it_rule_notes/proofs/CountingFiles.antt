@@ -1,6 +1,6 @@
 -- What is found in a file counts for the step.
-use Rattle.std.proofs.Common.{◌≡◌, ◌↔◌, ℕ, ℤ, List, [], ◌++◌, All}
-use Rattle.std.proofs.Common.{Contains, IfSome, Option, Some, None, is_some, sym, subst, append-nil, refl}
+use Rattle.std.proofs.Common.{◌≡◌, ℕ, ℤ, List, [], ◌++◌, All}
+use Rattle.std.proofs.Common.{Contains, IfSome, Option, Some, None, is_some, sym, subst, append-nil}
 use Rattle.std.specs.Bool.{OnTrue}
 use Rattle.std.specs.List.{cons_option}
 use Rattle.std.proofs.lemmas.List.Elements.{All-push}

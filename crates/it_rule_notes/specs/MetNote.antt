@@ -33,14 +33,18 @@ pub record MeetsOver (results : List StepResult) (step : Step) (side : Side) (in
 
 -- the rule at the note's place is one of a step of the layout, and it meets this over the records
 -- of the steps
-pub record TellsMet (setting : Setting) (depth : ℕ) (layout : Layout) (bundle : Contents)
-    (note : MetNote) : Type 0 where
-  pub step : Step
-  pub results : List StepResult
-  pub is_step : Contains layout.steps step
-  pub item_is : note.place.item ≡ of_step step.name
-  pub are_records : AreStepRecords setting depth layout bundle results
-  pub meets : MeetsOver results step note.place.side note.place.index note.met
+pub record TellsMetOver (layout : Layout) (results : List StepResult) (note : MetNote) : Type 0
+  where
+    pub step : Step
+    pub is_step : Contains layout.steps step
+    pub item_is : note.place.item ≡ of_step step.name
+    pub meets : MeetsOver results step note.place.side note.place.index note.met
+
+-- the same over the records with which the steps hold for a bundle
+abbrev pub TellsMet : Setting → ℕ → Layout → Contents → MetNote → Type 0
+TellsMet setting depth layout bundle note =
+    (results : List StepResult) × AreStepRecords setting depth layout bundle results
+    × TellsMetOver layout results note
 
 -- the line of a note (this project's words)
 abbrev pub met_line : MetNote → List ℕ

@@ -4,7 +4,7 @@ ghost use Rattle.it_chain.specs.StepRules.{links_in};
 ghost use Rattle.it_chain.specs.declared.refusal.RuleItem.TheVariants.{Step as of_step};
 ghost use Rattle.it_rules.specs.Rules.{NamesDiffer};
 ghost use Rattle.it_rule_notes.specs.CountingFile.{setting_of};
-ghost use Rattle.it_rule_notes.specs.MetNote.{MeetsOver, TellsMet, met_line};
+ghost use Rattle.it_rule_notes.specs.MetNote.{MeetsOver, TellsMet, TellsMetOver, met_line};
 
 use crate::judged::JudgedRules;
 use crate::level::Level;
@@ -53,13 +53,34 @@ pub fn met_note<C: Checks>(
         × TellsMet (setting_of (C.panel checks.now) level.now.moment) depth
         level.now.layout.now level.now.links.now note)) }
 {
-    let Some(step) = step_of(level.layout, &place.item) else {
+    if step_of(level.layout, &place.item).is_none() {
+        return Ok(None);
+    }
+    match step_records(alloc, level, depth, checks)? {
+        Some(chain) => met_note_over(alloc, level.layout, chain.steps.as_slice(), place),
+        None => Ok(None),
+    }
+}
+
+/// Says what a failed rule of a step met, as [`met_note`] does, over the records of the steps of a
+/// layout, whose names all differ.
+///
+/// # Errors
+///
+/// `AllocError` where memory was refused.
+pub fn met_note_over(
+    alloc: Global,
+    layout: &Layout,
+    results: &[StepResult],
+    place: &RulePlace,
+) -> Result<Option<MetNote>, AllocError>
+    requires { NamesDiffer (links_in results.now) }
+    ensures { IfOk result (λ found. IfSome found (λ note. (note.place ≡ place.now)
+        × TellsMetOver layout.now results.now note)) }
+{
+    let Some(step) = step_of(layout, &place.item) else {
         return Ok(None);
     };
-    let Some(chain) = step_records(alloc, level, depth, checks)? else {
-        return Ok(None);
-    };
-    let results = chain.steps.as_slice();
     let Some(met) = met_over(alloc, results, step, place.side, place.index)? else {
         return Ok(None);
     };

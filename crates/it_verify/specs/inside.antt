@@ -1,5 +1,7 @@
 pub mod DocumentsHold
+pub mod Evidence
 pub mod Failures
 pub mod Inspections
+pub mod Outcomes
 pub mod Provenance
 pub mod Taking

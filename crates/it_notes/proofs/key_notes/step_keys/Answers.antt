@@ -8,11 +8,12 @@ use Rattle.it_notes.proofs.key_notes.step_keys.Goals as goal
 pub returns : goal.returns
 returns g c =
     let panel = g.C.Checks.panel c.args.checks.now in
-    let inputs = c.args.inputs.now in
-    let level = c.in-Some.level in
+    let inputs = c.args.known.now.inputs.now in
+    let level = c.in-Some.level.now in
     let step = c.in-Some-step_named.step.now in
     let reached : IsLevel panel inputs c.args.at.now level =
-    rw c.in-Some.is at c.in_ok-level.ensures in
+    (rw c.in-Some.is at (c.level_reached.ensures panel c.requires
+    c.in_ok-sublayout.ensures)).is_level in
     let stands : Contains level.signed.layout.steps step =
     rw (← c.as_slice.ensures) c.in-Some-step_named.ensures.0 in
     All-weaker (IsUnknownUnder panel step.pubkeys level.signed.layout.keys)

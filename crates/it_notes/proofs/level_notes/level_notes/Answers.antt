@@ -12,7 +12,7 @@ returns-in-TwoPayloads g c =
     let step : c.as_str.result.now ≡ c.in-TwoPayloads.step = search rules in
     let id : c.as_str-in-TwoPayloads.result.now ≡ c.in-TwoPayloads.id = search rules in
     IfOk-weaker c.payloads_told.result _ _
-    (λ told each. rw (c.in-TwoPayloads.is, ← step, ← id) (each c.args.inputs.now))
+    (λ told each. rw (c.in-TwoPayloads.is, ← step, ← id) (each c.args.known.now.inputs.now))
     c.payloads_told.ensures
 
 pub returns-in-Disagree : goal.returns-in-Disagree
@@ -20,7 +20,7 @@ returns-in-Disagree g c =
     let step : c.as_str-in-Disagree.result.now ≡ c.in-Disagree.step = search rules in
     let id : c.as_str-in-Disagree-2.result.now ≡ c.in-Disagree.id = search rules in
     IfOk-weaker c.disagreement_told.result _ _
-    (λ told each. rw (c.in-Disagree.is, ← step, ← id) (each c.args.inputs.now))
+    (λ told each. rw (c.in-Disagree.is, ← step, ← id) (each c.args.known.now.inputs.now))
     c.disagreement_told.ensures
 
 pub returns-in-Threshold : goal.returns-in-Threshold
@@ -29,7 +29,7 @@ returns-in-Threshold g c =
     IfOk-weaker c.step_told.result _ _
     (λ told each.
     rw (c.in-Threshold.is, ← name)
-    (each c.args.inputs.now c.in-Threshold.found c.in-Threshold.needed))
+    (each c.args.known.now.inputs.now c.in-Threshold.found c.in-Threshold.needed))
     c.step_told.ensures
 
 pub returns-in-RuleFailed : goal.returns-in-RuleFailed

@@ -1,16 +1,28 @@
-use Rattle.std.proofs.Common.{refl, rules}
+use Rattle.std.proofs.Common.{◌∙◌, refl, sym}
 use Rattle.it_notes.proofs.provenance.provenance_told.Goals as goal
 
 pub returns : goal.returns
 returns g c = λ best. record {
-  policy = c.in-Some.policy;
+  policy = c.args.known.now.policy;
   expectation = c.in-Some-speaking.expectation.now;
   path = c.args.path.now;
   best = best;
-  digests = c.in-Some-2.digests;
+  digests = c.in-Some.digests;
   fault_is = refl;
-  is_policy = search rules;
-  fits = rw (← c.as_slice-4.ensures) c.in-Some-speaking.ensures;
-  is_delivered = search rules;
-  are_true = rw (← c.as_slice-5.ensures) c.in_ok-notes.ensures;
+  is_policy = c.requires.policy;
+  fits = rw (← c.as_slice-2.ensures) c.in-Some-speaking.ensures;
+  is_delivered = record {
+    delivered = c.args.known.now.delivered;
+    reads = c.requires.delivered;
+    stands = sym c.get.ensures ∙ c.in-Some.is;
+  };
+  are_true = rw (← c.as_slice-3.ensures) c.in_ok-notes.ensures;
+}
+
+pub returns-then-branch : goal.returns-then-branch
+returns-then-branch g c = λ best. record {
+  path = c.args.path.now;
+  best = best;
+  fault_is = refl;
+  is_true = rw c.as_slice.ensures at (c.in_ok-is_laid_out.ensures.0 c.if-branch.true);
 }

@@ -1,4 +1,3 @@
-use Rattle.std.proofs.Common.{◌≡◌, rules}
 use Rattle.std.proofs.lemmas.Result.{IfOk-weaker}
 use Rattle.it_notes.proofs.refusal_notes.input_notes.Goals as goal
 
@@ -22,9 +21,3 @@ returns-in-OwnerMissing g c =
     IfOk-weaker c.owners_told.result _ _
     (λ told each. rw c.in-OwnerMissing.is (each c.in-OwnerMissing.field-0))
     c.owners_told.ensures
-
-pub returns-in-NoProvenance : goal.returns-in-NoProvenance
-returns-in-NoProvenance g c =
-    let path : c.as_str.result.now ≡ c.in-NoProvenance.path = search rules in
-    IfOk-weaker c.provenance_told.result _ _
-    (λ told each. rw (c.in-NoProvenance.is, ← path) (each _)) c.provenance_told.ensures

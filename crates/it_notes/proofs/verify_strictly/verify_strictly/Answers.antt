@@ -15,11 +15,11 @@ handed_on (Err e) fault reason is of = cc
 
 pub returns-in_err-status-clause-write : goal.returns-in_err-status-clause-write
 returns-in_err-status-clause-write g c = λ failed. (
-  form_of c.args.form c.in_ok-verdict.verdict,
-  status_of c.in_ok-verdict.verdict,
+  form_of c.args.form c.in_ok-told.told.verdict,
+  status_of c.in_ok-told.told.verdict,
   record {
-    verdict = c.in_ok-verdict.verdict;
-    is_verdict = c.in_ok-verdict.ensures.verdict;
+    verdict = c.in_ok-told.told.verdict;
+    is_verdict = c.in_ok-told.ensures.told.verdict;
     text_is = refl;
     status_is = refl;
   },

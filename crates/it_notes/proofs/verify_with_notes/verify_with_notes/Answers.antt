@@ -7,10 +7,10 @@ use Rattle.it_notes.proofs.verify_with_notes.verify_with_notes.Goals as goal
 pub returns-clause-ok : goal.returns-clause-ok
 returns-clause-ok g c =
     IfOk-weaker c.write_in-outcome.result _ _ (λ status written. (
-      form_of c.args.form c.in_ok-answer.answer.verdict,
+      form_of c.args.form c.in_ok-told.told.verdict,
       record {
-        verdict = c.in_ok-answer.answer.verdict;
-        is_verdict = c.in_ok-answer.ensures.answers;
+        verdict = c.in_ok-told.told.verdict;
+        is_verdict = c.in_ok-told.ensures.verdict;
         text_is = refl;
         status_is = written.0;
       },
@@ -19,11 +19,11 @@ returns-clause-ok g c =
 
 pub returns-clause-write : goal.returns-clause-write
 returns-clause-write g c = λ failed. (
-  form_of c.args.form c.in_ok-answer.answer.verdict,
-  status_of c.in_ok-answer.answer.verdict,
+  form_of c.args.form c.in_ok-told.told.verdict,
+  status_of c.in_ok-told.told.verdict,
   record {
-    verdict = c.in_ok-answer.answer.verdict;
-    is_verdict = c.in_ok-answer.ensures.answers;
+    verdict = c.in_ok-told.told.verdict;
+    is_verdict = c.in_ok-told.ensures.verdict;
     text_is = refl;
     status_is = refl;
   },

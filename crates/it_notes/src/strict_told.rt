@@ -1,41 +1,43 @@
-//! The verdict of a strict verification.
+//! The verdict of a strict verification, and what was found before it.
 ghost use Rattle.std.specs.Prelude.{◌≡◌, ◌≤◌, ◌⊎◌, IfErr, IfOk, IsErrOf, OnOk};
 ghost use Rattle.it_base.specs.Writing.{AppendsBeginning};
 ghost use Rattle.it_dsse.specs.Panel.{Panel};
 ghost use Rattle.it_strict.specs.Found.{AreFound, IsNothing};
 ghost use Rattle.it_strict.specs.FoundText.{found_text};
-ghost use Rattle.it_verify.specs.Made.{IsMadeBy, verdict_of};
-ghost use Rattle.it_verify.specs.Verdict.{IsVerdict, OnAccepted};
+ghost use Rattle.it_verify.specs.Made.{IsMadeBy};
+ghost use Rattle.it_verify.specs.Verdict.{OnAccepted};
+ghost use Rattle.it_notes.specs.Known.{IsTold};
 ghost use Rattle.it_notes.specs.Strictly.{IsFoundIn, StandsStrictly};
 
+use crate::known::{Told, made_told, refused_told};
 use crate::strict_fault::StrictFault;
 use it_base::writing::write_all_of;
 use it_dsse::checks::Checks;
 use it_outcome::RunFault;
-use it_report::verdict::Verdict;
 use it_strict::found::{Found, found_in};
 use it_verify::grounds::{Grounds, Outcome};
 use it_verify::inputs::Inputs;
-use it_verify::{verdict_of, verify_grounds};
+use it_verify::verify_grounds;
 use std::alloc::{AllocError, Global};
 use std::io::Write;
 
-/// The verdict on inputs, where it refuses, or accepts and nothing is found.
+/// Verifies delivered files, and keeps what was found, where the verdict refuses, or accepts and
+/// nothing stands against that.
 ///
 /// # Errors
 ///
 /// `Findings` where it accepts and something is found; the lines of that went to `notes`, or a
 /// beginning of them. `Run` with `OutOfMemory` where memory was refused.
-pub(crate) fn strict_verdict<C: Checks, N: Write>(
+pub(crate) fn strict_told<'a, C: Checks, N: Write>(
     alloc: Global,
-    inputs: &Inputs,
+    inputs: &'a Inputs,
     checks: &C,
     notes: &mut N,
-) -> Result<Verdict, StrictFault>
+) -> Result<Told<'a>, StrictFault>
     requires { inputs.now.depth ≤ 8 }
-    ensures verdict { IfOk result (IsVerdict (C.panel checks.now) inputs.now) }
-    ensures stands { IfOk result (λ verdict.
-        OnAccepted verdict (StandsStrictly (C.panel checks.now) inputs.now)) }
+    ensures told { IfOk result (IsTold (C.panel checks.now) inputs.now) }
+    ensures stands { IfOk result (λ told.
+        OnAccepted told.verdict (StandsStrictly (C.panel checks.now) inputs.now)) }
     ensures findings { IsErrOf result StrictFault.Findings → (found : _)
         × IsFoundIn (C.panel checks.now) inputs.now found × (¬ IsNothing found)
         × AppendsBeginning (N.contents notes.old) (N.contents notes.new) (found_text found) }
@@ -43,22 +45,25 @@ pub(crate) fn strict_verdict<C: Checks, N: Write>(
         ⊎ (fault ≡ StrictFault.Run RunFault.OutOfMemory)) }
 {
     match verify_grounds(alloc, inputs, checks)? {
-        Outcome::Made(grounds) => accepted(alloc, grounds, notes),
-        Outcome::Refused(refusal) => Ok(Verdict::Refused(refusal)),
+        Outcome::Made(grounds) => strict_made(alloc, inputs, grounds, notes),
+        Outcome::Refused { refusal, found } => Ok(refused_told(inputs, refusal, found)),
     }
 }
 
-/// The verdict that accepts on these grounds, where nothing is found.
-fn accepted<N: Write>(
+/// The verdict that accepts on these grounds, and what was found before it, where nothing stands
+/// against that.
+fn strict_made<'a, N: Write>(
     alloc: Global,
+    inputs: &'a Inputs,
     grounds: Grounds,
     notes: &mut N,
-) -> Result<Verdict, StrictFault>
-    requires made { (panel : Panel) × (inputs : _)
-        × IsMadeBy panel inputs grounds.documents grounds.evidence }
-    ensures verdict { IfOk result (λ verdict. (verdict
-        ≡ verdict_of grounds.documents grounds.evidence)
-        × (found : _) × AreFound grounds.documents grounds.evidence found × IsNothing found) }
+) -> Result<Told<'a>, StrictFault>
+    requires made { (panel : Panel) × (of : _)
+        × IsMadeBy panel of grounds.documents grounds.evidence }
+    ensures told { (panel : Panel) → IsMadeBy panel inputs.now grounds.documents grounds.evidence
+        → IfOk result (IsTold panel inputs.now) }
+    ensures nothing { OnOk result ((found : _)
+        × AreFound grounds.documents grounds.evidence found × IsNothing found) }
     ensures findings { IsErrOf result StrictFault.Findings → (found : _)
         × AreFound grounds.documents grounds.evidence found × (¬ IsNothing found)
         × AppendsBeginning (N.contents notes.old) (N.contents notes.new) (found_text found) }
@@ -70,7 +75,7 @@ fn accepted<N: Write>(
         tell(alloc, &found, notes)?;
         return Err(StrictFault::Findings);
     }
-    Ok(verdict_of(alloc, grounds)?)
+    Ok(made_told(alloc, inputs, grounds)?)
 }
 
 /// Writes the lines of what is found, as far as they can be written.

@@ -1,0 +1,15 @@
+use Rattle.it_verify.proofs.Verified.{is_verdict}
+use Rattle.it_notes.proofs.known.made_told.Goals as goal
+
+pub returns : goal.returns
+returns c = λ panel made.
+    let grounds = c.args.grounds in
+    record {
+      verdict = is_verdict panel c.args.inputs.now grounds.documents grounds.evidence
+          c.in_ok-verdict.verdict made c.in_ok-verdict.ensures.verdict;
+      known = c.known_in.ensures panel (record {
+        read = made.read;
+        owners = made.owners;
+        steps = tt;
+      });
+    }

@@ -1,0 +1,23 @@
+-- What the verification read and found, from which the notes are made.
+use Rattle.std.specs.Prelude.{◌≡◌, IfSome}
+use Rattle.it_digest.specs.Sums.{SumsOf}
+use Rattle.it_docs.specs.Policy.{PolicyOf}
+use Rattle.it_dsse.specs.Panel.{Panel}
+use Rattle.it_verify.specs.Verdict.{IsVerdict}
+use Rattle.it_verify.specs.declared.inputs.Inputs.{Inputs}
+use Rattle.it_notes.specs.Level.{IsTop, StepsStand}
+use Rattle.it_notes.specs.declared.known.Known.{Known}
+use Rattle.it_notes.specs.declared.known.Told.{Told}
+
+-- this is what the inputs read as, with the records of the layout's steps, where they are there
+pub record IsKnown (panel : Panel) (inputs : Inputs) (known : Known) : Type 0 where
+  pub inputs_are : known.inputs.now ≡ inputs
+  pub policy : PolicyOf inputs.policy known.policy
+  pub delivered : SumsOf inputs.sums known.delivered
+  pub top : IsTop inputs known.top
+  pub steps : StepsStand panel inputs.depth known.top
+
+-- the verdict is the one on the inputs, and this is what they read as
+pub record IsTold (panel : Panel) (inputs : Inputs) (told : Told) : Type 0 where
+  pub verdict : IsVerdict panel inputs told.verdict
+  pub known : IfSome told.known (IsKnown panel inputs)

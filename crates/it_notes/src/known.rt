@@ -1,0 +1,132 @@
+//! What the verification read and found, from which the notes are made.
+ghost use Rattle.std.specs.Prelude.{◌≡◌, ◌≤◌, IfOk, IfSome};
+ghost use Rattle.it_dsse.specs.Panel.{Panel};
+ghost use Rattle.it_report.specs.declared.verdict.Verdict.TheVariants.{Refused as refused_for};
+ghost use Rattle.it_verify.specs.Grounds.{IsFound};
+ghost use Rattle.it_verify.specs.Made.{IsMadeBy};
+ghost use Rattle.it_notes.specs.Known.{IsKnown, IsTold};
+
+use crate::fault_level::FaultLevel;
+use it_digest::artifacts::Artifacts;
+use it_docs::policy::Policy;
+use it_dsse::checks::Checks;
+use it_report::refusal::Refusal;
+use it_report::verdict::Verdict;
+use it_step_notes::signed_layout::SignedLayout;
+use it_verify::documents::Documents;
+use it_verify::grounds::{Found, Grounds, Outcome};
+use it_verify::inputs::Inputs;
+use it_verify::{verdict_of, verify_grounds};
+use std::alloc::{AllocError, Global};
+
+/// What the verification read and found, where the documents read and every owner signed the
+/// layout.
+#[derive(Drop)]
+pub struct Known<'a> {
+    /// What was verified.
+    pub inputs: &'a Inputs,
+    /// The policy.
+    pub policy: Policy,
+    /// The delivered files.
+    pub delivered: Artifacts,
+    /// The outermost layout.
+    pub top: FaultLevel<'a>,
+}
+
+/// A verdict, and what was found before it.
+#[derive(Drop)]
+pub struct Told<'a> {
+    /// The verdict.
+    pub verdict: Verdict,
+    /// What was found, or `None` where the documents do not read, or an owner did not sign the
+    /// layout.
+    pub known: Option<Known<'a>>,
+}
+
+/// Verifies delivered files, and keeps what was found.
+///
+/// # Errors
+///
+/// `AllocError` where memory was refused.
+pub(crate) fn verify_told<'a, C: Checks>(
+    alloc: Global,
+    inputs: &'a Inputs,
+    checks: &C,
+) -> Result<Told<'a>, AllocError>
+    requires { inputs.now.depth ≤ 8 }
+    ensures { IfOk result (IsTold (C.panel checks.now) inputs.now) }
+{
+    match verify_grounds(alloc, inputs, checks)? {
+        Outcome::Made(grounds) => made_told(alloc, inputs, grounds),
+        Outcome::Refused { refusal, found } => Ok(refused_told(inputs, refusal, found)),
+    }
+}
+
+/// The verdict that refuses, and what was found before it.
+pub(crate) fn refused_told(inputs: &Inputs, refusal: Refusal, found: Option<Found>) -> Told<'_>
+    ensures verdict { result.verdict ≡ refused_for refusal }
+    ensures known { (panel : Panel) → IfSome found (IsFound panel inputs.now)
+        → IfSome result.known (IsKnown panel inputs.now) }
+{
+    Told {
+        verdict: Verdict::Refused(refusal),
+        known: known_of(inputs, found),
+    }
+}
+
+/// The verdict that accepts, and what was found before it.
+pub(crate) fn made_told(
+    alloc: Global,
+    inputs: &Inputs,
+    grounds: Grounds,
+) -> Result<Told<'_>, AllocError>
+    ensures { (panel : Panel) → IsMadeBy panel inputs.now grounds.documents grounds.evidence
+        → IfOk result (IsTold panel inputs.now) }
+{
+    let verdict = verdict_of(alloc, &grounds)?;
+    let found = Found {
+        documents: grounds.documents,
+        steps: None,
+    };
+    Ok(Told {
+        verdict,
+        known: Some(known_in(inputs, found)),
+    })
+}
+
+/// What was found, if anything was.
+fn known_of(inputs: &Inputs, found: Option<Found>) -> Option<Known<'_>>
+    ensures { (panel : Panel) → IfSome found (IsFound panel inputs.now)
+        → IfSome result (IsKnown panel inputs.now) }
+{
+    Some(known_in(inputs, found?))
+}
+
+/// What was found, over the links.
+fn known_in(inputs: &Inputs, found: Found) -> Known<'_>
+    ensures { (panel : Panel) → IsFound panel inputs.now found → IsKnown panel inputs.now result }
+{
+    let Found { documents, steps } = found;
+    let Documents {
+        policy,
+        delivered,
+        moment,
+        envelope,
+        layout,
+    } = documents;
+    let signed = SignedLayout {
+        payload: envelope.payload,
+        layout,
+    };
+    Known {
+        inputs,
+        policy,
+        delivered,
+        top: FaultLevel {
+            signed,
+            links: &inputs.links,
+            moment,
+            steps,
+        },
+    }
+}

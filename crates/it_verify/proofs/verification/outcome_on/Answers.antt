@@ -1,0 +1,79 @@
+use Rattle.std.proofs.Common.{None, Some, refl}
+use Rattle.it_verify.specs.Documents.{setting_of}
+use Rattle.it_verify.specs.Made.{verdict_of}
+use Rattle.it_verify.proofs.Held.{chain_records}
+use Rattle.it_verify.proofs.Refusing.{refused_outcome}
+use Rattle.it_verify.proofs.WholeCosting.{files_most, links_most, owners_most, takes_enough}
+use Rattle.it_verify.proofs.verification.outcome_on.Goals as goal
+
+pub returns-in-Err-clause-outcome : goal.returns-in-Err-clause-outcome
+returns-in-Err-clause-outcome g c =
+    let panel = g.C.Checks.panel c.args.checks.now in
+    refused_outcome panel c.args.inputs.now None tt c.in-Err.failure c.in-Err.ensures.documents
+    c.refused_with.result c.refused_with.ensures
+
+pub returns-in-Err-gather-clause-outcome : goal.returns-in-Err-gather-clause-outcome
+returns-in-Err-gather-clause-outcome g c =
+    let panel = g.C.Checks.panel c.args.checks.now in
+    let stopped = c.in-Err-gather.ensures.evidence in
+    let hold = c.in-Ok.ensures.documents in
+    refused_outcome panel c.args.inputs.now
+    (Some (record { documents = c.in-Ok.documents; steps = c.in-Err-gather.field-0.steps }))
+    (record { read = hold.read; owners = hold.owners; steps = stopped.steps })
+    c.in-Err-gather.field-0.failure stopped.fails
+    c.refused_with-in-Err-gather.result c.refused_with-in-Err-gather.ensures
+
+pub returns-in-Err-judge-clause-outcome : goal.returns-in-Err-judge-clause-outcome
+returns-in-Err-judge-clause-outcome g c =
+    let panel = g.C.Checks.panel c.args.checks.now in
+    let hold = c.in-Ok.ensures.documents in
+    refused_outcome panel c.args.inputs.now
+    (Some (record { documents = c.in-Ok.documents; steps = Some c.in-Ok-gather.evidence.steps }))
+    (record {
+      read = hold.read;
+      owners = hold.owners;
+      steps = chain_records (setting_of panel c.in-Ok.documents) c.args.inputs.now.depth
+          c.in-Ok.documents.layout c.args.inputs.now.links c.in-Ok-gather.evidence.steps
+          c.in-Ok-gather.ensures.evidence.steps;
+    })
+    c.in-Err-judge.failure c.in-Err-judge.ensures.made c.refused_with-in-Err-judge.result
+    c.refused_with-in-Err-judge.ensures
+
+pub returns-in-Err-clause-at_most : goal.returns-in-Err-clause-at_most
+returns-in-Err-clause-at_most g c =
+    let panel = g.C.Checks.panel c.args.checks.now in
+    owners_most panel c.args.inputs.now c.args.meter.now c.read_documents.new.meter
+    c.read_documents.ensures.at_most
+
+pub returns-in-Err-gather-clause-at_most : goal.returns-in-Err-gather-clause-at_most
+returns-in-Err-gather-clause-at_most g c =
+    let panel = g.C.Checks.panel c.args.checks.now in
+    links_most panel c.args.inputs.now c.args.meter.now c.read_documents.new.meter
+    c.read_documents.ensures.at_most c.in-Ok.documents c.in-Ok.ensures.documents.read
+    c.gather.new.meter c.gather.ensures.at_most
+
+pub returns-in-Err-judge-clause-at_most : goal.returns-in-Err-judge-clause-at_most
+returns-in-Err-judge-clause-at_most g c =
+    let panel = g.C.Checks.panel c.args.checks.now in
+    files_most panel c.args.inputs.now c.args.meter.now c.read_documents.new.meter
+    c.read_documents.ensures.at_most c.in-Ok.documents c.in-Ok.ensures.documents.read
+    c.gather.new.meter c.gather.ensures.at_most c.judge.new.meter c.judge.ensures.at_most
+
+pub returns-clause-outcome : goal.returns-clause-outcome
+returns-clause-outcome g c = c.in_default.ensures.made
+
+pub returns-clause-at_most : goal.returns-clause-at_most
+returns-clause-at_most g c =
+    let panel = g.C.Checks.panel c.args.checks.now in
+    files_most panel c.args.inputs.now c.args.meter.now c.read_documents.new.meter
+    c.read_documents.ensures.at_most c.in-Ok.documents c.in-Ok.ensures.documents.read
+    c.gather.new.meter c.gather.ensures.at_most c.judge.new.meter c.judge.ensures.at_most
+
+pub returns-clause-at_least : goal.returns-clause-at_least
+returns-clause-at_least g c =
+    let panel = g.C.Checks.panel c.args.checks.now in
+    takes_enough panel c.args.inputs.now c.in-Ok.documents c.in-Ok.ensures.documents
+    c.in-Ok-gather.evidence c.args.meter.now c.read_documents.new.meter c.gather.new.meter
+    c.judge.new.meter c.in-Ok.ensures.counted c.in_default.ensures.at_least
+    (verdict_of c.in-Ok.documents c.in-Ok-gather.evidence) refl
+    c.in-Ok-gather.ensures.at_least c.in-Ok-gather.ensures.at_least_keys

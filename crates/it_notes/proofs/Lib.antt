@@ -2,4 +2,3 @@ mod Both
 mod Delivering
 mod Levels
 mod Seeing
-pub mod Strict

@@ -1,9 +1,9 @@
 //! What the verification read and found, from which the notes are made.
-ghost use Rattle.std.specs.Prelude.{◌≤◌, IfOk, IfSome};
+ghost use Rattle.std.specs.Prelude.{◌≡◌, ◌≤◌, IfOk, IfSome};
 ghost use Rattle.it_dsse.specs.Panel.{Panel};
-ghost use Rattle.it_verify.specs.Grounds.{IsFound, IsOutcome};
+ghost use Rattle.it_report.specs.declared.verdict.Verdict.TheVariants.{Refused as refused_for};
+ghost use Rattle.it_verify.specs.Grounds.{IsFound};
 ghost use Rattle.it_verify.specs.Made.{IsMadeBy};
-ghost use Rattle.it_verify.specs.declared.grounds.Outcome.TheVariants.{Refused};
 ghost use Rattle.it_notes.specs.Known.{IsKnown, IsTold};
 
 use crate::fault_level::FaultLevel;
@@ -64,8 +64,9 @@ pub(crate) fn verify_told<'a, C: Checks>(
 
 /// The verdict that refuses, and what was found before it.
 pub(crate) fn refused_told(inputs: &Inputs, refusal: Refusal, found: Option<Found>) -> Told<'_>
-    ensures { (panel : Panel) → IsOutcome panel inputs.now (Refused refusal found)
-        → IsTold panel inputs.now result }
+    ensures verdict { result.verdict ≡ refused_for refusal }
+    ensures known { (panel : Panel) → IfSome found (IsFound panel inputs.now)
+        → IfSome result.known (IsKnown panel inputs.now) }
 {
     Told {
         verdict: Verdict::Refused(refusal),

@@ -21,7 +21,7 @@ mod refusal_notes;
 mod rules;
 mod steps;
 pub mod strict_fault;
-mod strict_verdict;
+mod strict_told;
 mod text;
 mod verdict_output;
 pub mod verify_strictly;

@@ -8,7 +8,7 @@ ghost use Rattle.it_notes.specs.Strictly.{IsFoundIn, StandsStrictly};
 ghost use Rattle.it_notes.specs.VerifyOutputIn.{IsVerifyOutputIn};
 
 use crate::strict_fault::StrictFault;
-use crate::strict_verdict::strict_verdict;
+use crate::strict_told::strict_told;
 use crate::verdict_output::write_in;
 use crate::verify_with_notes::note;
 use it_dsse::checks::Checks;
@@ -50,7 +50,7 @@ pub fn verify_strictly<C: Checks, W: Write, N: Write>(
     ensures kept { IfErr result (λ fault. fault ≢ StrictFault.Run RunFault.Write
         → out.new ≡ out.old) }
 {
-    let told = strict_verdict(alloc, inputs, checks, notes)?;
+    let told = strict_told(alloc, inputs, checks, notes)?;
     let status = write_in(alloc, form, &told.verdict, out)?;
     note(alloc, inputs, &told, checks, notes);
     Ok(status)

@@ -21,13 +21,14 @@ use it_verify::verify_grounds;
 use std::alloc::{AllocError, Global};
 use std::io::Write;
 
-/// The verdict on inputs, where it refuses, or accepts and nothing is found in the documents.
+/// Verifies delivered files, and keeps what was found, where the verdict refuses, or accepts and
+/// nothing stands against that.
 ///
 /// # Errors
 ///
 /// `Findings` where it accepts and something is found; the lines of that went to `notes`, or a
 /// beginning of them. `Run` with `OutOfMemory` where memory was refused.
-pub(crate) fn strict_verdict<'a, C: Checks, N: Write>(
+pub(crate) fn strict_told<'a, C: Checks, N: Write>(
     alloc: Global,
     inputs: &'a Inputs,
     checks: &C,
@@ -44,13 +45,14 @@ pub(crate) fn strict_verdict<'a, C: Checks, N: Write>(
         ⊎ (fault ≡ StrictFault.Run RunFault.OutOfMemory)) }
 {
     match verify_grounds(alloc, inputs, checks)? {
-        Outcome::Made(grounds) => accepted(alloc, inputs, grounds, notes),
+        Outcome::Made(grounds) => strict_made(alloc, inputs, grounds, notes),
         Outcome::Refused { refusal, found } => Ok(refused_told(inputs, refusal, found)),
     }
 }
 
-/// The verdict that accepts on these grounds, where nothing is found.
-fn accepted<'a, N: Write>(
+/// The verdict that accepts on these grounds, and what was found before it, where nothing stands
+/// against that.
+fn strict_made<'a, N: Write>(
     alloc: Global,
     inputs: &'a Inputs,
     grounds: Grounds,
@@ -58,10 +60,9 @@ fn accepted<'a, N: Write>(
 ) -> Result<Told<'a>, StrictFault>
     requires made { (panel : Panel)
         × IsMadeBy panel inputs.now grounds.documents grounds.evidence }
-    ensures told { (panel : Panel)
-        → IsMadeBy panel inputs.now grounds.documents grounds.evidence
+    ensures told { (panel : Panel) → IsMadeBy panel inputs.now grounds.documents grounds.evidence
         → IfOk result (IsTold panel inputs.now) }
-    ensures nothing { IfOk result (λ _. (found : _)
+    ensures nothing { OnOk result ((found : _)
         × AreFound inputs.now grounds.documents grounds.evidence found × IsNothing found) }
     ensures findings { IsErrOf result StrictFault.Findings → (found : _)
         × AreFound inputs.now grounds.documents grounds.evidence found × (¬ IsNothing found)

@@ -6,6 +6,7 @@ ghost use Rattle.it_check.specs.FindingLine.{more_form, no_rules_line, on_list, 
 ghost use Rattle.it_check.specs.FindingLine.{open_rules_line, parameter_line, unknown_item_line};
 
 use crate::expectation_lines::{push_no_builders, push_no_level, push_unreachable_level};
+use crate::null_key_lines::push_null_key;
 use crate::rule_lists::{document_of, push_pointer, push_scope};
 use crate::step_key_lines::{push_high_threshold, push_repeated_key, push_unknown_key};
 use crate::writing::{push_number, push_text, push_told, push_told_number};
@@ -102,6 +103,7 @@ pub fn push_finding(text: &mut Vec<u8>, finding: &Finding) -> Result<(), AllocEr
         Finding::UnreachableLevel { place, level } => {
             push_unreachable_level(text, *place, *level)
         }
+        Finding::NullKey(key) => push_null_key(text, key),
     }
 }
 

@@ -5,6 +5,8 @@ mod check_output;
 pub mod documents;
 mod expectation_lines;
 mod finding_lines;
+mod found;
+mod null_key_lines;
 mod part_notes;
 mod rule_lists;
 mod step_key_lines;

@@ -1,10 +1,12 @@
 -- What the command check writes and finds (this profile's choice of the text).
 use Rattle.std.specs.Prelude.{◌≡◌, ℕ, List, [], ◌++◌, length, Option, Some, None, Bool, true}
-use Rattle.std.specs.Prelude.{false, ◌==◌, ◌&&◌, codes, if◌then◌else◌}
+use Rattle.std.specs.Prelude.{false, ◌==◌, ◌&&◌, codes, if◌then◌else◌, map}
 use Rattle.it_docs.specs.declared.layout.Layout.{Layout}
 use Rattle.it_findings.specs.LayoutFindings.{LayoutFindings}
 use Rattle.it_findings.specs.PolicyFindings.{PolicyFindings}
 use Rattle.it_findings.specs.declared.finding.Finding.{Finding}
+use Rattle.it_findings.specs.declared.finding.Finding.TheVariants as findings
+use Rattle.it_findings.specs.declared.null_key.NullKey.{NullKey}
 use Rattle.it_report.specs.Report.{report_of}
 use Rattle.it_report.specs.declared.verdict.Verdict.TheVariants.{Refused as refused_for}
 use Rattle.it_outcome.specs.declared.outcome.Status.{Status}
@@ -18,28 +20,37 @@ use Rattle.it_check.specs.declared.documents.PolicyReading.TheVariants as polici
 
 -- the layout, where one was read
 abbrev pub layout_read : Option LayoutReading → Option Layout
-layout_read (Some (layouts.Read layout)) = Some layout
+layout_read (Some (layouts.Read layout nulls)) = Some layout
 layout_read reading = None
+
+-- what is found: the keys that are null, and then all others
+pub record IsFound (nulls : List NullKey) (Others : List Finding → Type 0) (found : List Finding)
+    : Type 0 where
+  pub others : List Finding
+  pub found_are : found ≡ map findings.NullKey nulls ++ others
+  pub others_are : Others others
 
 -- what is found in the policy, which takes from what the layout has, and in the layout
 abbrev pub PolicyFound : Option Layout → Option PolicyReading → List Finding → Type 0
-PolicyFound layout (Some (policies.Read policy)) found = PolicyFindings layout policy found
+PolicyFound layout (Some (policies.Read policy nulls)) found =
+    IsFound nulls (PolicyFindings layout policy) found
 PolicyFound layout reading found = found ≡ []
 
 abbrev pub LayoutFound : Option LayoutReading → List Finding → Type 0
-LayoutFound (Some (layouts.Read layout)) found = LayoutFindings layout found
+LayoutFound (Some (layouts.Read layout nulls)) found =
+    IsFound nulls (LayoutFindings layout) found
 LayoutFound reading found = found ≡ []
 
 -- what is written of the policy: the lines of what is found, or the report of its refusal
 abbrev pub policy_text : Option PolicyReading → List Finding → List ℕ
 policy_text None found = []
-policy_text (Some (policies.Read policy)) found = findings_text (codes "policy") found
+policy_text (Some (policies.Read policy nulls)) found = findings_text (codes "policy") found
 policy_text (Some (policies.Bad refusal)) found = report_of (refused_for refusal)
 
 -- the same of the layout
 abbrev pub layout_text : Option LayoutReading → List Finding → List ℕ
 layout_text None found = []
-layout_text (Some (layouts.Read layout)) found = findings_text (codes "layout") found
+layout_text (Some (layouts.Read layout nulls)) found = findings_text (codes "layout") found
 layout_text (Some (layouts.Bad refusal)) found = report_of (refused_for refusal)
 
 -- the first line where there is a layout

@@ -14,6 +14,7 @@ use Rattle.it_docs.specs.Policy.{PolicyOf}
 use Rattle.it_docs.specs.PolicyPart.{PolicyPartOf}
 use Rattle.it_docs.specs.declared.layout_fault.LayoutPart.{LayoutPart}
 use Rattle.it_docs.specs.declared.policy_fault.PolicyPart.{PolicyPart}
+use Rattle.it_findings.specs.NullKeys.{LayoutNulls, NullsOf, PolicyNulls}
 use Rattle.it_report.specs.declared.refusal.Fault.{Fault}
 use Rattle.it_report.specs.declared.refusal.Fault.TheVariants.{BadEnvelope, BadLayout, BadPolicy}
 use Rattle.it_report.specs.declared.refusal.Fault.TheVariants.{WrongPayloadType}
@@ -27,9 +28,11 @@ use Rattle.it_check.specs.declared.documents.PolicyReading.TheVariants as polici
 abbrev pub whole : Fault → Refusal
 whole fault = record { at = []; fault = fault }
 
--- the bytes are a policy, or this refuses them for the first part that fails
+-- the bytes are a policy, with these keys that are null, or this refuses them for the first part
+-- that fails
 abbrev pub IsPolicyReading : List ℕ → PolicyReading → Type 0
-IsPolicyReading bytes (policies.Read policy) = PolicyOf bytes policy
+IsPolicyReading bytes (policies.Read policy nulls) =
+    PolicyOf bytes policy × NullsOf PolicyNulls bytes nulls
 IsPolicyReading bytes (policies.Bad refusal) =
     (part : PolicyPart) × PolicyPartOf bytes part × (refusal ≡ whole (BadPolicy part))
 
@@ -68,9 +71,11 @@ pub record HasOtherType (bytes : List ℕ) : Type 0 where
   pub is_envelope : EnvelopeOf bytes envelope
   pub other : envelope.payload_type ≢ in_toto_type
 
--- the body is a layout, or this refuses it for the first part that fails
+-- the body is a layout, with these keys that are null, or this refuses it for the first part that
+-- fails
 abbrev pub IsBodyReading : List ℕ → LayoutReading → Type 0
-IsBodyReading body (layouts.Read layout) = LayoutOf body layout
+IsBodyReading body (layouts.Read layout nulls) =
+    LayoutOf body layout × NullsOf LayoutNulls body nulls
 IsBodyReading body (layouts.Bad refusal) =
     (part : LayoutPart) × LayoutPartOf body part × (refusal ≡ whole (BadLayout part))
 

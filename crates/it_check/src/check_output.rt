@@ -4,7 +4,7 @@ ghost use Rattle.std.specs.Prelude.{if◌then◌else◌};
 ghost use Rattle.std.specs.Io.KnownBytes.{Appends};
 ghost use Rattle.std.specs.Option.{option_copied};
 ghost use Rattle.it_base.specs.Writing.{AppendsBeginning};
-ghost use Rattle.it_check.specs.CheckOutput.{IsCheckOutput, LayoutFound, PolicyFound, Tells};
+ghost use Rattle.it_check.specs.CheckOutput.{IsCheckOutput, Tells};
 ghost use Rattle.it_check.specs.CheckOutput.{first_line, is_good, layout_read, layout_reads};
 ghost use Rattle.it_check.specs.CheckOutput.{layout_text, policy_reads, policy_text};
 ghost use Rattle.it_report.specs.Report.{report_of};
@@ -13,12 +13,12 @@ ghost use Rattle.it_outcome.specs.Outcome.{IsOutputFault};
 
 use crate::documents::{LayoutReading, PolicyReading, layout_given, policy_given};
 use crate::finding_lines::push_findings;
+use crate::found::{found_in_layout, found_in_policy};
 use crate::part_notes::write_part_notes;
 use crate::writing::push_text;
 use it_base::sequence::Sequence;
 use it_docs::layout::Layout;
 use it_findings::finding::Finding;
-use it_findings::{layout_findings, policy_findings};
 use it_outcome::output::{Output, put};
 use it_outcome::{RunFault, Status};
 use it_report::refusal::Refusal;
@@ -137,36 +137,8 @@ fn layout_read(layout: &Option<LayoutReading>) -> Option<&Layout>
     ensures { option_copied result ≡ layout_read layout.now }
 {
     match layout {
-        Some(LayoutReading::Read(layout)) => Some(layout),
+        Some(LayoutReading::Read { layout, .. }) => Some(layout),
         _ => None,
-    }
-}
-
-fn found_in_policy(
-    alloc: Global,
-    layout: Option<&Layout>,
-    policy: &Option<PolicyReading>,
-) -> Result<Vec<Finding>, AllocError>
-    ensures { IfOk result (λ found.
-        PolicyFound (option_copied layout.entry) policy.now found.items) }
-{
-    match policy {
-        Some(PolicyReading::Read(policy)) => policy_findings(alloc, policy, layout),
-        Some(PolicyReading::Bad(_)) => Ok(Vec::new(alloc)),
-        None => Ok(Vec::new(alloc)),
-    }
-}
-
-fn found_in_layout(
-    alloc: Global,
-    layout: &Option<LayoutReading>,
-) -> Result<Vec<Finding>, AllocError>
-    ensures { IfOk result (λ found. LayoutFound layout.now found.items) }
-{
-    match layout {
-        Some(LayoutReading::Read(layout)) => layout_findings(alloc, layout),
-        Some(LayoutReading::Bad(_)) => Ok(Vec::new(alloc)),
-        None => Ok(Vec::new(alloc)),
     }
 }
 
@@ -200,7 +172,7 @@ fn push_policy(
 {
     match policy {
         None => Ok(()),
-        Some(PolicyReading::Read(_)) => push_findings(text, "policy", found),
+        Some(PolicyReading::Read { .. }) => push_findings(text, "policy", found),
         Some(PolicyReading::Bad(refusal)) => push_refused(text, refusal),
     }
 }
@@ -214,7 +186,7 @@ fn push_layout(
 {
     match layout {
         None => Ok(()),
-        Some(LayoutReading::Read(_)) => push_findings(text, "layout", found),
+        Some(LayoutReading::Read { .. }) => push_findings(text, "layout", found),
         Some(LayoutReading::Bad(refusal)) => push_refused(text, refusal),
     }
 }

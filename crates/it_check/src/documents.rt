@@ -16,6 +16,8 @@ use it_docs::policy_fault::PolicyFault;
 use it_docs::policy_reading::read_policy;
 use it_dsse::envelope::Envelope;
 use it_dsse::payload_type::IN_TOTO;
+use it_findings::null_key::NullKey;
+use it_findings::{layout_nulls, policy_nulls};
 use it_report::refusal::{Fault, Refusal};
 use serde_json::Value;
 use std::alloc::{AllocError, Global};
@@ -23,8 +25,13 @@ use std::alloc::{AllocError, Global};
 /// What the bytes of a policy read as.
 #[derive(Drop)]
 pub enum PolicyReading {
-    /// A policy.
-    Read(Policy),
+    /// A policy, and its keys that are null.
+    Read {
+        /// The policy.
+        policy: Policy,
+        /// The key ids under which null stands.
+        nulls: Sequence<NullKey>,
+    },
     /// No policy: this is the refusal for its first part that fails.
     Bad(Refusal),
 }
@@ -32,8 +39,13 @@ pub enum PolicyReading {
 /// What the bytes of a layout, in its envelope or not, read as.
 #[derive(Drop)]
 pub enum LayoutReading {
-    /// A layout.
-    Read(Layout),
+    /// A layout, and its keys that are null.
+    Read {
+        /// The layout.
+        layout: Layout,
+        /// The key ids under which null stands.
+        nulls: Sequence<NullKey>,
+    },
     /// No layout: this is the refusal of the envelope, of its type, or for the first part of the
     /// layout that fails.
     Bad(Refusal),
@@ -77,7 +89,10 @@ fn policy_reading(alloc: Global, bytes: &[u8]) -> Result<PolicyReading, AllocErr
     ensures { IfOk result (IsPolicyReading bytes.now) }
 {
     match read_policy(alloc, bytes) {
-        Ok(policy) => Ok(PolicyReading::Read(policy)),
+        Ok(policy) => Ok(PolicyReading::Read {
+            policy,
+            nulls: Sequence::from(policy_nulls(alloc, bytes)?),
+        }),
         Err(PolicyFault::BadPolicy(part)) => {
             Ok(PolicyReading::Bad(whole(alloc, Fault::BadPolicy(part))))
         }
@@ -124,7 +139,10 @@ fn body_reading(alloc: Global, body: &[u8]) -> Result<LayoutReading, AllocError>
     ensures { IfOk result (IsBodyReading body.now) }
 {
     match read_layout(alloc, body) {
-        Ok(layout) => Ok(LayoutReading::Read(layout)),
+        Ok(layout) => Ok(LayoutReading::Read {
+            layout,
+            nulls: Sequence::from(layout_nulls(alloc, body)?),
+        }),
         Err(LayoutFault::BadLayout(part)) => {
             Ok(LayoutReading::Bad(whole(alloc, Fault::BadLayout(part))))
         }

@@ -6,6 +6,7 @@ ghost use Rattle.it_check.specs.FindingLine.{more_form, no_rules_line, on_list, 
 ghost use Rattle.it_check.specs.FindingLine.{open_rules_line, parameter_line, unknown_item_line};
 
 use crate::expectation_lines::{push_no_builders, push_no_level, push_unreachable_level};
+use crate::null_key_lines::push_null_key;
 use crate::rule_lists::{document_of, push_pointer, push_scope};
 use crate::step_key_lines::{push_high_threshold, push_repeated_key, push_unknown_key};
 use crate::writing::{push_number, push_text, push_told, push_told_number};
@@ -14,7 +15,7 @@ use it_findings::finding::{Finding, RuleList};
 use std::alloc::AllocError;
 
 /// How many findings of a document are written.
-const MOST_WRITTEN: usize = 40;
+pub const MOST_WRITTEN: usize = 40;
 
 /// Appends the lines of what is found in the document of this name: of the first 40 findings, and
 /// how many there are where there are more.
@@ -56,8 +57,12 @@ fn push_each(text: &mut Vec<u8>, found: &[Finding]) -> Result<(), AllocError>
     Ok(())
 }
 
-/// Appends how many findings there are, where there are more than are written.
-fn push_more(text: &mut Vec<u8>, document: &str, count: usize) -> Result<(), AllocError>
+/// Appends how many findings a document has, in a line, where there are more than are written.
+///
+/// # Errors
+///
+/// `AllocError` where memory was refused; a part of the line may have been appended then.
+pub fn push_more(text: &mut Vec<u8>, document: &str, count: usize) -> Result<(), AllocError>
     ensures { OnOk result (text.new.items ≡ text.old.items ++ more_form document.now count) }
 {
     if count > MOST_WRITTEN {
@@ -102,6 +107,7 @@ pub fn push_finding(text: &mut Vec<u8>, finding: &Finding) -> Result<(), AllocEr
         Finding::UnreachableLevel { place, level } => {
             push_unreachable_level(text, *place, *level)
         }
+        Finding::NullKey(key) => push_null_key(text, key),
     }
 }
 

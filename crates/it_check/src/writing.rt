@@ -31,9 +31,13 @@ pub(crate) fn push_quoted(text: &mut Vec<u8>, name: &str) -> Result<(), AllocErr
     push_text(text, "\"")
 }
 
-/// Appends a name in quotation marks between two texts.
+/// Appends a name, as reports write it, in quotation marks between two texts.
+///
+/// # Errors
+///
+/// `AllocError` where memory was refused; a part of it may have been appended then.
 #[tactic(auto, unfolding(crate::specs::Pieces::told_form))]
-pub(crate) fn push_told(
+pub fn push_told(
     text: &mut Vec<u8>,
     before: &str,
     name: &str,

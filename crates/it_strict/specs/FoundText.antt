@@ -1,15 +1,15 @@
 -- What is found, as lines (this project's words).
 use Rattle.std.specs.Prelude.{ℕ, List, ◌++◌, length, take, codes}
 use Rattle.std.specs.List.{flat_map}
-use Rattle.it_report.specs.Name.{name_form}
 use Rattle.it_check.specs.FindingLine.{findings_text, more_form}
+use Rattle.it_check.specs.Pieces.{told_form}
 use Rattle.it_strict.specs.Found.{Found}
 
 -- the line of a delivered file that is tied to no step
 unfoldable pub untied_line : List ℕ → List ℕ
 untied_line path =
-    codes "policy untied-file /deliver: no MATCH rule WITH PRODUCTS FROM a step takes \""
-    ++ name_form path ++ codes "\"\n"
+    told_form (codes "policy untied-file /deliver: no MATCH rule WITH PRODUCTS FROM a step takes ")
+    path (codes "\n")
 
 -- the lines of the first 40 such files, and how many there are where there are more
 unfoldable pub untied_text : List (List ℕ) → List ℕ

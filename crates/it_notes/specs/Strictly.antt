@@ -1,6 +1,8 @@
 -- What a strict verification finds (a word of this project).
+use Rattle.std.specs.Prelude.{◌≡◌, ℕ, List}
 use Rattle.it_dsse.specs.Panel.{Panel}
 use Rattle.it_strict.specs.Found.{AreFound, IsNothing}
+use Rattle.it_strict.specs.FoundText.{found_text}
 use Rattle.it_strict.specs.declared.found.Found.{Found}
 use Rattle.it_verify.specs.declared.documents.Documents.{Documents}
 use Rattle.it_verify.specs.declared.evidence.Evidence.{Evidence}
@@ -15,9 +17,14 @@ pub record IsFoundIn (panel : Panel) (inputs : Inputs) (found : Found) : Type 0 
   pub are_found : AreFound inputs documents evidence found
 
 -- the same, and nothing is found
-abbrev pub StandsStrictly : Panel → Inputs → Type 0
-StandsStrictly panel inputs = (found : Found) × IsFoundIn panel inputs found × IsNothing found
+pub record StandsStrictly (panel : Panel) (inputs : Inputs) : Type 0 where
+  pub found : Found
+  pub is_found : IsFoundIn panel inputs found
+  pub is_nothing : IsNothing found
 
--- the same, and something is found
-abbrev pub HasFindings : Panel → Inputs → Type 0
-HasFindings panel inputs = (found : Found) × IsFoundIn panel inputs found × ¬ IsNothing found
+-- the same, and something is found, of which these are the lines
+pub record HasFindings (panel : Panel) (inputs : Inputs) (text : List ℕ) : Type 0 where
+  pub found : Found
+  pub is_found : IsFoundIn panel inputs found
+  pub is_something : ¬ IsNothing found
+  pub text_is : text ≡ found_text found

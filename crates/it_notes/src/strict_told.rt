@@ -7,7 +7,7 @@ ghost use Rattle.it_strict.specs.FoundText.{found_text};
 ghost use Rattle.it_verify.specs.Made.{IsMadeBy};
 ghost use Rattle.it_verify.specs.Verdict.{OnAccepted};
 ghost use Rattle.it_notes.specs.Known.{IsTold};
-ghost use Rattle.it_notes.specs.Strictly.{IsFoundIn, StandsStrictly};
+ghost use Rattle.it_notes.specs.Strictly.{HasFindings, StandsStrictly};
 
 use crate::known::{Told, made_told, refused_told};
 use crate::strict_fault::StrictFault;
@@ -38,9 +38,9 @@ pub(crate) fn strict_told<'a, C: Checks, N: Write>(
     ensures told { IfOk result (IsTold (C.panel checks.now) inputs.now) }
     ensures stands { IfOk result (λ told.
         OnAccepted told.verdict (StandsStrictly (C.panel checks.now) inputs.now)) }
-    ensures findings { IsErrOf result StrictFault.Findings → (found : _)
-        × IsFoundIn (C.panel checks.now) inputs.now found × (¬ IsNothing found)
-        × AppendsBeginning (N.contents notes.old) (N.contents notes.new) (found_text found) }
+    ensures findings { IsErrOf result StrictFault.Findings → (text : _)
+        × HasFindings (C.panel checks.now) inputs.now text
+        × AppendsBeginning (N.contents notes.old) (N.contents notes.new) text }
     ensures faults { IfErr result (λ fault. (fault ≡ StrictFault.Findings)
         ⊎ (fault ≡ StrictFault.Run RunFault.OutOfMemory)) }
 {

@@ -2,9 +2,7 @@
 ghost use Rattle.std.specs.Prelude.{◌≡◌, ◌≢◌, ◌≤◌, IfErr, IfOk, IsErrOf};
 ghost use Rattle.std.specs.Io.KnownBytes.{Appends};
 ghost use Rattle.it_base.specs.Writing.{AppendsBeginning};
-ghost use Rattle.it_strict.specs.FoundText.{found_text};
-ghost use Rattle.it_strict.specs.Found.{IsNothing};
-ghost use Rattle.it_notes.specs.Strictly.{IsFoundIn, StandsStrictly};
+ghost use Rattle.it_notes.specs.Strictly.{HasFindings, StandsStrictly};
 ghost use Rattle.it_notes.specs.VerifyOutputIn.{IsVerifyOutputIn};
 
 use crate::strict_fault::StrictFault;
@@ -41,9 +39,9 @@ pub fn verify_strictly<C: Checks, W: Write, N: Write>(
         × Appends (W.contents out.old) (W.contents out.new) text) }
     ensures stands { IfOk result (λ status. status ≡ Status.Good
         → StandsStrictly (C.panel checks.now) inputs.now) }
-    ensures findings { IsErrOf result StrictFault.Findings → (found : _)
-        × IsFoundIn (C.panel checks.now) inputs.now found × (¬ IsNothing found)
-        × AppendsBeginning (N.contents notes.old) (N.contents notes.new) (found_text found) }
+    ensures findings { IsErrOf result StrictFault.Findings → (text : _)
+        × HasFindings (C.panel checks.now) inputs.now text
+        × AppendsBeginning (N.contents notes.old) (N.contents notes.new) text }
     ensures write { IsErrOf result (StrictFault.Run RunFault.Write) → (text : _) × (status : _)
         × IsVerifyOutputIn form (C.panel checks.now) inputs.now text status
         × AppendsBeginning (W.contents out.old) (W.contents out.new) text }

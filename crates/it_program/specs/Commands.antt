@@ -49,7 +49,8 @@ pub record FindsAgainst (disk : Holdings) (words : VerifyWords) : Type 0 where
   pub are_inputs : AreInputs disk words inputs
   pub rings : List (List RingEntry)
   pub holds_rings : AllZip (HoldsRing disk) words.rings rings
-  pub has_findings : HasFindings (panel_of (own_checks rings words.public_keys)) inputs
+  pub text : List ℕ
+  pub has_findings : HasFindings (panel_of (own_checks rings words.public_keys)) inputs text
 
 -- what a command writes and finds
 abbrev pub IsOutputOf : Holdings → Words → List ℕ → Status → Type 0

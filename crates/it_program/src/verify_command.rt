@@ -72,8 +72,8 @@ fn verify_as_asked<C: Checks, W: Write, N: Write>(
         → StandsStrictly (C.panel checks.now) inputs.now) }
     ensures nothing { IfErr result (λ stop. stop ≢ Stop.OfFault (Fault.Run RunFault.Write)
         → out.new ≡ out.old) }
-    ensures findings { IsErrOf result Stop.Findings
-        → IsTrue words.now.strict × HasFindings (C.panel checks.now) inputs.now }
+    ensures findings { IsErrOf result Stop.Findings → IsTrue words.now.strict
+        × (text : _) × HasFindings (C.panel checks.now) inputs.now text }
 {
     let form = form_asked(words.json);
     if words.strict {

@@ -1,6 +1,7 @@
-use Rattle.std.proofs.Common.{Err, IfOk, Ok, OnOk, Result, subst}
+use Rattle.std.proofs.Common.{Err, IfOk, Ok, OnOk, Result, refl, subst}
 use Rattle.it_report.specs.declared.verdict.Verdict.{Verdict}
 use Rattle.it_report.specs.declared.verdict.Verdict.TheVariants as verdicts
+use Rattle.it_strict.specs.FoundText.{found_text}
 use Rattle.it_verify.specs.Grounds.{IsOutcome}
 use Rattle.it_verify.specs.Verdict.{OnAccepted}
 use Rattle.it_notes.specs.declared.known.Told.{Told}
@@ -26,28 +27,32 @@ returns-in-Made-clause-told g c =
 pub returns-in-Made-clause-stands : goal.returns-in-Made-clause-stands
 returns-in-Made-clause-stands g c =
     let panel = g.C.Checks.panel c.args.checks.now in
-    with_verdict _ _ c.strict_made.result (λ nothing. (
-      nothing.0,
-      record {
+    with_verdict _ _ c.strict_made.result (λ nothing. record {
+      found = nothing.0;
+      is_found = record {
         documents = c.in-Made.grounds.documents;
         evidence = c.in-Made.grounds.evidence;
         made = subst (IsOutcome panel c.args.inputs.now) c.in-Made.is c.in_ok-grounds.ensures;
         are_found = nothing.1;
-      },
-      nothing.2,
-    )) c.strict_made.ensures.nothing
+      };
+      is_nothing = nothing.2;
+    }) c.strict_made.ensures.nothing
 
 pub returns-in-Made-clause-findings : goal.returns-in-Made-clause-findings
 returns-in-Made-clause-findings g c = λ is.
     let panel = g.C.Checks.panel c.args.checks.now in
     let told = c.strict_made.ensures.findings is in (
-      told.0,
+      found_text told.0,
       record {
-        documents = c.in-Made.grounds.documents;
-        evidence = c.in-Made.grounds.evidence;
-        made = subst (IsOutcome panel c.args.inputs.now) c.in-Made.is c.in_ok-grounds.ensures;
-        are_found = told.1;
+        found = told.0;
+        is_found = record {
+          documents = c.in-Made.grounds.documents;
+          evidence = c.in-Made.grounds.evidence;
+          made = subst (IsOutcome panel c.args.inputs.now) c.in-Made.is c.in_ok-grounds.ensures;
+          are_found = told.1;
+        };
+        is_something = told.2;
+        text_is = refl;
       },
-      told.2,
       told.3,
     )

@@ -1,4 +1,4 @@
-use Rattle.std.proofs.Common.{List, ℕ, Result, Ok, Err, IfOk, map}
+use Rattle.std.proofs.Common.{Result, Ok, Err, IfOk, map}
 use Rattle.std.specs.String.{string_bytes}
 use Rattle.std.specs.Io.KnownBytes.{Appends}
 use Rattle.it_words.specs.Words.{AreWordsOf}

@@ -31,5 +31,6 @@ returns-clause-findings g c = λ is.
       are_inputs = c.in_ok-inputs.ensures;
       rings = c.in_ok-rings.rings.items;
       holds_rings = search rules;
-      has_findings = rw (c.new-checks.ensures.rings, c.new-checks.ensures.public_keys) at told.1;
+      text = told.1;
+      has_findings = rw (c.new-checks.ensures.rings, c.new-checks.ensures.public_keys) at told.2;
     }

@@ -1,0 +1,58 @@
+use Rattle.std.proofs.Common.{⊎_elim, inl, inr}
+use Rattle.it_program.proofs.Stopping.{handed_on}
+use Rattle.it_program.proofs.running.run_command.Goals as goal
+
+pub returns-in_err-run-in-Signed-clause-stopped : goal.returns-in_err-run-in-Signed-clause-stopped
+returns-in_err-run-in-Signed-clause-stopped g c =
+    handed_on _ c.from_residual.result _ c.from_residual.ensures.1
+    (λ other. inl (c.in_err-run-in-Signed.ensures.nothing other))
+
+pub returns-in_err-run-in-Match-clause-stopped : goal.returns-in_err-run-in-Match-clause-stopped
+returns-in_err-run-in-Match-clause-stopped g c =
+    handed_on _ c.from_residual-in_err-run-in-Match.result _ c.from_residual-in_err-run-in-Match.ensures.1
+    (λ other. inl (c.in_err-run-in-Match.ensures.nothing other))
+
+pub returns-in_err-run-in-Pae-clause-stopped : goal.returns-in_err-run-in-Pae-clause-stopped
+returns-in_err-run-in-Pae-clause-stopped g c =
+    handed_on _ c.from_residual-in_err-run-in-Pae.result _ c.from_residual-in_err-run-in-Pae.ensures.1
+    (λ other. inl (c.in_err-run-in-Pae.ensures.nothing other))
+
+pub returns-in_err-run-in-Sign-clause-stopped : goal.returns-in_err-run-in-Sign-clause-stopped
+returns-in_err-run-in-Sign-clause-stopped g c =
+    handed_on _ c.from_residual-in_err-run-in-Sign.result _ c.from_residual-in_err-run-in-Sign.ensures.1
+    (λ other. inl (c.in_err-run-in-Sign.ensures.nothing other))
+
+pub returns-in_err-run-in-Digest-clause-stopped : goal.returns-in_err-run-in-Digest-clause-stopped
+returns-in_err-run-in-Digest-clause-stopped g c =
+    handed_on _ c.from_residual-in_err-run-in-Digest.result _ c.from_residual-in_err-run-in-Digest.ensures.1
+    (λ other.
+    ⊎_elim inl (λ lists. inr (record {
+      words = c.in-Digest.words;
+      is_digest = c.in-Digest.is;
+      lists = lists;
+    })) (c.in_err-run-in-Digest.ensures.stopped other))
+
+pub returns-in_err-run-in-Link-clause-stopped : goal.returns-in_err-run-in-Link-clause-stopped
+returns-in_err-run-in-Link-clause-stopped g c =
+    handed_on _ c.from_residual-in_err-run-in-Link.result _ c.from_residual-in_err-run-in-Link.ensures.1
+    (λ other. inl (c.in_err-run-in-Link.ensures.nothing other))
+
+pub returns-in_err-run-in-Statement-clause-stopped : goal.returns-in_err-run-in-Statement-clause-stopped
+returns-in_err-run-in-Statement-clause-stopped g c =
+    handed_on _ c.from_residual-in_err-run-in-Statement.result _ c.from_residual-in_err-run-in-Statement.ensures.1
+    (λ other. inl (c.in_err-run-in-Statement.ensures.nothing other))
+
+pub returns-in_err-run-in-Payload-clause-stopped : goal.returns-in_err-run-in-Payload-clause-stopped
+returns-in_err-run-in-Payload-clause-stopped g c =
+    handed_on _ c.from_residual-in_err-run-in-Payload.result _ c.from_residual-in_err-run-in-Payload.ensures.1
+    (λ other. inl (c.in_err-run-in-Payload.ensures.nothing other))
+
+pub returns-in_err-run-in-Key-clause-stopped : goal.returns-in_err-run-in-Key-clause-stopped
+returns-in_err-run-in-Key-clause-stopped g c =
+    handed_on _ c.from_residual-in_err-run-in-Key.result _ c.from_residual-in_err-run-in-Key.ensures.1
+    (λ other. inl (c.in_err-run-in-Key.ensures.nothing other))
+
+pub returns-in_err-run-in-Check-clause-stopped : goal.returns-in_err-run-in-Check-clause-stopped
+returns-in_err-run-in-Check-clause-stopped g c =
+    handed_on _ c.from_residual-in_err-run-in-Check.result _ c.from_residual-in_err-run-in-Check.ensures.1
+    (λ other. inl (c.in_err-run-in-Check.ensures.nothing other))

@@ -11,6 +11,7 @@ pub mod note;
 mod notes;
 mod parameters;
 mod provenance;
+mod room;
 mod shape;
 mod signers;
 mod statement;

@@ -5,6 +5,7 @@ ghost use Rattle.it_prov_notes.specs.ProvenanceNotes.{Misses};
 use crate::delivery::Delivery;
 use crate::envelope::envelope_misses;
 use crate::note::Shortfall;
+use crate::room::Room;
 use crate::shape::shape_of;
 use it_chain::envelope_in;
 use it_dsse::checks::Checks;
@@ -16,6 +17,7 @@ pub(crate) fn line_misses<C: Checks>(
     line: &[u8],
     delivery: &Delivery<'_>,
     checks: &C,
+    room: &mut Room,
 ) -> Result<Option<Shortfall>, AllocError>
     ensures { IfOk result (λ found. IfSome found (Misses (C.panel checks.now)
         delivery.now.expectation.now delivery.now.digests line.now)) }
@@ -24,7 +26,7 @@ pub(crate) fn line_misses<C: Checks>(
         return Ok(None);
     }
     match envelope_in(alloc, line)? {
-        Some(envelope) => envelope_misses(alloc, &envelope, delivery, checks),
-        None => Ok(Some(Shortfall::NoEnvelope(shape_of(alloc, line)?))),
+        Some(envelope) => envelope_misses(alloc, &envelope, delivery, checks, room),
+        None => Ok(Some(Shortfall::NoEnvelope(shape_of(alloc, line, room)?))),
     }
 }

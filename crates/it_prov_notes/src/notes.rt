@@ -5,6 +5,7 @@ ghost use Rattle.it_prov_notes.specs.ProvenanceNotes.{Holds};
 use crate::delivery::Delivery;
 use crate::line::line_misses;
 use crate::note::ProvenanceNote;
+use crate::room::Room;
 use it_digest::sums::split_line;
 use it_dsse::checks::Checks;
 use std::alloc::{AllocError, Global};
@@ -20,6 +21,10 @@ use std::alloc::{AllocError, Global};
 /// signed. The `checks` check each envelope's signatures, each at most once for each key of the
 /// expected builders.
 ///
+/// Of the lines that are no envelopes and the payloads that none of the builders signed 2 MiB are
+/// looked at in all, and no envelope of another type than in-toto's after 40 signatures on such
+/// envelopes.
+///
 /// # Errors
 ///
 /// `AllocError` where memory was refused.
@@ -33,12 +38,13 @@ pub fn missing_notes<C: Checks>(
         notes.items) }
 {
     let mut notes = Vec::new(alloc);
+    let mut room = Room::new();
     let mut rest = delivery.provenance;
     let mut number = 0;
     while !rest.is_empty() {
         let (line, after) = split_line(rest);
         number += 1;
-        if let Some(shortfall) = line_misses(alloc, line, delivery, checks)? {
+        if let Some(shortfall) = line_misses(alloc, line, delivery, checks, &mut room)? {
             notes.push(ProvenanceNote {
                 line: number,
                 shortfall,

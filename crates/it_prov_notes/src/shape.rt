@@ -5,16 +5,20 @@ ghost use Rattle.it_base.specs.Document.{IsDocument};
 ghost use Rattle.it_prov_notes.specs.ProvenanceNotes.{IsDocumentThat, IsTyped, LooksLike};
 
 use crate::note::Shape;
+use crate::room::Room;
 use it_base::document::{member, read_document};
 use it_base::parts::part;
 use it_base::text::Text;
 use serde_json::Value;
 use std::alloc::{AllocError, Global};
 
-/// What a line looks like.
-pub(crate) fn shape_of(alloc: Global, line: &[u8]) -> Result<Shape, AllocError>
+/// What a line looks like, if there is room to look at it.
+pub(crate) fn shape_of(alloc: Global, line: &[u8], room: &mut Room) -> Result<Shape, AllocError>
     ensures { IfOk result (LooksLike line.now) }
 {
+    if !room.takes(line.len()) {
+        return Ok(Shape::Other);
+    }
     match read_document(alloc, line)? {
         None => Ok(Shape::NoDocument),
         Some(value) => document_shape(alloc, &value),

@@ -11,21 +11,22 @@ use it_dsse::meter::Meter;
 use it_prov::answers::has_signed;
 use std::alloc::{AllocError, Global};
 
-/// Those of the builders that signed an envelope, in their order. Each is asked about once.
+/// Those of the builders that signed an envelope, in their order. Each is asked about once, and the
+/// meter rises by the signatures that are checked.
 pub(crate) fn signers_among<'a, C: Checks>(
     alloc: Global,
     builders: &'a [Builder],
     envelope: &Envelope,
     checks: &C,
+    meter: &mut Meter,
 ) -> Result<Vec<&'a Builder>, AllocError>
     ensures { IfOk result (λ signers. AreThose
         (SignedByBuilder (C.panel checks.now) envelope.now) builders.now
         (lent_builders signers.items)) }
 {
-    let mut meter = Meter { asked: 0 };
     let mut signers = Vec::new(alloc);
     for builder in builders {
-        if has_signed(builder, envelope, checks, &mut meter) {
+        if has_signed(builder, envelope, checks, meter) {
             signers.push(builder)?;
         }
     }

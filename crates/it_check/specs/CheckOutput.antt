@@ -20,25 +20,29 @@ use Rattle.it_check.specs.declared.documents.PolicyReading.TheVariants as polici
 
 -- the layout, where one was read
 abbrev pub layout_read : Option LayoutReading → Option Layout
-layout_read (Some (layouts.Read layout nulls)) = Some layout
+layout_read (Some (layouts.Read layout nulls places)) = Some layout
 layout_read reading = None
 
--- what is found: the keys that are null, and then all others
-pub record IsFound (nulls : List NullKey) (Others : List Finding → Type 0) (found : List Finding)
+-- what is found: these first, and then all others
+pub record IsFound (first : List Finding) (Others : List Finding → Type 0) (found : List Finding)
     : Type 0 where
   pub others : List Finding
-  pub found_are : found ≡ map findings.NullKey nulls ++ others
+  pub found_are : found ≡ first ++ others
   pub others_are : Others others
+
+-- what is found in a layout first: the keys that are null, and then the steps without a threshold
+abbrev pub gaps_of : List NullKey → List ℕ → List Finding
+gaps_of nulls places = map findings.NullKey nulls ++ map findings.NoThreshold places
 
 -- what is found in the policy, which takes from what the layout has, and in the layout
 abbrev pub PolicyFound : Option Layout → Option PolicyReading → List Finding → Type 0
 PolicyFound layout (Some (policies.Read policy nulls)) found =
-    IsFound nulls (PolicyFindings layout policy) found
+    IsFound (map findings.NullKey nulls) (PolicyFindings layout policy) found
 PolicyFound layout reading found = found ≡ []
 
 abbrev pub LayoutFound : Option LayoutReading → List Finding → Type 0
-LayoutFound (Some (layouts.Read layout nulls)) found =
-    IsFound nulls (LayoutFindings layout) found
+LayoutFound (Some (layouts.Read layout nulls places)) found =
+    IsFound (gaps_of nulls places) (LayoutFindings layout) found
 LayoutFound reading found = found ≡ []
 
 -- what is written of the policy: the lines of what is found, or the report of its refusal
@@ -50,7 +54,7 @@ policy_text (Some (policies.Bad refusal)) found = report_of (refused_for refusal
 -- the same of the layout
 abbrev pub layout_text : Option LayoutReading → List Finding → List ℕ
 layout_text None found = []
-layout_text (Some (layouts.Read layout nulls)) found = findings_text (codes "layout") found
+layout_text (Some (layouts.Read layout nulls places)) found = findings_text (codes "layout") found
 layout_text (Some (layouts.Bad refusal)) found = report_of (refused_for refusal)
 
 -- the first line where there is a layout

@@ -14,6 +14,7 @@ use Rattle.it_docs.specs.Policy.{PolicyOf}
 use Rattle.it_docs.specs.PolicyPart.{PolicyPartOf}
 use Rattle.it_docs.specs.declared.layout_fault.LayoutPart.{LayoutPart}
 use Rattle.it_docs.specs.declared.policy_fault.PolicyPart.{PolicyPart}
+use Rattle.it_findings.specs.NoThresholds.{NoThresholdsOf}
 use Rattle.it_findings.specs.NullKeys.{LayoutNulls, NullsOf, PolicyNulls}
 use Rattle.it_report.specs.declared.refusal.Fault.{Fault}
 use Rattle.it_report.specs.declared.refusal.Fault.TheVariants.{BadEnvelope, BadLayout, BadPolicy}
@@ -71,11 +72,11 @@ pub record HasOtherType (bytes : List ℕ) : Type 0 where
   pub is_envelope : EnvelopeOf bytes envelope
   pub other : envelope.payload_type ≢ in_toto_type
 
--- the body is a layout, with these keys that are null, or this refuses it for the first part that
--- fails
+-- the body is a layout, with these keys that are null and these places of steps without a
+-- threshold, or this refuses it for the first part that fails
 abbrev pub IsBodyReading : List ℕ → LayoutReading → Type 0
-IsBodyReading body (layouts.Read layout nulls) =
-    LayoutOf body layout × NullsOf LayoutNulls body nulls
+IsBodyReading body (layouts.Read layout nulls places) =
+    LayoutOf body layout × NullsOf LayoutNulls body nulls × NoThresholdsOf body places
 IsBodyReading body (layouts.Bad refusal) =
     (part : LayoutPart) × LayoutPartOf body part × (refusal ≡ whole (BadLayout part))
 

@@ -7,16 +7,17 @@ use Rattle.it_docs.specs.declared.rule.Side.TheVariants.{Materials, Products}
 use Rattle.it_findings.specs.declared.finding.Finding.{Finding}
 use Rattle.it_findings.specs.declared.finding.Finding.TheVariants.{NoRules, OpenRules, Parameter}
 use Rattle.it_findings.specs.declared.finding.Finding.TheVariants.{HighThreshold, NoBuilders}
-use Rattle.it_findings.specs.declared.finding.Finding.TheVariants.{NoLevel, NullKey, RepeatedKey}
+use Rattle.it_findings.specs.declared.finding.Finding.TheVariants.{NoLevel, NoThreshold, NullKey}
 use Rattle.it_findings.specs.declared.finding.Finding.TheVariants.{UnknownItem, UnknownKey}
-use Rattle.it_findings.specs.declared.finding.Finding.TheVariants.{UnreachableLevel}
+use Rattle.it_findings.specs.declared.finding.Finding.TheVariants.{RepeatedKey, UnreachableLevel}
 use Rattle.it_findings.specs.declared.finding.RuleList.{RuleList}
 use Rattle.it_findings.specs.declared.finding.RuleList.TheVariants.{Deliver, OfStep, OfInspection}
 use Rattle.it_report.specs.Report.{side_form}
 use Rattle.it_check.specs.ExpectationLine.{no_builders_line, no_level_line, unreachable_level_line}
 use Rattle.it_check.specs.NullKeyLine.{null_key_line}
 use Rattle.it_check.specs.Pieces.{number_form, quoted, told_form}
-use Rattle.it_check.specs.StepKeyLine.{high_threshold_line, repeated_key_line, unknown_key_line}
+use Rattle.it_check.specs.StepKeyLine.{high_threshold_line, no_threshold_line}
+use Rattle.it_check.specs.StepKeyLine.{repeated_key_line, unknown_key_line}
 
 -- the document that has a list
 abbrev pub document_of : RuleList → List ℕ
@@ -96,6 +97,7 @@ line_of (RepeatedKey step place id) = repeated_key_line step place id
 line_of (NoBuilders place) = no_builders_line place
 line_of (NoLevel place) = no_level_line place
 line_of (UnreachableLevel place level) = unreachable_level_line place level
+line_of (NoThreshold place) = no_threshold_line place
 line_of (NullKey key) = null_key_line key
 
 -- how many findings a document has, where not all are written

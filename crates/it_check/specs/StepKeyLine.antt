@@ -23,6 +23,11 @@ threshold_form threshold ids =
 unfoldable pub high_threshold_line : StepPlace → ℕ → ℕ → List ℕ
 high_threshold_line step threshold ids = on_threshold step ++ threshold_form threshold ids
 
+unfoldable pub no_threshold_line : ℕ → List ℕ
+no_threshold_line place =
+    number_form (codes "layout no-threshold /steps/") place (codes "/threshold: step ")
+    ++ number_form (codes "") place (codes " has no threshold, so that one key is enough for it\n")
+
 -- the beginning of a line on the key id at a place of a step
 unfoldable pub on_key : List ℕ → StepPlace → ℕ → List ℕ → List ℕ
 on_key name step place id =

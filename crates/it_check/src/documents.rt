@@ -17,7 +17,7 @@ use it_docs::policy_reading::read_policy;
 use it_dsse::envelope::Envelope;
 use it_dsse::payload_type::IN_TOTO;
 use it_findings::null_key::NullKey;
-use it_findings::{layout_nulls, policy_nulls};
+use it_findings::{layout_nulls, no_thresholds, policy_nulls};
 use it_report::refusal::{Fault, Refusal};
 use serde_json::Value;
 use std::alloc::{AllocError, Global};
@@ -39,12 +39,14 @@ pub enum PolicyReading {
 /// What the bytes of a layout, in its envelope or not, read as.
 #[derive(Drop)]
 pub enum LayoutReading {
-    /// A layout, and its keys that are null.
+    /// A layout, its keys that are null, and its steps without a threshold.
     Read {
         /// The layout.
         layout: Layout,
         /// The key ids under which null stands.
         nulls: Sequence<NullKey>,
+        /// The places of the steps without a threshold.
+        places: Sequence<usize>,
     },
     /// No layout: this is the refusal of the envelope, of its type, or for the first part of the
     /// layout that fails.
@@ -142,6 +144,7 @@ fn body_reading(alloc: Global, body: &[u8]) -> Result<LayoutReading, AllocError>
         Ok(layout) => Ok(LayoutReading::Read {
             layout,
             nulls: Sequence::from(layout_nulls(alloc, body)?),
+            places: Sequence::from(no_thresholds(alloc, body)?),
         }),
         Err(LayoutFault::BadLayout(part)) => {
             Ok(LayoutReading::Bad(whole(alloc, Fault::BadLayout(part))))

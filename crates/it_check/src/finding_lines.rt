@@ -8,7 +8,9 @@ ghost use Rattle.it_check.specs.FindingLine.{open_rules_line, parameter_line, un
 use crate::expectation_lines::{push_no_builders, push_no_level, push_unreachable_level};
 use crate::null_key_lines::push_null_key;
 use crate::rule_lists::{document_of, push_pointer, push_scope};
-use crate::step_key_lines::{push_high_threshold, push_repeated_key, push_unknown_key};
+use crate::step_key_lines::{
+    push_high_threshold, push_no_threshold, push_repeated_key, push_unknown_key,
+};
 use crate::writing::{push_number, push_text, push_told, push_told_number};
 use it_base::text::Text;
 use it_findings::finding::{Finding, RuleList};
@@ -107,6 +109,7 @@ pub fn push_finding(text: &mut Vec<u8>, finding: &Finding) -> Result<(), AllocEr
         Finding::UnreachableLevel { place, level } => {
             push_unreachable_level(text, *place, *level)
         }
+        Finding::NoThreshold(place) => push_no_threshold(text, *place),
         Finding::NullKey(key) => push_null_key(text, key),
     }
 }

@@ -1,7 +1,7 @@
 //! What is found in the documents.
 ghost use Rattle.std.specs.Prelude.{◌≡◌, IfOk, map};
 ghost use Rattle.std.specs.Option.{option_copied};
-ghost use Rattle.it_check.specs.CheckOutput.{IsFound, LayoutFound, PolicyFound};
+ghost use Rattle.it_check.specs.CheckOutput.{IsFound, LayoutFound, PolicyFound, gaps_of};
 ghost use Rattle.it_findings.specs.LayoutFindings.{LayoutFindings};
 ghost use Rattle.it_findings.specs.PolicyFindings.{PolicyFindings};
 
@@ -47,9 +47,13 @@ pub(crate) fn found_in_layout(
     ensures { IfOk result (λ found. LayoutFound layout.now found.items) }
 {
     match layout {
-        Some(LayoutReading::Read { layout, nulls }) => {
-            findings_in_layout(alloc, layout, nulls.as_slice())
-        }
+        Some(
+            LayoutReading::Read {
+                layout,
+                nulls,
+                places,
+            },
+        ) => findings_in_layout(alloc, layout, nulls.as_slice(), places.as_slice()),
         Some(LayoutReading::Bad(_)) => Ok(Vec::new(alloc)),
         None => Ok(Vec::new(alloc)),
     }
@@ -67,7 +71,7 @@ pub fn findings_in_policy(
     policy: &Policy,
     nulls: &[NullKey],
 ) -> Result<Vec<Finding>, AllocError>
-    ensures { IfOk result (λ found. IsFound nulls.now
+    ensures { IfOk result (λ found. IsFound (map Finding.NullKey nulls.now)
         (PolicyFindings (option_copied layout.entry) policy.now) found.items) }
 {
     let mut found = null_findings(alloc, nulls)?;
@@ -76,7 +80,8 @@ pub fn findings_in_policy(
     Ok(found)
 }
 
-/// The keys of a layout that are null, and then what else is found in it.
+/// The keys of a layout that are null, its steps without a threshold, and then what else is found
+/// in it.
 ///
 /// # Errors
 ///
@@ -85,13 +90,37 @@ pub fn findings_in_layout(
     alloc: Global,
     layout: &Layout,
     nulls: &[NullKey],
+    places: &[usize],
 ) -> Result<Vec<Finding>, AllocError>
-    ensures { IfOk result (λ found.
-        IsFound nulls.now (LayoutFindings layout.now) found.items) }
+    ensures { IfOk result (λ found. IsFound (gaps_of nulls.now places.now)
+        (LayoutFindings layout.now) found.items) }
 {
-    let mut found = null_findings(alloc, nulls)?;
+    let mut found = gap_findings(alloc, nulls, places)?;
     let mut others = layout_findings(alloc, layout)?;
     found.append(&mut others)?;
+    Ok(found)
+}
+
+fn gap_findings(
+    alloc: Global,
+    nulls: &[NullKey],
+    places: &[usize],
+) -> Result<Vec<Finding>, AllocError>
+    ensures { IfOk result (λ found. found.items ≡ gaps_of nulls.now places.now) }
+{
+    let mut found = null_findings(alloc, nulls)?;
+    let mut open = threshold_findings(alloc, places)?;
+    found.append(&mut open)?;
+    Ok(found)
+}
+
+fn threshold_findings(alloc: Global, places: &[usize]) -> Result<Vec<Finding>, AllocError>
+    ensures { IfOk result (λ found. found.items ≡ map Finding.NoThreshold places.now) }
+{
+    let mut found = Vec::new(alloc);
+    for place in places {
+        found.push(Finding::NoThreshold(*place))?;
+    }
     Ok(found)
 }
 

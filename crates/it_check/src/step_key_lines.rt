@@ -1,6 +1,7 @@
 //! Findings on the keys of steps as lines.
 ghost use Rattle.std.specs.Prelude.{◌≡◌, ◌++◌, OnOk};
-ghost use Rattle.it_check.specs.StepKeyLine.{high_threshold_line, on_key, on_step, on_threshold};
+ghost use Rattle.it_check.specs.StepKeyLine.{high_threshold_line, no_threshold_line, on_key};
+ghost use Rattle.it_check.specs.StepKeyLine.{on_step, on_threshold};
 ghost use Rattle.it_check.specs.StepKeyLine.{repeated_key_line, threshold_form, unknown_key_line};
 
 use crate::writing::{push_number, push_quoted, push_text, push_told, push_told_number};
@@ -40,6 +41,17 @@ fn push_threshold(text: &mut Vec<u8>, threshold: u64, ids: u64) -> Result<(), Al
     push_number(text, threshold as usize)?;
     let after = ", so that it never passes\n";
     push_told_number(text, " different keys and lists ", ids as usize, after)
+}
+
+/// Appends the line on a step without a threshold.
+#[tactic(auto, unfolding(crate::specs::StepKeyLine::no_threshold_line))]
+pub(crate) fn push_no_threshold(text: &mut Vec<u8>, place: usize) -> Result<(), AllocError>
+    ensures { OnOk result (text.new.items ≡ text.old.items ++ no_threshold_line place) }
+{
+    let before = "layout no-threshold /steps/";
+    push_told_number(text, before, place, "/threshold: step ")?;
+    let after = " has no threshold, so that one key is enough for it\n";
+    push_told_number(text, "", place, after)
 }
 
 /// Appends the line on a key id for which the layout has no key object.

@@ -2,6 +2,7 @@ pub mod Closed
 pub mod ExpectationFindings
 pub mod Joined
 pub mod LayoutFindings
+pub mod NoThresholds
 pub mod NullKeys
 pub mod Parameters
 pub mod PolicyFindings

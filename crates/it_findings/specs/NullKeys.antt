@@ -21,10 +21,11 @@ null_ids (member id d ms) = null_ids ms
 abbrev pub null_ids_at : List ℕ → Data → List (List ℕ)
 null_ids_at name d = option_map_or null_ids (option_and_then as_object (member_at name d)) []
 
--- what is found in a list of key objects that is the member of this name: each id with null
+-- null under an id of a list of key objects
 abbrev pub null_key : KeyList → List ℕ → NullKey
 null_key list id = record { list = list; id = id }
 
+-- what is found in the list of key objects that is the member of this name: each id with null
 abbrev pub NullKeys : KeyList → List ℕ → Data → List NullKey → Type 0
 NullKeys list name d found = found ≡ map (null_key list) (null_ids_at name d)
 

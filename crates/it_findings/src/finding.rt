@@ -102,6 +102,8 @@ pub enum Finding {
         /// The level.
         level: u8,
     },
+    /// The step at this place has no threshold, so that one key is enough for it.
+    NoThreshold(usize),
     /// Null stands under a key id, which so counts as missing.
     NullKey(NullKey),
 }

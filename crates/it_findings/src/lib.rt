@@ -9,6 +9,7 @@ mod in_layout;
 mod in_policy;
 mod in_rules;
 mod in_step_keys;
+mod missing_thresholds;
 pub mod null_key;
 mod null_keys;
 mod one;
@@ -16,4 +17,5 @@ mod parameter;
 
 pub use in_layout::layout_findings;
 pub use in_policy::policy_findings;
+pub use missing_thresholds::no_thresholds;
 pub use null_keys::{layout_nulls, policy_nulls};

@@ -114,7 +114,7 @@ fn each_builder(
 }
 
 /// The items of the list that is the member of this name. Takes no memory.
-fn items_at<'v>(value: &'v Value, name: &str) -> Option<&'v Vec<Value>>
+pub(crate) fn items_at<'v>(value: &'v Value, name: &str) -> Option<&'v Vec<Value>>
     ensures { option_map (λ items. items_view items.now.items) result
         ≡ items_of name.now (view value.now) }
 {

@@ -9,12 +9,13 @@ use Rattle.it_chain.specs.StepRules.{recorded_in}
 use Rattle.it_chain.specs.declared.chain.StepResult.{StepResult}
 use Rattle.it_findings.specs.Joined.{Joined, Said}
 use Rattle.it_findings.specs.LayoutFindings.{LayoutFindings}
+use Rattle.it_findings.specs.NoThresholds.{NoThresholdsOf}
 use Rattle.it_findings.specs.NullKeys.{LayoutNulls, NullsOf}
 use Rattle.it_findings.specs.declared.finding.Finding.{Finding}
 use Rattle.it_findings.specs.declared.finding.Finding.TheVariants.{NoRules}
 use Rattle.it_findings.specs.declared.finding.RuleList.TheVariants.{OfStep}
 use Rattle.it_findings.specs.declared.null_key.NullKey.{NullKey}
-use Rattle.it_check.specs.CheckOutput.{IsFound}
+use Rattle.it_check.specs.CheckOutput.{IsFound, gaps_of}
 
 -- the step at a place recorded some path on a side
 abbrev pub HasPath : List StepResult → ℕ → Side → Type 0
@@ -37,7 +38,9 @@ AreCounting steps all counting =
 pub record LayoutCounting (payload : List ℕ) (layout : Layout) (steps : List StepResult)
     (counting : List Finding) : Type 0 where
   pub nulls : List NullKey
+  pub places : List ℕ
   pub all : List Finding
   pub are_nulls : NullsOf LayoutNulls payload nulls
-  pub are_all : IsFound nulls (LayoutFindings layout) all
+  pub are_places : NoThresholdsOf payload places
+  pub are_all : IsFound (gaps_of nulls places) (LayoutFindings layout) all
   pub are_counting : AreCounting steps all counting

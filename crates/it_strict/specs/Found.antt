@@ -1,8 +1,9 @@
 -- What is found where a delivery is accepted (this project's words).
-use Rattle.std.specs.Prelude.{◌≡◌, ℕ, List, [], Some}
+use Rattle.std.specs.Prelude.{◌≡◌, ℕ, List, [], Some, map}
 use Rattle.it_findings.specs.NullKeys.{NullsOf, PolicyNulls}
 use Rattle.it_findings.specs.PolicyFindings.{PolicyFindings}
 use Rattle.it_findings.specs.declared.finding.Finding.{Finding}
+use Rattle.it_findings.specs.declared.finding.Finding.TheVariants.{NullKey as NullKeyFinding}
 use Rattle.it_findings.specs.declared.null_key.NullKey.{NullKey}
 use Rattle.it_check.specs.CheckOutput.{IsFound}
 use Rattle.it_ties.specs.Ties.{AreUntied}
@@ -19,7 +20,8 @@ pub use Rattle.it_strict.specs.declared.found.Found.{Found}
 abbrev pub PolicyFound : List ℕ → Documents → List Finding → Type 0
 PolicyFound bytes documents found =
     (nulls : List NullKey) × NullsOf PolicyNulls bytes nulls
-    × IsFound nulls (PolicyFindings (Some documents.layout) documents.policy) found
+    × IsFound (map NullKeyFinding nulls) (PolicyFindings (Some documents.layout) documents.policy)
+    found
 
 -- what is found: in the policy; in the layout, as far as it counts; and the delivered files that
 -- are tied to no step

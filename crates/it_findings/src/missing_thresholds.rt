@@ -1,0 +1,74 @@
+//! Steps of a layout without a threshold.
+ghost use Rattle.std.specs.Prelude.{◌≡◌, ◌↔◌, ◌∷◌, [], None, IfOk, IsTrue, codes};
+ghost use Rattle.serde_json.specs.View.{items_view, view};
+ghost use Rattle.it_base.specs.Document.{member_at};
+ghost use Rattle.it_findings.specs.Joined.{Joined};
+ghost use Rattle.it_findings.specs.NoThresholds.{NoThreshold, NoThresholds, NoThresholdsOf};
+ghost use Rattle.it_findings.specs.NullKeys.{listed};
+
+use crate::null_keys::items_at;
+use it_base::document::{member, read_document};
+use serde_json::Value;
+use std::alloc::{AllocError, Global};
+
+/// The places of the steps without a threshold in the document that is the body of a layout. There
+/// are none where the bytes are no document.
+///
+/// # Errors
+///
+/// `AllocError` where memory was refused.
+pub fn no_thresholds(alloc: Global, body: &[u8]) -> Result<Vec<usize>, AllocError>
+    ensures { IfOk result (λ places. NoThresholdsOf body.now places.items) }
+{
+    match read_document(alloc, body)? {
+        Some(document) => places_in(alloc, &document),
+        None => Ok(Vec::new(alloc)),
+    }
+}
+
+fn places_in(alloc: Global, document: &Value) -> Result<Vec<usize>, AllocError>
+    ensures { IfOk result (λ places. NoThresholds (view document.now) places.items) }
+{
+    match items_at(document, "steps") {
+        Some(steps) => each_step(alloc, steps),
+        None => Ok(Vec::new(alloc)),
+    }
+}
+
+fn each_step(alloc: Global, steps: &Vec<Value>) -> Result<Vec<usize>, AllocError>
+    ensures { IfOk result (λ places.
+        Joined NoThreshold (listed (items_view steps.now.items)) places.items) }
+{
+    let mut places = Vec::new(alloc);
+    for (place, step) in steps.iter().enumerate() {
+        let mut here = no_threshold(alloc, place, step)?;
+        places.append(&mut here)?;
+    }
+    Ok(places)
+}
+
+fn no_threshold(alloc: Global, place: usize, step: &Value) -> Result<Vec<usize>, AllocError>
+    ensures { IfOk result (λ found. NoThreshold place (view step.now) found.items) }
+{
+    if !has_no_threshold(step) {
+        return Ok(Vec::new(alloc));
+    }
+    one_place(alloc, place)
+}
+
+fn has_no_threshold(step: &Value) -> bool
+    ensures { IsTrue result ↔ (member_at (codes "threshold") (view step.now) ≡ None) }
+{
+    match member(step, "threshold") {
+        Some(_) => false,
+        None => true,
+    }
+}
+
+fn one_place(alloc: Global, place: usize) -> Result<Vec<usize>, AllocError>
+    ensures { IfOk result (λ places. places.items ≡ place ∷ []) }
+{
+    let mut places = Vec::new(alloc);
+    places.push(place)?;
+    Ok(places)
+}

@@ -95,7 +95,7 @@ pub(crate) fn made_told(
 }
 
 /// What was found, if anything was.
-fn known_of(inputs: &Inputs, found: Option<Found>) -> Option<Known<'_>>
+pub(crate) fn known_of(inputs: &Inputs, found: Option<Found>) -> Option<Known<'_>>
     ensures { (panel : Panel) → IfSome found (IsFound panel inputs.now)
         → IfSome result (IsKnown panel inputs.now) }
 {

@@ -1,7 +1,6 @@
 //! What the verification read and found, from which the notes are made.
-ghost use Rattle.std.specs.Prelude.{◌≡◌, ◌≤◌, IfOk, IfSome};
+ghost use Rattle.std.specs.Prelude.{◌≤◌, IfOk, IfSome};
 ghost use Rattle.it_dsse.specs.Panel.{Panel};
-ghost use Rattle.it_report.specs.declared.verdict.Verdict.TheVariants.{Refused as refused_for};
 ghost use Rattle.it_verify.specs.Grounds.{IsFound};
 ghost use Rattle.it_verify.specs.Made.{IsMadeBy};
 ghost use Rattle.it_notes.specs.Known.{IsKnown, IsTold};
@@ -10,7 +9,6 @@ use crate::fault_level::FaultLevel;
 use it_digest::artifacts::Artifacts;
 use it_docs::policy::Policy;
 use it_dsse::checks::Checks;
-use it_report::refusal::Refusal;
 use it_report::verdict::Verdict;
 use it_step_notes::signed_layout::SignedLayout;
 use it_verify::documents::Documents;
@@ -58,19 +56,10 @@ pub(crate) fn verify_told<'a, C: Checks>(
 {
     match verify_grounds(alloc, inputs, checks)? {
         Outcome::Made(grounds) => made_told(alloc, inputs, grounds),
-        Outcome::Refused { refusal, found } => Ok(refused_told(inputs, refusal, found)),
-    }
-}
-
-/// The verdict that refuses, and what was found before it.
-pub(crate) fn refused_told(inputs: &Inputs, refusal: Refusal, found: Option<Found>) -> Told<'_>
-    ensures verdict { result.verdict ≡ refused_for refusal }
-    ensures known { (panel : Panel) → IfSome found (IsFound panel inputs.now)
-        → IfSome result.known (IsKnown panel inputs.now) }
-{
-    Told {
-        verdict: Verdict::Refused(refusal),
-        known: known_of(inputs, found),
+        Outcome::Refused { refusal, found } => Ok(Told {
+            verdict: Verdict::Refused(refusal),
+            known: known_of(inputs, found),
+        }),
     }
 }
 
@@ -95,7 +84,7 @@ pub(crate) fn made_told(
 }
 
 /// What was found, if anything was.
-fn known_of(inputs: &Inputs, found: Option<Found>) -> Option<Known<'_>>
+pub(crate) fn known_of(inputs: &Inputs, found: Option<Found>) -> Option<Known<'_>>
     ensures { (panel : Panel) → IfSome found (IsFound panel inputs.now)
         → IfSome result (IsKnown panel inputs.now) }
 {

@@ -9,11 +9,12 @@ ghost use Rattle.it_verify.specs.Verdict.{OnAccepted};
 ghost use Rattle.it_notes.specs.Known.{IsTold};
 ghost use Rattle.it_notes.specs.Strictly.{HasFindings, StandsStrictly};
 
-use crate::known::{Told, made_told, refused_told};
+use crate::known::{Told, known_of, made_told};
 use crate::strict_fault::StrictFault;
 use it_base::writing::write_all_of;
 use it_dsse::checks::Checks;
 use it_outcome::RunFault;
+use it_report::verdict::Verdict;
 use it_strict::found::{Found, found_in};
 use it_verify::grounds::{Grounds, Outcome};
 use it_verify::inputs::Inputs;
@@ -46,7 +47,10 @@ pub(crate) fn strict_told<'a, C: Checks, N: Write>(
 {
     match verify_grounds(alloc, inputs, checks)? {
         Outcome::Made(grounds) => strict_made(alloc, inputs, grounds, notes),
-        Outcome::Refused { refusal, found } => Ok(refused_told(inputs, refusal, found)),
+        Outcome::Refused { refusal, found } => Ok(Told {
+            verdict: Verdict::Refused(refusal),
+            known: known_of(inputs, found),
+        }),
     }
 }
 

@@ -17,6 +17,7 @@ pub mod place_notes;
 mod provenance;
 mod records;
 mod refusal_notes;
+mod room;
 mod rules;
 mod steps;
 mod text;

@@ -7,6 +7,7 @@ ghost use Rattle.it_notes.specs.FileDetails.{tried_ids};
 ghost use Rattle.it_part_notes.specs.PartNotes.{TellsEnvelope};
 
 use crate::file_detail::{Detail, DetailedNote, FileDetail};
+use crate::room::Room;
 use it_base::sequence::Sequence;
 use it_base::text::Text;
 use it_chain::bundle::Bundle;
@@ -19,7 +20,8 @@ use it_part_notes::part_note::PartNote;
 use it_step_notes::note::{Finding, StepNote};
 use std::alloc::{AllocError, Global};
 
-/// The notes on a step over a bundle, each with the details of its file.
+/// The notes on a step over a bundle, each with the details of its file. Files that are not
+/// envelopes are looked at only as far as there is room for them.
 pub(crate) fn with_details(
     alloc: Global,
     bundle: &Bundle,
@@ -31,8 +33,9 @@ pub(crate) fn with_details(
         All (λ each. IfSome each.detail (TellsDetail bundle.now step.now each.note)) told.items) }
 {
     let mut told = Vec::new(alloc);
+    let mut room = Room::new();
     for note in notes {
-        let detail = detail_of(alloc, bundle, step, &note)?;
+        let detail = detail_of(alloc, bundle, step, &note, &mut room)?;
         told.push(DetailedNote { note, detail })?;
     }
     Ok(told)
@@ -44,6 +47,7 @@ fn detail_of(
     bundle: &Bundle,
     step: &Step,
     note: &StepNote,
+    room: &mut Room,
 ) -> Result<Option<FileDetail>, AllocError>
     ensures { IfOk result (λ found. IfSome found (TellsDetail bundle.now step.now note.now)) }
 {
@@ -53,7 +57,7 @@ fn detail_of(
     let Some(file) = file_named(bundle.files(), name.as_str()) else {
         return Ok(None);
     };
-    let Some(detail) = detail_in(alloc, step, file, finding)? else {
+    let Some(detail) = detail_in(alloc, step, file, finding, room)? else {
         return Ok(None);
     };
     let name = Text::copy(alloc, name.as_str())?;
@@ -79,26 +83,34 @@ fn detail_in(
     step: &Step,
     file: &HeldFile,
     finding: &Finding,
+    room: &mut Room,
 ) -> Result<Option<Detail>, AllocError>
     ensures { IfOk result (λ found.
         IfSome found (TellsBytes step.now finding.now file.now.bytes)) }
 {
     match finding {
-        Finding::NoEnvelope => Ok(envelope_part(alloc, file)?.map(Detail::Part)),
+        Finding::NoEnvelope => Ok(envelope_part(alloc, file, room)?.map(Detail::Part)),
         Finding::NeitherLinkNorLayout => Ok(payload_part(alloc, file)?.map(Detail::Part)),
         Finding::NoSignature(_) => Ok(tried_in(alloc, step, file)?.map(Detail::Tried)),
         _ => Ok(None),
     }
 }
 
-/// Why a file's bytes are not an envelope.
-fn envelope_part(alloc: Global, file: &HeldFile) -> Result<Option<PartNote>, AllocError>
+/// Why a file's bytes are not an envelope, where there is room for them.
+fn envelope_part(
+    alloc: Global,
+    file: &HeldFile,
+    room: &mut Room,
+) -> Result<Option<PartNote>, AllocError>
     ensures { IfOk result (λ found. IfSome found (TellsEnvelope file.now.bytes)) }
 {
-    match file.unread() {
-        Some(bytes) => envelope_part_note(alloc, bytes),
-        None => Ok(None),
+    let Some(bytes) = file.unread() else {
+        return Ok(None);
+    };
+    if !room.takes(bytes.len()) {
+        return Ok(None);
     }
+    envelope_part_note(alloc, bytes)
 }
 
 /// Why the payload of the envelope in a file is not a link.

@@ -18,6 +18,7 @@ pub mod place_notes;
 mod provenance;
 mod records;
 mod refusal_notes;
+mod room;
 mod rules;
 mod steps;
 pub mod strict_fault;

@@ -1,12 +1,15 @@
 //! Why a delivered file has no provenance.
+ghost use Rattle.std.specs.Bool.{OnTrue};
 ghost use Rattle.std.specs.Prelude.{IfOk, IfSome, Option, ℕ};
 ghost use Rattle.it_prov.specs.Fits.{Fits};
+ghost use Rattle.it_prov_notes.specs.LaidOut.{IsLaidOut};
 ghost use Rattle.it_report.specs.declared.refusal.Fault.TheVariants.{NoProvenance};
 ghost use Rattle.it_notes.specs.Known.{IsKnown};
 ghost use Rattle.it_notes.specs.RefusalNotes.{TellsInputs};
 
 use crate::known::Known;
 use crate::notes::RefusalNotes;
+use crate::room::Room;
 use it_docs::policy::Expectation;
 use it_dsse::checks::Checks;
 use it_prov::fits::fitting;
@@ -26,7 +29,7 @@ pub(crate) fn provenance_told<C: Checks>(
     ensures { IfOk result (λ told. (best : Option ℕ) → TellsInputs
         (C.panel checks.now) known.now.inputs.now (NoProvenance path.now best) told) }
 {
-    if is_laid_out(alloc, known.inputs.provenance.as_slice())? {
+    if is_short_envelope(alloc, known.inputs.provenance.as_slice())? {
         return Ok(RefusalNotes::LaidOut);
     }
     let Some(digests) = known.delivered.get(path) else {
@@ -42,6 +45,17 @@ pub(crate) fn provenance_told<C: Checks>(
     };
     let notes = missing_notes(alloc, &delivery, checks)?;
     Ok(RefusalNotes::Provenance(notes))
+}
+
+/// Whether the provenance as a whole is one envelope over several lines, and is not too large to be
+/// looked at as a whole.
+fn is_short_envelope(alloc: Global, provenance: &[u8]) -> Result<bool, AllocError>
+    ensures { IfOk result (λ is. OnTrue is (IsLaidOut provenance.now)) }
+{
+    if !Room::new().takes(provenance.len()) {
+        return Ok(false);
+    }
+    is_laid_out(alloc, provenance)
 }
 
 /// The expectation that speaks of the file at a path.

@@ -24,5 +24,6 @@ returns-then-branch g c = λ best. record {
   path = c.args.path.now;
   best = best;
   fault_is = refl;
-  is_true = rw c.as_slice.ensures at (c.in_ok-is_laid_out.ensures.0 c.if-branch.true);
+  is_true = rw c.as_slice.ensures at
+      (rw c.if-branch.true at c.in_ok-is_short_envelope.ensures);
 }

@@ -4,7 +4,7 @@ ghost use Rattle.clap.specs.Words.{kind_of};
 
 use super::WordsFault;
 use super::dashes::{asks_help, gives, has_dashed_value};
-use super::usage::{Usage, of_all, of_one, usage_of};
+use super::usage::{Usage, nearest_to, of_all, of_one, usage_of};
 use clap::Error;
 use clap::error::ErrorKind;
 use std::alloc::{AllocError, Global};
@@ -74,11 +74,20 @@ fn note_on_command(alloc: Global, word: &str) -> Result<String, AllocError> {
     match word {
         "--help" | "-h" | "help" => of_all(alloc, "help is asked for, and no command is run"),
         "--version" => of_all(alloc, "the version is asked for, and no command is run"),
-        _ => {
-            let wrong = format!(in alloc; "{word:?} is no command")?;
-            of_all(alloc, wrong.as_str())
-        }
+        _ => match nearest_to(word) {
+            Some(usage) => of_none(
+                alloc,
+                word,
+                format!(in alloc; "; is {} meant?", usage.name)?,
+            ),
+            None => of_none(alloc, word, String::new(alloc)),
+        },
     }
+}
+
+/// What is said of a word that is no command, with what may be meant.
+fn of_none(alloc: Global, word: &str, meant: String) -> Result<String, AllocError> {
+    format!(in alloc; "{word:?} is no command{meant}\n\nitv --help lists the commands")
 }
 
 /// What is said of words that a command does not take.

@@ -23,6 +23,37 @@ pub(super) fn usage_of(name: &str) -> Option<&'static Usage> {
     None
 }
 
+/// The usage of the command whose name begins most like the word, the shortest of several: the first
+/// two bytes, at least, are the same. There may be none.
+pub(super) fn nearest_to(word: &str) -> Option<&'static Usage> {
+    let mut nearest: Option<&'static Usage> = None;
+    let mut most = 1;
+    for usage in USAGES.as_slice() {
+        let alike = alike_bytes(word.as_bytes(), usage.name.as_bytes());
+        if alike > most || alike == most && is_shorter(usage, nearest) {
+            most = alike;
+            nearest = Some(usage);
+        }
+    }
+    nearest
+}
+
+/// Whether the name of a command is shorter than that of another one, where there is one.
+fn is_shorter(usage: &Usage, other: Option<&Usage>) -> bool {
+    match other {
+        Some(other) => usage.name.len() < other.name.len(),
+        None => false,
+    }
+}
+
+/// How many bytes two texts have in common at their beginnings.
+fn alike_bytes(a: &[u8], b: &[u8]) -> usize {
+    match a.iter().zip(b.iter()).position(|(x, y)| x != y) {
+        Some(place) => place,
+        None => a.len().min(b.len()),
+    }
+}
+
 /// What was wrong, the version, and the usage of every command.
 pub(super) fn of_all(alloc: Global, wrong: &str) -> Result<String, AllocError> {
     let mut text = format!(in alloc; "{wrong}\n\n{VERSION} {SUMMARY}")?;

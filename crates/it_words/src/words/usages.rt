@@ -50,9 +50,9 @@ pub(super) const VERIFY: Usage = Usage {
 pub(super) const CHECK: Usage = Usage {
     name: "check",
     line: "itv check [--policy F] [--layout F]",
-    text: "    Writes what is found in a policy and in a layout that may let through what
-    their author did not mean, one finding a line; of a document that does not
-    read, why it is refused.
+    text: "    Writes what is found in a policy and in a layout that may not do what their
+    author meant, one finding a line; of a document that does not read, why it
+    is refused.
       --policy F  The policy. It or a layout is given, or both.
       --layout F  The layout, in its envelope or as the body that is signed. No
                   signature is looked at.",

@@ -23,8 +23,8 @@ pub(super) fn usage_of(name: &str) -> Option<&'static Usage> {
     None
 }
 
-/// The usage of the command whose name begins most like the word, the shortest of several: the first
-/// two bytes, at least, are the same. There may be none.
+/// The usage of the command whose name begins most like the word, in its first two bytes at least:
+/// the shortest name of several, or none.
 pub(super) fn nearest_to(word: &str) -> Option<&'static Usage> {
     let mut nearest: Option<&'static Usage> = None;
     let mut most = 1;

@@ -1,4 +1,2 @@
 mod Both
-mod Delivering
 mod Levels
-mod Seeing

@@ -2,10 +2,9 @@
 ghost use Rattle.std.specs.Prelude.{◌≡◌, IfOk};
 ghost use Rattle.it_base.specs.Finds.{Finds};
 ghost use Rattle.it_docs.specs.Layout.{LayoutOf};
-ghost use Rattle.it_step_notes.specs.SignedLayout.{IsSignedLayout};
 
 use it_base::sequence::Sequence;
-use it_chain::{envelope_in, layout_in};
+use it_chain::layout_in;
 use it_docs::layout::Layout;
 use std::alloc::{AllocError, Global};
 
@@ -19,21 +18,6 @@ pub struct SignedLayout {
 }
 
 impl SignedLayout {
-    /// The layout in the envelope in `bytes`, or `None` where they are not an envelope or its
-    /// payload is not a layout.
-    ///
-    /// # Errors
-    ///
-    /// `AllocError` where memory was refused.
-    pub fn read(alloc: Global, bytes: &[u8]) -> Result<Option<SignedLayout>, AllocError>
-        ensures { IfOk result (Finds (IsSignedLayout bytes.now)) }
-    {
-        let Some(envelope) = envelope_in(alloc, bytes)? else {
-            return Ok(None);
-        };
-        SignedLayout::in_payload(alloc, envelope.payload.as_slice())
-    }
-
     /// The layout that a payload is, with a copy of that payload.
     pub(crate) fn in_payload(
         alloc: Global,

@@ -12,6 +12,7 @@ use crate::envelope::Signature;
 use crate::key_name::KeyName;
 use crate::key_object::KeyObject;
 use crate::meter::Meter;
+use std::alloc::AllocError;
 
 /// A panel of boxed checks, which was lent. A key's name is the place of its check and its number
 /// there.
@@ -47,8 +48,8 @@ impl Checks for Boxed<'_> {
         signatures: &[Signature],
         id: &str,
         meter: &mut Meter,
-    ) -> bool {
-        any_valid_in(self.panel, *key, message, signatures, id, meter)
+    ) -> Result<bool, AllocError> {
+        Ok(any_valid_in(self.panel, *key, message, signatures, id, meter))
     }
 
     fn name(&self, key: &(usize, u32)) -> KeyName {
@@ -59,7 +60,11 @@ impl Checks for Boxed<'_> {
 
 /// The key that the id and the object name: the first place whose check knows it, and its number
 /// there.
-fn key_in(panel: &[Box<dyn SignatureCheck>], id: &str, object: &KeyObject) -> Option<(usize, u32)>
+pub(crate) fn key_in(
+    panel: &[Box<dyn SignatureCheck>],
+    id: &str,
+    object: &KeyObject,
+) -> Option<(usize, u32)>
     ensures key { result ≡ (panel_of (map meaning panel.now)).key_of id.now object.now }
     ensures placed { IfSome result (λ key. key.0 < length panel.now) }
 {
@@ -73,7 +78,7 @@ fn key_in(panel: &[Box<dyn SignatureCheck>], id: &str, object: &KeyObject) -> Op
 
 /// Whether one of the signatures is admitted for an id and valid for a key, by the check at the
 /// key's place, for the message that the parts make. The meter counts those that the check tries.
-fn any_valid_in(
+pub(crate) fn any_valid_in(
     panel: &[Box<dyn SignatureCheck>],
     key: (usize, u32),
     message: &[&[u8]],

@@ -1,5 +1,5 @@
 //! What checks signatures.
-ghost use Rattle.std.specs.Prelude.{◌≡◌, IfSome, option_map};
+ghost use Rattle.std.specs.Prelude.{◌≡◌, IfOk, IfSome, OnErr, OnOk, option_map};
 ghost use Rattle.it_dsse.specs.Joined.{joined};
 ghost use Rattle.it_dsse.specs.Meter.{raised};
 ghost use Rattle.it_dsse.specs.Panel.{KeyNumber, Panel};
@@ -10,6 +10,7 @@ use crate::envelope::Signature;
 use crate::key_name::KeyName;
 use crate::key_object::KeyObject;
 use crate::meter::Meter;
+use std::alloc::AllocError;
 
 /// Knows keys, and decides which signatures are valid.
 pub trait Checks: Drop {
@@ -34,6 +35,11 @@ pub trait Checks: Drop {
     /// Whether one of the signatures is admitted for `id` and is a valid signature, by the key, of
     /// the message that the parts make. The meter rises by the number of admitted signatures up to
     /// and including the first valid one.
+    ///
+    /// # Errors
+    ///
+    /// `AllocError` where memory was refused, or where the checks refuse to check more signatures.
+    /// The meter stays as it was.
     fn any_valid(
         &self,
         key: &Self::Found,
@@ -41,12 +47,13 @@ pub trait Checks: Drop {
         signatures: &[Signature],
         id: &str,
         meter: &mut Meter,
-    ) -> bool
+    ) -> Result<bool, AllocError>
         requires { stands self.now key.now }
-        ensures answer { result ≡ is_vouched (panel self.now) id.now (number self.now key.now)
-            (joined message.now) signatures.now }
-        ensures counted { meter.new ≡ raised meter.old (tries_for (panel self.now) id.now
-            (number self.now key.now) (joined message.now) signatures.now) };
+        ensures answer { IfOk result (λ valid. valid ≡ is_vouched (panel self.now) id.now
+            (number self.now key.now) (joined message.now) signatures.now) }
+        ensures counted { OnOk result (meter.new ≡ raised meter.old (tries_for (panel self.now)
+            id.now (number self.now key.now) (joined message.now) signatures.now)) }
+        ensures kept { OnErr result (meter.new ≡ meter.old) };
 
     /// The key's name. Takes no memory.
     fn name(&self, key: &Self::Found) -> KeyName

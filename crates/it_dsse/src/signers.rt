@@ -10,6 +10,10 @@ use crate::signer::is_signer;
 use std::alloc::{AllocError, Global};
 
 /// Those of the given ids whose key signed the envelope, in the order given.
+///
+/// # Errors
+///
+/// `AllocError` where memory was refused, or where the checks answer with an error.
 pub fn signed_ids_by<C: Checks>(
     alloc: Global,
     envelope: &Envelope,
@@ -25,7 +29,8 @@ pub fn signed_ids_by<C: Checks>(
     let mut signers = Vec::new(alloc);
     for id in ids {
         let text = id.as_str();
-        if is_signer(envelope, text, object, checks, &mut meter) {
+        let signed = is_signer(envelope, text, object, checks, &mut meter)?;
+        if signed {
             signers.push(String::from_str(alloc, text)?)?;
         }
     }

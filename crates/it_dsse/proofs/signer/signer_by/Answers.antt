@@ -10,7 +10,7 @@ returns-then-vouched-clause-answer g c =
     signed_found panel c.args.envelope.now c.args.id.now c.args.object.now
     (g.C.Checks.number c.args.checks.now c.in-Some.key)
     c.in-Some.ensures.key
-    (sym c.is_vouched_for-vouched.ensures.answer ∙ c.if-vouched.true)
+    (sym c.in_ok-vouched.ensures.answer ∙ c.if-vouched.true)
 
 pub returns-else-vouched-clause-answer : goal.returns-else-vouched-clause-answer
 returns-else-vouched-clause-answer g c =
@@ -18,7 +18,7 @@ returns-else-vouched-clause-answer g c =
     not_signed panel c.args.envelope.now c.args.id.now c.args.object.now
     (g.C.Checks.number c.args.checks.now c.in-Some.key)
     c.in-Some.ensures.key
-    (sym c.is_vouched_for-vouched.ensures.answer ∙ c.if-vouched.false)
+    (sym c.in_ok-vouched.ensures.answer ∙ c.if-vouched.false)
 
 pub returns-then-not-any_admitted-clause-counted :
     goal.returns-then-not-any_admitted-clause-counted

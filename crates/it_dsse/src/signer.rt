@@ -82,8 +82,8 @@ fn is_vouched_for<C: Checks>(
 /// Whether the key that `id` and `object` name signed the envelope: the key is known, and some
 /// signature is valid for it (DSSE v1.0, "Protocol").
 ///
-/// The meter rises by the number of signatures that [`signer_by`] tries. Takes no memory beside what
-/// the checks take.
+/// The meter rises by the number of signatures that [`signer_by`] tries. Takes no memory beside
+/// what the checks take.
 ///
 /// # Errors
 ///

@@ -88,7 +88,7 @@ fn answers_for<C: Checks>(
 {
     let mut answers = Vec::with_capacity(alloc, builders.len())?;
     for builder in builders {
-        answers.push(answer_for(*builder, envelope, checks))?;
+        answers.push(answer_for(*builder, envelope, checks)?)?;
     }
     Ok(answers)
 }

@@ -13,6 +13,7 @@ complete -c itv -n '__fish_seen_subcommand_from verify' -l strict -d 'Refuses wh
 complete -c itv -n '__fish_seen_subcommand_from verify' -l provenance -r -F -d 'The provenance, one envelope a line.'
 complete -c itv -n '__fish_seen_subcommand_from verify' -l records -x -a '(__fish_complete_directories)' -d 'The folder of the records of inspections, link bodies without envelopes.'
 complete -c itv -n '__fish_seen_subcommand_from verify' -l depth -x -a '0 1 2 3 4 5 6 7 8' -d 'How deep sublayouts may lie, from 0 to 8; 4 where it is not given.'
+complete -c itv -n '__fish_seen_subcommand_from verify' -l most-checks -x -d 'With --public-keys, how many signatures are checked by such keys at most; 20000 where it is not given.'
 complete -c itv -n __fish_use_subcommand -a check -d 'Writes what is found in a policy and in a layout that may not do what their author meant, one finding a line; of a document that does not read, why it is refused.'
 complete -c itv -n '__fish_seen_subcommand_from check' -l policy -r -F -d 'The policy. It or a layout is given, or both.'
 complete -c itv -n '__fish_seen_subcommand_from check' -l layout -r -F -d 'The layout, in its envelope or as the body that is signed. No signature is looked at.'

@@ -6,7 +6,7 @@ use Rattle.std.proofs.lemmas.List.{take_more}
 use Rattle.std.proofs.lemmas.List.Sums.{sum_by-cons}
 use Rattle.it_base.specs.Sum.{IsSum}
 use Rattle.it_dsse.specs.Panel.{KeyNumber, Panel}
-use Rattle.it_dsse.specs.Meter.{raised}
+use Rattle.it_dsse.specs.Meter.{RaisedBy, raised}
 use Rattle.it_dsse.specs.Signed.{Signed, tries}
 use Rattle.it_dsse.specs.declared.key_object.KeyObject.{KeyObject}
 use Rattle.it_dsse.specs.declared.meter.Meter.{Meter}
@@ -48,6 +48,14 @@ within_then l k least P Q R old now new less parts h j = (
   ),
   j.2 ∙ ap (λ m. raised m j.0) h.2 ∙ raised_more old h.0 j.0,
 )
+
+-- nothing was tried, or all that may be
+pub tried_nothing : (most : ℕ) (old new : Meter) → new ≡ old → RaisedBy (λ n. n ≤ most) old new
+tried_nothing most old new same = (0, omega arith, same ∙ sym (raised-zero old))
+
+pub tried_each : (most : ℕ) (old new : Meter) → new ≡ raised old most
+    → RaisedBy (λ n. n ≤ most) old new
+tried_each most old new counted = (most, omega arith, counted)
 
 -- ---- calls in a loop
 module _ {X : Type 0} (ChainCosts : X → ℕ → Type 0) where
@@ -188,3 +196,16 @@ module _ (panel : Panel) (id : List ℕ) (object : KeyObject) (all : List Envelo
     pub asked_last : RaisedWithin 0 (SignaturesIn all) old next
     asked_last = within_part (λ (e : Envelope) n. n ≡ length e.signatures) all i new below
         here least 0 old now next before of_new 0 (omega arith)
+
+  -- the next is not asked about to the end, and no further one
+  pub asked_stopped : RaisedBy (λ n. n ≤ tries panel new id object) now next
+      → RaisedWithin 0 (SignaturesIn all) old next
+  asked_stopped stopped = within_part (λ (e : Envelope) n. n ≡ length e.signatures) all i new below
+      here least 0 old now next before (
+        stopped.0,
+        (
+          omega arith,
+          λ n is. let most = tries_at_most panel new id object in omega (arith, most, is, stopped.1),
+        ),
+        stopped.2,
+      ) 0 (omega arith)

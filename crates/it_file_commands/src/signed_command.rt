@@ -71,7 +71,7 @@ fn show_by<W: Write>(
         × Appends (W.contents out.old) (W.contents out.new) text) }
     ensures nothing { IfErr result (λ fault. fault ≢ Fault.Run RunFault.Write → out.new ≡ out.old) }
 {
-    let checks = OwnChecks::new(alloc, vec![in alloc; ring]?, false);
+    let checks = OwnChecks::new(alloc, vec![in alloc; ring]?, false, 0);
     Ok(run_signed_by(alloc, envelope, ids, &checks, out)?)
 }
 

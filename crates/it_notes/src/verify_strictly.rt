@@ -24,7 +24,8 @@ use std::io::Write;
 ///
 /// `Findings` where the verdict accepts and something is found. `Run` with `Write` where the report
 /// could not be written; a beginning of it went out. `Run` with `OutOfMemory` where memory was
-/// refused for the verdict, for what is found or for the report; nothing went out.
+/// refused for the verdict, for what is found or for the report, or the checks refused to check
+/// more signatures for the verdict; nothing went out.
 pub fn verify_strictly<C: Checks, W: Write, N: Write>(
     alloc: Global,
     inputs: &Inputs,

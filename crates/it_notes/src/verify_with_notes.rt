@@ -20,13 +20,14 @@ use std::io::Write;
 /// and then writes the notes on the verdict to `notes`.
 ///
 /// The answer is `Good` where the verdict accepts, and `Refused` where it refuses. The notes affect
-/// neither it nor the report: where memory is refused for them, there are none, and where they
-/// cannot be written, a beginning of them went out.
+/// neither it nor the report: where memory is refused for them, or the checks refuse to check more
+/// signatures, there are none, and where they cannot be written, a beginning of them went out.
 ///
 /// # Errors
 ///
 /// `Write` where the report could not be written; a beginning of it went out. `OutOfMemory` where
-/// memory was refused for the verdict or the report; nothing went out.
+/// memory was refused for the verdict or the report, or the checks refused to check more signatures
+/// for the verdict; nothing went out.
 pub fn verify_with_notes<C: Checks, W: Write, N: Write>(
     alloc: Global,
     inputs: &Inputs,

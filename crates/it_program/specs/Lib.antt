@@ -2,3 +2,4 @@ pub mod Commands
 pub mod Inputs
 pub mod Status
 pub mod Stopped
+pub mod inside

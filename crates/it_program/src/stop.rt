@@ -17,6 +17,10 @@ pub enum Stop {
     /// Something is found by `verify --strict`, which would have accepted the delivery otherwise.
     #[error("findings stand against the delivery, which would be accepted without --strict")]
     Findings,
+    /// More signatures would have to be checked by public keys than this many.
+    #[error("more than {0} signatures would have to be checked by public keys \
+         (--most-checks N allows more)")]
+    TooManyChecks(u64),
     /// A fault of a command, or of the words.
     #[error("{0}")]
     OfFault(Fault),

@@ -9,6 +9,7 @@ ghost use Rattle.it_limits.specs.Limit.{IsWithinLimit};
 ghost use Rattle.it_disk.specs.Faults.{IsUnreadable};
 ghost use Rattle.it_disk.specs.Reading.{AreLimited, HoldsIfGiven, HoldsRing};
 ghost use Rattle.it_program.specs.Inputs.{AreInputs, HoldsLookedAt};
+ghost use Rattle.it_program.specs.inside.Spent.{IsToldSpent};
 
 use crate::stop::Stop;
 use it_base::sequence::Sequence;
@@ -50,9 +51,27 @@ pub(crate) fn run<R: Disk + AllocGlobal, W: Write, N: Write>(
     let mut left_out = Vec::new(alloc);
     let inputs = inputs(rt, words, &mut left_out)?;
     let rings = read_rings(rt, words.rings.as_slice())?;
-    let checks = OwnChecks::new(alloc, rings, words.public_keys);
+    let checks = OwnChecks::new(alloc, rings, words.public_keys, words.most_checks);
     note_left_out(alloc, left_out.as_slice(), notes);
-    verify_as_asked(alloc, words, &inputs, &checks, out, notes)
+    let outcome = verify_as_asked(alloc, words, &inputs, &checks, out, notes);
+    told_spent(outcome, &checks, words.most_checks)
+}
+
+/// The outcome of a verification, where that of lack of memory is told as it is: that more
+/// signatures would have had to be checked.
+fn told_spent(
+    outcome: Result<Status, Stop>,
+    checks: &OwnChecks,
+    most_checks: u64,
+) -> Result<Status, Stop>
+    ensures { IsToldSpent most_checks outcome result }
+{
+    match outcome {
+        Err(Stop::OfFault(Fault::Run(RunFault::OutOfMemory))) if checks.is_spent() => {
+            Err(Stop::TooManyChecks(most_checks))
+        }
+        outcome => outcome,
+    }
 }
 
 /// Verifies the inputs by the checks, in the form and as strictly as the words ask.

@@ -26,7 +26,8 @@ pub(crate) fn signers_among<'a, C: Checks>(
 {
     let mut signers = Vec::new(alloc);
     for builder in builders {
-        if has_signed(builder, envelope, checks, meter) {
+        let signed = has_signed(builder, envelope, checks, meter)?;
+        if signed {
             signers.push(builder)?;
         }
     }

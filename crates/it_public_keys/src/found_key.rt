@@ -8,7 +8,7 @@ use std::rc::Rc;
 /// A public key that was found.
 #[derive(Drop)]
 pub enum FoundKey {
-    /// One that was decoded for this once, where memory was refused.
+    /// One that is not shared, since memory was refused. No signature is checked by it.
     Once(NamedKey),
     /// One that is held together with others who found it.
     Shared(Rc<NamedKey>),

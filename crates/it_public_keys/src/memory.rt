@@ -1,40 +1,44 @@
-//! The memory of a run.
-ghost use Rattle.std.specs.Prelude.{◌≡◌, ℕ, IfOk, IfSome, List, Some, option_map};
+//! The memory of a run, and its budget.
+ghost use Rattle.std.specs.Prelude.{◌≡◌, ◌&&◌, ℕ, IfOk, IfSome, List, [], OnErr, OnOk, Some};
+ghost use Rattle.std.specs.Prelude.{if◌then◌else◌, option_map};
 ghost use Rattle.it_dsse.specs.Joined.{joined};
 ghost use Rattle.it_dsse.specs.Meter.{raised};
+ghost use Rattle.it_dsse.specs.Signed.{is_admitted};
 ghost use Rattle.it_dsse.specs.Vouched.{is_vouched_by, tries_by};
 ghost use Rattle.it_public_keys.specs.DecodedKeys.{key_in};
 ghost use Rattle.it_public_keys.specs.NamedKeys.{is_valid_for, number_of, public_key_check};
 ghost use Rattle.it_public_keys.specs.OwnKeys.{found_key};
 ghost use Rattle.it_public_keys.specs.Validity.{is_signature_with};
+ghost use Rattle.it_public_keys.specs.inside.Questions.{check_of};
 
-use crate::asking::Asking;
+use crate::budget::Budget;
 use crate::found_key::FoundKey;
 use crate::named_key::{NamedKey, key_of};
 use crate::question::Question;
 use crate::remembered::Remembered;
-use it_dsse::check::SignatureCheck;
 use it_dsse::envelope::Signature;
 use it_dsse::key_object::KeyObject;
 use it_dsse::meter::Meter;
 use std::alloc::{AllocError, Global};
-use std::cell::RefCell;
+use std::cell::{Cell, RefCell};
 use std::rc::Rc;
 
-/// Remembers keys and answers. Where memory is refused, or there is no more room, nothing more is
-/// remembered, and the answers are the same.
+/// Remembers keys and answers, and counts the answers that are computed. Where there is no more
+/// room, nothing more is remembered, and the answers are the same.
 #[derive(Drop)]
 pub(crate) struct Memory {
     alloc: Global,
     remembered: RefCell<Remembered>,
+    budget: Cell<Budget>,
 }
 
 impl Memory {
-    /// A memory of nothing.
-    pub(crate) fn new(alloc: Global) -> Memory {
+    /// A memory of nothing, and the number of signatures that may be checked.
+    pub(crate) fn new(alloc: Global, most_checks: u64) -> Memory {
         Memory {
             alloc,
             remembered: RefCell::new(Remembered::new(alloc)),
+            budget: Cell::new(Budget::new(most_checks)),
         }
     }
 
@@ -93,47 +97,128 @@ impl Memory {
         signatures: &[Signature],
         id: &str,
         meter: &mut Meter,
-    ) -> bool
-        ensures answer { result ≡ is_vouched_by public_key_check id.now
-            (number_of (found_key key.now)) (joined message.now) signatures.now }
-        ensures counted { meter.new ≡ raised meter.old (tries_by public_key_check id.now
+    ) -> Result<bool, AllocError>
+        ensures answer { IfOk result (λ valid. valid ≡ is_vouched_by public_key_check id.now
             (number_of (found_key key.now)) (joined message.now) signatures.now) }
+        ensures counted { OnOk result (meter.new ≡ raised meter.old (tries_by public_key_check
+            id.now (number_of (found_key key.now)) (joined message.now) signatures.now)) }
+        ensures kept { OnErr result (meter.new ≡ meter.old) }
     {
-        let Ok(Some(question)) = self.question(key, message) else {
-            return key.as_key().any_valid(message, signatures, id, meter);
-        };
-        let asking = Asking {
-            memory: self,
-            question,
-        };
-        asking.any_valid(0, message, signatures, id, meter)
+        let question = self.question(key, message)?;
+        let mut tried = *meter;
+        let valid = self.any_answered(&question, signatures, id, &mut tried)?;
+        *meter = tried;
+        Ok(valid)
     }
 
-    /// What signatures of the message by the key are asked, where answers are remembered.
-    fn question(&self, key: &FoundKey, message: &[&[u8]]) -> Result<Option<Question>, AllocError>
-        ensures { IfOk result (λ found. IfSome found (λ question. (sig : List ℕ)
+    /// Whether one of the signatures is admitted for `id` and is what the question asks for. The
+    /// meter rises by the number of admitted signatures up to and including the first such one.
+    fn any_answered(
+        &self,
+        question: &Question,
+        signatures: &[Signature],
+        id: &str,
+        meter: &mut Meter,
+    ) -> Result<bool, AllocError>
+        ensures answer { IfOk result (λ valid. valid ≡ is_vouched_by (check_of question.now) id.now
+            0 [] signatures.now) }
+        ensures counted { OnOk result (meter.new ≡ raised meter.old (tries_by
+            (check_of question.now) id.now 0 [] signatures.now)) }
+    {
+        for signature in signatures {
+            let valid = self.vouches(question, signature, id, meter)?;
+            if valid {
+                return Ok(true);
+            }
+        }
+        Ok(false)
+    }
+
+    /// Whether a signature is admitted for `id` and is what the question asks for. The meter rises
+    /// by one where it is admitted.
+    fn vouches(
+        &self,
+        question: &Question,
+        signature: &Signature,
+        id: &str,
+        meter: &mut Meter,
+    ) -> Result<bool, AllocError>
+        ensures answer { IfOk result (λ valid. valid ≡ (is_admitted id.now signature.now
+            && (check_of question.now).is_valid 0 [] signature.now.sig)) }
+        ensures counted { OnOk result (meter.new ≡ raised meter.old
+            (if is_admitted id.now signature.now then 1 else 0)) }
+    {
+        if !signature.is_admitted(id) {
+            return Ok(false);
+        }
+        meter.raise();
+        self.is_valid(question, signature.sig.as_slice())
+    }
+
+    /// Whether `sig` is what the question asks for, which is computed the first time. An error
+    /// where it would have to be computed and the budget has no check left.
+    fn is_valid(&self, question: &Question, sig: &[u8]) -> Result<bool, AllocError>
+        ensures { IfOk result (λ valid. valid ≡ is_signature_with question.now.key.value
+            question.now.digest question.now.message.value.items sig.now) }
+    {
+        if let Some(valid) = self.answer(question, sig) {
+            return Ok(valid);
+        }
+        if !self.take_check() {
+            return Err(AllocError);
+        }
+        let valid = question.check(sig);
+        self.keep_answer(question, sig, valid);
+        Ok(valid)
+    }
+
+    /// Takes one check from the budget, and tells whether there was one left to take.
+    fn take_check(&self) -> bool {
+        let mut budget = self.budget.get();
+        let is_left = budget.take();
+        self.budget.set(budget);
+        is_left
+    }
+
+    /// Whether a check was refused because the budget had none left.
+    pub(crate) fn is_spent(&self) -> bool {
+        self.budget.get().is_spent()
+    }
+
+    /// What signatures of the message by the key are asked.
+    fn question(&self, key: &FoundKey, message: &[&[u8]]) -> Result<Question, AllocError>
+        ensures { IfOk result (λ question. (sig : List ℕ)
             → is_signature_with question.key.value question.digest question.message.value.items sig
-            ≡ is_valid_for (number_of (found_key key.now)) (joined message.now) sig)) }
+            ≡ is_valid_for (number_of (found_key key.now)) (joined message.now) sig) }
     {
         let FoundKey::Shared(key) = key else {
-            return Ok(None);
+            return Err(AllocError);
         };
         let (digest, part) = key.as_ref().looked_at(self.alloc, message)?;
         let part = Rc::new(self.alloc, part)?;
-        let Some((message, number)) = self.message(part) else {
-            return Ok(None);
-        };
+        let (message, number) = self.message(part)?;
         let key = key.clone()?;
-        Ok(Some(Question {
+        Ok(Question {
             key,
             digest,
             message,
             number,
-        }))
+        })
     }
 
-    /// A message as it is remembered, and its number.
-    fn message(&self, message: Rc<Vec<u8>>) -> Option<(Rc<Vec<u8>>, usize)>
+    /// A message, as it is remembered with its number where there is room for it.
+    fn message(&self, message: Rc<Vec<u8>>) -> Result<(Rc<Vec<u8>>, Option<usize>), AllocError>
+        ensures { IfOk result (λ found. found.0.value.items ≡ message.value.items) }
+    {
+        let again = message.clone()?;
+        match self.keep_message(message) {
+            Some((known, number)) => Ok((known, Some(number))),
+            None => Ok((again, None)),
+        }
+    }
+
+    /// A message as it is remembered, and its number; `None` where there is no room for it.
+    fn keep_message(&self, message: Rc<Vec<u8>>) -> Option<(Rc<Vec<u8>>, usize)>
         ensures { IfSome result (λ found. found.0.value.items ≡ message.value.items) }
     {
         let mut remembered = self.remembered.try_borrow_mut().ok()?;

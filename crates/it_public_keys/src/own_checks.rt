@@ -11,32 +11,48 @@ use it_dsse::key_name::KeyName;
 use it_dsse::key_object::KeyObject;
 use it_dsse::meter::Meter;
 use it_dsse::ring::HmacRing;
-use std::alloc::Global;
+use std::alloc::{AllocError, Global};
+
+/// How many signatures are checked by public keys at most, where no other number is asked for.
+pub const MOST_CHECKS: u64 = 20_000;
 
 /// The checks of a command: its rings, in order, and after them that of public keys, where it is
 /// asked for. A public key is decoded once, and each signature is checked once for a key, as far as
-/// there is room to remember them.
+/// there is room to remember them. No more signatures are checked by public keys than a budget
+/// allows: past it, what would need one more answers with an error. What is remembered, and what a
+/// ring checks, costs none of it.
 #[derive(Drop)]
 pub struct OwnChecks {
     /// The rings.
     pub rings: Vec<HmacRing>,
     /// Whether public keys are known.
     pub public_keys: bool,
-    /// What is remembered of public keys.
+    /// What is remembered of public keys, and the budget.
     memory: Memory,
 }
 
 impl OwnChecks {
-    /// The checks by these rings and, where they are asked for, by public keys.
-    pub fn new(alloc: Global, rings: Vec<HmacRing>, public_keys: bool) -> OwnChecks
+    /// The checks by these rings and, where they are asked for, by public keys, which check
+    /// `most_checks` signatures at most.
+    pub fn new(
+        alloc: Global,
+        rings: Vec<HmacRing>,
+        public_keys: bool,
+        most_checks: u64,
+    ) -> OwnChecks
         ensures rings { result.rings ≡ rings }
         ensures public_keys { result.public_keys ≡ public_keys }
     {
         OwnChecks {
             rings,
             public_keys,
-            memory: Memory::new(alloc),
+            memory: Memory::new(alloc, most_checks),
         }
+    }
+
+    /// Whether public keys would have had to check more signatures than they may.
+    pub fn is_spent(&self) -> bool {
+        self.memory.is_spent()
     }
 }
 
@@ -81,12 +97,13 @@ impl Checks for OwnChecks {
         signatures: &[Signature],
         id: &str,
         meter: &mut Meter,
-    ) -> bool {
+    ) -> Result<bool, AllocError> {
         match key {
             OwnKey::Ring(place, number) => {
-                any_valid(&self.rings[*place], *number, message, signatures, id, meter)
+                let ring = &self.rings[*place];
+                Ok(any_valid(ring, *number, message, signatures, id, meter))
             }
-            OwnKey::Public(key) => { self.memory.any_valid(key, message, signatures, id, meter) }
+            OwnKey::Public(key) => self.memory.any_valid(key, message, signatures, id, meter),
         }
     }
 

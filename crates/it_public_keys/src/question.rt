@@ -15,8 +15,8 @@ pub(crate) struct Question {
     pub(crate) digest: [u8; 32],
     /// The message, if the key's kind signs that, otherwise nothing.
     pub(crate) message: Rc<Vec<u8>>,
-    /// The number of that message among those that are remembered.
-    pub(crate) number: usize,
+    /// The number of that message among those that are remembered, if it is one of them.
+    pub(crate) number: Option<usize>,
 }
 
 impl Question {
@@ -30,12 +30,20 @@ impl Question {
     }
 
     /// Where the answer on a signature is remembered: bytes that differ for different questions, as
-    /// far as keys differ in the first bytes of their names.
-    pub(crate) fn place_of(&self, alloc: Global, sig: &[u8]) -> Result<Vec<u8>, AllocError> {
+    /// far as keys differ in the first bytes of their names. None where the message is not one of
+    /// those that are remembered.
+    pub(crate) fn place_of(
+        &self,
+        alloc: Global,
+        sig: &[u8],
+    ) -> Result<Option<Vec<u8>>, AllocError> {
+        let Some(number) = self.number else {
+            return Ok(None);
+        };
         let mut place = Vec::from_slice(alloc, &self.digest)?;
-        place.extend_from_slice(&self.number.to_be_bytes())?;
+        place.extend_from_slice(&number.to_be_bytes())?;
         place.extend_from_slice(self.key.front_of_name())?;
         place.extend_from_slice(sig)?;
-        Ok(place)
+        Ok(Some(place))
     }
 }

@@ -90,7 +90,7 @@ impl Remembered {
         ensures { IfSome result (λ valid. valid ≡ is_signature_with question.now.key.value
             question.now.digest question.now.message.value.items sig.now) }
     {
-        let place = question.place_of(alloc, sig).ok()?;
+        let place = question.place_of(alloc, sig).ok()??;
         let answered = self.answers.get(place.as_slice())?;
         answered.to(question, sig)
     }
@@ -109,7 +109,9 @@ impl Remembered {
         let Some(left) = self.room.checked_sub(sig.len() + ANSWER_BYTES) else {
             return Ok(());
         };
-        let place = question.place_of(alloc, sig)?;
+        let Some(place) = question.place_of(alloc, sig)? else {
+            return Ok(());
+        };
         let answered = Answered::new(alloc, question, sig, valid)?;
         self.answers.insert(place, answered)?;
         self.room = left;

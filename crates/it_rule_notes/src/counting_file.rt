@@ -100,7 +100,8 @@ fn counting_file<C: Checks>(
         return Ok(None);
     };
     let mut meter = Meter { asked: 0 };
-    if !is_signer(envelope, signer.id, signer.object, checks, &mut meter) {
+    let signed = is_signer(envelope, signer.id, signer.object, checks, &mut meter)?;
+    if !signed {
         return Ok(None);
     }
     let payload = envelope.payload.as_slice();

@@ -34,7 +34,7 @@ pub(crate) fn counting_link<C: Checks>(
     let Some(envelope) = candidate_in(file) else {
         return Ok(None);
     };
-    let Some(signer) = signer_among(envelope, signers, checks) else {
+    let Some(signer) = signer_among(envelope, signers, checks)? else {
         return Ok(None);
     };
     let Some(link) = link_for(alloc, step, envelope.payload.as_slice())? else {
@@ -50,17 +50,18 @@ fn signer_among<'s, 'a, C: Checks>(
     envelope: &Envelope,
     signers: &'s [Signer<'a>],
     checks: &C,
-) -> Option<&'s Signer<'a>>
-    ensures { IfSome result (λ signer. Contains signers.now signer.now
-        × IsSigner (C.panel checks.now) envelope.now signer.now.object.now signer.now.id.now) }
+) -> Result<Option<&'s Signer<'a>>, AllocError>
+    ensures { IfOk result (λ found. IfSome found (λ signer. Contains signers.now signer.now
+        × IsSigner (C.panel checks.now) envelope.now signer.now.object.now signer.now.id.now)) }
 {
     let mut meter = Meter { asked: 0 };
     for signer in signers {
-        if is_signer(envelope, signer.id, signer.object, checks, &mut meter) {
-            return Some(signer);
+        let signed = is_signer(envelope, signer.id, signer.object, checks, &mut meter)?;
+        if signed {
+            return Ok(Some(signer));
         }
     }
-    None
+    Ok(None)
 }
 
 /// The link that a payload is, if it has the step's name.

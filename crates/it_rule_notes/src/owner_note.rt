@@ -63,7 +63,7 @@ fn owner_note<C: Checks>(
         (id.now, object.now)) }
 {
     let mut meter = Meter { asked: 0 };
-    let signed = is_signer(envelope, id, object, checks, &mut meter);
+    let signed = is_signer(envelope, id, object, checks, &mut meter)?;
     let id = Text::copy(alloc, id)?;
     if signed {
         Ok(OwnerNote::Signed(id))

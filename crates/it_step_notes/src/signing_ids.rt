@@ -25,7 +25,8 @@ pub(crate) fn signing_ids<C: Checks>(
 {
     let mut ids = Vec::new(alloc);
     for id in at.step.pubkeys.as_slice() {
-        if is_signed_under(at.layout, envelope, id.as_str(), checks) {
+        let signed = is_signed_under(at.layout, envelope, id.as_str(), checks)?;
+        if signed {
             ids.push(Text::copy(alloc, id.as_str())?)?;
         }
     }
@@ -45,7 +46,8 @@ pub(crate) fn other_ids<C: Checks>(
 {
     let mut ids = Vec::new(alloc);
     for (id, _) in at.layout.keys.iter() {
-        if is_named_signer(at.layout, envelope, id.as_str(), checks) {
+        let signed = is_named_signer(at.layout, envelope, id.as_str(), checks)?;
+        if signed {
             ids.push(Text::copy(alloc, id.as_str())?)?;
         }
     }
@@ -53,11 +55,19 @@ pub(crate) fn other_ids<C: Checks>(
 }
 
 /// Whether the envelope is signed under a key id of the layout that one of its signatures names.
-fn is_named_signer<C: Checks>(layout: &Layout, envelope: &Envelope, id: &str, checks: &C) -> bool
-    ensures { IsTrue result
-        ↔ IsNamedSigner (C.panel checks.now) layout.now envelope.now id.now }
+fn is_named_signer<C: Checks>(
+    layout: &Layout,
+    envelope: &Envelope,
+    id: &str,
+    checks: &C,
+) -> Result<bool, AllocError>
+    ensures { IfOk result (λ signed. IsTrue signed
+        ↔ IsNamedSigner (C.panel checks.now) layout.now envelope.now id.now) }
 {
-    is_named(envelope.signatures.as_slice(), id) && is_signed_under(layout, envelope, id, checks)
+    if !is_named(envelope.signatures.as_slice(), id) {
+        return Ok(false);
+    }
+    is_signed_under(layout, envelope, id, checks)
 }
 
 /// Whether one of the signatures names a key id.
@@ -75,13 +85,13 @@ pub(crate) fn is_signed_under<C: Checks>(
     envelope: &Envelope,
     id: &str,
     checks: &C,
-) -> bool
-    ensures { IsTrue result
-        ↔ IsSignedUnder (C.panel checks.now) layout.now envelope.now id.now }
+) -> Result<bool, AllocError>
+    ensures { IfOk result (λ signed. IsTrue signed
+        ↔ IsSignedUnder (C.panel checks.now) layout.now envelope.now id.now) }
 {
     let mut meter = Meter { asked: 0 };
     match layout.keys.get(id) {
         Some(object) => is_signer(envelope, id, object, checks, &mut meter),
-        None => false,
+        None => Ok(false),
     }
 }

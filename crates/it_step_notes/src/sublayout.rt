@@ -131,7 +131,8 @@ fn signed_layout<C: Checks>(
     if envelope.payload_type.as_str() != IN_TOTO {
         return Ok(None);
     }
-    if !is_signed_under(layout, envelope, id, checks) {
+    let signed = is_signed_under(layout, envelope, id, checks)?;
+    if !signed {
         return Ok(None);
     }
     SignedLayout::in_payload(alloc, envelope.payload.as_slice())

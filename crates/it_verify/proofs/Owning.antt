@@ -122,26 +122,34 @@ module _ (panel : Panel) (envelope : Envelope) where
           (none_at_good (OwnerLacks panel envelope) Signs signs_apart asked.done asked.signed)
           lacks)
 
+      abbrev next : List (List ℕ × KeyObject)
+      next = asked.done ++ owner ∷ []
+
+      all_next : entries owners ≡ next ++ rest
+      all_next = asked.split ∙ sym (append_assoc asked.done (owner ∷ []) rest)
+
+      -- no more checks than all of the owners may ask for, where the last is not asked about to the
+      -- end
+      pub stopped_at_most : RaisedBy (λ n. n ≤ tries_of owner) now new
+          → RaisedBy (λ n. n ≤ len owners * length envelope.signatures) start new
+      stopped_at_most stopped =
+          let before = sum_by tries_of asked.done in
+          let many : len owners ≡ length next + length rest = len-entries owners
+          ∙ ap length all_next ∙ length-append next rest in
+          let few = tried_at_most next in
+          let all = sum_by_push tries_of asked.done owner in (
+            before + stopped.0,
+            rw many (omega (arith, few, all, stopped.1)),
+            stopped.2 ∙ ap (λ m. raised m stopped.0) asked.counted
+                ∙ raised_more start before stopped.0,
+          )
+
       module _ (once : new ≡ raised now (tries_of owner)) where
-        abbrev next : List (List ℕ × KeyObject)
-        next = asked.done ++ owner ∷ []
-
-        all_next : entries owners ≡ next ++ rest
-        all_next = asked.split ∙ sym (append_assoc asked.done (owner ∷ []) rest)
-
         counted_next : new ≡ raised start (sum_by tries_of next)
         counted_next =
             once ∙ ap (λ m. raised m (tries_of owner)) asked.counted
             ∙ raised_more start (sum_by tries_of asked.done) (tries_of owner)
             ∙ ap (raised start) (sym (sum_by_push tries_of asked.done owner))
-
-        -- no more checks than all of the owners may ask for
-        pub one_at_most : RaisedBy (λ n. n ≤ len owners * length envelope.signatures) start new
-        one_at_most =
-            let many : len owners ≡ length next + length rest = len-entries owners
-            ∙ ap length all_next ∙ length-append next rest in
-            let few = tried_at_most next in
-            (sum_by tries_of next, rw many (omega arith), counted_next)
 
         -- one more signed
         pub asked_more : Signs owner → Asked start new rest

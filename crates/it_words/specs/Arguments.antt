@@ -34,3 +34,10 @@ depth_option = record (plain_option (codes "depth")) {
   defaults = codes "4" ∷ [];
   parser = Some (parser.Signed (pos 0) (pos 8));
 }
+
+-- how many signatures public keys may check: 20000 where it is not said
+abbrev pub most_checks_option : Rule
+most_checks_option = record (plain_option (codes "most-checks")) {
+  defaults = codes "20000" ∷ [];
+  parser = Some (parser.Unsigned 0 18446744073709551615);
+}

@@ -4,6 +4,7 @@ use Rattle.clap.specs.Words.{App, new_app, with_rule, with_subcommand}
 use Rattle.it_words.specs.Arguments.{
   bare_option,
   depth_option,
+  most_checks_option,
   needed_option,
   needed_word,
   needed_words,
@@ -75,7 +76,7 @@ check_command =
     (plain_option (codes "layout"))
 
 -- verify --policy F --layout F --links DIR --sums F --at MOMENT, and what may be left out:
--- --ring F.. --public-keys --json --strict --provenance F --records DIR --depth N
+-- --ring F.. --public-keys --json --strict --provenance F --records DIR --depth N --most-checks N
 abbrev pub needed_of_verify : App
 needed_of_verify =
     with_rule (with_rule (with_rule (with_rule (with_rule (new_app (codes "verify"))
@@ -85,10 +86,11 @@ needed_of_verify =
 
 abbrev pub verify_command : App
 verify_command =
-    with_rule (with_rule (with_rule (with_rule (with_rule (with_rule (with_rule needed_of_verify
-    (plain_options (codes "ring"))) (bare_option (codes "public-keys")))
+    with_rule (with_rule (with_rule (with_rule (with_rule (with_rule (with_rule (with_rule
+    needed_of_verify (plain_options (codes "ring"))) (bare_option (codes "public-keys")))
     (bare_option (codes "json"))) (bare_option (codes "strict")))
-    (plain_option (codes "provenance"))) (plain_option (codes "records"))) depth_option
+    (plain_option (codes "provenance"))) (plain_option (codes "records"))) depth_option)
+    most_checks_option
 
 -- the program: a command has to be named, and no word asks for help
 abbrev pub without_command : App

@@ -2,6 +2,8 @@
 use Rattle.std.specs.Prelude.{
   ◌≡◌,
   ◌≤◌,
+  ◌<◌,
+  ◌^◌,
   ℕ,
   List,
   [],
@@ -110,6 +112,16 @@ pub record WritesDepth (text : Text) (depth : ℕ) : Type 0 where
 abbrev pub IsDepth : Option Text → ℕ → Type 0
 IsDepth given depth = MatchOption given ⊥ (λ text. WritesDepth text depth)
 
+-- the text writes this number in decimal, as a plus may stand first, and it is below 2 ^ 64
+pub record WritesNumber (text : Text) (number : ℕ) : Type 0 where
+  pub digits : IsNumeral 10 (without_leading_plus text)
+  pub number_is : number ≡ digits_value 10 (without_leading_plus text)
+  pub fits : number < 2 ^ 64
+
+-- the text is there, and writes how many signatures public keys may check
+abbrev pub IsMostChecks : Option Text → ℕ → Type 0
+IsMostChecks given most = MatchOption given ⊥ (λ text. WritesNumber text most)
+
 -- an id is given for one file alone
 abbrev pub MayBeNamed : List Text → Option Text → Type 0
 MayBeNamed files name = MatchOption name (Unit {0}) (λ id. length files ≡ 1)
@@ -155,3 +167,4 @@ pub record IsVerify (values : List Row) (words : VerifyWords) : Type 0 where
   pub provenance : first_of (codes "provenance") values ≡ words.provenance
   pub records : first_of (codes "records") values ≡ words.records
   pub depth : IsDepth (one_of (codes "depth") values) words.depth
+  pub most_checks : IsMostChecks (one_of (codes "most-checks") values) words.most_checks

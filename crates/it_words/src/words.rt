@@ -75,7 +75,8 @@ pub enum Words {
     /// one is given at least.
     Check(CheckWords),
     /// `itv verify --policy F --layout F --links DIR --sums F --at MOMENT [--ring F..]
-    /// [--public-keys] [--json] [--strict] [--provenance F] [--records DIR] [--depth N]`: whether
+    /// [--public-keys] [--json] [--strict] [--provenance F] [--records DIR] [--depth N]
+    /// [--most-checks N]`: whether
     /// delivered files were made as the owners prescribed.
     Verify(VerifyWords),
 }

@@ -52,9 +52,17 @@ fn shown_checks(alloc: Global, words: &VerifyWords) -> Result<String, AllocError
     Ok(checks)
 }
 
+/// The depth, and behind it how many signatures may be checked, if it is not 20,000.
+fn shown_limits(alloc: Global, words: &VerifyWords) -> Result<String, AllocError> {
+    if words.most_checks == 20_000 {
+        return format!(in alloc; "{}", words.depth);
+    }
+    format!(in alloc; "{} {}", words.depth, words.most_checks)
+}
+
 fn shown_verify(alloc: Global, words: &VerifyWords) -> Result<String, AllocError> {
     let checks = shown_checks(alloc, words)?;
-    let depth = format!(in alloc; "{}", words.depth)?;
+    let limits = shown_limits(alloc, words)?;
     let all = [
         "verify",
         words.policy.as_str(),
@@ -65,7 +73,7 @@ fn shown_verify(alloc: Global, words: &VerifyWords) -> Result<String, AllocError
         checks.as_str(),
         shown_or_none(&words.provenance),
         shown_or_none(&words.records),
-        depth.as_str(),
+        limits.as_str(),
     ];
     spaced(alloc, &all)
 }

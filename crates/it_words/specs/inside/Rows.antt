@@ -4,6 +4,7 @@ use Rattle.clap.specs.Words.{App, Rule, new_app, with_rule}
 use Rattle.it_words.specs.Arguments.{
   bare_option,
   depth_option,
+  most_checks_option,
   needed_option,
   needed_word,
   needed_words,
@@ -23,6 +24,7 @@ rule_of_argument (kinds.PlainOption name shown) = plain_option name.now
 rule_of_argument (kinds.PlainOptions name shown) = plain_options name.now
 rule_of_argument (kinds.BareOption name) = bare_option name.now
 rule_of_argument kinds.Depth = depth_option
+rule_of_argument kinds.MostChecks = most_checks_option
 
 -- a command
 abbrev pub app_of_row : CommandRow → App

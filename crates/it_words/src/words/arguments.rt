@@ -4,6 +4,7 @@ ghost use Rattle.clap.specs.Walk.{rule_of};
 ghost use Rattle.it_words.specs.Arguments.{
   bare_option,
   depth_option,
+  most_checks_option,
   needed_option,
   needed_word,
   needed_words,
@@ -29,6 +30,7 @@ pub(super) fn argument_of<'a>(alloc: Global, argument: &Argument) -> Arg<'a>
         Argument::PlainOptions(name, shown) => plain_options(alloc, name, shown),
         Argument::BareOption(name) => bare_option(alloc, name),
         Argument::Depth => depth_option(alloc),
+        Argument::MostChecks => most_checks_option(alloc),
     }
 }
 
@@ -91,4 +93,14 @@ fn depth_option<'a>(alloc: Global) -> Arg<'a>
     plain_option(alloc, "depth", "N")
         .value_parser(value_parser!(u8).range(0..=8))
         .default_value("4")
+}
+
+/// How many signatures public keys may check: 20,000 where it is not said.
+fn most_checks_option<'a>(alloc: Global) -> Arg<'a>
+    ensures rule { rule_of result ≡ most_checks_option }
+    ensures local { result.global ≡ false }
+{
+    plain_option(alloc, "most-checks", "N")
+        .value_parser(value_parser!(u64))
+        .default_value("20000")
 }

@@ -19,6 +19,8 @@ pub(crate) enum Argument {
     BareOption(&'static str),
     /// How deep sublayouts may lie: from 0 to 8, and 4 where it is not said.
     Depth,
+    /// How many signatures public keys may check: 20,000 where it is not said.
+    MostChecks,
 }
 
 /// A command: its name, and its arguments in the order in which they are shown.
@@ -150,5 +152,6 @@ const VERIFY: CommandRow = CommandRow {
         Argument::PlainOption("provenance", "F"),
         Argument::PlainOption("records", "DIR"),
         Argument::Depth,
+        Argument::MostChecks,
     ],
 };

@@ -18,32 +18,35 @@ pub(super) const VERIFY: Usage = Usage {
     name: "verify",
     line: "itv verify --policy F --layout F --links DIR --sums F --at MOMENT [--ring F..]
     [--public-keys] [--json] [--strict] [--provenance F] [--records DIR]
-    [--depth N]",
+    [--depth N] [--most-checks N]",
     text: "    Writes the report of the verification: the line accepted with each step and
     each file, or the line refused with the first thing that does not hold.
-      --policy F      The policy: the owners of the layout, what may be
-                      delivered, and which provenance each file must have.
-      --layout F      The envelope of the layout.
-      --links DIR     The folder of the signed links, and of the folders of
-                      sublayouts.
-      --sums F        The digest list of the delivered files, as itv digest or
-                      sha256sum writes it.
-      --at MOMENT     The moment at which no layout may have expired, as
-                      2029-12-31T00:00:00Z.
-      --ring F        A ring of secrets, at most eight of them; the first ring
-                      that has an id decides what its key is. May be left out
-                      with --public-keys.
-      --public-keys   Checks signatures by the public keys in the policy and in
-                      the layouts too, after the rings.
-      --json          Writes the report as one JSON object.
-      --strict        Refuses what would be accepted, with status 2, where
-                      something is found in the policy or in the layout, as itv
-                      check finds it, or a delivered file is tied to no step.
-      --provenance F  The provenance, one envelope a line.
-      --records DIR   The folder of the records of inspections, link bodies
-                      without envelopes.
-      --depth N       How deep sublayouts may lie, from 0 to 8; 4 where it is
-                      not given.",
+      --policy F       The policy: the owners of the layout, what may be
+                       delivered, and which provenance each file must have.
+      --layout F       The envelope of the layout.
+      --links DIR      The folder of the signed links, and of the folders of
+                       sublayouts.
+      --sums F         The digest list of the delivered files, as itv digest or
+                       sha256sum writes it.
+      --at MOMENT      The moment at which no layout may have expired, as
+                       2029-12-31T00:00:00Z.
+      --ring F         A ring of secrets, at most eight of them; the first ring
+                       that has an id decides what its key is. May be left out
+                       with --public-keys.
+      --public-keys    Checks signatures by the public keys in the policy and
+                       in the layouts too, after the rings.
+      --json           Writes the report as one JSON object.
+      --strict         Refuses what would be accepted, with status 2, where
+                       something is found in the policy or in the layout, as
+                       itv check finds it, or a delivered file is tied to no
+                       step.
+      --provenance F   The provenance, one envelope a line.
+      --records DIR    The folder of the records of inspections, link bodies
+                       without envelopes.
+      --depth N        How deep sublayouts may lie, from 0 to 8; 4 where it is
+                       not given.
+      --most-checks N  With --public-keys, how many signatures are checked by
+                       such keys at most; 20000 where it is not given.",
 };
 
 /// The usage of `itv check`.

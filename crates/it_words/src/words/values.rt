@@ -3,7 +3,7 @@ ghost use Rattle.std.specs.Prelude.{◌≡◌, ◌≢◌, List, Some, None, IfEr
 ghost use Rattle.std.specs.Prelude.{option_map, unwrap_or, []};
 ghost use Rattle.clap.specs.Words.{Row, found_of, one_of};
 ghost use Rattle.clap.specs.Walk.{all_of, count_of, first_of, rows_of};
-ghost use Rattle.it_words.specs.Values.{IsDepth};
+ghost use Rattle.it_words.specs.Values.{IsDepth, IsMostChecks};
 ghost use Rattle.it_words.specs.inside.Unfit.{FitsNone};
 ghost use Rattle.it_words.specs.declared.words.values.ValuesFault.TheVariants.{OutOfMemory};
 
@@ -140,6 +140,18 @@ impl<'v, 'a> Values<'v, 'a> {
             Ok(depth)
         } else {
             Err(ValuesFault::Unfit)
+        }
+    }
+
+    /// How many signatures public keys may check, or `Unfit` where it is not said.
+    pub(super) fn most_checks(&self) -> Result<u64, ValuesFault>
+        ensures found { IfOk result (IsMostChecks (one_of (codes "most-checks") self.now)) }
+        ensures unfit { IfErr result
+            (FitsNone (IsMostChecks (one_of (codes "most-checks") self.now))) }
+    {
+        match self.found.get_one::<u64>("most-checks") {
+            Some(most) => Ok(most),
+            None => Err(ValuesFault::Unfit),
         }
     }
 }

@@ -38,6 +38,8 @@ pub struct VerifyWords {
     pub records: Option<Text>,
     /// How deep sublayouts may lie, at most 8.
     pub depth: u8,
+    /// How many signatures public keys may check.
+    pub most_checks: u64,
 }
 
 /// The command's values, or `Unfit` where one is missing, there are more than 8 rings, or there is
@@ -64,6 +66,7 @@ pub(super) fn read(values: &Values<'_, '_>) -> Result<VerifyWords, ValuesFault>
         provenance: values.optional("provenance")?,
         records: values.optional("records")?,
         depth: values.depth()?,
+        most_checks: values.most_checks()?,
     })
 }
 

@@ -5,7 +5,8 @@ use Rattle.std.proofs.lemmas.List.Elements.{Contains-append_left, Contains-get_o
 use Rattle.std.proofs.lemmas.Result.{err_from_is_err_and}
 use Rattle.it_chain.specs.inside.Asked.{SignaturesIn}
 use Rattle.it_dsse.specs.declared.envelope.Envelope.{Envelope}
-use Rattle.it_chain.proofs.Asking.{asked_first, asked_last, asked_more, within_none}
+use Rattle.it_chain.proofs.Asking.{asked_first, asked_last, asked_more, asked_stopped}
+use Rattle.it_chain.proofs.Asking.{within_none}
 use Rattle.it_chain.proofs.Candidates.{lent_item, lent_length}
 use Rattle.it_chain.proofs.SoFar.{begun, least_first, none_so_far, one_of, passed_by, repeated}
 use Rattle.it_chain.proofs.SoFar.{two_of}
@@ -26,11 +27,11 @@ returns-in_err-signed-clause-asked g c =
     c.loop-envelope-test.true c.envelope-item.is in
     let panel = (g.C.Checking.setting c.args.checking.now).panel in
     let p = err_from_is_err_and c.from_residual.result c.from_residual.ensures.1 in
-    rw p.1 (asked_last panel c.args.signer.now.id.now c.args.signer.now.object.now
+    rw p.1 (asked_stopped panel c.args.signer.now.id.now c.args.signer.now.object.now
     c.args.envelopes.now c.loop-envelope.envelope-index c.envelope-item.result.now
     here.0 here.1 c.args.meter.now c.loop-envelope.meter
     c.signed_body.new.meter (least_first c.loop-envelope.first) c.loop-envelope.invariant.asked
-    c.signed_body.ensures.asked)
+    c.in_err-signed.ensures.at_most)
 
 pub returns-then-not-is_same_payload-clause-answer : goal.returns-then-not-is_same_payload-clause-answer
 returns-then-not-is_same_payload-clause-answer g c =
@@ -74,7 +75,7 @@ loop-envelope-preserved g c =
     take_more all i new here.0 ∙ ap (λ x. take i all ++ x ∷ [])
     (sym here.1) in
     let one_more = asked_more panel id object all i new here.0 here.1 old now next (least_first c.loop-envelope.first)
-    c.loop-envelope.invariant.asked c.signed_body.ensures.asked in
+    c.loop-envelope.invariant.asked c.in_ok-signed.ensures.asked in
     elim c.match-signed.branch [
       | in-Some+in-None w ↦
           let signs = rw w.in-Some.is at c.in_ok-signed.ensures.answer in
@@ -83,7 +84,7 @@ loop-envelope-preserved g c =
             so_far = rw more (begun panel step id object (take i all) new _ w.in-Some.key
                 w.in-Some.body refl signs (rw w.in-None.is at c.loop-envelope.invariant.so_far));
             asked = asked_first panel id object all i new here.0 here.1 old now next (least_first c.loop-envelope.first)
-                c.loop-envelope.invariant.asked c.signed_body.ensures.asked w.in-Some.key signs.0;
+                c.loop-envelope.invariant.asked c.in_ok-signed.ensures.asked w.in-Some.key signs.0;
           })
       | in-Some+in-Some-first+else-not-is_same_payload+in-Link-1 w ↦
           let same = w.is_same_payload.ensures.0 w.if-not-is_same_payload.false in
@@ -145,7 +146,7 @@ returns-then-not-is_same_payload-clause-asked g c =
     asked_last panel c.args.signer.now.id.now c.args.signer.now.object.now c.args.envelopes.now
     c.loop-envelope.envelope-index c.envelope-item.result.now here.0 here.1 c.args.meter.now c.loop-envelope.meter c.signed_body.new.meter
     (least_first c.loop-envelope.first) c.loop-envelope.invariant.asked
-    c.signed_body.ensures.asked
+    c.in_ok-signed.ensures.asked
 
 pub returns-in-None-first-clause-asked : goal.returns-in-None-first-clause-asked
 returns-in-None-first-clause-asked g c =

@@ -1,4 +1,4 @@
-use Rattle.std.proofs.Common.{Err, IfOk, Ok, Result, rules}
+use Rattle.std.proofs.Common.{◌≡◌, ◌∙◌, Err, IfOk, Ok, Result, inl, inr, rules, sym}
 use Rattle.it_program.proofs.verify_command.run.Goals as goal
 
 -- what is told of an answer in two parts
@@ -8,8 +8,8 @@ both P Q R (Ok s) join p q = join s p q
 both P Q R (Err e) join p q = tt
 
 pub returns-clause-ok : goal.returns-clause-ok
-returns-clause-ok g c =
-    both _ _ _ c.verify_as_asked.result (λ status told stands. (
+returns-clause-ok g c = elim c.told_spent.ensures [
+  | inl same ↦ rw same (both _ _ _ c.verify_as_asked-outcome.result (λ status told stands. (
       told.0,
       record {
         inputs = c.in_ok-inputs.inputs;
@@ -20,17 +20,28 @@ returns-clause-ok g c =
         stands = rw (c.new-checks.ensures.rings, c.new-checks.ensures.public_keys) at stands;
       },
       told.2,
-    )) c.verify_as_asked.ensures.ok c.verify_as_asked.ensures.stands
+    )) c.verify_as_asked-outcome.ensures.ok c.verify_as_asked-outcome.ensures.stands)
+  | inr spent ↦ rw spent.1 tt
+]
+
+pub returns-clause-nothing : goal.returns-clause-nothing
+returns-clause-nothing g c = elim c.told_spent.ensures [
+  | inl same ↦ rw same c.verify_as_asked-outcome.ensures.nothing
+  | inr spent ↦ rw spent.1 (λ other.
+      (rw spent.0 at c.verify_as_asked-outcome.ensures.nothing) (λ same. cc))
+]
 
 pub returns-clause-findings : goal.returns-clause-findings
-returns-clause-findings g c = λ is.
-    let told = c.verify_as_asked.ensures.findings is in
-    record {
-      is_strict = told.0;
-      inputs = c.in_ok-inputs.inputs;
-      are_inputs = c.in_ok-inputs.ensures;
-      rings = c.in_ok-rings.rings.items;
-      holds_rings = search rules;
-      text = told.1;
-      has_findings = rw (c.new-checks.ensures.rings, c.new-checks.ensures.public_keys) at told.2;
-    }
+returns-clause-findings g c = λ is. elim c.told_spent.ensures [
+  | inl same ↦ (let told = c.verify_as_asked-outcome.ensures.findings (sym same ∙ is) in
+      record {
+        is_strict = told.0;
+        inputs = c.in_ok-inputs.inputs;
+        are_inputs = c.in_ok-inputs.ensures;
+        rings = c.in_ok-rings.rings.items;
+        holds_rings = search rules;
+        text = told.1;
+        has_findings = rw (c.new-checks.ensures.rings, c.new-checks.ensures.public_keys) at told.2;
+      })
+  | inr spent ↦ cc (spent.1, is)
+]

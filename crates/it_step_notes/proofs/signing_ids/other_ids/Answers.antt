@@ -31,9 +31,9 @@ loop-id-preserved-in_ok-push g c =
     (ap named_entries c.in-Some.ensures.steps) in
     let names = map-append name at.0 (e ∷ []) in
     let signs : P e.0 = rw c.as_str.ensures.value at
-    (c.is_named_signer.ensures.0 c.if-is_named_signer.true) in
+    (c.in_ok-signed.ensures.0 c.if-signed.true) in
     let same : c.in_ok-copy.field-0 ≡ e.0 =
-    c.in_ok-copy.ensures ∙ c.as_str-then-is_named_signer.ensures.value in (
+    c.in_ok-copy.ensures ∙ c.as_str-then-signed.ensures.value in (
       at.0 ++ e ∷ [],
       all,
       rw (c.in_ok-push.ensures.items, same, names)
@@ -51,9 +51,9 @@ loop-id-preserved g c =
     (named_entries c.loop-id.id-iterator) (named_entries c.next.new.self) at.1
     (ap named_entries c.in-Some.ensures.steps) in
     let names = map-append name at.0 (e ∷ []) in
-    let refuses : ¬ P e.0 = λ h. (let is : c.is_named_signer.result ≡ true =
-    c.is_named_signer.ensures.1 (rw c.as_str.ensures.value h) in
-    cc (is, c.if-is_named_signer.false)) in (
+    let refuses : ¬ P e.0 = λ h. (let is =
+    c.in_ok-signed.ensures.1 (rw c.as_str.ensures.value h) in
+    cc (is, c.if-signed.false)) in (
       at.0 ++ e ∷ [],
       all,
       rw names (pass_last P (map name at.0) c.loop-id.ids.items e.0 at.2 refuses),

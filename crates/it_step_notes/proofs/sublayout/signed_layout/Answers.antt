@@ -27,7 +27,7 @@ returns g c =
         reads = found.1;
       };
       type_is = type_is;
-      signed = c.if-not-is_signed_under.ensures.0 refl;
+      signed = c.in_ok-signed.ensures.0 c.if-not-signed.false;
     })
     (λ below is.
     let same : is.is_layout.envelope ≡ envelope = envelope_same bytes is.is_layout.envelope envelope
@@ -41,14 +41,14 @@ pub returns-in_default : goal.returns-in_default
 returns-in_default g c = λ below is.
     (rw c.in_default.is at c.envelope.ensures) is.is_layout.envelope is.is_layout.is_envelope
 
-pub returns-then-not-is_signed_under : goal.returns-then-not-is_signed_under
-returns-then-not-is_signed_under g c = λ below is.
+pub returns-then-not-signed : goal.returns-then-not-signed
+returns-then-not-signed g c = λ below is.
     let panel = g.C.Checks.panel c.args.checks.now in
     let bytes = c.args.file.now.bytes in
     let envelope = c.in-Some.envelope.now in
     let reads : EnvelopeOf bytes envelope = rw c.in-Some.is at c.envelope.ensures in
     let same : is.is_layout.envelope ≡ envelope = envelope_same bytes is.is_layout.envelope envelope
     is.is_layout.is_envelope reads in
-    let signed : c.is_signed_under.result ≡ true = c.is_signed_under.ensures.1
+    let signed = c.in_ok-signed.ensures.1
     (subst (λ (e : Envelope). IsSignedUnder panel c.args.layout.now e c.args.id.now) same is.signed) in
-    cc (signed, c.if-not-is_signed_under.true)
+    cc (signed, c.if-not-signed.true)

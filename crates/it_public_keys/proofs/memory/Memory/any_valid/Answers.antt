@@ -6,15 +6,15 @@ use Rattle.it_public_keys.proofs.memory.Memory.any_valid.Goals as goal
 
 pub returns-clause-answer : goal.returns-clause-answer
 returns-clause-answer c =
-    let same = rw c.in-Ok-Some.field-0-is at c.in-Ok-Some.ensures in
-    c.any_valid-2.ensures.answer
+    let same = c.in_ok-question.ensures in
+    c.in_ok-valid.ensures.answer
     ∙ (λ i. list_any (λ signature. is_admitted c.args.id.now signature
     && same signature.sig i) c.args.signatures.now)
 
 pub returns-clause-counted : goal.returns-clause-counted
 returns-clause-counted c =
-    let same = rw c.in-Ok-Some.field-0-is at c.in-Ok-Some.ensures in
-    c.any_valid-2.ensures.counted
+    let same = c.in_ok-question.ensures in
+    c.in_ok-valid.ensures.counted
     ∙ (λ i. raised c.args.meter.now
     (first_place (λ signature. same signature.sig i)
     (filter (is_admitted c.args.id.now) c.args.signatures.now)))

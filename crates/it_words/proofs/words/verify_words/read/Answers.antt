@@ -1,4 +1,4 @@
-use Rattle.it_words.specs.Values.{IsDepth, IsVerify}
+use Rattle.it_words.specs.Values.{IsDepth, IsMostChecks, IsVerify}
 use Rattle.it_words.proofs.Unfit.{missing, part_unfit}
 use Rattle.it_words.proofs.words.verify_words.read.Goals as goal
 
@@ -31,3 +31,8 @@ pub returns-in_err-depth-clause-unfit : goal.returns-in_err-depth-clause-unfit
 returns-in_err-depth-clause-unfit c =
     part_unfit (IsVerify _) _ _ c.from_residual-in_err-depth.ensures.1 (IsDepth _)
     (λ words. words.depth) (λ words is. is.depth) c.in_err-depth.ensures.unfit
+
+pub returns-in_err-most_checks-clause-unfit : goal.returns-in_err-most_checks-clause-unfit
+returns-in_err-most_checks-clause-unfit c =
+    part_unfit (IsVerify _) _ _ c.from_residual-in_err-most_checks.ensures.1 (IsMostChecks _)
+    (λ words. words.most_checks) (λ words is. is.most_checks) c.in_err-most_checks.ensures.unfit

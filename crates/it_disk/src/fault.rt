@@ -72,6 +72,9 @@ pub enum Fault {
     /// A line of a digest list, counted from 1, is malformed or repeats a path.
     #[error("{path}: line {line} is no line of a digest list, or repeats a path")]
     BadLine { path: Shown, line: u64 },
+    /// A digest list has no line, and each one is a subject of a Statement.
+    #[error("{path} lists no file, and a Statement is about at least one")]
+    NoSubjects { path: Shown },
     /// The external parameters are no JSON object, or one that nests too deep.
     #[error("{path} is no JSON object that nests at most 124 levels deep")]
     BadParameters { path: Shown },

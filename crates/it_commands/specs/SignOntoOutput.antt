@@ -18,6 +18,7 @@ use Rattle.it_outcome.specs.declared.outcome.RunFault.TheVariants.{
   BadMaterials,
   BadProducts,
   BadSubjects,
+  NoSubjects,
   BadParameters,
 }
 
@@ -49,4 +50,5 @@ module _ (ring : List RingEntry) (id kind body bytes : List ℕ) where
   IsSignOntoFault (BadMaterials line) = ⊥
   IsSignOntoFault (BadProducts line) = ⊥
   IsSignOntoFault (BadSubjects line) = ⊥
+  IsSignOntoFault NoSubjects = ⊥
   IsSignOntoFault BadParameters = ⊥

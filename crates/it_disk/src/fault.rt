@@ -7,6 +7,7 @@ ghost use Rattle.it_disk.specs.Faults.{IsUnwritable, IsWords, SaysOfWords, fault
 ghost use Rattle.it_disk.specs.inside.Listing.{IsBadName};
 ghost use Rattle.it_disk.specs.declared.fault.Fault.TheVariants.{Run};
 
+use crate::reason::reason_of;
 use crate::ring_flaw::RingFlaw;
 use crate::shown::Shown;
 use it_base::text::Text;
@@ -72,6 +73,9 @@ pub enum Fault {
     /// A line of a digest list, counted from 1, is malformed or repeats a path.
     #[error("{path}: line {line} is no line of a digest list, or repeats a path")]
     BadLine { path: Shown, line: u64 },
+    /// A digest list has no line, and each one is a subject of a Statement.
+    #[error("{path} lists no file, and a Statement is about at least one")]
+    NoSubjects { path: Shown },
     /// The external parameters are no JSON object, or one that nests too deep.
     #[error("{path} is no JSON object that nests at most 124 levels deep")]
     BadParameters { path: Shown },
@@ -237,14 +241,5 @@ impl Fault {
             Ok(reason) => Fault::Unwritable { reason },
             Err(error) => Fault::from(error),
         }
-    }
-}
-
-/// The system's own words, without the number of the error.
-fn reason_of(alloc: Global, error: &io::Error) -> Result<String, AllocError> {
-    let text = format!(in alloc; "{error}")?;
-    match text.as_str().split_once(" (os error ") {
-        Some((reason, _)) => String::from_str(alloc, reason),
-        None => Ok(text),
     }
 }

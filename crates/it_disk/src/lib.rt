@@ -16,6 +16,7 @@ mod files;
 mod folders;
 mod left_out;
 mod listing;
+mod reason;
 mod ring_flaw;
 mod shown;
 

@@ -18,8 +18,8 @@ use std::io::Write;
 ///
 /// # Errors
 ///
-/// The fault of a file that cannot be read, of a bad line, or of bad parameters, and `Fault::Run`
-/// where the output could not be written, or memory was refused.
+/// The fault of a file that cannot be read, of a bad line, of a list without a line, or of bad
+/// parameters, and `Fault::Run` where the output could not be written, or memory was refused.
 pub fn run<R: Disk + AllocGlobal, W: Write>(
     rt: &R,
     words: &StatementWords,
@@ -65,6 +65,9 @@ fn state<W: Write>(
         Err(RunFault::BadSubjects(line)) => Err(Fault::BadLine {
             path: Shown::of(alloc, words.sums.as_str())?,
             line,
+        }),
+        Err(RunFault::NoSubjects) => Err(Fault::NoSubjects {
+            path: Shown::of(alloc, words.sums.as_str())?,
         }),
         Err(RunFault::BadParameters) => Err(bad_parameters(alloc, &words.parameters)?),
         Err(fault) => Err(Fault::Run(fault)),

@@ -1,14 +1,13 @@
 -- One more entry of a folder, with its files.
 use Rattle.std.proofs.Common.{◌≡◌, ◌∙◌, ◌∷◌, ◌++◌, ℕ, List, [], append_assoc, ap, subst, sym}
-use Rattle.std.specs.Path.{path_join}
-use Rattle.it_files_below.specs.FilesBelow.{HasFiles, HoldsFiles, and_file, and_folder}
+use Rattle.it_files_below.specs.FilesBelow.{HasFiles, HoldsFiles, and_file, and_folder, path_in}
 use Rattle.it_disk.specs.Reading.{Holdings}
 use Rattle.it_disk.specs.declared.folders.Kind.TheVariants.{File, Folder}
 use Rattle.it_disk.specs.declared.listing.Listed.{Listed}
 
 module _ (disk : Holdings) (folder path : List ℕ) (before after : List Listed) (entry : Listed)
     (found : List (List ℕ)) (more : after ≡ before ++ entry ∷ [])
-    (named : path ≡ path_join folder entry.name) (has : HasFiles disk folder before found) where
+    (named : path ≡ path_in folder entry.name) (has : HasFiles disk folder before found) where
   pub with_file : entry.kind ≡ File → HasFiles disk folder after (found ++ path ∷ [])
   with_file is =
       subst (λ entries. HasFiles disk folder entries (found ++ path ∷ [])) (sym more)

@@ -1,5 +1,6 @@
 -- The files at or below a path (this profile's choice).
-use Rattle.std.specs.Prelude.{◌≡◌, ◌↔◌, ℕ, List, [], ◌∷◌, ◌++◌, Contains}
+use Rattle.std.specs.Prelude.{◌≡◌, ◌↔◌, ℕ, List, [], ◌∷◌, ◌++◌, Contains, ◌||◌, bytes_eq, codes}
+use Rattle.std.specs.Prelude.{if◌then◌else◌}
 use Rattle.std.specs.Cmp.Lexicographic.{slice_cmp}
 use Rattle.std.specs.List.Sorted.{IsStrictlySortedBy}
 use Rattle.std.specs.Ordering.{nat_cmp}
@@ -9,16 +10,26 @@ use Rattle.it_disk.specs.declared.folders.Kind.TheVariants.{File, Folder}
 use Rattle.it_disk.specs.declared.listing.Listed.{Listed}
 use Rattle.it_disk.specs.Reading.{Holdings}
 
+-- what the paths of what a folder holds begin with: the path of the folder, but nothing for the
+-- folder in which the program runs
+abbrev pub beginning_of : List ℕ → List ℕ
+beginning_of folder =
+    if bytes_eq folder (codes ".") || bytes_eq folder (codes "./") then [] else folder
+
+-- the path of what a folder holds under a name
+abbrev pub path_in : List ℕ → List ℕ → List ℕ
+path_in folder name = path_join (beginning_of folder) name
+
 -- the files of these entries of a folder: for a file its path, and for a folder all files below it
 pub data HasFiles (disk : Holdings) : List ℕ → List Listed → List (List ℕ) → Type 0 where
   nothing : {folder : List ℕ} → HasFiles disk folder [] []
   and_file : {folder : List ℕ} {entries : List Listed} {files : List (List ℕ)}
       → HasFiles disk folder entries files → (entry : Listed) → entry.kind ≡ File
-      → HasFiles disk folder (entries ++ entry ∷ []) (files ++ path_join folder entry.name ∷ [])
+      → HasFiles disk folder (entries ++ entry ∷ []) (files ++ path_in folder entry.name ∷ [])
   and_folder : {folder : List ℕ} {entries : List Listed} {files : List (List ℕ)}
       → HasFiles disk folder entries files → (entry : Listed) → entry.kind ≡ Folder
-      → {inner : List Listed} → disk.entries (path_join folder entry.name) inner
-      → {below : List (List ℕ)} → HasFiles disk (path_join folder entry.name) inner below
+      → {inner : List Listed} → disk.entries (path_in folder entry.name) inner
+      → {below : List (List ℕ)} → HasFiles disk (path_in folder entry.name) inner below
       → HasFiles disk folder (entries ++ entry ∷ []) (files ++ below)
 
 -- the files below a folder, one after the other as the folders hold them

@@ -4,8 +4,9 @@ ghost use Rattle.std.specs.Prelude.{string_bytes};
 ghost use Rattle.std.specs.Cmp.Lexicographic.{slice_cmp};
 ghost use Rattle.std.specs.List.Sorted.{IsStrictlySortedBy};
 ghost use Rattle.std.specs.Ordering.{nat_cmp};
-ghost use Rattle.std.specs.Path.{path_join};
 ghost use Rattle.it_files_below.specs.FilesBelow.{AreBelow, AreFilesAt, AreFilesAtEach, HoldsFiles};
+ghost use Rattle.it_files_below.specs.FilesBelow.{beginning_of as beginning_of_paths};
+ghost use Rattle.it_files_below.specs.FilesBelow.{path_in as joined};
 
 use it_base::text::Text;
 use it_disk::{Disk, Fault, Kind, Shown};
@@ -114,9 +115,22 @@ fn add_file(alloc: Global, files: &mut Vec<String>, path: String) -> Result<(), 
 
 /// The path of what a folder holds under a name.
 fn path_in(alloc: Global, folder: &str, name: &str) -> Result<String, AllocError>
-    ensures { IfOk result (λ path. string_bytes path ≡ path_join folder.now name.now) }
+    ensures { IfOk result (λ path. string_bytes path ≡ joined folder.now name.now) }
 {
-    Ok(Path::new(folder).join(alloc, name)?.into_string())
+    let path = Path::new(beginning_of(folder)).join(alloc, name)?;
+    Ok(path.into_string())
+}
+
+/// What the paths of what a folder holds begin with: nothing for the folder in which the program
+/// runs, so that a list of its files names them as a delivery does.
+fn beginning_of(folder: &str) -> &str
+    ensures { result.now ≡ beginning_of_paths folder.now }
+{
+    if folder == "." || folder == "./" {
+        ""
+    } else {
+        folder
+    }
 }
 
 /// Puts paths in the order of their bytes, and keeps each once.

@@ -12,12 +12,12 @@ use Rattle.it_base.specs.Sequence.{AreEach, IsList}
 use Rattle.it_base.specs.TreeOf.{IsMembers}
 use Rattle.it_digest.specs.Artifacts.{ArtifactMap}
 use Rattle.it_digest.specs.Digest.{IsDigestSet}
-use Rattle.it_digest.specs.Sums.{SumsOf}
 use Rattle.it_digest.specs.declared.compare.DigestSet.{DigestSet}
 use Rattle.it_docs.specs.Statement.{IsStatement, IsSubject, StatementOf}
 use Rattle.it_docs.proofs.Same.{statement_same}
 use Rattle.it_making.specs.ArtifactDocuments.{digest_set_document}
-use Rattle.it_making.specs.StatementOutput.{AreParameters, IsStatementOutput, provenance_document}
+use Rattle.it_making.specs.StatementOutput.{AreParameters, AreSubjects, IsStatementOutput}
+use Rattle.it_making.specs.StatementOutput.{provenance_document}
 use Rattle.it_making.specs.StatementOutput.{statement_document, statement_of, subject_document}
 use Rattle.it_making.specs.StatementOutput.{subjects_document}
 use Rattle.it_making.specs.inside.StatementParts.{IsWritten}
@@ -84,7 +84,7 @@ given_members (Some bytes) d trees h = (h.1, h.2)
 -- a text that was written of the document is the command's output
 pub is_statement_output : (sums build_type builder : List ℕ) (given : Option (List ℕ))
     (text : List ℕ) (m : ArtifactMap) (d : Data) (trees : Fields)
-    → SumsOf sums m → AreParameters given d trees
+    → AreSubjects sums m → AreParameters given d trees
     → IsList IsSubject (subjects_document m) (values m)
     → IsWritten text (statement_document m (provenance_document build_type builder d))
     → IsStatementOutput sums build_type builder given text

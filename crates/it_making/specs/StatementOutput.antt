@@ -1,8 +1,8 @@
 -- What `itv statement` writes: a Statement (in-toto Attestation, Statement v1) that carries
 -- provenance (SLSA Provenance v1).
 use Rattle.std.specs.Prelude.{◌≡◌, ℕ, ◌≤◌, List, ◌++◌, map, codes, false, Option, Some, None}
-use Rattle.std.specs.Prelude.{Contains}
-use Rattle.std.specs.FinMap.{entries, values}
+use Rattle.std.specs.Prelude.{◌≢◌, Contains}
+use Rattle.std.specs.FinMap.{empty, entries, values}
 use Rattle.json.specs.Lex.{tokens}
 use Rattle.json.specs.Print.{print}
 use Rattle.serde_json.specs.Data.{Data, array, depth, member, no_members, object, string}
@@ -21,6 +21,7 @@ use Rattle.it_outcome.specs.declared.outcome.RunFault.TheVariants.{
   Write,
   OutOfMemory,
   BadSubjects,
+  NoSubjects,
   BadParameters,
 }
 use Rattle.it_making.specs.ArtifactDocuments.{digest_set_document}
@@ -88,6 +89,12 @@ pub record IsCompactLine (text : List ℕ) (document : Data) : Type 0 where
   pub compact : line ≡ print (tokens line)
   pub in_order : IsInOrder line document
 
+-- the digest list describes these subjects, of which there is at least one (this project's choice:
+-- a Statement without a subject attests nothing)
+pub record AreSubjects (sums : List ℕ) (subjects : ArtifactMap) : Type 0 where
+  pub listed : SumsOf sums subjects
+  pub some : subjects ≢ empty
+
 -- the text is a JSON text of the Statement of this digest list, builder, build type and parameters,
 -- on one line with no space, and reads back as that Statement and no other; where no parameter is a
 -- number with a fraction or an exponent, or past 64 bits, each byte is determined
@@ -96,7 +103,7 @@ pub record IsStatementOutput (sums build_type builder : List ℕ) (given : Optio
   pub subjects : ArtifactMap
   pub document : Data
   pub parameters : Fields
-  pub subjects_are : SumsOf sums subjects
+  pub subjects_are : AreSubjects sums subjects
   pub parameters_are : AreParameters given document parameters
   pub reads : IsDocument text
       (statement_document subjects (provenance_document build_type builder document))
@@ -108,13 +115,14 @@ pub record IsStatementOutput (sums build_type builder : List ℕ) (given : Optio
   pub only : (other : Statement) → StatementOf text other
       → other ≡ statement_of subjects build_type builder parameters
 
--- why the command stops: a bad line of the subjects, otherwise bad parameters, or a fault that any
--- command may have
+-- why the command stops: a bad line of the subjects, otherwise no subject or bad parameters, or a
+-- fault that any command may have
 abbrev pub IsStatementFault : (sums : List ℕ) → Option (List ℕ) → RunFault → Type 0
 IsStatementFault sums given Write = Unit {0}
 IsStatementFault sums given OutOfMemory = Unit {0}
 IsStatementFault sums given (BadSubjects line) = IsFirstBadLine sums line
+IsStatementFault sums given NoSubjects = SumsOf sums empty
 IsStatementFault sums given BadParameters =
-    ((subjects : ArtifactMap) × SumsOf sums subjects)
+    ((subjects : ArtifactMap) × AreSubjects sums subjects)
     × ((d : Data) (parameters : Fields) → ¬ AreParameters given d parameters)
 IsStatementFault sums given other = ⊥

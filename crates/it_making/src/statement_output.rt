@@ -7,9 +7,8 @@ ghost use Rattle.std.specs.Option.{option_copied};
 ghost use Rattle.serde_json.specs.View.{view};
 ghost use Rattle.it_base.specs.Sequence.{IsList};
 ghost use Rattle.it_base.specs.Writing.{AppendsBeginning};
-ghost use Rattle.it_digest.specs.Sums.{SumsOf};
 ghost use Rattle.it_docs.specs.Statement.{IsSubject};
-ghost use Rattle.it_making.specs.StatementOutput.{IsStatementFault, IsStatementOutput};
+ghost use Rattle.it_making.specs.StatementOutput.{AreSubjects, IsStatementFault, IsStatementOutput};
 ghost use Rattle.it_making.specs.StatementOutput.{provenance_document, statement_document};
 ghost use Rattle.it_making.specs.StatementOutput.{subjects_document};
 ghost use Rattle.it_making.specs.inside.StatementParts.{IsSubjectsFault, IsWritten};
@@ -27,7 +26,7 @@ use std::io::Write;
 /// What a Statement is made of.
 #[derive(Clone, Copy)]
 pub struct StatementParts<'a> {
-    /// The bytes of a digest list, with a line for each subject; no bytes mean the empty list.
+    /// The bytes of a digest list, with a line for each subject.
     pub subjects: &'a [u8],
     /// The kind of build.
     pub build_type: &'a str,
@@ -46,10 +45,10 @@ pub struct StatementParts<'a> {
 ///
 /// # Errors
 ///
-/// `BadSubjects` with the first bad line of the subjects, and, where they are good, `BadParameters`
-/// where the parameters are not a JSON object, or nest deeper than 124 levels; `OutOfMemory` where
-/// memory was refused. Nothing went out in these cases. `Write` where the output could not be
-/// written; a beginning of it went out.
+/// `BadSubjects` with the first bad line of the subjects, and, where they are good, `NoSubjects`
+/// where there is none, and then `BadParameters` where the parameters are not a JSON object, or
+/// nest deeper than 124 levels; `OutOfMemory` where memory was refused. Nothing went out in these
+/// cases. `Write` where the output could not be written; a beginning of it went out.
 pub fn run_statement<W: Write>(
     alloc: Global,
     parts: &StatementParts<'_>,
@@ -85,11 +84,13 @@ fn statement_text(alloc: Global, parts: &StatementParts<'_>) -> Result<Vec<u8>, 
     Ok(text)
 }
 
+/// The subjects of a digest list, at least one.
 fn subjects_of(alloc: Global, bytes: &[u8]) -> Result<Artifacts, RunFault>
-    ensures ok { IfOk result (SumsOf bytes.now) }
+    ensures ok { IfOk result (AreSubjects bytes.now) }
     ensures err { IfErr result (IsSubjectsFault bytes.now) }
 {
     match read_sums(alloc, bytes) {
+        Ok(sums) if sums.is_empty() => Err(RunFault::NoSubjects),
         Ok(sums) => Ok(sums),
         Err(SumsFault::BadSums(line)) => Err(RunFault::BadSubjects(line)),
         Err(SumsFault::OutOfMemory) => Err(RunFault::OutOfMemory),

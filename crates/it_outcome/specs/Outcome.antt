@@ -15,6 +15,7 @@ use Rattle.it_outcome.specs.declared.outcome.RunFault.TheVariants.{
   BadMaterials,
   BadProducts,
   BadSubjects,
+  NoSubjects,
   BadParameters,
 }
 
@@ -33,6 +34,7 @@ exit_status (Err OtherType) = 2
 exit_status (Err (BadMaterials line)) = 2
 exit_status (Err (BadProducts line)) = 2
 exit_status (Err (BadSubjects line)) = 2
+exit_status (Err NoSubjects) = 2
 exit_status (Err BadParameters) = 2
 
 -- a fault that every command may have: its output could not be written, or memory was refused
@@ -48,4 +50,5 @@ IsOutputFault OtherType = ⊥
 IsOutputFault (BadMaterials line) = ⊥
 IsOutputFault (BadProducts line) = ⊥
 IsOutputFault (BadSubjects line) = ⊥
+IsOutputFault NoSubjects = ⊥
 IsOutputFault BadParameters = ⊥

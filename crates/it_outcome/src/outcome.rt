@@ -52,6 +52,9 @@ pub enum RunFault {
     /// This line of the subjects, counted from 1, is not one of a digest list, or repeats a path.
     #[error("line {0} of the subjects is no line of a digest list, or repeats a path")]
     BadSubjects(u64),
+    /// There is no subject.
+    #[error("there is no subject")]
+    NoSubjects,
     /// The external parameters are not a JSON object, or nest more than 124 levels deep.
     #[error("the external parameters are no JSON object that nests at most 124 levels deep")]
     BadParameters,

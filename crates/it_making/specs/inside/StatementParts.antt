@@ -6,11 +6,13 @@ use Rattle.serde_json.specs.Read.{max_depth}
 use Rattle.serde_json.specs.Written.{compact_text, has_float}
 use Rattle.it_base.specs.Document.{IsDocument}
 use Rattle.it_base.specs.Json.{Fields}
-use Rattle.it_digest.specs.Sums.{IsFirstBadLine}
+use Rattle.std.specs.FinMap.{empty}
+use Rattle.it_digest.specs.Sums.{IsFirstBadLine, SumsOf}
 use Rattle.it_outcome.specs.declared.outcome.RunFault.{RunFault}
 use Rattle.it_outcome.specs.declared.outcome.RunFault.TheVariants.{
   OutOfMemory,
   BadSubjects,
+  NoSubjects,
   BadParameters,
 }
 use Rattle.it_making.specs.StatementOutput.{AreParameters, IsCompactLine}
@@ -23,6 +25,7 @@ GivesParameters given d = (parameters : Fields) × AreParameters given d paramet
 abbrev pub IsSubjectsFault : List ℕ → RunFault → Type 0
 IsSubjectsFault bytes OutOfMemory = Unit {0}
 IsSubjectsFault bytes (BadSubjects line) = IsFirstBadLine bytes line
+IsSubjectsFault bytes NoSubjects = SumsOf bytes empty
 IsSubjectsFault bytes other = ⊥
 
 -- why parameters are not read

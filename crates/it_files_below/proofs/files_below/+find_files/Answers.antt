@@ -1,8 +1,7 @@
 use Rattle.std.proofs.Common.{◌≡◌, ◌∙◌, ◌+◌, ◌∷◌, ◌++◌, [], ap, append-nil, map, string_bytes}
 use Rattle.std.proofs.Common.{sym, take}
 use Rattle.std.proofs.lemmas.List.{take_more}
-use Rattle.std.specs.Path.{path_join}
-use Rattle.it_files_below.specs.FilesBelow.{nothing}
+use Rattle.it_files_below.specs.FilesBelow.{nothing, path_in}
 use Rattle.it_files_below.proofs.FilesFound.{added_more, with_file, with_folder}
 use Rattle.it_files_below.proofs.files_below.+find_files.Goals as goal
 use Rattle.it_files_below.proofs.files_below.+find_files.Goals.{in-File+in_ok-add_file-in-File}
@@ -21,8 +20,8 @@ loop-entry-preserved g t c =
     take_more entries i entry c.loop-entry-test.true
     ∙ ap (λ x. take i entries ++ x ∷ []) (sym c.entry-item.is) in
     let path = string_bytes c.in_ok-path.path in
-    let named : path ≡ path_join c.args.folder.now entry.name = c.in_ok-path.ensures
-    ∙ ap (path_join c.args.folder.now) c.as_str.ensures in
+    let named : path ≡ path_in c.args.folder.now entry.name = c.in_ok-path.ensures
+    ∙ ap (path_in c.args.folder.now) c.as_str.ensures in
     elim c.match-entry.branch [
       | in-File+in_ok-add_file-in-File w ↦ (
         before.0 ++ path ∷ [],

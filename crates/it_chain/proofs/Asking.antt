@@ -49,14 +49,6 @@ within_then l k least P Q R old now new less parts h j = (
   j.2 ∙ ap (λ m. raised m j.0) h.2 ∙ raised_more old h.0 j.0,
 )
 
--- nothing was tried, or all that may be
-pub tried_nothing : (most : ℕ) (old new : Meter) → new ≡ old → RaisedBy (λ n. n ≤ most) old new
-tried_nothing most old new same = (0, omega arith, same ∙ sym (raised-zero old))
-
-pub tried_each : (most : ℕ) (old new : Meter) → new ≡ raised old most
-    → RaisedBy (λ n. n ≤ most) old new
-tried_each most old new counted = (most, omega arith, counted)
-
 -- ---- calls in a loop
 module _ {X : Type 0} (ChainCosts : X → ℕ → Type 0) where
   pub sum_last : (xs : List X) (x : X) (n : ℕ) → IsSum ChainCosts (xs ++ x ∷ []) n → (a : ℕ)

@@ -31,7 +31,7 @@ returns-in_err-signed-clause-asked g c =
     c.args.envelopes.now c.loop-envelope.envelope-index c.envelope-item.result.now
     here.0 here.1 c.args.meter.now c.loop-envelope.meter
     c.signed_body.new.meter (least_first c.loop-envelope.first) c.loop-envelope.invariant.asked
-    c.in_err-signed.ensures.at_most)
+    c.signed_body.ensures.at_most)
 
 pub returns-then-not-is_same_payload-clause-answer : goal.returns-then-not-is_same_payload-clause-answer
 returns-then-not-is_same_payload-clause-answer g c =

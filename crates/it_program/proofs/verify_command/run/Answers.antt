@@ -10,17 +10,17 @@ both P Q R (Err e) join p q = tt
 pub returns-clause-ok : goal.returns-clause-ok
 returns-clause-ok g c = elim c.told_spent.ensures [
   | inl same ↦ rw same (both _ _ _ c.verify_as_asked-outcome.result (λ status told stands. (
-      told.0,
-      record {
-        inputs = c.in_ok-inputs.inputs;
-        are_inputs = c.in_ok-inputs.ensures;
-        rings = c.in_ok-rings.rings.items;
-        holds_rings = search rules;
-        is_output = rw (c.new-checks.ensures.rings, c.new-checks.ensures.public_keys) at told.1;
-        stands = rw (c.new-checks.ensures.rings, c.new-checks.ensures.public_keys) at stands;
-      },
-      told.2,
-    )) c.verify_as_asked-outcome.ensures.ok c.verify_as_asked-outcome.ensures.stands)
+    told.0,
+    record {
+      inputs = c.in_ok-inputs.inputs;
+      are_inputs = c.in_ok-inputs.ensures;
+      rings = c.in_ok-rings.rings.items;
+      holds_rings = search rules;
+      is_output = rw (c.new-checks.ensures.rings, c.new-checks.ensures.public_keys) at told.1;
+      stands = rw (c.new-checks.ensures.rings, c.new-checks.ensures.public_keys) at stands;
+    },
+    told.2,
+  )) c.verify_as_asked-outcome.ensures.ok c.verify_as_asked-outcome.ensures.stands)
   | inr spent ↦ rw spent.1 tt
 ]
 

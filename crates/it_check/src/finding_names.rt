@@ -1,8 +1,10 @@
 //! The names of findings.
 ghost use Rattle.std.specs.Prelude.{◌≡◌};
-ghost use Rattle.it_check.specs.FindingName.{name_of, null_name as null_name_form};
+ghost use Rattle.it_check.specs.FindingName.{member_name as member_name_form, name_of};
+ghost use Rattle.it_check.specs.FindingName.{null_name as null_name_form};
 
 use it_findings::finding::Finding;
+use it_findings::member_finding::MemberFinding;
 use it_findings::null_key::KeyList;
 
 /// The name of a finding. Takes no memory.
@@ -22,6 +24,16 @@ pub fn finding_name(finding: &Finding) -> &'static str
         Finding::UnreachableLevel { .. } => "unreachable-level",
         Finding::NoThreshold(_) => "no-threshold",
         Finding::NullKey(key) => null_name(key.list),
+        Finding::Member(finding) => member_name(finding),
+    }
+}
+
+fn member_name(finding: &MemberFinding) -> &'static str
+    ensures { result.now ≡ member_name_form finding.now }
+{
+    match finding {
+        MemberFinding::Unread { .. } => "unread-member",
+        MemberFinding::PrivateKey(_) => "private-key",
     }
 }
 

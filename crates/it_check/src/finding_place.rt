@@ -1,12 +1,18 @@
 //! Where findings are.
 ghost use Rattle.std.specs.Prelude.{◌≡◌, ◌++◌, OnOk};
 ghost use Rattle.it_check.specs.FindingPlace.{document_of, document_of_keys as keys_document};
+ghost use Rattle.it_check.specs.FindingPlace.{document_of_member as member_document};
+ghost use Rattle.it_check.specs.FindingPlace.{document_of_place as place_document};
 ghost use Rattle.it_check.specs.FindingPlace.{document_of_rules as rules_document, pointer_of};
+ghost use Rattle.it_findings.specs.KeyPlaces.{list_of};
 
+use crate::member_pointers::push_member;
 use crate::pointer_form::PointerForm;
 use crate::pointers::{push_expectation, push_key, push_list, push_rule, push_step, push_step_key};
 use it_findings::finding::{Finding, RuleList};
+use it_findings::member_finding::MemberFinding;
 use it_findings::null_key::KeyList;
+use it_findings::place::{KeyPlace, Place};
 use std::alloc::AllocError;
 
 /// The document that a finding is in: `policy` or `layout`. Takes no memory.
@@ -22,6 +28,7 @@ pub fn finding_document(finding: &Finding) -> &'static str
         Finding::NoBuilders(_) | Finding::NoLevel(_) => "policy",
         Finding::UnreachableLevel { .. } => "policy",
         Finding::NullKey(key) => document_of_keys(key.list),
+        Finding::Member(finding) => document_of_member(finding),
     }
 }
 
@@ -32,6 +39,31 @@ fn document_of_rules(list: &RuleList) -> &'static str
         RuleList::Deliver => "policy",
         RuleList::OfStep { .. } | RuleList::OfInspection { .. } => "layout",
     }
+}
+
+fn document_of_member(finding: &MemberFinding) -> &'static str
+    ensures { result.now ≡ member_document finding.now }
+{
+    match finding {
+        MemberFinding::Unread { place, .. } => document_of_place(place),
+        MemberFinding::PrivateKey(key) => document_of_key(key),
+    }
+}
+
+fn document_of_place(place: &Place) -> &'static str
+    ensures { result.now ≡ place_document place.now }
+{
+    match place {
+        Place::Policy | Place::Expectation(_) | Place::Builder { .. } => "policy",
+        Place::Layout | Place::Step(_) | Place::Inspection(_) => "layout",
+        Place::Key(key) | Place::KeyValue(key) => document_of_key(key),
+    }
+}
+
+fn document_of_key(key: &KeyPlace) -> &'static str
+    ensures { result.now ≡ keys_document (list_of key.now) }
+{
+    document_of_keys(key.list())
 }
 
 fn document_of_keys(list: KeyList) -> &'static str
@@ -67,5 +99,6 @@ pub fn push_pointer(
         Finding::UnreachableLevel { place, .. } => push_expectation(text, *place, "/level"),
         Finding::NoThreshold(place) => push_step(text, *place, "/threshold"),
         Finding::NullKey(key) => push_key(text, form, key.list, &key.id),
+        Finding::Member(finding) => push_member(text, form, finding),
     }
 }

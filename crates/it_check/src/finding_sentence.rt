@@ -3,6 +3,7 @@ ghost use Rattle.std.specs.Prelude.{◌≡◌, ◌++◌, OnOk};
 ghost use Rattle.it_check.specs.FindingSentence.{sentence_of};
 
 use crate::expectation_sentences::{push_no_builders, push_no_level, push_unreachable_level};
+use crate::member_sentences::push_on_member;
 use crate::null_key_sentence::push_null_key;
 use crate::rule_sentences::{push_no_rules, push_open_rules, push_parameter, push_unknown_item};
 use crate::step_key_sentences::{
@@ -39,5 +40,6 @@ pub fn push_sentence(text: &mut Vec<u8>, finding: &Finding) -> Result<(), AllocE
         }
         Finding::NoThreshold(place) => push_no_threshold(text, *place),
         Finding::NullKey(key) => push_null_key(text, key),
+        Finding::Member(finding) => push_on_member(text, finding),
     }
 }

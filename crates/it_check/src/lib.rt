@@ -9,6 +9,8 @@ mod finding_names;
 mod finding_place;
 mod finding_sentence;
 mod found;
+mod member_pointers;
+mod member_sentences;
 mod null_key_sentence;
 mod part_notes;
 pub mod pointer_form;

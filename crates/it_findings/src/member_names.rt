@@ -1,12 +1,12 @@
 //! The names of the members that have a meaning at a place.
 ghost use Rattle.std.specs.Prelude.{◌≡◌, map};
-ghost use Rattle.it_member_notes.specs.MemberNames.{known_names as known_at};
-ghost use Rattle.it_member_notes.specs.MemberNames.{read_names as read_at};
+ghost use Rattle.it_findings.specs.MemberNames.{known_names as known_at};
+ghost use Rattle.it_findings.specs.MemberNames.{read_names as read_at};
 
 use crate::place::Place;
 
 /// The names of the members that are looked at. Takes no memory.
-pub(crate) fn read_names(place: &Place) -> &'static [&'static str]
+pub fn read_names(place: &Place) -> &'static [&'static str]
     ensures { map (λ name. name.now) result.now ≡ read_at place.now }
 {
     match place {
@@ -36,7 +36,7 @@ pub(crate) fn read_names(place: &Place) -> &'static [&'static str]
 
 /// The names of further members that in-toto 1.0 or its implementations know and that are not
 /// looked at. Takes no memory.
-pub(crate) fn known_names(place: &Place) -> &'static [&'static str]
+pub fn known_names(place: &Place) -> &'static [&'static str]
     ensures { map (λ name. name.now) result.now ≡ known_at place.now }
 {
     match place {

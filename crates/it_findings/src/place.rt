@@ -1,7 +1,8 @@
 //! The places, in a policy or a layout, of objects whose members have a meaning.
 ghost use Rattle.std.specs.Prelude.{◌≡◌, IfOk};
-ghost use Rattle.it_member_notes.specs.Places.{id_of};
+ghost use Rattle.it_findings.specs.KeyPlaces.{id_of, list_of};
 
+use crate::null_key::KeyList;
 use it_base::text::Text;
 use std::alloc::{AllocError, Global};
 
@@ -79,12 +80,30 @@ impl Place {
 
 impl KeyPlace {
     /// The id under which the key object stands. Takes no memory.
-    pub(crate) fn id(&self) -> &str
+    pub fn id(&self) -> &Text
         ensures { result.now ≡ id_of self.now }
     {
         match self {
-            KeyPlace::Owner(id) | KeyPlace::Layout(id) => id.as_str(),
-            KeyPlace::Builder { id, .. } => id.as_str(),
+            KeyPlace::Owner(id) | KeyPlace::Layout(id) => id,
+            KeyPlace::Builder { id, .. } => id,
+        }
+    }
+
+    /// The list in which the key object stands. Takes no memory.
+    pub fn list(&self) -> KeyList
+        ensures { result ≡ list_of self.now }
+    {
+        match self {
+            KeyPlace::Owner(_) => KeyList::Owners,
+            KeyPlace::Builder {
+                expectation,
+                builder,
+                ..
+            } => KeyList::OfBuilder {
+                expectation: *expectation,
+                builder: *builder,
+            },
+            KeyPlace::Layout(_) => KeyList::OfLayout,
         }
     }
 

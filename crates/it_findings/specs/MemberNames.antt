@@ -1,9 +1,9 @@
 -- The names of the members that have a meaning at a place.
 use Rattle.std.specs.Prelude.{ℕ, List, [], ◌∷◌, codes}
-use Rattle.it_member_notes.specs.declared.place.Place.{Place}
-use Rattle.it_member_notes.specs.declared.place.Place.TheVariants.{Policy, Expectation, Builder}
-use Rattle.it_member_notes.specs.declared.place.Place.TheVariants.{Layout, Step, Inspection, Key}
-use Rattle.it_member_notes.specs.declared.place.Place.TheVariants.{KeyValue}
+use Rattle.it_findings.specs.declared.place.Place.{Place}
+use Rattle.it_findings.specs.declared.place.Place.TheVariants.{Policy, Expectation, Builder}
+use Rattle.it_findings.specs.declared.place.Place.TheVariants.{Layout, Step, Inspection, Key}
+use Rattle.it_findings.specs.declared.place.Place.TheVariants.{KeyValue}
 
 -- the members that are looked at: those of policies are this profile's choice, those of layouts and
 -- keys are in in-toto 1.0 sections 4.2 and 4.3

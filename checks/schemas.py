@@ -2,7 +2,7 @@
 """Checks docs/policy.schema.json and docs/layout.schema.json against what itv reads.
 
 At each place of a policy or a layout the schema must have just the members that the definitions of
-crates/it_member_notes know there, and require none that these do not read. The policies and layouts
+crates/it_findings know there, and require none that these do not read. The policies and layouts
 of the examples must be as the schemas say. A policy or a layout of a whole verification that is as
 its schema says must read, but for what no schema can say: that names differ, that a date exists,
 and how deep JSON is nested.
@@ -19,7 +19,7 @@ sys.path.insert(0, str(tree.TOP / "conformance"))
 from on_disk import bytes_of
 
 DOCS = tree.TOP / "docs"
-NAMES = tree.TOP / "crates" / "it_member_notes" / "specs" / "MemberNames.antt"
+NAMES = tree.TOP / "crates" / "it_findings" / "specs" / "MemberNames.antt"
 CASES = [tree.TOP / place / "data" / "cases" for place in ("conformance", "crates/itv_cases")]
 # Where the schemas say what the definitions say of a place.
 PLACES = {"Policy": ("policy", ""), "Expectation": ("policy", "expectation"),

@@ -6,6 +6,7 @@ use Rattle.it_findings.specs.LayoutFindings.{LayoutFindings}
 use Rattle.it_findings.specs.PolicyFindings.{PolicyFindings}
 use Rattle.it_findings.specs.declared.finding.Finding.{Finding}
 use Rattle.it_findings.specs.declared.finding.Finding.TheVariants as findings
+use Rattle.it_findings.specs.declared.member_finding.MemberFinding.{MemberFinding}
 use Rattle.it_findings.specs.declared.null_key.NullKey.{NullKey}
 use Rattle.it_report.specs.Report.{report_of}
 use Rattle.it_report.specs.declared.verdict.Verdict.TheVariants.{Refused as refused_for}
@@ -20,7 +21,7 @@ use Rattle.it_check.specs.declared.documents.PolicyReading.TheVariants as polici
 
 -- the layout, where one was read
 abbrev pub layout_read : Option LayoutReading → Option Layout
-layout_read (Some (layouts.Read layout nulls places)) = Some layout
+layout_read (Some (layouts.Read layout nulls places members)) = Some layout
 layout_read reading = None
 
 -- what is found: these first, and then all others
@@ -30,31 +31,39 @@ pub record IsFound (first : List Finding) (Others : List Finding → Type 0) (fo
   pub found_are : found ≡ first ++ others
   pub others_are : Others others
 
--- what is found in a layout first: the keys that are null, and then the steps without a threshold
-abbrev pub gaps_of : List NullKey → List ℕ → List Finding
-gaps_of nulls places = map findings.NullKey nulls ++ map findings.NoThreshold places
+-- what is found in a policy first: in its members, and then the keys that are null
+abbrev pub policy_gaps : List MemberFinding → List NullKey → List Finding
+policy_gaps members nulls = map findings.Member members ++ map findings.NullKey nulls
+
+-- what is found in a layout first: in its members, then the keys that are null, and then the steps
+-- without a threshold
+abbrev pub layout_gaps : List MemberFinding → List NullKey → List ℕ → List Finding
+layout_gaps members nulls places =
+    map findings.Member members ++ (map findings.NullKey nulls ++ map findings.NoThreshold places)
 
 -- what is found in the policy, which takes from what the layout has, and in the layout
 abbrev pub PolicyFound : Option Layout → Option PolicyReading → List Finding → Type 0
-PolicyFound layout (Some (policies.Read policy nulls)) found =
-    IsFound (map findings.NullKey nulls) (PolicyFindings layout policy) found
+PolicyFound layout (Some (policies.Read policy nulls members)) found =
+    IsFound (policy_gaps members nulls) (PolicyFindings layout policy) found
 PolicyFound layout reading found = found ≡ []
 
 abbrev pub LayoutFound : Option LayoutReading → List Finding → Type 0
-LayoutFound (Some (layouts.Read layout nulls places)) found =
-    IsFound (gaps_of nulls places) (LayoutFindings layout) found
+LayoutFound (Some (layouts.Read layout nulls places members)) found =
+    IsFound (layout_gaps members nulls places) (LayoutFindings layout) found
 LayoutFound reading found = found ≡ []
 
 -- what is written of the policy: the lines of what is found, or the report of its refusal
 abbrev pub policy_text : Option PolicyReading → List Finding → List ℕ
 policy_text None found = []
-policy_text (Some (policies.Read policy nulls)) found = findings_text (codes "policy") found
+policy_text (Some (policies.Read policy nulls members)) found =
+    findings_text (codes "policy") found
 policy_text (Some (policies.Bad refusal)) found = report_of (refused_for refusal)
 
 -- the same of the layout
 abbrev pub layout_text : Option LayoutReading → List Finding → List ℕ
 layout_text None found = []
-layout_text (Some (layouts.Read layout nulls places)) found = findings_text (codes "layout") found
+layout_text (Some (layouts.Read layout nulls places members)) found =
+    findings_text (codes "layout") found
 layout_text (Some (layouts.Bad refusal)) found = report_of (refused_for refusal)
 
 -- the first line where there is a layout

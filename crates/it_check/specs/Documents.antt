@@ -14,6 +14,7 @@ use Rattle.it_docs.specs.Policy.{PolicyOf}
 use Rattle.it_docs.specs.PolicyPart.{PolicyPartOf}
 use Rattle.it_docs.specs.declared.layout_fault.LayoutPart.{LayoutPart}
 use Rattle.it_docs.specs.declared.policy_fault.PolicyPart.{PolicyPart}
+use Rattle.it_findings.specs.Members.{LayoutMembers, MembersOf, PolicyMembers}
 use Rattle.it_findings.specs.NoThresholds.{NoThresholdsOf}
 use Rattle.it_findings.specs.NullKeys.{LayoutNulls, NullsOf, PolicyNulls}
 use Rattle.it_report.specs.declared.refusal.Fault.{Fault}
@@ -29,11 +30,12 @@ use Rattle.it_check.specs.declared.documents.PolicyReading.TheVariants as polici
 abbrev pub whole : Fault → Refusal
 whole fault = record { at = []; fault = fault }
 
--- the bytes are a policy, with these keys that are null, or this refuses them for the first part
--- that fails
+-- the bytes are a policy, with these keys that are null and with this in its members, or this
+-- refuses them for the first part that fails
 abbrev pub IsPolicyReading : List ℕ → PolicyReading → Type 0
-IsPolicyReading bytes (policies.Read policy nulls) =
+IsPolicyReading bytes (policies.Read policy nulls members) =
     PolicyOf bytes policy × NullsOf PolicyNulls bytes nulls
+    × MembersOf PolicyMembers bytes members
 IsPolicyReading bytes (policies.Bad refusal) =
     (part : PolicyPart) × PolicyPartOf bytes part × (refusal ≡ whole (BadPolicy part))
 
@@ -72,11 +74,12 @@ pub record HasOtherType (bytes : List ℕ) : Type 0 where
   pub is_envelope : EnvelopeOf bytes envelope
   pub other : envelope.payload_type ≢ in_toto_type
 
--- the body is a layout, with these keys that are null and these places of steps without a
--- threshold, or this refuses it for the first part that fails
+-- the body is a layout, with these keys that are null, these places of steps without a threshold
+-- and with this in its members, or this refuses it for the first part that fails
 abbrev pub IsBodyReading : List ℕ → LayoutReading → Type 0
-IsBodyReading body (layouts.Read layout nulls places) =
+IsBodyReading body (layouts.Read layout nulls places members) =
     LayoutOf body layout × NullsOf LayoutNulls body nulls × NoThresholdsOf body places
+    × MembersOf LayoutMembers body members
 IsBodyReading body (layouts.Bad refusal) =
     (part : LayoutPart) × LayoutPartOf body part × (refusal ≡ whole (BadLayout part))
 

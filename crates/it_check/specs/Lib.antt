@@ -1,7 +1,12 @@
 pub mod CheckOutput
 pub mod Documents
-pub mod ExpectationLine
+pub mod ExpectationSentence
 pub mod FindingLine
-pub mod NullKeyLine
+pub mod FindingName
+pub mod FindingPlace
+pub mod FindingSentence
+pub mod MemberSentence
+pub mod NullKeySentence
 pub mod Pieces
-pub mod StepKeyLine
+pub mod RuleSentence
+pub mod StepKeySentence

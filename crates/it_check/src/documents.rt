@@ -16,8 +16,9 @@ use it_docs::policy_fault::PolicyFault;
 use it_docs::policy_reading::read_policy;
 use it_dsse::envelope::Envelope;
 use it_dsse::payload_type::IN_TOTO;
+use it_findings::member_finding::MemberFinding;
 use it_findings::null_key::NullKey;
-use it_findings::{layout_nulls, no_thresholds, policy_nulls};
+use it_findings::{layout_members, layout_nulls, no_thresholds, policy_members, policy_nulls};
 use it_report::refusal::{Fault, Refusal};
 use serde_json::Value;
 use std::alloc::{AllocError, Global};
@@ -25,12 +26,14 @@ use std::alloc::{AllocError, Global};
 /// What the bytes of a policy read as.
 #[derive(Drop)]
 pub enum PolicyReading {
-    /// A policy, and its keys that are null.
+    /// A policy, its keys that are null, and what is found in its members.
     Read {
         /// The policy.
         policy: Policy,
         /// The key ids under which null stands.
         nulls: Sequence<NullKey>,
+        /// What is found in its members.
+        members: Sequence<MemberFinding>,
     },
     /// No policy: this is the refusal for its first part that fails.
     Bad(Refusal),
@@ -39,7 +42,8 @@ pub enum PolicyReading {
 /// What the bytes of a layout, in its envelope or not, read as.
 #[derive(Drop)]
 pub enum LayoutReading {
-    /// A layout, its keys that are null, and its steps without a threshold.
+    /// A layout, its keys that are null, its steps without a threshold, and what is found in its
+    /// members.
     Read {
         /// The layout.
         layout: Layout,
@@ -47,6 +51,8 @@ pub enum LayoutReading {
         nulls: Sequence<NullKey>,
         /// The places of the steps without a threshold.
         places: Sequence<usize>,
+        /// What is found in its members.
+        members: Sequence<MemberFinding>,
     },
     /// No layout: this is the refusal of the envelope, of its type, or for the first part of the
     /// layout that fails.
@@ -94,6 +100,7 @@ fn policy_reading(alloc: Global, bytes: &[u8]) -> Result<PolicyReading, AllocErr
         Ok(policy) => Ok(PolicyReading::Read {
             policy,
             nulls: Sequence::from(policy_nulls(alloc, bytes)?),
+            members: Sequence::from(policy_members(alloc, bytes)?),
         }),
         Err(PolicyFault::BadPolicy(part)) => {
             Ok(PolicyReading::Bad(whole(alloc, Fault::BadPolicy(part))))
@@ -145,6 +152,7 @@ fn body_reading(alloc: Global, body: &[u8]) -> Result<LayoutReading, AllocError>
             layout,
             nulls: Sequence::from(layout_nulls(alloc, body)?),
             places: Sequence::from(no_thresholds(alloc, body)?),
+            members: Sequence::from(layout_members(alloc, body)?),
         }),
         Err(LayoutFault::BadLayout(part)) => {
             Ok(LayoutReading::Bad(whole(alloc, Fault::BadLayout(part))))

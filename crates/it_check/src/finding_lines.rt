@@ -1,19 +1,17 @@
 //! Findings as lines.
 ghost use Rattle.std.specs.Prelude.{◌≡◌, ◌++◌, OnOk, take};
 ghost use Rattle.std.specs.List.{flat_map};
-ghost use Rattle.it_check.specs.FindingLine.{closing_form, count_form, findings_text, line_of};
-ghost use Rattle.it_check.specs.FindingLine.{more_form, no_rules_line, on_list, on_rule};
-ghost use Rattle.it_check.specs.FindingLine.{open_rules_line, parameter_line, unknown_item_line};
+ghost use Rattle.it_check.specs.FindingLine.{count_form, findings_text, line_form, line_of};
+ghost use Rattle.it_check.specs.FindingLine.{more_form, start_form};
+ghost use Rattle.it_check.specs.FindingName.{name_of};
+ghost use Rattle.it_check.specs.FindingPlace.{document_of, pointer_of};
 
-use crate::expectation_lines::{push_no_builders, push_no_level, push_unreachable_level};
-use crate::null_key_lines::push_null_key;
-use crate::rule_lists::{document_of, push_pointer, push_scope};
-use crate::step_key_lines::{
-    push_high_threshold, push_no_threshold, push_repeated_key, push_unknown_key,
-};
-use crate::writing::{push_number, push_text, push_told, push_told_number};
-use it_base::text::Text;
-use it_findings::finding::{Finding, RuleList};
+use crate::finding_names::finding_name;
+use crate::finding_place::{finding_document, push_pointer};
+use crate::finding_sentence::push_sentence;
+use crate::pointer_form::PointerForm;
+use crate::writing::{push_text, push_told_number};
+use it_findings::finding::Finding;
 use std::alloc::AllocError;
 
 /// How many findings of a document are written.
@@ -89,125 +87,48 @@ fn push_count(text: &mut Vec<u8>, document: &str, count: usize) -> Result<(), Al
 /// # Errors
 ///
 /// `AllocError` where memory was refused; a part of the line may have been appended then.
+#[tactic(auto, unfolding(crate::specs::FindingLine::line_form))]
 pub fn push_finding(text: &mut Vec<u8>, finding: &Finding) -> Result<(), AllocError>
     ensures { OnOk result (text.new.items ≡ text.old.items ++ line_of finding.now) }
 {
-    match finding {
-        Finding::NoRules(list) => push_no_rules(text, list),
-        Finding::OpenRules(list) => push_open_rules(text, list),
-        Finding::UnknownItem { list, place, name } => push_unknown(text, list, *place, name),
-        Finding::Parameter { list, place } => push_parameter(text, list, *place),
-        Finding::HighThreshold {
-            step,
-            threshold,
-            ids,
-        } => push_high_threshold(text, step, *threshold, *ids),
-        Finding::UnknownKey { step, place, id } => push_unknown_key(text, step, *place, id),
-        Finding::RepeatedKey { step, place, id } => push_repeated_key(text, step, *place, id),
-        Finding::NoBuilders(place) => push_no_builders(text, *place),
-        Finding::NoLevel(place) => push_no_level(text, *place),
-        Finding::UnreachableLevel { place, level } => {
-            push_unreachable_level(text, *place, *level)
-        }
-        Finding::NoThreshold(place) => push_no_threshold(text, *place),
-        Finding::NullKey(key) => push_null_key(text, key),
-    }
+    push_start_of(text, finding)?;
+    push_sentence(text, finding)?;
+    push_text(text, "\n")
 }
 
-#[tactic(auto, unfolding(crate::specs::FindingLine::no_rules_line))]
-fn push_no_rules(text: &mut Vec<u8>, list: &RuleList) -> Result<(), AllocError>
-    ensures { OnOk result
-        (text.new.items ≡ text.old.items ++ no_rules_line list.now) }
+/// Appends the beginning of the line of a finding.
+fn push_start_of(text: &mut Vec<u8>, finding: &Finding) -> Result<(), AllocError>
+    ensures { OnOk result (text.new.items ≡ text.old.items
+        ++ start_form (document_of finding.now) (name_of finding.now)
+        (pointer_of PointerForm.Shown finding.now)) }
 {
-    push_on_list(text, " no-rules ", ": there are no rules on ", list)?;
-    push_text(text, ", so that every path passes\n")
+    let alloc = *text.allocator();
+    let mut pointer = Vec::new(alloc);
+    push_pointer(&mut pointer, PointerForm::Shown, finding)?;
+    let document = finding_document(finding);
+    push_start(text, document, finding_name(finding), pointer.as_slice())
 }
 
-#[tactic(auto, unfolding(crate::specs::FindingLine::open_rules_line))]
-fn push_open_rules(text: &mut Vec<u8>, list: &RuleList) -> Result<(), AllocError>
-    ensures { OnOk result
-        (text.new.items ≡ text.old.items ++ open_rules_line list.now) }
-{
-    push_on_list(text, " open-rules ", ": the rules on ", list)?;
-    push_text(text, closing_words(list))
-}
-
-fn closing_words(list: &RuleList) -> &'static str
-    ensures { result.now ≡ closing_form list.now }
-{
-    match list {
-        RuleList::Deliver => {
-            " are not closed: no DISALLOW * stands before the first ALLOW * or CREATE *\n"
-        }
-        RuleList::OfStep { .. } | RuleList::OfInspection { .. } => {
-            " are not closed: no DISALLOW * stands before the first ALLOW *\n"
-        }
-    }
-}
-
-#[tactic(auto, unfolding(crate::specs::FindingLine::unknown_item_line))]
-fn push_unknown(
+/// Appends the beginning of a line: the document, the name of what is found, its place as a JSON
+/// pointer, and a colon.
+///
+/// # Errors
+///
+/// `AllocError` where memory was refused; a part of it may have been appended then.
+#[tactic(auto, unfolding(crate::specs::FindingLine::start_form))]
+pub fn push_start(
     text: &mut Vec<u8>,
-    list: &RuleList,
-    place: usize,
-    name: &Text,
-) -> Result<(), AllocError>
-    ensures { OnOk result
-        (text.new.items
-        ≡ text.old.items ++ unknown_item_line list.now place name.now) }
-{
-    push_on_rule(text, " unknown-item ", list, place)?;
-    let after = ", and no step or inspection has that name\n";
-    push_told(text, " takes from ", name.as_str(), after)
-}
-
-#[tactic(auto, unfolding(crate::specs::FindingLine::parameter_line))]
-fn push_parameter(text: &mut Vec<u8>, list: &RuleList, place: usize) -> Result<(), AllocError>
-    ensures { OnOk result
-        (text.new.items ≡ text.old.items ++ parameter_line list.now place) }
-{
-    push_on_rule(text, " parameter ", list, place)?;
-    push_text(
-        text,
-        " has a parameter in braces, which stands for itself here\n",
-    )
-}
-
-/// Appends the beginning of a line on a list.
-#[tactic(auto, unfolding(crate::specs::FindingLine::on_list))]
-fn push_on_list(
-    text: &mut Vec<u8>,
+    document: &str,
     name: &str,
-    words: &str,
-    list: &RuleList,
+    pointer: &[u8],
 ) -> Result<(), AllocError>
     ensures { OnOk result
-        (text.new.items ≡ text.old.items ++ on_list name.now words.now list.now) }
+        (text.new.items ≡ text.old.items ++ start_form document.now name.now pointer.now) }
 {
-    push_text(text, document_of(list))?;
+    push_text(text, document)?;
+    push_text(text, " ")?;
     push_text(text, name)?;
-    push_pointer(text, list)?;
-    push_text(text, words)?;
-    push_scope(text, list)
-}
-
-/// Appends the beginning of a line on the rule at a place of a list.
-#[tactic(auto, unfolding(crate::specs::FindingLine::on_rule))]
-fn push_on_rule(
-    text: &mut Vec<u8>,
-    name: &str,
-    list: &RuleList,
-    place: usize,
-) -> Result<(), AllocError>
-    ensures { OnOk result (text.new.items ≡ text.old.items ++ on_rule name.now list.now place) }
-{
-    push_text(text, document_of(list))?;
-    push_text(text, name)?;
-    push_pointer(text, list)?;
-    push_text(text, "/")?;
-    push_number(text, place)?;
-    push_text(text, ": rule ")?;
-    push_number(text, place)?;
-    push_text(text, " on ")?;
-    push_scope(text, list)
+    push_text(text, " ")?;
+    text.extend_from_slice(pointer)?;
+    push_text(text, ": ")
 }

@@ -1,7 +1,8 @@
 //! What is found in the documents.
 ghost use Rattle.std.specs.Prelude.{◌≡◌, IfOk, map};
 ghost use Rattle.std.specs.Option.{option_copied};
-ghost use Rattle.it_check.specs.CheckOutput.{IsFound, LayoutFound, PolicyFound, gaps_of};
+ghost use Rattle.it_check.specs.CheckOutput.{IsFound, LayoutFound, PolicyFound, layout_gaps};
+ghost use Rattle.it_check.specs.CheckOutput.{policy_gaps};
 ghost use Rattle.it_findings.specs.LayoutFindings.{LayoutFindings};
 ghost use Rattle.it_findings.specs.PolicyFindings.{PolicyFindings};
 
@@ -9,6 +10,7 @@ use crate::documents::{LayoutReading, PolicyReading};
 use it_docs::layout::Layout;
 use it_docs::policy::Policy;
 use it_findings::finding::Finding;
+use it_findings::member_finding::MemberFinding;
 use it_findings::null_key::NullKey;
 use it_findings::{layout_findings, policy_findings};
 use std::alloc::{AllocError, Global};
@@ -27,9 +29,13 @@ pub(crate) fn found_in_policy(
         PolicyFound (option_copied layout.entry) policy.now found.items) }
 {
     match policy {
-        Some(PolicyReading::Read { policy, nulls }) => {
-            findings_in_policy(alloc, layout, policy, nulls.as_slice())
-        }
+        Some(
+            PolicyReading::Read {
+                policy,
+                nulls,
+                members,
+            },
+        ) => findings_in_policy(alloc, layout, policy, members.as_slice(), nulls.as_slice()),
         Some(PolicyReading::Bad(_)) => Ok(Vec::new(alloc)),
         None => Ok(Vec::new(alloc)),
     }
@@ -52,15 +58,22 @@ pub(crate) fn found_in_layout(
                 layout,
                 nulls,
                 places,
+                members,
             },
-        ) => findings_in_layout(alloc, layout, nulls.as_slice(), places.as_slice()),
+        ) => findings_in_layout(
+            alloc,
+            layout,
+            members.as_slice(),
+            nulls.as_slice(),
+            places.as_slice(),
+        ),
         Some(LayoutReading::Bad(_)) => Ok(Vec::new(alloc)),
         None => Ok(Vec::new(alloc)),
     }
 }
 
-/// The keys of a policy that are null, and then what else is found in it. `MATCH` takes from what
-/// the `layout` has, where there is one.
+/// What is found in the members of a policy, its keys that are null, and then what else is found in
+/// it. `MATCH` takes from what the `layout` has, where there is one.
 ///
 /// # Errors
 ///
@@ -69,19 +82,20 @@ pub fn findings_in_policy(
     alloc: Global,
     layout: Option<&Layout>,
     policy: &Policy,
+    members: &[MemberFinding],
     nulls: &[NullKey],
 ) -> Result<Vec<Finding>, AllocError>
-    ensures { IfOk result (λ found. IsFound (map Finding.NullKey nulls.now)
+    ensures { IfOk result (λ found. IsFound (policy_gaps members.now nulls.now)
         (PolicyFindings (option_copied layout.entry) policy.now) found.items) }
 {
-    let mut found = null_findings(alloc, nulls)?;
+    let mut found = policy_gap_findings(alloc, members, nulls)?;
     let mut others = policy_findings(alloc, policy, layout)?;
     found.append(&mut others)?;
     Ok(found)
 }
 
-/// The keys of a layout that are null, its steps without a threshold, and then what else is found
-/// in it.
+/// What is found in the members of a layout, its keys that are null, its steps without a threshold,
+/// and then what else is found in it.
 ///
 /// # Errors
 ///
@@ -89,28 +103,55 @@ pub fn findings_in_policy(
 pub fn findings_in_layout(
     alloc: Global,
     layout: &Layout,
+    members: &[MemberFinding],
     nulls: &[NullKey],
     places: &[usize],
 ) -> Result<Vec<Finding>, AllocError>
-    ensures { IfOk result (λ found. IsFound (gaps_of nulls.now places.now)
+    ensures { IfOk result (λ found. IsFound (layout_gaps members.now nulls.now places.now)
         (LayoutFindings layout.now) found.items) }
 {
-    let mut found = gap_findings(alloc, nulls, places)?;
+    let mut found = layout_gap_findings(alloc, members, nulls, places)?;
     let mut others = layout_findings(alloc, layout)?;
     found.append(&mut others)?;
     Ok(found)
 }
 
-fn gap_findings(
+fn policy_gap_findings(
     alloc: Global,
+    members: &[MemberFinding],
+    nulls: &[NullKey],
+) -> Result<Vec<Finding>, AllocError>
+    ensures { IfOk result (λ found. found.items ≡ policy_gaps members.now nulls.now) }
+{
+    let mut found = member_findings(alloc, members)?;
+    let mut of_nulls = null_findings(alloc, nulls)?;
+    found.append(&mut of_nulls)?;
+    Ok(found)
+}
+
+fn layout_gap_findings(
+    alloc: Global,
+    members: &[MemberFinding],
     nulls: &[NullKey],
     places: &[usize],
 ) -> Result<Vec<Finding>, AllocError>
-    ensures { IfOk result (λ found. found.items ≡ gaps_of nulls.now places.now) }
+    ensures { IfOk result (λ found. found.items ≡ layout_gaps members.now nulls.now places.now) }
 {
-    let mut found = null_findings(alloc, nulls)?;
+    let mut found = member_findings(alloc, members)?;
+    let mut of_nulls = null_findings(alloc, nulls)?;
     let mut open = threshold_findings(alloc, places)?;
+    found.append(&mut of_nulls)?;
     found.append(&mut open)?;
+    Ok(found)
+}
+
+fn member_findings(alloc: Global, members: &[MemberFinding]) -> Result<Vec<Finding>, AllocError>
+    ensures { IfOk result (λ found. found.items ≡ map Finding.Member members.now) }
+{
+    let mut found = Vec::new(alloc);
+    for member in members {
+        found.push(Finding::Member(member.copy(alloc)?))?;
+    }
     Ok(found)
 }
 

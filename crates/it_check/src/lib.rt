@@ -3,16 +3,27 @@
 
 mod check_output;
 pub mod documents;
-mod expectation_lines;
+mod expectation_sentences;
 mod finding_lines;
+mod finding_names;
+mod finding_place;
+mod finding_sentence;
 mod found;
-mod null_key_lines;
+mod member_pointers;
+mod member_sentences;
+mod null_key_sentence;
 mod part_notes;
-mod rule_lists;
-mod step_key_lines;
+pub mod pointer_form;
+mod pointers;
+mod rule_sentences;
+mod step_key_sentences;
+mod token;
 mod writing;
 
 pub use check_output::run_check;
-pub use finding_lines::{MOST_WRITTEN, push_finding, push_findings, push_more};
+pub use finding_lines::{MOST_WRITTEN, push_finding, push_findings, push_more, push_start};
+pub use finding_names::finding_name;
+pub use finding_place::{finding_document, push_pointer};
+pub use finding_sentence::push_sentence;
 pub use found::{findings_in_layout, findings_in_policy};
-pub use writing::push_told;
+pub use writing::{push_text, push_told};

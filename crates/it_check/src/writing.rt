@@ -2,11 +2,16 @@
 ghost use Rattle.std.specs.Prelude.{◌≡◌, ◌++◌, OnOk, decimal};
 ghost use Rattle.it_check.specs.Pieces.{number_form, quoted, told_form};
 
+use it_base::text::Text;
 use it_report::name::push_name;
 use std::alloc::AllocError;
 
 /// Appends a text.
-pub(crate) fn push_text(text: &mut Vec<u8>, added: &str) -> Result<(), AllocError>
+///
+/// # Errors
+///
+/// `AllocError` where memory was refused; a part of it may have been appended then.
+pub fn push_text(text: &mut Vec<u8>, added: &str) -> Result<(), AllocError>
     ensures { OnOk result (text.new.items ≡ text.old.items ++ added.now) }
 {
     text.extend_from_slice(added.as_bytes())
@@ -40,14 +45,14 @@ pub(crate) fn push_quoted(text: &mut Vec<u8>, name: &str) -> Result<(), AllocErr
 pub fn push_told(
     text: &mut Vec<u8>,
     before: &str,
-    name: &str,
+    name: &Text,
     after: &str,
 ) -> Result<(), AllocError>
     ensures { OnOk result
         (text.new.items ≡ text.old.items ++ told_form before.now name.now after.now) }
 {
     push_text(text, before)?;
-    push_quoted(text, name)?;
+    push_quoted(text, name.as_str())?;
     push_text(text, after)
 }
 

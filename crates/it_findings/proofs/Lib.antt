@@ -1,4 +1,5 @@
 pub mod Joining
+pub mod MemberLists
 pub mod NullLists
 pub mod Reaching
 pub mod Saying

@@ -16,3 +16,7 @@ JoinedFrom {F = F} R n (x ∷ xs) found =
 -- the same where the first has the place 0
 abbrev pub Joined : {X F : Type 0} → (ℕ → X → List F → Type 0) → List X → List F → Type 0
 Joined R xs found = JoinedFrom R 0 xs found
+
+-- the same where what is said does not depend on the place
+abbrev pub JoinedEach : {X F : Type 0} → (X → List F → Type 0) → List X → List F → Type 0
+JoinedEach R xs found = Joined (λ n x here. R x here) xs found

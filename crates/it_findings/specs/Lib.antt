@@ -1,7 +1,10 @@
 pub mod Closed
 pub mod ExpectationFindings
 pub mod Joined
+pub mod KeyPlaces
 pub mod LayoutFindings
+pub mod MemberNames
+pub mod Members
 pub mod NoThresholds
 pub mod NullKeys
 pub mod Parameters

@@ -1,6 +1,7 @@
 //! Findings, and where they are.
 ghost use Rattle.std.specs.Prelude.{◌≡◌, IfOk};
 
+use crate::member_finding::MemberFinding;
 use crate::null_key::NullKey;
 use it_base::text::Text;
 use it_docs::rule::Side;
@@ -106,6 +107,8 @@ pub enum Finding {
     NoThreshold(usize),
     /// Null stands under a key id, which so counts as missing.
     NullKey(NullKey),
+    /// Something about a member.
+    Member(MemberFinding),
 }
 
 impl StepPlace {

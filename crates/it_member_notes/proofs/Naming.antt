@@ -9,9 +9,9 @@ use Rattle.serde_json.specs.Data.{Data, object}
 use Rattle.serde_json.specs.Find.{get_member}
 use Rattle.serde_json.specs.View.{view, members_view}
 use Rattle.serde_json.proofs.Views.{Entry, member_here}
-use Rattle.it_member_notes.specs.MemberNames.{known_names, read_names}
+use Rattle.it_findings.specs.MemberNames.{known_names, read_names}
 use Rattle.it_member_notes.specs.UnreadMembers.{HasUnread}
-use Rattle.it_member_notes.specs.declared.place.Place.{Place}
+use Rattle.it_findings.specs.declared.place.Place.{Place}
 use Rattle.it_member_notes.specs.declared.unread_member.UnreadMember.{UnreadMember}
 
 -- a name that is read of a table stands in it

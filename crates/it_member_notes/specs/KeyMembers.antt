@@ -5,12 +5,13 @@ use Rattle.serde_json.specs.Data.{Data}
 use Rattle.it_base.specs.Document.{OfDocument}
 use Rattle.it_base.specs.Parts.{IsPart}
 use Rattle.it_base.specs.Text.{IsText}
-use Rattle.it_member_notes.specs.Places.{IsOfLayout, IsOfPolicy, id_of, object_at}
+use Rattle.it_findings.specs.KeyPlaces.{id_of}
+use Rattle.it_member_notes.specs.Places.{IsOfLayout, IsOfPolicy, object_at}
 use Rattle.it_member_notes.specs.declared.key_member_note.KeyMemberNote.{KeyMemberNote}
 use Rattle.it_member_notes.specs.declared.key_member_note.KeyMemberNote.TheVariants.{OtherKeyId}
 use Rattle.it_member_notes.specs.declared.key_member_note.KeyMemberNote.TheVariants.{PrivateKey}
-use Rattle.it_member_notes.specs.declared.place.Place.{Place}
-use Rattle.it_member_notes.specs.declared.place.Place.TheVariants.{Key, KeyValue}
+use Rattle.it_findings.specs.declared.place.Place.{Place}
+use Rattle.it_findings.specs.declared.place.Place.TheVariants.{Key, KeyValue}
 
 -- the place of the object that has the member
 abbrev pub place_of : KeyMemberNote → Place

@@ -1,6 +1,5 @@
 pub mod KeyMembers
 pub mod LayoutNotes
-pub mod MemberNames
 pub mod MemberNotes
 pub mod Places
 pub mod RuleListNotes

@@ -3,8 +3,8 @@ use Rattle.std.specs.Prelude.{ℕ, List, Option, Some, option_and_then, codes}
 use Rattle.serde_json.specs.Data.{Data}
 use Rattle.serde_json.specs.Find.{at}
 use Rattle.it_base.specs.Document.{member_at}
-use Rattle.it_member_notes.specs.declared.place.KeyPlace as keys
-use Rattle.it_member_notes.specs.declared.place.Place as places
+use Rattle.it_findings.specs.declared.place.KeyPlace as keys
+use Rattle.it_findings.specs.declared.place.Place as places
 
 -- the item at a place in the list that is the member of this name
 abbrev pub item_at : List ℕ → ℕ → Data → Option Data
@@ -26,12 +26,6 @@ key_at (keys.TheVariants.Owner id) d = inner_at (codes "owners") id d
 key_at (keys.TheVariants.Builder expectation builder id) d =
     option_and_then (inner_at (codes "keys") id) (builder_at expectation builder d)
 key_at (keys.TheVariants.Layout id) d = inner_at (codes "keys") id d
-
--- the id under which the key object at a place stands
-abbrev pub id_of : keys.KeyPlace → List ℕ
-id_of (keys.TheVariants.Owner id) = id
-id_of (keys.TheVariants.Builder expectation builder id) = id
-id_of (keys.TheVariants.Layout id) = id
 
 -- what is at a place of a document
 abbrev pub object_at : places.Place → Data → Option Data

@@ -3,7 +3,7 @@ use Rattle.std.specs.Prelude.{◌≡◌, ℕ, List, Some, IsSome, IfSome, Contai
 use Rattle.serde_json.specs.Data.{Data}
 use Rattle.serde_json.specs.Find.{get}
 use Rattle.it_base.specs.Document.{OfDocument}
-use Rattle.it_member_notes.specs.MemberNames.{known_names, read_names}
+use Rattle.it_findings.specs.MemberNames.{known_names, read_names}
 use Rattle.it_member_notes.specs.Places.{IsOfLayout, IsOfPolicy, object_at}
 use Rattle.it_member_notes.specs.declared.unread_member.UnreadMember.{UnreadMember}
 

@@ -1,9 +1,9 @@
 //! Notes on members of key objects, as lines for people.
 
 use crate::key_member_note::KeyMemberNote;
-use crate::place::KeyPlace;
 use crate::place_words::push_key;
 use crate::quoted::push_quoted;
+use it_findings::place::KeyPlace;
 use std::alloc::{AllocError, Global};
 
 impl KeyMemberNote {
@@ -31,7 +31,7 @@ fn push_other_key_id(out: &mut Vec<u8>, key: &KeyPlace, keyid: &str) -> Result<(
     out.extend_from_slice(b" has the keyid ")?;
     push_quoted(out, keyid)?;
     out.extend_from_slice(b", which is not looked at: the id that counts is ")?;
-    push_quoted(out, key.id())?;
+    push_quoted(out, key.id().as_str())?;
     out.extend_from_slice(b"\n")
 }
 

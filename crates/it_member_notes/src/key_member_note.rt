@@ -1,7 +1,7 @@
 //! Members of key objects that their author may not have meant.
 
-use crate::place::KeyPlace;
 use it_base::text::Text;
+use it_findings::place::KeyPlace;
 
 /// A member of a key object of a policy or a layout that its author may not have meant.
 #[derive(Drop)]

@@ -7,9 +7,9 @@ ghost use Rattle.it_member_notes.specs.KeyMembers.{HasKeyMember, IsKeyMember, pl
 
 use crate::key_member_note::KeyMemberNote;
 use crate::object_at::object_at;
-use crate::place::{KeyPlace, Place};
 use it_base::document::member;
 use it_base::text::Text;
+use it_findings::place::{KeyPlace, Place};
 use serde_json::Value;
 use std::alloc::{AllocError, Global};
 
@@ -72,7 +72,7 @@ fn other_key_id(
     let Some(keyid) = text_at(object, "keyid") else {
         return Ok(None);
     };
-    if keyid == key.id() {
+    if keyid == key.id().as_str() {
         return Ok(None);
     }
     Ok(Some(KeyMemberNote::OtherKeyId {

@@ -6,9 +6,9 @@ ghost use Rattle.it_member_notes.specs.UnreadMembers.{IsUnread};
 
 use crate::key_member_note::KeyMemberNote;
 use crate::key_notes::key_notes_at;
-use crate::place::Place;
 use crate::unread::unread_at;
 use crate::unread_member::UnreadMember;
+use it_findings::place::Place;
 use serde_json::Value;
 use std::alloc::{AllocError, Global};
 

@@ -5,8 +5,8 @@ ghost use Rattle.it_member_notes.specs.Places.{builder_at as builder_of, inner_a
 ghost use Rattle.it_member_notes.specs.Places.{item_at as item_of, key_at as key_of};
 ghost use Rattle.it_member_notes.specs.Places.{object_at as object_of};
 
-use crate::place::{KeyPlace, Place};
 use it_base::document::member;
+use it_findings::place::{KeyPlace, Place};
 use serde_json::Value;
 
 /// What is at a place of a document, if anything is. Takes no memory.

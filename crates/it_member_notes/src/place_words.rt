@@ -1,7 +1,7 @@
 //! Places of a policy and a layout, in lines for people.
 
-use crate::place::{KeyPlace, Place};
 use crate::quoted::push_quoted;
+use it_findings::place::{KeyPlace, Place};
 use std::alloc::{AllocError, Global};
 
 /// Appends the place: the document, and the path to the object.

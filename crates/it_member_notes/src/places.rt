@@ -3,9 +3,9 @@ ghost use Rattle.std.specs.Prelude.{◌≡◌, [], ◌∷◌, ◌++◌, All, IfO
 ghost use Rattle.it_member_notes.specs.Places.{IsOfLayout, IsOfPolicy};
 
 use crate::object_at::object_at;
-use crate::place::{KeyPlace, Place};
 use it_base::document::member;
 use it_base::text::Text;
+use it_findings::place::{KeyPlace, Place};
 use serde_json::Value;
 use std::alloc::{AllocError, Global};
 

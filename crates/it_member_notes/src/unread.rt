@@ -2,16 +2,16 @@
 ghost use Rattle.std.specs.Prelude.{◌≡◌, All, Any, Contains, IfOk, IfSome, IsTrue};
 ghost use Rattle.serde_json.specs.Data.{object};
 ghost use Rattle.serde_json.specs.View.{members_view, view};
-ghost use Rattle.it_member_notes.specs.MemberNames.{known_names as known_at};
-ghost use Rattle.it_member_notes.specs.MemberNames.{read_names as read_at};
+ghost use Rattle.it_findings.specs.MemberNames.{known_names as known_at};
+ghost use Rattle.it_findings.specs.MemberNames.{read_names as read_at};
 ghost use Rattle.it_member_notes.specs.UnreadMembers.{HasUnread, IsUnread};
 
 use crate::close_name::close_name;
-use crate::member_names::{known_names, read_names};
 use crate::object_at::object_at;
-use crate::place::Place;
 use crate::unread_member::UnreadMember;
 use it_base::text::Text;
+use it_findings::member_names::{known_names, read_names};
+use it_findings::place::Place;
 use serde_json::{Map, Value};
 use std::alloc::{AllocError, Global};
 

@@ -1,7 +1,7 @@
 //! Members of a policy or a layout that are not looked at.
 
-use crate::place::Place;
 use it_base::text::Text;
+use it_findings::place::Place;
 
 /// A member that is not looked at, and that no standard knows.
 #[derive(Drop)]

@@ -1,4 +1,3 @@
-pub mod Counted
 pub mod Stepped
 pub mod Taken
 pub mod Tying

@@ -9,13 +9,15 @@ use Rattle.it_chain.specs.StepRules.{recorded_in}
 use Rattle.it_chain.specs.declared.chain.StepResult.{StepResult}
 use Rattle.it_findings.specs.Joined.{Joined, Said}
 use Rattle.it_findings.specs.LayoutFindings.{LayoutFindings}
+use Rattle.it_findings.specs.Members.{LayoutMembers, MembersOf}
 use Rattle.it_findings.specs.NoThresholds.{NoThresholdsOf}
 use Rattle.it_findings.specs.NullKeys.{LayoutNulls, NullsOf}
 use Rattle.it_findings.specs.declared.finding.Finding.{Finding}
 use Rattle.it_findings.specs.declared.finding.Finding.TheVariants.{NoRules}
 use Rattle.it_findings.specs.declared.finding.RuleList.TheVariants.{OfStep}
+use Rattle.it_findings.specs.declared.member_finding.MemberFinding.{MemberFinding}
 use Rattle.it_findings.specs.declared.null_key.NullKey.{NullKey}
-use Rattle.it_check.specs.CheckOutput.{IsFound, gaps_of}
+use Rattle.it_check.specs.CheckOutput.{IsFound, layout_gaps}
 
 -- the step at a place recorded some path on a side
 abbrev pub HasPath : List StepResult → ℕ → Side → Type 0
@@ -37,10 +39,12 @@ AreCounting steps all counting =
 -- what is found in a layout, which is read from this payload, and counts
 pub record LayoutCounting (payload : List ℕ) (layout : Layout) (steps : List StepResult)
     (counting : List Finding) : Type 0 where
+  pub members : List MemberFinding
   pub nulls : List NullKey
   pub places : List ℕ
   pub all : List Finding
+  pub are_members : MembersOf LayoutMembers payload members
   pub are_nulls : NullsOf LayoutNulls payload nulls
   pub are_places : NoThresholdsOf payload places
-  pub are_all : IsFound (gaps_of nulls places) (LayoutFindings layout) all
+  pub are_all : IsFound (layout_gaps members nulls places) (LayoutFindings layout) all
   pub are_counting : AreCounting steps all counting

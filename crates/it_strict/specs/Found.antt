@@ -1,11 +1,12 @@
 -- What is found where a delivery is accepted (this project's words).
-use Rattle.std.specs.Prelude.{◌≡◌, ℕ, List, [], Some, map}
+use Rattle.std.specs.Prelude.{◌≡◌, ℕ, List, [], Some}
+use Rattle.it_findings.specs.Members.{MembersOf, PolicyMembers}
 use Rattle.it_findings.specs.NullKeys.{NullsOf, PolicyNulls}
 use Rattle.it_findings.specs.PolicyFindings.{PolicyFindings}
 use Rattle.it_findings.specs.declared.finding.Finding.{Finding}
-use Rattle.it_findings.specs.declared.finding.Finding.TheVariants.{NullKey as NullKeyFinding}
+use Rattle.it_findings.specs.declared.member_finding.MemberFinding.{MemberFinding}
 use Rattle.it_findings.specs.declared.null_key.NullKey.{NullKey}
-use Rattle.it_check.specs.CheckOutput.{IsFound}
+use Rattle.it_check.specs.CheckOutput.{IsFound, policy_gaps}
 use Rattle.it_ties.specs.Ties.{AreUntied}
 use Rattle.it_verify.specs.Delivered.{delivery}
 use Rattle.it_verify.specs.Evidence.{evidence_links}
@@ -19,9 +20,10 @@ pub use Rattle.it_strict.specs.declared.found.Found.{Found}
 -- the layout has
 abbrev pub PolicyFound : List ℕ → Documents → List Finding → Type 0
 PolicyFound bytes documents found =
-    (nulls : List NullKey) × NullsOf PolicyNulls bytes nulls
-    × IsFound (map NullKeyFinding nulls) (PolicyFindings (Some documents.layout) documents.policy)
-    found
+    (members : List MemberFinding) × (nulls : List NullKey)
+    × MembersOf PolicyMembers bytes members × NullsOf PolicyNulls bytes nulls
+    × IsFound (policy_gaps members nulls)
+    (PolicyFindings (Some documents.layout) documents.policy) found
 
 -- what is found: in the policy; in the layout, as far as it counts; and the delivered files that
 -- are tied to no step

@@ -1,15 +1,19 @@
 -- What is found, as lines (this project's words).
 use Rattle.std.specs.Prelude.{ℕ, List, ◌++◌, length, take, codes}
 use Rattle.std.specs.List.{flat_map}
-use Rattle.it_check.specs.FindingLine.{findings_text, more_form}
+use Rattle.it_check.specs.FindingLine.{findings_text, line_form, more_form}
 use Rattle.it_check.specs.Pieces.{told_form}
 use Rattle.it_strict.specs.Found.{Found}
 
--- the line of a delivered file that is tied to no step
+-- what is said of a delivered file that is tied to no step
+abbrev pub untied_sentence : List ℕ → List ℕ
+untied_sentence path =
+    told_form (codes "no MATCH rule WITH PRODUCTS FROM a step takes ") path (codes "")
+
+-- its line: the document, its name, its place as a JSON pointer, and this sentence
 unfoldable pub untied_line : List ℕ → List ℕ
 untied_line path =
-    told_form (codes "policy untied-file /deliver: no MATCH rule WITH PRODUCTS FROM a step takes ")
-    path (codes "\n")
+    line_form (codes "policy") (codes "untied-file") (codes "/deliver") (untied_sentence path)
 
 -- the lines of the first 40 such files, and how many there are where there are more
 unfoldable pub untied_text : List (List ℕ) → List ℕ

@@ -10,7 +10,7 @@ use it_chain::chain::StepResult;
 use it_check::findings_in_layout;
 use it_docs::rule::Side;
 use it_findings::finding::{Finding, RuleList};
-use it_findings::{layout_nulls, no_thresholds};
+use it_findings::{layout_members, layout_nulls, no_thresholds};
 use it_rules::item::Item;
 use it_verify::documents::Documents;
 use std::alloc::{AllocError, Global};
@@ -29,10 +29,16 @@ pub(crate) fn counting_findings(
         documents.now.layout steps.now counting.items) }
 {
     let payload = documents.envelope.payload.as_slice();
+    let members = layout_members(alloc, payload)?;
     let nulls = layout_nulls(alloc, payload)?;
     let places = no_thresholds(alloc, payload)?;
-    let layout = &documents.layout;
-    let all = findings_in_layout(alloc, layout, nulls.as_slice(), places.as_slice())?;
+    let all = findings_in_layout(
+        alloc,
+        &documents.layout,
+        members.as_slice(),
+        nulls.as_slice(),
+        places.as_slice(),
+    )?;
     counting_of(alloc, all, steps)
 }
 

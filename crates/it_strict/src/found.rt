@@ -12,7 +12,7 @@ use it_base::sequence::Sequence;
 use it_base::text::Text;
 use it_check::{findings_in_policy, push_findings};
 use it_findings::finding::Finding;
-use it_findings::policy_nulls;
+use it_findings::{policy_members, policy_nulls};
 use it_verify::documents::Documents;
 use it_verify::grounds::Grounds;
 use it_verify::inputs::Inputs;
@@ -61,9 +61,11 @@ fn found_in_policy(
 ) -> Result<Vec<Finding>, AllocError>
     ensures { IfOk result (λ found. PolicyFound bytes.now documents.now found.items) }
 {
+    let members = policy_members(alloc, bytes)?;
     let nulls = policy_nulls(alloc, bytes)?;
+    let (members, nulls) = (members.as_slice(), nulls.as_slice());
     let layout = Some(&documents.layout);
-    findings_in_policy(alloc, layout, &documents.policy, nulls.as_slice())
+    findings_in_policy(alloc, layout, &documents.policy, members, nulls)
 }
 
 impl Found {

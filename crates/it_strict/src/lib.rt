@@ -7,3 +7,5 @@ pub mod found;
 pub mod laws;
 mod untied;
 mod untied_lines;
+
+pub use untied_lines::{UNTIED_NAME, UNTIED_POINTER, push_untied_sentence};

@@ -3,7 +3,7 @@ use Rattle.std.proofs.lemmas.List.Elements.{All-push}
 use Rattle.serde_json.specs.Data.{object}
 use Rattle.serde_json.specs.View.{members_view}
 use Rattle.serde_json.proofs.Views.{Entry}
-use Rattle.it_member_notes.specs.MemberNames.{known_names, read_names}
+use Rattle.it_findings.specs.MemberNames.{known_names, read_names}
 use Rattle.it_member_notes.specs.UnreadMembers.{HasUnread}
 use Rattle.it_member_notes.specs.declared.unread_member.UnreadMember.{UnreadMember}
 use Rattle.it_member_notes.proofs.Naming.{unread_note}

@@ -3,7 +3,7 @@ use Rattle.std.specs.Vec.Iter.{into_iter_items}
 use Rattle.it_findings.specs.Joined.{Said}
 use Rattle.it_findings.specs.declared.finding.Finding.{Finding}
 use Rattle.it_strict.specs.Counting.{Counts}
-use Rattle.it_strict.proofs.Counted.{joined_push}
+use Rattle.it_findings.proofs.Joining.{joined_push}
 use Rattle.it_strict.proofs.counting.counting_of.Goals as goal
 
 pub loop-finding-preserved : goal.loop-finding-preserved

@@ -1,0 +1,18 @@
+-- What is said of findings on the expectations of a policy (this project's words).
+use Rattle.std.specs.Prelude.{ℕ, List, ◌++◌, codes}
+use Rattle.it_check.specs.Pieces.{number_form}
+
+abbrev pub no_builders_sentence : ℕ → List ℕ
+no_builders_sentence place =
+    number_form (codes "expectation ") place
+    (codes " has no builders, so that no provenance meets it")
+
+abbrev pub no_level_sentence : ℕ → List ℕ
+no_level_sentence place =
+    number_form (codes "expectation ") place
+    (codes " asks for level 0, which every builder reaches")
+
+unfoldable pub unreachable_level_sentence : ℕ → ℕ → List ℕ
+unreachable_level_sentence place level =
+    number_form (codes "expectation ") place (codes " asks for level ")
+    ++ number_form (codes "") level (codes ", which none of its builders reaches")

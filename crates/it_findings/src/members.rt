@@ -1,0 +1,215 @@
+//! What is found in the members of a policy and a layout.
+ghost use Rattle.std.specs.Prelude.{IfOk, codes};
+ghost use Rattle.serde_json.specs.View.{items_view, view};
+ghost use Rattle.it_findings.specs.Joined.{Joined};
+ghost use Rattle.it_findings.specs.Members.{BuilderMembers, ExpectationMembers, InspectionMembers};
+ghost use Rattle.it_findings.specs.Members.{LayoutMembers, MembersOf, PolicyMembers, StepMembers};
+ghost use Rattle.it_findings.specs.NullKeys.{list_at, listed};
+
+use crate::key_members::key_list_members;
+use crate::member_finding::MemberFinding;
+use crate::null_key::KeyList;
+use crate::null_keys::items_at;
+use crate::place::Place;
+use crate::unread::unread_members;
+use it_base::document::read_document;
+use serde_json::Value;
+use std::alloc::{AllocError, Global};
+
+/// What is found in the members of the document that is a policy: in the policy itself, in its
+/// owners, and then in each expectation and its builders in order. Nothing is found where the bytes
+/// are no document.
+///
+/// # Errors
+///
+/// `AllocError` where memory was refused.
+pub fn policy_members(alloc: Global, bytes: &[u8]) -> Result<Vec<MemberFinding>, AllocError>
+    ensures { IfOk result (λ found. MembersOf PolicyMembers bytes.now found.items) }
+{
+    match read_document(alloc, bytes)? {
+        Some(document) => members_in_policy(alloc, &document),
+        None => Ok(Vec::new(alloc)),
+    }
+}
+
+/// What is found in the members of the document that is the body of a layout: in the layout itself,
+/// in its keys, and then in its steps and its inspections in order. Nothing is found where the
+/// bytes are no document.
+///
+/// # Errors
+///
+/// `AllocError` where memory was refused.
+pub fn layout_members(alloc: Global, body: &[u8]) -> Result<Vec<MemberFinding>, AllocError>
+    ensures { IfOk result (λ found. MembersOf LayoutMembers body.now found.items) }
+{
+    match read_document(alloc, body)? {
+        Some(document) => members_in_layout(alloc, &document),
+        None => Ok(Vec::new(alloc)),
+    }
+}
+
+fn members_in_policy(alloc: Global, document: &Value) -> Result<Vec<MemberFinding>, AllocError>
+    ensures { IfOk result (λ found. PolicyMembers (view document.now) found.items) }
+{
+    let mut found = unread_members(alloc, &Place::Policy, document)?;
+    let mut of_owners = key_list_members(alloc, KeyList::Owners, document, "owners")?;
+    let mut of_expectations = expectations_members(alloc, document)?;
+    found.append(&mut of_owners)?;
+    found.append(&mut of_expectations)?;
+    Ok(found)
+}
+
+fn members_in_layout(alloc: Global, document: &Value) -> Result<Vec<MemberFinding>, AllocError>
+    ensures { IfOk result (λ found. LayoutMembers (view document.now) found.items) }
+{
+    let mut found = unread_members(alloc, &Place::Layout, document)?;
+    let mut of_keys = key_list_members(alloc, KeyList::OfLayout, document, "keys")?;
+    let mut of_steps = steps_members(alloc, document)?;
+    let mut of_inspections = inspections_members(alloc, document)?;
+    found.append(&mut of_keys)?;
+    found.append(&mut of_steps)?;
+    found.append(&mut of_inspections)?;
+    Ok(found)
+}
+
+fn expectations_members(alloc: Global, document: &Value) -> Result<Vec<MemberFinding>, AllocError>
+    ensures { IfOk result (λ found. Joined ExpectationMembers
+        (list_at (codes "expectations") (view document.now)) found.items) }
+{
+    match items_at(document, "expectations") {
+        Some(expectations) => each_expectation(alloc, expectations),
+        None => Ok(Vec::new(alloc)),
+    }
+}
+
+fn each_expectation(
+    alloc: Global,
+    expectations: &Vec<Value>,
+) -> Result<Vec<MemberFinding>, AllocError>
+    ensures { IfOk result (λ found. Joined ExpectationMembers
+        (listed (items_view expectations.now.items)) found.items) }
+{
+    let mut found = Vec::new(alloc);
+    for (place, expectation) in expectations.iter().enumerate() {
+        let mut here = expectation_members(alloc, place, expectation)?;
+        found.append(&mut here)?;
+    }
+    Ok(found)
+}
+
+/// What is found in the expectation at a place.
+fn expectation_members(
+    alloc: Global,
+    place: usize,
+    expectation: &Value,
+) -> Result<Vec<MemberFinding>, AllocError>
+    ensures { IfOk result (λ found.
+        ExpectationMembers place (view expectation.now) found.items) }
+{
+    let mut found = unread_members(alloc, &Place::Expectation(place), expectation)?;
+    let mut of_builders = builders_members(alloc, place, expectation)?;
+    found.append(&mut of_builders)?;
+    Ok(found)
+}
+
+/// What is found in the builders of the expectation at a place.
+fn builders_members(
+    alloc: Global,
+    place: usize,
+    expectation: &Value,
+) -> Result<Vec<MemberFinding>, AllocError>
+    ensures { IfOk result (λ found. Joined (BuilderMembers place)
+        (list_at (codes "builders") (view expectation.now)) found.items) }
+{
+    match items_at(expectation, "builders") {
+        Some(builders) => each_builder(alloc, place, builders),
+        None => Ok(Vec::new(alloc)),
+    }
+}
+
+fn each_builder(
+    alloc: Global,
+    expectation: usize,
+    builders: &Vec<Value>,
+) -> Result<Vec<MemberFinding>, AllocError>
+    ensures { IfOk result (λ found. Joined (BuilderMembers expectation)
+        (listed (items_view builders.now.items)) found.items) }
+{
+    let mut found = Vec::new(alloc);
+    for (place, builder) in builders.iter().enumerate() {
+        let mut here = builder_members(alloc, expectation, place, builder)?;
+        found.append(&mut here)?;
+    }
+    Ok(found)
+}
+
+/// What is found in the builder at a place of an expectation.
+fn builder_members(
+    alloc: Global,
+    expectation: usize,
+    builder: usize,
+    value: &Value,
+) -> Result<Vec<MemberFinding>, AllocError>
+    ensures { IfOk result (λ found.
+        BuilderMembers expectation builder (view value.now) found.items) }
+{
+    let place = Place::Builder {
+        expectation,
+        builder,
+    };
+    let list = KeyList::OfBuilder {
+        expectation,
+        builder,
+    };
+    let mut found = unread_members(alloc, &place, value)?;
+    let mut of_keys = key_list_members(alloc, list, value, "keys")?;
+    found.append(&mut of_keys)?;
+    Ok(found)
+}
+
+fn steps_members(alloc: Global, document: &Value) -> Result<Vec<MemberFinding>, AllocError>
+    ensures { IfOk result (λ found.
+        Joined StepMembers (list_at (codes "steps") (view document.now)) found.items) }
+{
+    match items_at(document, "steps") {
+        Some(steps) => each_step(alloc, steps),
+        None => Ok(Vec::new(alloc)),
+    }
+}
+
+fn each_step(alloc: Global, steps: &Vec<Value>) -> Result<Vec<MemberFinding>, AllocError>
+    ensures { IfOk result (λ found.
+        Joined StepMembers (listed (items_view steps.now.items)) found.items) }
+{
+    let mut found = Vec::new(alloc);
+    for (place, step) in steps.iter().enumerate() {
+        let mut here = unread_members(alloc, &Place::Step(place), step)?;
+        found.append(&mut here)?;
+    }
+    Ok(found)
+}
+
+fn inspections_members(alloc: Global, document: &Value) -> Result<Vec<MemberFinding>, AllocError>
+    ensures { IfOk result (λ found.
+        Joined InspectionMembers (list_at (codes "inspect") (view document.now)) found.items) }
+{
+    match items_at(document, "inspect") {
+        Some(inspections) => each_inspection(alloc, inspections),
+        None => Ok(Vec::new(alloc)),
+    }
+}
+
+fn each_inspection(
+    alloc: Global,
+    inspections: &Vec<Value>,
+) -> Result<Vec<MemberFinding>, AllocError>
+    ensures { IfOk result (λ found.
+        Joined InspectionMembers (listed (items_view inspections.now.items)) found.items) }
+{
+    let mut found = Vec::new(alloc);
+    for (place, inspection) in inspections.iter().enumerate() {
+        let mut here = unread_members(alloc, &Place::Inspection(place), inspection)?;
+        found.append(&mut here)?;
+    }
+    Ok(found)
+}

@@ -5,6 +5,8 @@ use Rattle.std.specs.FinMap.{get}
 use Rattle.it_digest.specs.Artifacts.{ArtifactMap}
 use Rattle.it_digest.specs.Sums.{SumsOf}
 use Rattle.it_digest.specs.declared.compare.DigestSet.{DigestSet}
+use Rattle.it_chain.specs.Judged.{AreStepRecords}
+use Rattle.it_chain.specs.declared.chain.StepResult.{StepResult}
 use Rattle.it_dsse.specs.Envelope.{EnvelopeOf}
 use Rattle.it_dsse.specs.Panel.{Panel}
 use Rattle.it_dsse.specs.declared.envelope.Envelope.{Envelope}
@@ -26,6 +28,7 @@ use Rattle.it_report.specs.declared.refusal.Fault.{Fault}
 use Rattle.it_report.specs.declared.refusal.Fault.TheVariants as faults
 use Rattle.it_report.specs.declared.refusal.Refusal.{Refusal}
 use Rattle.it_rule_notes.specs.CountingFile.{setting_of}
+use Rattle.it_rule_notes.specs.Delivery.{TellsDelivery}
 use Rattle.it_rule_notes.specs.Disagree.{TellsDisagree}
 use Rattle.it_rule_notes.specs.Expiry.{TellsExpiry}
 use Rattle.it_rule_notes.specs.MetNote.{TellsMet}
@@ -34,6 +37,7 @@ use Rattle.it_rule_notes.specs.Payloads.{TellsPayloads}
 use Rattle.it_rule_notes.specs.Rule.{TellsRule}
 use Rattle.it_rule_notes.specs.declared.disagree_note.DisagreeNote.{DisagreeNote}
 use Rattle.it_rule_notes.specs.declared.expiry_note.ExpiryNote.{ExpiryNote}
+use Rattle.it_rule_notes.specs.declared.judged_note.JudgedNote.{JudgedNote}
 use Rattle.it_rule_notes.specs.declared.met_note.MetNote.{MetNote}
 use Rattle.it_rule_notes.specs.declared.owner_note.OwnerNote.{OwnerNote}
 use Rattle.it_rule_notes.specs.declared.payloads_note.PayloadsNote.{PayloadsNote}
@@ -60,6 +64,20 @@ pub record TellsMetAt (panel : Panel) (depth : ℕ) (level : FaultLevel) (place 
   pub place_is : note.place ≡ place
   pub is_true : TellsMet (setting_of panel level.moment) depth level.signed.layout level.links.now
       note
+
+-- what the rule at a place met, over the records of the layout's steps, and why it failed: a rule
+-- of the policy on what is delivered
+pub record TellsDeliveryAt (panel : Panel) (inputs : Inputs) (level : FaultLevel)
+    (place : RulePlace) (note : JudgedNote) : Type 0 where
+  pub policy : Policy
+  pub delivered : ArtifactMap
+  pub results : List StepResult
+  pub is_policy : PolicyOf inputs.policy policy
+  pub reads : SumsOf inputs.sums delivered
+  pub are_records : AreStepRecords (setting_of panel level.moment) inputs.depth
+      level.signed.layout level.links.now results
+  pub place_is : note.met.place ≡ place
+  pub tells : TellsDelivery level.signed.layout policy.deliver delivered results place.index note
 
 -- what a file or a key id is for a step of a layout, with the details of the file
 pub record TellsDetailed (panel : Panel) (level : FaultLevel) (step : Step) (told : DetailedNote)
@@ -105,6 +123,7 @@ module _ (panel : Panel) (inputs : Inputs) (level : FaultLevel) (fault : Fault) 
     pub is_policy : PolicyOf inputs.policy policy
     pub rule : TellsRule level.signed.layout policy.deliver notes.rule
     pub met : IfSome notes.met (TellsMetAt panel inputs.depth level notes.rule.place)
+    pub delivery : IfSome notes.delivery (TellsDeliveryAt panel inputs level notes.rule.place)
 
   -- the notes are true of the layout, and about the fault
   abbrev pub TellsAt : RefusalNotes → Type 0

@@ -3,6 +3,7 @@
 #![tactic(auto)]
 
 mod bad_parts;
+mod delivered;
 mod details;
 mod expiry;
 pub mod fault_level;

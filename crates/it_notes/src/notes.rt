@@ -23,6 +23,7 @@ use it_report::refusal::Fault;
 use it_report::verdict::Verdict;
 use it_rule_notes::disagree_note::DisagreeNote;
 use it_rule_notes::expiry_note::ExpiryNote;
+use it_rule_notes::judged_note::JudgedNote;
 use it_rule_notes::met_note::MetNote;
 use it_rule_notes::owner_note::OwnerNote;
 use it_rule_notes::payloads_note::PayloadsNote;
@@ -80,6 +81,8 @@ pub struct RuleNotes {
     pub rule: RuleNote,
     /// What a rule of a step met.
     pub met: Option<MetNote>,
+    /// What a rule on what is delivered met, and why.
+    pub delivery: Option<JudgedNote>,
 }
 
 impl Notes {

@@ -5,6 +5,7 @@ ghost use Rattle.it_notes.specs.Known.{IsKnown};
 ghost use Rattle.it_notes.specs.Level.{StepsStand};
 ghost use Rattle.it_notes.specs.RefusalNotes.{TellsAt, TellsMetAt};
 
+use crate::delivered::delivery_told;
 use crate::fault_level::FaultLevel;
 use crate::known::Known;
 use crate::notes::{RefusalNotes, RuleNotes};
@@ -53,7 +54,12 @@ pub(crate) fn rule_told<C: Checks>(
         return Ok(RefusalNotes::Nothing);
     };
     let met = met_at(alloc, known.inputs.depth, level, &rule.place, checks)?;
-    Ok(RefusalNotes::Rule(RuleNotes { rule, met }))
+    let delivery = delivery_told(alloc, known, level, &rule.place)?;
+    Ok(RefusalNotes::Rule(RuleNotes {
+        rule,
+        met,
+        delivery,
+    }))
 }
 
 /// What the rule at a place of a layout met.

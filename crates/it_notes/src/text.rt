@@ -13,6 +13,7 @@ use it_member_notes::unread_member::UnreadMember;
 use it_part_notes::part_note::PartNote;
 use it_part_notes::sum_line_note::SumLineNote;
 use it_prov_notes::note::ProvenanceNote;
+use it_rule_notes::cause::CauseNote;
 use it_rule_notes::disagree_note::DisagreeNote;
 use it_rule_notes::expiry_note::ExpiryNote;
 use it_rule_notes::met_note::MetNote;
@@ -92,10 +93,14 @@ impl PlaceNotes {
 impl RuleNotes {
     fn add_to(&self, lines: &mut Lines) -> Result<(), AllocError> {
         lines.add(&self.rule)?;
-        match &self.met {
-            Some(note) => lines.add(note),
-            None => Ok(()),
+        if let Some(note) = &self.met {
+            lines.add(note)?;
         }
+        if let Some(note) = &self.delivery {
+            lines.add(&note.met)?;
+            lines.add_all(note.causes.as_slice())?;
+        }
+        Ok(())
     }
 }
 
@@ -194,6 +199,12 @@ impl Line for RuleNote {
 impl Line for MetNote {
     fn push_line(&self, text: &mut Vec<u8>) -> Result<(), AllocError> {
         MetNote::push_line(self, text)
+    }
+}
+
+impl Line for CauseNote {
+    fn push_line(&self, text: &mut Vec<u8>) -> Result<(), AllocError> {
+        CauseNote::push_line(self, text)
     }
 }
 

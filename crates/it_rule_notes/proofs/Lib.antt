@@ -1,9 +1,13 @@
 pub mod Appended
 pub mod CountingFiles
+pub mod Delivering
 pub mod Forbidden
 pub mod FreeBefore
 pub mod HeldLinks
+pub mod LastParts
+pub mod Looking
 pub mod Meeting
+pub mod Missing
 pub mod Owners
 pub mod RuleWords
 pub mod RulesAt

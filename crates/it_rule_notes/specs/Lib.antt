@@ -1,11 +1,16 @@
+pub mod Cause
 pub mod CountingFile
+pub mod Delivery
 pub mod Difference
+pub mod DigestWords
 pub mod Disagree
 pub mod Expiry
 pub mod Line
 pub mod LinkFile
 pub mod Met
 pub mod MetNote
+pub mod Missed
+pub mod Near
 pub mod Owner
 pub mod Payloads
 pub mod Rule

@@ -1,3 +1,4 @@
+pub mod Cores
 pub mod CountingFile
 pub mod CountingLink
 pub mod JudgedRules

@@ -9,7 +9,7 @@ ghost use Rattle.it_rule_notes.specs.MetNote.{MeetsOver, TellsMet, TellsMetOver,
 use crate::judged::JudgedRules;
 use crate::level::Level;
 use crate::met::{Met, met_at, push_met};
-use crate::rule_place::{RulePlace, copy_of, push_place};
+use crate::rule_place::{RulePlace, place_of, push_place};
 use crate::step_records::{record_named, step_records};
 use it_chain::chain::StepResult;
 use it_chain::refusal::RuleItem;
@@ -121,17 +121,6 @@ fn met_over(
         links: links.as_slice(),
     };
     met_at(alloc, &judged, index)
-}
-
-/// The place, copied.
-fn place_of(alloc: Global, place: &RulePlace) -> Result<RulePlace, AllocError>
-    ensures { IfOk result (λ copy. copy ≡ place.now) }
-{
-    Ok(RulePlace {
-        item: copy_of(alloc, &place.item)?,
-        side: place.side,
-        index: place.index,
-    })
 }
 
 impl MetNote {

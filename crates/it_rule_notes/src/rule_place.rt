@@ -57,7 +57,10 @@ pub(crate) fn rules_at<'a>(book: &RuleBook<'a>, item: &RuleItem, side: Side) -> 
 }
 
 /// An inspection of this name.
-fn inspection_named<'a>(inspections: &'a [Inspection], name: &str) -> Option<&'a Inspection>
+pub(crate) fn inspection_named<'a>(
+    inspections: &'a [Inspection],
+    name: &str,
+) -> Option<&'a Inspection>
     ensures { MatchOption result (All (λ inspection. inspection.name ≢ name.now) inspections.now)
         (λ inspection. Contains inspections.now inspection.now
         × (inspection.now.name ≡ name.now)) }
@@ -90,17 +93,40 @@ pub(crate) fn copy_of(alloc: Global, item: &RuleItem) -> Result<RuleItem, AllocE
     }
 }
 
+/// The place, copied.
+pub(crate) fn place_of(alloc: Global, place: &RulePlace) -> Result<RulePlace, AllocError>
+    ensures { IfOk result (λ copy. copy ≡ place.now) }
+{
+    Ok(RulePlace {
+        item: copy_of(alloc, &place.item)?,
+        side: place.side,
+        index: place.index,
+    })
+}
+
 /// Appends where a rule stands.
 pub(crate) fn push_place(text: &mut Vec<u8>, place: &RulePlace) -> Result<(), AllocError>
     ensures { OnOk result (text.new.items ≡ text.old.items ++ place_form place.now) }
 {
+    push_place_at(text, &place.item, place.side, place.index)
+}
+
+/// Appends where the rule at an index stands in the list of an item for a side.
+pub(crate) fn push_place_at(
+    text: &mut Vec<u8>,
+    item: &RuleItem,
+    side: Side,
+    index: usize,
+) -> Result<(), AllocError>
+    ensures { OnOk result (text.new.items ≡ text.old.items
+        ++ place_form (record { item = item.now; side = side; index = index })) }
+{
     let alloc = *text.allocator();
-    let index = place.index;
     let number = format!(in alloc; ": rule {index} of the ")?;
-    text.extend_from_slice(document_of(&place.item).as_bytes())?;
+    text.extend_from_slice(document_of(item).as_bytes())?;
     text.extend_from_slice(number.as_bytes())?;
-    text.extend_from_slice(side_text(place.side).as_bytes())?;
-    push_item(text, &place.item)
+    text.extend_from_slice(side_text(side).as_bytes())?;
+    push_item(text, item)
 }
 
 fn document_of(item: &RuleItem) -> &'static str

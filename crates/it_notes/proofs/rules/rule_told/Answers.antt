@@ -10,4 +10,6 @@ returns g c = λ path. let told = rw c.in-Some.is at c.in_ok-rule.ensures in rec
   is_policy = c.requires.known.policy;
   rule = rw (← c.as_slice.ensures) told.1;
   met = c.in_ok-met.ensures;
+  delivery = c.in_ok-delivery.ensures (g.C.Checks.panel c.args.checks.now) c.requires.known
+      c.requires.steps;
 }

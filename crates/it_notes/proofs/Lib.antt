@@ -1,2 +1,3 @@
 mod Both
+mod Delivering
 mod Levels

@@ -26,15 +26,20 @@ pub(crate) fn delivery_told(
         → StepsStand panel known.now.inputs.now.depth level.now → IfOk result (λ found.
         IfSome found (TellsDeliveryAt panel known.now.inputs.now level.now place.now)) }
 {
-    match (&place.item, place.side, &level.steps) {
-        (RuleItem::Deliver, Side::Products, Some(steps)) => {
-            let book = RuleBook {
-                layout: &level.signed.layout,
-                deliver: known.policy.deliver.as_slice(),
-            };
-            let delivered = &known.delivered;
-            delivery_note(alloc, &book, delivered, steps.as_slice(), place.index)
-        }
-        _ => Ok(None),
-    }
+    let RuleItem::Deliver = &place.item else {
+        return Ok(None);
+    };
+    let Side::Products = place.side else {
+        return Ok(None);
+    };
+    let Some(steps) = &level.steps else {
+        return Ok(None);
+    };
+    let rules = known.policy.deliver.as_slice();
+    let book = RuleBook {
+        layout: &level.signed.layout,
+        deliver: rules,
+    };
+    let results = steps.as_slice();
+    delivery_note(alloc, &book, &known.delivered, results, place.index)
 }

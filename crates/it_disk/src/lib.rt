@@ -1,8 +1,9 @@
 //! What is at the paths that a command names: files up to a limit, rings and key objects, folders
 //! of links and of records, and entries of folders; and why the program stops.
 //!
-//! No contract can say what a path holds. So functions that read are generic in `Disk`, and a
-//! command is proved for every relation between paths and what is read there (`Holdings`).
+//! No contract can say what a path of the system holds. So functions that read are generic in
+//! `Disk`, and a command is proved for every relation between paths and what is read there
+//! (`Holdings`).
 //!
 //! ```
 //! let links = rt.links("links", 8, true)?;

@@ -21,7 +21,7 @@ use std::rt::Files;
 use std::{fs, io};
 
 /// How many bytes a file may have.
-pub(crate) const MOST_BYTES: u64 = 8_388_608;
+pub const MOST_BYTES: u64 = 8_388_608;
 
 /// The bytes of a file, up to the limit.
 pub(crate) fn read_file<R: Files + AllocGlobal>(rt: &R, path: &str) -> Result<Vec<u8>, Fault>

@@ -19,12 +19,14 @@ mod left_out;
 mod listing;
 mod ring_flaw;
 mod shown;
+mod tree;
 
 pub use disk::Disk;
 pub use fault::Fault;
-pub use files::{bytes, bytes_if_given, read_keys, read_limited, read_ring};
-pub use folders::{Kind, Links};
+pub use files::{MOST_BYTES, bytes, bytes_if_given, read_keys, read_limited, read_ring};
+pub use folders::{Kind, Links, Wanted, read_links, read_records};
 pub use left_out::{LeftOut, TooMany, note_left_out, too_many};
-pub use listing::Listed;
+pub use listing::{Listed, list};
 pub use ring_flaw::{EntryFlaw, RingFlaw};
 pub use shown::Shown;
+pub use tree::Tree;

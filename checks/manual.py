@@ -1,8 +1,8 @@
 #!/usr/bin/env python3
 """Keeps what describes the commands in step with the list docs/commands.json.
 
-That is docs/itv.1, the man page, the completions for bash, zsh and fish, and the usages that itv
-itself writes. Fails where one of them is not what the list gives, and where docs/commands.md does not
+That is docs/itv.1, the man page, the completions for bash, zsh and fish, the usages that itv
+itself writes, and the version that its library tells. Fails where one of them is not what the list gives, and where docs/commands.md does not
 show the arguments of a command as the list has them.
 
     manual.py          checks
@@ -22,6 +22,13 @@ TABLE = tree.TOP / "docs" / "commands.md"
 PAGE = tree.TOP / "docs" / "itv.1"
 COMPLETIONS = tree.TOP / "completions"
 USAGES = tree.TOP / "crates" / "it_words" / "src" / "words" / "usages.rt"
+VERSION = tree.TOP / "crates" / "it_library" / "src" / "version.rt"
+VERSION_SOURCE = """\
+//! The version. Made by checks/manual.py from docs/commands.json.
+
+/// The program with its version.
+pub(crate) const VERSION: &str = "{program} {version}";
+"""
 # The most columns that a line of a usage has.
 COLUMNS = 79
 USAGE_SOURCE = """\
@@ -171,7 +178,7 @@ def made(listed):
     """The text of each file that this script makes, by its path."""
     page = "\n".join(page_lines(listed)) + "\n"
     program = listed["program"]
-    return {PAGE: page, USAGES: usages(listed),
+    return {PAGE: page, USAGES: usages(listed), VERSION: VERSION_SOURCE.format(**listed),
             COMPLETIONS / f"{program}.bash": completions.bash(listed),
             COMPLETIONS / f"_{program}": completions.zsh(listed),
             COMPLETIONS / f"{program}.fish": completions.fish(listed)}

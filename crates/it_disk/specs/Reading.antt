@@ -10,8 +10,8 @@ use Rattle.it_limits.specs.Links.{AreFilesWithin}
 use Rattle.it_disk.specs.declared.folders.Kind.{Kind}
 use Rattle.it_disk.specs.declared.listing.Listed.{Listed}
 
--- what is at each path. No definition can know it, so what is said of a command is said for all
--- such relations between a path and what is read there.
+-- what is at each path. No definition can know it of a disk, so what is said of a command is said
+-- for all such relations between a path and what is read there.
 pub record Holdings : Type 1 where
   -- what the opened file has left to read, where that is known
   pub left : List ℕ → Option (List ℕ) → Type 0

@@ -21,7 +21,7 @@ use std::rt::Files;
 use std::{fs, io};
 
 /// How many bytes a file may have.
-pub(crate) const MOST_BYTES: u64 = 8_388_608;
+pub const MOST_BYTES: u64 = 8_388_608;
 
 /// The bytes of a file, up to the limit.
 pub(crate) fn read_file<R: Files + AllocGlobal>(rt: &R, path: &str) -> Result<Vec<u8>, Fault>
@@ -63,7 +63,7 @@ fn room_for<F: OpenFile>(file: &F) -> usize
 ///
 /// Where the file cannot be read or has more bytes.
 pub fn bytes<R: Disk>(rt: &R, path: &Text) -> Result<Sequence<u8>, Fault>
-    ensures { IfOk result (λ bytes. R.holdings.file path.now bytes) }
+    ensures { IfOk result (λ bytes. (R.holdings rt.now).file path.now bytes) }
 {
     Ok(Sequence::from(rt.file(path.as_str())?))
 }
@@ -77,7 +77,7 @@ pub fn bytes_if_given<R: Disk + AllocGlobal>(
     rt: &R,
     path: &Option<Text>,
 ) -> Result<Sequence<u8>, Fault>
-    ensures { IfOk result (λ bytes. HoldsIfGiven R.holdings.file path.now bytes) }
+    ensures { IfOk result (λ bytes. HoldsIfGiven (R.holdings rt.now).file path.now bytes) }
 {
     match path {
         Some(path) => bytes(rt, path),
@@ -91,9 +91,9 @@ pub fn bytes_if_given<R: Disk + AllocGlobal>(
 ///
 /// Those of `bytes`, and `BadRing` with the first thing that keeps the bytes from being a ring.
 pub fn read_ring<R: Disk + AllocGlobal>(rt: &R, path: &str) -> Result<HmacRing, Fault>
-    ensures ok { IfOk result (HoldsRing R.holdings path.now) }
+    ensures ok { IfOk result (HoldsRing (R.holdings rt.now) path.now) }
     ensures faults { IfErr result (λ fault. IsFileFault path.now fault
-        ⊎ IsNoRing R.holdings path.now fault) }
+        ⊎ IsNoRing (R.holdings rt.now) path.now fault) }
 {
     let alloc = rt.alloc();
     let bytes = rt.file(path)?;
@@ -113,9 +113,9 @@ pub fn read_ring<R: Disk + AllocGlobal>(rt: &R, path: &str) -> Result<HmacRing, 
 ///
 /// Those of `bytes`, and `BadKeys` where the bytes are no object from id to key object.
 pub fn read_keys<R: Disk + AllocGlobal>(rt: &R, path: &str) -> Result<Table<KeyObject>, Fault>
-    ensures ok { IfOk result (HoldsKeys R.holdings path.now) }
+    ensures ok { IfOk result (HoldsKeys (R.holdings rt.now) path.now) }
     ensures faults { IfErr result (λ fault. IsFileFault path.now fault
-        ⊎ IsNoKeys R.holdings path.now fault) }
+        ⊎ IsNoKeys (R.holdings rt.now) path.now fault) }
 {
     let alloc = rt.alloc();
     let bytes = rt.file(path)?;

@@ -1,21 +1,18 @@
 //! Folders of links and of records, read as far as they count and no further.
 ghost use Rattle.std.specs.Prelude.{◌≡◌, IfOk, OnOk};
 ghost use Rattle.it_limits.specs.Links.{AreFilesWithin};
-ghost use Rattle.it_disk.specs.Faults.{IsReadFault};
 ghost use Rattle.it_disk.specs.Reading.{AreLimited};
 
 use crate::fault::Fault;
-use crate::files::read_file;
 use crate::left_out::{LeftOut, too_many_in};
 use crate::shown::Shown;
+use crate::tree::Tree;
 use it_base::sequence::Sequence;
 use it_base::text::Text;
 use it_chain::bundle::{Bundle, BundleFault, File};
 use it_chain::held_file::HeldFile;
 use std::alloc::{AllocError, Global};
 use std::path::{Path, PathBuf};
-use std::rt::Files;
-use std::{fs, io};
 
 /// How many entries of one folder may be read.
 const MOST_ENTRIES: usize = 1_000;
@@ -34,15 +31,19 @@ pub enum Kind {
 
 /// Which names in a folder are looked at.
 #[derive(Clone, Copy)]
-pub(crate) enum Wanted {
+pub enum Wanted {
     /// All of them.
     All,
     /// Those that files of links have, and those of folders too where `folders` are read.
-    OfLinks { folders: bool },
+    OfLinks {
+        /// Whether folders are read.
+        folders: bool,
+    },
 }
 
 impl Wanted {
-    fn has(self, name: &str) -> bool {
+    /// Whether a name is looked at.
+    pub fn has(self, name: &str) -> bool {
         match self {
             Wanted::All => true,
             Wanted::OfLinks { folders } => name.ends_with(ENDING) || folders && name.contains('.'),
@@ -81,30 +82,35 @@ struct Entry {
 /// The files of a folder whose names end in `.link`, and its folders whose names hold a full stop,
 /// read in the same way, down to `depth` levels below it. Where signatures are `limited`, a file
 /// whose envelope has too many is left out.
-pub(crate) fn read_links<R: Files + AllocGlobal>(
-    rt: &R,
+///
+/// # Errors
+///
+/// The fault of a folder, an entry or a file that cannot be read, and `TooMany` where more than
+/// 1,000 entries of a folder would be read.
+pub fn read_links<T: Tree + AllocGlobal>(
+    tree: &T,
     folder: &str,
     depth: u8,
     limited: bool,
 ) -> Result<Links, Fault>
     ensures { IfOk result (λ links. AreLimited limited links.bundle) }
 {
-    let mut links = Links::new(rt.alloc());
-    for entry in entries(rt, folder, depth)? {
+    let mut links = Links::new(tree.alloc());
+    for entry in entries(tree, folder, depth)? {
         match depth.checked_sub(1) {
             Some(below) if entry.kind == Kind::Folder => {
-                let inner = read_links(rt, entry.path.as_str(), below, limited)?;
-                add_folder(rt.alloc(), &mut links, entry, inner)?;
+                let inner = read_links(tree, entry.path.as_str(), below, limited)?;
+                add_folder(tree.alloc(), &mut links, entry, inner)?;
             }
-            _ => add_file(rt, &mut links, entry, limited)?,
+            _ => add_file(tree, &mut links, entry, limited)?,
         }
     }
     Ok(links)
 }
 
 /// Reads a file, and adds it to the links or leaves it out.
-fn add_file<R: Files + AllocGlobal>(
-    rt: &R,
+fn add_file<T: Tree + AllocGlobal>(
+    tree: &T,
     links: &mut Links,
     entry: Entry,
     limited: bool,
@@ -112,8 +118,8 @@ fn add_file<R: Files + AllocGlobal>(
     ensures { OnOk result (AreLimited limited links.old.bundle
         → AreLimited limited links.new.bundle) }
 {
-    let alloc = rt.alloc();
-    let bytes = Sequence::from(read_file(rt, entry.path.as_str())?);
+    let alloc = tree.alloc();
+    let bytes = Sequence::from(tree.read_whole(entry.path.as_str())?);
     let name = Text::from(entry.name);
     let file = HeldFile::read(alloc, File { name, bytes })?;
     match too_many_in(&file, limited) {
@@ -148,16 +154,20 @@ fn add_folder(alloc: Global, links: &mut Links, entry: Entry, inner: Links) -> R
 
 /// The records of inspections in a folder: its files whose names end in `.link`, each under its
 /// name without that ending.
-pub(crate) fn read_records<R: Files + AllocGlobal>(
-    rt: &R,
+///
+/// # Errors
+///
+/// Those of `read_links`.
+pub fn read_records<T: Tree + AllocGlobal>(
+    tree: &T,
     folder: &str,
 ) -> Result<Vec<(Text, Sequence<u8>)>, Fault> {
-    let alloc = rt.alloc();
+    let alloc = tree.alloc();
     let mut records = Vec::new(alloc);
-    for entry in entries(rt, folder, 0)? {
+    for entry in entries(tree, folder, 0)? {
         let name = entry.name.as_str();
         let inspection = name.strip_suffix(ENDING).unwrap_or(name);
-        let bytes = read_file(rt, entry.path.as_str())?;
+        let bytes = tree.read_whole(entry.path.as_str())?;
         let record = (Text::copy(alloc, inspection)?, Sequence::from(bytes));
         records.push(record)?;
     }
@@ -166,12 +176,12 @@ pub(crate) fn read_records<R: Files + AllocGlobal>(
 
 /// What is read of a folder, in the order of the names' bytes. Folders are read where `depth` is
 /// not 0.
-fn entries<R: Files + AllocGlobal>(rt: &R, folder: &str, depth: u8) -> Result<Vec<Entry>, Fault> {
-    let alloc = rt.alloc();
+fn entries<T: Tree + AllocGlobal>(tree: &T, folder: &str, depth: u8) -> Result<Vec<Entry>, Fault> {
+    let alloc = tree.alloc();
     let mut entries = Vec::new(alloc);
-    for name in names(rt, folder, Wanted::OfLinks { folders: depth > 0 })? {
+    for name in tree.names(folder, Wanted::OfLinks { folders: depth > 0 })? {
         let path = Path::new(folder).join(alloc, name.as_str())?;
-        let Some(kind) = kind_of(rt, name.as_str(), path.as_str(), depth)? else {
+        let Some(kind) = kind_of(tree, name.as_str(), path.as_str(), depth)? else {
             continue;
         };
         if entries.len() == MOST_ENTRIES {
@@ -185,66 +195,12 @@ fn entries<R: Files + AllocGlobal>(rt: &R, folder: &str, depth: u8) -> Result<Ve
     Ok(entries)
 }
 
-/// The names in a folder that are wanted, in the order of their bytes. The others are not kept.
-///
-/// # Errors
-///
-/// Where the folder cannot be read, or a name in it is not UTF-8, wanted or not.
-pub(crate) fn names<R: Files + AllocGlobal>(
-    rt: &R,
-    folder: &str,
-    wanted: Wanted,
-) -> Result<Vec<String>, Fault> {
-    let alloc = rt.alloc();
-    let listing = match fs::read_dir(&rt, folder) {
-        Ok(listing) => listing,
-        Err(error) => return Err(Fault::of_file(alloc, folder, &error)),
-    };
-    let mut names = Vec::new(alloc);
-    for entry in listing {
-        let entry = match entry {
-            Ok(entry) => entry,
-            Err(error) => return Err(Fault::of_listing(alloc, folder, &error)),
-        };
-        if wanted.has(entry.file_name()) {
-            names.push(String::from_str(alloc, entry.file_name())?)?;
-        }
-    }
-    names.sort_unstable();
-    Ok(names)
-}
-
 /// What an entry is read as, or `None` where it is skipped: a folder too deep, a file with another
 /// ending, or what is neither. A symbolic link counts as what it leads to.
-fn kind_of<R: Files + AllocGlobal>(
-    rt: &R,
-    name: &str,
-    path: &str,
-    depth: u8,
-) -> Result<Option<Kind>, Fault> {
-    match fs::metadata(rt, path) {
-        Ok(found) if found.is_dir() && depth > 0 => Ok(Some(Kind::Folder)),
-        Ok(found) if found.is_file() && name.ends_with(ENDING) => Ok(Some(Kind::File)),
-        Ok(_) => Ok(None),
-        Err(error) => Err(untold(rt, path, &error)?),
-    }
-}
-
-/// The fault of a path where the system does not say what is there.
-pub(crate) fn untold<R: Files + AllocGlobal>(
-    rt: &R,
-    path: &str,
-    error: &io::Error,
-) -> Result<Fault, AllocError>
-    ensures { IfOk result (IsReadFault path.now) }
-{
-    if error.kind() != io::ErrorKind::NotFound {
-        return Ok(Fault::of_file(rt.alloc(), path, error));
-    }
-    match fs::symlink_metadata(rt, path) {
-        Ok(found) if found.is_symlink() => {
-            Fault::unread(rt.alloc(), path, "it is a symbolic link that leads nowhere")
-        }
-        _ => Ok(Fault::of_file(rt.alloc(), path, error)),
+fn kind_of<T: Tree>(tree: &T, name: &str, path: &str, depth: u8) -> Result<Option<Kind>, Fault> {
+    match tree.look(path)? {
+        Some(Kind::Folder) if depth > 0 => Ok(Some(Kind::Folder)),
+        Some(Kind::File) if name.ends_with(ENDING) => Ok(Some(Kind::File)),
+        _ => Ok(None),
     }
 }

@@ -1,8 +1,9 @@
 //! What is at the paths that a command names: files up to a limit, rings and key objects, folders
 //! of links and of records, and entries of folders; and why the program stops.
 //!
-//! No contract can say what a path holds. So functions that read are generic in `Disk`, and a
-//! command is proved for every relation between paths and what is read there (`Holdings`).
+//! No contract can say what a path of the system holds. So functions that read are generic in
+//! `Disk`, and a command is proved for every relation between paths and what is read there
+//! (`Holdings`).
 //!
 //! ```
 //! let links = rt.links("links", 8, true)?;
@@ -19,12 +20,14 @@ mod listing;
 mod reason;
 mod ring_flaw;
 mod shown;
+mod tree;
 
 pub use disk::Disk;
 pub use fault::Fault;
-pub use files::{bytes, bytes_if_given, read_keys, read_limited, read_ring};
-pub use folders::{Kind, Links};
+pub use files::{MOST_BYTES, bytes, bytes_if_given, read_keys, read_limited, read_ring};
+pub use folders::{Kind, Links, Wanted, read_links, read_records};
 pub use left_out::{LeftOut, TooMany, note_left_out, too_many};
-pub use listing::Listed;
+pub use listing::{Listed, list};
 pub use ring_flaw::{EntryFlaw, RingFlaw};
 pub use shown::Shown;
+pub use tree::Tree;

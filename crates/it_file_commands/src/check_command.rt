@@ -25,7 +25,8 @@ pub fn run<R: Disk + AllocGlobal, W: Write, N: Write>(
     out: &mut W,
     notes: &mut N,
 ) -> Result<Status, Fault>
-    ensures ok { IfOk result (λ status. (text : _) × Checks R.holdings words.now text status
+    ensures ok { IfOk result (λ status. (text : _)
+        × Checks (R.holdings rt.now) words.now text status
         × Appends (W.contents out.old) (W.contents out.new) text) }
     ensures nothing { IfErr result (λ fault. fault ≢ Fault.Run RunFault.Write → out.new ≡ out.old) }
 {
@@ -39,7 +40,7 @@ fn document<R: Disk + AllocGlobal>(
     rt: &R,
     path: &Option<Text>,
 ) -> Result<Option<Sequence<u8>>, Fault>
-    ensures { IfOk result (IsGiven R.holdings.file path.now) }
+    ensures { IfOk result (IsGiven (R.holdings rt.now).file path.now) }
 {
     match path {
         Some(path) => Ok(Some(bytes(rt, path)?)),

@@ -31,10 +31,11 @@ pub fn run<R: Disk + AllocGlobal, W: Write>(
     words: &DigestWords,
     out: &mut W,
 ) -> Result<Status, Fault>
-    ensures ok { IfOk result (λ status. (text : _) × ListsDigests R.holdings words.now text status
+    ensures ok { IfOk result (λ status. (text : _)
+        × ListsDigests (R.holdings rt.now) words.now text status
         × Appends (W.contents out.old) (W.contents out.new) text) }
     ensures stopped { IfErr result (λ fault. fault ≢ Fault.Run RunFault.Write
-        → (out.new ≡ out.old) ⊎ ListsFirst R.holdings words.now (W.contents out.old)
+        → (out.new ≡ out.old) ⊎ ListsFirst (R.holdings rt.now) words.now (W.contents out.old)
         (W.contents out.new)) }
 {
     let paths = words.paths.as_slice();
@@ -52,10 +53,10 @@ fn digest_files<R: Disk + AllocGlobal, W: Write>(
     files: &[Text],
     out: &mut W,
 ) -> Result<(), Fault>
-    ensures ok { IfOk result (λ _. (text : _) × AreLinesOf R.holdings files.now text
+    ensures ok { IfOk result (λ _. (text : _) × AreLinesOf (R.holdings rt.now) files.now text
         × Appends (W.contents out.old) (W.contents out.new) text) }
     ensures stopped { IfErr result (λ fault. fault ≢ Fault.Run RunFault.Write
-        → (count : _) × (text : _) × AreLinesOf R.holdings (take count files.now) text
+        → (count : _) × (text : _) × AreLinesOf (R.holdings rt.now) (take count files.now) text
         × Appends (W.contents out.old) (W.contents out.new) text) }
 {
     for file in files {
@@ -69,7 +70,7 @@ fn digest_file<R: Disk + AllocGlobal, W: Write>(
     file: &Text,
     out: &mut W,
 ) -> Result<(), Fault>
-    ensures ok { IfOk result (λ _. (line : _) × IsLineOf R.holdings file.now line
+    ensures ok { IfOk result (λ _. (line : _) × IsLineOf (R.holdings rt.now) file.now line
         × Appends (W.contents out.old) (W.contents out.new) line) }
     ensures nothing { IfErr result (λ fault. fault ≢ Fault.Run RunFault.Write → out.new ≡ out.old) }
 {

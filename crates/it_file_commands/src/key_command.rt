@@ -24,7 +24,8 @@ pub fn run<R: Disk + AllocGlobal, W: Write>(
     words: &KeyWords,
     out: &mut W,
 ) -> Result<Status, Fault>
-    ensures ok { IfOk result (λ status. (text : _) × MakesKeys R.holdings words.now text status
+    ensures ok { IfOk result (λ status. (text : _)
+        × MakesKeys (R.holdings rt.now) words.now text status
         × Appends (W.contents out.old) (W.contents out.new) text) }
     ensures nothing { IfErr result (λ fault. fault ≢ Fault.Run RunFault.Write → out.new ≡ out.old) }
 {
@@ -49,7 +50,7 @@ fn name_of(words: &KeyWords) -> Option<&str>
 
 /// The bytes of each file, in the order of the paths.
 fn read_files<R: Disk + AllocGlobal>(rt: &R, paths: &[Text]) -> Result<Vec<Sequence<u8>>, Fault>
-    ensures { IfOk result (λ files. AllZip R.holdings.file paths.now files.items) }
+    ensures { IfOk result (λ files. AllZip (R.holdings rt.now).file paths.now files.items) }
 {
     let mut files = Vec::new(rt.alloc());
     for path in paths {

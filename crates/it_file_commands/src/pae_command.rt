@@ -20,7 +20,8 @@ pub fn run<R: Disk + AllocGlobal, W: Write>(
     words: &PaeWords,
     out: &mut W,
 ) -> Result<Status, Fault>
-    ensures ok { IfOk result (λ status. (text : _) × Encodes R.holdings words.now text status
+    ensures ok { IfOk result (λ status. (text : _)
+        × Encodes (R.holdings rt.now) words.now text status
         × Appends (W.contents out.old) (W.contents out.new) text) }
     ensures nothing { IfErr result (λ fault. fault ≢ Fault.Run RunFault.Write → out.new ≡ out.old) }
 {

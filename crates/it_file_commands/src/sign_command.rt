@@ -38,7 +38,7 @@ pub fn run<R: Disk + AllocGlobal, W: Write>(
     out: &mut W,
 ) -> Result<Status, Fault>
     ensures ok { IfOk result (λ status. (text : _)
-        × SignsAsAsked R.holdings words.now text status
+        × SignsAsAsked (R.holdings rt.now) words.now text status
         × Appends (W.contents out.old) (W.contents out.new) text) }
     ensures nothing { IfErr result (λ fault. fault ≢ Fault.Run RunFault.Write → out.new ≡ out.old) }
 {
@@ -61,7 +61,7 @@ fn sign_alone<R: Disk + AllocGlobal, W: Write>(
     out: &mut W,
 ) -> Result<Status, Fault>
     ensures ok { let w = words.now in IfOk result (λ status. (status ≡ Status.Good) × (text : _)
-        × SignsBy R.holdings w w.by body.now text
+        × SignsBy (R.holdings rt.now) w w.by body.now text
         × Appends (W.contents out.old) (W.contents out.new) text) }
     ensures nothing { IfErr result (λ fault. fault ≢ Fault.Run RunFault.Write → out.new ≡ out.old) }
 {
@@ -80,7 +80,7 @@ fn sign_by_ring<R: Disk + AllocGlobal, W: Write>(
     out: &mut W,
 ) -> Result<Status, Fault>
     ensures ok { IfOk result (λ status. (status ≡ Status.Good) × (text : _)
-        × SignsByRing R.holdings words.now path.now body.now text
+        × SignsByRing (R.holdings rt.now) words.now path.now body.now text
         × Appends (W.contents out.old) (W.contents out.new) text) }
     ensures nothing { IfErr result (λ fault. fault ≢ Fault.Run RunFault.Write → out.new ≡ out.old) }
 {
@@ -118,7 +118,7 @@ fn sign_as_made<R: Disk + AllocGlobal, W: Write>(
     out: &mut W,
 ) -> Result<Status, Fault>
     ensures ok { IfOk result (λ status. (status ≡ Status.Good) × (text : _)
-        × SignsAsMade R.holdings words.now paths.now body.now text
+        × SignsAsMade (R.holdings rt.now) words.now paths.now body.now text
         × Appends (W.contents out.old) (W.contents out.new) text) }
     ensures nothing { IfErr result (λ fault. fault ≢ Fault.Run RunFault.Write → out.new ≡ out.old) }
 {

@@ -34,7 +34,7 @@ pub(crate) fn run<R: Disk + AllocGlobal, W: Write>(
     out: &mut W,
 ) -> Result<Status, Fault>
     ensures ok { let o = onto.now in IfOk result (λ status. (status ≡ Status.Good) × (text : _)
-        × SignsOnto R.holdings o.words.now o.body.now o.path.now text
+        × SignsOnto (R.holdings rt.now) o.words.now o.body.now o.path.now text
         × Appends (W.contents out.old) (W.contents out.new) text) }
     ensures nothing { IfErr result (λ fault. fault ≢ Fault.Run RunFault.Write → out.new ≡ out.old) }
 {
@@ -52,8 +52,8 @@ fn sign_by_ring<R: Disk + AllocGlobal, W: Write>(
     out: &mut W,
 ) -> Result<Status, Fault>
     ensures ok { let o = onto.now in IfOk result (λ status. (status ≡ Status.Good) × (text : _)
-        × (envelope : _) × R.holdings.file o.path.now envelope
-        × SignsOntoByRing R.holdings o.words.now path.now o.body.now envelope text
+        × (envelope : _) × (R.holdings rt.now).file o.path.now envelope
+        × SignsOntoByRing (R.holdings rt.now) o.words.now path.now o.body.now envelope text
         × Appends (W.contents out.old) (W.contents out.new) text) }
     ensures nothing { IfErr result (λ fault. fault ≢ Fault.Run RunFault.Write → out.new ≡ out.old) }
 {
@@ -99,8 +99,8 @@ fn sign_as_made<R: Disk + AllocGlobal, W: Write>(
     out: &mut W,
 ) -> Result<Status, Fault>
     ensures ok { let o = onto.now in IfOk result (λ status. (status ≡ Status.Good) × (text : _)
-        × (envelope : _) × R.holdings.file o.path.now envelope
-        × SignsOntoAsMade R.holdings o.words.now paths.now o.body.now envelope text
+        × (envelope : _) × (R.holdings rt.now).file o.path.now envelope
+        × SignsOntoAsMade (R.holdings rt.now) o.words.now paths.now o.body.now envelope text
         × Appends (W.contents out.old) (W.contents out.new) text) }
     ensures nothing { IfErr result (λ fault. fault ≢ Fault.Run RunFault.Write → out.new ≡ out.old) }
 {

@@ -27,7 +27,8 @@ pub fn run<R: Disk + AllocGlobal, W: Write>(
     words: &SignedWords,
     out: &mut W,
 ) -> Result<Status, Fault>
-    ensures ok { IfOk result (λ status. (text : _) × ShowsSigners R.holdings words.now text status
+    ensures ok { IfOk result (λ status. (text : _)
+        × ShowsSigners (R.holdings rt.now) words.now text status
         × Appends (W.contents out.old) (W.contents out.new) text) }
     ensures nothing { IfErr result (λ fault. fault ≢ Fault.Run RunFault.Write → out.new ≡ out.old) }
 {
@@ -47,7 +48,7 @@ fn show_by_ring<R: Disk + AllocGlobal, W: Write>(
     out: &mut W,
 ) -> Result<Status, Fault>
     ensures ok { IfOk result (λ status. (text : _)
-        × ShowsRingSigners R.holdings path.now envelope.now text status
+        × ShowsRingSigners (R.holdings rt.now) path.now envelope.now text status
         × Appends (W.contents out.old) (W.contents out.new) text) }
     ensures nothing { IfErr result (λ fault. fault ≢ Fault.Run RunFault.Write → out.new ≡ out.old) }
 {
@@ -83,7 +84,7 @@ fn show_by_keys<R: Disk + AllocGlobal, W: Write>(
     out: &mut W,
 ) -> Result<Status, Fault>
     ensures ok { IfOk result (λ status. (text : _)
-        × ShowsKeySigners R.holdings path.now envelope.now text status
+        × ShowsKeySigners (R.holdings rt.now) path.now envelope.now text status
         × Appends (W.contents out.old) (W.contents out.new) text) }
     ensures nothing { IfErr result (λ fault. fault ≢ Fault.Run RunFault.Write → out.new ≡ out.old) }
 {

@@ -25,7 +25,8 @@ pub fn run<R: Disk + AllocGlobal, W: Write>(
     words: &StatementWords,
     out: &mut W,
 ) -> Result<Status, Fault>
-    ensures ok { IfOk result (λ status. (text : _) × MakesStatement R.holdings words.now text status
+    ensures ok { IfOk result (λ status. (text : _)
+        × MakesStatement (R.holdings rt.now) words.now text status
         × Appends (W.contents out.old) (W.contents out.new) text) }
     ensures nothing { IfErr result (λ fault. fault ≢ Fault.Run RunFault.Write → out.new ≡ out.old) }
 {

@@ -26,7 +26,7 @@ const MOST_FILES: usize = 1_000_000;
 /// Where a path is neither a file nor a folder, a folder cannot be read or has too much below it,
 /// or something below it is neither a file nor a folder.
 pub fn files_at_each<R: Disk + AllocGlobal>(rt: &R, paths: &[Text]) -> Result<Vec<Text>, Fault>
-    ensures { IfOk result (λ files. AreFilesAtEach R.holdings paths.now files.items) }
+    ensures { IfOk result (λ files. AreFilesAtEach (R.holdings rt.now) paths.now files.items) }
 {
     let mut files = Vec::new(rt.alloc());
     for path in paths {
@@ -46,7 +46,8 @@ fn add_texts(texts: &mut Vec<Text>, more: Vec<String>) -> Result<(), AllocError>
 
 /// The paths of the files at or below a path: of the file itself, or of all files below the folder.
 fn files_at<R: Disk + AllocGlobal>(rt: &R, path: &str) -> Result<Vec<String>, Fault>
-    ensures { IfOk result (λ files. AreFilesAt R.holdings path.now (map string_bytes files.items)) }
+    ensures { IfOk result
+        (λ files. AreFilesAt (R.holdings rt.now) path.now (map string_bytes files.items)) }
 {
     match rt.kind(path)? {
         Kind::File => Ok(vec![in rt.alloc(); String::from_str(rt.alloc(), path)?]?),
@@ -56,7 +57,8 @@ fn files_at<R: Disk + AllocGlobal>(rt: &R, path: &str) -> Result<Vec<String>, Fa
 
 /// The paths of all files below a folder, each once, in the order of their bytes.
 fn files_below<R: Disk + AllocGlobal>(rt: &R, folder: &str) -> Result<Vec<String>, Fault>
-    ensures { IfOk result (λ files. AreBelow R.holdings folder.now (map string_bytes files.items)) }
+    ensures { IfOk result
+        (λ files. AreBelow (R.holdings rt.now) folder.now (map string_bytes files.items)) }
 {
     let mut files = Vec::new(rt.alloc());
     find_files(rt, folder, MOST_LEVELS, &mut files)?;
@@ -71,7 +73,7 @@ fn find_files<R: Disk + AllocGlobal>(
     levels: u8,
     files: &mut Vec<String>,
 ) -> Result<(), Fault>
-    ensures { IfOk result (λ _. (found : _) × HoldsFiles R.holdings folder.now found
+    ensures { IfOk result (λ _. (found : _) × HoldsFiles (R.holdings rt.now) folder.now found
         × (map string_bytes files.new.items ≡ map string_bytes files.old.items ++ found)) }
 {
     let entries = rt.entries(folder)?;

@@ -33,14 +33,14 @@ pub fn run_to<R: Disk + AllocGlobal, W: Write, N: Write>(
 ) -> Result<Status, Stop>
     ensures ok { IfOk result (λ status. (command : _) × (text : _)
         × AreWordsOf (map string_bytes words.now) command
-        × IsOutputOf R.holdings command text status
+        × IsOutputOf (R.holdings rt.now) command text status
         × Appends (W.contents out.old.inner) (W.contents out.new.inner) text) }
     ensures stopped { IfErr result (λ stop. stop ≢ Stop.OfFault (Fault.Run RunFault.Write)
         → out.new.error ≡ None → (out.new.inner ≡ out.old.inner)
-        ⊎ NamesDigestBegun R.holdings (map string_bytes words.now) (W.contents out.old.inner)
-        (W.contents out.new.inner)) }
+        ⊎ NamesDigestBegun (R.holdings rt.now) (map string_bytes words.now)
+        (W.contents out.old.inner) (W.contents out.new.inner)) }
     ensures findings { IsErrOf result Stop.Findings
-        → NamesFoundAgainst R.holdings (map string_bytes words.now) }
+        → NamesFoundAgainst (R.holdings rt.now) (map string_bytes words.now) }
 {
     let outcome = run_words(rt, words, out, notes);
     match (outcome, out.error) {
@@ -69,13 +69,15 @@ pub fn run_words<R: Disk + AllocGlobal, W: Write, N: Write>(
 ) -> Result<Status, Stop>
     ensures ok { IfOk result (λ status. (command : _) × (text : _)
         × AreWordsOf (map string_bytes words.now) command
-        × IsOutputOf R.holdings command text status
+        × IsOutputOf (R.holdings rt.now) command text status
         × Appends (W.contents out.old) (W.contents out.new) text) }
     ensures stopped { IfErr result (λ stop. stop ≢ Stop.OfFault (Fault.Run RunFault.Write)
-        → (out.new ≡ out.old) ⊎ NamesDigestBegun R.holdings (map string_bytes words.now)
-        (W.contents out.old) (W.contents out.new)) }
+        → (out.new ≡ out.old)
+        ⊎ NamesDigestBegun (R.holdings rt.now) (map string_bytes words.now) (W.contents out.old)
+        (W.contents out.new)) }
     ensures findings { IsErrOf result Stop.Findings
-        → NamesFoundAgainst R.holdings (map string_bytes words.now) × (out.new ≡ out.old) }
+        → NamesFoundAgainst (R.holdings rt.now) (map string_bytes words.now)
+        × (out.new ≡ out.old) }
 {
     let command = read_words(rt.alloc(), words)?;
     run_command(rt, &command, out, notes)
@@ -89,13 +91,14 @@ fn run_command<R: Disk + AllocGlobal, W: Write, N: Write>(
 ) -> Result<Status, Stop>
     requires { GoesNoDeeper command.now }
     ensures ok { IfOk result (λ status. (text : _)
-        × IsOutputOf R.holdings command.now text status
+        × IsOutputOf (R.holdings rt.now) command.now text status
         × Appends (W.contents out.old) (W.contents out.new) text) }
     ensures stopped { IfErr result (λ stop. stop ≢ Stop.OfFault (Fault.Run RunFault.Write)
-        → (out.new ≡ out.old) ⊎ IsDigestBegun R.holdings command.now (W.contents out.old)
+        → (out.new ≡ out.old)
+        ⊎ IsDigestBegun (R.holdings rt.now) command.now (W.contents out.old)
         (W.contents out.new)) }
     ensures findings { IsErrOf result Stop.Findings
-        → IsFoundAgainst R.holdings command.now × (out.new ≡ out.old) }
+        → IsFoundAgainst (R.holdings rt.now) command.now × (out.new ≡ out.old) }
 {
     match command {
         Words::Signed(words) => Ok(signed_command::run(rt, words, out)?),

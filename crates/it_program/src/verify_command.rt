@@ -41,11 +41,12 @@ pub(crate) fn run<R: Disk + AllocGlobal, W: Write, N: Write>(
     notes: &mut N,
 ) -> Result<Status, Stop>
     requires { words.now.depth ≤ 8 }
-    ensures ok { IfOk result (λ status. (text : _) × Verifies R.holdings words.now text status
+    ensures ok { IfOk result (λ status. (text : _)
+        × Verifies (R.holdings rt.now) words.now text status
         × Appends (W.contents out.old) (W.contents out.new) text) }
     ensures nothing { IfErr result (λ stop. stop ≢ Stop.OfFault (Fault.Run RunFault.Write)
         → out.new ≡ out.old) }
-    ensures findings { IsErrOf result Stop.Findings → FindsAgainst R.holdings words.now }
+    ensures findings { IsErrOf result Stop.Findings → FindsAgainst (R.holdings rt.now) words.now }
 {
     let alloc = rt.alloc();
     let mut left_out = Vec::new(alloc);
@@ -115,7 +116,7 @@ fn form_asked(json: bool) -> ReportForm
 
 /// The rings at the paths, in their order.
 fn read_rings<R: Disk + AllocGlobal>(rt: &R, paths: &[Text]) -> Result<Vec<HmacRing>, Fault>
-    ensures { IfOk result (λ rings. AllZip (HoldsRing R.holdings) paths.now rings.items) }
+    ensures { IfOk result (λ rings. AllZip (HoldsRing (R.holdings rt.now)) paths.now rings.items) }
 {
     let mut rings = Vec::new(rt.alloc());
     for path in paths {
@@ -131,7 +132,7 @@ fn inputs<R: Disk + AllocGlobal>(
     words: &VerifyWords,
     left_out: &mut Vec<LeftOut>,
 ) -> Result<Inputs, Fault>
-    ensures { IfOk result (AreInputs R.holdings words.now) }
+    ensures { IfOk result (AreInputs (R.holdings rt.now) words.now) }
 {
     let moment = String::from_str(rt.alloc(), words.at.as_str())?;
     Ok(Inputs {
@@ -148,7 +149,7 @@ fn inputs<R: Disk + AllocGlobal>(
 
 /// The layout, which with public keys may not have too many signatures.
 fn layout<R: Disk + AllocGlobal>(rt: &R, words: &VerifyWords) -> Result<Sequence<u8>, Fault>
-    ensures holds { IfOk result (λ layout. R.holdings.file words.now.layout layout) }
+    ensures holds { IfOk result (λ layout. (R.holdings rt.now).file words.now.layout layout) }
     ensures limited { IfOk result
         (λ layout. IsTrue words.now.public_keys → IsWithinLimit layout) }
 {
@@ -184,7 +185,7 @@ fn links<R: Disk + AllocGlobal>(
     words: &VerifyWords,
     left_out: &mut Vec<LeftOut>,
 ) -> Result<Bundle, Fault>
-    ensures holds { IfOk result (λ links. R.holdings.links words.now.links words.now.depth
+    ensures holds { IfOk result (λ links. (R.holdings rt.now).links words.now.links words.now.depth
         words.now.public_keys links) }
     ensures limited { IfOk result (λ links. AreLimited words.now.public_keys links) }
 {
@@ -200,7 +201,7 @@ fn provenance<R: Disk + AllocGlobal>(
     words: &VerifyWords,
     left_out: &mut Vec<LeftOut>,
 ) -> Result<Sequence<u8>, Fault>
-    ensures { IfOk result (HoldsLookedAt R.holdings.file words.now.provenance
+    ensures { IfOk result (HoldsLookedAt (R.holdings rt.now).file words.now.provenance
         words.now.public_keys) }
 {
     let read = bytes_if_given(rt, &words.provenance)?;
@@ -219,7 +220,8 @@ fn records<R: Disk + AllocGlobal>(
     rt: &R,
     folder: &Option<Text>,
 ) -> Result<Sequence<(Text, Sequence<u8>)>, Fault>
-    ensures { IfOk result (λ records. HoldsIfGiven R.holdings.records folder.now records) }
+    ensures { IfOk result
+        (λ records. HoldsIfGiven (R.holdings rt.now).records folder.now records) }
 {
     match folder {
         Some(folder) => rt.records(folder.as_str()),

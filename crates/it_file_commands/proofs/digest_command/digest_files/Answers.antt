@@ -17,7 +17,7 @@ loop-file-preserved g c =
     let before = c.loop-file.invariant in
     let told = c.in_ok-digest_file.ensures.ok in (
       before.0 ++ told.0,
-      subst (λ listed. AreLinesOf g.R.Disk.holdings listed (before.0 ++ told.0))
+      subst (λ listed. AreLinesOf (g.R.Disk.holdings c.args.rt.now) listed (before.0 ++ told.0))
           (sym more) (one_more before.1 told.1),
       Appends-trans _ _ _ before.0 told.0 before.2 told.2,
     )
@@ -26,9 +26,10 @@ pub returns : goal.returns
 returns g c =
     let files = c.args.files.now in
     let told = c.loop-file.invariant in
+    let disk = g.R.Disk.holdings c.args.rt.now in
     let all : take c.loop-file.file-index files ≡ files =
     take_all c.loop-file.file-index files c.loop-file-test.false in
     record {
-      ok = (told.0, subst (λ listed. AreLinesOf g.R.Disk.holdings listed told.0) all told.1, told.2);
+      ok = (told.0, subst (λ listed. AreLinesOf disk listed told.0) all told.1, told.2);
       stopped = tt;
     }

@@ -11,5 +11,5 @@ loop-path-preserved g c =
     take_more paths i c.path-item.result c.loop-path-test.true ∙ ap (λ x. take i paths ++ x ∷ [])
     (sym c.path-item.is) in
     rw (c.in_ok-push.ensures.items, more)
-    (with_last g.R.Disk.holdings.file (take i paths) c.loop-path.files.items
+    (with_last (g.R.Disk.holdings c.args.rt.now).file (take i paths) c.loop-path.files.items
     c.path-item.result c.in_ok-bytes.field-0 c.loop-path.invariant c.in_ok-bytes.ensures)

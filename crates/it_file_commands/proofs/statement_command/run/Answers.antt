@@ -30,7 +30,7 @@ made_of disk words sums given Goes (Err e) holds is_given made = tt
 
 pub returns-in-None-clause-ok : goal.returns-in-None-clause-ok
 returns-in-None-clause-ok g c =
-    let disk = g.R.Disk.holdings in
+    let disk = g.R.Disk.holdings c.args.rt.now in
     let words = c.args.words.now in
     let sums = c.as_slice.result.now in
     let holds : disk.file words.sums sums = search rules in
@@ -39,7 +39,7 @@ returns-in-None-clause-ok g c =
 
 pub returns-clause-ok : goal.returns-clause-ok
 returns-clause-ok g c =
-    let disk = g.R.Disk.holdings in
+    let disk = g.R.Disk.holdings c.args.rt.now in
     let words = c.args.words.now in
     let sums = c.as_slice-in-Some-2.result.now in
     let parameters = c.as_slice-in-Some.result.now in

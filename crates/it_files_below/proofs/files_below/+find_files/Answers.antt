@@ -25,7 +25,7 @@ loop-entry-preserved g t c =
     elim c.match-entry.branch [
       | in-File+in_ok-add_file-in-File w ↦ (
         before.0 ++ path ∷ [],
-        with_file g.R.Disk.holdings c.args.folder.now path (take i entries)
+        with_file (g.R.Disk.holdings c.args.rt.now) c.args.folder.now path (take i entries)
             (take (i + 1) entries) entry before.0 more named before.1 w.in-File.is,
         added_more (map string_bytes c.args.files.now.items)
             (map string_bytes c.loop-entry.files.items) _ before.0 (path ∷ []) before.2
@@ -35,7 +35,7 @@ loop-entry-preserved g t c =
           let below = w.in_ok-find_files-in-Folder.ensures in
           let holds = rw w.as_str-in-Folder.ensures.value at below.1 in (
             before.0 ++ below.0,
-            with_folder g.R.Disk.holdings c.args.folder.now path (take i entries)
+            with_folder (g.R.Disk.holdings c.args.rt.now) c.args.folder.now path (take i entries)
                 (take (i + 1) entries) entry before.0 more named before.1 below.0 w.in-Folder.is
                 holds,
             added_more (map string_bytes c.args.files.now.items)

@@ -19,6 +19,6 @@ loop-path-preserved g c =
 
 pub returns : goal.returns
 returns g c =
-    subst (λ paths. AreFilesAtEach g.R.Disk.holdings paths c.loop-path.files.items)
+    subst (λ paths. AreFilesAtEach (g.R.Disk.holdings c.args.rt.now) paths c.loop-path.files.items)
     (take_all c.loop-path.path-index c.args.paths.now c.loop-path-test.false)
     c.loop-path.invariant

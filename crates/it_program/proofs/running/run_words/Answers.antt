@@ -15,6 +15,7 @@ of_some P Q Z x (Err e) named told = tt
 
 pub returns : goal.returns
 returns g c =
+    let disk = g.R.Disk.holdings c.args.rt.now in
     let words = map string_bytes c.args.words.now in
     let command = c.in_ok-command.command in
     let named = c.in_ok-command.ensures.ok in
@@ -29,8 +30,8 @@ returns g c =
         },
         (c.run_command.ensures.findings is).1,
       );
-      ok = of_some (AreWordsOf words) (IsOutputOf g.R.Disk.holdings) (Appends old new) command
+      ok = of_some (AreWordsOf words) (IsOutputOf disk) (Appends old new) command
           c.run_command.result named c.run_command.ensures.ok;
-      stopped = named_begun _ _ g.R.Disk.holdings command old new words c.run_command.result named
+      stopped = named_begun _ _ disk command old new words c.run_command.result named
           c.run_command.ensures.stopped;
     }

@@ -13,5 +13,5 @@ loop-path-preserved g c =
     take_more paths i c.path-item.result c.loop-path-test.true ∙ ap (λ x. take i paths ++ x ∷ [])
     (sym c.path-item.is) in
     rw (c.in_ok-push.ensures.items, more)
-    (with_last (HoldsRing g.R.Disk.holdings) (take i paths) c.loop-path.rings.items
+    (with_last (HoldsRing (g.R.Disk.holdings c.args.rt.now)) (take i paths) c.loop-path.rings.items
     c.path-item.result c.in_ok-read_ring.field-0 c.loop-path.invariant held)

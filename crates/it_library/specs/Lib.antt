@@ -1,0 +1,3 @@
+pub mod Answer
+pub mod Handed
+pub mod inside

@@ -1,0 +1,37 @@
+-- What files in memory hold at their paths, by the list of the files alone (a word of this
+-- project).
+use Rattle.std.specs.Prelude.{◌≡◌, ◌++◌, ℕ, List, Option, Some, Contains, codes, map}
+use Rattle.it_disk.specs.Reading.{Holdings}
+use Rattle.it_disk.specs.declared.folders.Kind.{Kind}
+use Rattle.it_disk.specs.declared.folders.Kind.TheVariants.{File as a_file, Folder}
+use Rattle.it_memory.specs.declared.file.File.{File}
+
+-- files, each as its path and its bytes
+abbrev pub files_of : List File → List (List ℕ × List ℕ)
+files_of files = map (λ file. (file.path.now, file.bytes.now)) files
+
+-- one of the files has this path and these bytes
+abbrev pub HasFile : List (List ℕ × List ℕ) → List ℕ → List ℕ → Type 0
+HasFile files path bytes = Contains files (path, bytes)
+
+-- one of the files lies below the folder
+pub record HasBelow (files : List (List ℕ × List ℕ)) (folder : List ℕ) : Type 0 where
+  pub inside : List ℕ
+  pub bytes : List ℕ
+  pub has : HasFile files (folder ++ codes "/" ++ inside) bytes
+
+-- at the path is a file, or a folder below which files lie
+abbrev pub HasKind : List (List ℕ × List ℕ) → List ℕ → Kind → Type 0
+HasKind files path a_file = (bytes : List ℕ) × HasFile files path bytes
+HasKind files path Folder = HasBelow files path
+
+-- what the files hold
+abbrev pub in_memory : List (List ℕ × List ℕ) → Holdings
+in_memory files = record {
+  left = λ path known. (bytes : List ℕ) × HasFile files path bytes × (known ≡ Some bytes);
+  file = HasFile files;
+  links = λ folder depth limited links. Unit {0};
+  records = λ folder records. Unit {0};
+  kind = HasKind files;
+  entries = λ folder entries. Unit {0};
+}

@@ -1,0 +1,49 @@
+"""Documents and folders, as files in memory."""
+
+import pathlib
+from typing import Dict, Mapping, Union
+
+Document = Union[bytes, pathlib.Path]
+Folder = Union[pathlib.Path, Mapping[str, Union[bytes, pathlib.Path, Mapping]]]
+
+
+def bytes_of(document: Document, what: str) -> bytes:
+    """The bytes of a document, or of the file at a path."""
+    if isinstance(document, pathlib.Path):
+        return document.read_bytes()
+    if isinstance(document, (bytes, bytearray, memoryview)):
+        return bytes(document)
+    raise TypeError(f"{what} is bytes or a pathlib.Path, not {type(document).__name__}")
+
+
+def _from_disk(folder, at):
+    """The links and records at or below a folder, with the folders that may have some."""
+    for entry in sorted(folder.iterdir()):
+        if entry.is_dir():
+            if "." in entry.name:
+                yield from _from_disk(entry, f"{at}/{entry.name}")
+        elif entry.name.endswith(".link"):
+            yield f"{at}/{entry.name}", entry.read_bytes()
+
+
+def _from_mapping(folder, at, what):
+    """The files of a dictionary from names to documents and to such dictionaries."""
+    for name, document in folder.items():
+        if not isinstance(name, str) or not name or "/" in name:
+            raise ValueError(f"{what}: {name!r} is no name of a file or of a folder")
+        if isinstance(document, Mapping):
+            yield from _from_mapping(document, f"{at}/{name}", what)
+        else:
+            yield f"{at}/{name}", bytes_of(document, what)
+
+
+def files_of(folder: Folder, at: str, what: str) -> Dict[str, bytes]:
+    """The files of a folder under a path. A folder has one file at least, which no command reads,
+    so that it is there also where it is empty."""
+    if isinstance(folder, pathlib.Path):
+        found = _from_disk(folder, at)
+    elif isinstance(folder, Mapping):
+        found = _from_mapping(folder, at, what)
+    else:
+        raise TypeError(f"{what} is a pathlib.Path or a dictionary, not {type(folder).__name__}")
+    return {f"{at}/.itv": b"", **dict(found)}

@@ -1,0 +1,98 @@
+"""`itv verify`: whether delivered files were made as their owners prescribed."""
+
+import dataclasses
+import datetime
+import json
+from typing import Any, Dict, List, Optional, Sequence
+
+from ._documents import Document, Folder, bytes_of, files_of
+from ._errors import Refused
+from ._library import run
+
+# The form of the report that is asked for.
+FORM = "--json"
+
+
+@dataclasses.dataclass(frozen=True)
+class Refusal:
+    """The first thing that does not hold.
+
+    `number` and `name` are those of docs/formats.md, `at` the sublayout in which it lies, as
+    `report["at"]`; `details` are the further members of the report.
+    """
+
+    number: int
+    name: str
+    at: Any
+    details: Dict[str, Any]
+
+    def __str__(self):
+        said = "".join(f", {name} {value}" for name, value in self.details.items())
+        return f"{self.number} {self.name}{said}"
+
+
+@dataclasses.dataclass(frozen=True)
+class Verdict:
+    """Whether a delivery is accepted, the refusal where it is not, the notes, and the report."""
+
+    accepted: bool
+    refusal: Optional[Refusal]
+    notes: List[str]
+    report: Dict[str, Any]
+
+    def raise_for_refusal(self) -> "Verdict":
+        """This verdict where the delivery is accepted. Otherwise raises `Refused`."""
+        if not self.accepted:
+            raise Refused(self)
+        return self
+
+
+def _verdict(report, notes):
+    """The verdict of a report in JSON. What a further form of the report has is read here."""
+    if report["verdict"] == "accepted":
+        return Verdict(True, None, notes, report)
+    further = {name: value for name, value in report.items()
+               if name not in ("verdict", "number", "name", "at")}
+    return Verdict(False, Refusal(report["number"], report["name"], report["at"], further), notes,
+                   report)
+
+
+def _moment(at):
+    """A moment as the command takes it, in UTC."""
+    if not isinstance(at, datetime.datetime) or at.utcoffset() is None:
+        raise ValueError("at is a datetime.datetime with a zone, such as "
+                         "datetime.datetime.now(datetime.timezone.utc)")
+    return at.astimezone(datetime.timezone.utc).strftime("%Y-%m-%dT%H:%M:%SZ")
+
+
+def verify(*, policy: Document, layout: Document, links: Folder, sums: Document,
+           at: datetime.datetime, rings: Sequence[Document] = (), public_keys: bool = False,
+           provenance: Optional[Document] = None, records: Optional[Folder] = None,
+           strict: bool = False, depth: Optional[int] = None) -> Verdict:
+    """Whether the files of a digest list were made as the policy and the layout prescribe.
+
+    `sums` is the digest list of the delivered files, as `digest` makes it; `at` the moment at which
+    no layout may have expired, a `datetime` with a zone, of which parts of a second are cut off.
+    Signatures are checked by the `rings`, in their order, and then by `public_keys` where that is
+    true: one of both is needed. `depth` is how deep sublayouts may lie, 4 where it is not given.
+
+    Raises `Stopped` where the command stops; with `strict` also where something is found in what
+    would be accepted.
+    """
+    files = {"policy": bytes_of(policy, "policy"), "layout": bytes_of(layout, "layout"),
+             "sums": bytes_of(sums, "sums"), **files_of(links, "links", "links")}
+    words = ["verify", FORM, "--policy=policy", "--layout=layout", "--links=links", "--sums=sums",
+             f"--at={_moment(at)}"]
+    for number, ring in enumerate(rings, 1):
+        files[f"ring-{number}"] = bytes_of(ring, "a ring")
+        words.append(f"--ring=ring-{number}")
+    if provenance is not None:
+        files["provenance"] = bytes_of(provenance, "provenance")
+        words.append("--provenance=provenance")
+    if records is not None:
+        files.update(files_of(records, "records", "records"))
+        words.append("--records=records")
+    words += ["--public-keys"] * bool(public_keys) + ["--strict"] * bool(strict)
+    words += [] if depth is None else [f"--depth={depth}"]
+    given = run(words, files)
+    return _verdict(json.loads(given.output), given.notes)

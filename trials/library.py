@@ -1,0 +1,111 @@
+"""Tries the Python package on the delivery of examples/public and on calls that it must refuse.
+
+`trials/library` runs it at the top of the repository. What is wanted is written here by hand.
+"""
+
+import datetime
+import json
+import pathlib
+import tempfile
+
+import itv
+
+EXAMPLE = pathlib.Path("examples/public")
+AT = datetime.datetime(2026, 1, 1, tzinfo=datetime.timezone.utc)
+# SHA-256 of no bytes (FIPS 180-4).
+EMPTY = "e3b0c44298fc1c149afbf4c8996fb92427ae41e4649b934ca495991b7852b855"
+
+
+def given(**other):
+    """The delivery of the example, with other parts."""
+    parts = {"policy": EXAMPLE / "policy.json", "layout": EXAMPLE / "layout.envelope.json",
+             "links": EXAMPLE / "links", "provenance": EXAMPLE / "provenance.jsonl",
+             "sums": itv.digest(of={"hello.tar": (EXAMPLE / "hello.tar").read_bytes()}),
+             "public_keys": True, "at": AT}
+    return {**parts, **other}
+
+
+def raises(kind, call, *words, **parts):
+    """What a call raises, which must be of a kind."""
+    try:
+        call(*words, **parts)
+    except kind as error:
+        return error
+    raise AssertionError(f"{call.__name__} raises no {kind.__name__}")
+
+
+def verifications():
+    """Verdicts, as values."""
+    verdict = itv.verify(**given())
+    assert verdict.accepted and verdict.refusal is None and verdict.notes == []
+    assert verdict.raise_for_refusal() is verdict
+    assert verdict.report["verdict"] == "accepted" and verdict.report["files"] == ["hello.tar"]
+    late = itv.verify(**given(at=datetime.datetime(2126, 1, 1, tzinfo=datetime.timezone.utc)))
+    assert not late.accepted and (late.refusal.number, late.refusal.name) == (30, "Expired")
+    assert raises(itv.Refused, late.raise_for_refusal).verdict is late
+    other = itv.verify(**given(sums=itv.digest(of={"hello.tar": b""})))
+    assert other.refusal.number == 40 and other.refusal.details["path"] == "hello.tar"
+    zone = datetime.timezone(datetime.timedelta(hours=2))
+    assert itv.verify(**given(at=AT.astimezone(zone))).accepted
+
+
+def folders():
+    """Folders of links as dictionaries, with folders in them."""
+    links = {path.name: path for path in (EXAMPLE / "links").glob("*.link")}
+    inner = EXAMPLE / "links" / "pack.carol"
+    links["pack.carol"] = {path.name: path.read_bytes() for path in inner.glob("*.link")}
+    assert itv.verify(**given(links=links)).accepted
+    assert itv.verify(**given(links={})).refusal.number == 33
+    raises(ValueError, itv.verify, **given(links={"a/b.link": b""}))
+    raises(TypeError, itv.verify, **given(links="links"))
+    with tempfile.TemporaryDirectory() as name:
+        assert itv.verify(**given(links=pathlib.Path(name))).refusal.number == 33
+
+
+def misuse():
+    """What is no verification."""
+    raises(TypeError, itv.verify, **{name: one for name, one in given().items() if name != "at"})
+    raises(ValueError, itv.verify, **given(at=datetime.datetime(2026, 1, 1)))
+    raises(TypeError, itv.verify, **given(policy="policy.json"))
+    told = raises(itv.Stopped, itv.verify, **given(public_keys=False))
+    assert "--ring" in str(told), told
+    told = raises(itv.Stopped, itv.run, ["pae", "--type=t", "gone"], {"body": b""})
+    assert str(told) == "cannot read gone: No such file or directory", told
+    told = raises(itv.Stopped, itv.run, ["pae", "--type=t", "a"], {"a": b"", "a/b": b""})
+    assert str(told) == "cannot read a: it is a file, and another lies below it", told
+    told = raises(itv.Stopped, itv.run, ["pae", "--type=t", "a"], {"a//b": b""})
+    assert str(told) == "cannot read a//b: a part of this path is empty", told
+    raises(ValueError, itv.run, ["pae", "--type=t", "a\0b"], {})
+    told = raises(itv.Stopped, itv.run, ["pae", "--type=t", "\udcff"], {})
+    assert str(told) == "word 3 after the program's name is not UTF-8", told
+
+
+def commands():
+    """The other commands."""
+    assert itv.version() == "itv " + json.loads(
+        pathlib.Path("docs/commands.json").read_text(encoding="utf-8"))["version"]
+    assert itv.match("dist/*", "dist/app.tar") and not itv.match("dist/*", "src/app.tar")
+    assert itv.pae(b"hello", type="text/plain") == b"DSSEv1 10 text/plain 5 hello"
+    assert itv.digest(of={"a": b""}) == f"{EMPTY}  a\n".encode()
+    with tempfile.TemporaryDirectory() as name:
+        path = pathlib.Path(name, "empty")
+        path.write_bytes(b"")
+        assert itv.digest(path) == f"{EMPTY}  {path}\n".encode()
+    ring = b'[{"id": "k", "secret": "00"}]'
+    envelope = itv.sign(b"{}", key="k", type="t", ring=ring)
+    assert itv.signed(envelope, ring=ring) == ["k"] and itv.payload(envelope) == b"{}"
+    assert itv.signed(envelope, ring=b'[{"id": "k", "secret": "01"}]') == []
+    assert itv.payload(b"nothing") is None
+    raises(TypeError, itv.signed, envelope)
+    made = json.loads(itv.link("build", products=itv.digest(of={"a": b""})))
+    assert made["products"] == {"a": {"sha256": EMPTY}} and made["materials"] == {}
+    stated = json.loads(itv.statement(sums=itv.digest(of={"a": b""}), builder="b", build_type="t"))
+    assert stated["subject"] == [{"name": "a", "digest": {"sha256": EMPTY}}]
+    assert len(itv.key(EXAMPLE / "keys" / "alice.pem", name="alice")["alice"]["keyval"]["public"]) == 64
+    assert itv.check(policy=EXAMPLE / "policy.json").notes == []
+
+
+if __name__ == "__main__":
+    for trial in (verifications, folders, misuse, commands):
+        trial()
+    print("Python: verdicts, folders, misuse and commands give what they should")

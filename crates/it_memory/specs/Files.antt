@@ -1,6 +1,6 @@
 -- What files in memory hold at their paths, by the list of the files alone (a word of this
 -- project).
-use Rattle.std.specs.Prelude.{◌≡◌, ◌++◌, ℕ, List, Option, Some, Contains, codes, map}
+use Rattle.std.specs.Prelude.{◌++◌, ℕ, List, Option, Some, None, Contains, codes, map}
 use Rattle.it_disk.specs.Reading.{Holdings}
 use Rattle.it_disk.specs.declared.folders.Kind.{Kind}
 use Rattle.it_disk.specs.declared.folders.Kind.TheVariants.{File as a_file, Folder}
@@ -25,10 +25,15 @@ abbrev pub HasKind : List (List ℕ × List ℕ) → List ℕ → Kind → Type 
 HasKind files path a_file = (bytes : List ℕ) × HasFile files path bytes
 HasKind files path Folder = HasBelow files path
 
+-- what is left of an opened file is known, and a file of this path has these bytes
+abbrev pub IsOpened : List (List ℕ × List ℕ) → List ℕ → Option (List ℕ) → Type 0
+IsOpened files path None = ⊥
+IsOpened files path (Some bytes) = HasFile files path bytes
+
 -- what the files hold
 abbrev pub in_memory : List (List ℕ × List ℕ) → Holdings
 in_memory files = record {
-  left = λ path known. (bytes : List ℕ) × HasFile files path bytes × (known ≡ Some bytes);
+  left = IsOpened files;
   file = HasFile files;
   links = λ folder depth limited links. Unit {0};
   records = λ folder records. Unit {0};

@@ -46,11 +46,11 @@ read_file file read is describes = record {
 -- what is wrong with a text is wrong with its lines
 pub text_fails : (lines text : List ℕ) (fault : FileFault) → text ≡ trim_end lines
     → IsTextFault text fault → IsLinesFault lines fault
-text_fails lines text NotPem is fails =
-    inr (subst (λ t. IsTextFault t NotPem) is fails)
+text_fails lines text (NotPem file) is fails =
+    let same = subst (λ t. IsTextFault t (NotPem file)) is fails in (inr same.0, same.1)
 text_fails lines text (Other other) is fails =
     subst (λ t. IsTextFault t (Other other)) is fails
 text_fails lines text OtherKind is fails = absurd fails
 text_fails lines text BadPoint is fails = absurd fails
-text_fails lines text BadCurveKey is fails = absurd fails
+text_fails lines text (BadCurveKey curve) is fails = absurd fails
 text_fails lines text BadRsaKey is fails = absurd fails

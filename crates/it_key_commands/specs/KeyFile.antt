@@ -2,7 +2,8 @@
 -- objects that are made of them.
 use Rattle.std.specs.Prelude.{◌≡◌, ◌≢◌, ◌⊎◌, ◌==◌, ◌||◌, ℕ, List, Some, None, Bool, not, IsTrue}
 use Rattle.std.specs.Prelude.{IsFalse, IsUtf8, codes, length, if◌then◌else◌}
-use Rattle.std.specs.List.{filter}
+use Rattle.std.specs.Prelude.{[], nat_eq}
+use Rattle.std.specs.List.{filter, starts_with}
 use Rattle.std.specs.Str.{bytes_eq, trim_end}
 use Rattle.hex.specs.Hex.{encode_lower}
 use Rattle.it_dsse.specs.declared.key_object.KeyObject.{KeyObject}
@@ -12,7 +13,8 @@ use Rattle.it_pem.specs.PublicKeyText.{info_in}
 use Rattle.it_public_keys.specs.declared.key.Key.{Key}
 use Rattle.it_public_keys.specs.declared.key.Key.TheVariants.{Ed25519, P256, Rsa}
 use Rattle.it_key_commands.specs.KeyInfo.{IsNoEd25519Info, IsNoKeyInfo, ed25519_info}
-use Rattle.it_key_commands.specs.KeyInfo.{key_info, names_curves, names_rsa}
+use Rattle.it_key_commands.specs.KeyInfo.{key_info, names_curves, names_p256, names_p384}
+use Rattle.it_key_commands.specs.KeyInfo.{names_p521, names_rsa, names_secp256k1}
 use Rattle.it_key_commands.specs.Signers.{Describes}
 use Rattle.it_key_commands.specs.declared.fault.FileFault.{FileFault}
 use Rattle.it_key_commands.specs.declared.fault.FileFault.TheVariants.{
@@ -23,6 +25,10 @@ use Rattle.it_key_commands.specs.declared.fault.FileFault.TheVariants.{
   BadCurveKey,
   BadRsaKey,
 }
+use Rattle.it_key_commands.specs.declared.fault.Curve.{Curve}
+use Rattle.it_key_commands.specs.declared.fault.Curve.TheVariants as curves
+use Rattle.it_key_commands.specs.declared.fault.OtherFile.{OtherFile}
+use Rattle.it_key_commands.specs.declared.fault.OtherFile.TheVariants as files
 use Rattle.it_key_commands.specs.declared.fault.OtherText.{OtherText}
 use Rattle.it_key_commands.specs.declared.fault.OtherText.TheVariants.{
   PrivateKey,
@@ -89,6 +95,15 @@ pub record IsNoPem (text : List ℕ) : Type 0 where
   pub no_info : info_in text ≡ None
   pub no_other : HasLabel text public_label ⊎ ((label : List ℕ) → ¬ HasLabel text label)
 
+-- what the text is then: empty; a public key of OpenSSH, which begins with the name of its kind
+-- (RFC 4253, section 6.6; RFC 5656, section 3.1); or the beginning of a JSON object
+abbrev pub IsOtherFile : List ℕ → OtherFile → Type 0
+IsOtherFile text files.Empty = text ≡ []
+IsOtherFile text files.OpenSsh = IsTrue (starts_with nat_eq text (codes "ssh-"))
+    ⊎ IsTrue (starts_with nat_eq text (codes "ecdsa-sha2-"))
+IsOtherFile text files.Json = IsTrue (starts_with nat_eq text (codes "{"))
+IsOtherFile text files.Other = Unit {0}
+
 -- the text has another label
 pub record IsOtherText (text : List ℕ) (other : OtherText) : Type 0 where
   pub label : List ℕ
@@ -111,11 +126,20 @@ pub record IsOfOtherKind (info : List ℕ) : Type 0 where
   pub no_rsa : IsFalse (names_rsa info)
   pub no_curves : IsFalse (names_curves info)
 
+-- the info names this curve
+abbrev pub IsOfCurve : List ℕ → Curve → Type 0
+IsOfCurve info curves.P256 = IsTrue (names_p256 info)
+IsOfCurve info curves.P384 = IsTrue (names_p384 info)
+IsOfCurve info curves.P521 = IsTrue (names_p521 info)
+IsOfCurve info curves.Secp256k1 = IsTrue (names_secp256k1 info)
+IsOfCurve info curves.Other = IsFalse (names_p256 info)
+
 -- the info names elliptic curves, but is not that of a key: its curve is not P-256, or its point is
 -- not on the curve or not written uncompressed
-pub record IsBadCurveKey (info : List ℕ) : Type 0 where
+pub record IsBadCurveKey (info : List ℕ) (curve : Curve) : Type 0 where
   pub no_key : IsNoKeyInfo info
   pub curves : IsTrue (names_curves info)
+  pub of_curve : IsOfCurve info curve
 
 -- the info names RSA, but is not that of a key: its modulus or exponent is not accepted
 pub record IsBadRsaKey (info : List ℕ) : Type 0 where
@@ -128,11 +152,13 @@ HasInfo text P = (info : List ℕ) × (info_in text ≡ Some info) × P info
 
 -- why lines are not a public key
 abbrev pub IsLinesFault : List ℕ → FileFault → Type 0
-IsLinesFault lines NotPem = ¬ IsUtf8 lines ⊎ IsNoPem (trim_end lines)
+IsLinesFault lines (NotPem file) =
+    (¬ IsUtf8 lines ⊎ IsNoPem (trim_end lines)) × IsOtherFile (trim_end lines) file
 IsLinesFault lines (Other other) = IsOtherText (trim_end lines) other
 IsLinesFault lines OtherKind = HasInfo (trim_end lines) IsOfOtherKind
 IsLinesFault lines BadPoint = HasInfo (trim_end lines) IsBadPoint
-IsLinesFault lines BadCurveKey = HasInfo (trim_end lines) IsBadCurveKey
+IsLinesFault lines (BadCurveKey curve) =
+    HasInfo (trim_end lines) (λ info. IsBadCurveKey info curve)
 IsLinesFault lines BadRsaKey = HasInfo (trim_end lines) IsBadRsaKey
 
 -- why a file is not a public key: its lines are not

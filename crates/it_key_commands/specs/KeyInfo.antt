@@ -53,3 +53,18 @@ names_rsa info = names_algorithm info rsa_identifier
 
 abbrev pub names_curves : List ℕ → Bool
 names_curves info = names_algorithm info key_identifier
+
+-- the same of keys of a curve, of which the object identifier follows: of P-256, P-384 and P-521
+-- (RFC 5480, section 2.1.1.1), and of secp256k1 (SEC 2, appendix A.2)
+abbrev pub names_p256 : List ℕ → Bool
+names_p256 info = names_algorithm info
+    (key_identifier ++ 6 ∷ 8 ∷ 42 ∷ 134 ∷ 72 ∷ 206 ∷ 61 ∷ 3 ∷ 1 ∷ 7 ∷ [])
+
+abbrev pub names_p384 : List ℕ → Bool
+names_p384 info = names_algorithm info (key_identifier ++ 6 ∷ 5 ∷ 43 ∷ 129 ∷ 4 ∷ 0 ∷ 34 ∷ [])
+
+abbrev pub names_p521 : List ℕ → Bool
+names_p521 info = names_algorithm info (key_identifier ++ 6 ∷ 5 ∷ 43 ∷ 129 ∷ 4 ∷ 0 ∷ 35 ∷ [])
+
+abbrev pub names_secp256k1 : List ℕ → Bool
+names_secp256k1 info = names_algorithm info (key_identifier ++ 6 ∷ 5 ∷ 43 ∷ 129 ∷ 4 ∷ 0 ∷ 10 ∷ [])

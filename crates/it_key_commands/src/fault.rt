@@ -33,9 +33,9 @@ pub enum KeyFault {
 /// Why a file is not a public key.
 #[derive(Clone, Copy, Debug, PartialEq, Eq, Error)]
 pub enum FileFault {
-    /// It is not the PEM text of a public key (RFC 7468, section 13).
-    #[error("not the PEM text of a public key (openssl pkey -pubin -pubout makes one of DER)")]
-    NotPem,
+    /// It is not the PEM text of a public key (RFC 7468, section 13), but this.
+    #[error("{0}")]
+    NotPem(OtherFile),
     /// It is a PEM text of another label.
     #[error("{0}")]
     Other(OtherText),
@@ -48,14 +48,52 @@ pub enum FileFault {
     BadPoint,
     /// It is an elliptic-curve key, but not a P-256 key whose point is on the curve and written
     /// uncompressed (RFC 5480, section 2.2).
-    #[error("a key of an elliptic curve that is not an uncompressed point on P-256 \
-         (openssl pkey -pubin -pubout -ec_conv_form uncompressed writes a compressed one so)")]
-    BadCurveKey,
+    #[error("{0}")]
+    BadCurveKey(Curve),
     /// It is an RSA key, but its modulus does not have 2,048 to 4,096 bits in whole bytes, or its
     /// exponent is not an odd number from 3 to 2,147,483,647.
     #[error("an RSA key not of 2,048, 2,056, .. 4,096 bits, or of an exponent that is not taken \
          (make one of 3,072 bits with the exponent 65537)")]
     BadRsaKey,
+}
+
+/// What a file is that is not the PEM text of a public key, nor one with another label.
+#[derive(Clone, Copy, Debug, PartialEq, Eq, Error)]
+pub enum OtherFile {
+    /// There is nothing in it but white space.
+    #[error("empty")]
+    Empty,
+    /// A public key as OpenSSH writes it (RFC 4253, section 6.6).
+    #[error("a public key of OpenSSH (ssh-keygen -e -m PKCS8 writes one of RSA or P-256 in PEM)")]
+    OpenSsh,
+    /// A JSON object, as a JWK (RFC 7517) or a file of keys.
+    #[error("a JSON object, such as a JWK or a file of keys, and not a public key in PEM")]
+    Json,
+    /// Anything else.
+    #[error("not the PEM text of a public key (openssl pkey -pubin -pubout makes one of DER)")]
+    Other,
+}
+
+/// Of which curve a key is that is not taken, by its object identifier (RFC 5480, section 2.1.1.1;
+/// SEC 2, appendix A.2).
+#[derive(Clone, Copy, Debug, PartialEq, Eq, Error)]
+pub enum Curve {
+    /// P-256, of which the point is not on the curve or not written uncompressed.
+    #[error("a key of P-256 that is not an uncompressed point on the curve \
+         (openssl pkey -pubin -pubout -ec_conv_form uncompressed writes a compressed one so)")]
+    P256,
+    /// P-384.
+    #[error("a key of the curve P-384 (make a new one: of elliptic curves only P-256 is taken)")]
+    P384,
+    /// P-521.
+    #[error("a key of the curve P-521 (make a new one: of elliptic curves only P-256 is taken)")]
+    P521,
+    /// The curve secp256k1.
+    #[error("a key of secp256k1 (make a new one: of elliptic curves only P-256 is taken)")]
+    Secp256k1,
+    /// Any other.
+    #[error("a key of another elliptic curve than P-256 (make a new one: only P-256 is taken)")]
+    Other,
 }
 
 /// What a PEM text other than a public key is, by its label (RFC 7468, section 2).

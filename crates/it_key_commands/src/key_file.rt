@@ -2,14 +2,14 @@
 ghost use Rattle.std.specs.Prelude.{◌≡◌, [], IfOk, MatchResult, None, length};
 ghost use Rattle.std.specs.Str.{trim_end};
 ghost use Rattle.hex.specs.Hex.{decode_sized, encode_lower};
-ghost use Rattle.it_key_commands.specs.KeyFile.{IsLinesFault, key_object, other_text};
-ghost use Rattle.it_key_commands.specs.KeyFile.{without_returns};
+ghost use Rattle.it_key_commands.specs.KeyFile.{IsLinesFault, IsOtherFile, key_object};
+ghost use Rattle.it_key_commands.specs.KeyFile.{other_text, without_returns};
 ghost use Rattle.it_key_commands.specs.Signers.{Describes};
 ghost use Rattle.it_key_commands.specs.inside.ReadKeys.{IsOfItsText, IsReadKey, IsTextFault};
 ghost use Rattle.it_pem.specs.PublicKeyText.{info_in};
 ghost use Rattle.it_public_keys.specs.declared.key.Key.TheVariants.{Ed25519};
 
-use crate::fault::{FileFault, OtherText};
+use crate::fault::{FileFault, OtherFile, OtherText};
 use crate::key_info::key_of;
 use it_base::text::Text;
 use it_dsse::key_object::KeyObject;
@@ -42,7 +42,7 @@ pub(crate) fn key_in(lines: &[u8]) -> Result<FileKey<'_>, FileFault>
     ensures { MatchResult result (IsReadKey lines.now) (IsLinesFault lines.now) }
 {
     let Ok(text) = str::from_utf8(lines) else {
-        return Err(FileFault::NotPem);
+        return Err(FileFault::NotPem(OtherFile::Other));
     };
     let text = text.trim_end();
     let Some(info) = public_key_info(text) else {
@@ -60,10 +60,27 @@ fn text_fault(text: &str) -> FileFault
     ensures { IsTextFault text.now result }
 {
     match label_of(text) {
-        Some("PUBLIC KEY") => FileFault::NotPem,
+        Some("PUBLIC KEY") => FileFault::NotPem(OtherFile::Other),
         Some(label) => FileFault::Other(other_text(label)),
-        None => FileFault::NotPem,
+        None => FileFault::NotPem(other_file(text)),
     }
+}
+
+/// What a text without a label is.
+fn other_file(text: &str) -> OtherFile
+    ensures { IsOtherFile text.now result }
+{
+    if text.is_empty() {
+        return OtherFile::Empty;
+    }
+    let bytes = text.as_bytes();
+    if bytes.starts_with(b"ssh-") || bytes.starts_with(b"ecdsa-sha2-") {
+        return OtherFile::OpenSsh;
+    }
+    if bytes.starts_with(b"{") {
+        return OtherFile::Json;
+    }
+    OtherFile::Other
 }
 
 /// What a PEM text is, by its label.

@@ -1,11 +1,12 @@
 //! Public keys as a SubjectPublicKeyInfo.
 ghost use Rattle.std.specs.Prelude.{◌≡◌, MatchOption, MatchResult};
+ghost use Rattle.it_key_commands.specs.KeyFile.{IsOfCurve};
 ghost use Rattle.it_key_commands.specs.KeyInfo.{IsNoEd25519Info, IsNoKeyInfo, contents_of};
 ghost use Rattle.it_key_commands.specs.KeyInfo.{ed25519_info, key_info, names_algorithm};
 ghost use Rattle.it_key_commands.specs.inside.ReadKeys.{IsInfoFault};
 ghost use Rattle.it_public_keys.specs.Keys.{IsKey};
 
-use crate::fault::FileFault;
+use crate::fault::{Curve, FileFault};
 use it_public_keys::key::Key;
 
 /// What a SubjectPublicKeyInfo of an Ed25519 key has before the 32 bytes of the key (RFC 8410,
@@ -17,6 +18,19 @@ const RSA_IDENTIFIER: [u8; 11] = [6, 9, 42, 134, 72, 134, 247, 13, 1, 1, 1];
 
 /// The object identifier of keys of elliptic curves, 1.2.840.10045.2.1 (RFC 5480, section 2.1.1).
 const CURVES_IDENTIFIER: [u8; 9] = [6, 7, 42, 134, 72, 206, 61, 2, 1];
+
+/// The same, and the object identifier of P-256, 1.2.840.10045.3.1.7, of P-384, 1.3.132.0.34, of
+/// P-521, 1.3.132.0.35 (RFC 5480, section 2.1.1.1), and of secp256k1, 1.3.132.0.10 (SEC 2, appendix
+/// A.2).
+const P256_IDENTIFIERS: [u8; 19] = [
+    6, 7, 42, 134, 72, 206, 61, 2, 1, 6, 8, 42, 134, 72, 206, 61, 3, 1, 7,
+];
+
+const P384_IDENTIFIERS: [u8; 16] = [6, 7, 42, 134, 72, 206, 61, 2, 1, 6, 5, 43, 129, 4, 0, 34];
+
+const P521_IDENTIFIERS: [u8; 16] = [6, 7, 42, 134, 72, 206, 61, 2, 1, 6, 5, 43, 129, 4, 0, 35];
+
+const SECP256K1_IDENTIFIERS: [u8; 16] = [6, 7, 42, 134, 72, 206, 61, 2, 1, 6, 5, 43, 129, 4, 0, 10];
 
 /// The public key of a SubjectPublicKeyInfo.
 pub(crate) fn key_of(info: &[u8]) -> Result<Key, FileFault>
@@ -73,9 +87,28 @@ fn other_fault(info: &[u8]) -> FileFault
         return FileFault::BadRsaKey;
     }
     if names_algorithm(info, CURVES_IDENTIFIER.as_slice()) {
-        return FileFault::BadCurveKey;
+        return FileFault::BadCurveKey(curve_of(info));
     }
     FileFault::OtherKind
+}
+
+/// Of which curve a SubjectPublicKeyInfo is.
+fn curve_of(info: &[u8]) -> Curve
+    ensures { IsOfCurve info.now result }
+{
+    if names_algorithm(info, P256_IDENTIFIERS.as_slice()) {
+        return Curve::P256;
+    }
+    if names_algorithm(info, P384_IDENTIFIERS.as_slice()) {
+        return Curve::P384;
+    }
+    if names_algorithm(info, P521_IDENTIFIERS.as_slice()) {
+        return Curve::P521;
+    }
+    if names_algorithm(info, SECP256K1_IDENTIFIERS.as_slice()) {
+        return Curve::Secp256k1;
+    }
+    Curve::Other
 }
 
 /// Whether the algorithm of a SubjectPublicKeyInfo has this object identifier.

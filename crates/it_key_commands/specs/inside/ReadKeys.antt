@@ -4,7 +4,7 @@ use Rattle.std.specs.Str.{trim_end}
 use Rattle.it_pem.specs.PublicKeyText.{info_in}
 use Rattle.it_public_keys.specs.Keys.{IsKey}
 use Rattle.it_key_commands.specs.KeyFile.{IsBadCurveKey, IsBadPoint, IsBadRsaKey, IsNoPem}
-use Rattle.it_key_commands.specs.KeyFile.{IsOfOtherKind, IsOtherText}
+use Rattle.it_key_commands.specs.KeyFile.{IsOfOtherKind, IsOtherFile, IsOtherText}
 use Rattle.it_key_commands.specs.KeyInfo.{key_info}
 use Rattle.it_key_commands.specs.declared.fault.FileFault.{FileFault}
 use Rattle.it_key_commands.specs.declared.fault.FileFault.TheVariants.{
@@ -29,18 +29,18 @@ pub record IsReadKey (lines : List ℕ) (read : FileKey) : Type 0 where
 
 -- why an info is not that of a key
 abbrev pub IsInfoFault : List ℕ → FileFault → Type 0
-IsInfoFault info NotPem = ⊥
+IsInfoFault info (NotPem file) = ⊥
 IsInfoFault info (Other text) = ⊥
 IsInfoFault info OtherKind = IsOfOtherKind info
 IsInfoFault info BadPoint = IsBadPoint info
-IsInfoFault info BadCurveKey = IsBadCurveKey info
+IsInfoFault info (BadCurveKey curve) = IsBadCurveKey info curve
 IsInfoFault info BadRsaKey = IsBadRsaKey info
 
 -- why a text without an info is not a public key
 abbrev pub IsTextFault : List ℕ → FileFault → Type 0
-IsTextFault text NotPem = IsNoPem text
+IsTextFault text (NotPem file) = IsNoPem text × IsOtherFile text file
 IsTextFault text (Other other) = IsOtherText text other
 IsTextFault text OtherKind = ⊥
 IsTextFault text BadPoint = ⊥
-IsTextFault text BadCurveKey = ⊥
+IsTextFault text (BadCurveKey curve) = ⊥
 IsTextFault text BadRsaKey = ⊥

@@ -3,6 +3,7 @@ pub mod MatchOutput
 pub mod NoEnvelope
 pub mod PayloadOutput
 pub mod SignOntoOutput
+pub mod SignNotes
 pub mod SignOutput
 pub mod SignedOutput
 pub mod inside

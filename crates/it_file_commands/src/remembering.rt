@@ -1,25 +1,31 @@
-//! Readers and writers that remember why the system failed them.
+//! Readers and writers that remember why the system failed them, and how much went out.
 ghost use Rattle.std.specs.Prelude.{◌≡◌, None};
 
 use std::io;
 use std::io::{Read, Write};
 
-/// A reader or a writer, with the last error that it returned.
+/// A reader or a writer, with the last error that it returned and how much it took.
 #[derive(Drop)]
 pub struct Remembering<T> {
     /// The reader or the writer.
     pub inner: T,
     /// The last error that it returned, if any.
     pub error: Option<io::Error>,
+    /// How many bytes the writer took.
+    pub written: u64,
 }
 
 impl<T> Remembering<T> {
-    /// It has returned no error yet.
+    /// It has returned no error and taken no bytes yet.
     pub fn new(inner: T) -> Remembering<T>
         ensures inner { result.inner ≡ inner }
         ensures error { result.error ≡ None }
     {
-        Remembering { inner, error: None }
+        Remembering {
+            inner,
+            error: None,
+            written: 0,
+        }
     }
 }
 
@@ -42,7 +48,10 @@ impl<W: Write> Write for Remembering<W> {
 
     fn write(&mut self, bytes: &[u8]) -> io::Result<usize> {
         match self.inner.write(bytes) {
-            Ok(count) => Ok(count),
+            Ok(count) => {
+                self.written = self.written.saturating_add(count as u64);
+                Ok(count)
+            }
             Err(error) => {
                 self.error = Some(error);
                 Err(error)

@@ -1,13 +1,14 @@
 //! `itv sign BODY (--ring F | --signature SIG --keys F) --key ID --type TYPE [--onto ENVELOPE]`.
-ghost use Rattle.std.specs.Prelude.{◌≡◌, ◌≢◌, IfErr, IfOk};
+ghost use Rattle.std.specs.Prelude.{◌≡◌, ◌≢◌, IfErr, IfOk, MatchOption};
 ghost use Rattle.std.specs.Io.KnownBytes.{Appends};
 ghost use Rattle.it_commands.specs.SignOutput.{IsSignOutput};
 ghost use Rattle.it_file_commands.specs.Commands.{SignsAsAsked, SignsAsMade, SignsBy, SignsByRing};
+ghost use Rattle.it_file_commands.specs.Commands.{SignsOnto};
 
 use crate::sign_fault::{made_fault, unknown_key};
 use crate::sign_onto_command;
 use crate::sign_onto_command::Onto;
-use it_commands::run_sign;
+use it_commands::{run_sign, write_sign_notes};
 use it_disk::{Disk, Fault, read_keys, read_ring};
 use it_dsse::ring::HmacRing;
 use it_key_commands::{MadeSignature, run_sign_made};
@@ -26,16 +27,17 @@ pub(crate) struct ReadRing<'a> {
 }
 
 /// Reads the body, and writes its signed envelope, or, where an envelope is given, that one with
-/// one more signature.
+/// one more signature. What may not be meant of the body and its type goes to `notes`.
 ///
 /// # Errors
 ///
 /// The fault of a file that cannot be read, or is not what its option asks for, and `Fault::Run`
 /// where the output could not be written, or memory was refused.
-pub fn run<R: Disk + AllocGlobal, W: Write>(
+pub fn run<R: Disk + AllocGlobal, W: Write, N: Write>(
     rt: &R,
     words: &SignWords,
     out: &mut W,
+    notes: &mut N,
 ) -> Result<Status, Fault>
     ensures ok { IfOk result (λ status. (text : _)
         × SignsAsAsked (R.holdings rt.now) words.now text status
@@ -44,6 +46,24 @@ pub fn run<R: Disk + AllocGlobal, W: Write>(
 {
     let body = rt.file(words.body.as_str())?;
     let body = body.as_slice();
+    let status = sign_as_asked(rt, words, body, out)?;
+    write_sign_notes(rt.alloc(), words.kind.as_str(), body, notes);
+    Ok(status)
+}
+
+/// Writes the envelope of the body, or the one that is given with one more signature.
+fn sign_as_asked<R: Disk + AllocGlobal, W: Write>(
+    rt: &R,
+    words: &SignWords,
+    body: &[u8],
+    out: &mut W,
+) -> Result<Status, Fault>
+    ensures ok { let w = words.now in IfOk result (λ status. (status ≡ Status.Good) × (text : _)
+        × MatchOption w.onto (SignsBy R.holdings w w.by body.now text)
+        (λ onto. SignsOnto R.holdings w body.now onto text)
+        × Appends (W.contents out.old) (W.contents out.new) text) }
+    ensures nothing { IfErr result (λ fault. fault ≢ Fault.Run RunFault.Write → out.new ≡ out.old) }
+{
     match &words.onto {
         None => sign_alone(rt, words, body, out),
         Some(onto) => {

@@ -13,6 +13,7 @@
 
 mod command_line;
 mod running;
+mod size_note;
 mod status;
 mod stop;
 mod verify_command;

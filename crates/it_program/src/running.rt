@@ -7,6 +7,7 @@ ghost use Rattle.it_program.specs.Commands.{IsOutputOf};
 ghost use Rattle.it_program.specs.Stopped.{IsDigestBegun, IsFoundAgainst, NamesDigestBegun};
 ghost use Rattle.it_program.specs.Stopped.{NamesFoundAgainst};
 
+use crate::size_note::write_size_note;
 use crate::stop::Stop;
 use crate::verify_command;
 use it_disk::{Disk, Fault};
@@ -43,6 +44,9 @@ pub fn run_to<R: Disk + AllocGlobal, W: Write, N: Write>(
         → NamesFoundAgainst (R.holdings rt.now) (map string_bytes words.now) }
 {
     let outcome = run_words(rt, words, out, notes);
+    if outcome.is_ok() {
+        write_size_note(rt.alloc(), out.written, notes);
+    }
     match (outcome, out.error) {
         (Err(Stop::OfFault(Fault::Run(RunFault::Write))), Some(error)) => {
             Err(Stop::OfFault(Fault::of_output(rt.alloc(), &error)))
@@ -104,7 +108,7 @@ fn run_command<R: Disk + AllocGlobal, W: Write, N: Write>(
         Words::Signed(words) => Ok(signed_command::run(rt, words, out)?),
         Words::Match(words) => Ok(match_command::run(rt.alloc(), words, out)?),
         Words::Pae(words) => Ok(pae_command::run(rt, words, out)?),
-        Words::Sign(words) => Ok(sign_command::run(rt, words, out)?),
+        Words::Sign(words) => Ok(sign_command::run(rt, words, out, notes)?),
         Words::Digest(words) => Ok(digest_command::run(rt, words, out)?),
         Words::Link(words) => Ok(link_command::run(rt, words, out)?),
         Words::Statement(words) => Ok(statement_command::run(rt, words, out)?),

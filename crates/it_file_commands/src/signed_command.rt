@@ -11,7 +11,7 @@ use it_disk::{Disk, Fault, read_keys, read_ring};
 use it_dsse::ring::HmacRing;
 use it_key_commands::run_signed_by_keys;
 use it_outcome::{RunFault, Status};
-use it_public_keys::own_checks::OwnChecks;
+use it_public_keys::own_checks::{MOST_CHECKS, OwnChecks};
 use it_words::words::signed_words::{SignedBy, SignedWords};
 use std::alloc::Global;
 use std::io::Write;
@@ -72,7 +72,7 @@ fn show_by<W: Write>(
         × Appends (W.contents out.old) (W.contents out.new) text) }
     ensures nothing { IfErr result (λ fault. fault ≢ Fault.Run RunFault.Write → out.new ≡ out.old) }
 {
-    let checks = OwnChecks::new(alloc, vec![in alloc; ring]?, false, 0);
+    let checks = OwnChecks::new(alloc, vec![in alloc; ring]?, false, MOST_CHECKS);
     Ok(run_signed_by(alloc, envelope, ids, &checks, out)?)
 }
 

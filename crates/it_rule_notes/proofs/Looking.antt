@@ -1,6 +1,6 @@
 -- Where MATCH rules look for paths.
 use Rattle.std.proofs.Common.{◌≡◌, ◌∙◌, ℕ, List, ◌++◌, Bool, false, Option, Some, None, ap, subst}
-use Rattle.std.proofs.Common.{is_some, sym}
+use Rattle.std.proofs.Common.{is_some, refl, sym}
 use Rattle.it_base.specs.Finds.{Finds}
 use Rattle.it_docs.specs.declared.rule.Rule.TheVariants.{Match}
 use Rattle.it_docs.specs.declared.rule.Side.{Side}
@@ -25,3 +25,8 @@ pub none_found : {X : Type 0} (P : X → Type 0) (found : Option X) → Finds P 
     → is_some found ≡ false → (x : X) → ¬ P x
 none_found P None none empty = none
 none_found P (Some y) is empty = absurd (cc empty)
+
+-- where there is no value, there is none
+pub none_there : {X : Type 0} (found : Option X) → is_some found ≡ false → found ≡ None
+none_there None empty = refl
+none_there (Some x) empty = absurd (cc empty)

@@ -181,15 +181,23 @@ pub(crate) fn with_near(
         target,
         miss,
     } = missed;
-    let miss = match unrecorded(alloc, judged, &target)? {
-        Some(miss) => miss,
-        None => miss,
-    };
+    let near = unrecorded(alloc, judged, &target)?;
+    let miss = nearer(near, miss);
     Ok(Missed {
         index,
         target,
         miss,
     })
+}
+
+/// What was found, or otherwise the miss.
+fn nearer(found: Option<Miss>, miss: Miss) -> Miss
+    ensures { (result ≡ miss) ⊎ (found ≡ Some result) }
+{
+    match found {
+        Some(found) => found,
+        None => miss,
+    }
 }
 
 /// That nothing is recorded where a `MATCH` looks, with a path that is much like that one.

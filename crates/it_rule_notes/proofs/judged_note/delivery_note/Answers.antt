@@ -9,6 +9,7 @@ use Rattle.it_chain.specs.declared.refusal.RuleItem.TheVariants.{Deliver}
 use Rattle.it_rule_notes.specs.Delivery.{LooksAtSteps, TellsDelivery, TellsJudged}
 use Rattle.it_rule_notes.specs.Delivery.{delivery_judging}
 use Rattle.it_rule_notes.specs.Met.{Judging}
+use Rattle.it_rule_notes.specs.declared.rule_place.RulePlace.{RulePlace}
 use Rattle.it_rule_notes.proofs.Delivering.{told_of_delivery}
 use Rattle.it_rule_notes.proofs.judged_note.delivery_note.Goals as goal
 
@@ -24,7 +25,7 @@ returns c =
     let delivered = c.args.delivered.now in
     let results = c.args.results.now in
     let layout = c.args.book.now.layout.now in
-    let place = record { item = Deliver; side = Products; index = c.args.index } in
+    let place : RulePlace = record { item = Deliver; side = Products; index = c.args.index } in
     let links : links_of c.as_slice-2.result.now ≡ links_in results =
     ap links_of c.as_slice-2.ensures.value ∙ c.in_ok-links.ensures in
     let look : All (LooksAtSteps layout.inspections) rules =

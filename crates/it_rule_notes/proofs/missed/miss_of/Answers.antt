@@ -28,7 +28,7 @@ returns c =
     let found : c.get.result ≡ get (artifacts_on target.side linked) target.path = c.get.ensures
     ∙ ap (λ m. get m c.as_str-place.result.now) c.artifacts_on-recorded.ensures
     ∙ ap (get (artifacts_on target.side linked)) c.as_str-place.ensures in
-    let here = c.get-here.ensures
+    let here = c.get-2.ensures
     ∙ ap (λ m. get m c.args.path.now) c.artifacts_on-artifacts.ensures in
     c.miss_between.ensures (judging_in c.args.judged.now) target c.args.path.now (record {
       linked = linked;

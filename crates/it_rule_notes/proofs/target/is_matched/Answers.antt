@@ -21,3 +21,7 @@ loop-place-preserved c = λ place rule target below is.
 pub returns : goal.returns
 returns c = λ place rule target below is. c.loop-place.invariant place rule target
     (let within = slice_get_within c.args.judged.now.rules.now place rule is in omega arith) is
+
+pub returns-then-place-index : goal.returns-then-place-index
+returns-then-place-index c = λ place rule target below is.
+    c.loop-place.invariant place rule target (omega arith) is

@@ -90,8 +90,8 @@ def tampered_under(change):
 
 
 def twice(document, member):
-    """A text in which a member comes again at the end, empty."""
-    return document.rstrip()[:-1] + f', "{member}": []}}'
+    """A text in which a member comes again at the end, with another value."""
+    return document.rstrip()[:-1] + f', "{member}": [["ALLOW", "*"]]}}'
 
 
 def deliver_twice(release):
@@ -176,7 +176,7 @@ def silent():
                name="inspects for inspect"),
         layout(removed("steps", 1, "threshold"), 2, "no-threshold", name="no threshold"),
         layout(put("steps", 1, "threshold", None), 2, "no-threshold", name="threshold is null"),
-        layout(lambda body: body["steps"][1]["expected_materials"].pop(), 2, OPEN, '"build"',
+        layout(put("steps", 1, "expected_products", [["CREATE", "bin/hello"]]), 2, OPEN, '"build"',
                name="a step's DISALLOW is missing"),
         layout(put("steps", 1, "expected_products", None), 2, "no-rules", '"build"',
                name="the rules of a step are null"),
@@ -212,8 +212,7 @@ def refused():
                "no rule", name="a pattern that matches nothing"),
         policy(put("deliver", rules(*late)), 1, "REQUIRE hello.tar", "rule 0",
                name="REQUIRE of what a rule before it took"),
-        policy(put("deliver", ["DISALLOW *"]), 1, "deliver[0]", "DISALLOW *",
-               name="a rule as one text"),
+        policy(put("deliver", ["DISALLOW *"]), 1, "rule 0 of deliver", name="a rule as one text"),
         policy(put("deliver", [["DISALOW", "*"]]), 1, "DISALOW", name="a misspelt rule"),
         policy(put("deliver", [["MATCH", "*", "WITH", "PRODUCTS"]]), 1, "MATCH", "deliver",
                name="MATCH without FROM"),

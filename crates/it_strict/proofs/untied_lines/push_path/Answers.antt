@@ -10,7 +10,7 @@ returns c =
     let start = start_form (codes "policy") (codes "untied-file") (codes "/deliver") in
     let words = untied_sentence c.args.path.now in
     let before = c.in_ok-push_untied_sentence.ensures
-    ∙ ap (λ text. text ++ words) c.in_ok-push_start.ensures
+    ∙ ap (λ text. text ++ words) (rw c.as_bytes.ensures.value at c.in_ok-push_start.ensures)
     ∙ append_assoc c.args.text.now.items start words in
     appended c.push_text.result c.args.text.now.items c.push_untied_sentence.new.text.items
     c.push_text.new.text.items (start ++ words) (codes "\n") (untied_line c.args.path.now) before

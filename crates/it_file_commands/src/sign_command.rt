@@ -59,8 +59,8 @@ fn sign_as_asked<R: Disk + AllocGlobal, W: Write>(
     out: &mut W,
 ) -> Result<Status, Fault>
     ensures ok { let w = words.now in IfOk result (λ status. (status ≡ Status.Good) × (text : _)
-        × MatchOption w.onto (SignsBy R.holdings w w.by body.now text)
-        (λ onto. SignsOnto R.holdings w body.now onto text)
+        × MatchOption w.onto (SignsBy (R.holdings rt.now) w w.by body.now text)
+        (λ onto. SignsOnto (R.holdings rt.now) w body.now onto text)
         × Appends (W.contents out.old) (W.contents out.new) text) }
     ensures nothing { IfErr result (λ fault. fault ≢ Fault.Run RunFault.Write → out.new ≡ out.old) }
 {

@@ -158,15 +158,16 @@ def of_steps():
 def of_files():
     """Mistakes in the digest list, and in what is delivered."""
     return [
-        Mistake("another file", tampered, 1, ("40 RuleFailed", "hello.tar", "digest", "package")),
+        Mistake("another file", tampered, 1,
+                ("40 RuleFailed", "package recorded sha256", "here it has sha256")),
         listed(lambda sums: sums.replace("\n", "\r\n"), "carriage return", name="lines of DOS"),
-        listed(lambda sums: sums.replace("  ", "  ./"), "./hello.tar", '"hello.tar"',
+        listed(lambda sums: sums.replace("  ", "  ./"), "./hello.tar", "the nearest is hello.tar",
                name="a path that begins with ./"),
-        listed(lambda sums: sums.replace("  ", "  dist/"), "dist/hello.tar", '"hello.tar"',
-               name="a path in another folder"),
-        listed(lambda sums: sums.replace("  ", "  /tmp/"), "/tmp/hello.tar", '"hello.tar"',
-               name="an absolute path"),
-        listed(lambda sums: sums.replace("hello", "Hello"), "Hello.tar", '"hello.tar"',
+        listed(lambda sums: sums.replace("  ", "  dist/"), "dist/hello.tar",
+               "the nearest is hello.tar", name="a path in another folder"),
+        listed(lambda sums: sums.replace("  ", "  /tmp/"), "/tmp/hello.tar",
+               "the nearest is hello.tar", name="an absolute path"),
+        listed(lambda sums: sums.replace("hello", "Hello"), "Hello.tar", "the nearest is hello.tar",
                name="a path in another case"),
         listed(lambda sums: "", "14 NoFiles", name="an empty list"),
         listed(lambda sums: "\ufeff" + sums, "12 BadSums", "byte order mark",

@@ -209,7 +209,7 @@ def refused():
         policy(put("deliver", [["DISALLOW", "*"], taken("*", "package")]), 1, "rule 0",
                "DISALLOW *", name="DISALLOW comes first"),
         policy(put("deliver", rules(taken("goodbye.tar", "package"))), 1, "hello.tar",
-               "no rule", name="a pattern that matches nothing"),
+               "no MATCH before it matches hello.tar", name="a pattern that matches nothing"),
         policy(put("deliver", rules(*late)), 1, "REQUIRE hello.tar", "rule 0",
                name="REQUIRE of what a rule before it took"),
         policy(put("deliver", ["DISALLOW *"]), 1, "rule 0 of deliver", name="a rule as one text"),

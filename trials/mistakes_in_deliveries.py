@@ -165,7 +165,7 @@ def of_files():
                name="a path that begins with ./"),
         listed(lambda sums: sums.replace("  ", "  dist/"), "dist/hello.tar",
                "the nearest is hello.tar", name="a path in another folder"),
-        listed(lambda sums: sums.replace("  ", "  /tmp/"), "/tmp/hello.tar",
+        listed(lambda sums: sums.replace("  ", "  /release/"), "/release/hello.tar",
                "the nearest is hello.tar", name="an absolute path"),
         listed(lambda sums: sums.replace("hello", "Hello"), "Hello.tar", "the nearest is hello.tar",
                name="a path in another case"),

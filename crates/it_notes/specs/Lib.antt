@@ -5,5 +5,6 @@ pub mod Level
 pub mod Notes
 pub mod PlaceNotes
 pub mod RefusalNotes
+pub mod Said
 pub mod Strictly
 pub mod VerifyOutputIn

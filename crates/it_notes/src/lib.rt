@@ -21,6 +21,7 @@ mod records;
 mod refusal_notes;
 mod room;
 mod rules;
+mod said;
 mod steps;
 pub mod strict_fault;
 mod strict_told;

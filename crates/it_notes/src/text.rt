@@ -4,6 +4,8 @@ use crate::layout_notes::LayoutNotes;
 use crate::lines::{Line, Lines};
 use crate::notes::{Notes, RefusalNotes, RuleNotes};
 use crate::place_notes::PlaceNotes;
+use it_check::push_finding;
+use it_findings::finding::Finding;
 use it_key_notes::unknown_key::UnknownKey;
 use it_member_notes::key_member_note::KeyMemberNote;
 use it_member_notes::layout_note::LayoutNote;
@@ -27,14 +29,14 @@ use std::alloc::{AllocError, Global};
 
 impl Notes {
     /// The lines for people: those on the refusal first, then those on the policy and the layout,
-    /// each with a line feed. There are at most 40; where there are more notes than that, the last
-    /// line says how many are not written out. Names are written as `push_cut_name`
-    /// does.
+    /// and then those of what is found in them though the delivery is accepted, each with a line
+    /// feed. There are at most 40; where there are more notes than that, the last line says how
+    /// many are not written out. Names are written as `push_cut_name` does.
     ///
     /// # Errors
     ///
     /// `AllocError` where memory was refused.
-    pub fn text(&self, alloc: Global) -> Result<Vec<u8>, AllocError> {
+    pub fn text(&self, alloc: Global, found: &[Finding]) -> Result<Vec<u8>, AllocError> {
         let mut lines = Lines::new(alloc);
         if let Some(place) = &self.place {
             place.add_to(&mut lines)?;
@@ -45,6 +47,7 @@ impl Notes {
         if let Some(layout) = &self.layout {
             layout.add_to(&mut lines)?;
         }
+        lines.add_all(found)?;
         lines.into_text(alloc)
     }
 }
@@ -127,6 +130,12 @@ impl Line for LaidOut {
         text.extend_from_slice(b"provenance: one envelope over several lines, ")?;
         text.extend_from_slice(b"where each line is to be one\n")?;
         Ok(())
+    }
+}
+
+impl Line for Finding {
+    fn push_line(&self, text: &mut Vec<u8>) -> Result<(), AllocError> {
+        push_finding(text, self)
     }
 }
 

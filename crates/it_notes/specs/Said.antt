@@ -1,5 +1,5 @@
--- What is found in the policy and in the layout of a delivery that is accepted, and said in the notes
--- on it (words of this project).
+-- What is found in the policy and in the layout of a delivery that is accepted, and said in the
+-- notes on it (words of this project).
 use Rattle.std.specs.Prelude.{◌⊎◌, List, Contains}
 use Rattle.it_dsse.specs.Panel.{Panel}
 use Rattle.it_findings.specs.declared.finding.Finding.{Finding}

@@ -5,6 +5,8 @@ ghost use Rattle.it_dsse.specs.Panel.{Panel};
 ghost use Rattle.it_verify.specs.Made.{IsMadeBy};
 ghost use Rattle.it_notes.specs.Said.{IsFoundInDocuments};
 
+use crate::lines::Line;
+use it_check::push_finding;
 use it_docs::rule::Rule;
 use it_findings::finding::{Finding, RuleList};
 use it_member_notes::{ends_open, rules_of_inspection, rules_of_step};
@@ -14,6 +16,13 @@ use it_verify::documents::Documents;
 use it_verify::grounds::Grounds;
 use it_verify::inputs::Inputs;
 use std::alloc::{AllocError, Global};
+
+/// As `itv check` writes it.
+impl Line for Finding {
+    fn push_line(&self, text: &mut Vec<u8>) -> Result<(), AllocError> {
+        push_finding(text, self)
+    }
+}
 
 /// What is found in the policy, and what is found in the layout and counts, in this order, as far
 /// as no other note says it; nothing where memory was refused.

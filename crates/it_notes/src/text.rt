@@ -1,10 +1,10 @@
 //! The notes as lines for people.
 use crate::file_detail::{DetailedNote, FileDetail};
+use crate::laid_out::LaidOut;
 use crate::layout_notes::LayoutNotes;
 use crate::lines::{Line, Lines};
 use crate::notes::{Notes, RefusalNotes, RuleNotes};
 use crate::place_notes::PlaceNotes;
-use it_check::push_finding;
 use it_findings::finding::Finding;
 use it_key_notes::unknown_key::UnknownKey;
 use it_member_notes::key_member_note::KeyMemberNote;
@@ -28,10 +28,9 @@ use it_step_notes::note::StepNote;
 use std::alloc::{AllocError, Global};
 
 impl Notes {
-    /// The lines for people: those on the refusal first, then those on the policy and the layout,
-    /// and then those of what is found in them though the delivery is accepted, each with a line
-    /// feed. There are at most 40; where there are more notes than that, the last line says how
-    /// many are not written out. Names are written as `push_cut_name` does.
+    /// The lines for people, each with a line feed: those on the refusal, on the policy and on the
+    /// layout, and then those of what is found. There are at most 40; where there are more, the
+    /// last line says how many are not written out. Names are written as `push_cut_name` does.
     ///
     /// # Errors
     ///
@@ -119,24 +118,6 @@ impl LayoutNotes {
 fn add_members(lines: &mut Lines, notes: &MemberNotes) -> Result<(), AllocError> {
     lines.add_all(notes.unread.as_slice())?;
     lines.add_all(notes.keys.as_slice())
-}
-
-/// That the provenance is one envelope over several lines.
-#[derive(Drop)]
-struct LaidOut;
-
-impl Line for LaidOut {
-    fn push_line(&self, text: &mut Vec<u8>) -> Result<(), AllocError> {
-        text.extend_from_slice(b"provenance: one envelope over several lines, ")?;
-        text.extend_from_slice(b"where each line is to be one\n")?;
-        Ok(())
-    }
-}
-
-impl Line for Finding {
-    fn push_line(&self, text: &mut Vec<u8>) -> Result<(), AllocError> {
-        push_finding(text, self)
-    }
 }
 
 impl Line for PartNote {

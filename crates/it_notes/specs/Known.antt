@@ -1,12 +1,12 @@
 -- What the verification read and found, from which the notes are made.
-use Rattle.std.specs.Prelude.{◌≡◌, All, IfSome}
+use Rattle.std.specs.Prelude.{◌≡◌, IfSome}
 use Rattle.it_digest.specs.Sums.{SumsOf}
 use Rattle.it_docs.specs.Policy.{PolicyOf}
 use Rattle.it_dsse.specs.Panel.{Panel}
 use Rattle.it_verify.specs.Verdict.{IsVerdict}
 use Rattle.it_verify.specs.declared.inputs.Inputs.{Inputs}
+use Rattle.it_notes.specs.FoundInDocuments.{AreFoundInDocuments}
 use Rattle.it_notes.specs.Level.{IsTop, StepsStand}
-use Rattle.it_notes.specs.Said.{IsFoundInDocuments}
 use Rattle.it_notes.specs.declared.known.Known.{Known}
 use Rattle.it_notes.specs.declared.known.Told.{Told}
 
@@ -22,4 +22,4 @@ pub record IsKnown (panel : Panel) (inputs : Inputs) (known : Known) : Type 0 wh
 pub record IsTold (panel : Panel) (inputs : Inputs) (told : Told) : Type 0 where
   pub verdict : IsVerdict panel inputs told.verdict
   pub known : IfSome told.known (IsKnown panel inputs)
-  pub found : All (IsFoundInDocuments panel inputs) told.found.items
+  pub found : IfSome told.found (λ found. AreFoundInDocuments panel inputs found.items)

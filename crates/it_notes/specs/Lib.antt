@@ -1,10 +1,10 @@
 pub mod FileDetails
+pub mod FoundInDocuments
 pub mod KeyNotes
 pub mod Known
 pub mod Level
 pub mod Notes
 pub mod PlaceNotes
 pub mod RefusalNotes
-pub mod Said
 pub mod Strictly
 pub mod VerifyOutputIn

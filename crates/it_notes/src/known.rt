@@ -1,13 +1,13 @@
 //! What the verification read and found, from which the notes are made.
-ghost use Rattle.std.specs.Prelude.{◌≤◌, All, IfOk, IfSome};
+ghost use Rattle.std.specs.Prelude.{◌≤◌, IfOk, IfSome};
 ghost use Rattle.it_dsse.specs.Panel.{Panel};
 ghost use Rattle.it_verify.specs.Grounds.{IsFound};
 ghost use Rattle.it_verify.specs.Made.{IsMadeBy};
 ghost use Rattle.it_notes.specs.Known.{IsKnown, IsTold};
-ghost use Rattle.it_notes.specs.Said.{IsFoundInDocuments};
+ghost use Rattle.it_notes.specs.FoundInDocuments.{AreFoundInDocuments};
 
 use crate::fault_level::FaultLevel;
-use crate::said::said_or_nothing;
+use crate::found_in_documents::found_in_documents;
 use it_digest::artifacts::Artifacts;
 use it_docs::policy::Policy;
 use it_dsse::checks::Checks;
@@ -42,9 +42,9 @@ pub struct Told<'a> {
     /// What was found, or `None` where the documents do not read, or an owner did not sign the
     /// layout.
     pub known: Option<Known<'a>>,
-    /// Where the verdict accepts, what is found in the policy and in the layout all the same, as
-    /// far as no other note says it.
-    pub found: Vec<Finding>,
+    /// Where the verdict accepts, what is found in the policy and in the layout all the same, or
+    /// `None` where memory was refused for that.
+    pub found: Option<Vec<Finding>>,
 }
 
 /// Verifies delivered files, and keeps what was found.
@@ -62,13 +62,13 @@ pub(crate) fn verify_told<'a, C: Checks>(
 {
     match verify_grounds(alloc, inputs, checks)? {
         Outcome::Made(grounds) => {
-            let found = said_or_nothing(alloc, inputs, &grounds);
+            let found = found_in_documents(alloc, inputs, &grounds).ok();
             made_told(alloc, inputs, grounds, found)
         }
         Outcome::Refused { refusal, found } => Ok(Told {
             verdict: Verdict::Refused(refusal),
             known: known_of(inputs, found),
-            found: Vec::new(alloc),
+            found: None,
         }),
     }
 }
@@ -78,10 +78,10 @@ pub(crate) fn made_told(
     alloc: Global,
     inputs: &Inputs,
     grounds: Grounds,
-    said: Vec<Finding>,
+    all_the_same: Option<Vec<Finding>>,
 ) -> Result<Told<'_>, AllocError>
     ensures { (panel : Panel) → IsMadeBy panel inputs.now grounds.documents grounds.evidence
-        → All (IsFoundInDocuments panel inputs.now) said.items
+        → IfSome all_the_same (λ found. AreFoundInDocuments panel inputs.now found.items)
         → IfOk result (IsTold panel inputs.now) }
 {
     let verdict = verdict_of(alloc, &grounds)?;
@@ -92,7 +92,7 @@ pub(crate) fn made_told(
     Ok(Told {
         verdict,
         known: Some(known_in(inputs, found)),
-        found: said,
+        found: all_the_same,
     })
 }
 

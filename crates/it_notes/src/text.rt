@@ -1,11 +1,12 @@
 //! The notes as lines for people.
 use crate::file_detail::{DetailedNote, FileDetail};
+use crate::found_in_documents::add_found;
+use crate::known::Told;
 use crate::laid_out::LaidOut;
 use crate::layout_notes::LayoutNotes;
 use crate::lines::{Line, Lines};
 use crate::notes::{Notes, RefusalNotes, RuleNotes};
 use crate::place_notes::PlaceNotes;
-use it_findings::finding::Finding;
 use it_key_notes::unknown_key::UnknownKey;
 use it_member_notes::key_member_note::KeyMemberNote;
 use it_member_notes::layout_note::LayoutNote;
@@ -35,7 +36,7 @@ impl Notes {
     /// # Errors
     ///
     /// `AllocError` where memory was refused.
-    pub fn text(&self, alloc: Global, found: &[Finding]) -> Result<Vec<u8>, AllocError> {
+    pub fn text(&self, alloc: Global, told: &Told) -> Result<Vec<u8>, AllocError> {
         let mut lines = Lines::new(alloc);
         if let Some(place) = &self.place {
             place.add_to(&mut lines)?;
@@ -46,7 +47,7 @@ impl Notes {
         if let Some(layout) = &self.layout {
             layout.add_to(&mut lines)?;
         }
-        lines.add_all(found)?;
+        add_found(&mut lines, told)?;
         lines.into_text(alloc)
     }
 }

@@ -1,5 +1,6 @@
 pub mod Beginning
 pub mod FaultMembers
+pub mod FullForms
 pub mod ListForms
 pub mod MemberForms
 pub mod NamesDiffering

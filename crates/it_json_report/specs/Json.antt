@@ -37,6 +37,10 @@ json_list form items = codes "[" ++ parted form items ++ codes "]"
 abbrev pub member : List ℕ × List ℕ → List ℕ
 member pair = codes "\"" ++ pair.0 ++ codes "\":" ++ pair.1
 
+-- the beginning of an object, up to the end of these members
+abbrev pub opened : List (List ℕ × List ℕ) → List ℕ
+opened members = codes "{" ++ parted member members
+
 -- an object of these members, in this order (RFC 8259, section 4)
 abbrev pub json_object : List (List ℕ × List ℕ) → List ℕ
 json_object members = codes "{" ++ parted member members ++ codes "}"

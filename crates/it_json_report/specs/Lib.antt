@@ -1,4 +1,5 @@
 pub mod Form
+pub mod FullReport
 pub mod Json
 pub mod JsonLaws
 pub mod JsonReport

@@ -3,6 +3,7 @@
 
 mod fault_members;
 pub mod form;
+pub mod full;
 pub mod laws;
 mod lists;
 mod members;

@@ -1,7 +1,8 @@
 //! The report of a verdict as JSON.
 ghost use Rattle.std.specs.Prelude.{◌≡◌, IfOk};
 ghost use Rattle.it_report.specs.declared.verdict.Verdict.TheVariants.{Accepted, Refused};
-ghost use Rattle.it_json_report.specs.JsonReport.{json_of};
+ghost use Rattle.it_json_report.specs.Json.{opened};
+ghost use Rattle.it_json_report.specs.JsonReport.{json_of, members_of};
 
 use crate::fault_members::push_fault;
 use crate::lists::push_list;
@@ -21,32 +22,41 @@ use std::alloc::{AllocError, Global};
 pub fn json_report(alloc: Global, verdict: &Verdict) -> Result<Vec<u8>, AllocError>
     ensures { IfOk result (λ bytes. bytes.items ≡ json_of verdict.now) }
 {
+    let mut json = opened_report(alloc, verdict)?;
+    json.extend_from_slice(b"}\n")?;
+    Ok(json)
+}
+
+/// The object up to the members of the verdict, behind which it can go on.
+pub(crate) fn opened_report(alloc: Global, verdict: &Verdict) -> Result<Vec<u8>, AllocError>
+    ensures { IfOk result (λ bytes. bytes.items ≡ opened (members_of verdict.now)) }
+{
     match verdict {
         Verdict::Accepted { steps, files } => {
-            accepted_json(alloc, steps.as_slice(), files.as_slice())
+            opened_accepted(alloc, steps.as_slice(), files.as_slice())
         }
-        Verdict::Refused(refusal) => refused_json(alloc, refusal),
+        Verdict::Refused(refusal) => opened_refused(alloc, refusal),
     }
 }
 
-fn accepted_json(
+fn opened_accepted(
     alloc: Global,
     steps: &[(Text, u64)],
     files: &[Text],
 ) -> Result<Vec<u8>, AllocError>
-    ensures { IfOk result (λ bytes. bytes.items ≡ json_of (Accepted steps.now files.now)) }
+    ensures { IfOk result
+        (λ bytes. bytes.items ≡ opened (members_of (Accepted steps.now files.now))) }
 {
     let mut json = Vec::from_slice(alloc, b"{\"verdict\":\"accepted\"")?;
     push_member_name(&mut json, "steps")?;
     push_list(alloc, &mut json, steps)?;
     push_member_name(&mut json, "files")?;
     push_list(alloc, &mut json, files)?;
-    json.extend_from_slice(b"}\n")?;
     Ok(json)
 }
 
-fn refused_json(alloc: Global, refusal: &Refusal) -> Result<Vec<u8>, AllocError>
-    ensures { IfOk result (λ bytes. bytes.items ≡ json_of (Refused refusal.now)) }
+fn opened_refused(alloc: Global, refusal: &Refusal) -> Result<Vec<u8>, AllocError>
+    ensures { IfOk result (λ bytes. bytes.items ≡ opened (members_of (Refused refusal.now))) }
 {
     let mut json = Vec::from_slice(alloc, b"{\"verdict\":\"refused\"")?;
     push_number_member(alloc, &mut json, "number", refusal.number() as u64)?;
@@ -54,6 +64,5 @@ fn refused_json(alloc: Global, refusal: &Refusal) -> Result<Vec<u8>, AllocError>
     push_member_name(&mut json, "at")?;
     push_list(alloc, &mut json, refusal.at.as_slice())?;
     push_fault(alloc, &mut json, &refusal.fault)?;
-    json.extend_from_slice(b"}\n")?;
     Ok(json)
 }

@@ -9,8 +9,15 @@ use std::alloc::AllocError;
 pub(super) fn push_text(json: &mut Vec<u8>, text: &str) -> Result<(), AllocError>
     ensures { OnOk result (json.new.items ≡ json.old.items ++ json_text text.now) }
 {
+    push_shown(json, text.as_bytes())
+}
+
+/// Appends a text of these bytes, between quotation marks.
+pub(super) fn push_shown(json: &mut Vec<u8>, bytes: &[u8]) -> Result<(), AllocError>
+    ensures { OnOk result (json.new.items ≡ json.old.items ++ json_text bytes.now) }
+{
     json.push(b'"')?;
-    push_bytes(json, text.as_bytes())?;
+    push_bytes(json, bytes)?;
     json.push(b'"')?;
     Ok(())
 }

@@ -1,0 +1,40 @@
+-- Objects in two parts.
+use Rattle.std.proofs.Common.{◌≡◌, ◌∙◌, ℕ, List, [], ◌∷◌, ◌++◌, ap, append_assoc, codes, drop}
+use Rattle.std.proofs.Common.{sym}
+use Rattle.std.proofs.lemmas.Grind.{flat_map-append}
+use Rattle.it_report.specs.declared.verdict.Verdict.{Verdict}
+use Rattle.it_report.specs.declared.verdict.Verdict.TheVariants.{Accepted, Refused}
+use Rattle.it_json_report.specs.Json.{further, json_object, json_text, member, opened}
+use Rattle.it_json_report.specs.JsonReport.{members_of}
+
+-- further members behind some are the members of both
+goes_on : (first : List ℕ × List ℕ) (members more : List (List ℕ × List ℕ))
+    → opened (first ∷ members) ++ further member more ≡ opened (first ∷ (members ++ more))
+goes_on first members more =
+    ap (λ rest. codes "{" ++ rest) (append_assoc (member first) (further member members)
+    (further member more) ∙ ap (λ rest. member first ++ rest) (sym (flat_map-append
+    (λ one. codes "," ++ member one) members more)))
+
+-- an object in two parts
+pub object_in_two : (old : List ℕ) (first second : List ℕ × List ℕ)
+    (more : List (List ℕ × List ℕ))
+    → (old ++ opened (first ∷ second ∷ [])) ++ (further member more ++ codes "}")
+    ≡ old ++ json_object (first ∷ second ∷ more)
+object_in_two old first second more =
+    let front = opened (first ∷ second ∷ []) in
+    append_assoc old front (further member more ++ codes "}")
+    ∙ ap (λ rest. old ++ rest) (sym (append_assoc front (further member more) (codes "}"))
+    ∙ ap (λ rest. rest ++ codes "}") (goes_on first (second ∷ []) more))
+
+-- the first member of a verdict
+abbrev first_of : Verdict → List ℕ × List ℕ
+first_of (Accepted steps files) = (codes "verdict", json_text (codes "accepted"))
+first_of (Refused refusal) = (codes "verdict", json_text (codes "refused"))
+
+-- further members behind those of a verdict
+pub verdict_goes_on : (verdict : Verdict) (more : List (List ℕ × List ℕ))
+    → opened (members_of verdict) ++ further member more ≡ opened (members_of verdict ++ more)
+verdict_goes_on (Accepted steps files) more =
+    goes_on (first_of (Accepted steps files)) (drop 1 (members_of (Accepted steps files))) more
+verdict_goes_on (Refused refusal) more =
+    goes_on (first_of (Refused refusal)) (drop 1 (members_of (Refused refusal))) more

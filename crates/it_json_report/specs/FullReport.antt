@@ -15,7 +15,7 @@ finding_form document name place sentence =
 
 abbrev pub finding_object : ReportFinding → List ℕ
 finding_object finding =
-    finding_form finding.document.now finding.name.now finding.place finding.sentence
+    finding_form finding.document finding.name finding.place finding.sentence
 
 -- true and false (RFC 8259, section 3)
 abbrev pub json_bool : Bool → List ℕ

@@ -10,6 +10,7 @@ use crate::members::{push_list_member, push_member_name, push_shown_member, push
 use crate::reporting::opened_report;
 use crate::texts::{push_shown, push_text};
 use it_base::sequence::Sequence;
+use it_base::text::Text;
 use it_report::verdict::Verdict;
 use std::alloc::{AllocError, Global};
 
@@ -17,9 +18,9 @@ use std::alloc::{AllocError, Global};
 #[derive(Drop)]
 pub struct ReportFinding {
     /// The document: `policy` or `layout`.
-    pub document: &'static str,
+    pub document: Text,
     /// The name of the finding.
-    pub name: &'static str,
+    pub name: Text,
     /// The place in the document, as a JSON pointer (RFC 6901).
     pub place: Sequence<u8>,
     /// What is found, as a sentence in ASCII.
@@ -116,7 +117,7 @@ impl JsonItem for ReportFinding {
 
     fn push_item(&self, _alloc: Global, json: &mut Vec<u8>) -> Result<(), AllocError> {
         let (place, sentence) = (self.place.as_slice(), self.sentence.as_slice());
-        push_finding(json, self.document, self.name, place, sentence)
+        push_finding(json, self.document.as_str(), self.name.as_str(), place, sentence)
     }
 }
 

@@ -1,5 +1,6 @@
 pub mod FileDetails
 pub mod FoundInDocuments
+pub mod FullOutput
 pub mod KeyNotes
 pub mod Known
 pub mod Level

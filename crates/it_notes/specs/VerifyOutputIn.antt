@@ -2,19 +2,19 @@
 -- the text).
 use Rattle.std.specs.Prelude.{◌≡◌, ℕ, List}
 use Rattle.it_dsse.specs.Panel.{Panel}
-use Rattle.it_json_report.specs.Form.{form_of}
-use Rattle.it_json_report.specs.declared.form.ReportForm.{ReportForm}
 use Rattle.it_outcome.specs.declared.outcome.Status.{Status}
 use Rattle.it_report.specs.declared.verdict.Verdict.{Verdict}
 use Rattle.it_verify.specs.Verdict.{IsVerdict}
 use Rattle.it_verify.specs.VerifyOutput.{status_of}
 use Rattle.it_verify.specs.declared.inputs.Inputs.{Inputs}
+use Rattle.it_notes.specs.FullOutput.{IsTextIn}
+use Rattle.it_notes.specs.declared.output_form.OutputForm.{OutputForm}
 
--- the text is the report of the verdict on the inputs in this form, and the status says whether it
+-- the text is the output for the verdict on the inputs in this form, and the status says whether it
 -- accepts
-pub record IsVerifyOutputIn (form : ReportForm) (panel : Panel) (inputs : Inputs) (text : List ℕ)
+pub record IsVerifyOutputIn (form : OutputForm) (panel : Panel) (inputs : Inputs) (text : List ℕ)
     (status : Status) : Type 0 where
   pub verdict : Verdict
   pub is_verdict : IsVerdict panel inputs verdict
-  pub text_is : text ≡ form_of form verdict
+  pub text_is : IsTextIn form panel inputs verdict text
   pub status_is : status ≡ status_of verdict

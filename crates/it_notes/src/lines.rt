@@ -14,10 +14,9 @@ pub(crate) trait Line {
 /// Lines, as they are written.
 #[derive(Drop)]
 pub(crate) struct Lines {
-    /// The first lines, without the one that can be the last.
-    text: Vec<u8>,
-    /// The line that comes last if there are no more notes.
-    last: Vec<u8>,
+    alloc: Global,
+    /// The first lines, each with its line feed.
+    lines: Vec<Vec<u8>>,
     /// How many notes there are, written out or not.
     count: u64,
 }
@@ -26,8 +25,8 @@ impl Lines {
     /// No line.
     pub(crate) fn new(alloc: Global) -> Lines {
         Lines {
-            text: Vec::new(alloc),
-            last: Vec::new(alloc),
+            alloc,
+            lines: Vec::new(alloc),
             count: 0,
         }
     }
@@ -43,27 +42,35 @@ impl Lines {
     /// Adds the line of a note.
     pub(crate) fn add<N: Line>(&mut self, note: &N) -> Result<(), AllocError> {
         self.count = self.count.saturating_add(1);
-        if self.count < MOST {
-            note.push_line(&mut self.text)?;
-        } else if self.count == MOST {
-            note.push_line(&mut self.last)?;
+        if self.count > MOST {
+            return Ok(());
         }
-        Ok(())
+        let mut line = Vec::new(self.alloc);
+        note.push_line(&mut line)?;
+        self.lines.push(line)
     }
 
-    /// The text of the lines. Where there are more notes than lines to write out, the last line
-    /// says how many are left out.
-    pub(crate) fn into_text(self, alloc: Global) -> Result<Vec<u8>, AllocError> {
+    /// The lines, each with its line feed. Where there are more notes than lines to write out, the
+    /// last line says how many are left out.
+    pub(crate) fn into_lines(self) -> Result<Vec<Vec<u8>>, AllocError> {
         let Lines {
-            mut text,
-            last,
+            alloc,
+            mut lines,
             count,
         } = self;
         if count > MOST {
             let rest = format!(in alloc; "{} further notes\n", count - MOST + 1)?;
-            text.extend_from_slice(rest.as_bytes())?;
-        } else {
-            text.extend_from_slice(last.as_slice())?;
+            lines.pop();
+            lines.push(rest.into_bytes())?;
+        }
+        Ok(lines)
+    }
+
+    /// The text of the lines.
+    pub(crate) fn into_text(self) -> Result<Vec<u8>, AllocError> {
+        let mut text = Vec::new(self.alloc);
+        for line in self.into_lines()? {
+            text.extend_from_slice(line.as_slice())?;
         }
         Ok(text)
     }

@@ -1,7 +1,5 @@
 //! The notes as lines for people.
 use crate::file_detail::{DetailedNote, FileDetail};
-use crate::found_in_documents::add_found;
-use crate::known::Told;
 use crate::laid_out::LaidOut;
 use crate::layout_notes::LayoutNotes;
 use crate::lines::{Line, Lines};
@@ -29,14 +27,13 @@ use it_step_notes::note::StepNote;
 use std::alloc::{AllocError, Global};
 
 impl Notes {
-    /// The lines for people, each with a line feed: those on the refusal, on the policy and on the
-    /// layout, and then those of what is found. There are at most 40; where there are more, the
-    /// last line says how many are not written out. Names are written as `push_cut_name` does.
+    /// The lines for people, of which at most 40 are written: those on the refusal first, then those
+    /// on the policy and the layout. Names are written as `push_cut_name` does.
     ///
     /// # Errors
     ///
     /// `AllocError` where memory was refused.
-    pub fn text(&self, alloc: Global, told: &Told) -> Result<Vec<u8>, AllocError> {
+    pub(crate) fn lines(&self, alloc: Global) -> Result<Lines, AllocError> {
         let mut lines = Lines::new(alloc);
         if let Some(place) = &self.place {
             place.add_to(&mut lines)?;
@@ -47,8 +44,7 @@ impl Notes {
         if let Some(layout) = &self.layout {
             layout.add_to(&mut lines)?;
         }
-        add_found(&mut lines, told)?;
-        lines.into_text(alloc)
+        Ok(lines)
     }
 }
 

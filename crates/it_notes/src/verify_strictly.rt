@@ -5,18 +5,19 @@ ghost use Rattle.it_base.specs.Writing.{AppendsBeginning};
 ghost use Rattle.it_notes.specs.Strictly.{HasFindings, StandsStrictly};
 ghost use Rattle.it_notes.specs.VerifyOutputIn.{IsVerifyOutputIn};
 
+use crate::output_form::OutputForm;
+use crate::output_text::{status_of, text_in};
 use crate::strict_fault::StrictFault;
 use crate::strict_told::strict_told;
-use crate::verdict_output::write_in;
 use crate::verify_with_notes::note;
 use it_dsse::checks::Checks;
-use it_json_report::form::ReportForm;
+use it_outcome::output::{Output, put};
 use it_outcome::{RunFault, Status};
 use it_verify::inputs::Inputs;
 use std::alloc::Global;
 use std::io::Write;
 
-/// Verifies delivered files as `verify_with_notes` does, and writes the same report and notes, but
+/// Verifies delivered files as `verify_with_notes` does, and writes the same output and notes, but
 /// where the verdict accepts and something is found, the lines of what is found go to `notes`, and
 /// nothing else is written.
 ///
@@ -30,7 +31,7 @@ pub fn verify_strictly<C: Checks, W: Write, N: Write>(
     alloc: Global,
     inputs: &Inputs,
     checks: &C,
-    form: ReportForm,
+    form: OutputForm,
     out: &mut W,
     notes: &mut N,
 ) -> Result<Status, StrictFault>
@@ -50,7 +51,11 @@ pub fn verify_strictly<C: Checks, W: Write, N: Write>(
         → out.new ≡ out.old) }
 {
     let told = strict_told(alloc, inputs, checks, notes)?;
-    let status = write_in(alloc, form, &told.verdict, out)?;
-    note(alloc, inputs, &told, checks, notes);
+    let text = text_in(alloc, inputs, &told, checks, form)?;
+    let status = status_of(&told.verdict);
+    let status = put(out, &Output { text, status })?;
+    if form.is_report() {
+        note(alloc, inputs, &told, checks, notes);
+    }
     Ok(status)
 }

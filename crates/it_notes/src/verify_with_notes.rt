@@ -6,18 +6,20 @@ ghost use Rattle.it_outcome.specs.Outcome.{IsOutputFault};
 ghost use Rattle.it_notes.specs.Known.{IsTold};
 ghost use Rattle.it_notes.specs.VerifyOutputIn.{IsVerifyOutputIn};
 
+use crate::found_in_documents::add_found;
 use crate::known::{Told, verify_told};
 use crate::notes::Notes;
-use crate::verdict_output::write_in;
+use crate::output_form::OutputForm;
+use crate::output_text::{status_of, text_in};
 use it_dsse::checks::Checks;
-use it_json_report::form::ReportForm;
+use it_outcome::output::{Output, put};
 use it_outcome::{RunFault, Status};
 use it_verify::inputs::Inputs;
 use std::alloc::{AllocError, Global};
 use std::io::Write;
 
-/// Verifies delivered files, as `verify_by` of `it_verify` does, writes the report in this form,
-/// and then writes the notes on the verdict to `notes`.
+/// Verifies delivered files, as `verify_by` of `it_verify` does, writes the output in this form,
+/// and then, where that is the report alone, writes the notes on the verdict to `notes`.
 ///
 /// The answer is `Good` where the verdict accepts, and `Refused` where it refuses. The notes affect
 /// neither it nor the report: where memory is refused for them, or the checks refuse to check more
@@ -32,7 +34,7 @@ pub fn verify_with_notes<C: Checks, W: Write, N: Write>(
     alloc: Global,
     inputs: &Inputs,
     checks: &C,
-    form: ReportForm,
+    form: OutputForm,
     out: &mut W,
     notes: &mut N,
 ) -> Result<Status, RunFault>
@@ -47,8 +49,10 @@ pub fn verify_with_notes<C: Checks, W: Write, N: Write>(
     ensures faults { IfErr result IsOutputFault }
 {
     let told = verify_told(alloc, inputs, checks)?;
-    let outcome = write_in(alloc, form, &told.verdict, out);
-    if outcome.is_ok() {
+    let text = text_in(alloc, inputs, &told, checks, form)?;
+    let status = status_of(&told.verdict);
+    let outcome = put(out, &Output { text, status });
+    if outcome.is_ok() && form.is_report() {
         note(alloc, inputs, &told, checks, notes);
     }
     outcome
@@ -78,5 +82,7 @@ fn notes_text<C: Checks>(
 ) -> Result<Vec<u8>, AllocError>
     requires { IsTold (C.panel checks.now) inputs.now told.now }
 {
-    Notes::of(alloc, inputs, told, checks)?.text(alloc, told)
+    let mut lines = Notes::of(alloc, inputs, told, checks)?.lines(alloc)?;
+    add_found(&mut lines, told)?;
+    lines.into_text()
 }

@@ -136,9 +136,16 @@ impl<'v, 'a> Values<'v, 'a> {
     {
         match self.found.try_get_one::<u8>("json") {
             Ok(None) => Ok(Form::Lines),
-            Ok(Some(1)) => Ok(Form::Json),
-            Ok(Some(2)) => Ok(Form::Full),
-            _ => Err(ValuesFault::Unfit),
+            Ok(Some(number)) => {
+                if number == 1 {
+                    Ok(Form::Json)
+                } else if number == 2 {
+                    Ok(Form::Full)
+                } else {
+                    Err(ValuesFault::Unfit)
+                }
+            }
+            Err(_) => Err(ValuesFault::Unfit),
         }
     }
 

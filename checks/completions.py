@@ -31,9 +31,9 @@ _{program}() {{
     local command=${{COMP_WORDS[1]}} offered
     # Of --option=value bash makes three words.
     if [ "$word" = = ]; then
-        word=
+        word= before=$before=
     elif [ "$before" = = ]; then
-        before=${{COMP_WORDS[COMP_CWORD - 2]}}
+        before=${{COMP_WORDS[COMP_CWORD - 2]}}=
     fi
     if [ "$COMP_CWORD" = 1 ]; then
         offered=$(compgen -W '{commands}' -- "$word")
@@ -96,14 +96,16 @@ def offers_of(command):
 
 def value_lines(listed):
     """What bash offers after each option: values, if their kind is known; after an option without a
-    value, words of the command."""
+    value, words of the command; and after the = of one that may have a value, that value."""
     for command in listed["commands"]:
         for option in command["options"]:
-            named = f"        {command['name']}--{option['name']})"
+            named = f"{command['name']}--{option['name']}"
             if option["kind"] in BASH:
-                yield f"{named} {BASH[option['kind']]} ;;"
-            elif not option["value"]:
-                yield f"{named} {offers_of(command)} ;;"
+                yield f"        {named} | {named}=) {BASH[option['kind']]} ;;"
+            if option["use"] == "maybe":
+                yield f"        {named}=) compgen -W {option['value']} -- \"$word\" ;;"
+            if option["use"] in ("bare", "maybe"):
+                yield f"        {named}) {offers_of(command)} ;;"
 
 
 def word_lines(listed):
@@ -132,14 +134,19 @@ def zsh_text(text):
     return text.replace("'", "'\\''")
 
 
+def zsh_value(option):
+    """What stands before and behind the text of an option for its value."""
+    if option["use"] == "maybe":
+        return "=-", f"::{option['value']}:({option['value']})"
+    return ("=", f":{option['value']}:{ZSH.get(option['kind'], ' ')}") if option["value"] else ("", "")
+
+
 def zsh_words(command):
     """What zsh completes after the name of a command."""
     for option in command["options"]:
         often = "*" if option["use"] == "any" else ""
-        named, text = f"{often}--{option['name']}", f"[{zsh_text(option['text'])}]"
-        offers = ZSH.get(option["kind"], " ")
-        value = f"=:{option['value']}:{offers}".partition(":") if option["value"] else ("", "", "")
-        yield f"'{named}{value[0]}{text}{value[1]}{value[2]}'"
+        before, behind = zsh_value(option)
+        yield f"'{often}--{option['name']}{before}[{zsh_text(option['text'])}]{behind}'"
     for argument in command["arguments"]:
         often = "*" if argument["value"].endswith("..") else ""
         offers = ZSH.get(argument["kind"], " ")
@@ -163,6 +170,13 @@ def fish_text(text):
     return "'" + text.replace("\\", "\\\\").replace("'", "\\'") + "'"
 
 
+def fish_value(option):
+    """What fish offers for the value of an option."""
+    if option["use"] == "maybe":
+        return f" -f -a {option['value']}"
+    return f" {FISH.get(option['kind'], '-x')}" if option["value"] else ""
+
+
 def fish_lines(listed):
     """What fish completes."""
     start = f"complete -c {listed['program']} -n"
@@ -171,8 +185,7 @@ def fish_lines(listed):
         yield f"{start} __fish_use_subcommand -a {command['name']} -d {text}"
         seen = f"{start} '__fish_seen_subcommand_from {command['name']}'"
         for option in command["options"]:
-            offers = f" {FISH.get(option['kind'], '-x')}" if option["value"] else ""
-            yield f"{seen} -l {option['name']}{offers} -d {fish_text(option['text'])}"
+            yield f"{seen} -l {option['name']}{fish_value(option)} -d {fish_text(option['text'])}"
         if takes_files(command):
             yield f"{seen} -F"
 

@@ -63,30 +63,36 @@ def text_of(words):
     return "\\&" + plain if plain.startswith((".", "'")) else plain
 
 
+def with_value(option):
+    """An option with its value, between brackets where it may be left out."""
+    if option["use"] == "maybe":
+        return f"--{option['name']}[={option['value']}]"
+    return f"--{option['name']} {option['value']}".rstrip()
+
+
 def option_of(option):
-    """An option with its value."""
-    value = f" \\fI{option['value']}\\fR" if option["value"] else ""
-    return f"\\-\\-{option['name']}{value}"
+    """An option with its value, escaped for roff."""
+    name, _, value = with_value(option).partition(" ")
+    return f"{text_of(name)} \\fI{value}\\fR" if value else text_of(name)
 
 
 def choice_of(options):
     """Options of which those of one choice must be given; a bar separates the choices."""
     choices = {}
     for option in options:
-        words = f"--{option['name']} {option['value']}"
-        choices.setdefault(option["choice"], []).append(words)
+        choices.setdefault(option["choice"], []).append(with_value(option))
     return "(" + " | ".join(" ".join(words) for words in choices.values()) + ")"
 
 
 def words_of(command):
     """The arguments of a command, as a synopsis shows them."""
-    forms = {"needed": "--{} {}", "any": "[--{} {}..]", "free": "[--{} {}]", "bare": "[--{}]"}
+    forms = {"needed": "{}", "any": "[{}..]"}
     words = [argument["value"] for argument in command["arguments"]]
     for use, options in itertools.groupby(command["options"], key=lambda option: option["use"]):
         if use == "one":
             words.append(choice_of(options))
         else:
-            words += [forms[use].format(option["name"], option["value"]) for option in options]
+            words += [forms.get(use, "[{}]").format(with_value(option)) for option in options]
     return " ".join(words)
 
 
@@ -152,7 +158,7 @@ def usage_line(program, command):
 
 def usage_text(command):
     """What a command does, and a line on each option."""
-    shown = [f"--{option['name']} {option['value']}".rstrip() for option in command["options"]]
+    shown = [with_value(option) for option in command["options"]]
     width = max(map(len, shown), default=0)
     lines = [wrapped(command["text"], "    ", "    ")]
     lines += [wrapped(option["text"], f"      {words:{width}}  ", " " * (width + 8))

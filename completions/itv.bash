@@ -2,32 +2,33 @@
 
 _itv_values() {
     case $1 in
-        verify--policy) compgen -f -- "$word" ;;
-        verify--layout) compgen -f -- "$word" ;;
-        verify--links) compgen -d -- "$word" ;;
-        verify--sums) compgen -f -- "$word" ;;
-        verify--ring) compgen -f -- "$word" ;;
+        verify--policy | verify--policy=) compgen -f -- "$word" ;;
+        verify--layout | verify--layout=) compgen -f -- "$word" ;;
+        verify--links | verify--links=) compgen -d -- "$word" ;;
+        verify--sums | verify--sums=) compgen -f -- "$word" ;;
+        verify--ring | verify--ring=) compgen -f -- "$word" ;;
         verify--public-keys) compgen -W '--policy --layout --links --sums --at --ring --public-keys --json --strict --provenance --records --depth --most-checks' -- "$word" ;;
+        verify--json=) compgen -W 2 -- "$word" ;;
         verify--json) compgen -W '--policy --layout --links --sums --at --ring --public-keys --json --strict --provenance --records --depth --most-checks' -- "$word" ;;
         verify--strict) compgen -W '--policy --layout --links --sums --at --ring --public-keys --json --strict --provenance --records --depth --most-checks' -- "$word" ;;
-        verify--provenance) compgen -f -- "$word" ;;
-        verify--records) compgen -d -- "$word" ;;
-        verify--depth) compgen -W '0 1 2 3 4 5 6 7 8' -- "$word" ;;
-        check--policy) compgen -f -- "$word" ;;
-        check--layout) compgen -f -- "$word" ;;
-        signed--ring) compgen -f -- "$word" ;;
-        signed--keys) compgen -f -- "$word" ;;
-        sign--ring) compgen -f -- "$word" ;;
-        sign--signature) compgen -f -- "$word" ;;
-        sign--keys) compgen -f -- "$word" ;;
-        sign--type) compgen -W application/vnd.in-toto+json -- "$word" ;;
-        sign--onto) compgen -f -- "$word" ;;
-        pae--type) compgen -W application/vnd.in-toto+json -- "$word" ;;
+        verify--provenance | verify--provenance=) compgen -f -- "$word" ;;
+        verify--records | verify--records=) compgen -d -- "$word" ;;
+        verify--depth | verify--depth=) compgen -W '0 1 2 3 4 5 6 7 8' -- "$word" ;;
+        check--policy | check--policy=) compgen -f -- "$word" ;;
+        check--layout | check--layout=) compgen -f -- "$word" ;;
+        signed--ring | signed--ring=) compgen -f -- "$word" ;;
+        signed--keys | signed--keys=) compgen -f -- "$word" ;;
+        sign--ring | sign--ring=) compgen -f -- "$word" ;;
+        sign--signature | sign--signature=) compgen -f -- "$word" ;;
+        sign--keys | sign--keys=) compgen -f -- "$word" ;;
+        sign--type | sign--type=) compgen -W application/vnd.in-toto+json -- "$word" ;;
+        sign--onto | sign--onto=) compgen -f -- "$word" ;;
+        pae--type | pae--type=) compgen -W application/vnd.in-toto+json -- "$word" ;;
         digest--recursive) compgen -W '--recursive' -- "$word"; compgen -f -- "$word" ;;
-        link--materials) compgen -f -- "$word" ;;
-        link--products) compgen -f -- "$word" ;;
-        statement--sums) compgen -f -- "$word" ;;
-        statement--parameters) compgen -f -- "$word" ;;
+        link--materials | link--materials=) compgen -f -- "$word" ;;
+        link--products | link--products=) compgen -f -- "$word" ;;
+        statement--sums | statement--sums=) compgen -f -- "$word" ;;
+        statement--parameters | statement--parameters=) compgen -f -- "$word" ;;
     esac
 }
 
@@ -36,9 +37,9 @@ _itv() {
     local command=${COMP_WORDS[1]} offered
     # Of --option=value bash makes three words.
     if [ "$word" = = ]; then
-        word=
+        word= before=$before=
     elif [ "$before" = = ]; then
-        before=${COMP_WORDS[COMP_CWORD - 2]}
+        before=${COMP_WORDS[COMP_CWORD - 2]}=
     fi
     if [ "$COMP_CWORD" = 1 ]; then
         offered=$(compgen -W 'verify check signed sign pae digest link statement payload key match' -- "$word")

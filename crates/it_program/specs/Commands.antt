@@ -1,5 +1,5 @@
 -- What the commands write and find, by their words and by what is at the paths in them.
-use Rattle.std.specs.Prelude.{◌≡◌, ℕ, List, Bool, true, false, IsTrue}
+use Rattle.std.specs.Prelude.{◌≡◌, ℕ, List, IsTrue}
 use Rattle.std.specs.List.{AllZip}
 use Rattle.it_dsse.specs.Panel.{panel_of}
 use Rattle.it_dsse.specs.declared.ring_entry.RingEntry.{RingEntry}
@@ -16,6 +16,8 @@ use Rattle.it_words.specs.declared.words.Words.{Words}
 use Rattle.it_words.specs.declared.words.Words.TheVariants.{Signed, Match, Pae, Sign, Digest}
 use Rattle.it_words.specs.declared.words.Words.TheVariants.{Check}
 use Rattle.it_words.specs.declared.words.Words.TheVariants.{Verify, Link, Statement, Payload, Key}
+use Rattle.it_words.specs.declared.words.form.Form.{Form}
+use Rattle.it_words.specs.declared.words.form.Form.TheVariants as asked
 use Rattle.it_words.specs.declared.words.verify_words.VerifyWords.{VerifyWords}
 use Rattle.it_disk.specs.Reading.{Holdings, HoldsRing}
 use Rattle.it_file_commands.specs.Commands.{Checks, Encodes, ListsDigests, MakesKeys, MakesLink}
@@ -24,9 +26,10 @@ use Rattle.it_file_commands.specs.Commands.{SignsAsAsked}
 use Rattle.it_program.specs.Inputs.{AreInputs}
 
 -- the form that is asked for
-abbrev pub form_asked : Bool → ReportForm
-form_asked false = Lines
-form_asked true = Json
+abbrev pub form_asked : Form → ReportForm
+form_asked asked.Lines = Lines
+form_asked asked.Json = Json
+form_asked asked.Full = Json
 
 -- verify: the output of verifying the inputs, checked by the rings in the order of the words, and
 -- then, where they are asked for, by public keys; with --strict, nothing is found in what is
@@ -37,7 +40,7 @@ pub record Verifies (disk : Holdings) (words : VerifyWords) (text : List ℕ)
   pub are_inputs : AreInputs disk words inputs
   pub rings : List (List RingEntry)
   pub holds_rings : AllZip (HoldsRing disk) words.rings rings
-  pub is_output : IsVerifyOutputIn (form_asked words.json)
+  pub is_output : IsVerifyOutputIn (form_asked words.form)
       (panel_of (own_checks rings words.public_keys)) inputs text status
   pub stands : IsTrue words.strict → status ≡ Good
       → StandsStrictly (panel_of (own_checks rings words.public_keys)) inputs

@@ -27,6 +27,7 @@ use it_notes::verify_with_notes::verify_with_notes;
 use it_outcome::{RunFault, Status};
 use it_public_keys::own_checks::OwnChecks;
 use it_verify::inputs::Inputs;
+use it_words::words::form::Form;
 use it_words::words::verify_words::VerifyWords;
 use std::alloc::Global;
 use std::io::Write;
@@ -86,7 +87,7 @@ fn verify_as_asked<C: Checks, W: Write, N: Write>(
 ) -> Result<Status, Stop>
     requires { inputs.now.depth ≤ 8 }
     ensures ok { IfOk result (λ status. (text : _)
-        × IsVerifyOutputIn (form_asked words.now.json) (C.panel checks.now) inputs.now text status
+        × IsVerifyOutputIn (form_asked words.now.form) (C.panel checks.now) inputs.now text status
         × Appends (W.contents out.old) (W.contents out.new) text) }
     ensures stands { IfOk result (λ status. IsTrue words.now.strict → status ≡ Status.Good
         → StandsStrictly (C.panel checks.now) inputs.now) }
@@ -95,7 +96,7 @@ fn verify_as_asked<C: Checks, W: Write, N: Write>(
     ensures findings { IsErrOf result Stop.Findings → IsTrue words.now.strict
         × (text : _) × HasFindings (C.panel checks.now) inputs.now text }
 {
-    let form = form_asked(words.json);
+    let form = form_asked(words.form);
     if words.strict {
         Ok(verify_strictly(alloc, inputs, checks, form, out, notes)?)
     } else {
@@ -104,13 +105,12 @@ fn verify_as_asked<C: Checks, W: Write, N: Write>(
 }
 
 /// The form that is asked for.
-fn form_asked(json: bool) -> ReportForm
-    ensures { result ≡ form_asked json }
+fn form_asked(form: Form) -> ReportForm
+    ensures { result ≡ form_asked form }
 {
-    if json {
-        ReportForm::Json
-    } else {
-        ReportForm::Lines
+    match form {
+        Form::Lines => ReportForm::Lines,
+        Form::Json | Form::Full => ReportForm::Json,
     }
 }
 

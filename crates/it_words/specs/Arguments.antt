@@ -28,6 +28,15 @@ plain_options name = record (plain_option name) { action = Some Append }
 abbrev pub bare_option : Text → Rule
 bare_option name = record (new_rule name) { long = Some name; action = Some Count }
 
+-- the form of a report as JSON, which may be left out or given many times: 1 or 2, and 1 where the
+-- option has no value
+abbrev pub json_option : Rule
+json_option = record (plain_options (codes "json")) {
+  range = Some (record { start_inclusive = 0; end_inclusive = 1 });
+  missing = codes "1" ∷ [];
+  parser = Some (parser.Signed (pos 1) (pos 2));
+}
+
 -- how deep sublayouts may lie: from 0 to 8, and 4 where it is not said
 abbrev pub depth_option : Rule
 depth_option = record (plain_option (codes "depth")) {

@@ -4,6 +4,7 @@ use Rattle.clap.specs.Words.{App, new_app, with_rule, with_subcommand}
 use Rattle.it_words.specs.Arguments.{
   bare_option,
   depth_option,
+  json_option,
   most_checks_option,
   needed_option,
   needed_word,
@@ -76,7 +77,8 @@ check_command =
     (plain_option (codes "layout"))
 
 -- verify --policy F --layout F --links DIR --sums F --at MOMENT, and what may be left out:
--- --ring F.. --public-keys --json --strict --provenance F --records DIR --depth N --most-checks N
+-- --ring F.. --public-keys --json[=N] --strict --provenance F --records DIR --depth N
+-- --most-checks N
 abbrev pub needed_of_verify : App
 needed_of_verify =
     with_rule (with_rule (with_rule (with_rule (with_rule (new_app (codes "verify"))
@@ -88,7 +90,7 @@ abbrev pub verify_command : App
 verify_command =
     with_rule (with_rule (with_rule (with_rule (with_rule (with_rule (with_rule (with_rule
     needed_of_verify (plain_options (codes "ring"))) (bare_option (codes "public-keys")))
-    (bare_option (codes "json"))) (bare_option (codes "strict")))
+    json_option) (bare_option (codes "strict")))
     (plain_option (codes "provenance"))) (plain_option (codes "records"))) depth_option)
     most_checks_option
 

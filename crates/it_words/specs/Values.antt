@@ -25,6 +25,8 @@ use Rattle.clap.specs.Walk.{all_of, count_of}
 use Rattle.clap.specs.Words.{Row, Text, first_of, one_of}
 use Rattle.it_words.specs.declared.words.check_words.CheckWords.{CheckWords}
 use Rattle.it_words.specs.declared.words.digest_words.DigestWords.{DigestWords}
+use Rattle.it_words.specs.declared.words.form.Form.{Form}
+use Rattle.it_words.specs.declared.words.form.Form.TheVariants.{Lines, Json, Full}
 use Rattle.it_words.specs.declared.words.key_words.KeyWords.{KeyWords}
 use Rattle.it_words.specs.declared.words.link_words.LinkWords.{LinkWords}
 use Rattle.it_words.specs.declared.words.match_words.MatchWords.{MatchWords}
@@ -118,9 +120,9 @@ pub record WritesNumber (text : Text) (number : ℕ) : Type 0 where
   pub number_is : number ≡ digits_value 10 (without_leading_plus text)
   pub fits : number < 2 ^ 64
 
--- the text is there, and writes how many signatures public keys may check
-abbrev pub IsMostChecks : Option Text → ℕ → Type 0
-IsMostChecks given most = MatchOption given ⊥ (λ text. WritesNumber text most)
+-- the text is there, and writes this number
+abbrev pub GivesNumber : Option Text → ℕ → Type 0
+GivesNumber given number = MatchOption given ⊥ (λ text. WritesNumber text number)
 
 -- an id is given for one file alone
 abbrev pub MayBeNamed : List Text → Option Text → Type 0
@@ -152,6 +154,13 @@ pub record AreRings (given : Option (List Text)) (rings : List Text) : Type 0 wh
 abbrev pub HasCheck : List Text → Bool → Type 0
 HasCheck rings public_keys = IsTrue (nat_lt 0 (length rings) || public_keys)
 
+-- the form in which the report is asked for: in lines where nothing is given, as JSON where 1 is
+-- given, and as JSON with what is found and noted where 2 is
+abbrev pub IsForm : Option Text → Form → Type 0
+IsForm given Lines = given ≡ None
+IsForm given Json = GivesNumber given 1
+IsForm given Full = GivesNumber given 2
+
 -- the values of the command verify
 pub record IsVerify (values : List Row) (words : VerifyWords) : Type 0 where
   pub policy : first_of (codes "policy") values ≡ Some words.policy
@@ -161,10 +170,10 @@ pub record IsVerify (values : List Row) (words : VerifyWords) : Type 0 where
   pub at : first_of (codes "at") values ≡ Some words.at
   pub rings : AreRings (all_of (codes "ring") values) words.rings
   pub public_keys : words.public_keys ≡ nat_lt 0 (count_of (codes "public-keys") values)
-  pub json : words.json ≡ nat_lt 0 (count_of (codes "json") values)
+  pub form : IsForm (one_of (codes "json") values) words.form
   pub strict : words.strict ≡ nat_lt 0 (count_of (codes "strict") values)
   pub has_check : HasCheck words.rings words.public_keys
   pub provenance : first_of (codes "provenance") values ≡ words.provenance
   pub records : first_of (codes "records") values ≡ words.records
   pub depth : IsDepth (one_of (codes "depth") values) words.depth
-  pub most_checks : IsMostChecks (one_of (codes "most-checks") values) words.most_checks
+  pub most_checks : GivesNumber (one_of (codes "most-checks") values) words.most_checks

@@ -9,6 +9,7 @@ mod arguments;
 pub mod check_words;
 mod dashes;
 pub mod digest_words;
+pub mod form;
 pub mod key_words;
 pub mod link_words;
 pub mod match_words;
@@ -75,9 +76,8 @@ pub enum Words {
     /// one is given at least.
     Check(CheckWords),
     /// `itv verify --policy F --layout F --links DIR --sums F --at MOMENT [--ring F..]
-    /// [--public-keys] [--json] [--strict] [--provenance F] [--records DIR] [--depth N]
-    /// [--most-checks N]`: whether
-    /// delivered files were made as the owners prescribed.
+    /// [--public-keys] [--json[=2]] [--strict] [--provenance F] [--records DIR] [--depth N]
+    /// [--most-checks N]`: whether delivered files were made as the owners prescribed.
     Verify(VerifyWords),
 }
 

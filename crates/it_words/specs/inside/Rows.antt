@@ -4,6 +4,7 @@ use Rattle.clap.specs.Words.{App, Rule, new_app, with_rule}
 use Rattle.it_words.specs.Arguments.{
   bare_option,
   depth_option,
+  json_option,
   most_checks_option,
   needed_option,
   needed_word,
@@ -23,6 +24,7 @@ rule_of_argument (kinds.NeededOption name shown) = needed_option name.now
 rule_of_argument (kinds.PlainOption name shown) = plain_option name.now
 rule_of_argument (kinds.PlainOptions name shown) = plain_options name.now
 rule_of_argument (kinds.BareOption name) = bare_option name.now
+rule_of_argument kinds.JsonForm = json_option
 rule_of_argument kinds.Depth = depth_option
 rule_of_argument kinds.MostChecks = most_checks_option
 

@@ -4,6 +4,7 @@ ghost use Rattle.clap.specs.Walk.{rule_of};
 ghost use Rattle.it_words.specs.Arguments.{
   bare_option,
   depth_option,
+  json_option,
   most_checks_option,
   needed_option,
   needed_word,
@@ -29,6 +30,7 @@ pub(super) fn argument_of<'a>(alloc: Global, argument: &Argument) -> Arg<'a>
         Argument::PlainOption(name, shown) => plain_option(alloc, name, shown),
         Argument::PlainOptions(name, shown) => plain_options(alloc, name, shown),
         Argument::BareOption(name) => bare_option(alloc, name),
+        Argument::JsonForm => json_option(alloc),
         Argument::Depth => depth_option(alloc),
         Argument::MostChecks => most_checks_option(alloc),
     }
@@ -83,6 +85,18 @@ fn bare_option<'a>(alloc: Global, name: &'a str) -> Arg<'a>
     ensures local { result.global ≡ false }
 {
     Arg::new(alloc, name).long(name).action(ArgAction::Count)
+}
+
+/// The form of a report as JSON, which may be left out or given many times: 1 or 2, and 1 where the
+/// option has no value.
+fn json_option<'a>(alloc: Global) -> Arg<'a>
+    ensures rule { rule_of result ≡ json_option }
+    ensures local { result.global ≡ false }
+{
+    plain_options(alloc, "json", "N")
+        .num_args(0..=1)
+        .default_missing_value("1")
+        .value_parser(value_parser!(u8).range(1..=2))
 }
 
 /// How deep sublayouts may lie: from 0 to 8, and 4 where it is not said.

@@ -59,9 +59,13 @@ fn shows(usage: &str, option: &str) -> bool {
     false
 }
 
-/// A part of a usage without the brackets before and behind it.
+/// A part of a usage without the brackets before and behind it, and without a value that need not
+/// be given, as in `[--option[=value]]`.
 fn without_brackets(part: &str) -> &str {
     let part = part.strip_prefix("[").unwrap_or(part);
     let part = part.strip_prefix("(").unwrap_or(part);
-    part.strip_suffix("]").unwrap_or(part)
+    match part.split_once("[=") {
+        Some((option, _)) => option,
+        None => part.strip_suffix("]").unwrap_or(part),
+    }
 }

@@ -17,6 +17,9 @@ pub(crate) enum Argument {
     PlainOptions(&'static str, &'static str),
     /// An option without a value, which may be left out or given many times.
     BareOption(&'static str),
+    /// The form of a report as JSON, which may be left out or given many times: 1 or 2, and 1 where
+    /// the option has no value.
+    JsonForm,
     /// How deep sublayouts may lie: from 0 to 8, and 4 where it is not said.
     Depth,
     /// How many signatures public keys may check: 20,000 where it is not said.
@@ -147,7 +150,7 @@ const VERIFY: CommandRow = CommandRow {
         Argument::NeededOption("at", "MOMENT"),
         Argument::PlainOptions("ring", "F"),
         Argument::BareOption("public-keys"),
-        Argument::BareOption("json"),
+        Argument::JsonForm,
         Argument::BareOption("strict"),
         Argument::PlainOption("provenance", "F"),
         Argument::PlainOption("records", "DIR"),

@@ -17,7 +17,7 @@ pub(super) static USAGES: [Usage; 11] = [
 pub(super) const VERIFY: Usage = Usage {
     name: "verify",
     line: "itv verify --policy F --layout F --links DIR --sums F --at MOMENT [--ring F..]
-    [--public-keys] [--json] [--strict] [--provenance F] [--records DIR]
+    [--public-keys] [--json[=2]] [--strict] [--provenance F] [--records DIR]
     [--depth N] [--most-checks N]",
     text: "    Writes the report of the verification: the line accepted with each step and
     each file, or the line refused with the first thing that does not hold.
@@ -35,7 +35,8 @@ pub(super) const VERIFY: Usage = Usage {
                        with --public-keys.
       --public-keys    Checks signatures by the public keys in the policy and
                        in the layouts too, after the rings.
-      --json           Writes the report as one JSON object.
+      --json[=2]       Writes the report as one JSON object; with =2 also what
+                       is found and noted.
       --strict         Refuses what would be accepted, with status 2, where
                        something is found in the policy or in the layout, as
                        itv check finds it, or a delivered file is tied to no

@@ -3,10 +3,11 @@ ghost use Rattle.std.specs.Prelude.{◌≡◌, ◌≢◌, List, Some, None, IfEr
 ghost use Rattle.std.specs.Prelude.{option_map, unwrap_or, []};
 ghost use Rattle.clap.specs.Words.{Row, found_of, one_of};
 ghost use Rattle.clap.specs.Walk.{all_of, count_of, first_of, rows_of};
-ghost use Rattle.it_words.specs.Values.{IsDepth, IsMostChecks};
+ghost use Rattle.it_words.specs.Values.{GivesNumber, IsDepth, IsForm};
 ghost use Rattle.it_words.specs.inside.Unfit.{FitsNone};
 ghost use Rattle.it_words.specs.declared.words.values.ValuesFault.TheVariants.{OutOfMemory};
 
+use super::form::Form;
 use clap::ArgMatches;
 use it_base::sequence::Sequence;
 use it_base::text::Text;
@@ -128,6 +129,26 @@ impl<'v, 'a> Values<'v, 'a> {
         self.found.get_strs(name)
     }
 
+    /// The form of the report that is asked for, or `Unfit` where it is none.
+    pub(super) fn form(&self) -> Result<Form, ValuesFault>
+        ensures found { IfOk result (IsForm (one_of (codes "json") self.now)) }
+        ensures unfit { IfErr result (FitsNone (IsForm (one_of (codes "json") self.now))) }
+    {
+        match self.found.try_get_one::<u8>("json") {
+            Ok(None) => Ok(Form::Lines),
+            Ok(Some(number)) => {
+                if number == 1 {
+                    Ok(Form::Json)
+                } else if number == 2 {
+                    Ok(Form::Full)
+                } else {
+                    Err(ValuesFault::Unfit)
+                }
+            }
+            Err(_) => Err(ValuesFault::Unfit),
+        }
+    }
+
     /// How deep sublayouts may lie, or `Unfit` where it is not said, or more than 8.
     pub(super) fn depth(&self) -> Result<u8, ValuesFault>
         ensures found { IfOk result (IsDepth (one_of (codes "depth") self.now)) }
@@ -145,9 +166,9 @@ impl<'v, 'a> Values<'v, 'a> {
 
     /// How many signatures public keys may check, or `Unfit` where it is not said.
     pub(super) fn most_checks(&self) -> Result<u64, ValuesFault>
-        ensures found { IfOk result (IsMostChecks (one_of (codes "most-checks") self.now)) }
+        ensures found { IfOk result (GivesNumber (one_of (codes "most-checks") self.now)) }
         ensures unfit { IfErr result
-            (FitsNone (IsMostChecks (one_of (codes "most-checks") self.now))) }
+            (FitsNone (GivesNumber (one_of (codes "most-checks") self.now))) }
     {
         match self.found.get_one::<u64>("most-checks") {
             Some(most) => Ok(most),

@@ -3,6 +3,7 @@ ghost use Rattle.std.specs.Prelude.{◌≤◌, ◌↔◌, IfErr, IfOk, IsTrue, l
 ghost use Rattle.it_words.specs.Values.{HasCheck, IsVerify};
 ghost use Rattle.it_words.specs.inside.Unfit.{FitsNone};
 
+use super::form::Form;
 use super::values::{Values, ValuesFault};
 use it_base::sequence::Sequence;
 use it_base::text::Text;
@@ -28,8 +29,8 @@ pub struct VerifyWords {
     pub rings: Sequence<Text>,
     /// Whether signatures are checked by public keys too.
     pub public_keys: bool,
-    /// Whether the report is written as JSON.
-    pub json: bool,
+    /// The form of the report.
+    pub form: Form,
     /// Whether nothing is accepted against which findings stand.
     pub strict: bool,
     /// The path of the provenance's file, where there is one.
@@ -61,7 +62,7 @@ pub(super) fn read(values: &Values<'_, '_>) -> Result<VerifyWords, ValuesFault>
         at: values.needed("at")?,
         rings,
         public_keys,
-        json: values.is_given("json"),
+        form: values.form()?,
         strict: values.is_given("strict"),
         provenance: values.optional("provenance")?,
         records: values.optional("records")?,

@@ -3,7 +3,7 @@ use Rattle.std.proofs.Common.{ap, arith, codes}
 use Rattle.std.specs.Str.Parse.{ExplainsUnsignedError, HasUnsignedDigitsIfOk, ParsesUnsigned}
 use Rattle.clap.specs.Words.{ReadsOne, Text, found_of, one_of}
 use Rattle.clap.proofs.WalkLemmas.{one_text-rows}
-use Rattle.it_words.specs.Values.{IsMostChecks}
+use Rattle.it_words.specs.Values.{GivesNumber}
 use Rattle.it_words.proofs.words.values.Values.most_checks.Goals as goal
 
 -- the text was read as a number of 64 bits is
@@ -17,7 +17,7 @@ record Reads {E : Type 0} (P : List ℕ → Result ℕ E → Type 0) (given : Op
 module _ {E : Type 0} (P : List ℕ → Result ℕ E → Type 0) where
   -- a number that was read is the one that is written
   written : (given : Option Text) (found : Option ℕ) → Reads P given found → (number : ℕ)
-      → found ≡ Some number → number < 2 ^ 64 → IsMostChecks given number
+      → found ≡ Some number → number < 2 ^ 64 → GivesNumber given number
   written None found reads number is fits =
       let bad : None ≡ Some number = sym (reads.none refl) ∙ is in
       cc
@@ -28,7 +28,7 @@ module _ {E : Type 0} (P : List ℕ → Result ℕ E → Type 0) where
   written (Some text) None reads number is fits = cc
 
   unread : (given : Option Text) (found : Option ℕ) → Reads P given found → found ≡ None
-      → (number : ℕ) → ¬ IsMostChecks given number
+      → (number : ℕ) → ¬ GivesNumber given number
   unread None found reads none number is = absurd is
   unread (Some text) (Some other) reads none number is = cc
   unread (Some text) None reads none number is =

@@ -117,7 +117,13 @@ impl JsonItem for ReportFinding {
 
     fn push_item(&self, _alloc: Global, json: &mut Vec<u8>) -> Result<(), AllocError> {
         let (place, sentence) = (self.place.as_slice(), self.sentence.as_slice());
-        push_finding(json, self.document.as_str(), self.name.as_str(), place, sentence)
+        push_finding(
+            json,
+            self.document.as_str(),
+            self.name.as_str(),
+            place,
+            sentence,
+        )
     }
 }
 

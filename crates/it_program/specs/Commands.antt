@@ -4,8 +4,9 @@ use Rattle.std.specs.List.{AllZip}
 use Rattle.it_dsse.specs.Panel.{panel_of}
 use Rattle.it_dsse.specs.declared.ring_entry.RingEntry.{RingEntry}
 use Rattle.it_commands.specs.MatchOutput.{IsMatchOutput}
-use Rattle.it_json_report.specs.declared.form.ReportForm.{ReportForm}
 use Rattle.it_json_report.specs.declared.form.ReportForm.TheVariants.{Lines, Json}
+use Rattle.it_notes.specs.declared.output_form.OutputForm.{OutputForm}
+use Rattle.it_notes.specs.declared.output_form.OutputForm.TheVariants.{Full, Report}
 use Rattle.it_notes.specs.Strictly.{HasFindings, StandsStrictly}
 use Rattle.it_notes.specs.VerifyOutputIn.{IsVerifyOutputIn}
 use Rattle.it_public_keys.specs.OwnChecks.{own_checks}
@@ -26,10 +27,10 @@ use Rattle.it_file_commands.specs.Commands.{SignsAsAsked}
 use Rattle.it_program.specs.Inputs.{AreInputs}
 
 -- the form that is asked for
-abbrev pub form_asked : Form → ReportForm
-form_asked asked.Lines = Lines
-form_asked asked.Json = Json
-form_asked asked.Full = Json
+abbrev pub form_asked : Form → OutputForm
+form_asked asked.Lines = Report Lines
+form_asked asked.Json = Report Json
+form_asked asked.Full = Full
 
 -- verify: the output of verifying the inputs, checked by the rings in the order of the words, and
 -- then, where they are asked for, by public keys; with --strict, nothing is found in what is

@@ -22,6 +22,7 @@ use it_dsse::checks::Checks;
 use it_dsse::ring::HmacRing;
 use it_json_report::form::ReportForm;
 use it_limits::lines_within_limit;
+use it_notes::output_form::OutputForm;
 use it_notes::verify_strictly::verify_strictly;
 use it_notes::verify_with_notes::verify_with_notes;
 use it_outcome::{RunFault, Status};
@@ -105,12 +106,13 @@ fn verify_as_asked<C: Checks, W: Write, N: Write>(
 }
 
 /// The form that is asked for.
-fn form_asked(form: Form) -> ReportForm
+fn form_asked(form: Form) -> OutputForm
     ensures { result ≡ form_asked form }
 {
     match form {
-        Form::Lines => ReportForm::Lines,
-        Form::Json | Form::Full => ReportForm::Json,
+        Form::Lines => OutputForm::Report(ReportForm::Lines),
+        Form::Json => OutputForm::Report(ReportForm::Json),
+        Form::Full => OutputForm::Full,
     }
 }
 

@@ -1,5 +1,5 @@
 use Rattle.std.proofs.Common.{◌∙◌, refl}
-use Rattle.std.proofs.lemmas.Result.{IfOk-weaker}
+use Rattle.std.proofs.lemmas.Result.{IfErr-at_err, IfOk-weaker}
 use Rattle.it_verify.specs.VerifyOutput.{status_of}
 use Rattle.it_notes.proofs.verify_with_notes.verify_with_notes.Goals as goal
 
@@ -15,3 +15,16 @@ returns-clause-ok g c =
       },
       written.1,
     )) c.put-outcome.ensures.ok
+
+pub returns-clause-write : goal.returns-clause-write
+returns-clause-write g c = λ failed. (
+  c.in_ok-text.text.items,
+  status_of c.in_ok-told.told.verdict,
+  record {
+    verdict = c.in_ok-told.told.verdict;
+    is_verdict = c.in_ok-told.ensures.verdict;
+    text_is = c.in_ok-text.ensures;
+    status_is = refl;
+  },
+  (IfErr-at_err _ failed c.put-outcome.ensures.err).1,
+)

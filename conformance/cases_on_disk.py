@@ -1,6 +1,7 @@
 """Whole verifications as runs of `itv verify` over files."""
 
 import dataclasses
+import json
 
 from on_disk import bytes_of, is_name
 from report_forms import json_of_lines
@@ -91,6 +92,34 @@ def differences(program, case, folder):
         given = program.run([*words, *more], folder)
         parts = [("status", str(case["status"]).encode(), str(given.status).encode()),
                  (form, wanted, given.out), ("notes", *notes(case, given))]
+        if form == "JSON":
+            parts += full_parts(case, as_json, given, program.run([*words, "--json=2"], folder))
         for kind, wanted_part, part in parts:
             if wanted_part != part:
                 yield Difference(kind, [*words, *more], wanted_part, part)
+
+
+def full_parts(case, as_json, noted, given):
+    """What `--json=2` has to give beside what it gave, where `--json` gave these notes.
+
+    The object goes on behind that of `--json`. Its findings are among the lines of the notes but
+    for those that a note says in other words, and its notes are the other lines.
+    """
+    written = json.loads(given.out)
+    found = [f"{one['document']} {one['name']} " for one in written.get("findings", [])]
+    lines = noted.err.decode().splitlines()
+    others = [line for line in lines if not line.startswith(tuple(found))]
+    members = ["notes", "notesComplete"]
+    if case["status"] == 0:
+        members.insert(0, "findings")
+    told = [f"{one['document']} {one['name']} {one['place']}: {one['sentence']}"
+            for one in written.get("findings", [])]
+    missing = [line for line in lines if line not in others and line not in told]
+    return [("status of --json=2", str(case["status"]).encode(), str(given.status).encode()),
+            ("beginning of --json=2", as_json[:-2], given.out[:len(as_json) - 2]),
+            ("members of --json=2", str(members).encode(),
+             str(list(written)[len(json.loads(as_json)):]).encode()),
+            ("notes of --json=2", str((others, True)).encode(),
+             str((written["notes"], written["notesComplete"])).encode()),
+            ("findings of --json=2", b"[]", str(missing).encode()),
+            ("errors of --json=2", b"", given.err)]

@@ -27,8 +27,8 @@ use it_step_notes::note::StepNote;
 use std::alloc::{AllocError, Global};
 
 impl Notes {
-    /// The lines for people, of which at most 40 are written: those on the refusal first, then those
-    /// on the policy and the layout. Names are written as `push_cut_name` does.
+    /// The lines for people, of which at most 40 are written: those on the refusal first, then
+    /// those on the policy and the layout. Names are written as `push_cut_name` does.
     ///
     /// # Errors
     ///

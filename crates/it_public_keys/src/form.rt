@@ -22,7 +22,7 @@ fn encodes_numbers(sig: &[u8]) -> bool
     ensures { IsTrue result ↔ EncodesNumbers sig.now }
 {
     match read_signature_value(sig) {
-        Some(_) => true,
+        Some(_numbers) => true,
         None => false,
     }
 }

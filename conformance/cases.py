@@ -17,6 +17,8 @@ from deliveries import MOMENT, compact, digest, layout, link, policy, signed, st
 ON_DISK = lines.TOP / "conformance" / "data" / "cases"
 IN_MEMORY = lines.TOP / "crates" / "itv_cases" / "data" / "cases"
 PEOPLE = ["owner", "builder", "alice", "bob", "carol"]
+NO_LEVEL = ("policy no-level /expectations/0/level: expectation 0 asks for level 0, which every "
+            "builder reaches")
 DELIVER = [["MATCH", "*", "WITH", "PRODUCTS", "FROM", "build"], ["DISALLOW", "*"]]
 
 
@@ -45,11 +47,28 @@ def over(body, *files, **changed):
             "links": folder([(name, signed(document, who)) for name, document, who in files])}
 
 
-def case(name, report, notes, **changed):
-    """A case: its name, the lines of the report and of the notes, and what it changes in `good`."""
+def case(name, report, notes, found=None, **changed):
+    """A case: its name, the lines of the report and of the notes, and what it changes in `good`.
+
+    Where it is accepted, the lines of what is found come after the notes: where they are not given,
+    only that the expectation has no level, if it has none.
+    """
     status = 0 if report[0] == "accepted" else 1
-    return {"name": name, **good(), **changed, "report": "".join(line + "\n" for line in report),
+    made = {**good(), **changed}
+    if status == 0:
+        notes = [*notes, *(no_level(made["policy"]) if found is None else found)]
+    return {"name": name, **made, "report": "".join(line + "\n" for line in report),
             "status": status, "notes": list(notes)}
+
+
+def no_level(text):
+    """The line of what is found where the policy's expectation has no level."""
+    return [] if json.loads(text)["expectations"][0].get("level") else [NO_LEVEL]
+
+
+def no_rules(place, whose):
+    """The line of a list of rules that is empty."""
+    return f"{place}: there are no rules on {whose}, so that every path passes"
 
 
 def write(name, cases):

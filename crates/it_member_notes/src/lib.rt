@@ -19,10 +19,12 @@ mod quoted;
 mod rule_list_line;
 pub mod rule_list_note;
 mod rule_notes;
+mod side_rules;
 mod unread;
 mod unread_line;
 pub mod unread_member;
 
-pub use list_notes::rule_list_notes;
+pub use list_notes::{ends_open, rule_list_notes};
 pub use notes::{layout_notes, policy_notes};
 pub use rule_notes::layout_rule_notes;
+pub use side_rules::{rules_of_inspection, rules_of_step};

@@ -63,7 +63,7 @@ fn match_from_no_step(alloc: Global, rule: usize, name: &Text) -> Result<RuleLis
 }
 
 /// Whether there are rules, and the last is not a `DISALLOW`.
-fn ends_open(rules: &[Rule]) -> bool
+pub fn ends_open(rules: &[Rule]) -> bool
     ensures { IsTrue result → EndsOpen rules.now }
 {
     match rules.split_last() {

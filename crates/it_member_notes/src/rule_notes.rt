@@ -1,14 +1,14 @@
 //! The notes on what a layout asks for.
 ghost use Rattle.std.specs.Prelude.{◌≡◌, All, Contains, IfOk, OnOk, is_some};
 ghost use Rattle.std.specs.FinMap.{get};
-ghost use Rattle.it_member_notes.specs.LayoutNotes.{AreRulesOf, Holds};
-ghost use Rattle.it_member_notes.specs.LayoutNotes.{rules_of_inspection as inspection_rules};
-ghost use Rattle.it_member_notes.specs.LayoutNotes.{rules_of_step as step_rules};
+ghost use Rattle.it_member_notes.specs.LayoutNotes.{AreRulesOf, Holds, rules_of_inspection};
+ghost use Rattle.it_member_notes.specs.LayoutNotes.{rules_of_step};
 ghost use Rattle.it_member_notes.specs.inside.NamedLayout.{AreNamesOf};
 
 use crate::layout_note::{Item, LayoutNote};
 use crate::list_notes::notes_on;
 use crate::named_layout::NamedLayout;
+use crate::side_rules::{rules_of_inspection, rules_of_step};
 use it_base::text::Text;
 use it_docs::layout::Layout;
 use it_docs::rule::{Rule, Side};
@@ -48,7 +48,7 @@ fn note_step(
 {
     note_keys(alloc, named.layout, step, notes)?;
     for side in [Side::Materials, Side::Products] {
-        let list = rules_of_step(alloc, step, side)?;
+        let list = list_of_step(alloc, step, side)?;
         note_rules(alloc, named, &list, notes)?;
     }
     Ok(())
@@ -66,7 +66,7 @@ fn note_inspection(
     ensures { OnOk result (All (Holds named.now.layout.now) notes.new.items) }
 {
     for side in [Side::Materials, Side::Products] {
-        let list = rules_of_inspection(alloc, inspection, side)?;
+        let list = list_of_inspection(alloc, inspection, side)?;
         note_rules(alloc, named, &list, notes)?;
     }
     Ok(())
@@ -113,32 +113,26 @@ struct RuleList<'l> {
     rules: &'l [Rule],
 }
 
-fn rules_of_step<'l>(alloc: Global, step: &'l Step, side: Side) -> Result<RuleList<'l>, AllocError>
+fn list_of_step<'l>(alloc: Global, step: &'l Step, side: Side) -> Result<RuleList<'l>, AllocError>
     ensures item { IfOk result (λ list. list.item ≡ Item.Step step.now.name) }
     ensures side { IfOk result (λ list. list.side ≡ side) }
-    ensures rules { IfOk result (λ list. list.rules.now ≡ step_rules side step.now) }
+    ensures rules { IfOk result (λ list. list.rules.now ≡ rules_of_step side step.now) }
 {
-    let rules = match side {
-        Side::Materials => step.expected_materials.as_slice(),
-        Side::Products => step.expected_products.as_slice(),
-    };
+    let rules = rules_of_step(step, side);
     let item = Item::Step(Text::copy(alloc, step.name.as_str())?);
     Ok(RuleList { item, side, rules })
 }
 
-fn rules_of_inspection<'l>(
+fn list_of_inspection<'l>(
     alloc: Global,
     inspection: &'l Inspection,
     side: Side,
 ) -> Result<RuleList<'l>, AllocError>
     ensures item { IfOk result (λ list. list.item ≡ Item.Inspection inspection.now.name) }
     ensures side { IfOk result (λ list. list.side ≡ side) }
-    ensures rules { IfOk result (λ list. list.rules.now ≡ inspection_rules side inspection.now) }
+    ensures rules { IfOk result (λ list. list.rules.now ≡ rules_of_inspection side inspection.now) }
 {
-    let rules = match side {
-        Side::Materials => inspection.expected_materials.as_slice(),
-        Side::Products => inspection.expected_products.as_slice(),
-    };
+    let rules = rules_of_inspection(inspection, side);
     let item = Item::Inspection(Text::copy(alloc, inspection.name.as_str())?);
     Ok(RuleList { item, side, rules })
 }

@@ -5,6 +5,7 @@ use Rattle.it_docs.specs.Policy.{PolicyOf}
 use Rattle.it_dsse.specs.Panel.{Panel}
 use Rattle.it_verify.specs.Verdict.{IsVerdict}
 use Rattle.it_verify.specs.declared.inputs.Inputs.{Inputs}
+use Rattle.it_notes.specs.FoundInDocuments.{AreFoundInDocuments}
 use Rattle.it_notes.specs.Level.{IsTop, StepsStand}
 use Rattle.it_notes.specs.declared.known.Known.{Known}
 use Rattle.it_notes.specs.declared.known.Told.{Told}
@@ -17,7 +18,8 @@ pub record IsKnown (panel : Panel) (inputs : Inputs) (known : Known) : Type 0 wh
   pub top : IsTop inputs known.top
   pub steps : StepsStand panel inputs.depth known.top
 
--- the verdict is the one on the inputs, and this is what they read as
+-- the verdict is the one on the inputs, this is what they read as, and this is found all the same
 pub record IsTold (panel : Panel) (inputs : Inputs) (told : Told) : Type 0 where
   pub verdict : IsVerdict panel inputs told.verdict
   pub known : IfSome told.known (IsKnown panel inputs)
+  pub found : IfSome told.found (λ found. AreFoundInDocuments panel inputs found.items)

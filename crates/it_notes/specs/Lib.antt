@@ -1,4 +1,5 @@
 pub mod FileDetails
+pub mod FoundInDocuments
 pub mod KeyNotes
 pub mod Known
 pub mod Level

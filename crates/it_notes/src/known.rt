@@ -4,11 +4,14 @@ ghost use Rattle.it_dsse.specs.Panel.{Panel};
 ghost use Rattle.it_verify.specs.Grounds.{IsFound};
 ghost use Rattle.it_verify.specs.Made.{IsMadeBy};
 ghost use Rattle.it_notes.specs.Known.{IsKnown, IsTold};
+ghost use Rattle.it_notes.specs.FoundInDocuments.{AreFoundInDocuments};
 
 use crate::fault_level::FaultLevel;
+use crate::found_in_documents::found_in_documents;
 use it_digest::artifacts::Artifacts;
 use it_docs::policy::Policy;
 use it_dsse::checks::Checks;
+use it_findings::finding::Finding;
 use it_report::verdict::Verdict;
 use it_step_notes::signed_layout::SignedLayout;
 use it_verify::documents::Documents;
@@ -39,6 +42,9 @@ pub struct Told<'a> {
     /// What was found, or `None` where the documents do not read, or an owner did not sign the
     /// layout.
     pub known: Option<Known<'a>>,
+    /// Where the verdict accepts, what is found in the policy and in the layout all the same, or
+    /// `None` where memory was refused for that.
+    pub found: Option<Vec<Finding>>,
 }
 
 /// Verifies delivered files, and keeps what was found.
@@ -55,21 +61,27 @@ pub(crate) fn verify_told<'a, C: Checks>(
     ensures { IfOk result (IsTold (C.panel checks.now) inputs.now) }
 {
     match verify_grounds(alloc, inputs, checks)? {
-        Outcome::Made(grounds) => made_told(alloc, inputs, grounds),
+        Outcome::Made(grounds) => {
+            let found = found_in_documents(alloc, inputs, &grounds).ok();
+            made_told(alloc, inputs, grounds, found)
+        }
         Outcome::Refused { refusal, found } => Ok(Told {
             verdict: Verdict::Refused(refusal),
             known: known_of(inputs, found),
+            found: None,
         }),
     }
 }
 
-/// The verdict that accepts, and what was found before it.
+/// The verdict that accepts, what was found before it, and what is found all the same.
 pub(crate) fn made_told(
     alloc: Global,
     inputs: &Inputs,
     grounds: Grounds,
+    all_the_same: Option<Vec<Finding>>,
 ) -> Result<Told<'_>, AllocError>
     ensures { (panel : Panel) → IsMadeBy panel inputs.now grounds.documents grounds.evidence
+        → IfSome all_the_same (λ found. AreFoundInDocuments panel inputs.now found.items)
         → IfOk result (IsTold panel inputs.now) }
 {
     let verdict = verdict_of(alloc, &grounds)?;
@@ -80,6 +92,7 @@ pub(crate) fn made_told(
     Ok(Told {
         verdict,
         known: Some(known_in(inputs, found)),
+        found: all_the_same,
     })
 }
 

@@ -50,6 +50,7 @@ pub(crate) fn strict_told<'a, C: Checks, N: Write>(
         Outcome::Refused { refusal, found } => Ok(Told {
             verdict: Verdict::Refused(refusal),
             known: known_of(inputs, found),
+            found: None,
         }),
     }
 }
@@ -79,7 +80,7 @@ fn strict_made<'a, N: Write>(
         tell(alloc, &found, notes)?;
         return Err(StrictFault::Findings);
     }
-    Ok(made_told(alloc, inputs, grounds)?)
+    Ok(made_told(alloc, inputs, grounds, Some(Vec::new(alloc)))?)
 }
 
 /// Writes the lines of what is found, as far as they can be written.

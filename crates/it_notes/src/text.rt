@@ -1,5 +1,8 @@
 //! The notes as lines for people.
 use crate::file_detail::{DetailedNote, FileDetail};
+use crate::found_in_documents::add_found;
+use crate::known::Told;
+use crate::laid_out::LaidOut;
 use crate::layout_notes::LayoutNotes;
 use crate::lines::{Line, Lines};
 use crate::notes::{Notes, RefusalNotes, RuleNotes};
@@ -26,15 +29,14 @@ use it_step_notes::note::StepNote;
 use std::alloc::{AllocError, Global};
 
 impl Notes {
-    /// The lines for people: those on the refusal first, then those on the policy and the layout,
-    /// each with a line feed. There are at most 40; where there are more notes than that, the last
-    /// line says how many are not written out. Names are written as `push_cut_name`
-    /// does.
+    /// The lines for people, each with a line feed: those on the refusal, on the policy and on the
+    /// layout, and then those of what is found. There are at most 40; where there are more, the
+    /// last line says how many are not written out. Names are written as `push_cut_name` does.
     ///
     /// # Errors
     ///
     /// `AllocError` where memory was refused.
-    pub fn text(&self, alloc: Global) -> Result<Vec<u8>, AllocError> {
+    pub fn text(&self, alloc: Global, told: &Told) -> Result<Vec<u8>, AllocError> {
         let mut lines = Lines::new(alloc);
         if let Some(place) = &self.place {
             place.add_to(&mut lines)?;
@@ -45,6 +47,7 @@ impl Notes {
         if let Some(layout) = &self.layout {
             layout.add_to(&mut lines)?;
         }
+        add_found(&mut lines, told)?;
         lines.into_text(alloc)
     }
 }
@@ -116,18 +119,6 @@ impl LayoutNotes {
 fn add_members(lines: &mut Lines, notes: &MemberNotes) -> Result<(), AllocError> {
     lines.add_all(notes.unread.as_slice())?;
     lines.add_all(notes.keys.as_slice())
-}
-
-/// That the provenance is one envelope over several lines.
-#[derive(Drop)]
-struct LaidOut;
-
-impl Line for LaidOut {
-    fn push_line(&self, text: &mut Vec<u8>) -> Result<(), AllocError> {
-        text.extend_from_slice(b"provenance: one envelope over several lines, ")?;
-        text.extend_from_slice(b"where each line is to be one\n")?;
-        Ok(())
-    }
 }
 
 impl Line for PartNote {

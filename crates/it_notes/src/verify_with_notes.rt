@@ -78,5 +78,5 @@ fn notes_text<C: Checks>(
 ) -> Result<Vec<u8>, AllocError>
     requires { IsTold (C.panel checks.now) inputs.now told.now }
 {
-    Notes::of(alloc, inputs, told, checks)?.text(alloc)
+    Notes::of(alloc, inputs, told, checks)?.text(alloc, told)
 }

@@ -20,7 +20,7 @@ use std::alloc::{AllocError, Global};
 /// # Errors
 ///
 /// `AllocError` where memory was refused.
-pub(crate) fn counting_findings(
+pub fn counting_findings(
     alloc: Global,
     documents: &Documents,
     steps: &[StepResult],

@@ -54,7 +54,11 @@ pub fn found_in(alloc: Global, inputs: &Inputs, grounds: &Grounds) -> Result<Fou
 }
 
 /// What is found in the policy, which is read from these bytes.
-fn found_in_policy(
+///
+/// # Errors
+///
+/// `AllocError` where memory was refused.
+pub fn found_in_policy(
     alloc: Global,
     bytes: &[u8],
     documents: &Documents,

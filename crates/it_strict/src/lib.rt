@@ -8,4 +8,5 @@ pub mod laws;
 mod untied;
 mod untied_lines;
 
+pub use counting::counting_findings;
 pub use untied_lines::{UNTIED_NAME, UNTIED_POINTER, push_untied_sentence};

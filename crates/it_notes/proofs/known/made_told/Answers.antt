@@ -2,7 +2,7 @@ use Rattle.it_verify.proofs.Verified.{is_verdict}
 use Rattle.it_notes.proofs.known.made_told.Goals as goal
 
 pub returns : goal.returns
-returns c = λ panel made.
+returns c = λ panel made are_found.
     let grounds = c.args.grounds in
     record {
       verdict = is_verdict panel c.args.inputs.now grounds.documents grounds.evidence
@@ -12,4 +12,5 @@ returns c = λ panel made.
         owners = made.owners;
         steps = tt;
       });
+      found = are_found;
     }

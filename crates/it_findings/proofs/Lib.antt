@@ -1,3 +1,4 @@
+pub mod Finding
 pub mod Joining
 pub mod MemberLists
 pub mod NullLists

@@ -3,6 +3,7 @@ pub mod ExpectationFindings
 pub mod Joined
 pub mod KeyPlaces
 pub mod LayoutFindings
+pub mod MeantName
 pub mod MemberNames
 pub mod Members
 pub mod NoThresholds

@@ -11,6 +11,7 @@ mod in_rules;
 mod in_step_keys;
 mod key_members;
 mod meaning;
+mod meant;
 pub mod member_finding;
 pub mod member_names;
 mod members;
@@ -24,6 +25,7 @@ mod unread;
 
 pub use in_layout::layout_findings;
 pub use in_policy::policy_findings;
+pub use meant::meant_name;
 pub use members::{layout_members, policy_members};
 pub use missing_thresholds::no_thresholds;
 pub use null_keys::{layout_nulls, policy_nulls};

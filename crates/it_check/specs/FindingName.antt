@@ -30,4 +30,5 @@ name_of (findings.NoLevel place) = codes "no-level"
 name_of (findings.UnreachableLevel place level) = codes "unreachable-level"
 name_of (findings.NoThreshold place) = codes "no-threshold"
 name_of (findings.NullKey key) = null_name key.list
+name_of (findings.SharedKey shared) = codes "shared-key"
 name_of (findings.Member finding) = member_name finding

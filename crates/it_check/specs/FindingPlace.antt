@@ -60,6 +60,7 @@ document_of (findings.NoLevel place) = codes "policy"
 document_of (findings.UnreachableLevel place level) = codes "policy"
 document_of (findings.NoThreshold place) = codes "layout"
 document_of (findings.NullKey key) = document_of_keys key.list
+document_of (findings.SharedKey shared) = document_of_keys (list_of shared.place)
 document_of (findings.Member finding) = document_of_member finding
 
 -- a byte of a name in a JSON pointer (RFC 6901 section 3)
@@ -150,4 +151,6 @@ pointer_of form (findings.UnreachableLevel place level) =
     expectation_pointer place (codes "/level")
 pointer_of form (findings.NoThreshold place) = step_pointer place (codes "/threshold")
 pointer_of form (findings.NullKey key) = key_pointer form key.list key.id
+pointer_of form (findings.SharedKey shared) =
+    key_pointer form (list_of shared.place) (id_of shared.place)
 pointer_of form (findings.Member finding) = member_pointer form finding

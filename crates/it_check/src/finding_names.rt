@@ -24,6 +24,7 @@ pub fn finding_name(finding: &Finding) -> &'static str
         Finding::UnreachableLevel { .. } => "unreachable-level",
         Finding::NoThreshold(_) => "no-threshold",
         Finding::NullKey(key) => null_name(key.list),
+        Finding::SharedKey(_) => "shared-key",
         Finding::Member(finding) => member_name(finding),
     }
 }

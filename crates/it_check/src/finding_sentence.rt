@@ -6,6 +6,7 @@ use crate::expectation_sentences::{push_no_builders, push_no_level, push_unreach
 use crate::member_sentences::push_on_member;
 use crate::null_key_sentence::push_null_key;
 use crate::rule_sentences::{push_no_rules, push_open_rules, push_parameter, push_unknown_item};
+use crate::shared_key_sentence::push_shared_key;
 use crate::step_key_sentences::{
     push_high_threshold, push_no_threshold, push_repeated_key, push_unknown_key,
 };
@@ -40,6 +41,7 @@ pub fn push_sentence(text: &mut Vec<u8>, finding: &Finding) -> Result<(), AllocE
         }
         Finding::NoThreshold(place) => push_no_threshold(text, *place),
         Finding::NullKey(key) => push_null_key(text, key),
+        Finding::SharedKey(shared) => push_shared_key(text, shared),
         Finding::Member(finding) => push_on_member(text, finding),
     }
 }

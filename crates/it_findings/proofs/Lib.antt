@@ -1,4 +1,5 @@
-pub mod Finding
+pub mod FirstPassing
+pub mod FirstPlaces
 pub mod Joining
 pub mod MemberLists
 pub mod NullLists

@@ -2,6 +2,7 @@ pub mod Closed
 pub mod ExpectationFindings
 pub mod Joined
 pub mod KeyPlaces
+pub mod KeyUses
 pub mod LayoutFindings
 pub mod MeantName
 pub mod MemberNames
@@ -12,4 +13,6 @@ pub mod Parameters
 pub mod PolicyFindings
 pub mod Reaching
 pub mod RuleFindings
+pub mod SharedKeys
 pub mod StepKeyFindings
+pub mod inside

@@ -3,6 +3,7 @@ ghost use Rattle.std.specs.Prelude.{◌≡◌, IfOk};
 
 use crate::member_finding::MemberFinding;
 use crate::null_key::NullKey;
+use crate::shared_key::SharedKey;
 use it_base::text::Text;
 use it_docs::rule::Side;
 use std::alloc::{AllocError, Global};
@@ -107,6 +108,8 @@ pub enum Finding {
     NoThreshold(usize),
     /// Null stands under a key id, which so counts as missing.
     NullKey(NullKey),
+    /// Two owners, or two builders, have the same key.
+    SharedKey(SharedKey),
     /// Something about a member.
     Member(MemberFinding),
 }

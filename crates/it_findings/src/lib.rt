@@ -10,6 +10,8 @@ mod in_policy;
 mod in_rules;
 mod in_step_keys;
 mod key_members;
+mod key_use;
+mod key_uses;
 mod meaning;
 mod meant;
 pub mod member_finding;
@@ -21,6 +23,8 @@ mod null_keys;
 mod one;
 mod parameter;
 pub mod place;
+pub mod shared_key;
+mod shared_keys;
 mod unread;
 
 pub use in_layout::layout_findings;

@@ -6,3 +6,4 @@ pub mod NullLists
 pub mod Reaching
 pub mod Saying
 pub mod SeenIds
+pub mod Unmet

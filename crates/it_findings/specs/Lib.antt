@@ -15,4 +15,5 @@ pub mod Reaching
 pub mod RuleFindings
 pub mod SharedKeys
 pub mod StepKeyFindings
+pub mod UnequalNumbers
 pub mod inside

@@ -104,6 +104,13 @@ pub enum Finding {
         /// The level.
         level: u8,
     },
+    /// An expectation expects a number that equals none, so that no provenance meets it.
+    UnequalNumber {
+        /// The expectation's place.
+        place: usize,
+        /// The name of the parameter that is the number, or holds it.
+        name: Text,
+    },
     /// The step at this place has no threshold, so that one key is enough for it.
     NoThreshold(usize),
     /// Null stands under a key id, which so counts as missing.

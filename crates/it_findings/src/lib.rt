@@ -25,6 +25,7 @@ mod parameter;
 pub mod place;
 pub mod shared_key;
 mod shared_keys;
+mod unequal_numbers;
 mod unread;
 
 pub use in_layout::layout_findings;

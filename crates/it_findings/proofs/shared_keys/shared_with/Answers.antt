@@ -1,5 +1,4 @@
-use Rattle.std.proofs.Common.{inl, inr}
-use Rattle.it_findings.proofs.Reaching.{fails}
+use Rattle.std.proofs.Common.{inr}
 use Rattle.it_findings.proofs.shared_keys.shared_with.Goals as goal
 
 pub returns-then-is_same : goal.returns-then-is_same

@@ -1,3 +1,4 @@
+pub mod Flaw
 pub mod Members
 pub mod PartLines
 pub mod PartNotes

@@ -5,6 +5,8 @@
 mod bad_rule;
 pub mod envelope_part_note;
 mod fit;
+pub mod flaw;
+mod flaw_words;
 mod item_at;
 pub mod layout_part_note;
 pub mod link_part_note;
@@ -14,6 +16,7 @@ mod part_line;
 pub mod part_note;
 pub mod policy_part_note;
 mod problem;
+pub mod shape;
 mod sum_line;
 pub mod sum_line_note;
 mod sum_line_words;

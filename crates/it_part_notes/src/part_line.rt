@@ -3,9 +3,11 @@ ghost use Rattle.std.specs.Prelude.{◌≡◌, ◌++◌, OnOk, decimal};
 ghost use Rattle.std.specs.List.{flat_map};
 ghost use Rattle.it_part_notes.specs.Members.{shown};
 ghost use Rattle.it_part_notes.specs.PartLines.{document_form, fault_form, member_form};
-ghost use Rattle.it_part_notes.specs.PartLines.{object_form, part_line, place_form, problem_form};
-ghost use Rattle.it_part_notes.specs.PartLines.{rule_form, unfit_form, word_form, words_form};
+ghost use Rattle.it_part_notes.specs.PartLines.{no_object_form, object_form, part_line};
+ghost use Rattle.it_part_notes.specs.PartLines.{place_form, problem_form, rule_form, unfit_form};
+ghost use Rattle.it_part_notes.specs.PartLines.{word_form, words_form};
 
+use crate::flaw_words::{push_flaw, push_shape};
 use crate::member::{Kind, Member};
 use crate::part_note::{BadRule, Fault, PartNote, PartPlace, Problem};
 use it_base::sequence::Sequence;
@@ -45,14 +47,21 @@ fn push_problem(text: &mut Vec<u8>, place: PartPlace, problem: &Problem) -> Resu
         ≡ text.old.items ++ problem_form place problem.now) }
 {
     match problem {
-        Problem::NoObject => push_no_object(text, place),
+        Problem::NoDocument(flaw) => {
+            push_no_object(text, place)?;
+            push_flaw(text, *flaw)
+        }
+        Problem::NoObject(shape) => {
+            push_no_object(text, place)?;
+            push_shape(text, *shape)
+        }
         Problem::Member(member, fault) => push_fault(text, place, *member, fault),
     }
 }
 
 fn push_no_object(text: &mut Vec<u8>, place: PartPlace) -> Result<(), AllocError>
     ensures { OnOk result (text.new.items
-        ≡ text.old.items ++ problem_form place Problem.NoObject) }
+        ≡ text.old.items ++ no_object_form place) }
 {
     push_object(text, place)?;
     push_text(text, " is no JSON object")

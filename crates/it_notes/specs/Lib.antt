@@ -1,6 +1,7 @@
 pub mod FileDetails
 pub mod KeyNotes
 pub mod Known
+pub mod LayoutEnvelope
 pub mod Level
 pub mod Notes
 pub mod PlaceNotes

@@ -1,6 +1,6 @@
 -- What the notes on a refusal say (words of this project). Each is about the fault that is
 -- reported, and what the verification was given.
-use Rattle.std.specs.Prelude.{◌≡◌, ◌⊎◌, ℕ, List, Option, Some, All, Contains, IfSome}
+use Rattle.std.specs.Prelude.{◌≡◌, ◌≢◌, ◌⊎◌, ℕ, List, Option, Some, All, Contains, IfSome}
 use Rattle.std.specs.FinMap.{get}
 use Rattle.it_digest.specs.Artifacts.{ArtifactMap}
 use Rattle.it_digest.specs.Sums.{SumsOf}
@@ -10,13 +10,14 @@ use Rattle.it_chain.specs.declared.chain.StepResult.{StepResult}
 use Rattle.it_dsse.specs.Envelope.{EnvelopeOf}
 use Rattle.it_dsse.specs.Panel.{Panel}
 use Rattle.it_dsse.specs.declared.envelope.Envelope.{Envelope}
+use Rattle.it_docs.specs.PayloadType.{in_toto_type}
 use Rattle.it_docs.specs.Policy.{PolicyOf}
 use Rattle.it_docs.specs.declared.layout_fault.LayoutPart.{LayoutPart}
 use Rattle.it_docs.specs.declared.policy.Expectation.{Expectation}
 use Rattle.it_docs.specs.declared.policy.Policy.{Policy}
 use Rattle.it_docs.specs.declared.policy_fault.PolicyPart.{PolicyPart}
 use Rattle.it_docs.specs.declared.step.Step.{Step}
-use Rattle.it_part_notes.specs.PartNotes.{TellsLayoutPart, TellsPolicyPart}
+use Rattle.it_part_notes.specs.PartNotes.{TellsEnvelope, TellsLayoutPart, TellsPolicyPart}
 use Rattle.it_part_notes.specs.SumLine.{TellsSumLine}
 use Rattle.it_part_notes.specs.declared.part_note.PartNote.{PartNote}
 use Rattle.it_part_notes.specs.declared.sum_line_note.SumLineNote.{SumLineNote}
@@ -48,6 +49,8 @@ use Rattle.it_notes.specs.FileDetails.{TellsDetail}
 use Rattle.it_notes.specs.Level.{IsLevel, Place}
 use Rattle.it_notes.specs.declared.fault_level.FaultLevel.{FaultLevel}
 use Rattle.it_notes.specs.declared.file_detail.DetailedNote.{DetailedNote}
+use Rattle.it_notes.specs.declared.layout_envelope.EnvelopeNote.{EnvelopeNote}
+use Rattle.it_notes.specs.declared.layout_envelope.EnvelopeNote.TheVariants as envelopes
 use Rattle.it_notes.specs.declared.notes.RefusalNotes.{RefusalNotes}
 use Rattle.it_notes.specs.declared.notes.RefusalNotes.TheVariants as notes
 use Rattle.it_notes.specs.declared.notes.RuleNotes.{RuleNotes}
@@ -151,6 +154,20 @@ module _ (panel : Panel) (inputs : Inputs) (fault : Fault) where
     pub is_envelope : EnvelopeOf inputs.layout envelope
     pub is_true : TellsLayoutPart envelope.payload part note
 
+  -- under which other type than in-toto's the layout is signed
+  pub record TellsType (found : List ℕ) : Type 0 where
+    pub envelope : Envelope
+    pub fault_is : fault ≡ faults.WrongPayloadType
+    pub is_envelope : EnvelopeOf inputs.layout envelope
+    pub type_is : found ≡ envelope.payload_type
+    pub is_other : found ≢ in_toto_type
+
+  -- what is wrong with what was given as the envelope of the layout
+  abbrev pub TellsNoEnvelope : EnvelopeNote → Type 0
+  TellsNoEnvelope (envelopes.NoEnvelope note) =
+      (fault ≡ faults.BadEnvelope) × TellsEnvelope inputs.layout note
+  TellsNoEnvelope (envelopes.OtherType found) = TellsType found
+
   -- what is wrong with the line of the digest list
   pub record TellsBadLine (note : SumLineNote) : Type 0 where
     pub fault_is : fault ≡ faults.BadSums note.number
@@ -190,6 +207,7 @@ module _ (panel : Panel) (inputs : Inputs) (fault : Fault) where
   abbrev pub TellsInputs : RefusalNotes → Type 0
   TellsInputs notes.Nothing = Unit {0}
   TellsInputs (notes.Part told) = TellsBadPolicy told ⊎ TellsBadLayout told
+  TellsInputs (notes.Envelope told) = TellsNoEnvelope told
   TellsInputs (notes.Line told) = TellsBadLine told
   TellsInputs (notes.Owners told) = TellsOwners told.items
   TellsInputs (notes.Provenance told) = TellsMissing told.items

@@ -4,13 +4,15 @@ ghost use Rattle.it_dsse.specs.Panel.{Panel};
 ghost use Rattle.it_report.specs.declared.refusal.Fault.TheVariants.{BadLayout, BadPolicy, BadSums};
 ghost use Rattle.it_notes.specs.RefusalNotes.{TellsInputs};
 
+use crate::lines::Line;
 use crate::notes::RefusalNotes;
 use it_chain::envelope_in;
 use it_docs::layout_fault::LayoutPart;
 use it_docs::policy_fault::PolicyPart;
 use it_part_notes::layout_part_note::layout_part_note;
+use it_part_notes::part_note::PartNote;
 use it_part_notes::policy_part_note::policy_part_note;
-use it_part_notes::sum_line_note::sum_line_note;
+use it_part_notes::sum_line_note::{SumLineNote, sum_line_note};
 use it_verify::inputs::Inputs;
 use std::alloc::{AllocError, Global};
 
@@ -59,5 +61,17 @@ pub(crate) fn layout_told(
     match layout_part_note(alloc, envelope.payload.as_slice(), part)? {
         Some(note) => Ok(RefusalNotes::Part(note)),
         None => Ok(RefusalNotes::Nothing),
+    }
+}
+
+impl Line for PartNote {
+    fn push_line(&self, text: &mut Vec<u8>) -> Result<(), AllocError> {
+        PartNote::push_line(self, text)
+    }
+}
+
+impl Line for SumLineNote {
+    fn push_line(&self, text: &mut Vec<u8>) -> Result<(), AllocError> {
+        SumLineNote::push_line(self, text)
     }
 }

@@ -10,6 +10,7 @@ pub mod fault_level;
 pub mod file_detail;
 mod key_notes;
 pub mod known;
+pub mod layout_envelope;
 pub mod layout_notes;
 mod level_notes;
 mod lines;

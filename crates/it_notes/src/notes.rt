@@ -9,6 +9,7 @@ ghost use Rattle.it_notes.specs.Notes.{AreTrue, TellsLayout, TellsVerdict, Tells
 use crate::file_detail::DetailedNote;
 use crate::key_notes::key_notes;
 use crate::known::Told;
+use crate::layout_envelope::EnvelopeNote;
 use crate::layout_notes::LayoutNotes;
 use crate::place_notes::{PlaceNotes, place_notes};
 use crate::refusal_notes::refusal_notes;
@@ -54,6 +55,8 @@ pub enum RefusalNotes {
     Nothing,
     /// On the part of the policy or the layout that fails.
     Part(PartNote),
+    /// On what was given as the envelope of the layout.
+    Envelope(EnvelopeNote),
     /// On the line of the digest list that is bad.
     Line(SumLineNote),
     /// On the step for which too few keys signed, and on its files.

@@ -5,6 +5,7 @@ ghost use Rattle.it_notes.specs.RefusalNotes.{Tells, TellsInputs};
 
 use crate::bad_parts::{layout_told, line_told, policy_told};
 use crate::known::Known;
+use crate::layout_envelope::{envelope_told, type_told};
 use crate::level_notes::level_told;
 use crate::notes::RefusalNotes;
 use crate::owners::owners_told;
@@ -59,6 +60,8 @@ fn input_notes<C: Checks>(
     match fault {
         Fault::BadPolicy(part) => policy_told(alloc, inputs, *part),
         Fault::BadSums(line) => line_told(alloc, inputs, *line),
+        Fault::BadEnvelope => envelope_told(alloc, inputs),
+        Fault::WrongPayloadType => type_told(alloc, inputs),
         Fault::BadLayout(part) => layout_told(alloc, inputs, part),
         Fault::OwnerMissing(_) => owners_told(alloc, inputs, checks),
         _ => Ok(RefusalNotes::Nothing),

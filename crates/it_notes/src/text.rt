@@ -10,8 +10,6 @@ use it_member_notes::layout_note::LayoutNote;
 use it_member_notes::member_notes::MemberNotes;
 use it_member_notes::rule_list_note::RuleListNote;
 use it_member_notes::unread_member::UnreadMember;
-use it_part_notes::part_note::PartNote;
-use it_part_notes::sum_line_note::SumLineNote;
 use it_prov_notes::note::ProvenanceNote;
 use it_rule_notes::cause::CauseNote;
 use it_rule_notes::disagree_note::DisagreeNote;
@@ -54,6 +52,7 @@ impl RefusalNotes {
         match self {
             RefusalNotes::Nothing => Ok(()),
             RefusalNotes::Part(note) => lines.add(note),
+            RefusalNotes::Envelope(note) => lines.add(note),
             RefusalNotes::Line(note) => lines.add(note),
             RefusalNotes::Step(notes) => add_step(lines, notes.as_slice()),
             RefusalNotes::Owners(notes) => lines.add_all(notes.as_slice()),
@@ -127,18 +126,6 @@ impl Line for LaidOut {
         text.extend_from_slice(b"provenance: one envelope over several lines, ")?;
         text.extend_from_slice(b"where each line is to be one\n")?;
         Ok(())
-    }
-}
-
-impl Line for PartNote {
-    fn push_line(&self, text: &mut Vec<u8>) -> Result<(), AllocError> {
-        PartNote::push_line(self, text)
-    }
-}
-
-impl Line for SumLineNote {
-    fn push_line(&self, text: &mut Vec<u8>) -> Result<(), AllocError> {
-        SumLineNote::push_line(self, text)
     }
 }
 

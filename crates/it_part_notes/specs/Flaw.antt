@@ -3,6 +3,8 @@
 use Rattle.std.specs.Prelude.{◌≡◌, ◌⊎◌, ℕ, suc, List, [], ◌∷◌, Some, IsTrue, nat_eq}
 use Rattle.std.specs.List.{slice_get, starts_with}
 use Rattle.std.specs.Str.{IsUtf8}
+use Rattle.serde_json.specs.Data.{Data}
+use Rattle.it_base.specs.Document.{IsDocument}
 use Rattle.it_part_notes.specs.SumLine.{IsLine}
 use Rattle.it_part_notes.specs.declared.flaw.Flaw.{Flaw}
 use Rattle.it_part_notes.specs.declared.flaw.Flaw.TheVariants as flaws
@@ -14,6 +16,10 @@ BeginsAsUtf16 bytes = IsTrue (starts_with nat_eq bytes (0xff ∷ 0xfe ∷ []))
     ⊎ IsTrue (starts_with nat_eq bytes (0xfe ∷ 0xff ∷ []))
     ⊎ (slice_get bytes 0 ≡ Some 0)
     ⊎ (slice_get bytes 1 ≡ Some 0)
+
+-- the first line is a document
+abbrev pub FirstLineReads : List ℕ → Type 0
+FirstLineReads bytes = (line : List ℕ) × (d : Data) × IsLine bytes 1 line × IsDocument line d
 
 -- the byte stands at its place
 pub record StandsAt (bytes : List ℕ) (spot : Spot) : Type 0 where
@@ -29,5 +35,6 @@ IsFlaw bytes flaws.Empty = bytes ≡ []
 IsFlaw bytes flaws.ByteOrderMark = IsTrue (starts_with nat_eq bytes (0xef ∷ 0xbb ∷ 0xbf ∷ []))
 IsFlaw bytes flaws.Utf16 = BeginsAsUtf16 bytes
 IsFlaw bytes flaws.NotUtf8 = ¬ IsUtf8 bytes
+IsFlaw bytes flaws.Lines = FirstLineReads bytes
 IsFlaw bytes (flaws.Look spot) = StandsAt bytes spot
 IsFlaw bytes flaws.LookAtEnd = Unit {0}

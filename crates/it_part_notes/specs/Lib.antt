@@ -1,4 +1,5 @@
 pub mod Flaw
+pub mod Instead
 pub mod Members
 pub mod PartLines
 pub mod PartNotes

@@ -7,6 +7,8 @@ use Rattle.it_part_notes.specs.Members.{Looked, shown}
 use Rattle.it_part_notes.specs.declared.flaw.Flaw.{Flaw}
 use Rattle.it_part_notes.specs.declared.flaw.Flaw.TheVariants as flaws
 use Rattle.it_part_notes.specs.declared.flaw.Spot.{Spot}
+use Rattle.it_part_notes.specs.declared.instead.Instead.{Instead}
+use Rattle.it_part_notes.specs.declared.instead.Instead.TheVariants as insteads
 use Rattle.it_part_notes.specs.declared.member.Kind.{Kind}
 use Rattle.it_part_notes.specs.declared.member.Kind.TheVariants as kinds
 use Rattle.it_part_notes.specs.declared.part_note.BadRule.{BadRule}
@@ -104,6 +106,7 @@ flaw_form (Some flaws.Empty) = codes ": it is empty"
 flaw_form (Some flaws.ByteOrderMark) = codes ": it begins with a byte order mark"
 flaw_form (Some flaws.Utf16) = codes ": it begins as UTF-16 does"
 flaw_form (Some flaws.NotUtf8) = codes ": it is not UTF-8"
+flaw_form (Some flaws.Lines) = codes ": its first line is a JSON text of its own"
 flaw_form (Some (flaws.Look spot)) = spot_form spot
 flaw_form (Some flaws.LookAtEnd) = codes ": look at its end"
 
@@ -113,9 +116,20 @@ shape_form (Some shapes.List) = codes ": it is a list"
 shape_form (Some shapes.Text) = codes ": it is a text"
 shape_form (Some shapes.Number) = codes ": it is a number"
 
+abbrev pub instead_form : Instead → List ℕ
+instead_form insteads.Bundle =
+    codes " is no envelope, but has the member dsseEnvelope, as a bundle with one has"
+instead_form insteads.Wrapper =
+    codes " is no envelope, but has the member signed, as in-toto's older wrapper has"
+instead_form insteads.Layout =
+    codes " is no envelope, but what is to be in one: its _type is layout"
+instead_form insteads.Link =
+    codes " is no envelope, but what is to be in one: its _type is link"
+
 abbrev pub problem_form : PartPlace → Problem → List ℕ
 problem_form place (problems.NoDocument flaw) = no_object_form place ++ flaw_form flaw
 problem_form place (problems.NoObject shape) = no_object_form place ++ shape_form shape
+problem_form place (problems.Instead instead) = object_form place ++ instead_form instead
 problem_form place (problems.Member member fault) = fault_form place (shown member) fault
 
 -- the line of a note

@@ -15,6 +15,7 @@ use Rattle.it_docs.specs.declared.layout_fault.LayoutPart.TheVariants as layout
 use Rattle.it_docs.specs.declared.policy_fault.PolicyPart.{PolicyPart}
 use Rattle.it_docs.specs.declared.policy_fault.PolicyPart.TheVariants as policy
 use Rattle.it_part_notes.specs.Flaw.{IsFlaw}
+use Rattle.it_part_notes.specs.Instead.{IsInstead}
 use Rattle.it_part_notes.specs.Members.{Fits, Looked, Reads, envelope_members, layout_members}
 use Rattle.it_part_notes.specs.Members.{link_members, policy_members, shown}
 use Rattle.it_part_notes.specs.declared.flaw.Flaw.{Flaw}
@@ -72,6 +73,7 @@ abbrev pub TellsProblem : List Looked → Data → Problem → Type 0
 TellsProblem members d (problems.NoDocument flaw) = ⊥
 TellsProblem members d (problems.NoObject shape) =
     (¬ IsTrue (is_some (as_object d))) × IfSome shape (IsShape d)
+TellsProblem members d (problems.Instead instead) = IsInstead d instead
 TellsProblem members d (problems.Member member fault) =
     Contains members (shown member) × TellsFault d (shown member) fault
 

@@ -1,9 +1,11 @@
 //! Why bytes are no JSON document.
 ghost use Rattle.std.specs.Prelude.{IfOk, IfSome};
 ghost use Rattle.std.specs.Bool.{OnTrue};
-ghost use Rattle.it_part_notes.specs.Flaw.{BeginsAsUtf16, IsFlaw, StandsAt};
+ghost use Rattle.it_part_notes.specs.Flaw.{BeginsAsUtf16, FirstLineReads, IsFlaw, StandsAt};
 
+use crate::byte_at::stands;
 use crate::sum_lines::line_at;
+use it_base::document::read_document;
 use serde_json::Value;
 use std::alloc::{AllocError, Global};
 use std::str;
@@ -19,6 +21,8 @@ pub enum Flaw {
     Utf16,
     /// They are not UTF-8.
     NotUtf8,
+    /// Their first line is a document.
+    Lines,
     /// This byte is to be looked at.
     Look(Spot),
     /// Their end is to be looked at.
@@ -44,10 +48,13 @@ pub struct Spot {
 pub(crate) fn flaw_of(alloc: Global, bytes: &[u8]) -> Result<Option<Flaw>, AllocError>
     ensures { IfOk result (λ found. IfSome found (IsFlaw bytes.now)) }
 {
-    match encoding_flaw(bytes) {
-        Some(flaw) => Ok(Some(flaw)),
-        None => stop_of(alloc, bytes),
+    if let Some(flaw) = encoding_flaw(bytes) {
+        return Ok(Some(flaw));
     }
+    if first_line_reads(alloc, bytes)? {
+        return Ok(Some(Flaw::Lines));
+    }
+    stop_of(alloc, bytes)
 }
 
 /// Why bytes are no text of a document.
@@ -72,13 +79,27 @@ fn encoding_flaw(bytes: &[u8]) -> Option<Flaw>
 fn begins_as_utf16(bytes: &[u8]) -> bool
     ensures { OnTrue result (BeginsAsUtf16 bytes.now) }
 {
-    if bytes.starts_with(b"\xff\xfe") || bytes.starts_with(b"\xfe\xff") {
+    if bytes.starts_with(b"\xff\xfe") {
         return true;
     }
-    match bytes {
-        [0, ..] | [_, 0, ..] => true,
-        _ => false,
+    if bytes.starts_with(b"\xfe\xff") {
+        return true;
     }
+    if stands(bytes, 0, 0) {
+        return true;
+    }
+    stands(bytes, 1, 0)
+}
+
+/// Whether the first line is a document.
+fn first_line_reads(alloc: Global, bytes: &[u8]) -> Result<bool, AllocError>
+    ensures { IfOk result (λ reads. OnTrue reads (FirstLineReads bytes.now)) }
+{
+    let Some(line) = line_at(bytes, 1) else {
+        return Ok(false);
+    };
+    let found = read_document(alloc, line)?;
+    Ok(found.is_some())
 }
 
 /// Where the reading of bytes as JSON stops.

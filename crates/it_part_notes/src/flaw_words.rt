@@ -1,8 +1,9 @@
-//! The words on what is no JSON object.
+//! The words on what is no JSON object, or no envelope.
 ghost use Rattle.std.specs.Prelude.{◌≡◌, ◌∷◌, [], ◌++◌, OnOk, codes, decimal};
-ghost use Rattle.it_part_notes.specs.PartLines.{flaw_form, shape_form, spot_form};
+ghost use Rattle.it_part_notes.specs.PartLines.{flaw_form, instead_form, shape_form, spot_form};
 
 use crate::flaw::{Flaw, Spot};
+use crate::instead::Instead;
 use crate::shape::Shape;
 use it_report::name::push_cut_name;
 use std::alloc::AllocError;
@@ -17,6 +18,7 @@ pub(crate) fn push_flaw(text: &mut Vec<u8>, flaw: Option<Flaw>) -> Result<(), Al
         Some(Flaw::ByteOrderMark) => push_text(text, ": it begins with a byte order mark"),
         Some(Flaw::Utf16) => push_text(text, ": it begins as UTF-16 does"),
         Some(Flaw::NotUtf8) => push_text(text, ": it is not UTF-8"),
+        Some(Flaw::Lines) => push_text(text, ": its first line is a JSON text of its own"),
         Some(Flaw::Look(spot)) => push_spot(text, spot),
         Some(Flaw::LookAtEnd) => push_text(text, ": look at its end"),
     }
@@ -59,6 +61,21 @@ pub(crate) fn push_shape(text: &mut Vec<u8>, shape: Option<Shape>) -> Result<(),
         Some(Shape::List) => push_text(text, ": it is a list"),
         Some(Shape::Text) => push_text(text, ": it is a text"),
         Some(Shape::Number) => push_text(text, ": it is a number"),
+    }
+}
+
+/// What stands in place of an envelope, as it is said. Takes no memory.
+pub(crate) fn instead_words(instead: Instead) -> &'static str
+    ensures { result.now ≡ instead_form instead }
+{
+    match instead {
+        Instead::Bundle => {
+            " is no envelope, but has the member dsseEnvelope, as a bundle with one has"
+        }
+        Instead::Wrapper =>
+            " is no envelope, but has the member signed, as in-toto's older wrapper has",
+        Instead::Layout => " is no envelope, but what is to be in one: its _type is layout",
+        Instead::Link => " is no envelope, but what is to be in one: its _type is link",
     }
 }
 

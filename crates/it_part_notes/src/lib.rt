@@ -3,10 +3,12 @@
 #![tactic(auto)]
 
 mod bad_rule;
+mod byte_at;
 pub mod envelope_part_note;
 mod fit;
 pub mod flaw;
 mod flaw_words;
+pub mod instead;
 mod item_at;
 pub mod layout_part_note;
 pub mod link_part_note;

@@ -1,6 +1,7 @@
 //! Notes on a part of a policy or of a layout that fails, and on a file of a step.
 
 use crate::flaw::Flaw;
+use crate::instead::Instead;
 use crate::member::Member;
 use crate::shape::Shape;
 use it_base::sequence::Sequence;
@@ -41,6 +42,8 @@ pub enum Problem {
     NoDocument(Option<Flaw>),
     /// The value there is no JSON object, but of this shape where it is a list, a text or a number.
     NoObject(Option<Shape>),
+    /// The whole is no envelope, but this.
+    Instead(Instead),
     /// This member of the object there is wrong.
     Member(Member, Fault),
 }

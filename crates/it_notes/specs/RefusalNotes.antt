@@ -1,6 +1,7 @@
 -- What the notes on a refusal say (words of this project). Each is about the fault that is
 -- reported, and what the verification was given.
-use Rattle.std.specs.Prelude.{◌≡◌, ◌≢◌, ◌⊎◌, ℕ, List, Option, Some, All, Contains, IfSome}
+use Rattle.std.specs.Prelude.{◌≡◌, ◌≢◌, ◌⊎◌, ℕ, List, [], Option, Some, All, Contains, IfSome}
+use Rattle.std.specs.Bool.{OnTrue}
 use Rattle.std.specs.FinMap.{get}
 use Rattle.it_digest.specs.Artifacts.{ArtifactMap}
 use Rattle.it_digest.specs.Sums.{SumsOf}
@@ -18,7 +19,9 @@ use Rattle.it_docs.specs.declared.policy.Policy.{Policy}
 use Rattle.it_docs.specs.declared.policy_fault.PolicyPart.{PolicyPart}
 use Rattle.it_docs.specs.declared.step.Step.{Step}
 use Rattle.it_part_notes.specs.PartNotes.{TellsEnvelope, TellsLayoutPart, TellsPolicyPart}
-use Rattle.it_part_notes.specs.SumLine.{TellsSumLine}
+use Rattle.it_part_notes.specs.Moments.{TellsMoment}
+use Rattle.it_part_notes.specs.SumLine.{FirstLineReturns, TellsSumLine}
+use Rattle.it_part_notes.specs.declared.moment_note.MomentNote.{MomentNote}
 use Rattle.it_part_notes.specs.declared.part_note.PartNote.{PartNote}
 use Rattle.it_part_notes.specs.declared.sum_line_note.SumLineNote.{SumLineNote}
 use Rattle.it_prov.specs.Fits.{Fits}
@@ -127,6 +130,7 @@ module _ (panel : Panel) (inputs : Inputs) (level : FaultLevel) (fault : Fault) 
     pub rule : TellsRule level.signed.layout policy.deliver notes.rule
     pub met : IfSome notes.met (TellsMetAt panel inputs.depth level notes.rule.place)
     pub delivery : IfSome notes.delivery (TellsDeliveryAt panel inputs level notes.rule.place)
+    pub returns : OnTrue notes.returns (FirstLineReturns inputs.sums)
 
   -- the notes are true of the layout, and about the fault
   abbrev pub TellsAt : RefusalNotes → Type 0
@@ -167,6 +171,10 @@ module _ (panel : Panel) (inputs : Inputs) (fault : Fault) where
   TellsNoEnvelope (envelopes.NoEnvelope note) =
       (fault ≡ faults.BadEnvelope) × TellsEnvelope inputs.layout note
   TellsNoEnvelope (envelopes.OtherType found) = TellsType found
+
+  -- what is wrong with the moment
+  abbrev pub TellsBadMoment : MomentNote → Type 0
+  TellsBadMoment note = (fault ≡ faults.BadMoment) × TellsMoment inputs.moment note
 
   -- what is wrong with the line of the digest list
   pub record TellsBadLine (note : SumLineNote) : Type 0 where
@@ -209,6 +217,8 @@ module _ (panel : Panel) (inputs : Inputs) (fault : Fault) where
   TellsInputs (notes.Part told) = TellsBadPolicy told ⊎ TellsBadLayout told
   TellsInputs (notes.Envelope told) = TellsNoEnvelope told
   TellsInputs (notes.Line told) = TellsBadLine told
+  TellsInputs (notes.Moment told) = TellsBadMoment told
+  TellsInputs notes.NoLine = (fault ≡ faults.NoFiles) × (inputs.sums ≡ [])
   TellsInputs (notes.Owners told) = TellsOwners told.items
   TellsInputs (notes.Provenance told) = TellsMissing told.items
   TellsInputs notes.LaidOut = TellsLaidOut

@@ -1,4 +1,5 @@
 //! The notes as lines for people.
+use crate::bad_parts::{NoLine, ReturnedLine};
 use crate::file_detail::{DetailedNote, FileDetail};
 use crate::layout_notes::LayoutNotes;
 use crate::lines::{Line, Lines};
@@ -54,6 +55,8 @@ impl RefusalNotes {
             RefusalNotes::Part(note) => lines.add(note),
             RefusalNotes::Envelope(note) => lines.add(note),
             RefusalNotes::Line(note) => lines.add(note),
+            RefusalNotes::Moment(note) => lines.add(note),
+            RefusalNotes::NoLine => lines.add(&NoLine),
             RefusalNotes::Step(notes) => add_step(lines, notes.as_slice()),
             RefusalNotes::Owners(notes) => lines.add_all(notes.as_slice()),
             RefusalNotes::Expiry(note) => lines.add(note),
@@ -98,6 +101,9 @@ impl RuleNotes {
         if let Some(note) = &self.delivery {
             lines.add(&note.met)?;
             lines.add_all(note.causes.as_slice())?;
+        }
+        if self.returns {
+            lines.add(&ReturnedLine)?;
         }
         Ok(())
     }

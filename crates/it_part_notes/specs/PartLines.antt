@@ -54,7 +54,7 @@ object_form places.Link = codes "its payload"
 abbrev pub unfit_form : Kind → List ℕ
 unfit_form kinds.Text = codes " is not a text"
 unfit_form kinds.Word = codes " is not the text layout"
-unfit_form kinds.Moment = codes " is not a moment"
+unfit_form kinds.Moment = codes " is not a moment such as 2030-01-01T00:00:00Z"
 unfit_form kinds.Threshold = codes " is not a whole number of at least 1"
 unfit_form kinds.Level = codes " is not a whole number from 0 to 3"
 unfit_form kinds.Texts = codes " is not a list of texts"

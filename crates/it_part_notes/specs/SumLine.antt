@@ -3,7 +3,7 @@
 use Rattle.std.specs.Prelude.{◌≡◌, ◌≢◌, ◌⊎◌, ◌<◌, ℕ, suc, List, [], ◌∷◌, ◌++◌, length, codes}
 use Rattle.std.specs.Prelude.{Some, IsTrue, MatchOption, decimal, nat_eq, not}
 use Rattle.std.specs.Char.{is_ascii_hexdigit}
-use Rattle.std.specs.List.{position, slice_get, starts_with}
+use Rattle.std.specs.List.{ends_with, position, slice_get, starts_with}
 use Rattle.std.specs.Str.{IsUtf8}
 use Rattle.it_base.specs.HexadecimalText.{hexadecimal_decoded}
 use Rattle.it_digest.specs.Sums.{IsSum, lines_of}
@@ -22,6 +22,11 @@ pub record IsLine (bytes : List ℕ) (number : ℕ) (line : List ℕ) : Type 0 w
   pub place : ℕ
   pub stands : slice_get (lines_of bytes) place ≡ Some line
   pub number_is : number ≡ suc place
+
+-- the first line ends with a carriage return, which belongs to its path
+abbrev pub FirstLineReturns : List ℕ → Type 0
+FirstLineReturns bytes =
+    (line : List ℕ) × IsLine bytes 1 line × IsTrue (ends_with nat_eq line (13 ∷ []))
 
 -- a line is 64 hexadecimal digits and then this text
 pub record FollowsDigits (line text : List ℕ) : Type 0 where

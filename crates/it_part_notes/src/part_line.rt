@@ -136,7 +136,7 @@ fn unfit_words(kind: Kind) -> &'static str
     match kind {
         Kind::Text => " is not a text",
         Kind::Word => " is not the text layout",
-        Kind::Moment => " is not a moment",
+        Kind::Moment => " is not a moment such as 2030-01-01T00:00:00Z",
         Kind::Threshold => " is not a whole number of at least 1",
         Kind::Level => " is not a whole number from 0 to 3",
         Kind::Texts => " is not a list of texts",

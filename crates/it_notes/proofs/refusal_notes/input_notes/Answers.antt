@@ -11,6 +11,14 @@ returns-in-BadSums g c =
     IfOk-weaker c.line_told.result _ _ (λ told each. rw c.in-BadSums.is (each _))
     c.line_told.ensures
 
+pub returns-in-BadMoment : goal.returns-in-BadMoment
+returns-in-BadMoment g c =
+    IfOk-weaker c.moment_told.result _ _ (λ told each. rw c.in-BadMoment.is (each _))
+    c.moment_told.ensures
+
+pub returns-in-NoFiles : goal.returns-in-NoFiles
+returns-in-NoFiles g c = rw c.in-NoFiles.is (c.no_line_told.ensures _)
+
 pub returns-in-BadEnvelope : goal.returns-in-BadEnvelope
 returns-in-BadEnvelope g c =
     IfOk-weaker c.envelope_told.result _ _ (λ told each. rw c.in-BadEnvelope.is (each _))

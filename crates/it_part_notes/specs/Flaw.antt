@@ -1,6 +1,6 @@
 -- Why bytes are no JSON document, or where to look for that (words of this project). JSON is UTF-8
 -- without a byte order mark (RFC 8259, section 8.1).
-use Rattle.std.specs.Prelude.{◌≡◌, ◌⊎◌, ℕ, suc, List, [], ◌∷◌, Some, IsTrue, nat_eq}
+use Rattle.std.specs.Prelude.{◌≡◌, ◌⊎◌, ◌≤◌, ◌-◌, ℕ, List, [], ◌∷◌, Some, IsTrue, nat_eq}
 use Rattle.std.specs.List.{slice_get, starts_with}
 use Rattle.std.specs.Str.{IsUtf8}
 use Rattle.serde_json.specs.Data.{Data}
@@ -24,10 +24,9 @@ FirstLineReads bytes = (line : List ℕ) × (d : Data) × IsLine bytes 1 line ×
 -- the byte stands at its place
 pub record StandsAt (bytes : List ℕ) (spot : Spot) : Type 0 where
   pub line : List ℕ
-  pub place : ℕ
   pub is_line : IsLine bytes spot.line line
-  pub column_is : spot.column ≡ suc place
-  pub stands : slice_get line place ≡ Some spot.byte
+  pub counted : 1 ≤ spot.column
+  pub stands : slice_get line (spot.column - 1) ≡ Some spot.byte
 
 -- what is said of the bytes is true; of their end nothing is said
 abbrev pub IsFlaw : List ℕ → Flaw → Type 0

@@ -1,7 +1,7 @@
 -- What stands in place of an envelope (words of this project).
-use Rattle.std.specs.Prelude.{ℕ, List, IsSome, codes}
+use Rattle.std.specs.Prelude.{IsSome, codes}
 use Rattle.serde_json.specs.Data.{Data}
-use Rattle.it_base.specs.Document.{IsDocument, member_at}
+use Rattle.it_base.specs.Document.{member_at}
 use Rattle.it_base.specs.Parts.{IsPart}
 use Rattle.it_base.specs.Text.{IsText}
 use Rattle.it_part_notes.specs.declared.instead.Instead.{Instead}
@@ -14,7 +14,3 @@ IsInstead d insteads.Bundle = IsSome (member_at (codes "dsseEnvelope") d)
 IsInstead d insteads.Wrapper = IsSome (member_at (codes "signed") d)
 IsInstead d insteads.Layout = IsPart IsText (codes "_type") d (codes "layout")
 IsInstead d insteads.Link = IsPart IsText (codes "_type") d (codes "link")
-
--- the document of the bytes is this
-abbrev pub StandsInstead : List ℕ → Instead → Type 0
-StandsInstead bytes instead = (d : Data) × IsDocument bytes d × IsInstead d instead

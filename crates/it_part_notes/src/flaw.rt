@@ -98,8 +98,10 @@ fn first_line_reads(alloc: Global, bytes: &[u8]) -> Result<bool, AllocError>
     let Some(line) = line_at(bytes, 1) else {
         return Ok(false);
     };
-    let found = read_document(alloc, line)?;
-    Ok(found.is_some())
+    match read_document(alloc, line)? {
+        Some(_) => Ok(true),
+        None => Ok(false),
+    }
 }
 
 /// Where the reading of bytes as JSON stops.

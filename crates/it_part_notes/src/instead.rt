@@ -1,9 +1,9 @@
 //! What an object is that is no envelope.
 ghost use Rattle.std.specs.Prelude.{IfOk, IfSome};
 ghost use Rattle.serde_json.specs.View.{view};
-ghost use Rattle.it_part_notes.specs.Instead.{IsInstead, StandsInstead};
+ghost use Rattle.it_part_notes.specs.Instead.{IsInstead};
 
-use it_base::document::{member, read_document};
+use it_base::document::member;
 use it_base::parts::part;
 use it_base::text::Text;
 use serde_json::Value;
@@ -22,21 +22,12 @@ pub enum Instead {
     Link,
 }
 
-/// What the bytes have in place of an envelope, if that is known.
+/// What an object is in place of an envelope, if that is known.
 ///
 /// # Errors
 ///
 /// `AllocError` where memory was refused.
-pub(crate) fn stands_instead(alloc: Global, bytes: &[u8]) -> Result<Option<Instead>, AllocError>
-    ensures { IfOk result (λ found. IfSome found (StandsInstead bytes.now)) }
-{
-    let Some(document) = read_document(alloc, bytes)? else {
-        return Ok(None);
-    };
-    instead_of(alloc, &document)
-}
-
-fn instead_of(alloc: Global, object: &Value) -> Result<Option<Instead>, AllocError>
+pub(crate) fn instead_of(alloc: Global, object: &Value) -> Result<Option<Instead>, AllocError>
     ensures { IfOk result (λ found. IfSome found (IsInstead (view object.now))) }
 {
     if member(object, "dsseEnvelope").is_some() {

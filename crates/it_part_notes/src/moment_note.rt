@@ -66,7 +66,7 @@ fn mistake_in(text: &[u8]) -> Option<Mistake>
     if stands(text, 10, b' ') {
         return Some(Mistake::Space);
     }
-    if stands(text, 19, b'+') || stands(text, 19, b'-') {
+    if has_offset(text) {
         return Some(Mistake::Offset);
     }
     if stands(text, 19, b'.') {
@@ -79,7 +79,20 @@ fn mistake_in(text: &[u8]) -> Option<Mistake>
 fn is_date(text: &[u8]) -> bool
     ensures { OnTrue result (IsMistake text.now Mistake.Date) }
 {
-    text.len() == 10 && stands(text, 4, b'-') && stands(text, 7, b'-')
+    if text.len() != 10 {
+        return false;
+    }
+    stands(text, 4, b'-') && stands(text, 7, b'-')
+}
+
+/// Whether a text has the sign of an offset in place of `Z`.
+fn has_offset(text: &[u8]) -> bool
+    ensures { OnTrue result (IsMistake text.now Mistake.Offset) }
+{
+    if stands(text, 19, b'+') {
+        return true;
+    }
+    stands(text, 19, b'-')
 }
 
 /// Whether a text has digits alone, or does not begin with one.

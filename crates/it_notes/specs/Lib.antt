@@ -2,6 +2,7 @@ pub mod FileDetails
 pub mod FoundInDocuments
 pub mod KeyNotes
 pub mod Known
+pub mod LayoutEnvelope
 pub mod Level
 pub mod Notes
 pub mod PlaceNotes

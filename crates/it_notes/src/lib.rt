@@ -12,6 +12,7 @@ mod found_in_documents;
 mod key_notes;
 pub mod known;
 mod laid_out;
+pub mod layout_envelope;
 pub mod layout_notes;
 mod level_notes;
 mod lines;

@@ -39,8 +39,11 @@ mistake_form (Some mistakes.Fraction) = codes ": it has a fraction in place of Z
 mistake_form (Some mistakes.Digits) = codes ": it is a number"
 mistake_form (Some mistakes.Word) = codes ": it does not begin with a digit"
 
+-- that a text is no moment
+unfoldable pub given_form : List ℕ → List ℕ
+given_form text =
+    codes "moment: " ++ cut_form text ++ codes " is no moment such as 2030-01-01T00:00:00Z"
+
 -- the line of a note
 abbrev pub moment_line : MomentNote → List ℕ
-moment_line note =
-    codes "moment: " ++ cut_form note.text ++ codes " is no moment such as 2030-01-01T00:00:00Z"
-    ++ mistake_form note.mistake ++ codes "\n"
+moment_line note = given_form note.text ++ mistake_form note.mistake ++ codes "\n"

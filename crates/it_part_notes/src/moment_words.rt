@@ -1,8 +1,9 @@
 //! The text of a note on what is no moment.
 ghost use Rattle.std.specs.Prelude.{◌≡◌, ◌++◌, OnOk};
-ghost use Rattle.it_part_notes.specs.Moments.{mistake_form, moment_line};
+ghost use Rattle.it_part_notes.specs.Moments.{given_form, mistake_form, moment_line};
 
 use crate::moment_note::{Mistake, MomentNote};
+use it_base::text::Text;
 use it_report::name::push_cut_name;
 use std::alloc::AllocError;
 
@@ -15,12 +16,20 @@ impl MomentNote {
     pub fn push_line(&self, text: &mut Vec<u8>) -> Result<(), AllocError>
         ensures { OnOk result (text.new.items ≡ text.old.items ++ moment_line self.now) }
     {
-        push_text(text, "moment: ")?;
-        push_cut_name(text, self.text.as_str().as_bytes())?;
-        push_text(text, " is no moment such as 2030-01-01T00:00:00Z")?;
+        push_given(text, &self.text)?;
         push_text(text, mistake_words(self.mistake))?;
         push_text(text, "\n")
     }
+}
+
+/// Appends that a text is no moment.
+#[tactic(auto, unfolding(crate::specs::Moments::given_form))]
+fn push_given(text: &mut Vec<u8>, given: &Text) -> Result<(), AllocError>
+    ensures { OnOk result (text.new.items ≡ text.old.items ++ given_form given.now) }
+{
+    push_text(text, "moment: ")?;
+    push_cut_name(text, given.as_str().as_bytes())?;
+    push_text(text, " is no moment such as 2030-01-01T00:00:00Z")
 }
 
 fn mistake_words(mistake: Option<Mistake>) -> &'static str

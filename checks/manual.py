@@ -2,8 +2,9 @@
 """Keeps what describes the commands in step with the list docs/commands.json.
 
 That is docs/itv.1, the man page, the completions for bash, zsh and fish, the usages that itv
-itself writes, and the version that its library tells. Fails where one of them is not what the list gives, and where docs/commands.md does not
-show the arguments of a command as the list has them.
+itself writes, and the version that its library tells, with its definition. Fails where one of them
+is not what the list gives, and where docs/commands.md does not show the arguments of a command as
+the list has them.
 
     manual.py          checks
     manual.py --write  writes the files
@@ -28,6 +29,15 @@ VERSION_SOURCE = """\
 
 /// The program with its version.
 pub(crate) const VERSION: &str = "{program} {version}";
+"""
+DEFINITION = tree.TOP / "crates" / "it_library" / "specs" / "Version.antt"
+DEFINITION_SOURCE = """\
+-- The version. Made by checks/manual.py from docs/commands.json.
+use Rattle.std.specs.Prelude.{{ℕ, List, codes}}
+
+-- the program with its version
+abbrev pub version_text : List ℕ
+version_text = codes "{program} {version}"
 """
 # The most columns that a line of a usage has.
 COLUMNS = 79
@@ -185,6 +195,7 @@ def made(listed):
     page = "\n".join(page_lines(listed)) + "\n"
     program = listed["program"]
     return {PAGE: page, USAGES: usages(listed), VERSION: VERSION_SOURCE.format(**listed),
+            DEFINITION: DEFINITION_SOURCE.format(**listed),
             COMPLETIONS / f"{program}.bash": completions.bash(listed),
             COMPLETIONS / f"_{program}": completions.zsh(listed),
             COMPLETIONS / f"{program}.fish": completions.fish(listed)}

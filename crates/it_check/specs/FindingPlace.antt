@@ -58,8 +58,10 @@ document_of (findings.RepeatedKey step place id) = codes "layout"
 document_of (findings.NoBuilders place) = codes "policy"
 document_of (findings.NoLevel place) = codes "policy"
 document_of (findings.UnreachableLevel place level) = codes "policy"
+document_of (findings.UnequalNumber place name) = codes "policy"
 document_of (findings.NoThreshold place) = codes "layout"
 document_of (findings.NullKey key) = document_of_keys key.list
+document_of (findings.SharedKey shared) = document_of_keys (list_of shared.place)
 document_of (findings.Member finding) = document_of_member finding
 
 -- a byte of a name in a JSON pointer (RFC 6901 section 3)
@@ -96,6 +98,11 @@ step_key_pointer step place =
 
 abbrev pub expectation_pointer : ℕ → List ℕ → List ℕ
 expectation_pointer place member = number_form (codes "/expectations/") place member
+
+-- the place of a parameter of an expectation
+unfoldable pub parameter_pointer : PointerForm → ℕ → List ℕ → List ℕ
+parameter_pointer form place name =
+    expectation_pointer place (codes "/parameters/") ++ token_form form name
 
 -- the place of a list of key objects
 unfoldable pub keys_pointer : KeyList → List ℕ
@@ -148,6 +155,9 @@ pointer_of form (findings.NoBuilders place) = expectation_pointer place (codes "
 pointer_of form (findings.NoLevel place) = expectation_pointer place (codes "/level")
 pointer_of form (findings.UnreachableLevel place level) =
     expectation_pointer place (codes "/level")
+pointer_of form (findings.UnequalNumber place name) = parameter_pointer form place name
 pointer_of form (findings.NoThreshold place) = step_pointer place (codes "/threshold")
 pointer_of form (findings.NullKey key) = key_pointer form key.list key.id
+pointer_of form (findings.SharedKey shared) =
+    key_pointer form (list_of shared.place) (id_of shared.place)
 pointer_of form (findings.Member finding) = member_pointer form finding

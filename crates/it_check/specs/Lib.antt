@@ -9,4 +9,5 @@ pub mod MemberSentence
 pub mod NullKeySentence
 pub mod Pieces
 pub mod RuleSentence
+pub mod SharedKeySentence
 pub mod StepKeySentence

@@ -1,9 +1,11 @@
 //! What is said of findings on the expectations of a policy.
 ghost use Rattle.std.specs.Prelude.{◌≡◌, ◌++◌, OnOk};
 ghost use Rattle.it_check.specs.ExpectationSentence.{no_builders_sentence, no_level_sentence};
+ghost use Rattle.it_check.specs.ExpectationSentence.{unequal_number_sentence};
 ghost use Rattle.it_check.specs.ExpectationSentence.{unreachable_level_sentence};
 
-use crate::writing::push_told_number;
+use crate::writing::{push_told, push_told_number};
+use it_base::text::Text;
 use std::alloc::AllocError;
 
 /// Appends what is said of an expectation without builders.
@@ -35,4 +37,19 @@ pub(crate) fn push_unreachable_level(
     push_told_number(text, "expectation ", place, " asks for level ")?;
     let after = ", which none of its builders reaches";
     push_told_number(text, "", level as usize, after)
+}
+
+/// Appends what is said of an expectation with a parameter that has a number that equals none.
+#[tactic(auto, unfolding(crate::specs::ExpectationSentence::unequal_number_sentence))]
+pub(crate) fn push_unequal_number(
+    text: &mut Vec<u8>,
+    place: usize,
+    name: &Text,
+) -> Result<(), AllocError>
+    ensures { OnOk result
+        (text.new.items ≡ text.old.items ++ unequal_number_sentence place name.now) }
+{
+    push_told_number(text, "expectation ", place, " has in the parameter ")?;
+    let after = " a number that is no whole number of 64 bits, so that no provenance meets it";
+    push_told(text, "", name, after)
 }

@@ -22,8 +22,10 @@ pub fn finding_name(finding: &Finding) -> &'static str
         Finding::NoBuilders(_) => "no-builders",
         Finding::NoLevel(_) => "no-level",
         Finding::UnreachableLevel { .. } => "unreachable-level",
+        Finding::UnequalNumber { .. } => "unequal-number",
         Finding::NoThreshold(_) => "no-threshold",
         Finding::NullKey(key) => null_name(key.list),
+        Finding::SharedKey(_) => "shared-key",
         Finding::Member(finding) => member_name(finding),
     }
 }

@@ -6,9 +6,11 @@ ghost use Rattle.it_check.specs.FindingPlace.{document_of_place as place_documen
 ghost use Rattle.it_check.specs.FindingPlace.{document_of_rules as rules_document, pointer_of};
 ghost use Rattle.it_findings.specs.KeyPlaces.{list_of};
 
-use crate::member_pointers::push_member;
+use crate::member_pointers::{push_key_at, push_member};
 use crate::pointer_form::PointerForm;
-use crate::pointers::{push_expectation, push_key, push_list, push_rule, push_step, push_step_key};
+use crate::pointers::{
+    push_expectation, push_key, push_list, push_parameter_at, push_rule, push_step, push_step_key,
+};
 use it_findings::finding::{Finding, RuleList};
 use it_findings::member_finding::MemberFinding;
 use it_findings::null_key::KeyList;
@@ -26,7 +28,8 @@ pub fn finding_document(finding: &Finding) -> &'static str
         Finding::HighThreshold { .. } | Finding::NoThreshold(_) => "layout",
         Finding::UnknownKey { .. } | Finding::RepeatedKey { .. } => "layout",
         Finding::NoBuilders(_) | Finding::NoLevel(_) => "policy",
-        Finding::UnreachableLevel { .. } => "policy",
+        Finding::UnreachableLevel { .. } | Finding::UnequalNumber { .. } => "policy",
+        Finding::SharedKey(shared) => document_of_key(&shared.place),
         Finding::NullKey(key) => document_of_keys(key.list),
         Finding::Member(finding) => document_of_member(finding),
     }
@@ -97,8 +100,10 @@ pub fn push_pointer(
         Finding::NoBuilders(place) => push_expectation(text, *place, "/builders"),
         Finding::NoLevel(place) => push_expectation(text, *place, "/level"),
         Finding::UnreachableLevel { place, .. } => push_expectation(text, *place, "/level"),
+        Finding::UnequalNumber { place, name } => push_parameter_at(text, form, *place, name),
         Finding::NoThreshold(place) => push_step(text, *place, "/threshold"),
         Finding::NullKey(key) => push_key(text, form, key.list, &key.id),
+        Finding::SharedKey(shared) => push_key_at(text, form, &shared.place),
         Finding::Member(finding) => push_member(text, form, finding),
     }
 }

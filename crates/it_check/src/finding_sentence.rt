@@ -2,10 +2,13 @@
 ghost use Rattle.std.specs.Prelude.{◌≡◌, ◌++◌, OnOk};
 ghost use Rattle.it_check.specs.FindingSentence.{sentence_of};
 
-use crate::expectation_sentences::{push_no_builders, push_no_level, push_unreachable_level};
+use crate::expectation_sentences::{
+    push_no_builders, push_no_level, push_unequal_number, push_unreachable_level,
+};
 use crate::member_sentences::push_on_member;
 use crate::null_key_sentence::push_null_key;
 use crate::rule_sentences::{push_no_rules, push_open_rules, push_parameter, push_unknown_item};
+use crate::shared_key_sentence::push_shared_key;
 use crate::step_key_sentences::{
     push_high_threshold, push_no_threshold, push_repeated_key, push_unknown_key,
 };
@@ -38,8 +41,10 @@ pub fn push_sentence(text: &mut Vec<u8>, finding: &Finding) -> Result<(), AllocE
         Finding::UnreachableLevel { place, level } => {
             push_unreachable_level(text, *place, *level)
         }
+        Finding::UnequalNumber { place, name } => push_unequal_number(text, *place, name),
         Finding::NoThreshold(place) => push_no_threshold(text, *place),
         Finding::NullKey(key) => push_null_key(text, key),
+        Finding::SharedKey(shared) => push_shared_key(text, shared),
         Finding::Member(finding) => push_on_member(text, finding),
     }
 }

@@ -16,6 +16,7 @@ mod part_notes;
 pub mod pointer_form;
 mod pointers;
 mod rule_sentences;
+mod shared_key_sentence;
 mod step_key_sentences;
 mod token;
 mod writing;

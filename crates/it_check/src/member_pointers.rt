@@ -90,7 +90,11 @@ fn push_keyval(text: &mut Vec<u8>, form: PointerForm, key: &KeyPlace) -> Result<
 }
 
 /// Appends the place of a key object.
-fn push_key_at(text: &mut Vec<u8>, form: PointerForm, key: &KeyPlace) -> Result<(), AllocError>
+pub(crate) fn push_key_at(
+    text: &mut Vec<u8>,
+    form: PointerForm,
+    key: &KeyPlace,
+) -> Result<(), AllocError>
     ensures { OnOk result (text.new.items
         ≡ text.old.items ++ key_pointer form (list_of key.now) (id_of key.now)) }
 {

@@ -1,7 +1,8 @@
 //! Places in a policy and a layout, as JSON pointers (RFC 6901).
 ghost use Rattle.std.specs.Prelude.{◌≡◌, ◌++◌, OnOk, decimal};
 ghost use Rattle.it_check.specs.FindingPlace.{expectation_pointer, key_pointer, keys_pointer};
-ghost use Rattle.it_check.specs.FindingPlace.{list_pointer, rule_pointer, side_member};
+ghost use Rattle.it_check.specs.FindingPlace.{list_pointer, parameter_pointer, rule_pointer};
+ghost use Rattle.it_check.specs.FindingPlace.{side_member};
 ghost use Rattle.it_check.specs.FindingPlace.{step_key_pointer, step_pointer};
 
 use crate::pointer_form::PointerForm;
@@ -79,6 +80,21 @@ pub(crate) fn push_expectation(
         (text.new.items ≡ text.old.items ++ expectation_pointer place member.now) }
 {
     push_told_number(text, "/expectations/", place, member)
+}
+
+/// Appends the place of a parameter of an expectation.
+#[tactic(auto, unfolding(crate::specs::FindingPlace::parameter_pointer))]
+pub(crate) fn push_parameter_at(
+    text: &mut Vec<u8>,
+    form: PointerForm,
+    place: usize,
+    name: &Text,
+) -> Result<(), AllocError>
+    ensures { OnOk result
+        (text.new.items ≡ text.old.items ++ parameter_pointer form place name.now) }
+{
+    push_expectation(text, place, "/parameters/")?;
+    push_token(text, form, name.as_str())
 }
 
 /// Appends the place of the key object under an id of a list.

@@ -10,6 +10,7 @@ ghost use Rattle.it_disk.specs.declared.fault.Fault.TheVariants.{Run};
 use crate::reason::reason_of;
 use crate::ring_flaw::RingFlaw;
 use crate::shown::Shown;
+use crate::signature_fault::SignatureFault;
 use it_base::text::Text;
 use it_key_commands::{FileFault, KeyFault};
 use it_outcome::RunFault;
@@ -67,9 +68,9 @@ pub enum Fault {
     /// A file is not a public key, for this reason.
     #[error("{path} is not a public key that is taken: it is {flaw}")]
     BadKey { path: Shown, flaw: FileFault },
-    /// A signature that was made elsewhere is not one of the body by the key under this id.
-    #[error("{path} is not a signature of the body by {id}")]
-    BadSignature { path: Shown, id: Shown },
+    /// A signature that was made elsewhere is not one of the body by the key under its id.
+    #[error("{0}")]
+    BadSignature(SignatureFault),
     /// A line of a digest list, counted from 1, is malformed or repeats a path.
     #[error("{path}: line {line} is no line of a digest list, or repeats a path")]
     BadLine { path: Shown, line: u64 },

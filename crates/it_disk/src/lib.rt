@@ -20,6 +20,7 @@ mod listing;
 mod reason;
 mod ring_flaw;
 mod shown;
+mod signature_fault;
 mod tree;
 
 pub use disk::Disk;
@@ -30,4 +31,5 @@ pub use left_out::{LeftOut, TooMany, note_left_out, too_many};
 pub use listing::{Listed, list};
 pub use ring_flaw::{EntryFlaw, RingFlaw};
 pub use shown::Shown;
+pub use signature_fault::SignatureFault;
 pub use tree::Tree;

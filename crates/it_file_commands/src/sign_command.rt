@@ -5,7 +5,7 @@ ghost use Rattle.it_commands.specs.SignOutput.{IsSignOutput};
 ghost use Rattle.it_file_commands.specs.Commands.{SignsAsAsked, SignsAsMade, SignsBy, SignsByRing};
 ghost use Rattle.it_file_commands.specs.Commands.{SignsOnto};
 
-use crate::sign_fault::{made_fault, unknown_key};
+use crate::sign_fault::{GivenSignature, made_fault, unknown_key};
 use crate::sign_onto_command;
 use crate::sign_onto_command::Onto;
 use it_commands::{run_sign, write_sign_notes};
@@ -153,6 +153,13 @@ fn sign_as_made<R: Disk + AllocGlobal, W: Write>(
     };
     match run_sign_made(alloc, &made, &keys, out) {
         Ok(status) => Ok(status),
-        Err(fault) => Err(made_fault(alloc, words, paths, fault)?),
+        Err(fault) => {
+            let given = GivenSignature {
+                paths,
+                made,
+                keys: &keys,
+            };
+            Err(made_fault(alloc, &given, fault)?)
+        }
     }
 }

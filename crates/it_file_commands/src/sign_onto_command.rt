@@ -5,7 +5,7 @@ ghost use Rattle.it_commands.specs.SignOntoOutput.{IsSignOntoOutput};
 ghost use Rattle.it_file_commands.specs.Commands.{SignsOnto, SignsOntoAsMade, SignsOntoByRing};
 
 use crate::sign_command::ReadRing;
-use crate::sign_fault::{made_fault, unknown_key};
+use crate::sign_fault::{GivenSignature, made_fault, unknown_key};
 use it_commands::run_sign_onto;
 use it_disk::{Disk, Fault, Shown, read_keys, read_ring};
 use it_dsse::signing::NewSignature;
@@ -116,7 +116,14 @@ fn sign_as_made<R: Disk + AllocGlobal, W: Write>(
     };
     match run_sign_made_onto(alloc, &made, &keys, envelope.as_slice(), out) {
         Ok(status) => Ok(status),
-        Err(fault) => Err(made_onto_fault(alloc, onto, paths, fault)?),
+        Err(fault) => {
+            let given = GivenSignature {
+                paths,
+                made,
+                keys: &keys,
+            };
+            Err(made_onto_fault(alloc, onto, &given, fault)?)
+        }
     }
 }
 
@@ -124,14 +131,14 @@ fn sign_as_made<R: Disk + AllocGlobal, W: Write>(
 fn made_onto_fault(
     alloc: Global,
     onto: &Onto<'_>,
-    paths: &MadePaths,
+    given: &GivenSignature<'_>,
     fault: KeyFault,
 ) -> Result<Fault, AllocError>
     ensures { fault ≡ KeyFault.Run RunFault.Write → result ≡ Ok (Fault.Run RunFault.Write) }
 {
     match fault {
         KeyFault::Run(fault) => onto_fault(alloc, onto, fault),
-        fault => made_fault(alloc, onto.words, paths, fault),
+        fault => made_fault(alloc, given, fault),
     }
 }
 

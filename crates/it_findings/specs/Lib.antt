@@ -2,7 +2,9 @@ pub mod Closed
 pub mod ExpectationFindings
 pub mod Joined
 pub mod KeyPlaces
+pub mod KeyUses
 pub mod LayoutFindings
+pub mod MeantName
 pub mod MemberNames
 pub mod Members
 pub mod NoThresholds
@@ -11,4 +13,7 @@ pub mod Parameters
 pub mod PolicyFindings
 pub mod Reaching
 pub mod RuleFindings
+pub mod SharedKeys
 pub mod StepKeyFindings
+pub mod UnequalNumbers
+pub mod inside

@@ -3,6 +3,7 @@ ghost use Rattle.std.specs.Prelude.{◌≡◌, IfOk};
 
 use crate::member_finding::MemberFinding;
 use crate::null_key::NullKey;
+use crate::shared_key::SharedKey;
 use it_base::text::Text;
 use it_docs::rule::Side;
 use std::alloc::{AllocError, Global};
@@ -103,10 +104,19 @@ pub enum Finding {
         /// The level.
         level: u8,
     },
+    /// An expectation expects a number that equals none, so that no provenance meets it.
+    UnequalNumber {
+        /// The expectation's place.
+        place: usize,
+        /// The name of the parameter that is the number, or holds it.
+        name: Text,
+    },
     /// The step at this place has no threshold, so that one key is enough for it.
     NoThreshold(usize),
     /// Null stands under a key id, which so counts as missing.
     NullKey(NullKey),
+    /// Two owners, or two builders, have the same key.
+    SharedKey(SharedKey),
     /// Something about a member.
     Member(MemberFinding),
 }

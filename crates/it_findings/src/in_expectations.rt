@@ -5,6 +5,7 @@ ghost use Rattle.it_findings.specs.Joined.{Joined, Said};
 
 use crate::finding::Finding;
 use crate::one::said;
+use crate::unequal_numbers::parameter_findings;
 use it_docs::policy::{Builder, Expectation};
 use std::alloc::{AllocError, Global};
 
@@ -38,8 +39,10 @@ fn expectation_findings(
     let mut found = builder_findings(alloc, place, expectation)?;
     let mut of_level = level_findings(alloc, place, expectation)?;
     let mut of_reach = reach_findings(alloc, place, expectation)?;
+    let mut of_parameters = parameter_findings(alloc, place, &expectation.parameters)?;
     found.append(&mut of_level)?;
     found.append(&mut of_reach)?;
+    found.append(&mut of_parameters)?;
     Ok(found)
 }
 

@@ -6,13 +6,14 @@ ghost use Rattle.it_findings.specs.PolicyFindings.{PolicyFindings};
 use crate::finding::{Finding, RuleList};
 use crate::in_expectations::expectations_findings;
 use crate::in_rules::list_findings;
+use crate::shared_keys::shared_keys;
 use it_docs::layout::Layout;
 use it_docs::policy::Policy;
 use std::alloc::{AllocError, Global};
 
-/// All that is found in a policy: in its rules on what is delivered, and then in each of its
-/// expectations in order. `MATCH` takes from what the `layout` has; where there is none, nothing is
-/// said of where it takes from.
+/// All that is found in a policy: in its keys, in its rules on what is delivered, and then in each
+/// of its expectations in order. `MATCH` takes from what the `layout` has; where there is none,
+/// nothing is said of where it takes from.
 ///
 /// # Errors
 ///
@@ -26,9 +27,11 @@ pub fn policy_findings(
         PolicyFindings (option_copied layout.entry) policy.now found.items) }
 {
     let rules = policy.deliver.as_slice();
-    let mut found = list_findings(alloc, layout, &RuleList::Deliver, rules)?;
     let expectations = policy.expectations.as_slice();
+    let mut found = shared_keys(alloc, policy)?;
+    let mut of_rules = list_findings(alloc, layout, &RuleList::Deliver, rules)?;
     let mut of_expectations = expectations_findings(alloc, expectations)?;
+    found.append(&mut of_rules)?;
     found.append(&mut of_expectations)?;
     Ok(found)
 }

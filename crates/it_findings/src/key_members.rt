@@ -67,7 +67,7 @@ fn each_key(
 }
 
 /// The place under an id of a list.
-fn key_place(alloc: Global, list: KeyList, id: &String) -> Result<KeyPlace, AllocError>
+pub(crate) fn key_place(alloc: Global, list: KeyList, id: &String) -> Result<KeyPlace, AllocError>
     ensures { IfOk result (λ key. key ≡ place_under list (string_bytes id.now)) }
 {
     let id = Text::copy(alloc, id.as_str())?;

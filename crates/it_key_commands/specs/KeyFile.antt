@@ -5,6 +5,7 @@ use Rattle.std.specs.Prelude.{IsFalse, IsUtf8, codes, length, if◌then◌else�
 use Rattle.std.specs.Prelude.{[], nat_eq}
 use Rattle.std.specs.List.{filter, starts_with}
 use Rattle.std.specs.Str.{bytes_eq, trim_end}
+use Rattle.std.specs.Str.Iter.{HasSubslice}
 use Rattle.hex.specs.Hex.{encode_lower}
 use Rattle.it_dsse.specs.declared.key_object.KeyObject.{KeyObject}
 use Rattle.it_ed25519.specs.PublicKey.{IsPublicKey}
@@ -95,13 +96,20 @@ pub record IsNoPem (text : List ℕ) : Type 0 where
   pub no_info : info_in text ≡ None
   pub no_other : HasLabel text public_label ⊎ ((label : List ℕ) → ¬ HasLabel text label)
 
+-- a line of the text after the first begins as the first line of a public key in PEM does
+abbrev pub BeginsLater : List ℕ → Type 0
+BeginsLater text = HasSubslice text (codes "\n-----BEGIN PUBLIC KEY-----")
+
 -- what the text is then: empty; a public key of OpenSSH, which begins with the name of its kind
--- (RFC 4253, section 6.6; RFC 5656, section 3.1); or the beginning of a JSON object
+-- (RFC 4253, section 6.6; RFC 5656, section 3.1); the beginning of a JSON object; the beginning of
+-- a public key in PEM, and after its first line that of another one; or another text before one
 abbrev pub IsOtherFile : List ℕ → OtherFile → Type 0
 IsOtherFile text files.Empty = text ≡ []
 IsOtherFile text files.OpenSsh = IsTrue (starts_with nat_eq text (codes "ssh-"))
     ⊎ IsTrue (starts_with nat_eq text (codes "ecdsa-sha2-"))
 IsOtherFile text files.Json = IsTrue (starts_with nat_eq text (codes "{"))
+IsOtherFile text files.Several = HasLabel text public_label × BeginsLater text
+IsOtherFile text files.TextBefore = ((label : List ℕ) → ¬ HasLabel text label) × BeginsLater text
 IsOtherFile text files.Other = Unit {0}
 
 -- the text has another label

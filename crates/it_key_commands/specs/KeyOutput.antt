@@ -59,6 +59,6 @@ abbrev pub IsKeyOutputFault : List (List ℕ) → Option (List ℕ) → KeyFault
 IsKeyOutputFault files name (Run fault) = IsOutputFault fault
 IsKeyOutputFault files name UnknownId = ⊥
 IsKeyOutputFault files name NoPublicKey = ⊥
-IsKeyOutputFault files name BadSignature = ⊥
+IsKeyOutputFault files name (BadSignature flaw) = ⊥
 IsKeyOutputFault files name NotOneFile = IsNotOne files name
 IsKeyOutputFault files name (BadFile place fault) = IsFirstBadFile files place fault

@@ -5,6 +5,7 @@ pub mod KeyOutput
 pub mod KeysFile
 pub mod SignMadeOntoOutput
 pub mod SignMadeOutput
+pub mod SignatureFlaw
 pub mod SignedByKeysOutput
 pub mod Signers
 pub mod inside

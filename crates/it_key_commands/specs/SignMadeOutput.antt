@@ -9,6 +9,7 @@ use Rattle.it_dsse.specs.declared.envelope.Envelope.{Envelope}
 use Rattle.it_dsse.specs.declared.envelope.Signature.{Signature}
 use Rattle.it_dsse.specs.declared.key_object.KeyObject.{KeyObject}
 use Rattle.it_outcome.specs.Outcome.{IsOutputFault}
+use Rattle.it_key_commands.specs.SignatureFlaw.{IsSignatureFlaw}
 use Rattle.it_key_commands.specs.Signers.{IsKeyless, IsValidFor}
 use Rattle.it_key_commands.specs.declared.fault.KeyFault.{KeyFault}
 use Rattle.it_key_commands.specs.declared.fault.KeyFault.TheVariants.{
@@ -60,7 +61,8 @@ module _ (objects : Named KeyObject) (id kind body signature : List ℕ) where
   IsSignMadeFault (Run fault) = IsOutputFault fault
   IsSignMadeFault UnknownId = get objects id ≡ None
   IsSignMadeFault NoPublicKey = HasObject objects id IsKeyless
-  IsSignMadeFault BadSignature =
-      HasObject objects id (λ object. IsNotValidFor object (pae_of kind body) signature)
+  IsSignMadeFault (BadSignature flaw) =
+      HasObject objects id (λ object. IsNotValidFor object (pae_of kind body) signature
+      × IsSignatureFlaw object (pae_of kind body) body signature flaw)
   IsSignMadeFault NotOneFile = ⊥
   IsSignMadeFault (BadFile place fault) = ⊥

@@ -1,5 +1,4 @@
 pub mod BodyFaults
 pub mod FilesFaults
 pub mod ReadKeys
-pub mod SignatureFaults
 pub mod SignerNames

@@ -19,15 +19,42 @@ pub enum KeyFault {
     /// The key object of the id describes no public key.
     #[error("the key with that id is not a public key that signatures are checked by")]
     NoPublicKey,
-    /// The signature is not valid for the key of the id.
-    #[error("the signature is not one of the body by the key with that id")]
-    BadSignature,
+    /// The signature is not valid for the key of the id, but this.
+    #[error("the signature is not one of the body by the key with that id: {0}")]
+    BadSignature(SignatureFlaw),
     /// A name was given without exactly one file.
     #[error("a name is taken with one file only")]
     NotOneFile,
     /// The file at this place, counted from 0, is not a public key, for this reason.
     #[error("file {0}, counted from 0, is not a public key: it is {1}")]
     BadFile(usize, FileFault),
+}
+
+/// What a signature is that is not valid for its key, as far as trying it shows.
+#[derive(Clone, Copy, Debug, PartialEq, Eq, Error)]
+pub enum SignatureFlaw {
+    /// The base64 text (RFC 4648, section 4) of a valid signature.
+    #[error("it is the base64 text of one (base64 -d writes its bytes)")]
+    Base64,
+    /// The hexadecimal text (RFC 4648, section 8) of a valid signature.
+    #[error("it is the hexadecimal text of one (xxd -r -p writes its bytes)")]
+    Hexadecimal,
+    /// The two numbers of a valid ECDSA signature in 32 bytes each.
+    #[error("it is the two numbers of one in 64 bytes, and not their DER encoding")]
+    TwoNumbers,
+    /// A signature of the body itself.
+    #[error("it is one of the body itself, and not of what itv pae writes of it")]
+    OfBody,
+    /// A signature of the body as of this other type.
+    #[error("it is one of the body as of the type {0}")]
+    OfType(&'static str),
+    /// None of these, where the key is of RSA.
+    #[error("by RSA only RSASSA-PSS with SHA-256 and a salt of 32 bytes is taken, \
+         and neither PKCS #1 v1.5 nor another salt")]
+    OtherRsa,
+    /// None of these, where the key is of another kind.
+    #[error("sign what itv pae writes of it, and give the bytes of the signature alone")]
+    Other,
 }
 
 /// Why a file is not a public key.
@@ -69,6 +96,12 @@ pub enum OtherFile {
     /// A JSON object, as a JWK (RFC 7517) or a file of keys.
     #[error("a JSON object, such as a JWK or a file of keys, and not a public key in PEM")]
     Json,
+    /// Several public keys in PEM: a further one begins after the first line.
+    #[error("more than one public key in PEM (write each into a file of its own)")]
+    Several,
+    /// A text before a public key in PEM.
+    #[error("a public key in PEM after a text (remove all before -----BEGIN PUBLIC KEY-----)")]
+    TextBefore,
     /// Anything else.
     #[error("not the PEM text of a public key (openssl pkey -pubin -pubout makes one of DER)")]
     Other,

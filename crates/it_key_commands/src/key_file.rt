@@ -1,11 +1,12 @@
 //! Public keys in files.
-ghost use Rattle.std.specs.Prelude.{◌≡◌, [], IfOk, MatchResult, None, length};
+ghost use Rattle.std.specs.Prelude.{◌≡◌, ◌↔◌, [], ℕ, List, IfOk, IsTrue, MatchResult, None, length};
 ghost use Rattle.std.specs.Str.{trim_end};
 ghost use Rattle.hex.specs.Hex.{decode_sized, encode_lower};
-ghost use Rattle.it_key_commands.specs.KeyFile.{IsLinesFault, IsOtherFile, key_object};
-ghost use Rattle.it_key_commands.specs.KeyFile.{other_text, without_returns};
+ghost use Rattle.it_key_commands.specs.KeyFile.{BeginsLater, IsLinesFault, IsOtherFile, key_object};
+ghost use Rattle.it_key_commands.specs.KeyFile.{other_text, public_label, without_returns};
 ghost use Rattle.it_key_commands.specs.Signers.{Describes};
 ghost use Rattle.it_key_commands.specs.inside.ReadKeys.{IsOfItsText, IsReadKey, IsTextFault};
+ghost use Rattle.it_pem.specs.Label.{HasLabel};
 ghost use Rattle.it_pem.specs.PublicKeyText.{info_in};
 ghost use Rattle.it_public_keys.specs.declared.key.Key.TheVariants.{Ed25519};
 
@@ -60,14 +61,27 @@ fn text_fault(text: &str) -> FileFault
     ensures { IsTextFault text.now result }
 {
     match label_of(text) {
-        Some("PUBLIC KEY") => FileFault::NotPem(OtherFile::Other),
+        Some("PUBLIC KEY") => FileFault::NotPem(labelled_file(text)),
         Some(label) => FileFault::Other(other_text(label)),
         None => FileFault::NotPem(other_file(text)),
     }
 }
 
+/// What a text is that begins as a public key does.
+fn labelled_file(text: &str) -> OtherFile
+    requires { HasLabel text.now public_label }
+    ensures { IsOtherFile text.now result }
+{
+    if begins_later(text) {
+        OtherFile::Several
+    } else {
+        OtherFile::Other
+    }
+}
+
 /// What a text without a label is.
 fn other_file(text: &str) -> OtherFile
+    requires { (label : List ℕ) → ¬ HasLabel text.now label }
     ensures { IsOtherFile text.now result }
 {
     if text.is_empty() {
@@ -80,7 +94,17 @@ fn other_file(text: &str) -> OtherFile
     if bytes.starts_with(b"{") {
         return OtherFile::Json;
     }
+    if begins_later(text) {
+        return OtherFile::TextBefore;
+    }
     OtherFile::Other
+}
+
+/// Whether a line after the first begins as a public key does (RFC 7468, section 13).
+fn begins_later(text: &str) -> bool
+    ensures { IsTrue result ↔ BeginsLater text.now }
+{
+    text.contains("\n-----BEGIN PUBLIC KEY-----")
 }
 
 /// What a PEM text is, by its label.

@@ -11,13 +11,17 @@ mod keys_file;
 mod made_signature;
 mod sign_made_onto_output;
 mod sign_made_output;
+mod signature_flaw;
 mod signed_by_keys_output;
+mod signed_by_other;
 mod signer;
+mod two_numbers;
 
 pub use canonical_id::key_id;
-pub use fault::{FileFault, KeyFault, OtherText};
+pub use fault::{FileFault, KeyFault, OtherText, SignatureFlaw};
 pub use key_output::run_key;
 pub use made_signature::MadeSignature;
 pub use sign_made_onto_output::run_sign_made_onto;
 pub use sign_made_output::run_sign_made;
 pub use signed_by_keys_output::run_signed_by_keys;
+pub use signed_by_other::other_signer;

@@ -4,7 +4,8 @@ ghost use Rattle.it_key_commands.specs.SignMadeOutput.{IsMadeUnder, IsSignMadeFa
 ghost use Rattle.it_key_commands.specs.SignMadeOutput.{made_signature};
 
 use crate::fault::KeyFault;
-use crate::signer::check_signature;
+use crate::signature_flaw::signature_flaw;
+use crate::signer::is_signature;
 use it_base::sequence::Sequence;
 use it_base::table::Table;
 use it_base::text::Text;
@@ -40,7 +41,11 @@ impl MadeSignature<'_> {
             return Err(KeyFault::UnknownId);
         };
         let message = pae(alloc, self.kind, self.body)?;
-        check_signature(object, message.as_slice(), self.signature)
+        if is_signature(object, message.as_slice(), self.signature)? {
+            return Ok(());
+        }
+        let flaw = signature_flaw(alloc, object, self, message.as_slice())?;
+        Err(KeyFault::BadSignature(flaw))
     }
 
     /// The signature as an envelope holds it.

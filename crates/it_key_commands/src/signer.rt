@@ -1,7 +1,7 @@
 //! Which keys signed a message, by the objects that describe them.
-ghost use Rattle.std.specs.Prelude.{◌↔◌, IfErr, IsTrue, OnOk};
-ghost use Rattle.it_key_commands.specs.Signers.{IsValidFor, SignedUnder};
-ghost use Rattle.it_key_commands.specs.inside.SignatureFaults.{IsSignatureFault};
+ghost use Rattle.std.specs.Prelude.{◌≡◌, ◌↔◌, IfErr, IfOk, IsFalse, IsTrue};
+ghost use Rattle.it_key_commands.specs.SignMadeOutput.{IsNotValidFor};
+ghost use Rattle.it_key_commands.specs.Signers.{IsKeyless, IsValidFor, SignedUnder};
 
 use crate::fault::KeyFault;
 use it_dsse::envelope::Signature;
@@ -27,26 +27,35 @@ pub(crate) fn is_signed_under(
     key.any_valid(&[message], signatures, id, &mut meter)
 }
 
-/// Checks that a signature of the message is valid for the key that an object describes.
+/// Whether a signature of the message is valid for the key that an object describes.
 ///
 /// # Errors
 ///
-/// `NoPublicKey` where the object describes no key, and `BadSignature` where the signature is not
-/// valid for the key that it describes.
-pub(crate) fn check_signature(
+/// `NoPublicKey` where the object describes no key.
+pub(crate) fn is_signature(
     object: &KeyObject,
     message: &[u8],
     signature: &[u8],
-) -> Result<(), KeyFault>
-    ensures ok { OnOk result (IsValidFor object.now message.now signature.now) }
-    ensures err { IfErr result (IsSignatureFault object.now message.now signature.now) }
+) -> Result<bool, KeyFault>
+    ensures valid { IfOk result
+        (λ valid. IsTrue valid → IsValidFor object.now message.now signature.now) }
+    ensures bad { IfOk result
+        (λ valid. IsFalse valid → IsNotValidFor object.now message.now signature.now) }
+    ensures err { IfErr result
+        (λ fault. (fault ≡ KeyFault.NoPublicKey) × IsKeyless object.now) }
 {
-    let Some(key) = key_of(object) else {
-        return Err(KeyFault::NoPublicKey);
-    };
-    if key.is_signature(&[message], signature) {
-        Ok(())
-    } else {
-        Err(KeyFault::BadSignature)
+    match key_of(object) {
+        Some(key) => Ok(key.is_signature(&[message], signature)),
+        None => Err(KeyFault::NoPublicKey),
+    }
+}
+
+/// Whether an object describes a key for which a signature of the message is valid.
+pub(crate) fn is_valid_for(object: &KeyObject, message: &[u8], signature: &[u8]) -> bool
+    ensures { IsTrue result → IsValidFor object.now message.now signature.now }
+{
+    match is_signature(object, message, signature) {
+        Ok(valid) => valid,
+        Err(_) => false,
     }
 }

@@ -1,3 +1,4 @@
 pub mod Answer
 pub mod Handed
+pub mod Version
 pub mod inside

@@ -4,8 +4,9 @@
 //! file, clock, environment or network is reached.
 #![tactic(auto)]
 
-ghost use Rattle.std.specs.Prelude.{◌≤◌};
+ghost use Rattle.std.specs.Prelude.{◌≡◌, ◌≤◌, length};
 ghost use Rattle.it_library.specs.Answer.{Answers, IsShown};
+ghost use Rattle.it_library.specs.Version.{version_text};
 
 mod handed;
 mod run;
@@ -66,7 +67,10 @@ pub extern "C" fn itv_run(
 /// The program with its version, as in `itv 1.1.0`: writes it to `output` as far as that has room,
 /// and returns how many bytes it has.
 #[unsafe(no_mangle)]
-pub extern "C" fn itv_version(output: &mut [u8]) -> usize {
+pub extern "C" fn itv_version(output: &mut [u8]) -> usize
+    ensures shown { IsShown version_text output.old output.new }
+    ensures told { result ≡ length version_text }
+{
     fill(output, VERSION.as_bytes());
     VERSION.len()
 }

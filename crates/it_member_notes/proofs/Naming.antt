@@ -1,28 +1,18 @@
 -- Names in tables, and members of objects.
-use Rattle.std.proofs.Common.{◌≡◌, ℕ, zero, suc, ◌<◌, List, [], ◌∷◌, ◌++◌, length, get_or, map}
-use Rattle.std.proofs.Common.{Option, Some, Any, Contains, Bor, IfSome, Ordering, Less, Equal}
-use Rattle.std.proofs.Common.{Greater, nat_cmp, is_some, true, string_bytes, refl, sym, ap}
-use Rattle.std.proofs.Common.{arith}
+use Rattle.std.proofs.Common.{◌≡◌, ℕ, zero, suc, List, [], ◌∷◌, ◌++◌, map}
+use Rattle.std.proofs.Common.{Option, Some, Any, Contains, Bor, option_map, Ordering, Less, Equal}
+use Rattle.std.proofs.Common.{Greater, nat_cmp, is_some, true, string_bytes, refl, ap, arith}
 use Rattle.std.specs.Cmp.Lexicographic.{slice_cmp}
 use Rattle.std.specs.Ordering.{match_ordering}
 use Rattle.serde_json.specs.Data.{Data, object}
 use Rattle.serde_json.specs.Find.{get_member}
 use Rattle.serde_json.specs.View.{view, members_view}
 use Rattle.serde_json.proofs.Views.{Entry, member_here}
+use Rattle.it_findings.specs.MeantName.{meant_name}
 use Rattle.it_findings.specs.MemberNames.{known_names, read_names}
 use Rattle.it_member_notes.specs.UnreadMembers.{HasUnread}
 use Rattle.it_findings.specs.declared.place.Place.{Place}
 use Rattle.it_member_notes.specs.declared.unread_member.UnreadMember.{UnreadMember}
-
--- a name that is read of a table stands in it
-pub name_of_table : (names : List (Bor (List ℕ))) (i : ℕ) (name : Bor (List ℕ)) → i < length names
-    → name ≡ get_or names i name → Contains (map (λ n. n.now) names) name.now
-name_of_table (n ∷ names) zero name below here =
-    (zero, omega arith, ap (λ (m : Bor (List ℕ)). m.now) (sym here))
-name_of_table (n ∷ names) (suc i) name below here =
-    let rest = name_of_table names i name (omega (arith, below)) here in
-    (suc rest.0, omega (arith, rest.1), rest.2)
-name_of_table [] i name below here = absurd (omega (arith, below))
 
 -- a name that stands in a table is one of its texts
 pub any_named : (names : List (Bor (List ℕ))) (name : List ℕ)
@@ -53,14 +43,14 @@ pub unread_note : (entries before after : List Entry) (e : Entry) (place : Place
     → note.name ≡ string_bytes e.0
     → ¬ Contains (read_names place) (string_bytes e.0)
     → ¬ Contains (known_names place) (string_bytes e.0)
-    → IfSome note.close (λ near. Contains (read_names place) near.now)
+    → option_map (λ near. near.now) note.close ≡ meant_name place (string_bytes e.0)
     → HasUnread (object (members_view entries)) note × (note.place ≡ place)
 unread_note entries before after e place note all at named no_read no_known close = (
   record {
     has = rw (named, all) (member_among before e after);
     not_read = rw (at, named) no_read;
     not_known = rw (at, named) no_known;
-    close = rw at close;
+    close = rw (at, named) close;
   },
   at,
 )

@@ -1,19 +1,20 @@
 -- What a note on a member that is not looked at says (a word of this project).
-use Rattle.std.specs.Prelude.{◌≡◌, ℕ, List, Some, IsSome, IfSome, Contains}
+use Rattle.std.specs.Prelude.{◌≡◌, ℕ, List, Some, IsSome, Contains, option_map}
 use Rattle.serde_json.specs.Data.{Data}
 use Rattle.serde_json.specs.Find.{get}
 use Rattle.it_base.specs.Document.{OfDocument}
+use Rattle.it_findings.specs.MeantName.{meant_name}
 use Rattle.it_findings.specs.MemberNames.{known_names, read_names}
 use Rattle.it_member_notes.specs.Places.{IsOfLayout, IsOfPolicy, object_at}
 use Rattle.it_member_notes.specs.declared.unread_member.UnreadMember.{UnreadMember}
 
--- the object has a member of this name, which has no meaning at this place; the close name, if
--- there is one, is looked at there
+-- the object has a member of this name, which has no meaning at this place; the close name is that
+-- of the member that may be meant there, if there is one
 pub record HasUnread (object : Data) (note : UnreadMember) : Type 0 where
   pub has : IsSome (get note.name object)
   pub not_read : ¬ Contains (read_names note.place) note.name
   pub not_known : ¬ Contains (known_names note.place) note.name
-  pub close : IfSome note.close (λ near. Contains (read_names note.place) near.now)
+  pub close : option_map (λ near. near.now) note.close ≡ meant_name note.place note.name
 
 -- at the note's place in a document is an object of which the note is true
 pub record IsUnread (d : Data) (note : UnreadMember) : Type 0 where

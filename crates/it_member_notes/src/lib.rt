@@ -2,7 +2,6 @@
 //! what its author meant. Every note is true.
 #![tactic(auto)]
 
-mod close_name;
 mod key_member_line;
 pub mod key_member_note;
 mod key_notes;

@@ -1,15 +1,16 @@
 //! The notes on members that are not looked at.
-ghost use Rattle.std.specs.Prelude.{◌≡◌, All, Any, Contains, IfOk, IfSome, IsTrue};
+ghost use Rattle.std.specs.Prelude.{◌≡◌, All, Any, Contains, IfOk, IsTrue, option_map};
 ghost use Rattle.serde_json.specs.Data.{object};
 ghost use Rattle.serde_json.specs.View.{members_view, view};
+ghost use Rattle.it_findings.specs.MeantName.{meant_name as meant_at};
 ghost use Rattle.it_findings.specs.MemberNames.{known_names as known_at};
 ghost use Rattle.it_findings.specs.MemberNames.{read_names as read_at};
 ghost use Rattle.it_member_notes.specs.UnreadMembers.{HasUnread, IsUnread};
 
-use crate::close_name::close_name;
 use crate::object_at::object_at;
 use crate::unread_member::UnreadMember;
 use it_base::text::Text;
+use it_findings::meant_name;
 use it_findings::member_names::{known_names, read_names};
 use it_findings::place::Place;
 use serde_json::{Map, Value};
@@ -78,12 +79,12 @@ fn unread_member(alloc: Global, place: &Place, name: &str) -> Result<UnreadMembe
     ensures place { IfOk result (λ note. note.place ≡ place.now) }
     ensures name { IfOk result (λ note. note.name ≡ name.now) }
     ensures close { IfOk result (λ note.
-        IfSome note.close (λ near. Contains (read_at place.now) near.now)) }
+        option_map (λ near. near.now) note.close ≡ meant_at place.now name.now) }
 {
     Ok(UnreadMember {
         place: place.copy(alloc)?,
         name: Text::copy(alloc, name)?,
-        close: close_name(read_names(place), name),
+        close: meant_name(alloc, place, name)?,
     })
 }
 

@@ -10,6 +10,7 @@ pub struct UnreadMember {
     pub place: Place,
     /// The name of the member.
     pub name: Text,
-    /// A name that is looked at there and is close to the member's: only a hint.
+    /// The name of the member that may be meant: one that is looked at there, and close to the
+    /// member's.
     pub close: Option<&'static str>,
 }

@@ -3,6 +3,7 @@ pub mod FoundInDocuments
 pub mod FullOutput
 pub mod KeyNotes
 pub mod Known
+pub mod LayoutEnvelope
 pub mod Level
 pub mod Notes
 pub mod PlaceNotes

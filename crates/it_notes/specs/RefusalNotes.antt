@@ -1,6 +1,7 @@
 -- What the notes on a refusal say (words of this project). Each is about the fault that is
 -- reported, and what the verification was given.
-use Rattle.std.specs.Prelude.{◌≡◌, ◌⊎◌, ℕ, List, Option, Some, All, Contains, IfSome}
+use Rattle.std.specs.Prelude.{◌≡◌, ◌≢◌, ◌⊎◌, ℕ, List, [], Option, Some, All, Contains, IfSome}
+use Rattle.std.specs.Bool.{OnTrue}
 use Rattle.std.specs.FinMap.{get}
 use Rattle.it_digest.specs.Artifacts.{ArtifactMap}
 use Rattle.it_digest.specs.Sums.{SumsOf}
@@ -10,14 +11,17 @@ use Rattle.it_chain.specs.declared.chain.StepResult.{StepResult}
 use Rattle.it_dsse.specs.Envelope.{EnvelopeOf}
 use Rattle.it_dsse.specs.Panel.{Panel}
 use Rattle.it_dsse.specs.declared.envelope.Envelope.{Envelope}
+use Rattle.it_docs.specs.PayloadType.{in_toto_type}
 use Rattle.it_docs.specs.Policy.{PolicyOf}
 use Rattle.it_docs.specs.declared.layout_fault.LayoutPart.{LayoutPart}
 use Rattle.it_docs.specs.declared.policy.Expectation.{Expectation}
 use Rattle.it_docs.specs.declared.policy.Policy.{Policy}
 use Rattle.it_docs.specs.declared.policy_fault.PolicyPart.{PolicyPart}
 use Rattle.it_docs.specs.declared.step.Step.{Step}
-use Rattle.it_part_notes.specs.PartNotes.{TellsLayoutPart, TellsPolicyPart}
-use Rattle.it_part_notes.specs.SumLine.{TellsSumLine}
+use Rattle.it_part_notes.specs.PartNotes.{TellsEnvelope, TellsLayoutPart, TellsPolicyPart}
+use Rattle.it_part_notes.specs.Moments.{TellsMoment}
+use Rattle.it_part_notes.specs.SumLine.{FirstLineReturns, TellsSumLine}
+use Rattle.it_part_notes.specs.declared.moment_note.MomentNote.{MomentNote}
 use Rattle.it_part_notes.specs.declared.part_note.PartNote.{PartNote}
 use Rattle.it_part_notes.specs.declared.sum_line_note.SumLineNote.{SumLineNote}
 use Rattle.it_prov.specs.Fits.{Fits}
@@ -48,6 +52,8 @@ use Rattle.it_notes.specs.FileDetails.{TellsDetail}
 use Rattle.it_notes.specs.Level.{IsLevel, Place}
 use Rattle.it_notes.specs.declared.fault_level.FaultLevel.{FaultLevel}
 use Rattle.it_notes.specs.declared.file_detail.DetailedNote.{DetailedNote}
+use Rattle.it_notes.specs.declared.layout_envelope.EnvelopeNote.{EnvelopeNote}
+use Rattle.it_notes.specs.declared.layout_envelope.EnvelopeNote.TheVariants as envelopes
 use Rattle.it_notes.specs.declared.notes.RefusalNotes.{RefusalNotes}
 use Rattle.it_notes.specs.declared.notes.RefusalNotes.TheVariants as notes
 use Rattle.it_notes.specs.declared.notes.RuleNotes.{RuleNotes}
@@ -124,6 +130,7 @@ module _ (panel : Panel) (inputs : Inputs) (level : FaultLevel) (fault : Fault) 
     pub rule : TellsRule level.signed.layout policy.deliver notes.rule
     pub met : IfSome notes.met (TellsMetAt panel inputs.depth level notes.rule.place)
     pub delivery : IfSome notes.delivery (TellsDeliveryAt panel inputs level notes.rule.place)
+    pub returns : OnTrue notes.returns (FirstLineReturns inputs.sums)
 
   -- the notes are true of the layout, and about the fault
   abbrev pub TellsAt : RefusalNotes → Type 0
@@ -150,6 +157,24 @@ module _ (panel : Panel) (inputs : Inputs) (fault : Fault) where
     pub fault_is : fault ≡ faults.BadLayout part
     pub is_envelope : EnvelopeOf inputs.layout envelope
     pub is_true : TellsLayoutPart envelope.payload part note
+
+  -- under which other type than in-toto's the layout is signed
+  pub record TellsType (found : List ℕ) : Type 0 where
+    pub envelope : Envelope
+    pub fault_is : fault ≡ faults.WrongPayloadType
+    pub is_envelope : EnvelopeOf inputs.layout envelope
+    pub type_is : found ≡ envelope.payload_type
+    pub is_other : found ≢ in_toto_type
+
+  -- what is wrong with what was given as the envelope of the layout
+  abbrev pub TellsNoEnvelope : EnvelopeNote → Type 0
+  TellsNoEnvelope (envelopes.NoEnvelope note) =
+      (fault ≡ faults.BadEnvelope) × TellsEnvelope inputs.layout note
+  TellsNoEnvelope (envelopes.OtherType found) = TellsType found
+
+  -- what is wrong with the moment
+  abbrev pub TellsBadMoment : MomentNote → Type 0
+  TellsBadMoment note = (fault ≡ faults.BadMoment) × TellsMoment inputs.moment note
 
   -- what is wrong with the line of the digest list
   pub record TellsBadLine (note : SumLineNote) : Type 0 where
@@ -190,7 +215,10 @@ module _ (panel : Panel) (inputs : Inputs) (fault : Fault) where
   abbrev pub TellsInputs : RefusalNotes → Type 0
   TellsInputs notes.Nothing = Unit {0}
   TellsInputs (notes.Part told) = TellsBadPolicy told ⊎ TellsBadLayout told
+  TellsInputs (notes.Envelope told) = TellsNoEnvelope told
   TellsInputs (notes.Line told) = TellsBadLine told
+  TellsInputs (notes.Moment told) = TellsBadMoment told
+  TellsInputs notes.NoLine = (fault ≡ faults.NoFiles) × (inputs.sums ≡ [])
   TellsInputs (notes.Owners told) = TellsOwners told.items
   TellsInputs (notes.Provenance told) = TellsMissing told.items
   TellsInputs notes.LaidOut = TellsLaidOut

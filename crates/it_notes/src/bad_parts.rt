@@ -1,16 +1,20 @@
 //! What is wrong with a document that does not read.
 ghost use Rattle.std.specs.Prelude.{IfOk};
 ghost use Rattle.it_dsse.specs.Panel.{Panel};
-ghost use Rattle.it_report.specs.declared.refusal.Fault.TheVariants.{BadLayout, BadPolicy, BadSums};
+ghost use Rattle.it_report.specs.declared.refusal.Fault.TheVariants.{BadLayout, BadMoment};
+ghost use Rattle.it_report.specs.declared.refusal.Fault.TheVariants.{BadPolicy, BadSums, NoFiles};
 ghost use Rattle.it_notes.specs.RefusalNotes.{TellsInputs};
 
+use crate::lines::Line;
 use crate::notes::RefusalNotes;
 use it_chain::envelope_in;
 use it_docs::layout_fault::LayoutPart;
 use it_docs::policy_fault::PolicyPart;
 use it_part_notes::layout_part_note::layout_part_note;
+use it_part_notes::moment_note::{MomentNote, moment_note};
+use it_part_notes::part_note::PartNote;
 use it_part_notes::policy_part_note::policy_part_note;
-use it_part_notes::sum_line_note::sum_line_note;
+use it_part_notes::sum_line_note::{SumLineNote, sum_line_note};
 use it_verify::inputs::Inputs;
 use std::alloc::{AllocError, Global};
 
@@ -44,6 +48,28 @@ pub(crate) fn line_told(
     }
 }
 
+/// What is wrong with the moment.
+pub(crate) fn moment_told(alloc: Global, inputs: &Inputs) -> Result<RefusalNotes, AllocError>
+    ensures { IfOk result
+        (λ told. (panel : Panel) → TellsInputs panel inputs.now BadMoment told) }
+{
+    match moment_note(alloc, inputs.moment.as_str())? {
+        Some(note) => Ok(RefusalNotes::Moment(note)),
+        None => Ok(RefusalNotes::Nothing),
+    }
+}
+
+/// That the digest list is empty.
+pub(crate) fn no_line_told(inputs: &Inputs) -> RefusalNotes
+    ensures { (panel : Panel) → TellsInputs panel inputs.now NoFiles result }
+{
+    if inputs.sums.as_slice().is_empty() {
+        RefusalNotes::NoLine
+    } else {
+        RefusalNotes::Nothing
+    }
+}
+
 /// What is wrong with the layout in its first part that fails.
 pub(crate) fn layout_told(
     alloc: Global,
@@ -59,5 +85,44 @@ pub(crate) fn layout_told(
     match layout_part_note(alloc, envelope.payload.as_slice(), part)? {
         Some(note) => Ok(RefusalNotes::Part(note)),
         None => Ok(RefusalNotes::Nothing),
+    }
+}
+
+impl Line for PartNote {
+    fn push_line(&self, text: &mut Vec<u8>) -> Result<(), AllocError> {
+        PartNote::push_line(self, text)
+    }
+}
+
+impl Line for SumLineNote {
+    fn push_line(&self, text: &mut Vec<u8>) -> Result<(), AllocError> {
+        SumLineNote::push_line(self, text)
+    }
+}
+
+impl Line for MomentNote {
+    fn push_line(&self, text: &mut Vec<u8>) -> Result<(), AllocError> {
+        MomentNote::push_line(self, text)
+    }
+}
+
+/// That the digest list is empty.
+#[derive(Drop)]
+pub(crate) struct NoLine;
+
+impl Line for NoLine {
+    fn push_line(&self, text: &mut Vec<u8>) -> Result<(), AllocError> {
+        text.extend_from_slice(b"digest list: it is empty\n")
+    }
+}
+
+/// That the first line of the digest list ends with a carriage return.
+#[derive(Drop)]
+pub(crate) struct ReturnedLine;
+
+impl Line for ReturnedLine {
+    fn push_line(&self, text: &mut Vec<u8>) -> Result<(), AllocError> {
+        text.extend_from_slice(b"digest list: line 1 ends with a carriage return, ")?;
+        text.extend_from_slice(b"which belongs to its path\n")
     }
 }

@@ -13,6 +13,7 @@ mod full_output;
 mod key_notes;
 pub mod known;
 mod laid_out;
+pub mod layout_envelope;
 pub mod layout_notes;
 mod level_notes;
 mod lines;

@@ -9,6 +9,7 @@ ghost use Rattle.it_notes.specs.Notes.{AreTrue, TellsLayout, TellsVerdict, Tells
 use crate::file_detail::DetailedNote;
 use crate::key_notes::key_notes;
 use crate::known::Told;
+use crate::layout_envelope::EnvelopeNote;
 use crate::layout_notes::LayoutNotes;
 use crate::place_notes::{PlaceNotes, place_notes};
 use crate::refusal_notes::refusal_notes;
@@ -16,6 +17,7 @@ use it_dsse::checks::Checks;
 use it_key_notes::unknown_key::UnknownKey;
 use it_member_notes::member_notes::MemberNotes;
 use it_member_notes::policy_notes;
+use it_part_notes::moment_note::MomentNote;
 use it_part_notes::part_note::PartNote;
 use it_part_notes::sum_line_note::SumLineNote;
 use it_prov_notes::note::ProvenanceNote;
@@ -54,8 +56,14 @@ pub enum RefusalNotes {
     Nothing,
     /// On the part of the policy or the layout that fails.
     Part(PartNote),
+    /// On what was given as the envelope of the layout.
+    Envelope(EnvelopeNote),
     /// On the line of the digest list that is bad.
     Line(SumLineNote),
+    /// On the moment that is none.
+    Moment(MomentNote),
+    /// The digest list is empty.
+    NoLine,
     /// On the step for which too few keys signed, and on its files.
     Step(Vec<DetailedNote>),
     /// On the owners of the policy.
@@ -83,6 +91,9 @@ pub struct RuleNotes {
     pub met: Option<MetNote>,
     /// What a rule on what is delivered met, and why.
     pub delivery: Option<JudgedNote>,
+    /// Whether the first line of the digest list ends with a carriage return; said only of a rule
+    /// on what is delivered.
+    pub returns: bool,
 }
 
 impl Notes {

@@ -3,8 +3,9 @@ ghost use Rattle.std.specs.Prelude.{IfOk, IfSome};
 ghost use Rattle.it_notes.specs.Known.{IsKnown};
 ghost use Rattle.it_notes.specs.RefusalNotes.{Tells, TellsInputs};
 
-use crate::bad_parts::{layout_told, line_told, policy_told};
+use crate::bad_parts::{layout_told, line_told, moment_told, no_line_told, policy_told};
 use crate::known::Known;
+use crate::layout_envelope::{envelope_told, type_told};
 use crate::level_notes::level_told;
 use crate::notes::RefusalNotes;
 use crate::owners::owners_told;
@@ -59,6 +60,10 @@ fn input_notes<C: Checks>(
     match fault {
         Fault::BadPolicy(part) => policy_told(alloc, inputs, *part),
         Fault::BadSums(line) => line_told(alloc, inputs, *line),
+        Fault::BadMoment => moment_told(alloc, inputs),
+        Fault::NoFiles => Ok(no_line_told(inputs)),
+        Fault::BadEnvelope => envelope_told(alloc, inputs),
+        Fault::WrongPayloadType => type_told(alloc, inputs),
         Fault::BadLayout(part) => layout_told(alloc, inputs, part),
         Fault::OwnerMissing(_) => owners_told(alloc, inputs, checks),
         _ => Ok(RefusalNotes::Nothing),

@@ -1,5 +1,7 @@
 //! Which artifact rule failed, and what it met.
 ghost use Rattle.std.specs.Prelude.{IfOk, IfSome, List, ℕ};
+ghost use Rattle.std.specs.Bool.{OnTrue};
+ghost use Rattle.it_part_notes.specs.SumLine.{FirstLineReturns};
 ghost use Rattle.it_report.specs.declared.refusal.Fault.TheVariants.{RuleFailed};
 ghost use Rattle.it_notes.specs.Known.{IsKnown};
 ghost use Rattle.it_notes.specs.Level.{StepsStand};
@@ -12,10 +14,12 @@ use crate::notes::{RefusalNotes, RuleNotes};
 use it_chain::refusal::RuleItem;
 use it_docs::rule::Side;
 use it_dsse::checks::Checks;
+use it_part_notes::sum_lines::first_line_returns;
 use it_rule_notes::level::Level;
 use it_rule_notes::met_note::{MetNote, met_note, met_note_over};
 use it_rule_notes::rule_note::rule_note;
 use it_rule_notes::rule_place::{RuleBook, RulePlace};
+use it_verify::inputs::Inputs;
 use std::alloc::{AllocError, Global};
 
 /// The place of the rule that failed.
@@ -50,6 +54,7 @@ pub(crate) fn rule_told<C: Checks>(
         layout: &level.signed.layout,
         deliver: known.policy.deliver.as_slice(),
     };
+    let returns = list_returns(known.inputs, rule.item);
     let Some(rule) = rule_note(alloc, &book, rule.item, rule.side, rule.index)? else {
         return Ok(RefusalNotes::Nothing);
     };
@@ -59,7 +64,19 @@ pub(crate) fn rule_told<C: Checks>(
         rule,
         met,
         delivery,
+        returns,
     }))
+}
+
+/// Whether the first line of the digest list ends with a carriage return, where it is a rule on
+/// what is delivered that failed.
+fn list_returns(inputs: &Inputs, item: &RuleItem) -> bool
+    ensures { OnTrue result (FirstLineReturns inputs.now.sums) }
+{
+    match item {
+        RuleItem::Deliver => first_line_returns(inputs.sums.as_slice()),
+        RuleItem::Step(_) | RuleItem::Inspection(_) => false,
+    }
 }
 
 /// What the rule at a place of a layout met.

@@ -1,4 +1,5 @@
 //! The notes as lines for people.
+use crate::bad_parts::{NoLine, ReturnedLine};
 use crate::file_detail::{DetailedNote, FileDetail};
 use crate::laid_out::LaidOut;
 use crate::layout_notes::LayoutNotes;
@@ -11,8 +12,6 @@ use it_member_notes::layout_note::LayoutNote;
 use it_member_notes::member_notes::MemberNotes;
 use it_member_notes::rule_list_note::RuleListNote;
 use it_member_notes::unread_member::UnreadMember;
-use it_part_notes::part_note::PartNote;
-use it_part_notes::sum_line_note::SumLineNote;
 use it_prov_notes::note::ProvenanceNote;
 use it_rule_notes::cause::CauseNote;
 use it_rule_notes::disagree_note::DisagreeNote;
@@ -53,7 +52,10 @@ impl RefusalNotes {
         match self {
             RefusalNotes::Nothing => Ok(()),
             RefusalNotes::Part(note) => lines.add(note),
+            RefusalNotes::Envelope(note) => lines.add(note),
             RefusalNotes::Line(note) => lines.add(note),
+            RefusalNotes::Moment(note) => lines.add(note),
+            RefusalNotes::NoLine => lines.add(&NoLine),
             RefusalNotes::Step(notes) => add_step(lines, notes.as_slice()),
             RefusalNotes::Owners(notes) => lines.add_all(notes.as_slice()),
             RefusalNotes::Expiry(note) => lines.add(note),
@@ -99,6 +101,9 @@ impl RuleNotes {
             lines.add(&note.met)?;
             lines.add_all(note.causes.as_slice())?;
         }
+        if self.returns {
+            lines.add(&ReturnedLine)?;
+        }
         Ok(())
     }
 }
@@ -115,18 +120,6 @@ impl LayoutNotes {
 fn add_members(lines: &mut Lines, notes: &MemberNotes) -> Result<(), AllocError> {
     lines.add_all(notes.unread.as_slice())?;
     lines.add_all(notes.keys.as_slice())
-}
-
-impl Line for PartNote {
-    fn push_line(&self, text: &mut Vec<u8>) -> Result<(), AllocError> {
-        PartNote::push_line(self, text)
-    }
-}
-
-impl Line for SumLineNote {
-    fn push_line(&self, text: &mut Vec<u8>) -> Result<(), AllocError> {
-        SumLineNote::push_line(self, text)
-    }
 }
 
 impl Line for SublayoutNote {

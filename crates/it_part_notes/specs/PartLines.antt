@@ -4,6 +4,11 @@ use Rattle.std.specs.Prelude.{ℕ, List, [], ◌∷◌, ◌++◌, Option, Some, 
 use Rattle.std.specs.List.{flat_map}
 use Rattle.it_report.specs.Name.{cut_form}
 use Rattle.it_part_notes.specs.Members.{Looked, shown}
+use Rattle.it_part_notes.specs.declared.flaw.Flaw.{Flaw}
+use Rattle.it_part_notes.specs.declared.flaw.Flaw.TheVariants as flaws
+use Rattle.it_part_notes.specs.declared.flaw.Spot.{Spot}
+use Rattle.it_part_notes.specs.declared.instead.Instead.{Instead}
+use Rattle.it_part_notes.specs.declared.instead.Instead.TheVariants as insteads
 use Rattle.it_part_notes.specs.declared.member.Kind.{Kind}
 use Rattle.it_part_notes.specs.declared.member.Kind.TheVariants as kinds
 use Rattle.it_part_notes.specs.declared.part_note.BadRule.{BadRule}
@@ -14,6 +19,8 @@ use Rattle.it_part_notes.specs.declared.part_note.PartPlace.{PartPlace}
 use Rattle.it_part_notes.specs.declared.part_note.PartPlace.TheVariants as places
 use Rattle.it_part_notes.specs.declared.part_note.Problem.{Problem}
 use Rattle.it_part_notes.specs.declared.part_note.Problem.TheVariants as problems
+use Rattle.it_part_notes.specs.declared.shape.Shape.{Shape}
+use Rattle.it_part_notes.specs.declared.shape.Shape.TheVariants as shapes
 
 abbrev pub document_form : PartPlace → List ℕ
 document_form places.Policy = codes "policy: "
@@ -47,7 +54,7 @@ object_form places.Link = codes "its payload"
 abbrev pub unfit_form : Kind → List ℕ
 unfit_form kinds.Text = codes " is not a text"
 unfit_form kinds.Word = codes " is not the text layout"
-unfit_form kinds.Moment = codes " is not a moment"
+unfit_form kinds.Moment = codes " is not a moment such as 2030-01-01T00:00:00Z"
 unfit_form kinds.Threshold = codes " is not a whole number of at least 1"
 unfit_form kinds.Level = codes " is not a whole number from 0 to 3"
 unfit_form kinds.Texts = codes " is not a list of texts"
@@ -85,8 +92,44 @@ fault_form place looked faults.Missing = member_form place looked.name ++ codes 
 fault_form place looked faults.Unfit = member_form place looked.name ++ unfit_form looked.kind
 fault_form place looked (faults.NoRule bad) = rule_form place looked.name bad
 
+abbrev pub no_object_form : PartPlace → List ℕ
+no_object_form place = object_form place ++ codes " is no JSON object"
+
+abbrev pub spot_form : Spot → List ℕ
+spot_form spot =
+    codes ": look at line " ++ decimal spot.line ++ codes ", column " ++ decimal spot.column
+    ++ codes ", where " ++ cut_form (spot.byte ∷ []) ++ codes " stands"
+
+abbrev pub flaw_form : Option Flaw → List ℕ
+flaw_form None = []
+flaw_form (Some flaws.Empty) = codes ": it is empty"
+flaw_form (Some flaws.ByteOrderMark) = codes ": it begins with a byte order mark"
+flaw_form (Some flaws.Utf16) = codes ": it begins as UTF-16 does"
+flaw_form (Some flaws.NotUtf8) = codes ": it is not UTF-8"
+flaw_form (Some flaws.Lines) = codes ": its first line is a JSON text of its own"
+flaw_form (Some (flaws.Look spot)) = spot_form spot
+flaw_form (Some flaws.LookAtEnd) = codes ": look at its end"
+
+abbrev pub shape_form : Option Shape → List ℕ
+shape_form None = []
+shape_form (Some shapes.List) = codes ": it is a list"
+shape_form (Some shapes.Text) = codes ": it is a text"
+shape_form (Some shapes.Number) = codes ": it is a number"
+
+abbrev pub instead_form : Instead → List ℕ
+instead_form insteads.Bundle =
+    codes " is no envelope, but has the member dsseEnvelope, as a bundle with one has"
+instead_form insteads.Wrapper =
+    codes " is no envelope, but has the member signed, as in-toto's older wrapper has"
+instead_form insteads.Layout =
+    codes " is no envelope, but what is to be in one: its _type is layout"
+instead_form insteads.Link =
+    codes " is no envelope, but what is to be in one: its _type is link"
+
 abbrev pub problem_form : PartPlace → Problem → List ℕ
-problem_form place problems.NoObject = object_form place ++ codes " is no JSON object"
+problem_form place (problems.NoDocument flaw) = no_object_form place ++ flaw_form flaw
+problem_form place (problems.NoObject shape) = no_object_form place ++ shape_form shape
+problem_form place (problems.Instead instead) = object_form place ++ instead_form instead
 problem_form place (problems.Member member fault) = fault_form place (shown member) fault
 
 -- the line of a note

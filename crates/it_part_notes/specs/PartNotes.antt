@@ -1,10 +1,10 @@
 -- What a note on a part of a policy or of a layout says (policies are this profile's choice;
 -- layouts are in in-toto 1.0 section 4.3; that there are notes, and which, is a word of this
 -- project).
-use Rattle.std.specs.Prelude.{◌≡◌, ◌⊎◌, ℕ, List, Option, Some, None, MatchOption, Contains, IsTrue}
-use Rattle.std.specs.Prelude.{true, is_some, option_and_then, codes}
+use Rattle.std.specs.Prelude.{◌≡◌, ◌⊎◌, ℕ, List, Option, Some, None, MatchOption, Contains, IfSome}
+use Rattle.std.specs.Prelude.{IsTrue, true, is_some, option_and_then, codes}
 use Rattle.serde_json.specs.Data.{Data}
-use Rattle.serde_json.specs.Find.{as_object, at}
+use Rattle.serde_json.specs.Find.{as_array, as_number, as_object, as_str, at}
 use Rattle.it_base.specs.Document.{IsDocument, member_at}
 use Rattle.it_base.specs.Finds.{Finds}
 use Rattle.it_base.specs.Sequence.{IsList}
@@ -14,8 +14,11 @@ use Rattle.it_docs.specs.declared.layout_fault.LayoutPart.{LayoutPart}
 use Rattle.it_docs.specs.declared.layout_fault.LayoutPart.TheVariants as layout
 use Rattle.it_docs.specs.declared.policy_fault.PolicyPart.{PolicyPart}
 use Rattle.it_docs.specs.declared.policy_fault.PolicyPart.TheVariants as policy
+use Rattle.it_part_notes.specs.Flaw.{IsFlaw}
+use Rattle.it_part_notes.specs.Instead.{IsInstead}
 use Rattle.it_part_notes.specs.Members.{Fits, Looked, Reads, envelope_members, layout_members}
 use Rattle.it_part_notes.specs.Members.{link_members, policy_members, shown}
+use Rattle.it_part_notes.specs.declared.flaw.Flaw.{Flaw}
 use Rattle.it_part_notes.specs.declared.member.Kind.TheVariants as kinds
 use Rattle.it_part_notes.specs.declared.part_note.BadRule.{BadRule}
 use Rattle.it_part_notes.specs.declared.part_note.Fault.{Fault}
@@ -25,6 +28,8 @@ use Rattle.it_part_notes.specs.declared.part_note.PartPlace.{PartPlace}
 use Rattle.it_part_notes.specs.declared.part_note.PartPlace.TheVariants as places
 use Rattle.it_part_notes.specs.declared.part_note.Problem.{Problem}
 use Rattle.it_part_notes.specs.declared.part_note.Problem.TheVariants as problems
+use Rattle.it_part_notes.specs.declared.shape.Shape.{Shape}
+use Rattle.it_part_notes.specs.declared.shape.Shape.TheVariants as shapes
 
 -- the item at a place in the list that is the member of this name
 abbrev pub item_at : List ℕ → ℕ → Data → Option Data
@@ -57,9 +62,18 @@ TellsFault d looked faults.Unfit =
 TellsFault d looked (faults.NoRule bad) =
     (looked.kind ≡ kinds.Rules) × HasBadRule d looked.name bad
 
+-- what a value is
+abbrev pub IsShape : Data → Shape → Type 0
+IsShape d shapes.List = IsTrue (is_some (as_array d))
+IsShape d shapes.Text = IsTrue (is_some (as_str d))
+IsShape d shapes.Number = IsTrue (is_some (as_number d))
+
 -- what is wrong with what is at a place, given the members that are looked at
 abbrev pub TellsProblem : List Looked → Data → Problem → Type 0
-TellsProblem members d problems.NoObject = ¬ IsTrue (is_some (as_object d))
+TellsProblem members d (problems.NoDocument flaw) = ⊥
+TellsProblem members d (problems.NoObject shape) =
+    (¬ IsTrue (is_some (as_object d))) × IfSome shape (IsShape d)
+TellsProblem members d (problems.Instead instead) = IsInstead d instead
 TellsProblem members d (problems.Member member fault) =
     Contains members (shown member) × TellsFault d (shown member) fault
 
@@ -73,10 +87,12 @@ IsWhole (places.Inspection n) = ⊥
 IsWhole places.Envelope = Unit {0}
 IsWhole places.Link = Unit {0}
 
--- the bytes are not a document at all
+-- the bytes are not a document at all, and why
 pub record IsNoDocument (bytes : List ℕ) (note : PartNote) : Type 0 where
   pub whole : IsWhole note.place
-  pub problem : note.problem ≡ problems.NoObject
+  pub flaw : Option Flaw
+  pub problem : note.problem ≡ problems.NoDocument flaw
+  pub is_flaw : IfSome flaw (IsFlaw bytes)
   pub none : (d : Data) → ¬ IsDocument bytes d
 
 -- the bytes are a document, with a problem at the note's place

@@ -1,13 +1,16 @@
 -- What a note says about a bad line of a digest list (this project's words). Its lines are those of
 -- `sha256sum` of the GNU core utilities, in UTF-8, with no path twice.
-use Rattle.std.specs.Prelude.{◌≡◌, ◌⊎◌, ◌<◌, ℕ, suc, List, [], ◌++◌, length, codes, decimal, Some}
-use Rattle.std.specs.List.{slice_get}
+use Rattle.std.specs.Prelude.{◌≡◌, ◌≢◌, ◌⊎◌, ◌<◌, ℕ, suc, List, [], ◌∷◌, ◌++◌, length, codes}
+use Rattle.std.specs.Prelude.{Some, IsTrue, MatchOption, decimal, nat_eq, not}
+use Rattle.std.specs.Char.{is_ascii_hexdigit}
+use Rattle.std.specs.List.{ends_with, position, slice_get, starts_with}
 use Rattle.std.specs.Str.{IsUtf8}
 use Rattle.it_base.specs.HexadecimalText.{hexadecimal_decoded}
 use Rattle.it_digest.specs.Sums.{IsSum, lines_of}
 use Rattle.it_digest.specs.declared.compare.DigestSet.{DigestSet}
 use Rattle.it_report.specs.Name.{cut_form}
 use Rattle.it_part_notes.specs.declared.sum_line_note.LineFault.{LineFault}
+use Rattle.it_part_notes.specs.declared.sum_line_note.LineFault.TheVariants.{ByteOrderMark, Digits}
 use Rattle.it_part_notes.specs.declared.sum_line_note.LineFault.TheVariants.{NoDigits, NoMark}
 use Rattle.it_part_notes.specs.declared.sum_line_note.LineFault.TheVariants.{NoPath, NotUtf8}
 use Rattle.it_part_notes.specs.declared.sum_line_note.LineFault.TheVariants.{Repeated}
@@ -20,6 +23,11 @@ pub record IsLine (bytes : List ℕ) (number : ℕ) (line : List ℕ) : Type 0 w
   pub stands : slice_get (lines_of bytes) place ≡ Some line
   pub number_is : number ≡ suc place
 
+-- the first line ends with a carriage return, which belongs to its path
+abbrev pub FirstLineReturns : List ℕ → Type 0
+FirstLineReturns bytes =
+    (line : List ℕ) × IsLine bytes 1 line × IsTrue (ends_with nat_eq line (13 ∷ []))
+
 -- a line is 64 hexadecimal digits and then this text
 pub record FollowsDigits (line text : List ℕ) : Type 0 where
   pub digits : List ℕ
@@ -27,6 +35,12 @@ pub record FollowsDigits (line text : List ℕ) : Type 0 where
   pub written : line ≡ digits ++ text
   pub digits_many : length digits ≡ 64
   pub are_digits : hexadecimal_decoded digits ≡ Some digest
+
+-- a line begins with this many hexadecimal digits, and no more
+abbrev pub HasDigits : List ℕ → ℕ → Type 0
+HasDigits line many =
+    MatchOption (position (λ byte. not (is_ascii_hexdigit byte)) line) (many ≡ length line)
+    (λ place. many ≡ place)
 
 -- a text is two spaces, or a space and a star, and then this path
 abbrev pub IsMarked : List ℕ → List ℕ → Type 0
@@ -60,6 +74,9 @@ pub record IsRepeated (bytes : List ℕ) (number : ℕ) (line path : List ℕ) (
 
 -- this is wrong with the line with this number
 abbrev pub IsFault : List ℕ → ℕ → List ℕ → LineFault → Type 0
+IsFault bytes number line ByteOrderMark =
+    IsTrue (starts_with nat_eq line (0xef ∷ 0xbb ∷ 0xbf ∷ []))
+IsFault bytes number line (Digits many) = HasDigits line many × (many ≢ 64)
 IsFault bytes number line NoDigits = (text : List ℕ) → ¬ FollowsDigits line text
 IsFault bytes number line NoMark = HasNoMark line
 IsFault bytes number line NoPath = HasPath line []
@@ -87,6 +104,9 @@ repeated_form path earlier =
     ++ numbered_form (codes ", which line ") earlier (codes " has too")
 
 abbrev pub fault_form : LineFault → List ℕ
+fault_form ByteOrderMark = codes " begins with a byte order mark"
+fault_form (Digits many) =
+    numbered_form (codes " begins with ") many (codes " in place of 64 hexadecimal digits")
 fault_form NoDigits = codes " does not begin with 64 hexadecimal digits"
 fault_form NoMark = codes " has neither two spaces nor a space and a star after the digits"
 fault_form NoPath = codes " has no path"

@@ -32,7 +32,7 @@ pub fn link_part_note(alloc: Global, payload: &[u8]) -> Result<Option<PartNote>,
 /// Whether a problem is with the member `_type`.
 fn is_of_type(problem: &Problem) -> bool {
     match problem {
-        Problem::NoObject => false,
+        Problem::NoDocument(_) | Problem::NoObject(_) | Problem::Instead(_) => false,
         Problem::Member(member, _) => member.name() == "_type",
     }
 }

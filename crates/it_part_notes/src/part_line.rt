@@ -3,9 +3,12 @@ ghost use Rattle.std.specs.Prelude.{◌≡◌, ◌++◌, OnOk, decimal};
 ghost use Rattle.std.specs.List.{flat_map};
 ghost use Rattle.it_part_notes.specs.Members.{shown};
 ghost use Rattle.it_part_notes.specs.PartLines.{document_form, fault_form, member_form};
-ghost use Rattle.it_part_notes.specs.PartLines.{object_form, part_line, place_form, problem_form};
-ghost use Rattle.it_part_notes.specs.PartLines.{rule_form, unfit_form, word_form, words_form};
+ghost use Rattle.it_part_notes.specs.PartLines.{instead_form, no_object_form, object_form};
+ghost use Rattle.it_part_notes.specs.PartLines.{part_line, place_form, problem_form, rule_form};
+ghost use Rattle.it_part_notes.specs.PartLines.{unfit_form, word_form, words_form};
 
+use crate::flaw_words::{instead_words, push_flaw, push_shape};
+use crate::instead::Instead;
 use crate::member::{Kind, Member};
 use crate::part_note::{BadRule, Fault, PartNote, PartPlace, Problem};
 use it_base::sequence::Sequence;
@@ -45,14 +48,30 @@ fn push_problem(text: &mut Vec<u8>, place: PartPlace, problem: &Problem) -> Resu
         ≡ text.old.items ++ problem_form place problem.now) }
 {
     match problem {
-        Problem::NoObject => push_no_object(text, place),
+        Problem::NoDocument(flaw) => {
+            push_no_object(text, place)?;
+            push_flaw(text, *flaw)
+        }
+        Problem::NoObject(shape) => {
+            push_no_object(text, place)?;
+            push_shape(text, *shape)
+        }
+        Problem::Instead(instead) => push_instead(text, place, *instead),
         Problem::Member(member, fault) => push_fault(text, place, *member, fault),
     }
 }
 
+fn push_instead(text: &mut Vec<u8>, place: PartPlace, instead: Instead) -> Result<(), AllocError>
+    ensures { OnOk result (text.new.items
+        ≡ text.old.items ++ object_form place ++ instead_form instead) }
+{
+    push_object(text, place)?;
+    push_text(text, instead_words(instead))
+}
+
 fn push_no_object(text: &mut Vec<u8>, place: PartPlace) -> Result<(), AllocError>
     ensures { OnOk result (text.new.items
-        ≡ text.old.items ++ problem_form place Problem.NoObject) }
+        ≡ text.old.items ++ no_object_form place) }
 {
     push_object(text, place)?;
     push_text(text, " is no JSON object")
@@ -117,7 +136,7 @@ fn unfit_words(kind: Kind) -> &'static str
     match kind {
         Kind::Text => " is not a text",
         Kind::Word => " is not the text layout",
-        Kind::Moment => " is not a moment",
+        Kind::Moment => " is not a moment such as 2030-01-01T00:00:00Z",
         Kind::Threshold => " is not a whole number of at least 1",
         Kind::Level => " is not a whole number from 0 to 3",
         Kind::Texts => " is not a list of texts",

@@ -1,6 +1,9 @@
 //! Notes on a part of a policy or of a layout that fails, and on a file of a step.
 
+use crate::flaw::Flaw;
+use crate::instead::Instead;
 use crate::member::Member;
+use crate::shape::Shape;
 use it_base::sequence::Sequence;
 use it_base::text::Text;
 
@@ -35,8 +38,12 @@ pub enum PartPlace {
 /// What is wrong at a place.
 #[derive(Drop)]
 pub enum Problem {
-    /// No JSON object is there.
-    NoObject,
+    /// The whole is no JSON document, for this reason where one is known.
+    NoDocument(Option<Flaw>),
+    /// The value there is no JSON object, but of this shape where it is a list, a text or a number.
+    NoObject(Option<Shape>),
+    /// The whole is no envelope, but this.
+    Instead(Instead),
     /// This member of the object there is wrong.
     Member(Member, Fault),
 }

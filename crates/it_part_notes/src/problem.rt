@@ -7,9 +7,11 @@ ghost use Rattle.it_part_notes.specs.PartNotes.{IsWhole, TellsFault, TellsPart, 
 
 use crate::bad_rule::bad_rule;
 use crate::fit::is_fit;
+use crate::flaw::{Flaw, flaw_of};
 use crate::item_at::object_at;
 use crate::member::{Kind, Member};
 use crate::part_note::{Fault, PartNote, PartPlace, Problem};
+use crate::shape::shape_of;
 use it_base::base64_text::base64_part;
 use it_base::document::{member, read_document};
 use serde_json::Value;
@@ -30,7 +32,8 @@ pub(crate) fn part_note(
         IfSome found (TellsPart bytes.now place (map shown members.now))) }
 {
     let Some(document) = read_document(alloc, bytes)? else {
-        return Ok(no_document(place));
+        let flaw = flaw_of(alloc, bytes)?;
+        return Ok(no_document(place, flaw));
     };
     let Some(object) = object_at(&document, place) else {
         return Ok(None);
@@ -42,13 +45,13 @@ pub(crate) fn part_note(
 }
 
 /// The note on a whole document, for bytes that are not one.
-fn no_document(place: PartPlace) -> Option<PartNote>
+fn no_document(place: PartPlace, flaw: Option<Flaw>) -> Option<PartNote>
     ensures { IfSome result (λ note.
-        (note.place ≡ place) × IsWhole note.place × (note.problem ≡ Problem.NoObject)) }
+        (note.place ≡ place) × IsWhole note.place × (note.problem ≡ Problem.NoDocument flaw)) }
 {
     match place {
         PartPlace::Policy | PartPlace::Layout | PartPlace::Envelope | PartPlace::Link => {
-            let problem = Problem::NoObject;
+            let problem = Problem::NoDocument(flaw);
             Some(PartNote { place, problem })
         }
         _ => None,
@@ -64,7 +67,7 @@ fn problem_of(
         IfSome found (TellsProblem (map shown members.now) (view object.now))) }
 {
     if !object.is_object() {
-        return Ok(Some(Problem::NoObject));
+        return Ok(Some(Problem::NoObject(shape_of(object))));
     }
     for member in members {
         if let Some(fault) = fault_of(alloc, object, *member)? {

@@ -1,9 +1,12 @@
 //! One line of a digest list.
-ghost use Rattle.std.specs.Prelude.{◌≡◌, List, ℕ, MatchResult};
+ghost use Rattle.std.specs.Prelude.{◌≡◌, List, ℕ, IfSome, MatchResult, not};
 ghost use Rattle.std.specs.Bool.{OnTrue};
+ghost use Rattle.std.specs.Char.{is_ascii_hexdigit};
+ghost use Rattle.std.specs.List.{position};
 ghost use Rattle.it_base.specs.Finds.{FindsAs};
 ghost use Rattle.it_base.specs.HexadecimalText.{hexadecimal_decoded};
-ghost use Rattle.it_part_notes.specs.SumLine.{FollowsDigits, GivesPath, IsFault, IsMarked};
+ghost use Rattle.it_part_notes.specs.SumLine.{FollowsDigits, GivesPath, HasDigits};
+ghost use Rattle.it_part_notes.specs.SumLine.{IsFault, IsMarked};
 
 use crate::sum_line_note::LineFault;
 use hex::FromHex;
@@ -14,6 +17,9 @@ pub(crate) fn path_in(line: &[u8]) -> Result<&str, LineFault>
     ensures { MatchResult result (λ path. GivesPath line.now path.now) (λ fault.
         (bytes : List ℕ) (number : ℕ) → IsFault bytes number line.now fault) }
 {
+    if let Some(fault) = front_fault(line) {
+        return Err(fault);
+    }
     let Some(text) = after_digits(line) else {
         return Err(LineFault::NoDigits);
     };
@@ -37,6 +43,38 @@ pub(crate) fn gives_path(line: &[u8], path: &str) -> bool
         Ok(found) => found == path,
         Err(_) => false,
     }
+}
+
+/// What is wrong with the beginning of a line.
+fn front_fault(line: &[u8]) -> Option<LineFault>
+    ensures { IfSome result (λ fault.
+        (bytes : List ℕ) (number : ℕ) → IsFault bytes number line.now fault) }
+{
+    if line.starts_with(b"\xef\xbb\xbf") {
+        return Some(LineFault::ByteOrderMark);
+    }
+    let many = digits_in(line);
+    if many == 0 || many == 64 {
+        return None;
+    }
+    Some(LineFault::Digits(many as u64))
+}
+
+/// With how many hexadecimal digits a line begins.
+fn digits_in(line: &[u8]) -> usize
+    ensures { HasDigits line.now result }
+{
+    match first_other(line) {
+        Some(many) => many,
+        None => line.len(),
+    }
+}
+
+/// The place of the first byte that is no hexadecimal digit.
+fn first_other(line: &[u8]) -> Option<usize>
+    ensures { result ≡ position (λ byte. not (is_ascii_hexdigit byte)) line.now }
+{
+    line.iter().position(|byte| !byte.is_ascii_hexdigit())
 }
 
 /// What follows the 64 hexadecimal digits with which a line begins.

@@ -19,6 +19,10 @@ pub struct SumLineNote {
 /// What is wrong with a line of a digest list.
 #[derive(Drop)]
 pub enum LineFault {
+    /// It begins with a byte order mark.
+    ByteOrderMark,
+    /// It begins with this many hexadecimal digits, and not with 64.
+    Digits(u64),
     /// It does not begin with 64 hexadecimal digits.
     NoDigits,
     /// Neither two spaces nor a space and a star follow the digits.

@@ -27,6 +27,15 @@ fn push_fault(text: &mut Vec<u8>, fault: &LineFault) -> Result<(), AllocError>
     ensures { OnOk result (text.new.items ≡ text.old.items ++ fault_form fault.now) }
 {
     match fault {
+        LineFault::ByteOrderMark => push_text(text, " begins with a byte order mark"),
+        LineFault::Digits(many) => {
+            push_numbered(
+                text,
+                " begins with ",
+                *many,
+                " in place of 64 hexadecimal digits",
+            )
+        }
         LineFault::NoDigits => push_text(text, " does not begin with 64 hexadecimal digits"),
         LineFault::NoMark => {
             push_text(

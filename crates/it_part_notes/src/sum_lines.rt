@@ -1,6 +1,7 @@
 //! The lines of a digest list by their numbers.
 ghost use Rattle.std.specs.Prelude.{◌<◌, IfSome};
-ghost use Rattle.it_part_notes.specs.SumLine.{IsLine, LineGives};
+ghost use Rattle.std.specs.Bool.{OnTrue};
+ghost use Rattle.it_part_notes.specs.SumLine.{FirstLineReturns, IsLine, LineGives};
 
 use crate::sum_line::gives_path;
 use it_digest::sums::split_line;
@@ -20,6 +21,17 @@ pub(crate) fn line_at(bytes: &[u8], number: u64) -> Option<&[u8]>
         rest = after;
     }
     None
+}
+
+/// Whether the first line ends with a carriage return, as every line of a file from DOS or Windows
+/// does. Takes no memory.
+pub fn first_line_returns(bytes: &[u8]) -> bool
+    ensures { OnTrue result (FirstLineReturns bytes.now) }
+{
+    match line_at(bytes, 1) {
+        Some(line) => line.ends_with(b"\r"),
+        None => false,
+    }
 }
 
 /// The number of the first line that gives a path, if it comes before the line with this number.

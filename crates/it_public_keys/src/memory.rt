@@ -155,12 +155,16 @@ impl Memory {
         self.is_valid(question, signature.sig.as_slice())
     }
 
-    /// Whether `sig` is what the question asks for, which is computed the first time. An error
-    /// where it would have to be computed and the budget has no check left.
+    /// Whether `sig` is what the question asks for, which is computed the first time. Without the
+    /// form of a signature by the key it is not, and nothing is computed. An error where it would
+    /// have to be computed and the budget has no check left.
     fn is_valid(&self, question: &Question, sig: &[u8]) -> Result<bool, AllocError>
         ensures { IfOk result (λ valid. valid ≡ is_signature_with question.now.key.value
             question.now.digest question.now.message.value.items sig.now) }
     {
+        if !question.has_form(sig) {
+            return Ok(false);
+        }
         if let Some(valid) = self.answer(question, sig) {
             return Ok(valid);
         }

@@ -1,5 +1,6 @@
 //! What signatures of one message by one key are asked.
-ghost use Rattle.std.specs.Prelude.{◌≡◌};
+ghost use Rattle.std.specs.Prelude.{◌≡◌, ◌↔◌, IsTrue};
+ghost use Rattle.it_public_keys.specs.Form.{HasForm};
 ghost use Rattle.it_public_keys.specs.Validity.{is_signature_with};
 
 use crate::named_key::NamedKey;
@@ -20,6 +21,13 @@ pub(crate) struct Question {
 }
 
 impl Question {
+    /// Whether `sig` has the form of a signature by the key, without which it is none.
+    pub(crate) fn has_form(&self, sig: &[u8]) -> bool
+        ensures { IsTrue result ↔ HasForm self.now.key.value sig.now }
+    {
+        self.key.has_form(sig)
+    }
+
     /// Whether `sig` is the key's signature of the message.
     pub(crate) fn check(&self, sig: &[u8]) -> bool
         ensures { result ≡ is_signature_with self.now.key.value self.now.digest

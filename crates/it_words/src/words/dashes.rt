@@ -27,6 +27,21 @@ pub(super) fn gives(words: &[String], option: &str) -> bool {
     false
 }
 
+/// Whether the words of a command give an option a value after `=`. All words after `--` are taken
+/// as they are.
+pub(super) fn gives_value(words: &[String], option: &str) -> bool {
+    for word in words {
+        let word = word.as_str();
+        if word == "--" {
+            return false;
+        }
+        if word != option && option_of(word) == option {
+            return true;
+        }
+    }
+    false
+}
+
 /// Whether one of a command's words begins with a dash and is no option that its usage shows. All
 /// words after `--` are taken as they are.
 pub(super) fn has_dashed_value(words: &[String], usage: &str) -> bool {

@@ -3,7 +3,7 @@ ghost use Rattle.std.specs.Prelude.{◌≡◌};
 ghost use Rattle.clap.specs.Words.{kind_of};
 
 use super::WordsFault;
-use super::dashes::{asks_help, gives, has_dashed_value};
+use super::dashes::{asks_help, gives, gives_value, has_dashed_value};
 use super::usage::{Usage, nearest_to, of_all, of_one, usage_of};
 use clap::Error;
 use clap::error::ErrorKind;
@@ -13,6 +13,9 @@ use std::alloc::{AllocError, Global};
 const HINT: &str =
     "\n\nA value that begins with - stands after =, as in --option=-value. After --\n\
     words are taken as they are.";
+
+/// What is said where `itv verify` is given a file beside `--public-keys`.
+const KEYS_HINT: &str = "; --public-keys takes no value: the keys come from policy and layout";
 
 /// The fault of words that the parser refused.
 pub(super) fn fault_of(alloc: Global, words: &[String], error: &Error) -> WordsFault
@@ -102,12 +105,29 @@ fn note_on_values(
         let wrong = format!(in alloc; "help is asked for, and {name} is not run")?;
         return of_one(alloc, wrong.as_str(), usage);
     }
-    let wrong = sentence(alloc, error)?;
+    let mut wrong = sentence(alloc, error)?;
+    if takes_for_keys(usage, values, error.kind()) {
+        wrong.push_str(KEYS_HINT)?;
+    }
     let mut note = of_one(alloc, wrong.as_str(), usage)?;
     if has_dashed_value(values, usage.line) {
         note.push_str(HINT)?;
     }
     Ok(note)
+}
+
+/// Whether a word that `itv verify` does not take may be meant as the file of its public keys.
+fn takes_for_keys(usage: &Usage, values: &[String], kind: ErrorKind) -> bool {
+    if usage.name != "verify" {
+        return false;
+    }
+    match kind {
+        ErrorKind::UnknownArgument => {
+            gives(values, "--public-keys") && !has_dashed_value(values, usage.line)
+        }
+        ErrorKind::TooManyValues => gives_value(values, "--public-keys"),
+        _ => false,
+    }
 }
 
 /// The parser's own sentence, on one line.

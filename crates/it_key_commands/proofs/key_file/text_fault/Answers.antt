@@ -8,9 +8,16 @@ returns-in-Some-text c = (
     no_info = c.requires;
     no_other = inl (subst (HasLabel c.args.text.now) c.in-Some-text.is-text c.in-Some-text.ensures);
   },
-  tt,
+  c.labelled_file.ensures,
 )
 
 pub returns-in-None : goal.returns-in-None
 returns-in-None c =
     (record { no_info = c.requires; no_other = inr c.in-None.ensures }, c.other_file.ensures)
+
+pub labelled_file-requires : goal.labelled_file-requires
+labelled_file-requires c =
+    subst (HasLabel c.args.text.now) c.in-Some-text.is-text c.in-Some-text.ensures
+
+pub other_file-requires : goal.other_file-requires
+other_file-requires c = c.in-None.ensures

@@ -40,5 +40,6 @@ loop-name-preserved-in_ok-push c =
           (All-push (λ (n : UnreadMember).
           HasUnread (object (members_view c.args.members.now.entries)) n × (n.place ≡ place)) _ _ l.2
           (unread_note c.args.members.now.entries l.0 left e place note all made.place
-          (made.name ∙ c.as_str-then-not-has_meaning.ensures.value) no_read no_known made.close)),
+          (made.name ∙ c.as_str-then-not-has_meaning.ensures.value) no_read no_known
+          (rw c.as_str-then-not-has_meaning.ensures.value at made.close))),
     )

@@ -11,6 +11,24 @@ returns-in-BadSums g c =
     IfOk-weaker c.line_told.result _ _ (λ told each. rw c.in-BadSums.is (each _))
     c.line_told.ensures
 
+pub returns-in-BadMoment : goal.returns-in-BadMoment
+returns-in-BadMoment g c =
+    IfOk-weaker c.moment_told.result _ _ (λ told each. rw c.in-BadMoment.is (each _))
+    c.moment_told.ensures
+
+pub returns-in-NoFiles : goal.returns-in-NoFiles
+returns-in-NoFiles g c = rw c.in-NoFiles.is (c.no_line_told.ensures _)
+
+pub returns-in-BadEnvelope : goal.returns-in-BadEnvelope
+returns-in-BadEnvelope g c =
+    IfOk-weaker c.envelope_told.result _ _ (λ told each. rw c.in-BadEnvelope.is (each _))
+    c.envelope_told.ensures
+
+pub returns-in-WrongPayloadType : goal.returns-in-WrongPayloadType
+returns-in-WrongPayloadType g c =
+    IfOk-weaker c.type_told.result _ _ (λ told each. rw c.in-WrongPayloadType.is (each _))
+    c.type_told.ensures
+
 pub returns-in-BadLayout : goal.returns-in-BadLayout
 returns-in-BadLayout g c =
     IfOk-weaker c.layout_told.result _ _ (λ told each. rw c.in-BadLayout.is (each _))

@@ -1,0 +1,17 @@
+-- What is said of findings on keys with more than one holder (this project's words).
+use Rattle.std.specs.Prelude.{ℕ, List, ◌++◌, codes, decimal}
+use Rattle.it_findings.specs.declared.shared_key.Holder.{Holder}
+use Rattle.it_findings.specs.declared.shared_key.Holder.TheVariants.{Builder, Owner}
+use Rattle.it_findings.specs.declared.shared_key.SharedKey.{SharedKey}
+use Rattle.it_check.specs.Pieces.{told_form}
+
+-- who has a key
+unfoldable pub holder_form : Holder → List ℕ
+holder_form (Owner id) = told_form (codes "owner ") id (codes "")
+holder_form (Builder id level) =
+    told_form (codes "builder ") id (codes " of level ") ++ decimal level
+
+unfoldable pub shared_key_sentence : SharedKey → List ℕ
+shared_key_sentence shared =
+    holder_form shared.first ++ codes " and " ++ holder_form shared.holder
+    ++ codes " have the same key"

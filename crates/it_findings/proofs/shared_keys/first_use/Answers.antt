@@ -1,0 +1,13 @@
+use Rattle.std.proofs.Common.{◌∙◌, None, Some}
+use Rattle.it_findings.proofs.FirstPlaces.{first_at}
+use Rattle.it_findings.proofs.shared_keys.first_use.Goals as goal
+
+pub returns-in-Some : goal.returns-in-Some
+returns-in-Some c =
+    c.use_at.ensures
+    ∙ first_at c.args.uses.now c.args.places.now c.args.public.now (Some c.in-Some.place.now)
+    c.requires c.in-Some.ensures
+
+pub returns-in-None : goal.returns-in-None
+returns-in-None c =
+    first_at c.args.uses.now c.args.places.now c.args.public.now None c.requires c.in-None.ensures

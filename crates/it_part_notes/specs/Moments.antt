@@ -1,6 +1,6 @@
 -- What a note says about a text that is no moment (words of this project). A moment is
 -- `YYYY-MM-DDThh:mm:ssZ` (RFC 3339, in this profile's form).
-use Rattle.std.specs.Prelude.{◌≡◌, ◌⊎◌, ℕ, ℤ, List, [], ◌++◌, Option, Some, None, All, IfSome}
+use Rattle.std.specs.Prelude.{◌≡◌, ◌⊎◌, ℕ, ℤ, List, ◌++◌, Option, Some, None, All, IfSome}
 use Rattle.std.specs.Prelude.{IsTrue, MatchOption, codes, length}
 use Rattle.std.specs.Char.{is_ascii_digit}
 use Rattle.std.specs.List.{slice_get}

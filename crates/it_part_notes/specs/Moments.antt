@@ -1,12 +1,12 @@
 -- What a note says about a text that is no moment (words of this project). A moment is
 -- `YYYY-MM-DDThh:mm:ssZ` (RFC 3339, in this profile's form).
-use Rattle.std.specs.Prelude.{◌≡◌, ◌⊎◌, ℕ, ℤ, List, [], ◌++◌, Option, Some, None, All, IfSome}
+use Rattle.std.specs.Prelude.{◌≡◌, ◌⊎◌, ℕ, ℤ, List, ◌++◌, Option, Some, None, All, IfSome}
 use Rattle.std.specs.Prelude.{IsTrue, MatchOption, codes, length}
 use Rattle.std.specs.Char.{is_ascii_digit}
 use Rattle.std.specs.List.{slice_get}
 use Rattle.std.specs.Str.{byte}
 use Rattle.it_docs.specs.Moment.{MomentOf}
-use Rattle.it_report.specs.Name.{cut_form}
+use Rattle.it_part_notes.specs.SumLine.{told_form}
 use Rattle.it_part_notes.specs.declared.moment_note.Mistake.{Mistake}
 use Rattle.it_part_notes.specs.declared.moment_note.Mistake.TheVariants as mistakes
 use Rattle.it_part_notes.specs.declared.moment_note.MomentNote.{MomentNote}
@@ -31,19 +31,21 @@ pub record TellsMoment (text : List ℕ) (note : MomentNote) : Type 0 where
 
 -- ---- the line
 abbrev pub mistake_form : Option Mistake → List ℕ
-mistake_form None = []
-mistake_form (Some mistakes.Date) = codes ": it has no time"
-mistake_form (Some mistakes.Space) = codes ": it has a space in place of T"
-mistake_form (Some mistakes.Offset) = codes ": it has an offset in place of Z"
-mistake_form (Some mistakes.Fraction) = codes ": it has a fraction in place of Z"
-mistake_form (Some mistakes.Digits) = codes ": it is a number"
-mistake_form (Some mistakes.Word) = codes ": it does not begin with a digit"
-
--- that a text is no moment
-unfoldable pub given_form : List ℕ → List ℕ
-given_form text =
-    codes "moment: " ++ cut_form text ++ codes " is no moment such as 2030-01-01T00:00:00Z"
+mistake_form None = codes " is no moment such as 2030-01-01T00:00:00Z"
+mistake_form (Some mistakes.Date) =
+    codes " is no moment such as 2030-01-01T00:00:00Z: it has no time"
+mistake_form (Some mistakes.Space) =
+    codes " is no moment such as 2030-01-01T00:00:00Z: it has a space in place of T"
+mistake_form (Some mistakes.Offset) =
+    codes " is no moment such as 2030-01-01T00:00:00Z: it has an offset in place of Z"
+mistake_form (Some mistakes.Fraction) =
+    codes " is no moment such as 2030-01-01T00:00:00Z: it has a fraction in place of Z"
+mistake_form (Some mistakes.Digits) =
+    codes " is no moment such as 2030-01-01T00:00:00Z: it is a number"
+mistake_form (Some mistakes.Word) =
+    codes " is no moment such as 2030-01-01T00:00:00Z: it does not begin with a digit"
 
 -- the line of a note
 abbrev pub moment_line : MomentNote → List ℕ
-moment_line note = given_form note.text ++ mistake_form note.mistake ++ codes "\n"
+moment_line note =
+    told_form (codes "moment: ") note.text ++ mistake_form note.mistake ++ codes "\n"

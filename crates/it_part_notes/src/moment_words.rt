@@ -1,10 +1,9 @@
 //! The text of a note on what is no moment.
 ghost use Rattle.std.specs.Prelude.{◌≡◌, ◌++◌, OnOk};
-ghost use Rattle.it_part_notes.specs.Moments.{given_form, mistake_form, moment_line};
+ghost use Rattle.it_part_notes.specs.Moments.{mistake_form, moment_line};
 
 use crate::moment_note::{Mistake, MomentNote};
-use it_base::text::Text;
-use it_report::name::push_cut_name;
+use crate::sum_line_words::{push_text, push_told};
 use std::alloc::AllocError;
 
 impl MomentNote {
@@ -16,38 +15,30 @@ impl MomentNote {
     pub fn push_line(&self, text: &mut Vec<u8>) -> Result<(), AllocError>
         ensures { OnOk result (text.new.items ≡ text.old.items ++ moment_line self.now) }
     {
-        push_given(text, &self.text)?;
+        push_told(text, "moment: ", &self.text)?;
         push_text(text, mistake_words(self.mistake))?;
         push_text(text, "\n")
     }
-}
-
-/// Appends that a text is no moment.
-#[tactic(auto, unfolding(crate::specs::Moments::given_form))]
-fn push_given(text: &mut Vec<u8>, given: &Text) -> Result<(), AllocError>
-    ensures { OnOk result (text.new.items ≡ text.old.items ++ given_form given.now) }
-{
-    push_text(text, "moment: ")?;
-    push_cut_name(text, given.as_str().as_bytes())?;
-    push_text(text, " is no moment such as 2030-01-01T00:00:00Z")
 }
 
 fn mistake_words(mistake: Option<Mistake>) -> &'static str
     ensures { result.now ≡ mistake_form mistake }
 {
     match mistake {
-        None => "",
-        Some(Mistake::Date) => ": it has no time",
-        Some(Mistake::Space) => ": it has a space in place of T",
-        Some(Mistake::Offset) => ": it has an offset in place of Z",
-        Some(Mistake::Fraction) => ": it has a fraction in place of Z",
-        Some(Mistake::Digits) => ": it is a number",
-        Some(Mistake::Word) => ": it does not begin with a digit",
+        None => " is no moment such as 2030-01-01T00:00:00Z",
+        Some(Mistake::Date) => " is no moment such as 2030-01-01T00:00:00Z: it has no time",
+        Some(Mistake::Space) => {
+            " is no moment such as 2030-01-01T00:00:00Z: it has a space in place of T"
+        }
+        Some(Mistake::Offset) => {
+            " is no moment such as 2030-01-01T00:00:00Z: it has an offset in place of Z"
+        }
+        Some(Mistake::Fraction) => {
+            " is no moment such as 2030-01-01T00:00:00Z: it has a fraction in place of Z"
+        }
+        Some(Mistake::Digits) => " is no moment such as 2030-01-01T00:00:00Z: it is a number",
+        Some(Mistake::Word) => {
+            " is no moment such as 2030-01-01T00:00:00Z: it does not begin with a digit"
+        }
     }
-}
-
-fn push_text(text: &mut Vec<u8>, added: &str) -> Result<(), AllocError>
-    ensures { OnOk result (text.new.items ≡ text.old.items ++ added.now) }
-{
-    text.extend_from_slice(added.as_bytes())
 }

@@ -58,7 +58,7 @@ fn push_repeated(text: &mut Vec<u8>, path: &Text, earlier: u64) -> Result<(), Al
 
 /// Appends a name after a text.
 #[tactic(auto, unfolding(crate::specs::SumLine::told_form))]
-fn push_told(text: &mut Vec<u8>, before: &str, name: &Text) -> Result<(), AllocError>
+pub(crate) fn push_told(text: &mut Vec<u8>, before: &str, name: &Text) -> Result<(), AllocError>
     ensures { OnOk result (text.new.items ≡ text.old.items ++ told_form before.now name.now) }
 {
     push_text(text, before)?;
@@ -81,7 +81,7 @@ fn push_numbered(
     push_text(text, words.as_str())
 }
 
-fn push_text(text: &mut Vec<u8>, added: &str) -> Result<(), AllocError>
+pub(crate) fn push_text(text: &mut Vec<u8>, added: &str) -> Result<(), AllocError>
     ensures { OnOk result (text.new.items ≡ text.old.items ++ added.now) }
 {
     text.extend_from_slice(added.as_bytes())

@@ -1,0 +1,4 @@
+pub mod inside
+pub mod Certificate
+pub mod Extension
+pub mod Laws

@@ -1,8 +1,10 @@
 -- Bytes are a certificate in at most one way.
 use Rattle.std.proofs.Common.{◌≡◌, ℕ, List, [], ◌∷◌, sym, ap, subst, ◌∙◌}
-use Rattle.it_der.specs.Element.{IsElement, AreElements, Tagged}
+use Rattle.it_der.specs.Element.{IsElement, AreElements, BeginsWith, Tagged, bytes_of, wrap}
+use Rattle.std.proofs.Common.{◌+◌, ◌-◌, length, take, arith, length-append}
+use Rattle.std.proofs.lemmas.List.{take_at}
 use Rattle.it_der.proofs.Reading.{one_first, begins_alone, one_reading}
-use Rattle.it_certificate.specs.Certificate.{Parts, AreSigned, IsCertificate, outer_elements, signed_elements}
+use Rattle.it_certificate.specs.Certificate.{Parts, AreSigned, IsCertificate, outer_elements, signed_elements, signed_bytes}
 use Rattle.it_certificate.proofs.Tags.{content_at}
 
 pub one_content : (bytes content other : List ℕ) → IsElement bytes 48 content → IsElement bytes 48 other → content ≡ other
@@ -97,3 +99,23 @@ certificate_is bytes content signed algorithm signature read whole outer inner s
   outer = subst (λ (a : List ℕ). AreElements content (outer_elements signed a signature)) (sym same) outer;
   inner = inner;
 }
+
+-- the bytes of the first element
+pub front_is : (bytes content rest content' rest' : List ℕ) (tag tag' : ℕ) → BeginsWith bytes tag content rest → BeginsWith bytes tag' content' rest'
+    → take (length bytes - length rest) bytes ≡ wrap tag' content'
+front_is bytes content rest content' rest' tag tag' found begins =
+    let same : rest ≡ rest' = (one_first bytes tag tag' content content' rest rest' found begins).2 in
+    let sizes : length rest ≡ length rest' = ap length same in
+    let whole : length bytes ≡ length (wrap tag' content') + length rest' =
+    ap length begins.written ∙ length-append (wrap tag' content') rest' in
+    let count : length (wrap tag' content') ≡ length bytes - length rest = omega arith in
+    ap (λ (xs : List ℕ). take (length bytes - length rest) xs) begins.written ∙ take_at (wrap tag' content') rest' (length bytes - length rest) count
+
+-- what is signed is the first element of the content
+pub first_signed : (content signed algorithm signature front : List ℕ) (p : Parts) → AreElements content (outer_elements signed algorithm signature)
+    → AreSigned signed p → ((tag : ℕ) (inner rest : List ℕ) → BeginsWith content tag inner rest → front ≡ wrap tag inner)
+    → front ≡ signed_bytes p
+first_signed content signed algorithm signature front p outer inner is =
+    let after : List Tagged = record { tag = 48; content = algorithm } ∷ record { tag = 3; content = 0 ∷ signature } ∷ [] in
+    let begins : BeginsWith content 48 signed (bytes_of after) = record { short = outer.short.0; written = outer.written } in
+    is 48 signed (bytes_of after) begins ∙ ap (λ (xs : List ℕ). wrap 48 xs) inner.elements.written

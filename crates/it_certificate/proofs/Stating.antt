@@ -12,14 +12,6 @@ use Rattle.it_certificate.specs.Extension.{Stated, IsExtension, HoldsExtension, 
 use Rattle.it_certificate.proofs.Tags.{content_at}
 use Rattle.it_certificate.proofs.OneWay.{one_content}
 
-pub as_two : (xs : List (Bor (List ℕ))) (d : Bor (List ℕ)) (content : List ℕ) → length xs ≡ 2
-    → AreElements content (with_tags (6 ∷ 4 ∷ []) (map (λ c. c.now) xs))
-    → AreElements content (extension_elements false (get_or xs 0 d).now (get_or xs 1 d).now)
-as_two [] d content long are = absurd (omega arith)
-as_two (a ∷ []) d content long are = absurd (omega arith)
-as_two (a ∷ b ∷ []) d content long are = are
-as_two (a ∷ b ∷ x ∷ xs) d content long are = absurd (omega arith)
-
 pub as_critical : (xs : List (Bor (List ℕ))) (d : Bor (List ℕ)) (content : List ℕ) → length xs ≡ 3
     → AreElements content (with_tags (6 ∷ 1 ∷ 4 ∷ []) (map (λ c. c.now) xs))
     → AreElements content (with_tags (6 ∷ 1 ∷ 4 ∷ []) ((get_or xs 0 d).now ∷ (get_or xs 1 d).now ∷ (get_or xs 2 d).now ∷ []))
@@ -39,19 +31,6 @@ pub other_boolean : (content a b c : List ℕ) → AreElements content (with_tag
 unfolding content_at
 other_boolean content a b c are differ id value others =
     differ (ap (content_at 1) (one_reading content (with_tags (6 ∷ 1 ∷ 4 ∷ []) (a ∷ b ∷ c ∷ [])) (extension_elements true id value) are others))
-
-by_critical : (content id value : List ℕ) (critical : Bool)
-    → ((elements : List Tagged) → AreElements content elements → map (λ e. e.tag) elements ≡ 6 ∷ 4 ∷ [] → ⊥)
-    → ((id value : List ℕ) → AreElements content (extension_elements true id value) → ⊥)
-    → AreElements content (extension_elements critical id value) → ⊥
-by_critical content id value true plain critical is = critical id value is
-by_critical content id value false plain critical is = plain (extension_elements false id value) is refl
-
-pub no_extension : (content : List ℕ)
-    → ((elements : List Tagged) → AreElements content elements → map (λ e. e.tag) elements ≡ 6 ∷ 4 ∷ [] → ⊥)
-    → ((id value : List ℕ) → AreElements content (extension_elements true id value) → ⊥)
-    → (e : Stated) → IsExtension content e → ⊥
-no_extension content plain critical e is = by_critical content e.id e.value e.critical plain critical is
 
 -- two readings of an extension are one
 tags_differ : (content id value other rest : List ℕ) → AreElements content (extension_elements true id value)

@@ -1,5 +1,5 @@
 -- Elements by their tags and their contents.
-use Rattle.std.proofs.Common.{◌≡◌, ◌≢◌, ℕ, ◌-◌, ◌<◌, List, [], ◌∷◌, length, get_or, take, drop, map}
+use Rattle.std.proofs.Common.{◌≡◌, ◌≢◌, ℕ, ◌<◌, List, [], ◌∷◌, length, get_or, map}
 use Rattle.std.proofs.Common.{Bor, refl, sym, ap, subst, ◌∙◌, arith}
 use Rattle.std.proofs.Common.{Bool, true, false, not, nat_eq}
 use Rattle.std.specs.Cmp.Lexicographic.{pointwise}
@@ -9,7 +9,6 @@ use Rattle.std.proofs.lemmas.List.{length-map, get_or_default}
 use Rattle.std.proofs.lemmas.Slice.Eq.{slice_eq-Decides}
 use Rattle.it_der.specs.Element.{AreElements, Tagged, tagged_of}
 use Rattle.it_der.specs.declared.elements.Element.{Element}
-use Rattle.it_der.proofs.Lengths.{first_and_rest}
 use Rattle.it_der.proofs.Reading.{one_reading}
 use Rattle.it_certificate.specs.Certificate.{with_tags, outer_tags, outer_elements, signed_tags, signed_elements}
 use Rattle.it_certificate.specs.Certificate.{Parts, AreSigned}
@@ -120,12 +119,6 @@ pub bits_left : (content a b c : List ℕ) → AreElements content (with_tags ou
     → (signed algorithm signature : List ℕ) → AreElements content (outer_elements signed algorithm signature) → ⊥
 bits_left content a b c are some signed algorithm signature others =
     some (ap (λ (xs : List ℕ). get_or xs 0 0) (signature_begins content a b c are signed algorithm signature others))
-
-pub outer_read : (content a b c : List ℕ) → AreElements content (with_tags outer_tags (a ∷ b ∷ c ∷ [])) → 0 < length c → get_or c 0 0 ≡ 0
-    → AreElements content (outer_elements a b (take (length c - 1) (drop 1 c)))
-outer_read content a b c are some zero =
-    subst (λ (xs : List ℕ). AreElements content (with_tags outer_tags (a ∷ b ∷ xs ∷ [])))
-    (first_and_rest c some ∙ ap (λ (n : ℕ). n ∷ take (length c - 1) (drop 1 c)) zero) are
 
 -- the parts that are signed, of their elements
 pub other_version : (content a b c d e f g h : List ℕ) → AreElements content (with_tags signed_tags (a ∷ b ∷ c ∷ d ∷ e ∷ f ∷ g ∷ h ∷ []))

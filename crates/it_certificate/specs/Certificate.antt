@@ -1,7 +1,7 @@
 -- Certificates (RFC 5280, section 4.1), by the elements that they are. What the elements hold is
 -- not looked at, but for the version.
 use Rattle.std.specs.Prelude.{◌≢◌, ℕ, List, [], ◌∷◌}
-use Rattle.it_der.specs.Element.{IsElement, AreElements, Tagged}
+use Rattle.it_der.specs.Element.{IsElement, AreElements, Tagged, bytes_of, wrap}
 use Rattle.it_certificate.specs.declared.certificate.Certificate.{Certificate}
 
 -- elements, by their tags and their contents
@@ -29,6 +29,11 @@ signed_tags = 160 ∷ 2 ∷ 48 ∷ 48 ∷ 48 ∷ 48 ∷ 48 ∷ 163 ∷ []
 abbrev pub signed_elements : Parts → List Tagged
 signed_elements p = with_tags signed_tags ((2 ∷ 1 ∷ 2 ∷ []) ∷ p.serial ∷ p.algorithm ∷ p.issuer
     ∷ p.validity ∷ p.subject ∷ p.key ∷ p.extensions ∷ [])
+
+-- the bytes that the signature is of: TBSCertificate, its tag and its length with it (RFC 5280,
+-- section 4.1.1.3)
+abbrev pub signed_bytes : Parts → List ℕ
+signed_bytes p = wrap 48 (bytes_of (signed_elements p))
 
 -- a serial number has some bytes
 pub record AreSigned (content : List ℕ) (p : Parts) : Type 0 where

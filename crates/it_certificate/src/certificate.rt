@@ -1,7 +1,8 @@
 //! Whole certificates.
-ghost use Rattle.std.specs.Prelude.{ℕ, List, MatchOption, IfOk};
-ghost use Rattle.it_certificate.specs.Certificate.{IsCertificate, Parts, parts_of};
+ghost use Rattle.std.specs.Prelude.{◌≡◌, ℕ, List, MatchOption, IfOk};
+ghost use Rattle.it_certificate.specs.Certificate.{IsCertificate, Parts, parts_of, signed_bytes};
 
+use crate::front::first_bytes;
 use crate::outer::outer_in;
 use crate::signed::signed_in;
 use it_der::content_of;
@@ -26,6 +27,8 @@ pub struct Certificate<'b> {
     pub key: &'b [u8],
     /// Its extensions.
     pub extensions: &'b [u8],
+    /// The bytes that the signature is of.
+    pub signed: &'b [u8],
     /// Its signature.
     pub signature: &'b [u8],
 }
@@ -39,7 +42,8 @@ pub struct Certificate<'b> {
 pub fn read_certificate(alloc: Global, bytes: &[u8]) -> Result<Option<Certificate<'_>>, AllocError>
     ensures { IfOk result (λ found. MatchOption found
         ((p : Parts) (signature : List ℕ) → IsCertificate bytes.now p signature → ⊥)
-        (λ c. IsCertificate bytes.now (parts_of c) c.signature.now)) }
+        (λ c. IsCertificate bytes.now (parts_of c) c.signature.now
+        × (c.signed.now ≡ signed_bytes (parts_of c)))) }
 {
     let Some(content) = content_of(bytes, SEQUENCE) else {
         return Ok(None);
@@ -61,6 +65,7 @@ pub fn read_certificate(alloc: Global, bytes: &[u8]) -> Result<Option<Certificat
         subject: signed.subject,
         key: signed.key,
         extensions: signed.extensions,
+        signed: first_bytes(content),
         signature: outer.signature,
     }))
 }

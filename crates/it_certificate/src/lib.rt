@@ -11,6 +11,7 @@ mod certificate;
 mod contents;
 mod extension;
 mod extensions;
+mod front;
 pub mod laws;
 mod outer;
 mod signed;

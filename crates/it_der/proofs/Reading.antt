@@ -2,7 +2,7 @@
 use Rattle.std.proofs.Common.{◌≡◌, ℕ, suc, ◌+◌, ◌^◌, ◌<◌, List, [], ◌∷◌, ◌++◌, ◌-◌, length, take, drop}
 use Rattle.std.proofs.Common.{refl, sym, ap, ◌∙◌, arith, append_assoc, append-nil}
 use Rattle.std.proofs.Common.{length-append}
-use Rattle.std.proofs.lemmas.List.{flat_map_more, take_all}
+use Rattle.std.proofs.lemmas.List.{take_all}
 use Rattle.std.specs.List.{AllByRecursion}
 use Rattle.it_der.specs.Element.{length_form, wrap, BeginsWith, IsElement, Tagged}
 use Rattle.it_der.specs.Element.{bytes_of, AreElements}
@@ -83,15 +83,6 @@ pub no_elements : (bytes rest : List ℕ) (done others : List Tagged) → AreSho
 no_elements bytes rest done others all e some none are =
     let left = rest_is done others rest all are.short (sym e ∙ are.written) in
     none_here rest left.0 some none left.1
-
--- one element more
-pub one_more : (bytes rest after : List ℕ) (done : List Tagged) (e : Tagged)
-    → bytes ≡ bytes_of done ++ rest → rest ≡ wrap e.tag e.content ++ after
-    → bytes ≡ bytes_of (done ++ e ∷ []) ++ after
-one_more bytes rest after done e whole begins =
-    whole ∙ ap (λ (x : List ℕ). bytes_of done ++ x) begins
-    ∙ sym (append_assoc (bytes_of done) (wrap e.tag e.content) after)
-    ∙ ap (λ (x : List ℕ). x ++ after) (flat_map_more (λ (t : Tagged). wrap t.tag t.content) [] done e)
 
 made : ℕ → List ℕ → Tagged
 made tag content = record { tag = tag; content = content }

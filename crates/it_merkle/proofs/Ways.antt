@@ -4,7 +4,7 @@ use Rattle.std.proofs.Common.{length, refl, sym, ap, subst, ◌∙◌, arith, li
 use Rattle.std.proofs.Common.{Bool, true, ◌==◌, IsTrue, ◌↔◌}
 use Rattle.std.specs.Bool.{Decides}
 use Rattle.std.proofs.lemmas.Bool.{eqb-true}
-use Rattle.std.proofs.lemmas.List.{length_push, same_from_push, nil_from_length}
+use Rattle.std.proofs.lemmas.List.{same_from_push, nil_from_length}
 use Rattle.sha2.proofs.Facts256.{length-sha256}
 use Rattle.it_merkle.specs.Tree.{IsSplit, node_hash}
 use Rattle.it_merkle.specs.Proof.{Leads, at_leaf, from_front, from_back}
@@ -22,13 +22,6 @@ pub alone : {hash root : List ℕ} {index size : ℕ} {path : List (List ℕ)} �
 alone at_leaf one = (refl, refl)
 alone (from_front beside s below way) one = let more = more_than_one _ _ s in absurd (omega arith)
 alone (from_back beside s above way) one = let more = more_than_one _ _ s in absurd (omega arith)
-
--- an empty path is one in a tree of one entry
-pub empty_path : {hash root : List ℕ} {index size : ℕ} {path : List (List ℕ)} → Leads hash index size path root → length path ≡ 0
-    → size ≡ 1
-empty_path at_leaf none = refl
-empty_path (from_front {path = path} p s below way) none = let long = length_push path p in absurd (omega arith)
-empty_path (from_back {path = path} p s above way) none = let long = length_push path p in absurd (omega arith)
 
 -- what the way below a root is, from the front
 pub record FromFront (hash : List ℕ) (index split : ℕ) (path : List (List ℕ)) (beside root : List ℕ) : Type 0 where

@@ -1,3 +1,4 @@
 pub mod Tags
 pub mod OneWay
 pub mod Stating
+pub mod Constraining

@@ -1,5 +1,5 @@
-//! The parts of X.509 certificates (RFC 5280, section 4.1), and their extensions, as elements of
-//! DER that are not looked into. No command uses them yet.
+//! The parts of X.509 certificates (RFC 5280, section 4.1), their extensions and their basic
+//! constraints, from elements of DER. No command uses them yet.
 //!
 //! ```
 //! let Some(certificate) = read_certificate(alloc, bytes)? else { .. };
@@ -8,6 +8,7 @@
 #![tactic(auto)]
 
 mod certificate;
+mod constraints;
 mod contents;
 mod extension;
 mod extensions;
@@ -17,5 +18,6 @@ mod outer;
 mod signed;
 
 pub use certificate::{Certificate, read_certificate};
+pub use constraints::{Constraints, read_constraints};
 pub use extension::Extension;
 pub use extensions::read_extensions;

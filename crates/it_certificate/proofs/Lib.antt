@@ -1,0 +1,4 @@
+pub mod Tags
+pub mod OneWay
+pub mod Stating
+pub mod Constraining

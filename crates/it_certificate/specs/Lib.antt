@@ -1,0 +1,5 @@
+pub mod inside
+pub mod Certificate
+pub mod Constraints
+pub mod Extension
+pub mod Laws

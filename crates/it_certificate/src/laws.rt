@@ -1,0 +1,13 @@
+//! Laws about certificates: functions that do nothing, and whose contracts say what is true of all
+//! bytes.
+ghost use Rattle.it_certificate.specs.Laws.{OneCertificate, OneList};
+
+/// Bytes are a certificate in at most one way.
+pub fn one_certificate()
+    ensures { OneCertificate }
+{}
+
+/// The part of a certificate that has its extensions is extensions in at most one way.
+pub fn one_list()
+    ensures { OneList }
+{}

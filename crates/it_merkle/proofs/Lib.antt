@@ -1,0 +1,6 @@
+pub mod Splits
+pub mod Roots
+pub mod Ways
+pub mod Paths
+pub mod Collisions
+pub mod Vectors

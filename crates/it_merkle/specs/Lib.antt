@@ -1,0 +1,4 @@
+pub mod Hashed
+pub mod Laws
+pub mod Proof
+pub mod Tree

@@ -2,6 +2,7 @@ pub mod FileDetails
 pub mod KeyNotes
 pub mod Known
 pub mod Level
+pub mod NotGiven
 pub mod Notes
 pub mod PlaceNotes
 pub mod RefusalNotes

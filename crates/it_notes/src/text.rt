@@ -4,6 +4,7 @@ use crate::layout_notes::LayoutNotes;
 use crate::lines::{Line, Lines};
 use crate::notes::{Notes, RefusalNotes, RuleNotes};
 use crate::place_notes::PlaceNotes;
+use crate::provenance_lines::{EmptyProvenance, LaidOut};
 use it_key_notes::unknown_key::UnknownKey;
 use it_member_notes::key_member_note::KeyMemberNote;
 use it_member_notes::layout_note::LayoutNote;
@@ -63,6 +64,9 @@ impl RefusalNotes {
             RefusalNotes::Rule(notes) => notes.add_to(lines),
             RefusalNotes::Provenance(notes) => lines.add_all(notes.as_slice()),
             RefusalNotes::LaidOut => lines.add(&LaidOut),
+            RefusalNotes::EmptyProvenance => lines.add(&EmptyProvenance),
+            RefusalNotes::Patterns(note) => lines.add(note),
+            RefusalNotes::Record(note) => lines.add(note),
         }
     }
 }
@@ -116,18 +120,6 @@ impl LayoutNotes {
 fn add_members(lines: &mut Lines, notes: &MemberNotes) -> Result<(), AllocError> {
     lines.add_all(notes.unread.as_slice())?;
     lines.add_all(notes.keys.as_slice())
-}
-
-/// That the provenance is one envelope over several lines.
-#[derive(Drop)]
-struct LaidOut;
-
-impl Line for LaidOut {
-    fn push_line(&self, text: &mut Vec<u8>) -> Result<(), AllocError> {
-        text.extend_from_slice(b"provenance: one envelope over several lines, ")?;
-        text.extend_from_slice(b"where each line is to be one\n")?;
-        Ok(())
-    }
 }
 
 impl Line for PartNote {

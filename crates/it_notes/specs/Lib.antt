@@ -5,6 +5,7 @@ pub mod KeyNotes
 pub mod Known
 pub mod LayoutEnvelope
 pub mod Level
+pub mod NotGiven
 pub mod Notes
 pub mod PlaceNotes
 pub mod RefusalNotes

@@ -50,6 +50,7 @@ use Rattle.it_step_notes.specs.StepNotes.{Holds as TellsStep}
 use Rattle.it_verify.specs.declared.inputs.Inputs.{Inputs}
 use Rattle.it_notes.specs.FileDetails.{TellsDetail}
 use Rattle.it_notes.specs.Level.{IsLevel, Place}
+use Rattle.it_notes.specs.NotGiven.{TellsEmpty, TellsFlaw, TellsPatterns}
 use Rattle.it_notes.specs.declared.fault_level.FaultLevel.{FaultLevel}
 use Rattle.it_notes.specs.declared.file_detail.DetailedNote.{DetailedNote}
 use Rattle.it_notes.specs.declared.layout_envelope.EnvelopeNote.{EnvelopeNote}
@@ -222,6 +223,9 @@ module _ (panel : Panel) (inputs : Inputs) (fault : Fault) where
   TellsInputs (notes.Owners told) = TellsOwners told.items
   TellsInputs (notes.Provenance told) = TellsMissing told.items
   TellsInputs notes.LaidOut = TellsLaidOut
+  TellsInputs notes.EmptyProvenance = TellsEmpty inputs fault
+  TellsInputs (notes.Patterns told) = TellsPatterns inputs fault told
+  TellsInputs (notes.Record told) = TellsFlaw inputs fault told.name told.flaw
   TellsInputs told = ⊥
 
 -- the notes are true of the layout to which these places lead down

@@ -12,6 +12,7 @@ use crate::known::Told;
 use crate::layout_envelope::EnvelopeNote;
 use crate::layout_notes::LayoutNotes;
 use crate::place_notes::{PlaceNotes, place_notes};
+use crate::record_note::RecordNote;
 use crate::refusal_notes::refusal_notes;
 use it_dsse::checks::Checks;
 use it_key_notes::unknown_key::UnknownKey;
@@ -21,6 +22,7 @@ use it_part_notes::moment_note::MomentNote;
 use it_part_notes::part_note::PartNote;
 use it_part_notes::sum_line_note::SumLineNote;
 use it_prov_notes::note::ProvenanceNote;
+use it_prov_notes::patterns::PatternsNote;
 use it_report::refusal::Fault;
 use it_report::verdict::Verdict;
 use it_rule_notes::disagree_note::DisagreeNote;
@@ -80,6 +82,12 @@ pub enum RefusalNotes {
     Provenance(Vec<ProvenanceNote>),
     /// The provenance is one envelope over several lines.
     LaidOut,
+    /// The provenance is empty, as where none was given.
+    EmptyProvenance,
+    /// On the files of which the policy's expectations speak, where none speaks of a file.
+    Patterns(PatternsNote),
+    /// On the record of an inspection that is missing, or no link of its name.
+    Record(RecordNote),
 }
 
 /// An artifact rule that failed.

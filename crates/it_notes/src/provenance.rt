@@ -18,7 +18,7 @@ use it_prov_notes::{is_laid_out, missing_notes};
 use std::alloc::{AllocError, Global};
 
 /// What the lines of the provenance miss of the expectation that speaks of the delivered file at a
-/// path.
+/// path, or why it has no lines that could be looked at.
 pub(crate) fn provenance_told<C: Checks>(
     alloc: Global,
     known: &Known,
@@ -29,7 +29,11 @@ pub(crate) fn provenance_told<C: Checks>(
     ensures { IfOk result (λ told. (best : Option ℕ) → TellsInputs
         (C.panel checks.now) known.now.inputs.now (NoProvenance path.now best) told) }
 {
-    if is_short_envelope(alloc, known.inputs.provenance.as_slice())? {
+    let provenance = known.inputs.provenance.as_slice();
+    if provenance.is_empty() {
+        return Ok(RefusalNotes::EmptyProvenance);
+    }
+    if is_short_envelope(alloc, provenance)? {
         return Ok(RefusalNotes::LaidOut);
     }
     let Some(digests) = known.delivered.get(path) else {
@@ -41,7 +45,7 @@ pub(crate) fn provenance_told<C: Checks>(
     let delivery = Delivery {
         digests,
         expectation,
-        provenance: known.inputs.provenance.as_slice(),
+        provenance,
     };
     let notes = missing_notes(alloc, &delivery, checks)?;
     Ok(RefusalNotes::Provenance(notes))

@@ -4,11 +4,13 @@ ghost use Rattle.it_notes.specs.Known.{IsKnown};
 ghost use Rattle.it_notes.specs.RefusalNotes.{Tells, TellsInputs};
 
 use crate::bad_parts::{layout_told, line_told, moment_told, no_line_told, policy_told};
+use crate::inspections::{bad_told, missing_told};
 use crate::known::Known;
 use crate::layout_envelope::{envelope_told, type_told};
 use crate::level_notes::level_told;
 use crate::notes::RefusalNotes;
 use crate::owners::owners_told;
+use crate::patterns::patterns_told;
 use crate::provenance::provenance_told;
 use it_dsse::checks::Checks;
 use it_report::refusal::{Fault, Refusal};
@@ -43,6 +45,9 @@ fn known_notes<C: Checks>(
     ensures { IfOk result (Tells (C.panel checks.now) known.now.inputs.now refusal.now) }
 {
     match &refusal.fault {
+        Fault::RecordMissing(name) => missing_told(alloc, known.inputs, name.as_str()),
+        Fault::BadRecord(name) => bad_told(alloc, known.inputs, name.as_str()),
+        Fault::NoExpectation(_) => patterns_told(alloc, known),
         Fault::NoProvenance(path, _) => provenance_told(alloc, known, path.as_str(), checks),
         _ => level_told(alloc, known, refusal, checks),
     }

@@ -1,11 +1,11 @@
 //! The notes as lines for people.
 use crate::bad_parts::{NoLine, ReturnedLine};
 use crate::file_detail::{DetailedNote, FileDetail};
-use crate::laid_out::LaidOut;
 use crate::layout_notes::LayoutNotes;
 use crate::lines::{Line, Lines};
 use crate::notes::{Notes, RefusalNotes, RuleNotes};
 use crate::place_notes::PlaceNotes;
+use crate::provenance_lines::{EmptyProvenance, LaidOut};
 use it_key_notes::unknown_key::UnknownKey;
 use it_member_notes::key_member_note::KeyMemberNote;
 use it_member_notes::layout_note::LayoutNote;
@@ -64,6 +64,9 @@ impl RefusalNotes {
             RefusalNotes::Rule(notes) => notes.add_to(lines),
             RefusalNotes::Provenance(notes) => lines.add_all(notes.as_slice()),
             RefusalNotes::LaidOut => lines.add(&LaidOut),
+            RefusalNotes::EmptyProvenance => lines.add(&EmptyProvenance),
+            RefusalNotes::Patterns(note) => lines.add(note),
+            RefusalNotes::Record(note) => lines.add(note),
         }
     }
 }

@@ -1,3 +1,5 @@
 pub mod LaidOut
+pub mod Patterns
 pub mod ProvenanceNotes
+pub mod Values
 pub mod inside

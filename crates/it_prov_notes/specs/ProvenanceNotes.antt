@@ -3,6 +3,7 @@
 -- looks like is said of its document.
 use Rattle.std.specs.Prelude.{◌≡◌, ◌≢◌, ◌<◌, ◌≤◌, ℕ, suc, List, Option, Some, None, Contains}
 use Rattle.std.specs.Prelude.{IfSome, IsSome, IsTrue, codes, length}
+use Rattle.std.specs.FinMap.{get}
 use Rattle.std.specs.List.{slice_get}
 use Rattle.serde_json.specs.Data.{Data}
 use Rattle.serde_json.specs.Find.{as_array}
@@ -18,6 +19,8 @@ use Rattle.it_digest.specs.declared.compare.DigestSet.{DigestSet}
 use Rattle.it_dsse.specs.Envelope.{EnvelopeOf}
 use Rattle.it_dsse.specs.Panel.{Panel}
 use Rattle.it_dsse.specs.declared.envelope.Envelope.{Envelope}
+use Rattle.it_dsse.specs.declared.key_object.KeyObject.{KeyObject}
+use Rattle.it_hints.specs.SignedAs.{IsSignedAs}
 use Rattle.it_docs.specs.PayloadType.{in_toto_type}
 use Rattle.it_docs.specs.Statement.{StatementOf}
 use Rattle.it_docs.specs.declared.policy.Builder.{Builder}
@@ -25,6 +28,9 @@ use Rattle.it_docs.specs.declared.policy.Expectation.{Expectation}
 use Rattle.it_docs.specs.declared.statement.Provenance.{Provenance}
 use Rattle.it_docs.specs.declared.statement.Statement.{Statement}
 use Rattle.it_prov.specs.Meets.{SignedByBuilder}
+use Rattle.it_prov_notes.specs.Values.{DifferAt}
+use Rattle.it_prov_notes.specs.declared.note.Difference.{Difference}
+use Rattle.it_prov_notes.specs.declared.note.HintedKey.{HintedKey}
 use Rattle.it_prov_notes.specs.declared.note.ProvenanceNote.{ProvenanceNote}
 use Rattle.it_prov_notes.specs.declared.note.Shape.{Shape}
 use Rattle.it_prov_notes.specs.declared.note.Shape.TheVariants as shape
@@ -87,6 +93,21 @@ abbrev pub NoneSigned : Panel → Expectation → Envelope → Type 0
 NoneSigned panel expectation envelope = (builder : Builder)
     → Contains expectation.builders builder → ¬ SignedByBuilder panel envelope builder
 
+-- a signature that is tried for this key id is by a key of one of the builders
+pub record IsHinted (panel : Panel) (builders : List Builder) (envelope : Envelope)
+    (hinted : HintedKey) : Type 0 where
+  pub builder : Builder
+  pub object : KeyObject
+  pub is_builder : Contains builders builder
+  pub is_key : get builder.keys hinted.id ≡ Some object
+  pub signed_as : IsSignedAs panel envelope hinted.id object hinted.keyid
+
+-- none of the expected builders signed it, and where a key is named, it made a signature all the
+-- same
+abbrev pub IsNotSigned : Panel → Expectation → Option HintedKey → Envelope → Type 0
+IsNotSigned panel expectation hinted envelope = NoneSigned panel expectation envelope
+    × IfSome hinted (IsHinted panel expectation.builders envelope)
+
 -- none of the expected builders signed it, and its payload has more than 256 KiB (this project's
 -- choice)
 abbrev pub IsTooLarge : Panel → Expectation → Envelope → Type 0
@@ -143,14 +164,16 @@ pub record IsParameterMissing (expectation : Expectation) (name : List ℕ) (pro
   pub is_expected : field_at name expectation.parameters ≡ Some wanted
   pub none_stands : field_at name provenance.parameters ≡ None
 
--- a parameter is expected under a name, and an unequal one is there
-pub record IsParameterUnequal (expectation : Expectation) (name : List ℕ) (provenance : Provenance)
-    : Type 0 where
+-- a parameter is expected under a name, and an unequal one is there, which differs from it at a
+-- place
+pub record IsParameterUnequal (expectation : Expectation) (name : List ℕ)
+    (difference : Difference) (provenance : Provenance) : Type 0 where
   pub wanted : Json
   pub given : Json
   pub is_expected : field_at name expectation.parameters ≡ Some wanted
   pub stands : field_at name provenance.parameters ≡ Some given
   pub unequal : ¬ IsTrue (equal given wanted)
+  pub differ : DifferAt given wanted difference
 
 -- a parameter is under a name that is neither expected nor ignored
 pub record IsParameterUnexpected (expectation : Expectation) (name : List ℕ)
@@ -178,8 +201,8 @@ pub record LevelIsLow (panel : Panel) (expectation : Expectation) (found wanted 
 abbrev pub Misses : Panel → Expectation → DigestSet → List ℕ → Shortfall → Type 0
 Misses panel expectation digests line (shortfall.NoEnvelope looks) =
     ((envelope : Envelope) → ¬ EnvelopeOf line envelope) × LooksLike line looks
-Misses panel expectation digests line shortfall.NotSigned =
-    OfEnvelope (NoneSigned panel expectation) line
+Misses panel expectation digests line (shortfall.NotSigned hinted) =
+    OfEnvelope (IsNotSigned panel expectation hinted) line
 Misses panel expectation digests line shortfall.TooLarge =
     OfEnvelope (IsTooLarge panel expectation) line
 Misses panel expectation digests line (shortfall.OtherPayloadType found) =
@@ -196,8 +219,8 @@ Misses panel expectation digests line (shortfall.OtherBuildType found wanted) =
     OfProvenance (λ _. BuildTypeDiffers expectation found wanted) line
 Misses panel expectation digests line (shortfall.MissingParameter name) =
     OfProvenance (λ _. IsParameterMissing expectation name) line
-Misses panel expectation digests line (shortfall.UnequalParameter name) =
-    OfProvenance (λ _. IsParameterUnequal expectation name) line
+Misses panel expectation digests line (shortfall.UnequalParameter name difference) =
+    OfProvenance (λ _. IsParameterUnequal expectation name difference) line
 Misses panel expectation digests line (shortfall.UnexpectedParameter name) =
     OfProvenance (λ _. IsParameterUnexpected expectation name) line
 Misses panel expectation digests line (shortfall.LowLevel found wanted) =

@@ -6,6 +6,7 @@ ghost use Rattle.it_prov_notes.specs.ProvenanceNotes.{Misses, NoneSigned};
 ghost use Rattle.it_prov_notes.specs.inside.Judged.{AreSigners};
 
 use crate::delivery::Delivery;
+use crate::hinted::hinted_key;
 use crate::note::Shortfall;
 use crate::room::Room;
 use crate::shape::type_in;
@@ -47,21 +48,22 @@ pub(crate) fn envelope_misses<C: Checks>(
     if !signers.is_empty() {
         return signed_misses(alloc, envelope, delivery, signers.as_slice());
     }
-    unsigned_misses(alloc, envelope, delivery, room)
+    unsigned_misses(alloc, envelope, delivery, checks, room)
 }
 
 /// What an envelope misses that none of the expected builders signed. A payload that is too large
 /// is not looked at, whatever it is about, and neither is one for which there is no room.
-fn unsigned_misses(
+fn unsigned_misses<C: Checks>(
     alloc: Global,
     envelope: &Envelope,
     delivery: &Delivery<'_>,
+    checks: &C,
     room: &mut Room,
 ) -> Result<Option<Shortfall>, AllocError>
-    ensures { (panel : Panel) (line : List ℕ) → EnvelopeOf line envelope.now
-        → NoneSigned panel delivery.now.expectation.now envelope.now
-        → IfOk result (λ found. IfSome found
-        (Misses panel delivery.now.expectation.now delivery.now.digests line)) }
+    ensures { (line : List ℕ) → EnvelopeOf line envelope.now
+        → NoneSigned (C.panel checks.now) delivery.now.expectation.now envelope.now
+        → IfOk result (λ found. IfSome found (Misses (C.panel checks.now)
+        delivery.now.expectation.now delivery.now.digests line)) }
 {
     if envelope.payload.as_slice().len() > MOST_BYTES {
         return Ok(Some(Shortfall::TooLarge));
@@ -70,7 +72,9 @@ fn unsigned_misses(
         return Ok(None);
     }
     if is_about(alloc, envelope, &delivery.digests)? {
-        return Ok(Some(Shortfall::NotSigned));
+        let builders = delivery.expectation.builders.as_slice();
+        let hinted = hinted_key(alloc, builders, envelope, checks, &mut room.hinted)?;
+        return Ok(Some(Shortfall::NotSigned(hinted)));
     }
     Ok(None)
 }

@@ -4,12 +4,15 @@
 
 mod builder;
 pub mod delivery;
+mod difference;
 mod envelope;
+mod hinted;
 mod laid_out;
 mod line;
 pub mod note;
 mod notes;
 mod parameters;
+pub mod patterns;
 mod provenance;
 mod room;
 mod shape;

@@ -5,6 +5,7 @@ ghost use Rattle.it_dsse.specs.Panel.{Panel};
 ghost use Rattle.it_dsse.specs.declared.envelope.Envelope.{Envelope};
 ghost use Rattle.it_prov_notes.specs.ProvenanceNotes.{IsProvenanceOn, Misses};
 
+use crate::difference::first_difference;
 use crate::note::Shortfall;
 use it_base::text::Text;
 use it_docs::policy::Expectation;
@@ -46,7 +47,10 @@ fn differing_at(
     ) {
         (Some(_), None) => Ok(Some(Shortfall::MissingParameter(Text::copy(alloc, name)?))),
         (Some(wanted), Some(given)) if !given.equals(wanted) => {
-            Ok(Some(Shortfall::UnequalParameter(Text::copy(alloc, name)?)))
+            Ok(Some(Shortfall::UnequalParameter {
+                name: Text::copy(alloc, name)?,
+                difference: first_difference(alloc, given, wanted)?,
+            }))
         }
         _ => Ok(None),
     }

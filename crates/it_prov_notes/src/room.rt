@@ -17,6 +17,8 @@ const MOST_SIGNATURES: u64 = 40;
 pub(crate) struct Room {
     bytes: usize,
     signatures: u64,
+    /// How many signatures were tried under other key ids than those of the keys.
+    pub hinted: Meter,
 }
 
 impl Room {
@@ -25,6 +27,7 @@ impl Room {
         Room {
             bytes: MOST_BYTES,
             signatures: MOST_SIGNATURES,
+            hinted: Meter { asked: 0 },
         }
     }
 

@@ -1,5 +1,6 @@
 //! What a note says to people.
-use crate::note::{ProvenanceNote, Shape, Shortfall};
+use crate::note::{Difference, HintedKey, ProvenanceNote, Shape, Shortfall, ValueNote};
+use crate::patterns::PatternsNote;
 use it_base::text::Text;
 use it_dsse::payload_type::IN_TOTO;
 use it_report::name::push_cut_name;
@@ -21,10 +22,30 @@ impl ProvenanceNote {
     }
 }
 
+impl PatternsNote {
+    /// Appends what the note says as one line, with its line feed, and with patterns as
+    /// `push_cut_name` writes a name.
+    ///
+    /// # Errors
+    ///
+    /// `AllocError` where memory was refused; a part of the line may have been appended then.
+    pub fn push_line(&self, text: &mut Vec<u8>) -> Result<(), AllocError> {
+        if self.patterns.as_slice().is_empty() {
+            return push_words(text, "policy: it has no expectation\n");
+        }
+        push_words(text, "policy: its expectations are for files that match")?;
+        for pattern in self.patterns.as_slice() {
+            push_words(text, " ")?;
+            push_cut_name(text, pattern.as_str().as_bytes())?;
+        }
+        push_words(text, if self.others { " and others\n" } else { "\n" })
+    }
+}
+
 fn push_shortfall(text: &mut Vec<u8>, shortfall: &Shortfall) -> Result<(), AllocError> {
     match shortfall {
         Shortfall::NoEnvelope(shape) => push_shape(text, shape),
-        Shortfall::NotSigned => push_words(text, "none of the expected builders signed it"),
+        Shortfall::NotSigned(hinted) => push_not_signed(text, hinted),
         Shortfall::TooLarge => push_words(text, "was not looked at: too large"),
         Shortfall::OtherPayloadType(found) => {
             push_pair(text, "payload type", found.as_str(), IN_TOTO)
@@ -45,14 +66,24 @@ fn push_shortfall(text: &mut Vec<u8>, shortfall: &Shortfall) -> Result<(), Alloc
             push_pair(text, "build type", found.as_str(), wanted.as_str())
         }
         Shortfall::MissingParameter(name) => push_parameter(text, name.as_str(), " is missing"),
-        Shortfall::UnequalParameter(name) => {
-            push_parameter(text, name.as_str(), " is not the one that is expected")
+        Shortfall::UnequalParameter { name, difference } => {
+            push_parameter(text, name.as_str(), "")?;
+            push_difference(text, difference)
         }
         Shortfall::UnexpectedParameter(name) => {
             push_parameter(text, name.as_str(), " is not expected")
         }
         Shortfall::LowLevel { found, wanted } => push_levels(text, *found, *wanted),
     }
+}
+
+fn push_not_signed(text: &mut Vec<u8>, hinted: &Option<HintedKey>) -> Result<(), AllocError> {
+    push_words(text, "none of the expected builders signed it")?;
+    if let Some(key) = hinted {
+        push_quoting(text, ", but key ", key.id.as_str(), "")?;
+        push_quoting(text, " did under the keyid ", key.keyid.as_str(), "")?;
+    }
+    Ok(())
 }
 
 fn push_shape(text: &mut Vec<u8>, shape: &Shape) -> Result<(), AllocError> {
@@ -80,6 +111,45 @@ fn push_pair(text: &mut Vec<u8>, what: &str, found: &str, wanted: &str) -> Resul
 
 fn push_parameter(text: &mut Vec<u8>, name: &str, after: &str) -> Result<(), AllocError> {
     push_quoting(text, "external parameter ", name, after)
+}
+
+/// Appends where two values differ, and what is there.
+fn push_difference(text: &mut Vec<u8>, difference: &Difference) -> Result<(), AllocError> {
+    for name in difference.place.as_slice() {
+        push_quoting(text, "[", name.as_str(), "]")?;
+    }
+    match &difference.found {
+        None => push_words(text, " is missing")?,
+        Some(found) => push_value(text, " is ", found)?,
+    }
+    match &difference.wanted {
+        None => push_words(text, " where none is expected"),
+        Some(wanted) => {
+            push_value(text, " where ", wanted)?;
+            push_words(text, " is expected")
+        }
+    }
+}
+
+/// Appends a value after some words; of a list and an object only the brackets.
+fn push_value(text: &mut Vec<u8>, before: &str, value: &ValueNote) -> Result<(), AllocError> {
+    push_words(text, before)?;
+    match value {
+        ValueNote::Null => push_words(text, "null"),
+        ValueNote::Flag(true) => push_words(text, "true"),
+        ValueNote::Flag(false) => push_words(text, "false"),
+        ValueNote::Whole(number) => push_whole(text, *number),
+        ValueNote::Text(found) => push_quoting(text, "", found.as_str(), ""),
+        ValueNote::List => push_words(text, "[..]"),
+        ValueNote::Object => push_words(text, "{..}"),
+        ValueNote::Number => push_words(text, "a number that equals nothing"),
+    }
+}
+
+fn push_whole(text: &mut Vec<u8>, number: i128) -> Result<(), AllocError> {
+    let alloc: Global = *text.allocator();
+    let digits = format!(in alloc; "{number}")?;
+    push_words(text, digits.as_str())
 }
 
 fn push_levels(text: &mut Vec<u8>, found: u8, wanted: u8) -> Result<(), AllocError> {

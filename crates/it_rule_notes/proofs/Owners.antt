@@ -10,9 +10,11 @@ use Rattle.it_dsse.specs.Panel.{Panel}
 use Rattle.it_dsse.specs.Signed.{IsSigner}
 use Rattle.it_dsse.specs.declared.envelope.Envelope.{Envelope}
 use Rattle.it_dsse.specs.declared.key_object.KeyObject.{KeyObject}
+use Rattle.it_hints.specs.SignedAs.{IsSignedAs}
 use Rattle.it_rule_notes.specs.Owner.{IsOnOwner, TellsOwner}
 use Rattle.it_rule_notes.specs.declared.owner_note.OwnerNote.{OwnerNote}
-use Rattle.it_rule_notes.specs.declared.owner_note.OwnerNote.TheVariants.{Signed, Unsigned}
+use Rattle.it_rule_notes.specs.declared.owner_note.OwnerNote.TheVariants.{Signed, SignedAs}
+use Rattle.it_rule_notes.specs.declared.owner_note.OwnerNote.TheVariants.{Unsigned}
 
 -- an owner is known under the id
 abbrev IsKnown : Named KeyObject → List ℕ × KeyObject → Type 0
@@ -35,6 +37,13 @@ module _ (panel : Panel) (envelope : Envelope) (owners : Named KeyObject) where
     object = owner.1;
     is_owner = ap (get owners) is.0 ∙ known;
     is_no_signer = subst (λ name. ¬ IsSigner panel envelope owner.1 name) (sym is.0) is.1;
+  }
+  one_told owner (SignedAs id keyid) known is = record {
+    object = owner.1;
+    is_owner = ap (get owners) is.0 ∙ known;
+    is_no_signer = subst (λ name. ¬ IsSigner panel envelope owner.1 name) (sym is.0) is.1;
+    signed_as =
+        subst (λ name. IsSignedAs panel envelope name owner.1 keyid) (sym is.0) is.2;
   }
 
   those_told : (all : List (List ℕ × KeyObject)) (notes : List OwnerNote)

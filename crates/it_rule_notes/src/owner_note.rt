@@ -2,7 +2,8 @@
 ghost use Rattle.std.specs.FinMap.{entries};
 ghost use Rattle.std.specs.List.{AllZip};
 ghost use Rattle.std.specs.Prelude.{◌≡◌, ◌++◌, All, IfOk, OnOk};
-ghost use Rattle.it_rule_notes.specs.Owner.{IsOnOwner, TellsOwner, owner_line};
+ghost use Rattle.it_dsse.specs.Signed.{IsSigner};
+ghost use Rattle.it_rule_notes.specs.Owner.{IsOnOwner, TellsOwner, owner_line, signed_as_line};
 
 use crate::line::push_told;
 use it_base::table::Table;
@@ -12,6 +13,7 @@ use it_dsse::envelope::Envelope;
 use it_dsse::is_signer;
 use it_dsse::key_object::KeyObject;
 use it_dsse::meter::Meter;
+use it_hints::signed_as::{NamedKey, keyid_signed_as};
 use std::alloc::{AllocError, Global};
 
 /// Whether an owner signed the layout's envelope.
@@ -21,10 +23,18 @@ pub enum OwnerNote {
     Signed(Text),
     /// The key of the owner with this id did not sign the envelope.
     Unsigned(Text),
+    /// The key of an owner made a signature of the envelope that is not tried for the owner's id.
+    SignedAs {
+        /// The id of the owner.
+        id: Text,
+        /// The key id that the signature names.
+        keyid: Text,
+    },
 }
 
 /// Says for each owner, in byte order of the ids, whether the owner's key signed the envelope of
-/// the layout (in-toto 1.0, section 5.2).
+/// the layout (in-toto 1.0, section 5.2), and if it did not, whether it did under another key id
+/// that the signatures name.
 ///
 /// `owners` are the key objects of a policy's owners under their ids, and the `checks` check the
 /// signatures. The answer has one note for each owner.
@@ -64,11 +74,35 @@ fn owner_note<C: Checks>(
 {
     let mut meter = Meter { asked: 0 };
     let signed = is_signer(envelope, id, object, checks, &mut meter)?;
-    let id = Text::copy(alloc, id)?;
     if signed {
-        Ok(OwnerNote::Signed(id))
+        Ok(OwnerNote::Signed(Text::copy(alloc, id)?))
     } else {
-        Ok(OwnerNote::Unsigned(id))
+        unsigned_note(alloc, id, object, envelope, checks)
+    }
+}
+
+/// Says under which other key id, if any, the key with this id and object made a signature.
+fn unsigned_note<C: Checks>(
+    alloc: Global,
+    id: &str,
+    object: &KeyObject,
+    envelope: &Envelope,
+    checks: &C,
+) -> Result<OwnerNote, AllocError>
+    requires { ¬ IsSigner (C.panel checks.now) envelope.now object.now id.now }
+    ensures { IfOk result (IsOnOwner (C.panel checks.now) envelope.now
+        (id.now, object.now)) }
+{
+    let mut meter = Meter { asked: 0 };
+    let key = NamedKey { id, object };
+    let found = keyid_signed_as(alloc, envelope, &key, checks, &mut meter)?;
+    let id = Text::copy(alloc, id)?;
+    match found {
+        None => Ok(OwnerNote::Unsigned(id)),
+        Some(keyid) => Ok(OwnerNote::SignedAs {
+            id,
+            keyid: Text::copy(alloc, keyid)?,
+        }),
     }
 }
 
@@ -86,6 +120,22 @@ impl OwnerNote {
             OwnerNote::Unsigned(id) => {
                 push_told(text, "layout: owner ", id, " did not sign the layout\n")
             }
+            OwnerNote::SignedAs { id, keyid } => push_signed_as(text, id, keyid),
         }
     }
+}
+
+/// Appends that the key of an owner signed the layout under another key id.
+#[tactic(auto, unfolding(crate::specs::Owner::signed_as_line))]
+fn push_signed_as(text: &mut Vec<u8>, id: &Text, keyid: &Text) -> Result<(), AllocError>
+    ensures { OnOk result
+        (text.new.items ≡ text.old.items ++ signed_as_line id.now keyid.now) }
+{
+    push_told(
+        text,
+        "layout: the key of owner ",
+        id,
+        " signed the layout, ",
+    )?;
+    push_told(text, "but under the keyid ", keyid, "\n")
 }

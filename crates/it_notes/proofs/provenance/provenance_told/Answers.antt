@@ -1,4 +1,6 @@
-use Rattle.std.proofs.Common.{◌∙◌, refl, sym}
+use Rattle.std.proofs.Common.{◌∙◌, arith, refl, sym}
+use Rattle.std.proofs.lemmas.List.{nil_from_length}
+use Rattle.std.proofs.lemmas.Bool.Decides.{nat_tests}
 use Rattle.it_notes.proofs.provenance.provenance_told.Goals as goal
 
 pub returns : goal.returns
@@ -16,7 +18,16 @@ returns g c = λ best. record {
     reads = c.requires.delivered;
     stands = sym c.get.ensures ∙ c.in-Some.is;
   };
-  are_true = rw (← c.as_slice-3.ensures) c.in_ok-notes.ensures;
+  are_true = rw (← c.as_slice.ensures) c.in_ok-notes.ensures;
+}
+
+pub returns-then-is_empty : goal.returns-then-is_empty
+returns-then-is_empty g c = λ best. record {
+  path = c.args.path.now;
+  best = best;
+  fault_is = refl;
+  is_true = rw (← c.as_slice.ensures)
+      (nil_from_length c.as_slice.result.now (grind (arith, nat_tests, c.if-is_empty.ensures)));
 }
 
 pub returns-then-branch : goal.returns-then-branch

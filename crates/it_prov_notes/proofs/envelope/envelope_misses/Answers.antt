@@ -24,5 +24,5 @@ returns g c =
     builders (lent_builders signers)) c.as_slice-builders.ensures c.in_ok-signers.ensures in
     let none : length signers ≡ 0 = sym (c.in_ok-signers.signers.ok.0)
     ∙ eqb-true c.in_ok-signers.signers.len 0 (sym c.is_empty.ensures ∙ c.if-not-is_empty.false) in
-    λ line reads. c.unsigned_misses.ensures panel line reads
+    λ line reads. c.unsigned_misses.ensures line reads
     (none_signed panel c.args.delivery.now.expectation.now c.args.envelope.now signers are none)

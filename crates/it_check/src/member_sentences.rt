@@ -41,7 +41,7 @@ fn push_unread(text: &mut Vec<u8>, place: &Place, name: &Text) -> Result<(), All
 /// Appends the name that may be meant, if there is one.
 fn push_meant(text: &mut Vec<u8>, meant: Option<&'static str>) -> Result<(), AllocError>
     ensures { OnOk result (text.new.items
-        ≡ text.old.items ++ meant_form (option_map (λ near. near.now) meant)) }
+        ≡ text.old.items ++ meant_form (option_map (λ near. near.now) meant.entry)) }
 {
     match meant {
         Some(near) => push_near(text, near),

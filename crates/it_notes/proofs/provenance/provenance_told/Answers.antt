@@ -12,13 +12,13 @@ returns g c = λ best. record {
   digests = c.in-Some.digests;
   fault_is = refl;
   is_policy = c.requires.policy;
-  fits = rw (← c.as_slice-2.ensures) c.in-Some-speaking.ensures;
+  fits = rw (← c.as_slice.ensures) c.in-Some-speaking.ensures;
   is_delivered = record {
     delivered = c.args.known.now.delivered;
     reads = c.requires.delivered;
     stands = sym c.get.ensures ∙ c.in-Some.is;
   };
-  are_true = rw (← c.as_slice.ensures) c.in_ok-notes.ensures;
+  are_true = rw (← c.as_slice-provenance.ensures) c.in_ok-notes.ensures;
 }
 
 pub returns-then-is_empty : goal.returns-then-is_empty
@@ -26,8 +26,9 @@ returns-then-is_empty g c = λ best. record {
   path = c.args.path.now;
   best = best;
   fault_is = refl;
-  is_true = rw (← c.as_slice.ensures)
-      (nil_from_length c.as_slice.result.now (grind (arith, nat_tests, c.if-is_empty.ensures)));
+  is_true = rw (← c.as_slice-provenance.ensures)
+      (nil_from_length c.as_slice-provenance.result.now
+      (grind (arith, nat_tests, c.if-is_empty.ensures)));
 }
 
 pub returns-then-branch : goal.returns-then-branch
@@ -35,6 +36,6 @@ returns-then-branch g c = λ best. record {
   path = c.args.path.now;
   best = best;
   fault_is = refl;
-  is_true = rw c.as_slice.ensures at
+  is_true = rw c.as_slice-provenance.ensures at
       (rw c.if-branch.true at c.in_ok-is_short_envelope.ensures);
 }

@@ -1,7 +1,7 @@
 //! What is said of findings on members.
 ghost use Rattle.std.specs.Prelude.{◌≡◌, ◌++◌, OnOk, codes, option_map};
 ghost use Rattle.it_check.specs.MemberSentence.{meant_form, member_sentence, unread_sentence};
-ghost use Rattle.it_check.specs.Pieces.{told_form};
+ghost use Rattle.it_check.specs.Pieces.{quoted, told_form};
 
 use crate::writing::{push_quoted, push_text, push_told};
 use it_base::text::Text;
@@ -55,6 +55,12 @@ fn push_near(text: &mut Vec<u8>, near: &str) -> Result<(), AllocError>
         ≡ text.old.items ++ told_form (codes "; did you mean ") near.now (codes "?")) }
 {
     push_text(text, "; did you mean ")?;
+    push_asked(text, near)
+}
+
+fn push_asked(text: &mut Vec<u8>, near: &str) -> Result<(), AllocError>
+    ensures { OnOk result (text.new.items ≡ text.old.items ++ (quoted near.now ++ codes "?")) }
+{
     push_quoted(text, near)?;
     push_text(text, "?")
 }

@@ -16,13 +16,15 @@ def bytes_of(document: Document, what: str) -> bytes:
     raise TypeError(f"{what} is bytes or a pathlib.Path, not {type(document).__name__}")
 
 
-def _from_disk(folder, at):
-    """The links and records at or below a folder, with the folders that may have some."""
+def _from_disk(folder, at, depth):
+    """The links and records of a folder, and of the folders in it that may have some, down to a
+    depth, as the program reads them: a pipe, for instance, is skipped and not opened, and a
+    symbolic link that leads nowhere is an error."""
     for entry in sorted(folder.iterdir()):
         if entry.is_dir():
-            if "." in entry.name:
-                yield from _from_disk(entry, f"{at}/{entry.name}")
-        elif entry.name.endswith(".link"):
+            if depth > 0 and "." in entry.name:
+                yield from _from_disk(entry, f"{at}/{entry.name}", depth - 1)
+        elif entry.name.endswith(".link") and (entry.is_file() or not entry.exists()):
             yield f"{at}/{entry.name}", entry.read_bytes()
 
 
@@ -37,13 +39,13 @@ def _from_mapping(folder, at, what):
             yield f"{at}/{name}", bytes_of(document, what)
 
 
-def files_of(folder: Folder, at: str, what: str) -> Dict[str, bytes]:
-    """The files of a folder under a path. A folder has one file at least, which no command reads,
-    so that it is there also where it is empty."""
+def files_of(folder: Folder, what: str, depth: int) -> Dict[str, bytes]:
+    """The files of a folder, under its name, of a path those down to a depth. A folder without
+    files gets one that no command reads, so that it is there."""
     if isinstance(folder, pathlib.Path):
-        found = _from_disk(folder, at)
+        found = _from_disk(folder, what, depth)
     elif isinstance(folder, Mapping):
-        found = _from_mapping(folder, at, what)
+        found = _from_mapping(folder, what, what)
     else:
         raise TypeError(f"{what} is a pathlib.Path or a dictionary, not {type(folder).__name__}")
-    return {f"{at}/.itv": b"", **dict(found)}
+    return dict(found) or {f"{what}/.itv": b""}

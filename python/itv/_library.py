@@ -67,6 +67,11 @@ def _ended(texts, what):
     return b"".join(text.encode(errors="surrogateescape") + b"\0" for text in texts)
 
 
+def lines_of(text: str) -> List[str]:
+    """The lines of a text, each of which ends with a line feed. Other characters end no line."""
+    return text.removesuffix("\n").split("\n") if text else []
+
+
 def _called(words, files):
     """The status, the output and the notes of a command."""
     paths, contents = _ended(files, "path"), b"".join(files.values())
@@ -89,7 +94,7 @@ def run(words: Sequence[str], files: Mapping[str, bytes]) -> Run:
     Raises `Stopped`, or `NoMemory`, where the program would end with status 2 or 3.
     """
     status, output, notes = _called(words, files)
-    lines = notes.decode(errors="backslashreplace").splitlines()
+    lines = lines_of(notes.decode(errors="backslashreplace"))
     if status in (GOOD, REFUSED):
         return Run(status, output, lines)
     if status not in (STOPPED, NO_MEMORY):

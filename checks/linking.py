@@ -61,8 +61,8 @@ def link_shared(room, version):
     exports.write_text(EXPORTS)
     shared = MADE / f"libitv.so.{version}"
     run("cc", "-shared", f"-Wl,-soname,{SONAME}", f"-Wl,--version-script={exports}",
-        "-Wl,-z,relro,-z,now", "-Wl,--no-undefined", "-Wl,--whole-archive", PROVED, "-Wl,--no-whole-archive", c_code(),
-        "-o", shared)
+        "-Wl,-z,relro,-z,now", "-Wl,--no-undefined", "-Wl,--whole-archive", PROVED,
+        "-Wl,--no-whole-archive", c_code(), "-o", shared)
     for name in (SONAME, "libitv.so"):
         (MADE / name).unlink(missing_ok=True)
         (MADE / name).symlink_to(shared.name)

@@ -1,6 +1,7 @@
 """Documents and folders, as files in memory."""
 
 import pathlib
+import stat
 from typing import Dict, Mapping, Union
 
 Document = Union[bytes, pathlib.Path]
@@ -18,13 +19,16 @@ def bytes_of(document: Document, what: str) -> bytes:
 
 def _from_disk(folder, at, depth):
     """The links and records of a folder, and of the folders in it that may have some, down to a
-    depth, as the program reads them: a pipe, for instance, is skipped and not opened, and a
-    symbolic link that leads nowhere is an error."""
+    depth, as the program reads them: what is neither a file nor a folder, as a pipe, is skipped and
+    not opened, and a symbolic link that leads nowhere is an error."""
     for entry in sorted(folder.iterdir()):
-        if entry.is_dir():
-            if depth > 0 and "." in entry.name:
-                yield from _from_disk(entry, f"{at}/{entry.name}", depth - 1)
-        elif entry.name.endswith(".link") and (entry.is_file() or not entry.exists()):
+        is_link = entry.name.endswith(".link")
+        if not is_link and (depth == 0 or "." not in entry.name):
+            continue
+        mode = entry.stat().st_mode
+        if stat.S_ISDIR(mode) and depth > 0:
+            yield from _from_disk(entry, f"{at}/{entry.name}", depth - 1)
+        elif stat.S_ISREG(mode) and is_link:
             yield f"{at}/{entry.name}", entry.read_bytes()
 
 

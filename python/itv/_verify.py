@@ -81,7 +81,7 @@ def verify(*, policy: Document, layout: Document, links: Folder, sums: Document,
     true: one of both is needed. `depth` is how deep sublayouts may lie, 4 where it is not given;
     `most_checks` how many signatures are checked by public keys at most, 20,000 where it is not.
 
-    Raises `Stopped` where the command stops; with `strict` also where something is found in what
+    Raises `Stopped` where the command stops; with `strict` a `Found` where something is found in what
     would be accepted.
     """
     files = {"policy": bytes_of(policy, "policy"), "layout": bytes_of(layout, "layout"),

@@ -50,6 +50,12 @@ module _ (words paths sizes contents : List ℕ) where
   alone text found status is answer =
       subst (λ t. IsAnswer words paths sizes contents t status) (sym is) answer
 
+-- what holds of a good result holds of one that is good only where that one is, with the same value
+pub still : {E : Type 0} (result : Result Status E) (of : Result Status E) (Holds : Status → Type 0)
+    → IfOk result (λ status. of ≡ Ok status) → IfOk of Holds → IfOk result Holds
+still (Ok status) of Holds same told = subst (λ r. IfOk r Holds) same told
+still (Err e) of Holds same told = tt
+
 -- why a command stopped shows in the status
 run_status : (fault : RunFault) → (2 ≤ exit_status (Err fault)) × (exit_status (Err fault) ≤ 3)
 run_status OutOfMemory = (lit≤ tt, lit≤ tt)

@@ -19,6 +19,13 @@ import (
 // empty is SHA-256 of no bytes (FIPS 180-4).
 const empty = "e3b0c44298fc1c149afbf4c8996fb92427ae41e4649b934ca495991b7852b855"
 
+// pem and rawKey are the public key of RFC 8410, section 10.1.
+const pem = `-----BEGIN PUBLIC KEY-----
+MCowBQYDK2VwAyEAGb9ECWmEzf6FQbrBZ9w7lshQhqowtrbLDFw4rXAxZuE=
+-----END PUBLIC KEY-----
+`
+const rawKey = "19bf44096984cdfe8541bac167dc3b96c85086aa30b6b6cb0c5c38ad703166e1"
+
 // refusalOf is the refusal of a delivery, which must be refused.
 func refusalOf(t *testing.T, delivery itv.Delivery) *itv.Refusal {
 	t.Helper()
@@ -182,13 +189,12 @@ func TestCommands(t *testing.T) {
 	must(0, json.Unmarshal(must(itv.Statement(one, "b", "t", nil)), &statement))
 	is(t, statement.Subject, []struct{ Name string }{{"a"}})
 
-	pem := must(os.ReadFile("../examples/public/keys/alice.pem"))
-	for _, keys := range []map[string]json.RawMessage{
-		must(itv.KeyNamed("alice", pem)), must(itv.Key(pem))} {
-		is(t, len(keys), 1)
-	}
-	keys := must(itv.KeyNamed("alice", pem))
+	is(t, len(must(itv.Key([]byte(pem)))), 1)
+	keys := must(itv.KeyNamed("alice", []byte(pem)))
+	is(t, strings.Contains(string(keys["alice"]), `"public":"`+rawKey+`"`), true)
 	is(t, must(itv.SignedByKeys(envelope, must(json.Marshal(keys)))), []string(nil))
+	_, err := itv.Key(must(os.ReadFile("../examples/public/keys/alice.pem")))
+	is(t, strings.Contains(sentenceOf(t, err), "it is a private key"), true)
 
 	is(t, must(itv.Check(public().Policy, public().Layout)).Good, true)
 	bad := must(itv.Check([]byte(`{"owners":{"a":null}}`), nil))

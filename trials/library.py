@@ -16,6 +16,12 @@ EXAMPLE = pathlib.Path("examples/public")
 AT = datetime.datetime(2026, 1, 1, tzinfo=datetime.timezone.utc)
 # SHA-256 of no bytes (FIPS 180-4).
 EMPTY = "e3b0c44298fc1c149afbf4c8996fb92427ae41e4649b934ca495991b7852b855"
+# The public key of RFC 8410, section 10.1, in PEM and as its bytes.
+PEM = b"""-----BEGIN PUBLIC KEY-----
+MCowBQYDK2VwAyEAGb9ECWmEzf6FQbrBZ9w7lshQhqowtrbLDFw4rXAxZuE=
+-----END PUBLIC KEY-----
+"""
+PUBLIC = "19bf44096984cdfe8541bac167dc3b96c85086aa30b6b6cb0c5c38ad703166e1"
 # How many threads verify at once, and how many deliveries each.
 THREADS, TIMES = 8, 1000
 
@@ -137,7 +143,10 @@ def commands():
     assert made["products"] == {"a": {"sha256": EMPTY}} and made["materials"] == {}
     stated = json.loads(itv.statement(sums=itv.digest(of={"a": b""}), builder="b", build_type="t"))
     assert stated["subject"] == [{"name": "a", "digest": {"sha256": EMPTY}}]
-    assert len(itv.key(EXAMPLE / "keys" / "alice.pem", name="alice")["alice"]["keyval"]["public"]) == 64
+    assert itv.key(PEM, name="alice")["alice"]["keyval"] == {"public": PUBLIC}
+    assert [one["keyval"]["public"] for one in itv.key(PEM).values()] == [PUBLIC]
+    told = raises(itv.Stopped, itv.key, EXAMPLE / "keys" / "alice.pem")
+    assert "it is a private key" in str(told), told
     assert itv.check(policy=EXAMPLE / "policy.json").notes == []
 
 

@@ -30,7 +30,7 @@ pub(crate) fn answer(alloc: Global, handed: &Handed) -> Ran
     let mut output = Remembering::new(bytes);
     let mut notes = Vec::new(alloc);
     let ran = run(alloc, handed, &mut output, &mut notes);
-    let outcome = written_in_memory(ran);
+    let outcome = written_in_memory(ran, &mut output.inner);
     let status = exit_status(&outcome);
     note_stop(alloc, &outcome, &mut notes);
     Ran {
@@ -58,12 +58,14 @@ fn run(
 }
 
 /// The outcome of a command whose output goes to memory: where that was not taken, memory was
-/// refused.
-fn written_in_memory(outcome: Result<Status, Stop>) -> Result<Status, Stop>
-    ensures { IfOk result (λ status. outcome ≡ Ok status) }
+/// refused, and nothing goes out.
+fn written_in_memory(outcome: Result<Status, Stop>, output: &mut Vec<u8>) -> Result<Status, Stop>
+    ensures { IfOk result (λ status. (outcome ≡ Ok status)
+        × (output.new.items ≡ output.old.items)) }
 {
     match outcome {
         Err(Stop::OfFault(Fault::Unwritable { .. } | Fault::Run(RunFault::Write))) => {
+            output.clear();
             Err(Stop::from(RunFault::OutOfMemory))
         }
         outcome => outcome,

@@ -11,12 +11,13 @@ returns-clause-gives c =
     let contents = c.args.handed.now.contents.now in
     let ran = c.run-ran.result in
     let outcome = c.written_in_memory-outcome.result in
-    let output = c.run-ran.new.output.inner.items in
+    let went = c.run-ran.new.output.inner.items in
+    let output = c.written_in_memory-outcome.new.output.items in
     gives words paths sizes contents output outcome c.exit_status-status.result
     c.exit_status-status.ensures
-    (still outcome ran (IsOutput words paths sizes contents [] output)
+    (still outcome ran went output (λ text. IsOutput words paths sizes contents [] text)
     c.written_in_memory-outcome.ensures
-    (subst (λ (old : List ℕ). IfOk ran (IsOutput words paths sizes contents old output))
+    (subst (λ (old : List ℕ). IfOk ran (IsOutput words paths sizes contents old went))
     (ap (λ bytes. bytes.items) c.new-output.ensures.inner ∙ c.new-bytes.ensures.items)
     c.run-ran.ensures))
 

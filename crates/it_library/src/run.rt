@@ -3,7 +3,6 @@ ghost use Rattle.std.specs.Prelude.{◌≡◌, ◌≤◌, IfOk, Ok};
 ghost use Rattle.it_library.specs.Answer.{Gives, IsOutput};
 
 use crate::handed::{Handed, files_in, words_in};
-use it_disk::Fault;
 use it_memory::Memory;
 use it_outcome::{RunFault, Status};
 use it_program::{Remembering, Stop, exit_status, run_to};
@@ -30,7 +29,7 @@ pub(crate) fn answer(alloc: Global, handed: &Handed) -> Ran
     let mut output = Remembering::new(bytes);
     let mut notes = Vec::new(alloc);
     let ran = run(alloc, handed, &mut output, &mut notes);
-    let outcome = written_in_memory(ran, &mut output.inner);
+    let outcome = written_in_memory(ran, &mut output);
     let status = exit_status(&outcome);
     note_stop(alloc, &outcome, &mut notes);
     Ran {
@@ -59,17 +58,18 @@ fn run(
 
 /// The outcome of a command whose output goes to memory: where that was not taken, memory was
 /// refused, and nothing goes out.
-fn written_in_memory(outcome: Result<Status, Stop>, output: &mut Vec<u8>) -> Result<Status, Stop>
+fn written_in_memory(
+    outcome: Result<Status, Stop>,
+    output: &mut Remembering<Vec<u8>>,
+) -> Result<Status, Stop>
     ensures { IfOk result (λ status. (outcome ≡ Ok status)
-        × (output.new.items ≡ output.old.items)) }
+        × (output.new.inner.items ≡ output.old.inner.items)) }
 {
-    match outcome {
-        Err(Stop::OfFault(Fault::Unwritable { .. } | Fault::Run(RunFault::Write))) => {
-            output.clear();
-            Err(Stop::from(RunFault::OutOfMemory))
-        }
-        outcome => outcome,
+    if outcome.is_err() && output.error.is_some() {
+        output.inner.clear();
+        return Err(Stop::from(RunFault::OutOfMemory));
     }
+    outcome
 }
 
 /// Adds why the command stopped, where it did, as the program says it, if memory suffices.

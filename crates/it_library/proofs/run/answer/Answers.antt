@@ -12,7 +12,7 @@ returns-clause-gives c =
     let ran = c.run-ran.result in
     let outcome = c.written_in_memory-outcome.result in
     let went = c.run-ran.new.output.inner.items in
-    let output = c.written_in_memory-outcome.new.output.items in
+    let output = c.written_in_memory-outcome.new.output.inner.items in
     gives words paths sizes contents output outcome c.exit_status-status.result
     c.exit_status-status.ensures
     (still outcome ran went output (λ text. IsOutput words paths sizes contents [] text)

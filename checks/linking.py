@@ -1,7 +1,7 @@
 """Links the library that `./build --library` makes, from the static library of it_library.
 
 In crates/it_library/out/library: libitv.a and libitv.so, of which programs see the names that begin
-with itv_ and no others, and itv.pc, by which pkg-config finds them.
+with itv_ and no others, and itv.pc and itv-static.pc, by which pkg-config finds the one and the other.
 """
 
 import json
@@ -29,8 +29,10 @@ Name: itv
 Description: {summary}
 Version: {version}
 Cflags: -I${{includedir}}
-Libs: -L${{libdir}} -litv
+Libs: {libs}
 """
+# The files for pkg-config, with what each of them links.
+PACKAGES = {"itv.pc": "-L${libdir} -litv", "itv-static.pc": "${libdir}/libitv.a"}
 
 
 def c_code():
@@ -58,9 +60,9 @@ def link_shared(room, version):
     exports = room / "exports"
     exports.write_text(EXPORTS)
     shared = MADE / f"libitv.so.{version}"
-    run("cc", "-shared", f"-Wl,-soname,{SONAME}", f"-Wl,--version-script={exports}", "-Wl,-z,relro,-z,now",
-        "-Wl,--no-undefined", "-Wl,--whole-archive", PROVED, "-Wl,--no-whole-archive", c_code(),
-        "-o", shared)
+    run("cc", "-shared", f"-Wl,-soname,{SONAME}", f"-Wl,--version-script={exports}",
+        "-Wl,-z,relro,-z,now", "-Wl,--no-undefined", "-Wl,--whole-archive", PROVED,
+        "-Wl,--no-whole-archive", c_code(), "-o", shared)
     for name in (SONAME, "libitv.so"):
         (MADE / name).unlink(missing_ok=True)
         (MADE / name).symlink_to(shared.name)
@@ -74,5 +76,6 @@ def link():
     with tempfile.TemporaryDirectory() as name:
         link_static(Path(name))
         link_shared(Path(name), listed["version"])
-    (MADE / "itv.pc").write_text(PACKAGE.format(**listed))
+    for name, libs in PACKAGES.items():
+        (MADE / name).write_text(PACKAGE.format(libs=libs, **listed))
     return MADE

@@ -54,7 +54,9 @@ struct itv_lengths {
  * lengths   is set to how long both texts are. Where one is longer than its room, its first bytes
  *           are in the room and the rest is left out: call again with more room.
  *
- * No zero byte is added to a text. Bytes of a room after its text stay as they were.
+ * No zero byte is added to a text. Bytes of a room after its text stay as they were. Where the status
+ * is ITV_STOPPED or ITV_NO_MEMORY, the output is empty, but for digest, which may have written the
+ * lines of earlier files. Without memory the notes may be empty too.
  *
  * The status is ITV_STOPPED, and the notes say why, also where words or paths are not UTF-8, the
  * last of them is not ended by a zero byte, paths, sizes and contents do not go together, two files

@@ -3,8 +3,10 @@
 `trials/library` runs it at the top of the repository. What is wanted is written here by hand.
 """
 
+import concurrent.futures
 import datetime
 import json
+import os
 import pathlib
 import tempfile
 
@@ -14,6 +16,14 @@ EXAMPLE = pathlib.Path("examples/public")
 AT = datetime.datetime(2026, 1, 1, tzinfo=datetime.timezone.utc)
 # SHA-256 of no bytes (FIPS 180-4).
 EMPTY = "e3b0c44298fc1c149afbf4c8996fb92427ae41e4649b934ca495991b7852b855"
+# The public key of RFC 8410, section 10.1, in PEM and as its bytes.
+PEM = b"""-----BEGIN PUBLIC KEY-----
+MCowBQYDK2VwAyEAGb9ECWmEzf6FQbrBZ9w7lshQhqowtrbLDFw4rXAxZuE=
+-----END PUBLIC KEY-----
+"""
+PUBLIC = "19bf44096984cdfe8541bac167dc3b96c85086aa30b6b6cb0c5c38ad703166e1"
+# How many threads verify at once, and how many deliveries each.
+THREADS, TIMES = 8, 1000
 
 
 def given(**other):
@@ -47,6 +57,25 @@ def verifications():
     assert other.refusal.number == 40 and other.refusal.details["path"] == "hello.tar"
     zone = datetime.timezone(datetime.timedelta(hours=2))
     assert itv.verify(**given(at=AT.astimezone(zone))).accepted
+    early = datetime.datetime(1, 1, 1, tzinfo=datetime.timezone.utc)
+    assert itv.verify(**given(at=early)).accepted
+    deep = itv.verify(**given(depth=0))
+    assert deep.refusal.name == "TooDeep", deep.refusal
+    assert deep.refusal.at == [{"step": "pack", "key": "carol"}], deep.refusal.at
+    told = raises(itv.Stopped, itv.verify, **given(most_checks=1))
+    assert str(told).startswith("more than 1 signatures would have to be checked"), told
+
+
+def strictly():
+    """A strict verification, of a delivery whose file is tied to no step."""
+    assert itv.verify(**given(strict=True)).accepted
+    policy = json.loads((EXAMPLE / "policy.json").read_bytes())
+    policy["deliver"] = [["ALLOW", "hello.tar"], ["DISALLOW", "*"]]
+    untied = given(policy=json.dumps(policy).encode())
+    assert itv.verify(**untied).accepted
+    told = raises(itv.Found, itv.verify, **untied, strict=True)
+    assert told.notes == ['policy untied-file /deliver: no MATCH rule WITH PRODUCTS FROM a step '
+                          'takes "hello.tar"'], told.notes
 
 
 def folders():
@@ -59,7 +88,16 @@ def folders():
     raises(ValueError, itv.verify, **given(links={"a/b.link": b""}))
     raises(TypeError, itv.verify, **given(links="links"))
     with tempfile.TemporaryDirectory() as name:
-        assert itv.verify(**given(links=pathlib.Path(name))).refusal.number == 33
+        folder = pathlib.Path(name)
+        assert itv.verify(**given(links=folder)).refusal.number == 33
+        # Symbolic links to the true links, one that leads back, and a pipe.
+        for one in (EXAMPLE / "links").resolve().iterdir():
+            (folder / one.name).symlink_to(one)
+        (folder / "loop.x").symlink_to(folder)
+        os.mkfifo(folder / "pipe.link")
+        assert itv.verify(**given(links=folder)).accepted
+        (folder / "gone.link").symlink_to("nowhere")
+        raises(FileNotFoundError, itv.verify, **given(links=folder))
 
 
 def misuse():
@@ -91,6 +129,10 @@ def commands():
         path = pathlib.Path(name, "empty")
         path.write_bytes(b"")
         assert itv.digest(path) == f"{EMPTY}  {path}\n".encode()
+        for odd in ("line\nfeed", "\udcff"):
+            other = pathlib.Path(name, odd)
+            other.write_bytes(b"")
+            raises(ValueError, itv.digest, other)
     ring = b'[{"id": "k", "secret": "00"}]'
     envelope = itv.sign(b"{}", key="k", type="t", ring=ring)
     assert itv.signed(envelope, ring=ring) == ["k"] and itv.payload(envelope) == b"{}"
@@ -101,11 +143,43 @@ def commands():
     assert made["products"] == {"a": {"sha256": EMPTY}} and made["materials"] == {}
     stated = json.loads(itv.statement(sums=itv.digest(of={"a": b""}), builder="b", build_type="t"))
     assert stated["subject"] == [{"name": "a", "digest": {"sha256": EMPTY}}]
-    assert len(itv.key(EXAMPLE / "keys" / "alice.pem", name="alice")["alice"]["keyval"]["public"]) == 64
+    assert itv.key(PEM, name="alice")["alice"]["keyval"] == {"public": PUBLIC}
+    assert [one["keyval"]["public"] for one in itv.key(PEM).values()] == [PUBLIC]
+    told = raises(itv.Stopped, itv.key, EXAMPLE / "keys" / "alice.pem")
+    assert "it is a private key" in str(told), told
     assert itv.check(policy=EXAMPLE / "policy.json").notes == []
 
 
+def answer_of(parts):
+    """One word for what comes of a delivery."""
+    try:
+        verdict = itv.verify(**parts)
+    except itv.Found:
+        return "findings"
+    return "accepted" if verdict.accepted else verdict.refusal.name
+
+
+def at_once():
+    """Deliveries verified in several threads, each of which must get what it does alone."""
+    policy = json.loads((EXAMPLE / "policy.json").read_bytes())
+    policy["deliver"] = [["ALLOW", "hello.tar"], ["DISALLOW", "*"]]
+    late = datetime.datetime(2126, 1, 1, tzinfo=datetime.timezone.utc)
+    cases = [(given(), "accepted"), (given(at=late), "Expired"),
+             (given(sums=f"{EMPTY}  hello.tar\n".encode()), "RuleFailed"),
+             (given(policy=json.dumps(policy).encode(), strict=True), "findings")]
+
+    def verified(thread):
+        """How many answers a thread got that it should not."""
+        chosen = (cases[(thread + time) % len(cases)] for time in range(TIMES))
+        return sum(answer_of(parts) != wanted for parts, wanted in chosen)
+
+    with concurrent.futures.ThreadPoolExecutor(THREADS) as pool:
+        assert sum(pool.map(verified, range(THREADS))) == 0
+    print(f"Python: {THREADS} threads verify {TIMES:,} deliveries each, and no answer differs")
+
+
 if __name__ == "__main__":
-    for trial in (verifications, folders, misuse, commands):
+    for trial in (verifications, strictly, folders, misuse, commands):
         trial()
     print("Python: verdicts, folders, misuse and commands give what they should")
+    at_once()

@@ -11,14 +11,15 @@
 Each function runs a command of `itv`, over the documents that it is given: bytes as they are, a
 `pathlib.Path` as what its file holds. Folders of links and of records are a `pathlib.Path`, or a
 dictionary from names to documents, in which a dictionary is a folder. That a delivery is refused is
-a value; that a command does not run is a `Stopped`, with the sentence of the program.
+a value; that a command does not run is a `Stopped`, with the sentence of the program. Functions may
+be called in several threads at once.
 """
 
 from ._commands import check, digest, key, link, match, pae, payload, sign, signed, statement
-from ._errors import ItvError, NoMemory, Refused, Stopped
+from ._errors import Found, ItvError, NoMemory, Refused, Stopped
 from ._library import Run, run, version
 from ._verify import Refusal, Verdict, verify
 
-__all__ = ["ItvError", "NoMemory", "Refusal", "Refused", "Run", "Stopped", "Verdict", "check",
-           "digest", "key", "link", "match", "pae", "payload", "run", "sign", "signed", "statement",
-           "verify", "version"]
+__all__ = ["Found", "ItvError", "NoMemory", "Refusal", "Refused", "Run", "Stopped", "Verdict",
+           "check", "digest", "key", "link", "match", "pae", "payload", "run", "sign", "signed",
+           "statement", "verify", "version"]

@@ -7,7 +7,7 @@ import pathlib
 from typing import Any, Dict, List, Mapping, Optional
 
 from ._documents import Document, bytes_of
-from ._library import run
+from ._library import lines_of, run
 
 
 @dataclasses.dataclass(frozen=True)
@@ -25,7 +25,7 @@ def check(*, policy: Optional[Document] = None, layout: Optional[Document] = Non
     given = {"policy": policy, "layout": layout}
     files = {name: bytes_of(one, name) for name, one in given.items() if one is not None}
     found = run(["check", *(f"--{name}={name}" for name in files)], files)
-    return Checked(found.status == 0, found.output.decode().splitlines(), found.notes)
+    return Checked(found.status == 0, lines_of(found.output.decode()), found.notes)
 
 
 def signed(envelope: Document, *, ring: Optional[Document] = None,
@@ -35,7 +35,7 @@ def signed(envelope: Document, *, ring: Optional[Document] = None,
     name, by = _by(ring=ring, keys=keys)
     found = run(["signed", f"--{name}={name}", "--", "envelope"],
                 {"envelope": bytes_of(envelope, "envelope"), name: bytes_of(by, name)})
-    return found.output.decode().splitlines() if found.status == 0 else []
+    return lines_of(found.output.decode()) if found.status == 0 else []
 
 
 def _by(**given):
@@ -56,7 +56,8 @@ def digest(*paths: pathlib.Path, of: Optional[Mapping[str, bytes]] = None) -> by
     their names.
 
     The files at paths are digested here, by Python's `hashlib`, so that they need no room in
-    memory; the names in the list are the paths as they are written.
+    memory; the names in the list are the paths as `pathlib` writes them. A name with a line feed or
+    that is not UTF-8 is a `ValueError`.
     """
     if of is not None:
         if paths:
@@ -74,7 +75,7 @@ def _line(path):
     with open(path, "rb") as file:
         for block in iter(lambda: file.read(1 << 20), b""):
             hashed.update(block)
-    return f"{hashed.hexdigest()}  {name}\n".encode(errors="surrogateescape")
+    return f"{hashed.hexdigest()}  {name}\n".encode()
 
 
 def pae(body: Document, *, type: str) -> bytes:  # pylint: disable=redefined-builtin

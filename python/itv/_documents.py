@@ -1,6 +1,7 @@
 """Documents and folders, as files in memory."""
 
 import pathlib
+import stat
 from typing import Dict, Mapping, Union
 
 Document = Union[bytes, pathlib.Path]
@@ -16,13 +17,18 @@ def bytes_of(document: Document, what: str) -> bytes:
     raise TypeError(f"{what} is bytes or a pathlib.Path, not {type(document).__name__}")
 
 
-def _from_disk(folder, at):
-    """The links and records at or below a folder, with the folders that may have some."""
+def _from_disk(folder, at, depth):
+    """The links and records of a folder, and of the folders in it that may have some, down to a
+    depth, as the program reads them: what is neither a file nor a folder, as a pipe, is skipped and
+    not opened, and a symbolic link that leads nowhere is an error."""
     for entry in sorted(folder.iterdir()):
-        if entry.is_dir():
-            if "." in entry.name:
-                yield from _from_disk(entry, f"{at}/{entry.name}")
-        elif entry.name.endswith(".link"):
+        is_link = entry.name.endswith(".link")
+        if not is_link and (depth == 0 or "." not in entry.name):
+            continue
+        mode = entry.stat().st_mode
+        if stat.S_ISDIR(mode) and depth > 0:
+            yield from _from_disk(entry, f"{at}/{entry.name}", depth - 1)
+        elif stat.S_ISREG(mode) and is_link:
             yield f"{at}/{entry.name}", entry.read_bytes()
 
 
@@ -37,13 +43,13 @@ def _from_mapping(folder, at, what):
             yield f"{at}/{name}", bytes_of(document, what)
 
 
-def files_of(folder: Folder, at: str, what: str) -> Dict[str, bytes]:
-    """The files of a folder under a path. A folder has one file at least, which no command reads,
-    so that it is there also where it is empty."""
+def files_of(folder: Folder, what: str, depth: int) -> Dict[str, bytes]:
+    """The files of a folder, under its name, of a path those down to a depth. A folder without
+    files gets one that no command reads, so that it is there."""
     if isinstance(folder, pathlib.Path):
-        found = _from_disk(folder, at)
+        found = _from_disk(folder, what, depth)
     elif isinstance(folder, Mapping):
-        found = _from_mapping(folder, at, what)
+        found = _from_mapping(folder, what, what)
     else:
         raise TypeError(f"{what} is a pathlib.Path or a dictionary, not {type(folder).__name__}")
-    return {f"{at}/.itv": b"", **dict(found)}
+    return dict(found) or {f"{what}/.itv": b""}

@@ -16,6 +16,11 @@ class Stopped(ItvError):
         self.notes = list(notes)
 
 
+class Found(Stopped):
+    """A strict verification found something in a delivery that it would have accepted: `notes` say
+    what, after those on links that are left out."""
+
+
 class NoMemory(Stopped, MemoryError):
     """A command stopped since memory was refused: status 3 of the program."""
 

@@ -6,13 +6,15 @@ import os
 import pathlib
 from typing import List, Mapping, Sequence
 
-from ._errors import ItvError, NoMemory, Stopped
+from ._errors import Found, ItvError, NoMemory, Stopped
 
 # Its name on systems where it is installed. The environment variable ITV_LIBRARY names another.
 SONAME = "libitv.so.1"
 # How many bytes of room the texts of a run get at first.
 ROOM = 65536
 GOOD, REFUSED, STOPPED, NO_MEMORY = range(4)
+# Why a strict verification stops that found something.
+FOUND = "findings stand against the delivery, which would be accepted without --strict"
 
 
 @dataclasses.dataclass(frozen=True)
@@ -67,6 +69,11 @@ def _ended(texts, what):
     return b"".join(text.encode(errors="surrogateescape") + b"\0" for text in texts)
 
 
+def lines_of(text: str) -> List[str]:
+    """The lines of a text, each of which ends with a line feed. Other characters end no line."""
+    return text.removesuffix("\n").split("\n") if text else []
+
+
 def _called(words, files):
     """The status, the output and the notes of a command."""
     paths, contents = _ended(files, "path"), b"".join(files.values())
@@ -86,10 +93,11 @@ def _called(words, files):
 def run(words: Sequence[str], files: Mapping[str, bytes]) -> Run:
     """Runs a command by its words, over files: a mapping from paths to bytes.
 
-    Raises `Stopped`, or `NoMemory`, where the program would end with status 2 or 3.
+    Raises `Stopped`, or `NoMemory`, where the program would end with status 2 or 3; `Found` where a
+    strict verification found something.
     """
     status, output, notes = _called(words, files)
-    lines = notes.decode(errors="backslashreplace").splitlines()
+    lines = lines_of(notes.decode(errors="backslashreplace"))
     if status in (GOOD, REFUSED):
         return Run(status, output, lines)
     if status not in (STOPPED, NO_MEMORY):
@@ -97,4 +105,5 @@ def run(words: Sequence[str], files: Mapping[str, bytes]) -> Run:
     begin = max((at for at, line in enumerate(lines) if line.startswith("itv: ")),
                 default=len(lines))
     sentence = "\n".join(lines[begin:]).partition("itv: ")[2] or "no memory"
-    raise (NoMemory if status == NO_MEMORY else Stopped)(sentence, lines[:begin])
+    kind = NoMemory if status == NO_MEMORY else Found if sentence == FOUND else Stopped
+    raise kind(sentence, lines[:begin])

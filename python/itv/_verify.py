@@ -11,6 +11,8 @@ from ._library import run
 
 # The form of the report that is asked for.
 FORM = "--json"
+# How deep sublayouts may lie where nothing else is said, and at most.
+DEPTH, MOST_DEPTH = 4, 8
 
 
 @dataclasses.dataclass(frozen=True)
@@ -62,25 +64,29 @@ def _moment(at):
     if not isinstance(at, datetime.datetime) or at.utcoffset() is None:
         raise ValueError("at is a datetime.datetime with a zone, such as "
                          "datetime.datetime.now(datetime.timezone.utc)")
-    return at.astimezone(datetime.timezone.utc).strftime("%Y-%m-%dT%H:%M:%SZ")
+    moment = at.astimezone(datetime.timezone.utc).replace(microsecond=0, tzinfo=None)
+    return f"{moment.isoformat()}Z"
 
 
 def verify(*, policy: Document, layout: Document, links: Folder, sums: Document,
            at: datetime.datetime, rings: Sequence[Document] = (), public_keys: bool = False,
            provenance: Optional[Document] = None, records: Optional[Folder] = None,
-           strict: bool = False, depth: Optional[int] = None) -> Verdict:
+           strict: bool = False, depth: Optional[int] = None,
+           most_checks: Optional[int] = None) -> Verdict:
     """Whether the files of a digest list were made as the policy and the layout prescribe.
 
     `sums` is the digest list of the delivered files, as `digest` makes it; `at` the moment at which
     no layout may have expired, a `datetime` with a zone, of which parts of a second are cut off.
     Signatures are checked by the `rings`, in their order, and then by `public_keys` where that is
-    true: one of both is needed. `depth` is how deep sublayouts may lie, 4 where it is not given.
+    true: one of both is needed. `depth` is how deep sublayouts may lie, 4 where it is not given;
+    `most_checks` how many signatures are checked by public keys at most, 20,000 where it is not.
 
-    Raises `Stopped` where the command stops; with `strict` also where something is found in what
+    Raises `Stopped` where the command stops; with `strict` a `Found` where something is found in what
     would be accepted.
     """
     files = {"policy": bytes_of(policy, "policy"), "layout": bytes_of(layout, "layout"),
-             "sums": bytes_of(sums, "sums"), **files_of(links, "links", "links")}
+             "sums": bytes_of(sums, "sums"),
+             **files_of(links, "links", DEPTH if depth is None else min(depth, MOST_DEPTH))}
     words = ["verify", FORM, "--policy=policy", "--layout=layout", "--links=links", "--sums=sums",
              f"--at={_moment(at)}"]
     for number, ring in enumerate(rings, 1):
@@ -90,9 +96,10 @@ def verify(*, policy: Document, layout: Document, links: Folder, sums: Document,
         files["provenance"] = bytes_of(provenance, "provenance")
         words.append("--provenance=provenance")
     if records is not None:
-        files.update(files_of(records, "records", "records"))
+        files.update(files_of(records, "records", 0))
         words.append("--records=records")
     words += ["--public-keys"] * bool(public_keys) + ["--strict"] * bool(strict)
-    words += [] if depth is None else [f"--depth={depth}"]
+    given_numbers = {"depth": depth, "most-checks": most_checks}
+    words += [f"--{name}={one}" for name, one in given_numbers.items() if one is not None]
     given = run(words, files)
     return _verdict(json.loads(given.output), given.notes)

@@ -50,6 +50,17 @@ module _ (words paths sizes contents : List ℕ) where
   alone text found status is answer =
       subst (λ t. IsAnswer words paths sizes contents t status) (sym is) answer
 
+-- what holds of a text and a good result holds of the text of a result that is good only where that
+-- one is, and then has its value and its text
+pub still : {E : Type 0} (result of : Result Status E) (old new : List ℕ)
+    (Holds : List ℕ → Status → Type 0)
+    → IfOk result (λ status. (of ≡ Ok status) × (new ≡ old)) → IfOk of (Holds old)
+    → IfOk result (Holds new)
+still (Ok status) of old new Holds same told =
+    subst (λ text. Holds text status) (sym same.1)
+    (subst (λ r. IfOk r (Holds old)) same.0 told)
+still (Err e) of old new Holds same told = tt
+
 -- why a command stopped shows in the status
 run_status : (fault : RunFault) → (2 ≤ exit_status (Err fault)) × (exit_status (Err fault) ≤ 3)
 run_status OutOfMemory = (lit≤ tt, lit≤ tt)

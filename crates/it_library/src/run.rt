@@ -1,11 +1,11 @@
 //! A command over files in memory, and what it gives.
-ghost use Rattle.std.specs.Prelude.{◌≡◌, ◌≤◌, IfOk};
+ghost use Rattle.std.specs.Prelude.{◌≡◌, ◌≤◌, IfOk, Ok};
 ghost use Rattle.it_library.specs.Answer.{Gives, IsOutput};
 
 use crate::handed::{Handed, files_in, words_in};
 use it_memory::Memory;
-use it_outcome::Status;
-use it_program::{Stop, exit_status, run_words};
+use it_outcome::{RunFault, Status};
+use it_program::{Remembering, Stop, exit_status, run_to};
 use std::alloc::{AllocError, Global};
 
 /// What a run gives.
@@ -25,14 +25,16 @@ pub(crate) fn answer(alloc: Global, handed: &Handed) -> Ran
         handed.now.contents.now result.output.items result.status }
     ensures most { result.status ≤ 3 }
 {
-    let mut output = Vec::new(alloc);
+    let bytes = Vec::new(alloc);
+    let mut output = Remembering::new(bytes);
     let mut notes = Vec::new(alloc);
-    let outcome = run(alloc, handed, &mut output, &mut notes);
+    let ran = run(alloc, handed, &mut output, &mut notes);
+    let outcome = written_in_memory(ran, &mut output);
     let status = exit_status(&outcome);
     note_stop(alloc, &outcome, &mut notes);
     Ran {
         status,
-        output,
+        output: output.inner,
         notes,
     }
 }
@@ -41,16 +43,33 @@ pub(crate) fn answer(alloc: Global, handed: &Handed) -> Ran
 fn run(
     alloc: Global,
     handed: &Handed,
-    output: &mut Vec<u8>,
+    output: &mut Remembering<Vec<u8>>,
     notes: &mut Vec<u8>,
 ) -> Result<Status, Stop>
     ensures { IfOk result (λ status. IsOutput handed.now.words.now handed.now.paths.now
-        handed.now.sizes.now handed.now.contents.now output.old.items output.new.items status) }
+        handed.now.sizes.now handed.now.contents.now output.old.inner.items
+        output.new.inner.items status) }
 {
     let words = words_in(alloc, handed.words)?;
     let files = files_in(alloc, handed)?;
     let memory = Memory::of(alloc, files)?;
-    run_words(&memory, words.as_slice(), output, notes)
+    run_to(&memory, words.as_slice(), output, notes)
+}
+
+/// The outcome of a command whose output goes to memory: where that was not taken, memory was
+/// refused, and nothing goes out.
+fn written_in_memory(
+    outcome: Result<Status, Stop>,
+    output: &mut Remembering<Vec<u8>>,
+) -> Result<Status, Stop>
+    ensures { IfOk result (λ status. (outcome ≡ Ok status)
+        × (output.new.inner.items ≡ output.old.inner.items)) }
+{
+    if outcome.is_err() && output.error.is_some() {
+        output.inner.clear();
+        return Err(Stop::from(RunFault::OutOfMemory));
+    }
+    outcome
 }
 
 /// Adds why the command stopped, where it did, as the program says it, if memory suffices.

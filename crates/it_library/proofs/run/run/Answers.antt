@@ -8,8 +8,8 @@ returns c =
     let handed = c.args.handed.now in
     let told = c.in_ok-words.ensures in
     answered handed.words.now handed.paths.now handed.sizes.now handed.contents.now
-    c.run_words.result told.0 (map string_bytes c.as_slice.result.now)
-    (files_of c.in_ok-files.files.items) c.in_ok-memory.memory c.args.output.now.items
-    c.run_words.new.out.items told.1
+    c.run_to.result told.0 (map string_bytes c.as_slice.result.now)
+    (files_of c.in_ok-files.files.items) c.in_ok-memory.memory c.args.output.now.inner.items
+    c.run_to.new.out.inner.items told.1
     (ap (map string_bytes) c.as_slice.ensures.value ∙ told.2) c.in_ok-files.ensures
-    c.in_ok-memory.ensures c.run_words.ensures.ok
+    c.in_ok-memory.ensures c.run_to.ensures.ok

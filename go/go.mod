@@ -1,0 +1,3 @@
+module hizorafy.example/itv
+
+go 1.19

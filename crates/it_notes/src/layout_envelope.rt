@@ -2,7 +2,7 @@
 ghost use Rattle.std.specs.Prelude.{◌≡◌, ◌++◌, IfOk, OnOk};
 ghost use Rattle.it_dsse.specs.Panel.{Panel};
 ghost use Rattle.it_report.specs.declared.refusal.Fault.TheVariants.{BadEnvelope, WrongPayloadType};
-ghost use Rattle.it_notes.specs.LayoutEnvelope.{envelope_line, type_line};
+ghost use Rattle.it_notes.specs.LayoutEnvelope.{envelope_line, expected_form, type_line};
 ghost use Rattle.it_notes.specs.RefusalNotes.{TellsInputs};
 
 use crate::lines::Line;
@@ -55,7 +55,15 @@ fn push_type(text: &mut Vec<u8>, found: &Text) -> Result<(), AllocError>
 {
     text.extend_from_slice(b"layout: its payload type is ")?;
     push_cut_name(text, found.as_str().as_bytes())?;
-    text.extend_from_slice(b" where application/vnd.in-toto+json is expected\n")
+    push_expected(text)
+}
+
+#[tactic(auto, unfolding(crate::specs::LayoutEnvelope::expected_form))]
+fn push_expected(text: &mut Vec<u8>) -> Result<(), AllocError>
+    ensures { OnOk result (text.new.items ≡ text.old.items ++ expected_form) }
+{
+    text.extend_from_slice(b" where application/vnd.in-toto+json is expected\n")?;
+    Ok(())
 }
 
 /// Why the file of the layout is no envelope.

@@ -47,7 +47,8 @@ impl Lines {
         }
         let mut line = Vec::new(self.alloc);
         note.push_line(&mut line)?;
-        self.lines.push(line)
+        self.lines.push(line)?;
+        Ok(())
     }
 
     /// The lines, each with its line feed. Where there are more notes than lines to write out, the

@@ -12,5 +12,5 @@ returns g c = λ path. let told = rw c.in-Some.is at c.in_ok-rule.ensures in rec
   met = c.in_ok-met.ensures;
   delivery = c.in_ok-delivery.ensures (g.C.Checks.panel c.args.checks.now) c.requires.known
       c.requires.steps;
-  returns = c.list_returns.ensures;
+  returns = c.list_returns-returns.ensures;
 }

@@ -1,5 +1,5 @@
 use Rattle.std.proofs.Common.{◌∙◌, refl}
-use Rattle.std.proofs.lemmas.Result.{IfErr-at_err, IfOk-weaker}
+use Rattle.std.proofs.lemmas.Result.{IfErr-at_err, IfErr-weaker, IfOk-weaker}
 use Rattle.it_verify.specs.VerifyOutput.{status_of}
 use Rattle.it_notes.proofs.verify_with_notes.verify_with_notes.Goals as goal
 
@@ -28,3 +28,7 @@ returns-clause-write g c = λ failed. (
   },
   (IfErr-at_err _ failed c.put-outcome.ensures.err).1,
 )
+
+pub returns-clause-faults : goal.returns-clause-faults
+returns-clause-faults g c =
+    IfErr-weaker c.put-outcome.result _ _ (λ fault failed. rw failed.0 tt) c.put-outcome.ensures.err

@@ -109,17 +109,21 @@ def full_parts(case, as_json, noted, given):
     found = [f"{one['document']} {one['name']} " for one in written.get("findings", [])]
     lines = noted.err.decode().splitlines()
     others = [line for line in lines if not line.startswith(tuple(found))]
-    members = ["notes", "notesComplete"]
-    if case["status"] == 0:
-        members.insert(0, "findings")
     told = [f"{one['document']} {one['name']} {one['place']}: {one['sentence']}"
             for one in written.get("findings", [])]
     missing = [line for line in lines if line not in others and line not in told]
+    given_notes = written["notes"]
+    if others and others[-1].endswith(" further notes"):
+        # What is found is counted among the further notes, and is not among the notes of the object.
+        others, given_notes = others[:39], given_notes[:39]
+    members = ["notes", "notesComplete"]
+    if case["status"] == 0:
+        members.insert(0, "findings")
     return [("status of --json=2", str(case["status"]).encode(), str(given.status).encode()),
             ("beginning of --json=2", as_json[:-2], given.out[:len(as_json) - 2]),
             ("members of --json=2", str(members).encode(),
              str(list(written)[len(json.loads(as_json)):]).encode()),
             ("notes of --json=2", str((others, True)).encode(),
-             str((written["notes"], written["notesComplete"])).encode()),
+             str((given_notes, written["notesComplete"])).encode()),
             ("findings of --json=2", b"[]", str(missing).encode()),
             ("errors of --json=2", b"", given.err)]

@@ -62,6 +62,8 @@ func TestVerdicts(t *testing.T) {
 	is(t, accepted.Accepted, true)
 	is(t, accepted.Refusal, (*itv.Refusal)(nil))
 	is(t, accepted.Notes, []string(nil))
+	is(t, accepted.NotesComplete, true)
+	is(t, len(accepted.Findings), 0)
 	is(t, strings.HasPrefix(string(accepted.Report), `{"verdict":"accepted",`), true)
 
 	late := public()

@@ -56,10 +56,26 @@ type Verdict struct {
 	Steps []Step
 	// Files are the paths of the delivered files, of an accepted delivery.
 	Files []string
-	// Notes are what the program writes to standard error, for people.
+	// Findings are what is found in the policy and in the layout of an accepted delivery.
+	Findings []Finding
+	// Notes are sentences for people, which say more about the verdict.
 	Notes []string
-	// Report is the whole report, as itv verify --json writes it.
+	// NotesComplete is false where memory was refused for the notes.
+	NotesComplete bool
+	// Report is the whole report, as itv verify --json=2 writes it.
 	Report json.RawMessage
+}
+
+// Finding is something in the policy or in the layout that may not do what its author meant.
+type Finding struct {
+	// Document is "policy" or "layout".
+	Document string `json:"document"`
+	// Name is the name of the finding.
+	Name string `json:"name"`
+	// Place is a JSON pointer.
+	Place string `json:"place"`
+	// Sentence says what is found.
+	Sentence string `json:"sentence"`
 }
 
 // Step is a step of an accepted delivery, and how many different keys signed for it.
@@ -121,7 +137,7 @@ func (delivery *Delivery) handOver() ([]string, map[string][]byte, error) {
 	if delivery.At.IsZero() {
 		return nil, nil, errors.New("itv: the moment At of the delivery is not set")
 	}
-	words := []string{"verify", "--json", "--policy=policy", "--layout=layout", "--links=links",
+	words := []string{"verify", "--json=2", "--policy=policy", "--layout=layout", "--links=links",
 		"--sums=sums", "--at=" + delivery.At.UTC().Format("2006-01-02T15:04:05Z")}
 	files := map[string][]byte{"policy": delivery.Policy, "layout": delivery.Layout,
 		"sums": delivery.Sums}
@@ -178,17 +194,21 @@ func (delivery *Delivery) options() []string {
 // verdictOf is the verdict of a report in JSON.
 func verdictOf(ran *Result) (*Verdict, error) {
 	var report struct {
-		Verdict string   `json:"verdict"`
-		Steps   []Step   `json:"steps"`
-		Files   []string `json:"files"`
-		Number  int      `json:"number"`
-		Name    string   `json:"name"`
-		At      []Place  `json:"at"`
+		Verdict       string    `json:"verdict"`
+		Steps         []Step    `json:"steps"`
+		Files         []string  `json:"files"`
+		Number        int       `json:"number"`
+		Name          string    `json:"name"`
+		At            []Place   `json:"at"`
+		Findings      []Finding `json:"findings"`
+		Notes         []string  `json:"notes"`
+		NotesComplete bool      `json:"notesComplete"`
 	}
 	if err := json.Unmarshal(ran.Output, &report); err != nil {
 		return nil, fmt.Errorf("itv: the report is not read: %w", err)
 	}
-	verdict := Verdict{Notes: ran.Notes, Report: ran.Output}
+	verdict := Verdict{Findings: report.Findings, Notes: append(ran.Notes, report.Notes...),
+		NotesComplete: report.NotesComplete, Report: ran.Output}
 	if report.Verdict == "accepted" {
 		verdict.Accepted, verdict.Steps, verdict.Files = true, report.Steps, report.Files
 		return &verdict, nil
@@ -208,7 +228,7 @@ func detailsOf(report []byte) (map[string]any, error) {
 	if err := reader.Decode(&members); err != nil {
 		return nil, fmt.Errorf("itv: the report is not read: %w", err)
 	}
-	for _, name := range []string{"verdict", "number", "name", "at"} {
+	for _, name := range []string{"verdict", "number", "name", "at", "notes", "notesComplete"} {
 		delete(members, name)
 	}
 	for name, value := range members {

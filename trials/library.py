@@ -48,6 +48,13 @@ def verifications():
     """Verdicts, as values."""
     verdict = itv.verify(**given())
     assert verdict.accepted and verdict.refusal is None and verdict.notes == []
+    assert verdict.findings == [] and verdict.notes_complete
+    loose = json.loads((EXAMPLE / "policy.json").read_text())
+    del loose["expectations"][0]["level"]
+    found = itv.verify(**given(policy=json.dumps(loose).encode()))
+    assert found.accepted and [str(one) for one in found.findings] == [
+        "policy no-level /expectations/0/level: expectation 0 asks for level 0, which every builder "
+        "reaches"], found.findings
     assert verdict.raise_for_refusal() is verdict
     assert verdict.report["verdict"] == "accepted" and verdict.report["files"] == ["hello.tar"]
     late = itv.verify(**given(at=datetime.datetime(2126, 1, 1, tzinfo=datetime.timezone.utc)))

@@ -18,8 +18,8 @@ be called in several threads at once.
 from ._commands import check, digest, key, link, match, pae, payload, sign, signed, statement
 from ._errors import Found, ItvError, NoMemory, Refused, Stopped
 from ._library import Run, run, version
-from ._verify import Refusal, Verdict, verify
+from ._verify import Finding, Refusal, Verdict, verify
 
-__all__ = ["Found", "ItvError", "NoMemory", "Refusal", "Refused", "Run", "Stopped", "Verdict",
-           "check", "digest", "key", "link", "match", "pae", "payload", "run", "sign", "signed",
-           "statement", "verify", "version"]
+__all__ = ["Finding", "Found", "ItvError", "NoMemory", "Refusal", "Refused", "Run", "Stopped",
+           "Verdict", "check", "digest", "key", "link", "match", "pae", "payload", "run",
+           "sign", "signed", "statement", "verify", "version"]

@@ -10,7 +10,7 @@ from ._errors import Refused
 from ._library import run
 
 # The form of the report that is asked for.
-FORM = "--json"
+FORM = "--json=2"
 # How deep sublayouts may lie where nothing else is said, and at most.
 DEPTH, MOST_DEPTH = 4, 8
 
@@ -34,12 +34,31 @@ class Refusal:
 
 
 @dataclasses.dataclass(frozen=True)
+class Finding:
+    """Something in the policy or in the layout that may not do what its author meant: in which
+    document, the name of docs/formats.md, the place as a JSON pointer, and a sentence.
+    """
+
+    document: str
+    name: str
+    place: str
+    sentence: str
+
+    def __str__(self):
+        return f"{self.document} {self.name} {self.place}: {self.sentence}"
+
+
+@dataclasses.dataclass(frozen=True)
 class Verdict:
-    """Whether a delivery is accepted, the refusal where it is not, the notes, and the report."""
+    """Whether a delivery is accepted, the refusal where it is not, what is found where it is, the
+    notes, whether these are all, and the report.
+    """
 
     accepted: bool
     refusal: Optional[Refusal]
+    findings: List[Finding]
     notes: List[str]
+    notes_complete: bool
     report: Dict[str, Any]
 
     def raise_for_refusal(self) -> "Verdict":
@@ -49,14 +68,15 @@ class Verdict:
         return self
 
 
-def _verdict(report, notes):
-    """The verdict of a report in JSON. What a further form of the report has is read here."""
+def _verdict(report, before):
+    """The verdict of a report in JSON, with what is found and noted, and the notes before it."""
+    findings = [Finding(**one) for one in report.pop("findings", [])]
+    told = findings, [*before, *report.pop("notes")], report.pop("notesComplete"), report
     if report["verdict"] == "accepted":
-        return Verdict(True, None, notes, report)
+        return Verdict(True, None, *told)
     further = {name: value for name, value in report.items()
                if name not in ("verdict", "number", "name", "at")}
-    return Verdict(False, Refusal(report["number"], report["name"], report["at"], further), notes,
-                   report)
+    return Verdict(False, Refusal(report["number"], report["name"], report["at"], further), *told)
 
 
 def _moment(at):

@@ -19,7 +19,7 @@ import tree
 PAGE = tree.TOP / "docs" / "proved.md"
 MEANING = tree.TOP / "docs" / "semantics.md"
 # The crates whose definitions docs/semantics.md leaves out: those on public keys and on tables.
-LEFT_OUT = re.compile(r"it_(numbers|ed|p256|rsa|tables|vectors)|itv_cases")
+LEFT_OUT = re.compile(r"it_(numbers|ed|p256|p384|ecdsa_der|limb_slices|rsa|tables|vectors)|itv_cases")
 HEADING = re.compile(r"^## (.+)$", re.MULTILINE)
 LIST = "Further public functions, with what their contracts pin:"
 

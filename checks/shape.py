@@ -4,7 +4,8 @@
     shape.py           files, lines and bodies of src/ and specs/
     shape.py --proofs  the lines of proofs/ too, except those that name a goal and its answer
 
-A table that a script of conformance/ made may have any number of lines.
+A table that a script of conformance/ made may have any number of lines, and a line that is a number
+any length.
 """
 
 import re
@@ -17,6 +18,8 @@ MOST_COLUMNS = 100
 MOST_BODY_LINES = 35
 # A line of a proof with nothing but two names, both given by the check.
 ANSWER = re.compile(r"\s*(abbrev )?(pub )?\S+ : goal\.\S+$")
+# A line with nothing but a number, such as those of a curve.
+NUMBER = re.compile(r"\s*\d+$")
 # The first line of a table that a script made.
 MADE = re.compile(r"//! .+, made by conformance/\w+\.$")
 FUNCTION = re.compile(r"( *)(?:pub(?:\([a-z]+\))? )?(?:unsafe )?(?:const )?fn (\w+)")
@@ -36,7 +39,7 @@ def long_file(path, lines):
 def long_lines(path, lines):
     """The lines that have too many columns."""
     for number, line in enumerate(lines, 1):
-        if len(line) > MOST_COLUMNS and not ANSWER.match(line):
+        if len(line) > MOST_COLUMNS and not ANSWER.match(line) and not NUMBER.match(line):
             yield f"{tree.name_of(path)}:{number}: {len(line)} columns, more than {MOST_COLUMNS}"
 
 

@@ -43,7 +43,7 @@ def files(listed):
         yield f"itv/{path.name}", path.read_bytes()
     yield f"itv/{linking.SONAME}", (linking.MADE / linking.SONAME).read_bytes()
     about = f"itv-{listed['version']}.dist-info"
-    description = "\n\n".join(listed["description"][:2])
+    description = (tree.TOP / "python" / "README.md").read_text()
     yield f"{about}/METADATA", METADATA.format(**{**listed, "description": description}).encode()
     yield f"{about}/WHEEL", WHEEL.format(tag=tag()).encode()
 

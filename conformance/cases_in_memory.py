@@ -1,10 +1,11 @@
-"""Whole verifications by the Python package of the library, over files in memory."""
+"""Whole verifications by the packages of the library, over files in memory."""
 
+import base64
 import datetime
 import json
 import re
+import subprocess
 
-import itv
 from cases_on_disk import Difference, can_run, notes
 from on_disk import Answer, bytes_of
 from report_forms import json_of_lines
@@ -45,17 +46,6 @@ def laid_out(case):
     return words + ["--public-keys"] * bool(case.get("public_keys")), files
 
 
-def ran(words, files):
-    """What a command gives over files: status, output and notes."""
-    try:
-        given = itv.run(words, files)
-    except itv.Stopped as stop:
-        status = 3 if isinstance(stop, itv.NoMemory) else 2
-        lines = [*stop.notes, f"itv: {stop}"]
-        return Answer(status, b"", "".join(f"{line}\n" for line in lines).encode())
-    return Answer(given.status, given.output, "".join(f"{line}\n" for line in given.notes).encode())
-
-
 def moment_of(case):
     """The moment of a case, or None where no datetime is it."""
     found = MOMENT.fullmatch(case["at"]) if isinstance(case["at"], str) else None
@@ -65,30 +55,120 @@ def moment_of(case):
         return None
 
 
-def verified(case, moment):
-    """The report of the package's verdict on a case, as JSON."""
-    more = {name: bytes_of(case[name]) for name in ("provenance",) if case.get(name) is not None}
-    if case["records"]:
-        more["records"] = {f"{name}.link": bytes_of(one) for name, one in case["records"]}
-    verdict = itv.verify(
-        policy=bytes_of(case["policy"]), layout=bytes_of(case["layout"]),
-        links=folder_of(case["links"]), sums=bytes_of(case["sums"]), at=moment,
-        rings=[bytes_of(ring) for ring in case["rings"]], depth=case["depth"],
-        public_keys=bool(case.get("public_keys")), **more)
-    return verdict.report
+def documents(case):
+    """The documents of a case that are not folders, as both packages take them."""
+    given = {name: bytes_of(case[name]) for name in ("policy", "layout", "sums")}
+    if case.get("provenance") is not None:
+        given["provenance"] = bytes_of(case["provenance"])
+    return given
 
 
-def differences(case):
+def records_of(case):
+    """The records of a case, by the names of their files."""
+    return {f"{name}.link": bytes_of(one) for name, one in case["records"]}
+
+
+def answer_of(status, output, lines):
+    """An answer with these lines beside its output."""
+    return Answer(status, output, "".join(f"{line}\n" for line in lines).encode())
+
+
+class PythonPackage:
+    """The package for Python, in this process."""
+
+    def __init__(self):
+        # pylint: disable=import-outside-toplevel
+        import itv
+        self.itv = itv
+
+    def ran(self, words, files):
+        """What a command gives over files: status, output and notes."""
+        try:
+            given = self.itv.run(words, files)
+        except self.itv.Stopped as stop:
+            status = 3 if isinstance(stop, self.itv.NoMemory) else 2
+            return answer_of(status, b"", [*stop.notes, f"itv: {stop}"])
+        return answer_of(given.status, given.output, given.notes)
+
+    def verified(self, case, moment):
+        """The report of the verdict on a case, and what the verdict says by its own members."""
+        more = {"records": records_of(case)} if case["records"] else {}
+        verdict = self.itv.verify(
+            **documents(case), **more, links=folder_of(case["links"]), at=moment,
+            rings=[bytes_of(ring) for ring in case["rings"]], depth=case["depth"],
+            public_keys=bool(case.get("public_keys")))
+        if verdict.accepted:
+            return verdict.report, {"verdict": "accepted", "steps": verdict.report["steps"],
+                                    "files": verdict.report["files"]}
+        refusal = verdict.refusal
+        return verdict.report, {"verdict": "refused", "number": refusal.number, "name": refusal.name,
+                                "at": refusal.at, **refusal.details}
+
+
+def text_of(content):
+    """Bytes as Go's JSON has them."""
+    return base64.b64encode(content).decode()
+
+
+def texts_of(files):
+    """Files as Go's JSON has them."""
+    return {path: text_of(content) for path, content in files.items()}
+
+
+class GoPackage:
+    """The package for Go, in a process of trials/library_cases.go."""
+
+    def __init__(self, program):
+        # pylint: disable=consider-using-with
+        self.process = subprocess.Popen([program], stdin=subprocess.PIPE, stdout=subprocess.PIPE)
+
+    def asked(self, **request):
+        """What the program answers to a request."""
+        self.process.stdin.write(json.dumps(request).encode() + b"\n")
+        self.process.stdin.flush()
+        line = self.process.stdout.readline()
+        if not line:
+            raise EOFError(f"the program in Go ended with status {self.process.wait()}")
+        return json.loads(line)
+
+    def ran(self, words, files):
+        """What a command gives over files: status, output and notes."""
+        given = self.asked(words=words, files=texts_of(files))
+        output, lines = base64.b64decode(given["Output"] or ""), given["Notes"] or []
+        return answer_of(given["Status"], output, lines)
+
+    def verified(self, case, moment):
+        """The report of the verdict on a case, and what the verdict says by its own members."""
+        links = files_below(folder_of(case["links"]), "links")
+        delivery = {
+            **texts_of(documents(case)), "at": f"{moment.replace(tzinfo=None).isoformat()}Z",
+            "links": {path.partition("/")[2]: text_of(one) for path, one in links.items()},
+            "rings": [text_of(bytes_of(ring)) for ring in case["rings"]], "depth": case["depth"],
+            "publicKeys": bool(case.get("public_keys"))}
+        if case["records"]:
+            delivery["records"] = texts_of(records_of(case))
+        verdict = self.asked(delivery=delivery)
+        report = {name: one for name, one in verdict["Report"].items()
+                  if name not in ("findings", "notes", "notesComplete")}
+        if verdict["Accepted"]:
+            return report, {"verdict": "accepted", "steps": verdict["Steps"] or [],
+                            "files": verdict["Files"] or []}
+        refusal = verdict["Refusal"]
+        return report, {"verdict": "refused", "number": refusal["Number"], "name": refusal["Name"],
+                        "at": refusal["At"] or [], **refusal["Details"]}
+
+
+def differences(case, package):
     """Verifies a case by its words, and as the package's own function, and compares."""
     words, files = laid_out(case)
-    given, report = ran(words, files), bytes_of(case["report"])
+    given, report = package.ran(words, files), bytes_of(case["report"])
     parts = [("status", str(case["status"]).encode(), str(given.status).encode()),
              ("report", report, given.out), ("notes", *notes(case, given))]
     moment = moment_of(case)
     if moment:
-        wanted = json.loads(json_of_lines(report.decode()))
-        found = verified(case, moment)
-        parts.append(("verdict", json.dumps(wanted).encode(), json.dumps(found).encode()))
+        wanted = json.dumps(json.loads(json_of_lines(report.decode())), sort_keys=True).encode()
+        for kind, found in zip(("verdict's report", "verdict"), package.verified(case, moment)):
+            parts.append((kind, wanted, json.dumps(found, sort_keys=True).encode()))
     for kind, wanted_part, part in parts:
         if wanted_part != part:
             yield Difference(kind, words, wanted_part, part)

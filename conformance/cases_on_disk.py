@@ -4,7 +4,7 @@ import dataclasses
 import json
 
 from on_disk import bytes_of, is_name
-from report_forms import json_of_lines
+from report_forms import json_of_lines, places_text
 
 
 def is_folder(links):
@@ -99,6 +99,12 @@ def differences(program, case, folder):
                 yield Difference(kind, [*words, *more], wanted_part, part)
 
 
+def document_of(finding):
+    """How a line names the document of a finding: a sublayout with its place."""
+    at = finding["at"]
+    return f"{finding['document']} at {places_text(at)}" if at else finding["document"]
+
+
 def full_parts(case, as_json, noted, given):
     """What `--json=2` has to give beside what it gave, where `--json` gave these notes.
 
@@ -106,11 +112,12 @@ def full_parts(case, as_json, noted, given):
     for those that a note says in other words, and its notes are the other lines.
     """
     written = json.loads(given.out)
-    found = [f"{one['document']} {one['name']} " for one in written.get("findings", [])]
+    findings = [(document_of(one), one) for one in written.get("findings", [])]
+    found = [f"{document} {one['name']} " for document, one in findings]
     lines = noted.err.decode().splitlines()
     others = [line for line in lines if not line.startswith(tuple(found))]
-    told = [f"{one['document']} {one['name']} {one['place']}: {one['sentence']}"
-            for one in written.get("findings", [])]
+    told = [f"{document} {one['name']} {one['place']}: {one['sentence']}"
+            for document, one in findings]
     missing = [line for line in lines if line not in others and line not in told]
     given_notes = written["notes"]
     if others and others[-1].endswith(" further notes"):

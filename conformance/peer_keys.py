@@ -153,9 +153,11 @@ class Keys:
         return signer is not None and signer is self.key_of(hint)
 
     def owners(self, case):
-        """The keys of the owners."""
+        """The keys of the owners. One that is null counts as missing."""
         made = []
         for name, thing in owners_of(case).items():
+            if thing is None:
+                continue
             scheme = thing.get("scheme")
             key = known_key(thing) if self.public else None
             key = self.by_secret(name) if scheme == "hmac-sha256" else key

@@ -52,7 +52,8 @@ def steps_of(case):
 
 def listed(step, keys):
     """The ids of a step that have a key object, each once with it."""
-    return [(who, keys[who]) for who in dict.fromkeys(step.get("pubkeys") or []) if who in keys]
+    return [(who, keys[who]) for who in dict.fromkeys(step.get("pubkeys") or [])
+            if isinstance(keys.get(who), dict)]
 
 
 def objects_of(case):
@@ -113,7 +114,7 @@ def has_one_name_twice(case):
 def has_other_keyid(case):
     """Whether a key object has a `keyid` that is not the id under which it is listed."""
     return any(thing.get("keyid", who) != who for _, keys in steps_of(case)
-               for who, thing in keys.items())
+               for who, thing in keys.items() if isinstance(thing, dict))
 
 
 def has_slash_behind(case):

@@ -85,7 +85,8 @@ func TestVerdicts(t *testing.T) {
 func TestFolders(t *testing.T) {
 	delivery, folder := public(), t.TempDir()
 	delivery.Links = os.DirFS(folder)
-	is(t, refusalOf(t, delivery).Details, map[string]any{"step": "build", "found": 0, "needed": 1})
+	is(t, refusalOf(t, delivery).Details,
+		map[string]any{"step": "build", "found": uint64(0), "needed": uint64(1)})
 	delivery.Links = nil
 	is(t, refusalOf(t, delivery).Name, "Threshold")
 

@@ -7,6 +7,7 @@ import (
 	"fmt"
 	"io/fs"
 	"sort"
+	"strconv"
 	"strings"
 	"time"
 )
@@ -56,7 +57,8 @@ type Verdict struct {
 	Steps []Step
 	// Files are the paths of the delivered files, of an accepted delivery.
 	Files []string
-	// Findings are what is found in the policy and in the layout of an accepted delivery.
+	// Findings are what is found in the policy, the layout and the sublayouts of an accepted
+	// delivery.
 	Findings []Finding
 	// Notes are sentences for people, which say more about the verdict.
 	Notes []string
@@ -66,10 +68,13 @@ type Verdict struct {
 	Report json.RawMessage
 }
 
-// Finding is something in the policy or in the layout that may not do what its author meant.
+// Finding is something in the policy, in the layout or in a sublayout that may not do what its
+// author meant.
 type Finding struct {
 	// Document is "policy" or "layout".
 	Document string `json:"document"`
+	// At is the sublayout in which it lies, from the outermost one; none for the owners' layout.
+	At []Place `json:"at"`
 	// Name is the name of the finding.
 	Name string `json:"name"`
 	// Place is a JSON pointer.
@@ -90,7 +95,7 @@ type Refusal struct {
 	Name   string
 	// At is the sublayout in which it lies, from the outermost one; none for the owners' layout.
 	At []Place
-	// Details are the further members of the report: texts, and numbers as int.
+	// Details are the further members of the report: texts, and numbers as uint64.
 	Details map[string]any
 }
 
@@ -236,11 +241,11 @@ func detailsOf(report []byte) (map[string]any, error) {
 		if !ok {
 			continue
 		}
-		whole, err := number.Int64()
+		whole, err := strconv.ParseUint(number.String(), 10, 64)
 		if err != nil {
 			return nil, fmt.Errorf("itv: the report is not read: %w", err)
 		}
-		members[name] = int(whole)
+		members[name] = whole
 	}
 	return members, nil
 }

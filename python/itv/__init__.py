@@ -15,11 +15,12 @@ a value; that a command does not run is a `Stopped`, with the sentence of the pr
 be called in several threads at once.
 """
 
-from ._commands import check, digest, key, link, match, pae, payload, sign, signed, statement
+from ._commands import (Checked, check, digest, key, link, match, pae, payload, sign, signed,
+                        statement)
 from ._errors import Found, ItvError, NoMemory, Refused, Stopped
 from ._library import Run, run, version
 from ._verify import Finding, Refusal, Verdict, verify
 
-__all__ = ["Finding", "Found", "ItvError", "NoMemory", "Refusal", "Refused", "Run", "Stopped",
-           "Verdict", "check", "digest", "key", "link", "match", "pae", "payload", "run",
+__all__ = ["Checked", "Finding", "Found", "ItvError", "NoMemory", "Refusal", "Refused", "Run",
+           "Stopped", "Verdict", "check", "digest", "key", "link", "match", "pae", "payload", "run",
            "sign", "signed", "statement", "verify", "version"]

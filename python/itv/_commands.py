@@ -104,7 +104,7 @@ def sign(body: Document, *, key: str, type: str,  # pylint: disable=redefined-bu
 
 def link(name: str, *, materials: Optional[Document] = None,
          products: Optional[Document] = None) -> bytes:
-    """The body of a step's link, from digest lists."""
+    """The body of a step's link, from digest lists of its materials and of its products."""
     given = {"materials": materials, "products": products}
     files = {kind: bytes_of(one, kind) for kind, one in given.items() if one is not None}
     return run(["link", f"--name={name}", *(f"--{kind}={kind}" for kind in files)], files).output
@@ -112,7 +112,8 @@ def link(name: str, *, materials: Optional[Document] = None,
 
 def statement(*, sums: Document, builder: str, build_type: str,
               parameters: Optional[Document] = None) -> bytes:
-    """A Statement with provenance for the files of a digest list."""
+    """A Statement with provenance for the files of a digest list; `parameters` are the external
+    parameters of the build, a JSON object."""
     files = {"sums": bytes_of(sums, "sums")}
     words = ["statement", "--sums=sums", f"--builder={builder}", f"--build-type={build_type}"]
     if parameters is not None:

@@ -35,11 +35,13 @@ class Refusal:
 
 @dataclasses.dataclass(frozen=True)
 class Finding:
-    """Something in the policy or in the layout that may not do what its author meant: in which
-    document, the name of docs/formats.md, the place as a JSON pointer, and a sentence.
+    """Something in the policy, in the layout or in a sublayout that may not do what its author
+    meant: in which document, and `at` which sublayout, as the `at` of a refusal; the name of
+    docs/formats.md, the place as a JSON pointer, and a sentence.
     """
 
     document: str
+    at: Any
     name: str
     place: str
     sentence: str
@@ -95,11 +97,14 @@ def verify(*, policy: Document, layout: Document, links: Folder, sums: Document,
            most_checks: Optional[int] = None) -> Verdict:
     """Whether the files of a digest list were made as the policy and the layout prescribe.
 
-    `sums` is the digest list of the delivered files, as `digest` makes it; `at` the moment at which
-    no layout may have expired, a `datetime` with a zone, of which parts of a second are cut off.
-    Signatures are checked by the `rings`, in their order, and then by `public_keys` where that is
-    true: one of both is needed. `depth` is how deep sublayouts may lie, 4 where it is not given;
-    `most_checks` how many signatures are checked by public keys at most, 20,000 where it is not.
+    `policy` says who owns the layout, what may be delivered, and which provenance it needs; `layout`
+    is the layout in its envelope, and `links` are the signed links of its steps, with the folders of
+    sublayouts. `sums` is the digest list of the delivered files, as `digest` makes it; `at` the moment
+    at which no layout may have expired, a `datetime` with a zone, of which parts of a second are cut
+    off. Signatures are checked by the `rings`, in their order, and then by `public_keys` where that is
+    true: one of both is needed. `provenance` has an envelope on each line, and `records` are those of
+    inspections. `depth` is how deep sublayouts may lie, 4 where it is not given; `most_checks` how many
+    signatures are checked by public keys at most, 20,000 where it is not.
 
     Raises `Stopped` where the command stops; with `strict` a `Found` where something is found in what
     would be accepted.

@@ -2,3 +2,14 @@ pub mod Tags
 pub mod OneWay
 pub mod Stating
 pub mod Constraining
+pub mod Listing
+pub mod Distinct
+pub mod Within
+pub mod Times
+pub mod Using
+pub mod Naming
+pub mod Whole
+pub mod OneFacts
+pub mod Leaving
+pub mod Chaining
+pub mod OneLeaf

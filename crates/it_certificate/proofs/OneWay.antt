@@ -4,12 +4,12 @@ use Rattle.it_der.specs.Element.{IsElement, AreElements, BeginsWith, Tagged, byt
 use Rattle.std.proofs.Common.{◌+◌, ◌-◌, length, take, arith, length-append}
 use Rattle.std.proofs.lemmas.List.{take_at}
 use Rattle.it_der.proofs.Reading.{one_first, begins_alone, one_reading}
-use Rattle.it_certificate.specs.Certificate.{Parts, AreSigned, IsCertificate, outer_elements, signed_elements, signed_bytes}
+use Rattle.it_certificate.specs.Parts.{Parts, AreSigned, IsCertificate, outer_elements, signed_elements, signed_bytes}
 use Rattle.it_certificate.proofs.Tags.{content_at}
 
-pub one_content : (bytes content other : List ℕ) → IsElement bytes 48 content → IsElement bytes 48 other → content ≡ other
-one_content bytes content other one two =
-    (one_first bytes 48 48 content other [] [] (begins_alone bytes 48 content one) (begins_alone bytes 48 other two)).1
+pub one_content : {tag : ℕ} (bytes content other : List ℕ) → IsElement bytes tag content → IsElement bytes tag other → content ≡ other
+one_content {tag} bytes content other one two =
+    (one_first bytes tag tag content other [] [] (begins_alone bytes tag content one) (begins_alone bytes tag other two)).1
 
 -- the same parts of a certificate
 pub record AreSameOuter (signed algorithm signature signed' algorithm' signature' : List ℕ) : Type 0 where

@@ -7,7 +7,7 @@ use Rattle.it_der.specs.Element.{IsElement, AreElements, Tagged, tagged_of}
 use Rattle.it_der.specs.declared.elements.Element.{Element}
 use Rattle.it_certificate.specs.declared.extension.Extension.{Extension}
 use Rattle.it_der.proofs.Reading.{one_reading}
-use Rattle.it_certificate.specs.Certificate.{with_tags}
+use Rattle.it_certificate.specs.Parts.{with_tags}
 use Rattle.it_certificate.specs.Extension.{Stated, IsExtension, HoldsExtension, AreExtensions, extension_elements, stated_of}
 use Rattle.it_certificate.proofs.Tags.{content_at}
 use Rattle.it_certificate.proofs.OneWay.{one_content}

@@ -10,8 +10,8 @@ use Rattle.std.proofs.lemmas.Slice.Eq.{slice_eq-Decides}
 use Rattle.it_der.specs.Element.{AreElements, Tagged, tagged_of}
 use Rattle.it_der.specs.declared.elements.Element.{Element}
 use Rattle.it_der.proofs.Reading.{one_reading}
-use Rattle.it_certificate.specs.Certificate.{with_tags, outer_tags, outer_elements, signed_tags, signed_elements}
-use Rattle.it_certificate.specs.Certificate.{Parts, AreSigned}
+use Rattle.it_certificate.specs.Parts.{with_tags, outer_tags, outer_elements, signed_tags, signed_elements}
+use Rattle.it_certificate.specs.Parts.{Parts, AreSigned}
 
 -- what a comparison of bytes says
 pub differs : (xs ys : List ℕ) (t : Bool) → t ≡ not (pointwise nat_eq xs ys) → t ≡ true → xs ≡ ys → ⊥

@@ -3,7 +3,7 @@
 use Rattle.std.specs.Prelude.{◌≡◌, ℕ, Bool, true, false, List, [], ◌∷◌}
 use Rattle.std.specs.List.{AllZip}
 use Rattle.it_der.specs.Element.{IsElement, AreElements, Tagged}
-use Rattle.it_certificate.specs.Certificate.{with_tags}
+use Rattle.it_certificate.specs.Parts.{with_tags}
 use Rattle.it_certificate.specs.declared.extension.Extension.{Extension}
 
 -- an extension without where it lies in memory

@@ -1,9 +1,11 @@
 -- What is true of all certificates.
 use Rattle.std.specs.Prelude.{◌≡◌, List, ℕ}
-use Rattle.it_certificate.specs.Certificate.{IsCertificate, Parts}
+use Rattle.it_certificate.specs.Certificate.{CertificateOf, Facts}
 use Rattle.it_certificate.specs.Extension.{AreExtensions, Stated}
+use Rattle.it_certificate.specs.Leaf.{LeafOf}
+use Rattle.it_certificate.specs.Parts.{IsCertificate, Parts}
 
--- bytes are a certificate in at most one way
+-- bytes have the parts of a certificate in at most one way
 abbrev pub OneCertificate : Type 0
 OneCertificate = (bytes : List ℕ) (p q : Parts) (signature other : List ℕ)
     → IsCertificate bytes p signature → IsCertificate bytes q other
@@ -13,3 +15,13 @@ OneCertificate = (bytes : List ℕ) (p q : Parts) (signature other : List ℕ)
 abbrev pub OneList : Type 0
 OneList = (content : List ℕ) (extensions others : List Stated)
     → AreExtensions content extensions → AreExtensions content others → extensions ≡ others
+
+-- bytes are a certificate in at most one way
+abbrev pub OneWhole : Type 0
+OneWhole = (bytes : List ℕ) (f g : Facts) → CertificateOf bytes f → CertificateOf bytes g → f ≡ g
+
+-- bytes are a leaf in at most one way
+abbrev pub OneLeaf : Type 0
+OneLeaf = (bytes : List ℕ) (f g : Facts) (name issuer name' issuer' : List ℕ)
+    → LeafOf bytes f name issuer → LeafOf bytes g name' issuer'
+    → (f ≡ g) × (name ≡ name') × (issuer ≡ issuer')

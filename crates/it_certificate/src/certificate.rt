@@ -1,71 +1,80 @@
 //! Whole certificates.
-ghost use Rattle.std.specs.Prelude.{◌≡◌, ℕ, List, MatchOption, IfOk};
-ghost use Rattle.it_certificate.specs.Certificate.{IsCertificate, Parts, parts_of, signed_bytes};
+ghost use Rattle.std.specs.Prelude.{◌≡◌, MatchOption, IfOk};
+ghost use Rattle.it_certificate.specs.Certificate.{AreOf, CertificateOf, Facts, facts_of};
+ghost use Rattle.it_certificate.specs.Parts.{parts_of, signed_bytes};
 
-use crate::front::first_bytes;
-use crate::outer::outer_in;
-use crate::signed::signed_in;
-use it_der::content_of;
+use crate::algorithm::{Algorithm, algorithm_in};
+use crate::allowed::allowed_in;
+use crate::extension::Extension;
+use crate::known::Known;
+use crate::parts::{CertificateParts, read_parts};
+use crate::subject_key::{SubjectKey, key_in};
+use crate::validity::{Validity, validity_in};
 use std::alloc::{AllocError, Global};
 
-const SEQUENCE: u8 = 48;
-
-/// The contents of the parts of a certificate (RFC 5280, section 4.1), which are not looked into.
+/// A certificate (RFC 5280, section 4.1).
 #[derive(Drop)]
 pub struct Certificate<'b> {
-    /// Its serial number, which has some bytes.
-    pub serial: &'b [u8],
+    /// Its parts, as bytes.
+    pub parts: CertificateParts<'b>,
     /// The algorithm of its signature.
-    pub algorithm: &'b [u8],
-    /// The name of its issuer.
-    pub issuer: &'b [u8],
-    /// The first and the last moment at which it is valid.
-    pub validity: &'b [u8],
-    /// The name of its subject.
-    pub subject: &'b [u8],
-    /// The subject's public key.
-    pub key: &'b [u8],
-    /// Its extensions.
-    pub extensions: &'b [u8],
-    /// The bytes that the signature is of.
-    pub signed: &'b [u8],
-    /// Its signature.
-    pub signature: &'b [u8],
+    pub algorithm: Algorithm,
+    /// When it is valid.
+    pub validity: Validity,
+    /// Its subject's key.
+    pub key: SubjectKey<'b>,
+    /// Its extensions, in order.
+    pub extensions: Vec<Extension<'b>>,
+    /// What is read of them.
+    pub known: Known,
 }
 
-/// The certificate that the bytes are, in DER: of version 3, with extensions and without unique
-/// identifiers, and with the same algorithm inside and outside. `None` where they are none.
+/// The certificate that the bytes are. `None` where they are none, or one that is refused: for its
+/// algorithm, its key, an extension twice, a critical extension that is not known, or name
+/// constraints.
 ///
 /// # Errors
 ///
 /// `AllocError` where memory was refused.
 pub fn read_certificate(alloc: Global, bytes: &[u8]) -> Result<Option<Certificate<'_>>, AllocError>
     ensures { IfOk result (λ found. MatchOption found
-        ((p : Parts) (signature : List ℕ) → IsCertificate bytes.now p signature → ⊥)
-        (λ c. IsCertificate bytes.now (parts_of c) c.signature.now
-        × (c.signed.now ≡ signed_bytes (parts_of c)))) }
+        ((f : Facts) → CertificateOf bytes.now f → ⊥)
+        (λ c. CertificateOf bytes.now (facts_of c)
+        × (c.parts.signed.now ≡ signed_bytes (parts_of c.parts)))) }
 {
-    let Some(content) = content_of(bytes, SEQUENCE) else {
-        return Ok(None);
-    };
-    let Some(outer) = outer_in(alloc, content)? else {
-        return Ok(None);
-    };
-    let Some(signed) = signed_in(alloc, outer.signed)? else {
-        return Ok(None);
-    };
-    if signed.algorithm != outer.algorithm {
-        return Ok(None);
+    match read_parts(alloc, bytes)? {
+        Some(parts) => certificate_of(alloc, parts),
+        None => Ok(None),
     }
+}
+
+/// The certificate that has these parts.
+fn certificate_of<'b>(
+    alloc: Global,
+    parts: CertificateParts<'b>,
+) -> Result<Option<Certificate<'b>>, AllocError>
+    ensures { IfOk result (λ found. MatchOption found
+        ((f : Facts) → AreOf (parts_of parts.entry) f → ⊥)
+        (λ c. AreOf (parts_of parts.entry) (facts_of c) × (c.parts ≡ parts.entry))) }
+{
+    let Some(algorithm) = algorithm_in(parts.algorithm) else {
+        return Ok(None);
+    };
+    let Some(validity) = validity_in(alloc, parts.validity)? else {
+        return Ok(None);
+    };
+    let Some(key) = key_in(parts.key) else {
+        return Ok(None);
+    };
+    let Some(allowed) = allowed_in(alloc, parts.extensions)? else {
+        return Ok(None);
+    };
     Ok(Some(Certificate {
-        serial: signed.serial,
-        algorithm: signed.algorithm,
-        issuer: signed.issuer,
-        validity: signed.validity,
-        subject: signed.subject,
-        key: signed.key,
-        extensions: signed.extensions,
-        signed: first_bytes(content),
-        signature: outer.signature,
+        parts,
+        algorithm,
+        validity,
+        key,
+        extensions: allowed.all,
+        known: allowed.known,
     }))
 }

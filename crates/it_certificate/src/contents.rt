@@ -1,7 +1,7 @@
 //! Elements whose tags are known.
 ghost use Rattle.std.specs.Prelude.{◌≡◌, List, MatchOption, IfOk, length, map};
 ghost use Rattle.it_der.specs.Element.{AreElements, Tagged};
-ghost use Rattle.it_certificate.specs.Certificate.{with_tags};
+ghost use Rattle.it_certificate.specs.Parts.{with_tags};
 
 use it_der::{Element, elements_of};
 use std::alloc::{AllocError, Global};

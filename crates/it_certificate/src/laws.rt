@@ -1,8 +1,8 @@
 //! Laws about certificates: functions that do nothing, and whose contracts say what is true of all
 //! bytes.
-ghost use Rattle.it_certificate.specs.Laws.{OneCertificate, OneList};
+ghost use Rattle.it_certificate.specs.Laws.{OneCertificate, OneLeaf, OneList, OneWhole};
 
-/// Bytes are a certificate in at most one way.
+/// Bytes have the parts of a certificate in at most one way.
 pub fn one_certificate()
     ensures { OneCertificate }
 {}
@@ -10,4 +10,14 @@ pub fn one_certificate()
 /// The part of a certificate that has its extensions is extensions in at most one way.
 pub fn one_list()
     ensures { OneList }
+{}
+
+/// Bytes are a certificate in at most one way.
+pub fn one_whole()
+    ensures { OneWhole }
+{}
+
+/// Bytes are a leaf in at most one way.
+pub fn one_leaf()
+    ensures { OneLeaf }
 {}

@@ -1,23 +1,51 @@
-//! The parts of X.509 certificates (RFC 5280, section 4.1), their extensions and their basic
-//! constraints, from elements of DER. No command uses them yet.
+//! X.509 certificates in DER (RFC 5280): their parts and extensions, what the parts hold, the
+//! leaves that name who signed, and the certificates of authorities. No command uses them yet.
 //!
 //! ```
-//! let Some(certificate) = read_certificate(alloc, bytes)? else { .. };
-//! let extensions = read_extensions(alloc, certificate.extensions)?;
+//! let Some(leaf) = read_leaf(alloc, bytes)? else { .. };
+//! let name = leaf.identity.name;
 //! ```
 #![tactic(auto)]
 
+mod algorithm;
+mod allowed;
+mod authority;
 mod certificate;
 mod constraints;
 mod contents;
 mod extension;
 mod extensions;
 mod front;
+mod identifiers;
+mod issuer;
+mod known;
 pub mod laws;
+mod leaf;
+mod name;
 mod outer;
+mod parts;
+mod permitted;
+mod purposes;
 mod signed;
+mod subject_key;
+mod time;
+mod usage;
+mod validity;
+mod values;
 
+pub use algorithm::Algorithm;
+pub use authority::{are_tied, is_chain};
 pub use certificate::{Certificate, read_certificate};
 pub use constraints::{Constraints, read_constraints};
 pub use extension::Extension;
 pub use extensions::read_extensions;
+pub use identifiers::TIMESTAMPS;
+pub use known::Known;
+pub use leaf::{Identity, Leaf, read_leaf};
+pub use parts::{CertificateParts, read_parts};
+pub use purposes::Purposes;
+pub use subject_key::{Curve, SubjectKey};
+pub use time::Moment;
+pub use usage::Usage;
+pub use validity::Validity;
+pub use values::value_of;

@@ -1,7 +1,7 @@
 //! What a certificate signs, its algorithm and its signature.
 ghost use Rattle.std.specs.Prelude.{ℕ, List, MatchOption, IfOk};
 ghost use Rattle.it_der.specs.Element.{AreElements};
-ghost use Rattle.it_certificate.specs.Certificate.{outer_elements};
+ghost use Rattle.it_certificate.specs.Parts.{outer_elements};
 
 use crate::contents::contents_under;
 use std::alloc::{AllocError, Global};

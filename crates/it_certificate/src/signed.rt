@@ -1,6 +1,6 @@
 //! The parts that are signed.
 ghost use Rattle.std.specs.Prelude.{MatchOption, IfOk};
-ghost use Rattle.it_certificate.specs.Certificate.{AreSigned, Parts};
+ghost use Rattle.it_certificate.specs.Parts.{AreSigned, Parts};
 ghost use Rattle.it_certificate.specs.inside.Signed.{signed_parts};
 
 use crate::contents::contents_under;

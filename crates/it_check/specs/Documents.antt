@@ -14,7 +14,7 @@ use Rattle.it_docs.specs.Policy.{PolicyOf}
 use Rattle.it_docs.specs.PolicyPart.{PolicyPartOf}
 use Rattle.it_docs.specs.declared.layout_fault.LayoutPart.{LayoutPart}
 use Rattle.it_docs.specs.declared.policy_fault.PolicyPart.{PolicyPart}
-use Rattle.it_findings.specs.Members.{LayoutMembers, MembersOf, PolicyMembers}
+use Rattle.it_findings.specs.Members.{MembersOfLayout, MembersOfPolicy}
 use Rattle.it_findings.specs.NoThresholds.{NoThresholdsOf}
 use Rattle.it_findings.specs.NullKeys.{LayoutNulls, NullsOf, PolicyNulls}
 use Rattle.it_report.specs.declared.refusal.Fault.{Fault}
@@ -35,7 +35,7 @@ whole fault = record { at = []; fault = fault }
 abbrev pub IsPolicyReading : List ℕ → PolicyReading → Type 0
 IsPolicyReading bytes (policies.Read policy nulls members) =
     PolicyOf bytes policy × NullsOf PolicyNulls bytes nulls
-    × MembersOf PolicyMembers bytes members
+    × MembersOfPolicy bytes members
 IsPolicyReading bytes (policies.Bad refusal) =
     (part : PolicyPart) × PolicyPartOf bytes part × (refusal ≡ whole (BadPolicy part))
 
@@ -79,7 +79,7 @@ pub record HasOtherType (bytes : List ℕ) : Type 0 where
 abbrev pub IsBodyReading : List ℕ → LayoutReading → Type 0
 IsBodyReading body (layouts.Read layout nulls places members) =
     LayoutOf body layout × NullsOf LayoutNulls body nulls × NoThresholdsOf body places
-    × MembersOf LayoutMembers body members
+    × MembersOfLayout body members
 IsBodyReading body (layouts.Bad refusal) =
     (part : LayoutPart) × LayoutPartOf body part × (refusal ≡ whole (BadLayout part))
 

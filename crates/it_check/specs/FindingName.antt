@@ -14,6 +14,7 @@ null_name (OfBuilder expectation builder) = codes "null-key"
 null_name OfLayout = codes "null-key"
 
 abbrev pub member_name : MemberFinding → List ℕ
+member_name (members.Repeated root member) = codes "repeated-member"
 member_name (members.Unread place name) = codes "unread-member"
 member_name (members.PrivateKey key) = codes "private-key"
 

@@ -15,6 +15,11 @@ use Rattle.it_findings.specs.declared.null_key.KeyList.TheVariants.{OfBuilder, O
 use Rattle.it_findings.specs.declared.place.KeyPlace.{KeyPlace}
 use Rattle.it_findings.specs.declared.place.Place.{Place}
 use Rattle.it_findings.specs.declared.place.Place.TheVariants as places
+use Rattle.it_repeats.specs.declared.repeated_member.RepeatedMember.{RepeatedMember}
+use Rattle.it_repeats.specs.declared.repeated_member.Segment.{Segment}
+use Rattle.it_repeats.specs.declared.repeated_member.Segment.TheVariants as segments
+use Rattle.it_repeats.specs.declared.root.Root.{Root}
+use Rattle.it_repeats.specs.declared.root.Root.TheVariants as roots
 use Rattle.it_report.specs.Name.{name_form}
 use Rattle.it_check.specs.Pieces.{number_form}
 use Rattle.it_check.specs.declared.pointer_form.PointerForm.{PointerForm}
@@ -42,7 +47,12 @@ document_of_place (places.Inspection n) = codes "layout"
 document_of_place (places.Key key) = document_of_keys (list_of key)
 document_of_place (places.KeyValue key) = document_of_keys (list_of key)
 
+abbrev pub document_of_root : Root → List ℕ
+document_of_root roots.Policy = codes "policy"
+document_of_root roots.Layout = codes "layout"
+
 abbrev pub document_of_member : MemberFinding → List ℕ
+document_of_member (members.Repeated root member) = document_of_root root
 document_of_member (members.Unread place name) = document_of_place place
 document_of_member (members.PrivateKey key) = document_of_keys (list_of key)
 
@@ -135,8 +145,19 @@ object_pointer form (places.Inspection n) = number_form (codes "/inspect/") n (c
 object_pointer form (places.Key key) = key_pointer form (list_of key) (id_of key)
 object_pointer form (places.KeyValue key) = keyval_pointer form key
 
+-- a step of the way to a value
+unfoldable pub segment_form : PointerForm → Segment → List ℕ
+segment_form form (segments.Member name) = codes "/" ++ token_form form name
+segment_form form (segments.Item n) = codes "/" ++ decimal n
+
+-- the place of a member that comes again
+unfoldable pub repeated_pointer : PointerForm → RepeatedMember → List ℕ
+repeated_pointer form member =
+    flat_map (segment_form form) member.place ++ codes "/" ++ token_form form member.name
+
 -- the place of a finding on a member
 unfoldable pub member_pointer : PointerForm → MemberFinding → List ℕ
+member_pointer form (members.Repeated root member) = repeated_pointer form member
 member_pointer form (members.Unread place name) =
     object_pointer form place ++ codes "/" ++ token_form form name
 member_pointer form (members.PrivateKey key) = keyval_pointer form key ++ codes "/private"

@@ -3,7 +3,9 @@ use Rattle.std.specs.Prelude.{ℕ, List, [], ◌++◌, Option, Some, None, codes
 use Rattle.it_findings.specs.KeyPlaces.{id_of}
 use Rattle.it_findings.specs.MeantName.{meant_name}
 use Rattle.it_findings.specs.declared.member_finding.MemberFinding.{MemberFinding}
-use Rattle.it_findings.specs.declared.member_finding.MemberFinding.TheVariants.{PrivateKey, Unread}
+use Rattle.it_findings.specs.declared.member_finding.MemberFinding.TheVariants.{PrivateKey}
+use Rattle.it_findings.specs.declared.member_finding.MemberFinding.TheVariants.{Repeated}
+use Rattle.it_findings.specs.declared.member_finding.MemberFinding.TheVariants.{Unread}
 use Rattle.it_findings.specs.declared.place.Place.{Place}
 use Rattle.it_check.specs.Pieces.{told_form}
 
@@ -19,6 +21,9 @@ unread_sentence place name =
     ++ meant_form (meant_name place name)
 
 abbrev pub member_sentence : MemberFinding → List ℕ
+member_sentence (Repeated root member) =
+    told_form (codes "the member ") member.name
+    (codes " comes more than once, and the last one counts")
 member_sentence (Unread place name) = unread_sentence place name
 member_sentence (PrivateKey key) =
     told_form (codes "the key object of ") (id_of key) (codes " has a private key")

@@ -34,6 +34,7 @@ fn member_name(finding: &MemberFinding) -> &'static str
     ensures { result.now ≡ member_name_form finding.now }
 {
     match finding {
+        MemberFinding::Repeated { .. } => "repeated-member",
         MemberFinding::Unread { .. } => "unread-member",
         MemberFinding::PrivateKey(_) => "private-key",
     }

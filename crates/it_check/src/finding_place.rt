@@ -3,6 +3,7 @@ ghost use Rattle.std.specs.Prelude.{◌≡◌, ◌++◌, OnOk};
 ghost use Rattle.it_check.specs.FindingPlace.{document_of, document_of_keys as keys_document};
 ghost use Rattle.it_check.specs.FindingPlace.{document_of_member as member_document};
 ghost use Rattle.it_check.specs.FindingPlace.{document_of_place as place_document};
+ghost use Rattle.it_check.specs.FindingPlace.{document_of_root as root_document};
 ghost use Rattle.it_check.specs.FindingPlace.{document_of_rules as rules_document, pointer_of};
 ghost use Rattle.it_findings.specs.KeyPlaces.{list_of};
 
@@ -15,6 +16,7 @@ use it_findings::finding::{Finding, RuleList};
 use it_findings::member_finding::MemberFinding;
 use it_findings::null_key::KeyList;
 use it_findings::place::{KeyPlace, Place};
+use it_repeats::root::Root;
 use std::alloc::AllocError;
 
 /// The document that a finding is in: `policy` or `layout`. Takes no memory.
@@ -48,8 +50,18 @@ fn document_of_member(finding: &MemberFinding) -> &'static str
     ensures { result.now ≡ member_document finding.now }
 {
     match finding {
+        MemberFinding::Repeated { root, .. } => document_of_root(*root),
         MemberFinding::Unread { place, .. } => document_of_place(place),
         MemberFinding::PrivateKey(key) => document_of_key(key),
+    }
+}
+
+fn document_of_root(root: Root) -> &'static str
+    ensures { result.now ≡ root_document root }
+{
+    match root {
+        Root::Policy => "policy",
+        Root::Layout => "layout",
     }
 }
 

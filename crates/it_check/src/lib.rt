@@ -15,6 +15,7 @@ mod null_key_sentence;
 mod part_notes;
 pub mod pointer_form;
 mod pointers;
+mod repeated_pointer;
 mod rule_sentences;
 mod shared_key_sentence;
 mod step_key_sentences;

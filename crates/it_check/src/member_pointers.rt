@@ -6,11 +6,13 @@ ghost use Rattle.it_findings.specs.KeyPlaces.{id_of, list_of};
 
 use crate::pointer_form::PointerForm;
 use crate::pointers::{push_expectation, push_key, push_step};
+use crate::repeated_pointer::push_repeated;
 use crate::token::push_token;
 use crate::writing::{push_number, push_text, push_told_number};
 use it_base::text::Text;
 use it_findings::member_finding::MemberFinding;
 use it_findings::place::{KeyPlace, Place};
+use it_repeats::repeated_member::RepeatedMember;
 use std::alloc::AllocError;
 
 /// Appends the place of a finding on a member.
@@ -23,6 +25,7 @@ pub(crate) fn push_member(
     ensures { OnOk result (text.new.items ≡ text.old.items ++ member_pointer form finding.now) }
 {
     match finding {
+        MemberFinding::Repeated { member, .. } => push_repeated(text, form, member),
         MemberFinding::Unread { place, name } => push_named(text, form, place, name),
         MemberFinding::PrivateKey(key) => push_private(text, form, key),
     }

@@ -15,9 +15,18 @@ pub(crate) fn push_on_member(text: &mut Vec<u8>, finding: &MemberFinding) -> Res
     ensures { OnOk result (text.new.items ≡ text.old.items ++ member_sentence finding.now) }
 {
     match finding {
+        MemberFinding::Repeated { member, .. } => push_repeated(text, &member.name),
         MemberFinding::Unread { place, name } => push_unread(text, place, name),
         MemberFinding::PrivateKey(key) => push_private(text, key),
     }
+}
+
+fn push_repeated(text: &mut Vec<u8>, name: &Text) -> Result<(), AllocError>
+    ensures { OnOk result (text.new.items ≡ text.old.items ++ told_form (codes "the member ")
+        name.now (codes " comes more than once, and the last one counts")) }
+{
+    let after = " comes more than once, and the last one counts";
+    push_told(text, "the member ", name, after)
 }
 
 fn push_private(text: &mut Vec<u8>, key: &KeyPlace) -> Result<(), AllocError>

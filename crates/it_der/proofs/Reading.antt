@@ -1,7 +1,7 @@
 -- Elements at the front of bytes, and one after another.
 use Rattle.std.proofs.Common.{◌≡◌, ℕ, suc, ◌+◌, ◌^◌, ◌<◌, List, [], ◌∷◌, ◌++◌, ◌-◌, length, take, drop}
 use Rattle.std.proofs.Common.{refl, sym, ap, ◌∙◌, arith, append_assoc, append-nil}
-use Rattle.std.proofs.Common.{length-append}
+use Rattle.std.proofs.Common.{length-append, length-drop}
 use Rattle.std.proofs.lemmas.List.{take_all}
 use Rattle.std.specs.List.{AllByRecursion}
 use Rattle.it_der.specs.Element.{length_form, wrap, BeginsWith, IsElement, Tagged}
@@ -14,7 +14,8 @@ pub after_tag : (tag : ℕ) (content rest bytes : List ℕ) → bytes ≡ wrap t
 after_tag tag content rest bytes e =
     e ∙ ap (λ (x : List ℕ). tag ∷ x) (append_assoc (length_form (length content)) content rest)
 
-same_front : (a b x y : List ℕ) → length a ≡ length b → a ++ x ≡ b ++ y → (a ≡ b) × (x ≡ y)
+-- two fronts of one length
+pub same_front : (a b x y : List ℕ) → length a ≡ length b → a ++ x ≡ b ++ y → (a ≡ b) × (x ≡ y)
 same_front [] [] x y long e = (refl, e)
 same_front [] (b ∷ bs) x y long e = absurd (omega arith)
 same_front (a ∷ xs) [] x y long e = absurd (omega arith)
@@ -123,6 +124,10 @@ pub not_alone : (bytes : List ℕ) (tag tag' : ℕ) (content content' rest : Lis
 not_alone bytes tag tag' content content' rest begins some is =
     let same = one_first bytes tag tag' content content' rest [] begins (begins_alone bytes tag' content' is) in
     let long = ap length same.2 in omega arith
+
+-- what is left after a place
+pub rest_from : (bytes : List ℕ) (place : ℕ) → take (length bytes - place) (drop place bytes) ≡ drop place bytes
+rest_from bytes place = take_all (length bytes - place) (drop place bytes) (omega (arith, length-drop place bytes))
 
 after_first : (bytes : List ℕ) (b : ℕ) (rest : List ℕ) → bytes ≡ b ∷ rest → take (length bytes - 1) (drop 1 bytes) ≡ rest
 after_first bytes b rest e = rw e (take_all (suc (length rest) - 1) rest (omega arith))

@@ -3,9 +3,9 @@ ghost use Rattle.std.specs.Prelude.{◌≡◌, ℕ, ◌/◌, ◌%◌, ◌^◌, �
 ghost use Rattle.it_der.specs.Element.{length_form};
 
 // What says that the length is in the byte after it, or in the two bytes after it.
-const IN_ONE_BYTE: u8 = 129;
+pub(crate) const IN_ONE_BYTE: u8 = 129;
 
-const IN_TWO_BYTES: u8 = 130;
+pub(crate) const IN_TWO_BYTES: u8 = 130;
 
 /// A length, and what comes after it.
 #[derive(Drop)]

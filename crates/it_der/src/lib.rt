@@ -1,5 +1,5 @@
 //! Elements in DER (X.690): reading the element at the front of some bytes, and bytes that are one
-//! element, or elements one after another. No command uses them yet.
+//! element, or elements one after another; and writing an element. No command uses them yet.
 //!
 //! ```
 //! let content = content_of(bytes, SEQUENCE)?;
@@ -11,6 +11,8 @@ mod elements;
 mod front;
 pub mod laws;
 mod length;
+mod written;
 
 pub use elements::{Element, elements_of};
 pub use front::{First, content_of, first_element};
+pub use written::append_element;

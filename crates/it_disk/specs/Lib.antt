@@ -1,4 +1,5 @@
 pub mod Faults
+pub mod LinksSize
 pub mod Reading
 pub mod RingFlaw
 pub mod Shown

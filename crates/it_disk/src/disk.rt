@@ -5,8 +5,9 @@ ghost use Rattle.it_disk.specs.Reading.{AreLimited, Holdings, anything};
 
 use crate::fault::Fault;
 use crate::files::read_file;
-use crate::folders::{Kind, Links, read_links, read_records};
+use crate::folders::{Kind, Links, read_links};
 use crate::listing::{Listed, kind_at, list};
+use crate::records::read_records;
 use it_base::sequence::Sequence;
 use it_base::text::Text;
 use std::fs;

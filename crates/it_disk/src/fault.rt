@@ -47,6 +47,9 @@ pub enum Fault {
     /// A folder has more entries to read than this.
     #[error("{path} has more than {limit} entries to read")]
     TooMany { path: Shown, limit: usize },
+    /// With this file, links have more bytes in all than this.
+    #[error("with {path} the links have more than {limit} bytes in all")]
+    TooMuch { path: Shown, limit: u64 },
     /// A folder below one that is listed lies deeper than this.
     #[error("{path} lies more than {limit} folders deep")]
     TooDeep { path: Shown, limit: u8 },

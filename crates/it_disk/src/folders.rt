@@ -1,6 +1,7 @@
-//! Folders of links and of records, read as far as they count and no further.
-ghost use Rattle.std.specs.Prelude.{◌≡◌, IfOk, OnOk};
+//! Folders of links, read as far as they count and no further.
+ghost use Rattle.std.specs.Prelude.{◌≡◌, ◌+◌, ◌≤◌, IfOk, OnOk, length};
 ghost use Rattle.it_limits.specs.Links.{AreFilesWithin};
+ghost use Rattle.it_disk.specs.LinksSize.{IsWithinSize, most_bytes, size_of};
 ghost use Rattle.it_disk.specs.Reading.{AreLimited};
 
 use crate::fault::Fault;
@@ -17,8 +18,11 @@ use std::path::{Path, PathBuf};
 /// How many entries of one folder may be read.
 const MOST_ENTRIES: usize = 1_000;
 
+/// How many bytes the files of links may have in all.
+const MOST_LINK_BYTES: u64 = 2_147_483_648;
+
 /// How the names of the files that are read end.
-const ENDING: &str = ".link";
+pub(crate) const ENDING: &str = ".link";
 
 /// What is read: a file, or a folder.
 #[derive(Clone, Copy, PartialEq, Eq)]
@@ -58,25 +62,31 @@ pub struct Links {
     pub bundle: Bundle,
     /// The files that are left out, in the order in which they were found.
     pub left_out: Vec<LeftOut>,
+    /// How many bytes were read so far, those of what was read before included.
+    read: u64,
 }
 
 impl Links {
-    fn new(alloc: Global) -> Links
-        ensures { AreFilesWithin result.bundle }
+    /// No links, after so many bytes were read.
+    fn after(alloc: Global, read: u64) -> Links
+        ensures within { AreFilesWithin result.bundle }
+        ensures empty { size_of result.bundle ≡ 0 }
+        ensures read { result.read ≡ read }
     {
         Links {
             bundle: Bundle::new(alloc),
             left_out: Vec::new(alloc),
+            read,
         }
     }
 }
 
 /// An entry of a folder that is read.
 #[derive(Drop)]
-struct Entry {
-    name: String,
-    path: PathBuf,
-    kind: Kind,
+pub(crate) struct Entry {
+    pub(crate) name: String,
+    pub(crate) path: PathBuf,
+    pub(crate) kind: Kind,
 }
 
 /// The files of a folder whose names end in `.link`, and its folders whose names hold a full stop,
@@ -85,21 +95,38 @@ struct Entry {
 ///
 /// # Errors
 ///
-/// The fault of a folder, an entry or a file that cannot be read, and `TooMany` where more than
-/// 1,000 entries of a folder would be read.
+/// The fault of a folder, an entry or a file that cannot be read; `TooMany` where more than 1,000
+/// entries of a folder would be read; and `TooMuch` where the files have more than 2 GiB in all.
 pub fn read_links<T: Tree + AllocGlobal>(
     tree: &T,
     folder: &str,
     depth: u8,
     limited: bool,
 ) -> Result<Links, Fault>
-    ensures { IfOk result (λ links. AreLimited limited links.bundle) }
+    ensures limited { IfOk result (λ links. AreLimited limited links.bundle) }
+    ensures within { IfOk result (λ links. IsWithinSize links.bundle) }
 {
-    let mut links = Links::new(tree.alloc());
+    read_more(tree, folder, depth, limited, 0)
+}
+
+/// `read_links`, after so many bytes of files were read.
+fn read_more<T: Tree + AllocGlobal>(
+    tree: &T,
+    folder: &str,
+    depth: u8,
+    limited: bool,
+    read: u64,
+) -> Result<Links, Fault>
+    requires { read ≤ most_bytes }
+    ensures limited { IfOk result (λ links. AreLimited limited links.bundle) }
+    ensures counted { IfOk result (λ links. read + size_of links.bundle ≤ links.read) }
+    ensures within { IfOk result (λ links. links.read ≤ most_bytes) }
+{
+    let mut links = Links::after(tree.alloc(), read);
     for entry in entries(tree, folder, depth)? {
         match depth.checked_sub(1) {
             Some(below) if entry.kind == Kind::Folder => {
-                let inner = read_links(tree, entry.path.as_str(), below, limited)?;
+                let inner = read_more(tree, entry.path.as_str(), below, limited, links.read)?;
                 add_folder(tree.alloc(), &mut links, entry, inner)?;
             }
             _ => add_file(tree, &mut links, entry, limited)?,
@@ -115,11 +142,15 @@ fn add_file<T: Tree + AllocGlobal>(
     entry: Entry,
     limited: bool,
 ) -> Result<(), Fault>
-    ensures { OnOk result (AreLimited limited links.old.bundle
+    ensures limited { OnOk result (AreLimited limited links.old.bundle
         → AreLimited limited links.new.bundle) }
+    ensures counted { OnOk result (links.old.read + size_of links.new.bundle
+        ≤ size_of links.old.bundle + links.new.read) }
+    ensures within { OnOk result (links.new.read ≤ most_bytes) }
 {
     let alloc = tree.alloc();
     let bytes = Sequence::from(tree.read_whole(entry.path.as_str())?);
+    links.read = read_with(alloc, links.read, entry.path.as_str(), bytes.as_slice())?;
     let name = Text::from(entry.name);
     let file = HeldFile::read(alloc, File { name, bytes })?;
     match too_many_in(&file, limited) {
@@ -132,15 +163,34 @@ fn add_file<T: Tree + AllocGlobal>(
     Ok(())
 }
 
+/// How many bytes were read with those of the file at a path.
+fn read_with(alloc: Global, before: u64, path: &str, bytes: &[u8]) -> Result<u64, Fault>
+    ensures sum { IfOk result (λ read. read ≡ before + length bytes.now) }
+    ensures within { IfOk result (λ read. read ≤ most_bytes) }
+{
+    match before.checked_add(bytes.len() as u64) {
+        Some(read) if read <= MOST_LINK_BYTES => Ok(read),
+        _ => Err(Fault::TooMuch {
+            path: Shown::of(alloc, path)?,
+            limit: MOST_LINK_BYTES,
+        }),
+    }
+}
+
 /// Adds the links of a folder, and what is left out of it.
 fn add_folder(alloc: Global, links: &mut Links, entry: Entry, inner: Links) -> Result<(), Fault>
-    ensures { OnOk result ((limited : _) → AreLimited limited links.old.bundle
+    ensures limited { OnOk result ((limited : _) → AreLimited limited links.old.bundle
         → AreLimited limited inner.bundle → AreLimited limited links.new.bundle) }
+    ensures counted { OnOk result
+        (size_of links.new.bundle ≤ size_of links.old.bundle + size_of inner.bundle) }
+    ensures read { OnOk result (links.new.read ≡ inner.read) }
 {
     let Links {
         bundle,
         mut left_out,
+        read,
     } = inner;
+    links.read = read;
     links.left_out.append(&mut left_out)?;
     match links.bundle.add_dir(entry.name, bundle) {
         Ok(()) => Ok(()),
@@ -152,31 +202,13 @@ fn add_folder(alloc: Global, links: &mut Links, entry: Entry, inner: Links) -> R
     }
 }
 
-/// The records of inspections in a folder: its files whose names end in `.link`, each under its
-/// name without that ending.
-///
-/// # Errors
-///
-/// Those of `read_links`.
-pub fn read_records<T: Tree + AllocGlobal>(
-    tree: &T,
-    folder: &str,
-) -> Result<Vec<(Text, Sequence<u8>)>, Fault> {
-    let alloc = tree.alloc();
-    let mut records = Vec::new(alloc);
-    for entry in entries(tree, folder, 0)? {
-        let name = entry.name.as_str();
-        let inspection = name.strip_suffix(ENDING).unwrap_or(name);
-        let bytes = tree.read_whole(entry.path.as_str())?;
-        let record = (Text::copy(alloc, inspection)?, Sequence::from(bytes));
-        records.push(record)?;
-    }
-    Ok(records)
-}
-
 /// What is read of a folder, in the order of the names' bytes. Folders are read where `depth` is
 /// not 0.
-fn entries<T: Tree + AllocGlobal>(tree: &T, folder: &str, depth: u8) -> Result<Vec<Entry>, Fault> {
+pub(crate) fn entries<T: Tree + AllocGlobal>(
+    tree: &T,
+    folder: &str,
+    depth: u8,
+) -> Result<Vec<Entry>, Fault> {
     let alloc = tree.alloc();
     let mut entries = Vec::new(alloc);
     for name in tree.names(folder, Wanted::OfLinks { folders: depth > 0 })? {

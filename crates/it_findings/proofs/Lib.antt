@@ -1,3 +1,4 @@
+pub mod Agreeing
 pub mod FirstPassing
 pub mod FirstPlaces
 pub mod Joining

@@ -4,6 +4,7 @@ pub mod Joined
 pub mod KeyPlaces
 pub mod KeyUses
 pub mod LayoutFindings
+pub mod Laws
 pub mod MeantName
 pub mod MemberNames
 pub mod Members

@@ -1,12 +1,16 @@
--- What is found in the members of a policy and a layout: members that nobody looks at, and private
--- keys (in-toto 1.0 sections 4.2 and 4.3; that something is found, and what, is a word of this
--- project).
+-- What is found in the members of a policy and a layout: members that come again, members that
+-- nobody looks at, and private keys (in-toto 1.0 sections 4.2 and 4.3; that something is found, and
+-- what, is a word of this project).
 use Rattle.std.specs.Prelude.{◌≡◌, ◌≢◌, ◌⊎◌, ℕ, List, [], ◌∷◌, ◌++◌, Contains, MatchOption}
-use Rattle.std.specs.Prelude.{option_and_then, codes}
+use Rattle.std.specs.Prelude.{option_and_then, codes, map}
 use Rattle.std.specs.Option.{option_map_or}
 use Rattle.serde_json.specs.Data.{Data, Members, no_members, member}
 use Rattle.serde_json.specs.Find.{as_object, as_str}
 use Rattle.it_base.specs.Document.{IsDocument, member_at}
+use Rattle.it_repeats.specs.Repeats.{RepeatsOf}
+use Rattle.it_repeats.specs.declared.repeated_member.RepeatedMember.{RepeatedMember}
+use Rattle.it_repeats.specs.declared.root.Root.{Root}
+use Rattle.it_repeats.specs.declared.root.Root.TheVariants as roots
 use Rattle.it_findings.specs.Joined.{Joined, JoinedEach, Said}
 use Rattle.it_findings.specs.KeyPlaces.{key_place}
 use Rattle.it_findings.specs.MemberNames.{known_names, read_names}
@@ -123,6 +127,29 @@ pub record LayoutMembers (d : Data) (found : List MemberFinding) : Type 0 where
   pub steps : Joined StepMembers (list_at (codes "steps") d) of_steps
   pub inspections : Joined InspectionMembers (list_at (codes "inspect") d) of_inspections
 
--- the same of bytes: of the document that they are, if they are one
-abbrev pub MembersOf : (Data → List MemberFinding → Type 0) → List ℕ → List MemberFinding → Type 0
-MembersOf Found bytes found = (d : Data) → IsDocument bytes d → Found d found
+-- the members that come again in the bytes of such a document, as findings
+abbrev pub RepeatedIn : Root → List ℕ → List MemberFinding → Type 0
+RepeatedIn root bytes found =
+    (members : List RepeatedMember) × RepeatsOf root bytes members
+    × (found ≡ map (findings.Repeated root) members)
+
+-- the others in the bytes: those in the document that they are, if they are one
+abbrev pub OthersIn : (Data → List MemberFinding → Type 0) → List ℕ → List MemberFinding → Type 0
+OthersIn Others bytes found = (d : Data) → IsDocument bytes d → Others d found
+
+-- what is found in the members in the bytes of such a document: first those that come again, and
+-- then the others
+pub record MembersOf (root : Root) (Others : Data → List MemberFinding → Type 0) (bytes : List ℕ)
+    (found : List MemberFinding) : Type 0 where
+  pub repeated : List MemberFinding
+  pub others : List MemberFinding
+  pub found_are : found ≡ repeated ++ others
+  pub are_repeated : RepeatedIn root bytes repeated
+  pub are_others : OthersIn Others bytes others
+
+-- the same of a policy, and of the body of a layout
+abbrev pub MembersOfPolicy : List ℕ → List MemberFinding → Type 0
+MembersOfPolicy bytes found = MembersOf roots.Policy PolicyMembers bytes found
+
+abbrev pub MembersOfLayout : List ℕ → List MemberFinding → Type 0
+MembersOfLayout body found = MembersOf roots.Layout LayoutMembers body found

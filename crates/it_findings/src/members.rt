@@ -3,7 +3,8 @@ ghost use Rattle.std.specs.Prelude.{IfOk, codes};
 ghost use Rattle.serde_json.specs.View.{items_view, view};
 ghost use Rattle.it_findings.specs.Joined.{Joined};
 ghost use Rattle.it_findings.specs.Members.{BuilderMembers, ExpectationMembers, InspectionMembers};
-ghost use Rattle.it_findings.specs.Members.{LayoutMembers, MembersOf, PolicyMembers, StepMembers};
+ghost use Rattle.it_findings.specs.Members.{LayoutMembers, MembersOfLayout, MembersOfPolicy};
+ghost use Rattle.it_findings.specs.Members.{OthersIn, PolicyMembers, StepMembers};
 ghost use Rattle.it_findings.specs.NullKeys.{list_at, listed};
 
 use crate::key_members::key_list_members;
@@ -11,20 +12,48 @@ use crate::member_finding::MemberFinding;
 use crate::null_key::KeyList;
 use crate::null_keys::items_at;
 use crate::place::Place;
+use crate::repeated::repeated_in;
 use crate::unread::unread_members;
 use it_base::document::read_document;
+use it_repeats::root::Root;
 use serde_json::Value;
 use std::alloc::{AllocError, Global};
 
-/// What is found in the members of the document that is a policy: in the policy itself, in its
-/// owners, and then in each expectation and its builders in order. Nothing is found where the bytes
-/// are no document.
+/// What is found in the members of the document that is a policy: first those that come again, in
+/// the order of the text, and then the others: in the policy itself, in its owners, and then in
+/// each expectation and its builders in order. Nothing is found where the bytes are no document.
 ///
 /// # Errors
 ///
 /// `AllocError` where memory was refused.
 pub fn policy_members(alloc: Global, bytes: &[u8]) -> Result<Vec<MemberFinding>, AllocError>
-    ensures { IfOk result (λ found. MembersOf PolicyMembers bytes.now found.items) }
+    ensures { IfOk result (λ found. MembersOfPolicy bytes.now found.items) }
+{
+    let mut found = repeated_in(alloc, Root::Policy, bytes)?;
+    let mut others = others_in_policy(alloc, bytes)?;
+    found.append(&mut others)?;
+    Ok(found)
+}
+
+/// What is found in the members of the document that is the body of a layout: first those that come
+/// again, in the order of the text, and then the others: in the layout itself, in its keys, and
+/// then in its steps and its inspections in order. Nothing is found where the bytes are no
+/// document.
+///
+/// # Errors
+///
+/// `AllocError` where memory was refused.
+pub fn layout_members(alloc: Global, body: &[u8]) -> Result<Vec<MemberFinding>, AllocError>
+    ensures { IfOk result (λ found. MembersOfLayout body.now found.items) }
+{
+    let mut found = repeated_in(alloc, Root::Layout, body)?;
+    let mut others = others_in_layout(alloc, body)?;
+    found.append(&mut others)?;
+    Ok(found)
+}
+
+fn others_in_policy(alloc: Global, bytes: &[u8]) -> Result<Vec<MemberFinding>, AllocError>
+    ensures { IfOk result (λ found. OthersIn PolicyMembers bytes.now found.items) }
 {
     match read_document(alloc, bytes)? {
         Some(document) => members_in_policy(alloc, &document),
@@ -32,15 +61,8 @@ pub fn policy_members(alloc: Global, bytes: &[u8]) -> Result<Vec<MemberFinding>,
     }
 }
 
-/// What is found in the members of the document that is the body of a layout: in the layout itself,
-/// in its keys, and then in its steps and its inspections in order. Nothing is found where the
-/// bytes are no document.
-///
-/// # Errors
-///
-/// `AllocError` where memory was refused.
-pub fn layout_members(alloc: Global, body: &[u8]) -> Result<Vec<MemberFinding>, AllocError>
-    ensures { IfOk result (λ found. MembersOf LayoutMembers body.now found.items) }
+fn others_in_layout(alloc: Global, body: &[u8]) -> Result<Vec<MemberFinding>, AllocError>
+    ensures { IfOk result (λ found. OthersIn LayoutMembers body.now found.items) }
 {
     match read_document(alloc, body)? {
         Some(document) => members_in_layout(alloc, &document),

@@ -1,6 +1,6 @@
 -- Objects in two parts.
-use Rattle.std.proofs.Common.{◌≡◌, ◌∙◌, ℕ, List, [], ◌∷◌, ◌++◌, ap, append_assoc, codes, drop}
-use Rattle.std.proofs.Common.{sym}
+use Rattle.std.proofs.Common.{◌≡◌, ◌∙◌, ℕ, List, [], ◌∷◌, ◌++◌, ap, append-nil, append_assoc, codes}
+use Rattle.std.proofs.Common.{drop, sym}
 use Rattle.std.proofs.lemmas.Grind.{flat_map-append}
 use Rattle.it_report.specs.declared.verdict.Verdict.{Verdict}
 use Rattle.it_report.specs.declared.verdict.Verdict.TheVariants.{Accepted, Refused}
@@ -15,16 +15,33 @@ goes_on first members more =
     (further member more) ∙ ap (λ rest. member first ++ rest) (sym (flat_map-append
     (λ one. codes "," ++ member one) members more)))
 
--- an object in two parts
-pub object_in_two : (old : List ℕ) (first second : List ℕ × List ℕ)
-    (more : List (List ℕ × List ℕ))
-    → (old ++ opened (first ∷ second ∷ [])) ++ (further member more ++ codes "}")
-    ≡ old ++ json_object (first ∷ second ∷ more)
-object_in_two old first second more =
-    let front = opened (first ∷ second ∷ []) in
-    append_assoc old front (further member more ++ codes "}")
-    ∙ ap (λ rest. old ++ rest) (sym (append_assoc front (further member more) (codes "}"))
-    ∙ ap (λ rest. rest ++ codes "}") (goes_on first (second ∷ []) more))
+module _ (old : List ℕ) (first : List ℕ × List ℕ) (members more : List (List ℕ × List ℕ)) where
+  -- the beginning of an object in two parts
+  pub opened_in_two : (old ++ opened (first ∷ members)) ++ further member more
+      ≡ old ++ opened (first ∷ (members ++ more))
+  opened_in_two = append_assoc old (opened (first ∷ members)) (further member more)
+      ∙ ap (λ rest. old ++ rest) (goes_on first members more)
+
+  -- an object in two parts
+  pub object_in_two : (old ++ opened (first ∷ members)) ++ (further member more ++ codes "}")
+      ≡ old ++ json_object (first ∷ (members ++ more))
+  object_in_two =
+      let front = opened (first ∷ members) in
+      append_assoc old front (further member more ++ codes "}")
+      ∙ ap (λ rest. old ++ rest) (sym (append_assoc front (further member more) (codes "}"))
+      ∙ ap (λ rest. rest ++ codes "}") (goes_on first members more))
+
+-- the beginning of an object, written as its first name, the value, and what follows
+pub opened_by : (old name value next : List ℕ)
+    → ((old ++ (codes "{\"" ++ name ++ codes "\":")) ++ value) ++ next
+    ≡ old ++ (codes "{" ++ (member (name, value) ++ (next ++ [])))
+opened_by old name value next =
+    let named = name ++ codes "\":" in
+    append_assoc (old ++ (codes "{\"" ++ named)) value next
+    ∙ append_assoc old (codes "{\"" ++ named) (value ++ next)
+    ∙ ap (λ rest. old ++ (codes "{\"" ++ rest))
+    (ap (λ rest. named ++ (value ++ rest)) (sym (append-nil next))
+    ∙ sym (append_assoc named value (next ++ [])))
 
 -- the first member of a verdict
 abbrev first_of : Verdict → List ℕ × List ℕ

@@ -1,3 +1,4 @@
+pub mod EvidenceReport
 pub mod Form
 pub mod FullReport
 pub mod Json

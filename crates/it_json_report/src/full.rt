@@ -1,10 +1,14 @@
 //! The report of a verdict as JSON, with what is found and noted.
 ghost use Rattle.std.specs.Prelude.{◌≡◌, ◌++◌, ◌∷◌, [], IfOk, OnOk, codes};
-ghost use Rattle.it_json_report.specs.FullReport.{beside_members, finding_form, finding_object};
-ghost use Rattle.it_json_report.specs.FullReport.{findings_members, full_json_of, json_bool};
+ghost use Rattle.it_json_report.specs.FullReport.{accepted_members, beside_members};
+ghost use Rattle.it_json_report.specs.FullReport.{evidence_members, finding_object};
+ghost use Rattle.it_json_report.specs.FullReport.{findings_json_of, full_json_of, json_bool};
 ghost use Rattle.it_json_report.specs.FullReport.{notes_members};
-ghost use Rattle.it_json_report.specs.Json.{further, json_text, member, opened};
+ghost use Rattle.it_json_report.specs.Json.{further, json_list, json_text, member, opened};
+ghost use Rattle.it_json_report.specs.JsonReport.{sublayout_object};
 
+use crate::evidence::Evidence;
+use crate::evidence_items::push_evidence;
 use crate::lists::JsonItem;
 use crate::members::{push_list_member, push_member_name, push_shown_member, push_text_member};
 use crate::reporting::opened_report;
@@ -19,6 +23,9 @@ use std::alloc::{AllocError, Global};
 pub struct ReportFinding {
     /// The document: `policy` or `layout`.
     pub document: Text,
+    /// The sublayouts down to the layout that it is in, the outermost first, as a refusal has them.
+    /// Empty for a policy and for the outermost layout.
+    pub at: Sequence<(Text, Text)>,
     /// The name of the finding.
     pub name: Text,
     /// The place in the document, as a JSON pointer (RFC 6901).
@@ -32,6 +39,8 @@ pub struct ReportFinding {
 pub struct Beside {
     /// What is found; it is written where the verdict accepts.
     pub findings: Sequence<ReportFinding>,
+    /// What stands behind the verdict; it is written where the verdict accepts.
+    pub evidence: Option<Evidence>,
     /// The notes, a line each.
     pub notes: Sequence<Sequence<u8>>,
     /// Whether these are all notes that there are: false where memory was refused for them.
@@ -39,7 +48,7 @@ pub struct Beside {
 }
 
 /// The report of a verdict as `json_report` writes it, in whose object further members follow: what
-/// is found, where the verdict accepts, and the notes.
+/// is found and what stands behind it, where the verdict accepts, and the notes.
 ///
 /// # Errors
 ///
@@ -57,6 +66,21 @@ pub fn full_json_report(
     Ok(json)
 }
 
+/// What is found against a delivery that would be accepted otherwise, as one JSON object on one
+/// line, with a line feed at its end. Its first member, `error`, is `findings`; it has no notes.
+///
+/// # Errors
+///
+/// `AllocError` where memory was refused.
+pub fn findings_json(alloc: Global, findings: &[ReportFinding]) -> Result<Vec<u8>, AllocError>
+    ensures { IfOk result (λ bytes. bytes.items ≡ findings_json_of findings.now) }
+{
+    let mut json = Vec::from_slice(alloc, b"{\"error\":\"findings\"")?;
+    push_list_member(alloc, &mut json, "findings", findings)?;
+    json.extend_from_slice(b",\"notes\":[],\"notesComplete\":true}\n")?;
+    Ok(json)
+}
+
 fn push_beside(
     alloc: Global,
     json: &mut Vec<u8>,
@@ -66,22 +90,57 @@ fn push_beside(
     ensures { OnOk result (json.new.items ≡ json.old.items
         ++ further member (beside_members verdict.now beside.now)) }
 {
-    push_findings(alloc, json, verdict, beside.findings.as_slice())?;
+    let findings = beside.findings.as_slice();
+    push_accepted(alloc, json, verdict, findings, &beside.evidence)?;
     push_notes(alloc, json, beside.notes.as_slice(), beside.complete)
 }
 
-fn push_findings(
+fn push_accepted(
     alloc: Global,
     json: &mut Vec<u8>,
     verdict: &Verdict,
     findings: &[ReportFinding],
+    evidence: &Option<Evidence>,
 ) -> Result<(), AllocError>
     ensures { OnOk result (json.new.items ≡ json.old.items
-        ++ further member (findings_members verdict.now findings.now)) }
+        ++ further member (accepted_members verdict.now findings.now evidence.now)) }
 {
     match verdict {
-        Verdict::Accepted { .. } => { push_list_member(alloc, json, "findings", findings) }
+        Verdict::Accepted { .. } => push_findings(alloc, json, findings, evidence),
         Verdict::Refused(_) => Ok(()),
+    }
+}
+
+/// Appends the members of what is found and of what stands behind the verdict.
+fn push_findings(
+    alloc: Global,
+    json: &mut Vec<u8>,
+    findings: &[ReportFinding],
+    evidence: &Option<Evidence>,
+) -> Result<(), AllocError>
+    ensures { OnOk result (json.new.items ≡ json.old.items ++ further member
+        ((codes "findings", json_list finding_object findings.now)
+        ∷ evidence_members evidence.now)) }
+{
+    push_list_member(alloc, json, "findings", findings)?;
+    push_told(alloc, json, evidence)
+}
+
+/// Appends the member of what stands behind the verdict, where that is told.
+fn push_told(
+    alloc: Global,
+    json: &mut Vec<u8>,
+    evidence: &Option<Evidence>,
+) -> Result<(), AllocError>
+    ensures { OnOk result (json.new.items ≡ json.old.items
+        ++ further member (evidence_members evidence.now)) }
+{
+    match evidence {
+        Some(evidence) => {
+            push_member_name(json, "evidence")?;
+            push_evidence(alloc, json, evidence)
+        }
+        None => Ok(()),
     }
 }
 
@@ -115,49 +174,58 @@ fn bool_form(value: bool) -> &'static str
 impl JsonItem for ReportFinding {
     ghost form = { finding_object };
 
-    fn push_item(&self, _alloc: Global, json: &mut Vec<u8>) -> Result<(), AllocError> {
-        let (place, sentence) = (self.place.as_slice(), self.sentence.as_slice());
-        push_finding(
-            json,
-            self.document.as_str(),
-            self.name.as_str(),
-            place,
-            sentence,
-        )
+    fn push_item(&self, alloc: Global, json: &mut Vec<u8>) -> Result<(), AllocError> {
+        push_finding(alloc, json, self)
     }
 }
 
 fn push_finding(
+    alloc: Global,
     json: &mut Vec<u8>,
-    document: &str,
-    name: &str,
-    place: &[u8],
-    sentence: &[u8],
+    finding: &ReportFinding,
 ) -> Result<(), AllocError>
-    ensures { OnOk result (json.new.items ≡ json.old.items
-        ++ finding_form document.now name.now place.now sentence.now) }
+    ensures { OnOk result (json.new.items ≡ json.old.items ++ finding_object finding.now) }
 {
-    push_named(json, document, name)?;
-    push_told(json, place, sentence)?;
+    let (place, sentence) = (finding.place.as_slice(), finding.sentence.as_slice());
+    push_document(
+        alloc,
+        json,
+        finding.document.as_str(),
+        finding.at.as_slice(),
+    )?;
+    push_place(json, finding.name.as_str(), place, sentence)?;
     Ok(())
 }
 
 /// The beginning of the object of a finding.
-fn push_named(json: &mut Vec<u8>, document: &str, name: &str) -> Result<(), AllocError>
+fn push_document(
+    alloc: Global,
+    json: &mut Vec<u8>,
+    document: &str,
+    at: &[(Text, Text)],
+) -> Result<(), AllocError>
     ensures { OnOk result (json.new.items ≡ json.old.items ++ opened
-        ((codes "document", json_text document.now) ∷ (codes "name", json_text name.now) ∷ [])) }
+        ((codes "document", json_text document.now)
+        ∷ (codes "at", json_list sublayout_object at.now) ∷ [])) }
 {
     json.extend_from_slice(b"{\"document\":")?;
     push_text(json, document)?;
-    push_text_member(json, "name", name)
+    push_list_member(alloc, json, "at", at)
 }
 
 /// The end of the object of a finding.
-fn push_told(json: &mut Vec<u8>, place: &[u8], sentence: &[u8]) -> Result<(), AllocError>
+fn push_place(
+    json: &mut Vec<u8>,
+    name: &str,
+    place: &[u8],
+    sentence: &[u8],
+) -> Result<(), AllocError>
     ensures { OnOk result (json.new.items ≡ json.old.items ++ (further member
-        ((codes "place", json_text place.now) ∷ (codes "sentence", json_text sentence.now) ∷ [])
+        ((codes "name", json_text name.now) ∷ (codes "place", json_text place.now)
+        ∷ (codes "sentence", json_text sentence.now) ∷ [])
         ++ codes "}")) }
 {
+    push_text_member(json, "name", name)?;
     push_shown_member(json, "place", place)?;
     push_shown_member(json, "sentence", sentence)?;
     json.push(b'}')?;

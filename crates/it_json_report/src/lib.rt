@@ -1,6 +1,9 @@
 //! The report of a verdict as JSON (RFC 8259), beside the report in lines.
 #![tactic(auto)]
 
+mod digests;
+pub mod evidence;
+mod evidence_items;
 mod fault_members;
 pub mod form;
 pub mod full;

@@ -1,10 +1,11 @@
 //! Lists in JSON (RFC 8259, section 5), and the items of those in a report.
 ghost use Rattle.std.specs.Prelude.{◌≡◌, ◌++◌, ℕ, List, OnOk};
-ghost use Rattle.it_json_report.specs.Json.{further, json_list, json_text};
+ghost use Rattle.it_json_report.specs.Json.{further, json_list, json_text, member, parted};
 ghost use Rattle.it_json_report.specs.JsonReport.{step_object, sublayout_object};
 
 use crate::members::{push_number_member, push_text_member};
 use crate::texts::push_text;
+use it_base::sequence::Sequence;
 use it_base::text::Text;
 use std::alloc::{AllocError, Global};
 
@@ -40,6 +41,18 @@ impl JsonItem for (Text, u64) {
     }
 }
 
+impl JsonItem for (Text, Sequence<u8>) {
+    ghost form = { member };
+
+    /// A member, by its name and the JSON of its value.
+    fn push_item(&self, _alloc: Global, json: &mut Vec<u8>) -> Result<(), AllocError> {
+        json.push(b'"')?;
+        json.extend_from_slice(self.0.as_str().as_bytes())?;
+        json.extend_from_slice(b"\":")?;
+        json.extend_from_slice(self.1.as_slice())
+    }
+}
+
 impl JsonItem for (Text, Text) {
     ghost form = { sublayout_object };
 
@@ -61,14 +74,25 @@ pub(super) fn push_list<T: JsonItem>(
 ) -> Result<(), AllocError>
     ensures { OnOk result (json.new.items ≡ json.old.items ++ json_list T.form items.now) }
 {
-    let Some((first, rest)) = items.split_first() else {
-        return json.extend_from_slice(b"[]");
-    };
     json.push(b'[')?;
-    first.push_item(alloc, json)?;
-    push_further_items(alloc, json, rest)?;
+    push_parted(alloc, json, items)?;
     json.push(b']')?;
     Ok(())
+}
+
+/// Appends the forms of the items, separated by commas.
+pub(super) fn push_parted<T: JsonItem>(
+    alloc: Global,
+    json: &mut Vec<u8>,
+    items: &[T],
+) -> Result<(), AllocError>
+    ensures { OnOk result (json.new.items ≡ json.old.items ++ parted T.form items.now) }
+{
+    let Some((first, rest)) = items.split_first() else {
+        return Ok(());
+    };
+    first.push_item(alloc, json)?;
+    push_further_items(alloc, json, rest)
 }
 
 fn push_further_items<T: JsonItem>(

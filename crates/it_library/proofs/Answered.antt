@@ -3,7 +3,7 @@ use Rattle.std.proofs.Common.{◌≡◌, ◌∙◌, ◌++◌, ◌∷◌, ◌≤�
 use Rattle.std.proofs.Common.{arith, codes, lit≤, subst, sym}
 use Rattle.std.specs.List.Sorted.{IsPermutation}
 use Rattle.it_disk.specs.declared.fault.Fault.TheVariants.{Run}
-use Rattle.it_memory.specs.Files.{in_memory}
+use Rattle.it_memory.specs.Files.{AreApart, in_memory}
 use Rattle.it_outcome.specs.Outcome.{exit_status}
 use Rattle.it_outcome.specs.declared.outcome.RunFault.{RunFault}
 use Rattle.it_outcome.specs.declared.outcome.RunFault.TheVariants.{OutOfMemory}
@@ -23,11 +23,11 @@ module _ (words paths sizes contents : List ℕ) where
   pub answered : {E : Type 0} (r : Result Status E) (texts named : List (List ℕ))
       (files ordered : List (List ℕ × List ℕ)) (old new : List ℕ) → AreEnded words texts
       → named ≡ codes "itv" ∷ texts → AreFiles paths sizes contents files
-      → IsPermutation files ordered
+      → IsPermutation files ordered → AreApart ordered
       → IfOk r (λ status. (command : Words) × (text : List ℕ) × AreWordsOf named command
       × IsOutputOf (in_memory ordered) command text status × (new ≡ old ++ text))
       → IfOk r (IsOutput words paths sizes contents old new)
-  answered (Ok status) texts named files ordered old new are_words are are_files same told = (
+  answered (Ok status) texts named files ordered old new are_words are are_files same apart told = (
     told.1,
     record {
       texts = texts;
@@ -38,11 +38,12 @@ module _ (words paths sizes contents : List ℕ) where
       are_files = are_files;
       ordered = ordered;
       same_files = same;
+      apart = apart;
       is_output = told.3;
     },
     told.4,
   )
-  answered (Err e) texts named files ordered old new are_words are are_files same told = tt
+  answered (Err e) texts named files ordered old new are_words are are_files same apart told = tt
 
   alone : (text found : List ℕ) (status : Status) → found ≡ [] ++ text
       → IsAnswer words paths sizes contents text status

@@ -1,7 +1,7 @@
 -- What a run of the library gives, from bytes to bytes (this project's choice).
 use Rattle.std.specs.Prelude.{◌≡◌, ◌++◌, ◌∷◌, ℕ, List, [], codes, drop, length, take}
 use Rattle.std.specs.List.Sorted.{IsPermutation}
-use Rattle.it_memory.specs.Files.{in_memory}
+use Rattle.it_memory.specs.Files.{AreApart, in_memory}
 use Rattle.it_outcome.specs.declared.outcome.Status.{Status}
 use Rattle.it_outcome.specs.declared.outcome.Status.TheVariants.{Good, Refused}
 use Rattle.it_program.specs.Commands.{IsOutputOf}
@@ -10,7 +10,8 @@ use Rattle.it_words.specs.declared.words.Words.{Words}
 use Rattle.it_library.specs.Handed.{AreEnded, AreFiles}
 
 -- the text and the status are those of the command that the words name, over what the files that
--- were handed over hold; their order does not matter
+-- were handed over hold; their order does not matter, no two have one path, and none lies below
+-- another
 pub record IsAnswer (words paths sizes contents text : List ℕ) (status : Status) : Type 0 where
   pub texts : List (List ℕ)
   pub are_words : AreEnded words texts
@@ -20,6 +21,7 @@ pub record IsAnswer (words paths sizes contents text : List ℕ) (status : Statu
   pub are_files : AreFiles paths sizes contents files
   pub ordered : List (List ℕ × List ℕ)
   pub same_files : IsPermutation files ordered
+  pub apart : AreApart ordered
   pub is_output : IsOutputOf (in_memory ordered) command text status
 
 -- such a text was added to what went out

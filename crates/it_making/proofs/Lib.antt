@@ -7,5 +7,6 @@ pub mod ParametersGiven
 pub mod PrintedLines
 pub mod StatementFaults
 pub mod StatementWritten
+pub mod SummaryWritten
 pub mod TablesWritten
 pub mod WordFeeds

@@ -39,12 +39,12 @@ pub subjects_read_back : (m : ArtifactMap)
     → IsList IsSubject (subjects_document m) (values m)
 subjects_read_back m all = each_reads_back (entries m) all
 
-no_float_in_subjects : (es : List (Entry DigestSet))
+pub no_float_in_subjects : (es : List (Entry DigestSet))
     → items_have_float (items_of (map subject_document es)) ≡ false
 no_float_in_subjects [] = refl
 no_float_in_subjects (e ∷ es) = rw (no_float_in_digests e.1) (no_float_in_subjects es)
 
-shallow_subjects : (es : List (Entry DigestSet))
+pub shallow_subjects : (es : List (Entry DigestSet))
     → items_depth (items_of (map subject_document es)) ≤ 2
 shallow_subjects [] = omega arith
 shallow_subjects (e ∷ es) = omega (arith, shallow_digests e.1, shallow_subjects es)

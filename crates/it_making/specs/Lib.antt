@@ -1,4 +1,5 @@
 pub mod ArtifactDocuments
 pub mod LinkOutput
 pub mod StatementOutput
+pub mod SummaryOutput
 pub mod inside

@@ -51,14 +51,19 @@ provenance_document build_type builder parameters = object
     no_members))
     no_members))
 
--- the Statement as a JSON object, its members in the order of their bytes (this profile's choice)
-abbrev pub statement_document : ArtifactMap → (predicate : Data) → Data
-statement_document subjects predicate = object
+-- a Statement of a predicate type as a JSON object, its members in the order of their bytes (this
+-- profile's choice)
+abbrev pub typed_document : (predicate_type : List ℕ) → ArtifactMap → (predicate : Data) → Data
+typed_document predicate_type subjects predicate = object
     (member (codes "_type") (string (codes "https://in-toto.io/Statement/v1"))
     (member (codes "predicate") predicate
-    (member (codes "predicateType") (string (codes "https://slsa.dev/provenance/v1"))
+    (member (codes "predicateType") (string predicate_type)
     (member (codes "subject") (subjects_document subjects)
     no_members))))
+
+-- the Statement that carries provenance
+abbrev pub statement_document : ArtifactMap → (predicate : Data) → Data
+statement_document = typed_document (codes "https://slsa.dev/provenance/v1")
 
 -- the Statement as it is read
 abbrev pub statement_of : ArtifactMap → (build_type builder : List ℕ) → Fields → Statement

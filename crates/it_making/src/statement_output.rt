@@ -1,20 +1,16 @@
 //! `itv statement`: a Statement that carries provenance (in-toto Attestation, Statement v1; SLSA
 //! Provenance v1).
 ghost use Rattle.std.specs.Prelude.{◌≡◌, ◌≢◌, IfErr, IfOk, IsErrOf};
-ghost use Rattle.std.specs.FinMap.{values};
 ghost use Rattle.std.specs.Io.KnownBytes.{Appends};
 ghost use Rattle.std.specs.Option.{option_copied};
 ghost use Rattle.serde_json.specs.View.{view};
-ghost use Rattle.it_base.specs.Sequence.{IsList};
 ghost use Rattle.it_base.specs.Writing.{AppendsBeginning};
-ghost use Rattle.it_docs.specs.Statement.{IsSubject};
 ghost use Rattle.it_making.specs.StatementOutput.{AreSubjects, IsStatementFault, IsStatementOutput};
-ghost use Rattle.it_making.specs.StatementOutput.{provenance_document, statement_document};
-ghost use Rattle.it_making.specs.StatementOutput.{subjects_document};
-ghost use Rattle.it_making.specs.inside.StatementParts.{IsSubjectsFault, IsWritten};
+ghost use Rattle.it_making.specs.StatementOutput.{provenance_document};
+ghost use Rattle.it_making.specs.inside.StatementParts.{IsSubjectsFault};
 
 use crate::parameters::parameters_of;
-use crate::subjects::subjects_value;
+use crate::statement_text::written;
 use it_digest::artifacts::Artifacts;
 use it_digest::sums::{SumsFault, read_sums};
 use it_outcome::output::put_text;
@@ -22,6 +18,9 @@ use it_outcome::{RunFault, Status};
 use serde_json::{Value, json};
 use std::alloc::{AllocError, Global};
 use std::io::Write;
+
+/// The predicate type of provenance (SLSA Provenance v1).
+const PROVENANCE: &str = "https://slsa.dev/provenance/v1";
 
 /// What a Statement is made of.
 #[derive(Clone, Copy)]
@@ -80,7 +79,7 @@ fn statement_text(alloc: Global, parts: &StatementParts<'_>) -> Result<Vec<u8>, 
     let subjects = subjects_of(alloc, parts.subjects)?;
     let parameters = parameters_of(alloc, parts.parameters)?;
     let predicate = provenance_value(alloc, parts.build_type, parts.builder, parameters)?;
-    let text = written(alloc, &subjects, predicate)?;
+    let text = written(alloc, &subjects, PROVENANCE, predicate)?;
     Ok(text)
 }
 
@@ -95,38 +94,6 @@ fn subjects_of(alloc: Global, bytes: &[u8]) -> Result<Artifacts, RunFault>
         Err(SumsFault::BadSums(line)) => Err(RunFault::BadSubjects(line)),
         Err(SumsFault::OutOfMemory) => Err(RunFault::OutOfMemory),
     }
-}
-
-/// The text of a Statement with this predicate, and a line feed.
-fn written(alloc: Global, subjects: &Artifacts, predicate: Value) -> Result<Vec<u8>, AllocError>
-    ensures reads { IfOk result
-        (λ text. IsWritten text.items (statement_document subjects.now (view predicate))) }
-    ensures reads_back { IfOk result
-        (λ _. IsList IsSubject (subjects_document subjects.now) (values subjects.now)) }
-{
-    let value = statement_value(alloc, subjects, predicate)?;
-    let mut text = value.to_vec(alloc)?;
-    text.push(b'\n')?;
-    Ok(text)
-}
-
-fn statement_value(
-    alloc: Global,
-    subjects: &Artifacts,
-    predicate: Value,
-) -> Result<Value, AllocError>
-    ensures document { IfOk result
-        (λ value. view value ≡ statement_document subjects.now (view predicate)) }
-    ensures reads_back { IfOk result
-        (λ _. IsList IsSubject (subjects_document subjects.now) (values subjects.now)) }
-{
-    let subjects = subjects_value(alloc, subjects)?;
-    json!(in alloc; {
-        "_type": "https://in-toto.io/Statement/v1",
-        "predicate": predicate,
-        "predicateType": "https://slsa.dev/provenance/v1",
-        "subject": subjects
-    })
 }
 
 fn provenance_value(

@@ -1,14 +1,17 @@
 -- Files in the order of their paths' bytes.
-use Rattle.std.proofs.Common.{◌≡◌, ◌∙◌, ◌++◌, ◌∷◌, ◌-◌, ◌<◌, ◌≤◌, [], ℕ, List, Bor, Less, Some, ap}
-use Rattle.std.proofs.Common.{arith, codes, get_or, inl, inr, length, option_map, refl, subst, sym}
+use Rattle.std.proofs.Common.{◌≡◌, ◌∙◌, ◌++◌, ◌∷◌, ◌-◌, ◌<◌, ◌≤◌, ◌≢◌, [], ℕ, List, All, AllPairs, Bor}
+use Rattle.std.proofs.Common.{Less, Some, ap, arith, codes, get_or, inl, inr, length, option_map, refl}
+use Rattle.std.proofs.Common.{subst, sym}
 use Rattle.std.specs.List.{slice_get}
 use Rattle.std.proofs.lemmas.Bool.{cases_lt}
 use Rattle.std.proofs.lemmas.Cmp.{nat_list_cmp_total}
+use Rattle.std.proofs.lemmas.List.{length-map}
 use Rattle.std.proofs.lemmas.List.Quantifiers.{all_pairs_push}
-use Rattle.std.proofs.lemmas.Option.{slice_get-get_or, slice_get-map}
+use Rattle.std.proofs.lemmas.Option.{get_or_from_slice_get, slice_get-get_or, slice_get-map}
 use Rattle.it_rules.specs.Ranges.{AreInOrder, IsFrontRange}
-use Rattle.it_rules.proofs.Listed.{Contains-map, mapped_place, same_place, slice_get_within}
-use Rattle.it_rules.proofs.PathOrder.{path_cmp}
+use Rattle.it_rules.proofs.Listed.{Contains-map, Contains-map_cases, mapped_place, same_place}
+use Rattle.it_rules.proofs.Listed.{slice_get_within}
+use Rattle.it_rules.proofs.PathOrder.{not_below_itself, path_cmp}
 use Rattle.it_memory.specs.Files.{HasBelow, HasFile, files_of}
 use Rattle.it_memory.specs.inside.Order.{AreOrdered, IsAt, IsNext}
 use Rattle.it_memory.specs.declared.file.File.{File}
@@ -37,6 +40,9 @@ path_of file = file.path.now
 
 abbrev pub shown : File → List ℕ × List ℕ
 shown file = (file.path.now, file.bytes.now)
+
+abbrev no_path : Bor (List ℕ)
+no_path = record { ref_ptr = (0, 0); now = [] }
 
 module _ (files : List File) (paths : List (Bor (List ℕ))) (ordered : AreOrdered files paths) where
   -- the file whose path stands at a place
@@ -84,9 +90,9 @@ module _ (files : List File) (paths : List (Bor (List ℕ))) (ordered : AreOrder
   pub below_found : (front folder : List ℕ) (start end : ℕ) → front ≡ folder ++ codes "/"
       → IsFrontRange paths front start end → start < end → HasBelow (files_of files) folder
   below_found front folder start end is range less =
-      let path = get_or paths start (record { ref_ptr = (0, 0); now = [] }) in
+      let path = get_or paths start no_path in
       let within : start < length paths = omega (arith, range.within, less) in
-      let here = slice_get-get_or paths start (record { ref_ptr = (0, 0); now = [] }) within in
+      let here = slice_get-get_or paths start no_path within in
       let first : start ≤ start = omega arith in
       let begins = (range.exact start path here).1 (first, less) in
       let found = has_at start path here in
@@ -97,3 +103,56 @@ module _ (files : List File) (paths : List (Bor (List ℕ))) (ordered : AreOrder
         bytes = found.0;
         has = subst (λ p. HasFile (files_of files) p found.0) cut found.1;
       }
+
+  -- the path of the file at a place
+  path_here : (place : ℕ) (file : File) → slice_get files place ≡ Some file
+      → (path : Bor (List ℕ)) × (slice_get paths place ≡ Some path) × (path.now ≡ file.path.now)
+  path_here place file here =
+      let there : option_map now_of (slice_get paths place) ≡ Some file.path.now =
+      sym (slice_get-map now_of paths place) ∙ ap (λ ps. slice_get ps place) ordered.same
+      ∙ slice_get-map path_of files place ∙ ap (option_map path_of) here in
+      mapped_place now_of (slice_get paths place) file.path.now there
+
+  -- where a file lies below the folder, the range is not empty
+  pub below_there : (front folder : List ℕ) (start end : ℕ) → front ≡ folder ++ codes "/"
+      → IsFrontRange paths front start end → HasBelow (files_of files) folder → start < end
+  below_there front folder start end is range below =
+      let found = Contains-map_cases shown files (folder ++ codes "/" ++ below.inside, below.bytes)
+      below.has in
+      let here = path_here found.0 found.1 found.2 in
+      let begins : here.0.now ≡ front ++ below.inside = here.2 ∙ ap (λ f. f.0) found.3
+      ∙ ap (λ f. f ++ below.inside) (sym is) in
+      let within = (range.exact found.0 here.0 here.1).0 (below.inside, begins) in
+      omega (arith, within.0, within.1)
+
+  same_length : length (files_of files) ≡ length paths
+  same_length =
+      length-map files shown ∙ sym (length-map files path_of) ∙ sym (ap length ordered.same)
+      ∙ length-map paths now_of
+
+  -- the path of the file that is shown at a place
+  path_at : (place : ℕ) (d : List ℕ × List ℕ) → place < length paths
+      → (get_or (files_of files) place d).0 ≡ (get_or paths place no_path).now
+  path_at place d within =
+      let path = get_or paths place no_path in
+      let found = file_at place path (slice_get-get_or paths place no_path within) in
+      let at_place : slice_get (files_of files) place ≡ Some (shown found.0) =
+      slice_get-map shown files place ∙ ap (option_map shown) found.1 in
+      ap (λ f. f.0) (get_or_from_slice_get (files_of files) place (shown found.0) d at_place)
+      ∙ found.2
+
+  -- no two files have one path
+  pub paths_differ : AllPairs (λ (a b : List ℕ × List ℕ). a.0 ≢ b.0) (files_of files)
+  paths_differ i j d before within = λ same.
+      let within_paths : j < length paths = subst (λ n. j < n) same_length within in
+      let first : i < length paths = omega (arith, before, within_paths) in
+      not_below_itself (get_or paths i no_path).now (get_or paths j no_path).now
+      (sym (path_at i d first) ∙ same ∙ path_at j d within_paths)
+      (ordered.in_order i j no_path before within_paths)
+
+  -- what holds of each path holds of the path of each file
+  pub of_each_file : (P : List ℕ → Type 0) → All (λ (path : Bor (List ℕ)). P path.now) paths
+      → All (λ (file : List ℕ × List ℕ). P file.0) (files_of files)
+  of_each_file P all place d within =
+      let within_paths : place < length paths = subst (λ n. place < n) same_length within in
+      subst P (sym (path_at place d within_paths)) (all place no_path within_paths)

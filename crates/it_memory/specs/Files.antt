@@ -1,6 +1,7 @@
 -- What files in memory hold at their paths, by the list of the files alone (a word of this
 -- project).
-use Rattle.std.specs.Prelude.{◌++◌, ℕ, List, Option, Some, None, Contains, codes, map}
+use Rattle.std.specs.Prelude.{◌++◌, ◌≢◌, ℕ, List, Option, Some, None, All, AllPairs, Contains}
+use Rattle.std.specs.Prelude.{codes, map}
 use Rattle.it_disk.specs.Reading.{Holdings}
 use Rattle.it_disk.specs.declared.folders.Kind.{Kind}
 use Rattle.it_disk.specs.declared.folders.Kind.TheVariants.{File as a_file, Folder}
@@ -19,6 +20,11 @@ pub record HasBelow (files : List (List ℕ × List ℕ)) (folder : List ℕ) : 
   pub inside : List ℕ
   pub bytes : List ℕ
   pub has : HasFile files (folder ++ codes "/" ++ inside) bytes
+
+-- no two of the files have one path, and none lies below another
+pub record AreApart (files : List (List ℕ × List ℕ)) : Type 0 where
+  pub differ : AllPairs (λ one other. one.0 ≢ other.0) files
+  pub none_below : All (λ file. ¬ HasBelow files file.0) files
 
 -- at the path is a file, or a folder below which files lie
 abbrev pub HasKind : List (List ℕ × List ℕ) → List ℕ → Kind → Type 0

@@ -10,6 +10,7 @@
 
 mod disk;
 mod file;
+pub mod laws;
 mod memory;
 mod names;
 mod paths;

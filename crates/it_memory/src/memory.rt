@@ -1,8 +1,8 @@
 //! Files in memory, found by their paths.
-ghost use Rattle.std.specs.Prelude.{IfErr, IfOk, IsTrue};
+ghost use Rattle.std.specs.Prelude.{◌↔◌, All, IfErr, IfOk, IsTrue};
 ghost use Rattle.std.specs.List.Sorted.{IsPermutation};
 ghost use Rattle.it_disk.specs.Faults.{IsReadFault};
-ghost use Rattle.it_memory.specs.Files.{HasBelow, HasFile, HasKind, files_of};
+ghost use Rattle.it_memory.specs.Files.{AreApart, HasBelow, HasFile, HasKind, files_of};
 
 use crate::file::File;
 use crate::names::names_in;
@@ -42,7 +42,8 @@ impl<'a> Memory<'a> {
     /// The fault of a path that two files have, that has an empty part, or that is the path of a
     /// file below which another lies.
     pub fn of(alloc: Global, files: Vec<File<'a>>) -> Result<Memory<'a>, Fault>
-        ensures { IfOk result (λ memory. IsPermutation (files_of files.entry.items) memory) }
+        ensures same { IfOk result (λ memory. IsPermutation (files_of files.entry.items) memory) }
+        ensures apart { IfOk result AreApart }
     {
         let mut files = files;
         files.sort_unstable_by_key(|file| file.path);
@@ -57,8 +58,11 @@ impl<'a> Memory<'a> {
     }
 
     /// Refuses a file below which another lies.
-    fn refuse_below_files(&self) -> Result<(), Fault> {
-        for path in self.paths.as_slice() {
+    fn refuse_below_files(&self) -> Result<(), Fault>
+        ensures { IfOk result (λ _. All (λ file. ¬ HasBelow self.now file.0) self.now) }
+    {
+        let paths = self.paths.as_slice();
+        for path in paths {
             if self.has_below(path)? {
                 let reason = "it is a file, and another lies below it";
                 return Err(Fault::unread(self.alloc, path, reason)?);
@@ -94,7 +98,7 @@ impl<'a> Memory<'a> {
 
     /// Whether files lie below a path.
     fn has_below(&self, path: &str) -> Result<bool, AllocError>
-        ensures { IfOk result (λ has. IsTrue has → HasBelow self.now path.now) }
+        ensures { IfOk result (λ has. IsTrue has ↔ HasBelow self.now path.now) }
     {
         let front = front_of(self.alloc, path)?;
         let (start, end) = front_range(self.paths.as_slice(), front.as_str());

@@ -22,4 +22,4 @@ pub record IsKnown (panel : Panel) (inputs : Inputs) (known : Known) : Type 0 wh
 pub record IsTold (panel : Panel) (inputs : Inputs) (told : Told) : Type 0 where
   pub verdict : IsVerdict panel inputs told.verdict
   pub known : IfSome told.known (IsKnown panel inputs)
-  pub found : IfSome told.found (λ found. AreFoundInDocuments panel inputs found.items)
+  pub found : IfSome told.found (AreFoundInDocuments panel inputs)

@@ -1,6 +1,5 @@
 pub mod FileDetails
 pub mod FoundInDocuments
-pub mod FullOutput
 pub mod KeyNotes
 pub mod Known
 pub mod LayoutEnvelope
@@ -9,5 +8,3 @@ pub mod NotGiven
 pub mod Notes
 pub mod PlaceNotes
 pub mod RefusalNotes
-pub mod Strictly
-pub mod VerifyOutputIn

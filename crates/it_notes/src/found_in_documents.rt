@@ -1,52 +1,99 @@
-//! What is found in the policy and in the layout of a delivery that is accepted.
-ghost use Rattle.std.specs.Prelude.{IfOk};
-ghost use Rattle.it_dsse.specs.Panel.{Panel};
+//! What is found in the policy, in the layout and in the sublayouts of a delivery that is accepted.
+ghost use Rattle.std.specs.Prelude.{◌≤◌, IfOk};
 ghost use Rattle.it_verify.specs.Made.{IsMadeBy};
 ghost use Rattle.it_notes.specs.FoundInDocuments.{AreFoundInDocuments};
 
 use crate::known::{Known, Told};
 use crate::lines::{Line, Lines};
+use it_base::text::Text;
 use it_check::push_finding;
 use it_docs::rule::Rule;
+use it_dsse::checks::Checks;
 use it_findings::finding::{Finding, RuleList};
+use it_findings::member_finding::MemberFinding;
 use it_member_notes::{ends_open, rules_of_inspection, rules_of_step};
-use it_strict::counting_findings;
-use it_strict::found::found_in_policy;
+use it_strict::below::{FoundBelow, found_below};
+use it_strict::found::{found_in_layout, found_in_policy};
+use it_strict::push_placed_finding;
 use it_verify::grounds::Grounds;
 use it_verify::inputs::Inputs;
 use std::alloc::{AllocError, Global};
 
-/// What is found in the policy, and then what is found in the layout and counts, where a delivery
-/// of the `inputs` is accepted on these grounds.
-pub(crate) fn found_in_documents(
+/// What is found in the documents of a delivery that is accepted.
+#[derive(Drop)]
+pub struct FoundInDocuments {
+    /// What is found in the policy, and then what is found in the layout and counts.
+    pub of_documents: Vec<Finding>,
+    /// What is found in each sublayout that counts, and counts there.
+    pub below: Vec<FoundBelow>,
+}
+
+/// What is found in the policy, in the layout and in the sublayouts, as far as it counts, where a
+/// delivery of the `inputs` is accepted on these grounds by the `checks`.
+pub(crate) fn found_in_documents<C: Checks>(
     alloc: Global,
     inputs: &Inputs,
     grounds: &Grounds,
-) -> Result<Vec<Finding>, AllocError>
-    ensures { (panel : Panel)
-        → IsMadeBy panel inputs.now grounds.now.documents grounds.now.evidence
-        → IfOk result (λ found. AreFoundInDocuments panel inputs.now found.items) }
+    checks: &C,
+) -> Result<FoundInDocuments, AllocError>
+    requires shallow { inputs.now.depth ≤ 8 }
+    requires made { IsMadeBy (C.panel checks.now) inputs.now grounds.now.documents
+        grounds.now.evidence }
+    ensures { IfOk result (AreFoundInDocuments (C.panel checks.now) inputs.now) }
 {
     let documents = &grounds.documents;
     let mut found = found_in_policy(alloc, inputs.policy.as_slice(), documents)?;
-    let steps = grounds.evidence.steps.as_slice();
-    let mut of_layout = counting_findings(alloc, documents, steps)?;
+    let mut of_layout = found_in_layout(alloc, documents, &grounds.evidence)?;
     found.append(&mut of_layout)?;
-    Ok(found)
+    Ok(FoundInDocuments {
+        of_documents: found,
+        below: found_below(alloc, inputs, documents, checks)?,
+    })
 }
 
-/// Adds the lines of what is found in an accepted delivery's documents, as `itv check` writes them,
-/// as far as no other note says it.
-pub(crate) fn add_found(lines: &mut Lines, told: &Told) -> Result<(), AllocError> {
+/// Adds the lines of what is found in an accepted delivery's documents, as `--strict` writes them,
+/// as far as no other note says it: of sublayouts none does.
+///
+/// # Errors
+///
+/// `AllocError` where memory was refused.
+pub fn add_found(lines: &mut Lines, told: &Told) -> Result<(), AllocError> {
     let (Some(found), Some(known)) = (&told.found, &told.known) else {
         return Ok(());
     };
-    for finding in found.as_slice() {
+    for finding in found.of_documents.as_slice() {
         if !is_noted(finding, known) {
             lines.add(finding)?;
         }
     }
+    for below in found.below.as_slice() {
+        add_below(lines, below)?;
+    }
     Ok(())
+}
+
+/// Adds the lines of what is found in a sublayout.
+fn add_below(lines: &mut Lines, below: &FoundBelow) -> Result<(), AllocError> {
+    let at = below.at.as_slice();
+    for finding in below.findings.as_slice() {
+        lines.add(&PlacedFinding { at, finding })?;
+    }
+    Ok(())
+}
+
+/// Something that is found in a sublayout.
+#[derive(Drop)]
+struct PlacedFinding<'a> {
+    /// The sublayouts down to this one, the outermost first.
+    at: &'a [(Text, Text)],
+    /// What is found.
+    finding: &'a Finding,
+}
+
+impl Line for PlacedFinding<'_> {
+    fn push_line(&self, text: &mut Vec<u8>) -> Result<(), AllocError> {
+        push_placed_finding(text, self.at, self.finding)
+    }
 }
 
 impl Line for Finding {
@@ -58,9 +105,18 @@ impl Line for Finding {
 /// Whether the notes on members, on rules or on key ids say it in other words.
 fn is_noted(finding: &Finding, known: &Known) -> bool {
     match finding {
-        Finding::Member(_) | Finding::UnknownItem { .. } | Finding::UnknownKey { .. } => true,
+        Finding::Member(finding) => is_noted_member(finding),
+        Finding::UnknownItem { .. } | Finding::UnknownKey { .. } => true,
         Finding::OpenRules(list) => ends_open(rules_of(list, known)),
         _ => false,
+    }
+}
+
+/// Whether the notes on members say it.
+fn is_noted_member(finding: &MemberFinding) -> bool {
+    match finding {
+        MemberFinding::Unread { .. } | MemberFinding::PrivateKey(_) => true,
+        MemberFinding::Repeated { .. } => false,
     }
 }
 

@@ -7,11 +7,10 @@ ghost use Rattle.it_notes.specs.Known.{IsKnown, IsTold};
 ghost use Rattle.it_notes.specs.FoundInDocuments.{AreFoundInDocuments};
 
 use crate::fault_level::FaultLevel;
-use crate::found_in_documents::found_in_documents;
+use crate::found_in_documents::{FoundInDocuments, found_in_documents};
 use it_digest::artifacts::Artifacts;
 use it_docs::policy::Policy;
 use it_dsse::checks::Checks;
-use it_findings::finding::Finding;
 use it_report::verdict::Verdict;
 use it_step_notes::signed_layout::SignedLayout;
 use it_verify::documents::Documents;
@@ -42,9 +41,9 @@ pub struct Told<'a> {
     /// What was found, or `None` where the documents do not read, or an owner did not sign the
     /// layout.
     pub known: Option<Known<'a>>,
-    /// Where the verdict accepts, what is found in the policy and in the layout all the same, or
-    /// `None` where memory was refused for that.
-    pub found: Option<Vec<Finding>>,
+    /// Where the verdict accepts, what is found in the policy, in the layout and in the sublayouts
+    /// all the same, or `None` where memory was refused for that.
+    pub found: Option<FoundInDocuments>,
 }
 
 /// Verifies delivered files, and keeps what was found.
@@ -52,7 +51,7 @@ pub struct Told<'a> {
 /// # Errors
 ///
 /// `AllocError` where memory was refused.
-pub(crate) fn verify_told<'a, C: Checks>(
+pub fn verify_told<'a, C: Checks>(
     alloc: Global,
     inputs: &'a Inputs,
     checks: &C,
@@ -62,7 +61,7 @@ pub(crate) fn verify_told<'a, C: Checks>(
 {
     match verify_grounds(alloc, inputs, checks)? {
         Outcome::Made(grounds) => {
-            let found = found_in_documents(alloc, inputs, &grounds).ok();
+            let found = found_in_documents(alloc, inputs, &grounds, checks).ok();
             made_told(alloc, inputs, grounds, found)
         }
         Outcome::Refused { refusal, found } => Ok(Told {
@@ -74,14 +73,18 @@ pub(crate) fn verify_told<'a, C: Checks>(
 }
 
 /// The verdict that accepts, what was found before it, and what is found all the same.
-pub(crate) fn made_told(
+///
+/// # Errors
+///
+/// `AllocError` where memory was refused.
+pub fn made_told(
     alloc: Global,
     inputs: &Inputs,
     grounds: Grounds,
-    all_the_same: Option<Vec<Finding>>,
+    all_the_same: Option<FoundInDocuments>,
 ) -> Result<Told<'_>, AllocError>
     ensures { (panel : Panel) → IsMadeBy panel inputs.now grounds.documents grounds.evidence
-        → IfSome all_the_same (λ found. AreFoundInDocuments panel inputs.now found.items)
+        → IfSome all_the_same (AreFoundInDocuments panel inputs.now)
         → IfOk result (IsTold panel inputs.now) }
 {
     let verdict = verdict_of(alloc, &grounds)?;
@@ -96,8 +99,8 @@ pub(crate) fn made_told(
     })
 }
 
-/// What was found, if anything was.
-pub(crate) fn known_of(inputs: &Inputs, found: Option<Found>) -> Option<Known<'_>>
+/// What was found before a refusal of the inputs, if anything was.
+pub fn known_of(inputs: &Inputs, found: Option<Found>) -> Option<Known<'_>>
     ensures { (panel : Panel) → IfSome found (IsFound panel inputs.now)
         → IfSome result (IsKnown panel inputs.now) }
 {

@@ -13,7 +13,7 @@ pub(crate) trait Line {
 
 /// Lines, as they are written.
 #[derive(Drop)]
-pub(crate) struct Lines {
+pub struct Lines {
     alloc: Global,
     /// The first lines, each with its line feed.
     lines: Vec<Vec<u8>>,
@@ -53,7 +53,11 @@ impl Lines {
 
     /// The lines, each with its line feed. Where there are more notes than lines to write out, the
     /// last line says how many are left out.
-    pub(crate) fn into_lines(self) -> Result<Vec<Vec<u8>>, AllocError> {
+    ///
+    /// # Errors
+    ///
+    /// `AllocError` where memory was refused.
+    pub fn into_lines(self) -> Result<Vec<Vec<u8>>, AllocError> {
         let Lines {
             alloc,
             mut lines,
@@ -68,7 +72,11 @@ impl Lines {
     }
 
     /// The text of the lines.
-    pub(crate) fn into_text(self) -> Result<Vec<u8>, AllocError> {
+    ///
+    /// # Errors
+    ///
+    /// `AllocError` where memory was refused.
+    pub fn into_text(self) -> Result<Vec<u8>, AllocError> {
         let mut text = Vec::new(self.alloc);
         for line in self.into_lines()? {
             text.extend_from_slice(line.as_slice())?;

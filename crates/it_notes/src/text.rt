@@ -32,7 +32,7 @@ impl Notes {
     /// # Errors
     ///
     /// `AllocError` where memory was refused.
-    pub(crate) fn lines(&self, alloc: Global) -> Result<Lines, AllocError> {
+    pub fn lines(&self, alloc: Global) -> Result<Lines, AllocError> {
         let mut lines = Lines::new(alloc);
         if let Some(place) = &self.place {
             place.add_to(&mut lines)?;

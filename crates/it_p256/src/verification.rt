@@ -61,7 +61,5 @@ fn combination(key: &PublicKey, e: Limbs, signature: &SignatureValue) -> Point
     let second = Scalar::from_limbs(signature.r)
         .multiply(&inverse)
         .to_limbs();
-    Point::base()
-        .multiply(first)
-        .add(&key.point().multiply(second))
+    Point::base().sum_of_multiples(first, &key.point(), second)
 }

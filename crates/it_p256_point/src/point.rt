@@ -4,7 +4,7 @@ ghost use Rattle.std.specs.Prelude.{◌≡◌, ◌+◌, ◌%◌, nat_eq};
 ghost use Rattle.it_p256_limbs.specs.Numbers.{value_of};
 ghost use Rattle.it_p256_field.specs.Prime.{prime};
 ghost use Rattle.it_p256_point.specs.Points.{cross_of, infinity, affine, base, sum_of, double_of};
-ghost use Rattle.it_p256_point.specs.Points.{multiple_of, first_coordinate};
+ghost use Rattle.it_p256_point.specs.Points.{added_by, sum_of_multiples, first_coordinate};
 
 use crate::curve::curve_constant;
 use it_p256_field::FieldElement;
@@ -130,18 +130,47 @@ impl Point {
         }
     }
 
-    /// `n` times the point.
-    pub fn multiply(&self, n: Limbs) -> Point
-        ensures { result ≡ multiple_of 256 (value_of n) self.now }
+    /// `n` times the point plus `m` times the other, by double and add over the bits of both
+    /// numbers at once.
+    pub fn sum_of_multiples(&self, n: Limbs, other: &Point, m: Limbs) -> Point
+        ensures { result ≡ sum_of_multiples 256 (value_of n) (value_of m) self.now other.now }
     {
+        let sums = Sums {
+            first: self,
+            second: other,
+            both: &self.add(other),
+        };
         let mut total = Point::infinity();
         for i in 0..256 {
-            total = total.double();
-            if bit_at(n, 255 - i) {
-                total = total.add(self);
-            }
+            let (first, second) = (bit_at(n, 255 - i), bit_at(m, 255 - i));
+            total = sums.added_to(total.double(), first, second);
         }
         total
+    }
+}
+
+/// Two points, and their sum.
+#[derive(Drop)]
+struct Sums<'a> {
+    first: &'a Point,
+    second: &'a Point,
+    both: &'a Point,
+}
+
+impl Sums<'_> {
+    /// The total, plus the first point where the first bit is 1, and plus the second where the
+    /// second one is.
+    #[inline(always)]
+    fn added_to(&self, total: Point, first: bool, second: bool) -> Point
+        requires { self.now.both.now ≡ sum_of self.now.first.now self.now.second.now }
+        ensures { result ≡ added_by first second self.now.first.now self.now.second.now total }
+    {
+        match (first, second) {
+            (true, true) => total.add(self.both),
+            (true, false) => total.add(self.first),
+            (false, true) => total.add(self.second),
+            (false, false) => total,
+        }
     }
 }
 

@@ -7,8 +7,8 @@ use Rattle.it_words.specs.Words.{AreWordsOf}
 use Rattle.it_words.specs.declared.words.Words.{Words}
 use Rattle.it_disk.specs.declared.fault.Fault.{Fault}
 use Rattle.it_disk.specs.declared.fault.Fault.TheVariants.{Run as by_run}
-use Rattle.it_notes.specs.declared.strict_fault.StrictFault.{StrictFault}
-use Rattle.it_notes.specs.declared.strict_fault.StrictFault.TheVariants.{Findings, Run}
+use Rattle.it_verify_command.specs.declared.strict_fault.StrictFault.{StrictFault}
+use Rattle.it_verify_command.specs.declared.strict_fault.StrictFault.TheVariants.{Findings, Run}
 use Rattle.it_outcome.specs.declared.outcome.RunFault.TheVariants.{Write}
 use Rattle.it_program.specs.Stopped.{IsDigestBegun, NamesDigestBegun, stop_of}
 use Rattle.it_program.specs.declared.stop.Stop.{Stop}

@@ -5,10 +5,10 @@ use Rattle.it_dsse.specs.Panel.{panel_of}
 use Rattle.it_dsse.specs.declared.ring_entry.RingEntry.{RingEntry}
 use Rattle.it_commands.specs.MatchOutput.{IsMatchOutput}
 use Rattle.it_json_report.specs.declared.form.ReportForm.TheVariants.{Lines, Json}
-use Rattle.it_notes.specs.declared.output_form.OutputForm.{OutputForm}
-use Rattle.it_notes.specs.declared.output_form.OutputForm.TheVariants.{Full, Report}
-use Rattle.it_notes.specs.Strictly.{HasFindings, StandsStrictly}
-use Rattle.it_notes.specs.VerifyOutputIn.{IsVerifyOutputIn}
+use Rattle.it_verify_command.specs.declared.output_form.OutputForm.{OutputForm}
+use Rattle.it_verify_command.specs.declared.output_form.OutputForm.TheVariants.{Full, Report}
+use Rattle.it_verify_command.specs.Strictly.{HasFindings, StandsStrictly}
+use Rattle.it_verify_command.specs.VerifyOutputIn.{IsVerifyOutputIn}
 use Rattle.it_public_keys.specs.OwnChecks.{own_checks}
 use Rattle.it_verify.specs.declared.inputs.Inputs.{Inputs}
 use Rattle.it_outcome.specs.declared.outcome.Status.{Status}

@@ -8,8 +8,8 @@ use Rattle.it_words.specs.declared.words.Words.TheVariants.{Digest, Verify}
 use Rattle.it_words.specs.declared.words.digest_words.DigestWords.{DigestWords}
 use Rattle.it_words.specs.declared.words.verify_words.VerifyWords.{VerifyWords}
 use Rattle.it_file_commands.specs.Stopped.{ListsFirst}
-use Rattle.it_notes.specs.declared.strict_fault.StrictFault.{StrictFault}
-use Rattle.it_notes.specs.declared.strict_fault.StrictFault.TheVariants.{Findings, Run}
+use Rattle.it_verify_command.specs.declared.strict_fault.StrictFault.{StrictFault}
+use Rattle.it_verify_command.specs.declared.strict_fault.StrictFault.TheVariants.{Findings, Run}
 use Rattle.it_program.specs.Commands.{FindsAgainst}
 use Rattle.it_program.specs.declared.stop.Stop.{Stop}
 use Rattle.it_program.specs.declared.stop.Stop.TheVariants.{Findings as by_findings, OfFault}

@@ -6,8 +6,8 @@ ghost use Rattle.it_program.specs.Stopped.{stop_of};
 ghost use Rattle.it_program.specs.declared.stop.Stop.TheVariants.{OfFault};
 
 use it_disk::Fault;
-use it_notes::strict_fault::StrictFault;
 use it_outcome::RunFault;
+use it_verify_command::strict_fault::StrictFault;
 use it_words::words::WordsFault;
 use thiserror::Error;
 

@@ -9,7 +9,7 @@ use Rattle.it_chain.specs.StepRules.{recorded_in}
 use Rattle.it_chain.specs.declared.chain.StepResult.{StepResult}
 use Rattle.it_findings.specs.Joined.{Joined, Said}
 use Rattle.it_findings.specs.LayoutFindings.{LayoutFindings}
-use Rattle.it_findings.specs.Members.{LayoutMembers, MembersOf}
+use Rattle.it_findings.specs.Members.{MembersOfLayout}
 use Rattle.it_findings.specs.NoThresholds.{NoThresholdsOf}
 use Rattle.it_findings.specs.NullKeys.{LayoutNulls, NullsOf}
 use Rattle.it_findings.specs.declared.finding.Finding.{Finding}
@@ -43,7 +43,7 @@ pub record LayoutCounting (payload : List ℕ) (layout : Layout) (steps : List S
   pub nulls : List NullKey
   pub places : List ℕ
   pub all : List Finding
-  pub are_members : MembersOf LayoutMembers payload members
+  pub are_members : MembersOfLayout payload members
   pub are_nulls : NullsOf LayoutNulls payload nulls
   pub are_places : NoThresholdsOf payload places
   pub are_all : IsFound (layout_gaps members nulls places) (LayoutFindings layout) all

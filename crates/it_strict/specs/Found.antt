@@ -1,6 +1,7 @@
 -- What is found where a delivery is accepted (this project's words).
-use Rattle.std.specs.Prelude.{◌≡◌, ℕ, List, [], Some}
-use Rattle.it_findings.specs.Members.{MembersOf, PolicyMembers}
+use Rattle.std.specs.Prelude.{◌≡◌, ℕ, All, List, [], Some}
+use Rattle.it_dsse.specs.Panel.{Panel}
+use Rattle.it_findings.specs.Members.{MembersOfPolicy}
 use Rattle.it_findings.specs.NullKeys.{NullsOf, PolicyNulls}
 use Rattle.it_findings.specs.PolicyFindings.{PolicyFindings}
 use Rattle.it_findings.specs.declared.finding.Finding.{Finding}
@@ -13,6 +14,7 @@ use Rattle.it_verify.specs.Evidence.{evidence_links}
 use Rattle.it_verify.specs.declared.documents.Documents.{Documents}
 use Rattle.it_verify.specs.declared.evidence.Evidence.{Evidence}
 use Rattle.it_verify.specs.declared.inputs.Inputs.{Inputs}
+use Rattle.it_strict.specs.Below.{AreFoundBelow}
 use Rattle.it_strict.specs.Counting.{LayoutCounting}
 pub use Rattle.it_strict.specs.declared.found.Found.{Found}
 
@@ -21,17 +23,18 @@ pub use Rattle.it_strict.specs.declared.found.Found.{Found}
 abbrev pub PolicyFound : List ℕ → Documents → List Finding → Type 0
 PolicyFound bytes documents found =
     (members : List MemberFinding) × (nulls : List NullKey)
-    × MembersOf PolicyMembers bytes members × NullsOf PolicyNulls bytes nulls
+    × MembersOfPolicy bytes members × NullsOf PolicyNulls bytes nulls
     × IsFound (policy_gaps members nulls)
     (PolicyFindings (Some documents.layout) documents.policy) found
 
--- what is found: in the policy; in the layout, as far as it counts; and the delivered files that
--- are tied to no step
-pub record AreFound (inputs : Inputs) (documents : Documents) (evidence : Evidence) (found : Found)
-    : Type 0 where
+-- what is found: in the policy; in the layout and in the sublayouts that count, as far as it
+-- counts; and the delivered files that are tied to no step
+pub record AreFound (panel : Panel) (inputs : Inputs) (documents : Documents) (evidence : Evidence)
+    (found : Found) : Type 0 where
   pub policy : PolicyFound inputs.policy documents found.of_policy
   pub layout : LayoutCounting documents.envelope.payload documents.layout evidence.steps
       found.of_layout
+  pub sublayouts : AreFoundBelow panel inputs documents found.of_sublayouts
   pub untied : AreUntied documents.layout.steps documents.policy.deliver
       (delivery documents.delivered) (evidence_links evidence) found.untied
 
@@ -39,4 +42,5 @@ pub record AreFound (inputs : Inputs) (documents : Documents) (evidence : Eviden
 pub record IsNothing (found : Found) : Type 0 where
   pub of_policy : found.of_policy ≡ []
   pub of_layout : found.of_layout ≡ []
+  pub of_sublayouts : All (λ below. below.findings ≡ []) found.of_sublayouts
   pub untied : found.untied ≡ []

@@ -3,6 +3,7 @@ use Rattle.std.specs.Prelude.{ℕ, List, ◌++◌, length, take, codes}
 use Rattle.std.specs.List.{flat_map}
 use Rattle.it_check.specs.FindingLine.{findings_text, line_form, more_form}
 use Rattle.it_check.specs.Pieces.{told_form}
+use Rattle.it_strict.specs.BelowText.{all_below_text}
 use Rattle.it_strict.specs.Found.{Found}
 
 -- what is said of a delivered file that is tied to no step
@@ -20,8 +21,10 @@ unfoldable pub untied_text : List (List ℕ) → List ℕ
 untied_text untied =
     flat_map untied_line (take 40 untied) ++ more_form (codes "untied files") (length untied)
 
--- the lines of all that is found: in the policy, in the layout, and of the untied files
+-- the lines of all that is found: in the policy, in the layout, in the sublayouts, and of the
+-- untied files
 unfoldable pub found_text : Found → List ℕ
 found_text found =
     findings_text (codes "policy") found.of_policy
-    ++ findings_text (codes "layout") found.of_layout ++ untied_text found.untied
+    ++ findings_text (codes "layout") found.of_layout ++ all_below_text found.of_sublayouts
+    ++ untied_text found.untied

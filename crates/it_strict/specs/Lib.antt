@@ -1,3 +1,5 @@
+pub mod Below
+pub mod BelowText
 pub mod Counting
 pub mod Found
 pub mod FoundText

@@ -69,6 +69,6 @@ abbrev pub DeliveredAreProducts : Type 0
 DeliveredAreProducts =
     (panel : Panel) (inputs : Inputs) (documents : Documents) (evidence : Evidence) (found : Found)
     (path : List ℕ) (digests : DigestSet) → IsMadeBy panel inputs documents evidence
-    → AreFound inputs documents evidence found → IsNothing found
+    → AreFound panel inputs documents evidence found → IsNothing found
     → get documents.delivered path ≡ Some digests
     → IsProduct panel inputs documents evidence path digests

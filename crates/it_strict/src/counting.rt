@@ -8,33 +8,34 @@ ghost use Rattle.it_strict.specs.Counting.{AreCounting, Counts, HasPath, LayoutC
 
 use it_chain::chain::StepResult;
 use it_check::findings_in_layout;
+use it_docs::layout::Layout;
 use it_docs::rule::Side;
 use it_findings::finding::{Finding, RuleList};
 use it_findings::{layout_members, layout_nulls, no_thresholds};
 use it_rules::item::Item;
-use it_verify::documents::Documents;
 use std::alloc::{AllocError, Global};
 
-/// What is found in the layout and counts where its steps have these records.
+/// What is found in a layout, which is read from this payload, and counts where its steps have
+/// these records.
 ///
 /// # Errors
 ///
 /// `AllocError` where memory was refused.
-pub fn counting_findings(
+pub(crate) fn counting_findings(
     alloc: Global,
-    documents: &Documents,
+    payload: &[u8],
+    layout: &Layout,
     steps: &[StepResult],
 ) -> Result<Vec<Finding>, AllocError>
-    ensures { IfOk result (λ counting. LayoutCounting documents.now.envelope.payload
-        documents.now.layout steps.now counting.items) }
+    ensures { IfOk result (λ counting.
+        LayoutCounting payload.now layout.now steps.now counting.items) }
 {
-    let payload = documents.envelope.payload.as_slice();
     let members = layout_members(alloc, payload)?;
     let nulls = layout_nulls(alloc, payload)?;
     let places = no_thresholds(alloc, payload)?;
     let all = findings_in_layout(
         alloc,
-        &documents.layout,
+        layout,
         members.as_slice(),
         nulls.as_slice(),
         places.as_slice(),

@@ -1,19 +1,23 @@
 //! What is found where a delivery is accepted.
-ghost use Rattle.std.specs.Prelude.{◌≡◌, ◌↔◌, ◌++◌, IfOk, IsTrue, OnOk};
-ghost use Rattle.it_dsse.specs.Panel.{Panel};
+ghost use Rattle.std.specs.Prelude.{◌≡◌, ◌↔◌, ◌++◌, ◌≤◌, [], All, IfOk, IsTrue, OnOk};
 ghost use Rattle.it_verify.specs.Made.{IsMadeBy};
+ghost use Rattle.it_strict.specs.Counting.{LayoutCounting};
 ghost use Rattle.it_strict.specs.Found.{AreFound, IsNothing, PolicyFound};
 ghost use Rattle.it_strict.specs.FoundText.{found_text};
 
+use crate::below::{FoundBelow, found_below};
+use crate::below_lines::push_all_below;
 use crate::counting::counting_findings;
 use crate::untied::untied_files;
 use crate::untied_lines::push_untied;
 use it_base::sequence::Sequence;
 use it_base::text::Text;
 use it_check::{findings_in_policy, push_findings};
+use it_dsse::checks::Checks;
 use it_findings::finding::Finding;
 use it_findings::{policy_members, policy_nulls};
 use it_verify::documents::Documents;
+use it_verify::evidence::Evidence;
 use it_verify::grounds::Grounds;
 use it_verify::inputs::Inputs;
 use std::alloc::{AllocError, Global};
@@ -26,29 +30,40 @@ pub struct Found {
     /// What is found in the layout and counts: that a side of a step has no rules counts only where
     /// the step recorded some path on that side.
     pub of_layout: Sequence<Finding>,
+    /// What is found in each sublayout that counts, and counts there as in the layout: one for
+    /// each, in the order of the steps and of their key ids, and after each those below it.
+    pub of_sublayouts: Sequence<FoundBelow>,
     /// The paths of the delivered files that are tied to no step, in the order of their bytes.
     pub untied: Sequence<Text>,
 }
 
-/// All that is found where a delivery of the `inputs` is accepted on these grounds.
+/// All that is found where a delivery of the `inputs` is accepted on these grounds by the `checks`.
 ///
 /// # Errors
 ///
-/// `AllocError` where memory was refused.
-pub fn found_in(alloc: Global, inputs: &Inputs, grounds: &Grounds) -> Result<Found, AllocError>
-    requires { (panel : Panel)
-        × IsMadeBy panel inputs.now grounds.now.documents grounds.now.evidence }
-    ensures { IfOk result (λ found.
-        AreFound inputs.now grounds.now.documents grounds.now.evidence found) }
+/// `AllocError` where memory was refused, or where the checks refuse to check more signatures.
+pub fn found_in<C: Checks>(
+    alloc: Global,
+    inputs: &Inputs,
+    grounds: &Grounds,
+    checks: &C,
+) -> Result<Found, AllocError>
+    requires shallow { inputs.now.depth ≤ 8 }
+    requires made { IsMadeBy (C.panel checks.now) inputs.now grounds.now.documents
+        grounds.now.evidence }
+    ensures { IfOk result (λ found. AreFound (C.panel checks.now) inputs.now
+        grounds.now.documents grounds.now.evidence found) }
 {
     let documents = &grounds.documents;
     let evidence = &grounds.evidence;
     let of_policy = found_in_policy(alloc, inputs.policy.as_slice(), documents)?;
-    let of_layout = counting_findings(alloc, documents, evidence.steps.as_slice())?;
+    let of_layout = found_in_layout(alloc, documents, evidence)?;
+    let of_sublayouts = found_below(alloc, inputs, documents, checks)?;
     let untied = untied_files(alloc, documents, evidence)?;
     Ok(Found {
         of_policy: Sequence::from(of_policy),
         of_layout: Sequence::from(of_layout),
+        of_sublayouts: Sequence::from(of_sublayouts),
         untied: Sequence::from(untied),
     })
 }
@@ -72,6 +87,23 @@ pub fn found_in_policy(
     findings_in_policy(alloc, layout, &documents.policy, members, nulls)
 }
 
+/// What is found in the layout, and counts where its steps have the records of the evidence.
+///
+/// # Errors
+///
+/// `AllocError` where memory was refused.
+pub fn found_in_layout(
+    alloc: Global,
+    documents: &Documents,
+    evidence: &Evidence,
+) -> Result<Vec<Finding>, AllocError>
+    ensures { IfOk result (λ counting. LayoutCounting documents.now.envelope.payload
+        documents.now.layout evidence.now.steps counting.items) }
+{
+    let payload = documents.envelope.payload.as_slice();
+    counting_findings(alloc, payload, &documents.layout, evidence.steps.as_slice())
+}
+
 impl Found {
     /// Whether nothing is found. Takes no memory.
     pub fn is_nothing(&self) -> bool
@@ -79,12 +111,14 @@ impl Found {
     {
         self.of_policy.as_slice().is_empty()
             && self.of_layout.as_slice().is_empty()
+            && is_nothing_below(self.of_sublayouts.as_slice())
             && self.untied.as_slice().is_empty()
     }
 
     /// Appends the lines of what is found, each of which ends with a line feed: those of the policy
-    /// and those of the layout as `push_findings` writes them, and then those of the first 40 files
-    /// that are tied to no step, and how many there are where there are more.
+    /// and those of the layout as `push_findings` writes them, those of each sublayout with its
+    /// place, and then those of the first 40 files that are tied to no step, and how many there are
+    /// where there are more.
     ///
     /// # Errors
     ///
@@ -95,6 +129,14 @@ impl Found {
     {
         push_findings(text, "policy", self.of_policy.as_slice())?;
         push_findings(text, "layout", self.of_layout.as_slice())?;
+        push_all_below(text, self.of_sublayouts.as_slice())?;
         push_untied(text, self.untied.as_slice())
     }
+}
+
+/// Whether nothing is found in any sublayout.
+fn is_nothing_below(all: &[FoundBelow]) -> bool
+    ensures { IsTrue result ↔ All (λ below. below.findings ≡ []) all.now }
+{
+    all.iter().all(|below| below.findings.as_slice().is_empty())
 }

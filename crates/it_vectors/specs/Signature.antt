@@ -4,16 +4,25 @@ use Rattle.it_ed25519.specs.PublicKey.{IsPublicKey}
 use Rattle.it_ed25519.specs.Signature.{IsSignature as IsEd25519Signature}
 use Rattle.it_p256.specs.Key.{Key as P256Key}
 use Rattle.it_p256.specs.Signature.{IsSignature as IsP256Signature, IsSignatureOfDigest}
+use Rattle.it_p384.specs.Key.{Key as P384Key}
+use Rattle.it_p384.specs.Signature.{IsSignature as IsP384Signature}
+use Rattle.it_p384.specs.Signature.{IsSignatureOfDigest as IsP384SignatureOfDigest}
 use Rattle.it_rsa.specs.Key.{Key as RsaKey}
 use Rattle.it_rsa.specs.Signature.{IsSignature as IsRsaSignature}
-use Rattle.it_vectors.specs.Key.{IsP256Info, IsRsaInfo}
+use Rattle.it_vectors.specs.Key.{IsP256Info, IsP384Info, IsRsaInfo}
 use Rattle.it_vectors.specs.declared.kind.Kind.{Kind}
 use Rattle.it_vectors.specs.declared.kind.Kind.TheVariants.{Ed25519, P256, P256Digest, Rsa}
+use Rattle.it_vectors.specs.declared.kind.Kind.TheVariants.{P384, P384Digest}
 
 -- the bytes are a key of P-256, and its signature of a message with this digest of 32 bytes
 abbrev pub IsSignedDigest : (info digest signature : List ℕ) → Type 0
 IsSignedDigest info digest signature = (length digest ≡ 32)
     × ((key : P256Key) × IsP256Info info key × IsSignatureOfDigest key digest signature)
+
+-- the bytes are a key of P-384, and its signature of a message with this digest of 48 bytes
+abbrev pub IsP384SignedDigest : (info digest signature : List ℕ) → Type 0
+IsP384SignedDigest info digest signature = (length digest ≡ 48)
+    × ((key : P384Key) × IsP384Info info key × IsP384SignatureOfDigest key digest signature)
 
 -- the bytes are a public key of the kind, and its signature of the message
 abbrev pub IsSignatureOf : Kind → (key message signature : List ℕ) → Type 0
@@ -22,5 +31,8 @@ IsSignatureOf Ed25519 key message signature =
 IsSignatureOf P256 info message signature =
     (key : P256Key) × IsP256Info info key × IsP256Signature key message signature
 IsSignatureOf P256Digest info digest signature = IsSignedDigest info digest signature
+IsSignatureOf P384 info message signature =
+    (key : P384Key) × IsP384Info info key × IsP384Signature key message signature
+IsSignatureOf P384Digest info digest signature = IsP384SignedDigest info digest signature
 IsSignatureOf Rsa info message signature =
     (key : RsaKey) × IsRsaInfo info key × IsRsaSignature key message signature

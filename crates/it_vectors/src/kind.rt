@@ -7,6 +7,7 @@ ghost use Rattle.it_vectors.specs.Signature.{IsSignatureOf};
 
 use crate::ed25519::{is_ed25519_key, is_ed25519_signature};
 use crate::p256::{is_p256_key, is_p256_signature, is_p256_signature_of_digest};
+use crate::p384::{is_p384_key, is_p384_signature, is_p384_signature_of_digest};
 use crate::rsa::{is_rsa_key, is_rsa_signature};
 
 /// The kind of a vector's key and signature.
@@ -18,6 +19,10 @@ pub(crate) enum Kind {
     P256,
     /// The same, but with the message's SHA-256 in place of the message.
     P256Digest,
+    /// ECDSA over P-384 with SHA-384 (FIPS 186-5). A key is a SubjectPublicKeyInfo.
+    P384,
+    /// The same, but with the message's SHA-384 in place of the message.
+    P384Digest,
     /// RSASSA-PSS with SHA-256 (RFC 8017). A key is a SubjectPublicKeyInfo.
     Rsa,
 }
@@ -31,6 +36,8 @@ impl Kind {
             "ed25519" => Some(Kind::Ed25519),
             "p256" => Some(Kind::P256),
             "p256-digest" => Some(Kind::P256Digest),
+            "p384" => Some(Kind::P384),
+            "p384-digest" => Some(Kind::P384Digest),
             "rsa" => Some(Kind::Rsa),
             _ => None,
         }
@@ -44,6 +51,8 @@ impl Kind {
             Kind::Ed25519 => is_ed25519_key(key),
             Kind::P256 => is_p256_key(key),
             Kind::P256Digest => is_p256_key(key),
+            Kind::P384 => is_p384_key(key),
+            Kind::P384Digest => is_p384_key(key),
             Kind::Rsa => is_rsa_key(key),
         }
     }
@@ -57,6 +66,8 @@ impl Kind {
             Kind::Ed25519 => is_ed25519_signature(key, message, signature),
             Kind::P256 => is_p256_signature(key, message, signature),
             Kind::P256Digest => is_p256_signature_of_digest(key, message, signature),
+            Kind::P384 => is_p384_signature(key, message, signature),
+            Kind::P384Digest => is_p384_signature_of_digest(key, message, signature),
             Kind::Rsa => is_rsa_signature(key, message, signature),
         }
     }

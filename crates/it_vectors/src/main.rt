@@ -9,6 +9,7 @@ mod ed25519;
 mod kind;
 mod line;
 mod p256;
+mod p384;
 mod rsa;
 mod vector;
 mod vectors;

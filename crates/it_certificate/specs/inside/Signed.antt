@@ -1,5 +1,5 @@
 -- The parts that are signed, as a function hands them out. Nothing here is trusted.
-use Rattle.it_certificate.specs.Certificate.{Parts}
+use Rattle.it_certificate.specs.Parts.{Parts}
 use Rattle.it_certificate.specs.declared.signed.Signed.{Signed}
 
 abbrev pub signed_parts : Signed → Parts

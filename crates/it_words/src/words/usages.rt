@@ -38,9 +38,9 @@ pub(super) const VERIFY: Usage = Usage {
       --json[=2]       Writes the report as one JSON object; with =2 also what
                        is found and noted.
       --strict         Refuses what would be accepted, with status 2, where
-                       something is found in the policy or in the layout, as
-                       itv check finds it, or a delivered file is tied to no
-                       step.
+                       something is found in the policy, in the layout or in a
+                       sublayout, as itv check finds it, or a delivered file is
+                       tied to no step.
       --provenance F   The provenance, one envelope a line.
       --records DIR    The folder of the records of inspections, link bodies
                        without envelopes.

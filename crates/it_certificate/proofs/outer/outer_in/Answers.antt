@@ -1,6 +1,6 @@
 use Rattle.std.proofs.Common.{◌∙◌, List, ℕ, Bor, length, get_or, ap, sym, refl}
 use Rattle.it_der.proofs.Lengths.{no_bytes}
-use Rattle.it_certificate.specs.Certificate.{outer_elements}
+use Rattle.it_certificate.specs.Parts.{outer_elements}
 use Rattle.it_certificate.proofs.Tags.{as_three, no_signature, bits_left}
 use Rattle.it_certificate.proofs.outer.outer_in.Goals as goal
 

@@ -1,7 +1,7 @@
 use Rattle.std.proofs.Common.{◌∙◌, List, ℕ, Bor, get_or, ap, sym, refl, arith}
 use Rattle.std.proofs.lemmas.List.{nil_from_length}
 use Rattle.it_der.proofs.Lengths.{no_bytes, some_bytes}
-use Rattle.it_certificate.specs.Certificate.{signed_elements}
+use Rattle.it_certificate.specs.Parts.{signed_elements}
 use Rattle.it_certificate.proofs.Tags.{differs, agrees, as_eight, eight_is, signed_read}
 use Rattle.it_certificate.proofs.Tags.{other_version, no_serial, not_none}
 use Rattle.it_certificate.proofs.signed.signed_in.Goals as goal

@@ -1,12 +1,13 @@
-use Rattle.std.proofs.Common.{IsNone, IsTrue, Option, ap, refl, subst, ℕ}
+use Rattle.std.proofs.Common.{IsNone, IsTrue, Option, ap, arith, length, refl, subst, ℕ}
 use Rattle.it_limits.specs.Limit.{IsWithinLimit}
 use Rattle.it_limits.proofs.LinksWithin.{file_within}
+use Rattle.it_disk.proofs.LinksSized.{file_sized}
 use Rattle.it_disk.proofs.folders.add_file.Goals as goal
 use Rattle.it_disk.proofs.folders.add_file.Goals.{in-None+in_ok-add_read-in-None}
 use Rattle.it_disk.proofs.folders.add_file.Goals.{in-Some+in_ok-path-in-Some+in_ok-push-in-Some}
 
-pub returns : goal.returns
-returns g c = λ before limited. elim c.match-too_many_in.branch [
+pub returns-clause-limited : goal.returns-clause-limited
+returns-clause-limited g c = λ before limited. elim c.match-too_many_in.branch [
   | in-Some+in_ok-path-in-Some+in_ok-push-in-Some w ↦
       rw (ap (λ l. l.bundle) w.links-is) (before limited)
   | in-None+in_ok-add_read-in-None w ↦
@@ -15,3 +16,19 @@ returns g c = λ before limited. elim c.match-too_many_in.branch [
       rw (ap (λ l. l.bundle) w.links-is, w.in_ok-add_read-in-None.ensures.ok)
       (file_within _ _ within (before limited))
 ]
+
+pub returns-clause-counted : goal.returns-clause-counted
+returns-clause-counted g c =
+    let sum = c.in_ok-links.ensures.sum in
+    elim c.match-too_many_in.branch [
+      | in-Some+in_ok-path-in-Some+in_ok-push-in-Some w ↦
+          let read = ap (λ l. l.read) w.links-is in
+          rw (ap (λ l. l.bundle) w.links-is) (omega (arith, read, sum))
+      | in-None+in_ok-add_read-in-None w ↦
+          let read = ap (λ l. l.read) w.links-is in
+          let size = file_sized c.in_ok-file.file c.args.links.now.bundle in
+          let held = ap (λ f. length f.bytes) c.in_ok-file.ensures in
+          let bytes = ap length c.as_slice.ensures in
+          rw (ap (λ l. l.bundle) w.links-is, w.in_ok-add_read-in-None.ensures.ok)
+          (omega (arith, read, sum, size, held, bytes))
+    ]

@@ -12,4 +12,4 @@ returns c =
     (files_of c.in_ok-files.files.items) c.in_ok-memory.memory c.args.output.now.inner.items
     c.run_to.new.out.inner.items told.1
     (ap (map string_bytes) c.as_slice.ensures.value ∙ told.2) c.in_ok-files.ensures
-    c.in_ok-memory.ensures c.run_to.ensures.ok
+    c.in_ok-memory.ensures.same c.in_ok-memory.ensures.apart c.run_to.ensures.ok

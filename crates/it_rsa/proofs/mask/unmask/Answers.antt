@@ -1,7 +1,7 @@
 use Rattle.std.proofs.Common.{◌≡◌, ℕ, ◌+◌, ◌/◌, ◌%◌, ◌++◌, arith, ap, ◌∙◌, get_or, bit_xor}
 use Rattle.sha2.specs.Sha256.{sha256}
 use Rattle.it_numbers.specs.Bytes.{big_bytes}
-use Rattle.it_rsa_number.proofs.Reading.{set_more}
+use Rattle.it_limb_slices.proofs.Reading.{set_more}
 use Rattle.it_rsa.proofs.Masks.{unmasked_all, set_rest}
 use Rattle.std.proofs.Common.{List}
 use Rattle.it_rsa.proofs.mask.unmask.Goals as goal

@@ -6,16 +6,16 @@ pub returns : goal.returns
 returns c =
     IfOk-weaker c.counting_of.result
     (λ counting. AreCounting c.args.steps.now c.in_ok-all.all.items counting.items)
-    (λ counting. LayoutCounting c.args.documents.now.envelope.payload c.args.documents.now.layout
-    c.args.steps.now counting.items)
+    (λ counting. LayoutCounting c.args.payload.now c.args.layout.now c.args.steps.now
+    counting.items)
     (λ counting counts. record {
       members = c.in_ok-members.members.items;
       nulls = c.in_ok-nulls.nulls.items;
       places = c.in_ok-places.places.items;
       all = c.in_ok-all.all.items;
-      are_members = rw c.as_slice-payload.ensures at c.in_ok-members.ensures;
-      are_nulls = rw c.as_slice-payload.ensures at c.in_ok-nulls.ensures;
-      are_places = rw c.as_slice-payload.ensures at c.in_ok-places.ensures;
+      are_members = c.in_ok-members.ensures;
+      are_nulls = c.in_ok-nulls.ensures;
+      are_places = c.in_ok-places.ensures;
       are_all = rw (c.as_slice.ensures.value, c.as_slice-2.ensures.value, c.as_slice-3.ensures.value) at c.in_ok-all.ensures;
       are_counting = counts;
     })

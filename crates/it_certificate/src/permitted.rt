@@ -1,0 +1,56 @@
+//! Which extensions a certificate may have.
+ghost use Rattle.std.specs.Prelude.{◌≡◌, ◌↔◌, IfOk, IsTrue, map};
+ghost use Rattle.std.specs.List.{IsDistinct, list_all};
+ghost use Rattle.std.specs.Str.{bytes_eq};
+ghost use Rattle.it_certificate.specs.Extension.{stated_of};
+ghost use Rattle.it_certificate.specs.Permitted.{ArePermitted, is_known_if_critical};
+
+use crate::extension::Extension;
+use crate::identifiers::{NAME_CONSTRAINTS, is_known};
+use crate::values::value_of;
+use std::alloc::{AllocError, Global};
+use std::collections::BTreeSet;
+
+/// Whether a certificate may have these extensions.
+///
+/// # Errors
+///
+/// `AllocError` where memory was refused.
+pub(crate) fn are_permitted(alloc: Global, extensions: &[Extension<'_>]) -> Result<bool, AllocError>
+    ensures { IfOk result (λ b. IsTrue b ↔ ArePermitted (map stated_of extensions.now)) }
+{
+    if value_of(extensions, &NAME_CONSTRAINTS).is_some() {
+        return Ok(false);
+    }
+    if !are_known(extensions) {
+        return Ok(false);
+    }
+    let distinct = are_distinct(alloc, extensions)?;
+    Ok(distinct)
+}
+
+/// Whether no two extensions have one identifier.
+fn are_distinct(alloc: Global, extensions: &[Extension<'_>]) -> Result<bool, AllocError>
+    ensures { IfOk result (λ b. IsTrue b
+        ↔ IsDistinct bytes_eq (map (λ e. e.id) (map stated_of extensions.now))) }
+{
+    let mut seen = BTreeSet::new(alloc);
+    for extension in extensions {
+        if !seen.insert(extension.id)? {
+            return Ok(false);
+        }
+    }
+    Ok(true)
+}
+
+/// Whether each critical extension is known.
+fn are_known(extensions: &[Extension<'_>]) -> bool
+    ensures { result ≡ list_all is_known_if_critical (map stated_of extensions.now) }
+{
+    for extension in extensions {
+        if extension.critical && !is_known(extension.id) {
+            return false;
+        }
+    }
+    true
+}

@@ -1,0 +1,4 @@
+pub mod Counted
+pub mod Items
+pub mod SignedText
+pub mod Timestamp

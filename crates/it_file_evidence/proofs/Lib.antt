@@ -1,0 +1,4 @@
+pub mod FilesEvident
+pub mod HighestLevels
+pub mod Proven
+pub mod ReadLines

@@ -1,0 +1,2 @@
+pub mod FileEvidence
+pub mod inside

@@ -1,0 +1,84 @@
+//! What stands for each delivered file (SLSA v1.0, verifying artifacts).
+ghost use Rattle.std.specs.Prelude.{◌≡◌, IfOk, List, length, ℕ};
+ghost use Rattle.std.specs.FinMap.{entries};
+ghost use Rattle.std.specs.List.{AllZip};
+ghost use Rattle.it_digest.specs.Sums.{lines_of};
+ghost use Rattle.it_prov.specs.Held.{AreHeld};
+ghost use Rattle.it_verify.specs.declared.evidence.Evidence.{Evidence};
+ghost use Rattle.it_verify.specs.Made.{IsMadeBy};
+ghost use Rattle.it_file_evidence.specs.FileEvidence.{AreFileEvidence, IsFileEvidence};
+ghost use Rattle.it_file_evidence.specs.inside.Lines.{AreReadFrom};
+ghost use Rattle.it_file_evidence.specs.inside.Proven.{AreEvidence};
+
+use crate::evidence_of::evidence_of;
+use crate::lines::read_lines;
+use it_base::optional::push_some;
+use it_digest::artifacts::Artifacts;
+use it_dsse::checks::Checks;
+use it_json_report::evidence::FileEvidence;
+use it_prov::asked_builders::AskedBuilders;
+use it_prov::attestations::Attestations;
+use it_verify::documents::Documents;
+use it_verify::inputs::Inputs;
+use std::alloc::{AllocError, Global};
+
+/// What stands for each delivered file of a verification that has provenance (SLSA v1.0, verifying
+/// artifacts), in the order of the bytes of the paths: for every delivered file where the delivery
+/// is accepted. The `documents` are what the `inputs` read as.
+///
+/// The line is the first of the provenance, from 1, that meets the expectation which speaks of the
+/// file. The builder is the one that the provenance in this line names. The level is the greatest
+/// that the expectation gives a builder of this id whose key signed the line.
+///
+/// # Errors
+///
+/// `AllocError` where memory was refused, or where the checks refuse to check more signatures.
+pub fn file_evidence<C: Checks>(
+    alloc: Global,
+    inputs: &Inputs,
+    documents: &Documents,
+    checks: &C,
+) -> Result<Vec<FileEvidence>, AllocError>
+    ensures files { IfOk result (λ found.
+        AreFileEvidence (C.panel checks.now) inputs.now documents.now found.items) }
+    ensures made { (evidence : Evidence)
+        → IsMadeBy (C.panel checks.now) inputs.now documents.now evidence
+        → IfOk result (λ found. AllZip (IsFileEvidence (C.panel checks.now)
+        (lines_of inputs.now.provenance) documents.now.policy.expectations)
+        (entries documents.now.delivered) found.items) }
+{
+    let read = read_lines(alloc, inputs.provenance.as_slice())?;
+    let asked = AskedBuilders::of(alloc, documents.policy.expectations.as_slice())?;
+    let attestations = Attestations::of(alloc, read.envelopes.as_slice(), &asked, checks)?;
+    evidence_among(
+        alloc,
+        &documents.delivered,
+        read.places.as_slice(),
+        &attestations,
+    )
+}
+
+/// What stands for each delivered file, by what envelopes attest. The `places` are those of the
+/// envelopes' lines.
+fn evidence_among<C: Checks>(
+    alloc: Global,
+    delivered: &Artifacts,
+    places: &[u64],
+    attestations: &Attestations<C>,
+) -> Result<Vec<FileEvidence>, AllocError>
+    requires held { AreHeld (C.panel attestations.now.checks.now)
+        attestations.now.expectations.now attestations.now.envelopes.now
+        attestations.now.held.items }
+    requires places { length places.now ≡ length attestations.now.envelopes.now }
+    ensures { IfOk result (λ found. (lines : List (List ℕ))
+        → AreReadFrom 1 lines attestations.now.envelopes.now places.now
+        → AreEvidence (C.panel attestations.now.checks.now) attestations.now.expectations.now
+        lines attestations.now.envelopes.now (entries delivered.now) found.items) }
+{
+    let mut found = Vec::new(alloc);
+    for (path, digests) in delivered.iter() {
+        let one = evidence_of(alloc, path.as_str(), *digests, places, attestations)?;
+        push_some(&mut found, one)?;
+    }
+    Ok(found)
+}

@@ -1,0 +1,138 @@
+-- Checkpoints, from the parts of their notes.
+use Rattle.std.proofs.Common.{◌≡◌, ◌∙◌, ◌↔◌, ℕ, ◌≤◌, List, [], ◌∷◌, ◌++◌, IsTrue, sym, ap, subst}
+use Rattle.std.proofs.Common.{Bool, length, take, drop, get_or, decimal, arith}
+use Rattle.std.specs.Borrow.{Bor}
+use Rattle.it_base.specs.Base64Text.{base64_encoded}
+use Rattle.it_p256.specs.Key.{Key, info_of}
+use Rattle.it_p256.specs.Signature.{IsSignature}
+use Rattle.sha2.specs.Sha256.{sha256}
+use Rattle.it_log_entry.specs.Checkpoint.{IsCheckpoint, IsNoteSignature, IsSignedCheckpoint}
+use Rattle.it_log_entry.specs.Note.{AreLines, NoteOf}
+use Rattle.it_log_entry.specs.inside.Lines.{AreSignatures, IsCutAtEmpty, IsSignedBy, texts_of}
+use Rattle.it_log_entry.proofs.Notes.{same_lines, same_parts}
+use Rattle.it_log_entry.proofs.SignatureLines.{same_signatures}
+
+-- a note's parts are those that were found
+pub parts_of : (note : List ℕ) (all lines signatures : List (List ℕ)) → AreLines note all
+    → (is : NoteOf note lines signatures) → IsCutAtEmpty all (lines, is.below)
+parts_of note all lines signatures written is = record {
+  written = same_lines note all (lines ++ [] ∷ is.below) written is.written;
+  full = is.full;
+}
+
+pub known_parts : (note : List ℕ) (all lines below others signatures : List (List ℕ))
+    → AreLines note all → IsCutAtEmpty all (lines, below) → (is : NoteOf note others signatures)
+    → (lines ≡ others) × (below ≡ is.below)
+known_parts note all lines below others signatures written cut is =
+    same_parts all (lines, below) (others, is.below) cut (parts_of note all others signatures written is)
+
+pub note_from : (note : List ℕ) (all lines below signatures : List (List ℕ)) → AreLines note all
+    → IsCutAtEmpty all (lines, below) → AreSignatures below signatures → NoteOf note lines signatures
+note_from note all lines below signatures written cut signed = record {
+  below = below;
+  written = written ∙ ap (λ xs. xs ++ [] ∷ []) cut.written;
+  full = cut.full;
+  signed = signed.signed;
+  some = signed.some;
+  few = signed.few;
+}
+
+-- the signatures that were found are the note's
+pub known_signatures : (note : List ℕ) (all lines below signatures others names : List (List ℕ))
+    → AreLines note all → IsCutAtEmpty all (lines, below) → AreSignatures below signatures
+    → NoteOf note others names → signatures ≡ names
+known_signatures note all lines below signatures others names written cut signed is =
+    let same = known_parts note all lines below others names written cut is in
+    same_signatures below signatures names signed
+    (rw same.1 (record { signed = is.signed; some = is.some; few = is.few }))
+
+-- a note whose parts were found is a signed checkpoint where its lines are a checkpoint's and one of
+-- its signatures is the key's
+pub signed_checkpoint : (key : Key) (note : List ℕ) (all lines below signatures : List (List ℕ))
+    (size : ℕ) (root : List ℕ) (b : Bool) → AreLines note all → IsCutAtEmpty all (lines, below)
+    → IsCheckpoint lines size root → AreSignatures below signatures
+    → IsTrue b ↔ IsSignedBy key lines signatures → IsTrue b ↔ IsSignedCheckpoint key note size root
+signed_checkpoint key note all lines below signatures size root b written cut is signed test = (
+  λ passes. record {
+    lines = lines;
+    signatures = signatures;
+    note_is = note_from note all lines below signatures written cut signed;
+    checkpoint_is = is;
+    signed = test.0 passes;
+  },
+  λ whole.
+      let same = known_parts note all lines below whole.lines whole.signatures written cut whole.note_is in
+      let names = known_signatures note all lines below signatures whole.lines whole.signatures
+      written cut signed whole.note_is in
+      test.1 (rw (same.0, names) whole.signed),
+)
+
+pub no_checkpoint : (key : Key) (note : List ℕ) (all lines below : List (List ℕ)) (size : ℕ)
+    (root : List ℕ) → AreLines note all → IsCutAtEmpty all (lines, below)
+    → ¬ IsCheckpoint lines size root → ¬ IsSignedCheckpoint key note size root
+no_checkpoint key note all lines below size root written cut none whole =
+    let same = known_parts note all lines below whole.lines whole.signatures written cut whole.note_is in
+    none (rw same.0 whole.checkpoint_is)
+
+pub no_signatures : (key : Key) (note : List ℕ) (all lines below : List (List ℕ)) (size : ℕ)
+    (root : List ℕ) → AreLines note all → IsCutAtEmpty all (lines, below)
+    → ((signatures : List (List ℕ)) → ¬ AreSignatures below signatures)
+    → ¬ IsSignedCheckpoint key note size root
+no_signatures key note all lines below size root written cut none whole =
+    let is = whole.note_is in
+    let same = known_parts note all lines below whole.lines whole.signatures written cut is in
+    none whole.signatures
+    (rw same.1 (record { signed = is.signed; some = is.some; few = is.few }))
+
+pub no_lines : (key : Key) (note : List ℕ) (size : ℕ) (root : List ℕ)
+    → ((all : List (List ℕ)) → ¬ AreLines note all) → ¬ IsSignedCheckpoint key note size root
+no_lines key note size root none whole = none _ whole.note_is.written
+
+pub no_cut_in : (key : Key) (note : List ℕ) (all : List (List ℕ)) (size : ℕ) (root : List ℕ)
+    → AreLines note all → ((parts : List (List ℕ) × List (List ℕ)) → ¬ IsCutAtEmpty all parts)
+    → ¬ IsSignedCheckpoint key note size root
+no_cut_in key note all size root written none whole =
+    none (whole.lines, whole.note_is.below)
+    (parts_of note all whole.lines whole.signatures written whole.note_is)
+
+-- the lines of a checkpoint, by place
+pub checkpoint_lines : (lines : List (Bor (List ℕ))) (d e : Bor (List ℕ)) (size : ℕ)
+    (root : List ℕ) (b : Bool) → 3 ≤ length lines → (get_or lines 1 d).now ≡ decimal size
+    → IsTrue b ↔ ((get_or lines 2 e).now ≡ base64_encoded root)
+    → IsTrue b ↔ IsCheckpoint (texts_of lines) size root
+checkpoint_lines [] d e size root b long second test = absurd (omega arith)
+checkpoint_lines (x ∷ []) d e size root b long second test = absurd (omega arith)
+checkpoint_lines (x ∷ y ∷ []) d e size root b long second test = absurd (omega arith)
+checkpoint_lines (x ∷ y ∷ z ∷ rest) d e size root b long second test = (
+  λ passes. record {
+    origin = x.now;
+    others = texts_of rest;
+    lines_are = let one : y.now ≡ decimal size = second in
+        let two : z.now ≡ base64_encoded root = test.0 passes in cc;
+  },
+  λ is. test.1 (third x.now y.now z.now is.origin (decimal size) (base64_encoded root)
+      (texts_of rest) is.others is.lines_are),
+)
+  where
+    third : (x y z o p q : List ℕ) (r s : List (List ℕ)) → x ∷ y ∷ z ∷ r ≡ o ∷ p ∷ q ∷ s → z ≡ q
+    third x y z o p q r s e = cc
+
+pub other_size : (lines : List (Bor (List ℕ))) (d : Bor (List ℕ)) (size : ℕ) (root : List ℕ)
+    → ¬ ((get_or lines 1 d).now ≡ decimal size) → ¬ IsCheckpoint (texts_of lines) size root
+other_size [] d size root other is = let e = is.lines_are in cc
+other_size (x ∷ []) d size root other is = let e = is.lines_are in cc
+other_size (x ∷ y ∷ rest) d size root other is =
+    other (second x.now y.now is.origin (decimal size) (texts_of rest)
+    (base64_encoded root ∷ is.others) is.lines_are)
+  where
+    second : (x y o p : List ℕ) (r s : List (List ℕ)) → x ∷ y ∷ r ≡ o ∷ p ∷ s → y ≡ p
+    second x y o p r s e = cc
+
+-- a signature of a note, from its parts
+pub note_signature : (key : Key) (text signature rest : List ℕ) (b : Bool)
+    → take 4 signature ≡ take 4 (sha256 (info_of key)) → rest ≡ drop 4 signature
+    → IsTrue b ↔ IsSignature key text rest → IsTrue b ↔ IsNoteSignature key text signature
+note_signature key text signature rest b hint same test = (
+  λ passes. record { hint_is = hint; signed = subst (IsSignature key text) same (test.0 passes) },
+  λ is. test.1 (subst (IsSignature key text) (sym same) is.signed),
+)

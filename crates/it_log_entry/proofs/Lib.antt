@@ -1,0 +1,10 @@
+pub mod Bodies
+pub mod CertificateLines
+pub mod Checkpoints
+pub mod First
+pub mod Hashes
+pub mod Items
+pub mod Notes
+pub mod Numbers
+pub mod Same
+pub mod SignatureLines

@@ -1,0 +1,12 @@
+use Rattle.std.proofs.Common.{take}
+use Rattle.std.specs.List.{All}
+use Rattle.it_log_entry.specs.Checkpoint.{IsNoteSignature}
+use Rattle.it_log_entry.specs.Note.{ended}
+use Rattle.it_log_entry.specs.inside.Lines.{texts_of}
+use Rattle.it_log_entry.proofs.checkpoint.is_signed_by.Given as goal
+
+-- none of the signatures so far is the key's
+abbrev pub invariant-loop-signature : goal.invariant-loop-signature
+invariant-loop-signature l =
+    All (λ signature. ¬ IsNoteSignature l.fn.key (ended (texts_of l.fn.lines)) signature)
+    (take l.signature-index l.signatures)

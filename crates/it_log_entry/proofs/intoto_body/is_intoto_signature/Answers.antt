@@ -1,0 +1,10 @@
+use Rattle.it_log_entry.proofs.Bodies.{mapped}
+use Rattle.it_log_entry.proofs.intoto_body.is_intoto_signature.Goals as goal
+
+pub returns : goal.returns
+returns c =
+    let first = c.in_ok-has_twice_encoded.ensures.0 c.if-not-branch.false in
+    mapped c.has_certificate.result _ _ (λ b test. (
+      λ passes. record { signature = first; certificate = test.0 passes },
+      λ is. test.1 is.certificate,
+    )) c.has_certificate.ensures

@@ -1,0 +1,13 @@
+pub mod Agreement
+pub mod CertificateText
+pub mod Checkpoint
+pub mod DsseBody
+pub mod InclusionProof
+pub mod IntotoBody
+pub mod LogEntry
+pub mod Note
+pub mod Number
+pub mod PayloadHash
+pub mod Stamp
+pub mod Vouching
+pub mod inside

@@ -1,0 +1,123 @@
+//! Checkpoints.
+ghost use Rattle.std.specs.Prelude.{◌↔◌, ◌≡◌, ◌≤◌, IfOk, IsTrue, decimal, length, take};
+ghost use Rattle.sha2.specs.Sha256.{sha256};
+ghost use Rattle.it_base.specs.Base64Text.{base64_encoded};
+ghost use Rattle.it_p256.specs.Key.{info_of};
+ghost use Rattle.it_log_entry.specs.Checkpoint.{IsCheckpoint, IsNoteSignature, IsSignedCheckpoint};
+ghost use Rattle.it_log_entry.specs.inside.Lines.{IsSignedBy, texts_of};
+
+use crate::note::{cut_at_empty, ended_lines, note_lines};
+use crate::signature_line::signatures_in;
+use crate::stamp::decimal_text;
+use it_base::base64_text::base64_text_of;
+use it_base::sequence::Sequence;
+use it_log::LogKey;
+use it_p256::is_signature;
+use sha2::{Digest, Sha256};
+use std::alloc::{AllocError, Global};
+
+/// Whether a note is a checkpoint of a tree with `size` entries and this root, and one of its
+/// signatures is the key's.
+pub(crate) fn is_signed_checkpoint(
+    alloc: Global,
+    key: &LogKey,
+    note: &str,
+    size: u64,
+    root: &[u8; 32],
+) -> Result<bool, AllocError>
+    ensures { IfOk result (λ is. IsTrue is ↔ IsSignedCheckpoint key.now note.now size root.now) }
+{
+    let Some(all) = note_lines(alloc, note.as_bytes())? else {
+        return Ok(false);
+    };
+    let Some((lines, below)) = cut_at_empty(all.as_slice()) else {
+        return Ok(false);
+    };
+    if !is_checkpoint(alloc, lines, size, root)? {
+        return Ok(false);
+    }
+    match signatures_in(alloc, below)? {
+        None => Ok(false),
+        Some(signatures) => is_signed_by(alloc, key, lines, signatures.as_slice()),
+    }
+}
+
+/// Whether lines are those of a checkpoint of this tree.
+fn is_checkpoint(
+    alloc: Global,
+    lines: &[&[u8]],
+    size: u64,
+    root: &[u8; 32],
+) -> Result<bool, AllocError>
+    ensures { IfOk result (λ is. IsTrue is ↔ IsCheckpoint (texts_of lines.now) size root.now) }
+{
+    if lines.len() < 3 {
+        return Ok(false);
+    }
+    if !is_size_line(alloc, lines[1], size)? {
+        return Ok(false);
+    }
+    is_root_line(alloc, lines[2], root)
+}
+
+fn is_size_line(alloc: Global, line: &[u8], size: u64) -> Result<bool, AllocError>
+    ensures { IfOk result (λ is. IsTrue is ↔ (line.now ≡ decimal size)) }
+{
+    let text = decimal_text(alloc, size)?;
+    Ok(line == text.as_bytes())
+}
+
+fn is_root_line(alloc: Global, line: &[u8], root: &[u8; 32]) -> Result<bool, AllocError>
+    ensures { IfOk result (λ is. IsTrue is ↔ (line.now ≡ base64_encoded root.now)) }
+{
+    let text = base64_text_of(alloc, root.as_slice())?;
+    Ok(line == text.as_bytes())
+}
+
+/// Whether one of the signatures of a note is the key's.
+fn is_signed_by(
+    alloc: Global,
+    key: &LogKey,
+    lines: &[&[u8]],
+    signatures: &[Sequence<u8>],
+) -> Result<bool, AllocError>
+    ensures { IfOk result (λ is. IsTrue is
+        ↔ IsSignedBy key.now (texts_of lines.now) signatures.now) }
+{
+    let text = ended_lines(alloc, lines)?;
+    for signature in signatures {
+        if is_note_signature(key, text.as_slice(), signature.as_slice()) {
+            return Ok(true);
+        }
+    }
+    Ok(false)
+}
+
+/// Whether a signature of a note is the key's.
+fn is_note_signature(key: &LogKey, text: &[u8], signature: &[u8]) -> bool
+    ensures { IsTrue result ↔ IsNoteSignature key.now text.now signature.now }
+{
+    if !has_hint(key, signature) {
+        return false;
+    }
+    is_signature(key.key(), &[text], &signature[4..])
+}
+
+/// Whether a signature of a note has at least 4 bytes, and they are the hint about the key.
+fn has_hint(key: &LogKey, signature: &[u8]) -> bool
+    ensures hint { IsTrue result ↔ (take 4 signature.now ≡ take 4 (sha256 (info_of key.now))) }
+    ensures long { IsTrue result → 4 ≤ length signature.now }
+{
+    let digest = Sha256::digest(key.info());
+    match signature.split_first_chunk::<4>() {
+        None => false,
+        Some((hint, _)) => begins(&digest, hint),
+    }
+}
+
+/// Whether a digest begins with these bytes.
+fn begins(digest: &[u8; 32], hint: &[u8; 4]) -> bool
+    ensures { IsTrue result ↔ (hint.now ≡ take 4 digest.now) }
+{
+    hint.as_slice() == &digest[..4]
+}

@@ -1,0 +1,74 @@
+//! Hashes in documents.
+ghost use Rattle.std.specs.Prelude.{◌≡◌, IfOk, length};
+ghost use Rattle.serde_json.specs.View.{view, items_view};
+ghost use Rattle.it_base.specs.Finds.{Finds};
+ghost use Rattle.it_base.specs.Parts.{IsPart};
+ghost use Rattle.it_base.specs.Sequence.{AreEach, IsList};
+ghost use Rattle.it_log_entry.specs.InclusionProof.{IsHash};
+
+use crate::base64_bytes::base64_bytes;
+use it_base::document::member;
+use it_base::sequence::Sequence;
+use serde_json::Value;
+use std::alloc::{AllocError, Global};
+
+/// The hash in the member of this name; `None` where it is missing or no hash.
+pub(crate) fn hash_part(
+    alloc: Global,
+    value: &Value,
+    name: &str,
+) -> Result<Option<[u8; 32]>, AllocError>
+    ensures { IfOk result (Finds (IsPart IsHash name.now (view value.now))) }
+{
+    match member(value, name) {
+        None => Ok(None),
+        Some(found) => hash_in(alloc, found),
+    }
+}
+
+/// The hashes of a list.
+pub(crate) fn hashes_in(
+    alloc: Global,
+    value: &Value,
+) -> Result<Option<Sequence<[u8; 32]>>, AllocError>
+    ensures { IfOk result (Finds (IsList IsHash (view value.now))) }
+{
+    match value.as_array() {
+        None => Ok(None),
+        Some(items) => read_hashes(alloc, items),
+    }
+}
+
+fn read_hashes(alloc: Global, items: &Vec<Value>) -> Result<Option<Sequence<[u8; 32]>>, AllocError>
+    ensures { IfOk result (Finds (AreEach IsHash (items_view items.now.items))) }
+{
+    let mut hashes = Vec::new(alloc);
+    for item in items {
+        let Some(hash) = hash_in(alloc, item)? else {
+            return Ok(None);
+        };
+        hashes.push(hash)?;
+    }
+    Ok(Some(Sequence::from(hashes)))
+}
+
+fn hash_in(alloc: Global, value: &Value) -> Result<Option<[u8; 32]>, AllocError>
+    ensures { IfOk result (Finds (IsHash (view value.now))) }
+{
+    let Some(bytes) = base64_bytes(alloc, value)? else {
+        return Ok(None);
+    };
+    Ok(array_of(bytes.as_slice()))
+}
+
+/// The bytes as an array, where they are 32.
+fn array_of(bytes: &[u8]) -> Option<[u8; 32]>
+    ensures { Finds (λ array. (bytes.now ≡ array) × (length array ≡ 32)) result }
+{
+    if bytes.len() != 32 {
+        return None;
+    }
+    let mut array = [0; 32];
+    array.copy_from_slice(bytes);
+    Some(array)
+}

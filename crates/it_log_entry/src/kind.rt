@@ -1,0 +1,30 @@
+//! Kinds of entries.
+ghost use Rattle.it_log_entry.specs.LogEntry.{IsKind};
+
+use it_base::parts::{FromDocument, part};
+use it_base::text::Text;
+use serde_json::Value;
+use std::alloc::{AllocError, Global};
+
+/// What kind of body an entry has.
+#[derive(Drop)]
+pub struct EntryKind {
+    /// The kind, such as `dsse`.
+    pub kind: Text,
+    /// The version of the kind, such as `0.0.1`.
+    pub version: Text,
+}
+
+impl FromDocument for EntryKind {
+    ghost is_of = { IsKind };
+
+    fn from_document(alloc: Global, value: &Value) -> Result<Option<EntryKind>, AllocError> {
+        let Some(kind) = part::<Text>(alloc, value, "kind")? else {
+            return Ok(None);
+        };
+        let Some(version) = part::<Text>(alloc, value, "version")? else {
+            return Ok(None);
+        };
+        Ok(Some(EntryKind { kind, version }))
+    }
+}

@@ -1,0 +1,79 @@
+//! Numbers, which the JSON form of Sigstore's messages has as texts.
+ghost use Rattle.std.specs.Prelude.{◌≡◌, ◌↔◌, IfOk, IsTrue, decimal};
+ghost use Rattle.it_base.specs.Finds.{Finds};
+ghost use Rattle.it_log_entry.specs.Number.{IsNumber, IsNumberText};
+
+use crate::stamp::decimal_text;
+use it_base::parts::FromDocument;
+use serde_json::Value;
+use std::alloc::{AllocError, Global};
+use std::marker::Model;
+
+/// The greatest number that is read.
+const GREATEST: u64 = 9_007_199_254_740_991;
+
+/// A number from a document. To a contract it is that number.
+#[derive(Drop)]
+pub(crate) struct Number {
+    number: u64,
+}
+
+impl Model for Number {
+    ghost use Rattle.std.specs.Prelude.{ℕ};
+
+    ghost Value = { ℕ };
+
+    ghost view = { λ n. n.number };
+}
+
+impl Number {
+    /// The number 0.
+    pub(crate) fn zero() -> Number
+        ensures { result ≡ 0 }
+    {
+        Number { number: 0 }
+    }
+
+    /// The number.
+    pub(crate) fn get(&self) -> u64
+        ensures { result ≡ self.now }
+    {
+        self.number
+    }
+}
+
+impl FromDocument for Number {
+    ghost is_of = { IsNumber };
+
+    fn from_document(alloc: Global, value: &Value) -> Result<Option<Number>, AllocError> {
+        match value.as_str() {
+            None => Ok(None),
+            Some(text) => number_in(alloc, text),
+        }
+    }
+}
+
+/// The number that a text is, in decimal digits without a leading zero.
+fn number_in(alloc: Global, text: &str) -> Result<Option<Number>, AllocError>
+    ensures { IfOk result (Finds (IsNumberText text.now)) }
+{
+    let Ok(number) = text.parse::<u64>() else {
+        return Ok(None);
+    };
+    if number > GREATEST {
+        return Ok(None);
+    }
+    if is_written(alloc, number, text)? {
+        Ok(Some(Number { number }))
+    } else {
+        Ok(None)
+    }
+}
+
+/// Whether a text is a number in decimal.
+fn is_written(alloc: Global, number: u64, text: &str) -> Result<bool, AllocError>
+    ensures { IfOk result (λ is. IsTrue is ↔ (text.now ≡ decimal number)) }
+{
+    let digits = decimal_text(alloc, number)?;
+    Ok(text == digits.as_str())
+}

@@ -1,0 +1,57 @@
+//! Signed entry timestamps.
+ghost use Rattle.std.specs.Prelude.{◌↔◌, ◌≡◌, ◌++◌, IfOk, OnOk, IsTrue, string_bytes, decimal};
+ghost use Rattle.it_log_entry.specs.Stamp.{IsPromised, stamp_text};
+
+use crate::entry::LogEntry;
+use it_base::base64_text::base64_text_of;
+use it_p256::{PublicKey, is_signature};
+use std::alloc::{AllocError, Global};
+
+/// Whether the promise of an entry is by the key: its signature of the entry's body, time, log and
+/// index.
+pub(crate) fn is_promised(
+    alloc: Global,
+    key: &PublicKey,
+    entry: &LogEntry,
+) -> Result<bool, AllocError>
+    ensures { IfOk result (λ is. IsTrue is ↔ IsPromised key.now entry.now) }
+{
+    let text = stamp(alloc, entry)?;
+    Ok(is_signature(key, &[text.as_slice()], entry.promise.as_slice()))
+}
+
+/// The text of which the promise is a signature.
+#[tactic(auto, unfolding(crate::specs::Stamp::stamp_text))]
+fn stamp(alloc: Global, entry: &LogEntry) -> Result<Vec<u8>, AllocError>
+    ensures { IfOk result (λ text. text.items ≡ stamp_text entry.now) }
+{
+    let body = base64_text_of(alloc, entry.body.as_slice())?;
+    let time = decimal_text(alloc, entry.time)?;
+    let log_id = hex::encode(alloc, entry.log_id.as_slice())?;
+    let index = decimal_text(alloc, entry.index)?;
+    let mut text = Vec::new(alloc);
+    push(&mut text, "{\"body\":\"")?;
+    push(&mut text, body.as_str())?;
+    push(&mut text, "\",\"integratedTime\":")?;
+    push(&mut text, time.as_str())?;
+    push(&mut text, ",\"logID\":\"")?;
+    push(&mut text, log_id.as_str())?;
+    push(&mut text, "\",\"logIndex\":")?;
+    push(&mut text, index.as_str())?;
+    push(&mut text, "}")?;
+    Ok(text)
+}
+
+/// Appends the bytes of a text.
+fn push(text: &mut Vec<u8>, more: &str) -> Result<(), AllocError>
+    ensures { OnOk result (text.new.items ≡ text.old.items ++ more.now) }
+{
+    text.extend_from_slice(more.as_bytes())
+}
+
+/// A number in decimal.
+pub(crate) fn decimal_text(alloc: Global, number: u64) -> Result<String, AllocError>
+    ensures { IfOk result (λ text. string_bytes text ≡ decimal number) }
+{
+    format!(in alloc; "{number}")
+}

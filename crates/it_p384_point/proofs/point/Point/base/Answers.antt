@@ -1,0 +1,15 @@
+use Rattle.std.proofs.Common.{arith}
+use Rattle.it_limb_slices.specs.Limbs.{number_of}
+use Rattle.it_p384_point.proofs.point.Point.base.Goals as goal
+
+pub from_montgomery_form-requires : goal.from_montgomery_form-requires
+unfolding number_of
+from_montgomery_form-requires c = omega arith
+
+pub from_montgomery_form-requires-2 : goal.from_montgomery_form-requires-2
+unfolding number_of
+from_montgomery_form-requires-2 c = omega arith
+
+pub returns : goal.returns
+unfolding number_of
+returns c = cc

@@ -1,0 +1,2 @@
+pub mod Curve
+pub mod Points

@@ -1,0 +1,2 @@
+pub mod SeenNames
+pub mod Walking

@@ -1,0 +1,5 @@
+pub mod Again
+pub mod Laws
+pub mod Parts
+pub mod Repeats
+pub mod Tree

@@ -1,0 +1,13 @@
+//! Members that come again in one object of a policy or a layout.
+//! What is found in a text is exactly what its definition finds, in the order of the text.
+#![tactic(auto)]
+
+mod again;
+pub mod laws;
+mod part;
+pub mod repeated_member;
+mod repeats;
+pub mod root;
+mod tree;
+
+pub use repeats::repeated_members;

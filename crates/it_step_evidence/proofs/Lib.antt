@@ -1,0 +1,4 @@
+pub mod ClaimedFor
+pub mod Counting
+pub mod Keys
+pub mod Names

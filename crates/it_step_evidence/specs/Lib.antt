@@ -1,0 +1,5 @@
+pub mod CountsBy
+pub mod EvidenceLaws
+pub mod Exactly
+pub mod StepEvidence
+pub mod inside

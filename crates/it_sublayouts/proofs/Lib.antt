@@ -1,0 +1,5 @@
+pub mod Descending
+pub mod Files
+pub mod Outcomes
+pub mod Searching
+pub mod Standing

@@ -1,0 +1,5 @@
+pub mod Fractions
+pub mod Lengths
+pub mod Logs
+pub mod Parts
+pub mod Times

@@ -1,0 +1,5 @@
+pub mod Authority
+pub mod Log
+pub mod Root
+pub mod Time
+pub mod Window

@@ -1,0 +1,19 @@
+use Rattle.std.proofs.Common.{◌≡◌, ◌∙◌, ◌↔◌, IsTrue, length, rules, sym}
+use Rattle.it_p384.specs.Signature.{IsSignatureOfDigest}
+use Rattle.it_vectors.specs.Key.{IsP384Info}
+use Rattle.it_vectors.proofs.OneKey.{of_one_key}
+use Rattle.it_vectors.proofs.p384.is_p384_signature_of_digest.Goals as goal
+
+pub returns-in-Some : goal.returns-in-Some
+returns-in-Some c =
+    let key = c.in-Some.key in
+    let digest = c.args.digest.now in
+    let signature = c.args.signature.now in
+    let long : length digest ≡ 48 = search rules in
+    let judged : IsTrue c.is_signature_of_digest.result ↔ IsSignatureOfDigest key digest signature =
+    search rules in
+    let one = of_one_key (IsP384Info c.args.info.now) (λ k. IsSignatureOfDigest k digest signature)
+    key (record { is_key = c.in-Some.ensures.0; info_is = c.in-Some.ensures.1 })
+    (λ other tells. c.info_tells_key.ensures key other c.in-Some.ensures.0 tells.is_key
+    (sym c.in-Some.ensures.1 ∙ tells.info_is)) c.is_signature_of_digest.result judged in
+    (λ holds. (long, one.0 holds), λ signed. one.1 signed.1)

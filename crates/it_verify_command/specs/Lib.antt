@@ -1,0 +1,3 @@
+pub mod FullOutput
+pub mod Strictly
+pub mod VerifyOutputIn

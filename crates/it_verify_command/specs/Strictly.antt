@@ -1,0 +1,30 @@
+-- What a strict verification finds (a word of this project).
+use Rattle.std.specs.Prelude.{◌≡◌, ℕ, List}
+use Rattle.it_dsse.specs.Panel.{Panel}
+use Rattle.it_strict.specs.Found.{AreFound, IsNothing}
+use Rattle.it_strict.specs.FoundText.{found_text}
+use Rattle.it_strict.specs.declared.found.Found.{Found}
+use Rattle.it_verify.specs.declared.documents.Documents.{Documents}
+use Rattle.it_verify.specs.declared.evidence.Evidence.{Evidence}
+use Rattle.it_verify.specs.Made.{IsMadeBy}
+use Rattle.it_verify.specs.declared.inputs.Inputs.{Inputs}
+
+-- the delivered files were made as the owners prescribed, and this is what is found all the same
+pub record IsFoundIn (panel : Panel) (inputs : Inputs) (found : Found) : Type 0 where
+  pub documents : Documents
+  pub evidence : Evidence
+  pub made : IsMadeBy panel inputs documents evidence
+  pub are_found : AreFound panel inputs documents evidence found
+
+-- the same, and nothing is found
+pub record StandsStrictly (panel : Panel) (inputs : Inputs) : Type 0 where
+  pub found : Found
+  pub is_found : IsFoundIn panel inputs found
+  pub is_nothing : IsNothing found
+
+-- the same, and something is found, of which these are the lines
+pub record HasFindings (panel : Panel) (inputs : Inputs) (text : List ℕ) : Type 0 where
+  pub found : Found
+  pub is_found : IsFoundIn panel inputs found
+  pub is_something : ¬ IsNothing found
+  pub text_is : text ≡ found_text found

@@ -1,0 +1,61 @@
+//! `itv verify --strict`, with notes for people.
+ghost use Rattle.std.specs.Prelude.{◌≡◌, ◌≢◌, ◌≤◌, IfErr, IfOk, IsErrOf};
+ghost use Rattle.std.specs.Io.KnownBytes.{Appends};
+ghost use Rattle.it_base.specs.Writing.{AppendsBeginning};
+ghost use Rattle.it_verify_command.specs.Strictly.{HasFindings, StandsStrictly};
+ghost use Rattle.it_verify_command.specs.VerifyOutputIn.{IsVerifyOutputIn};
+
+use crate::output_form::OutputForm;
+use crate::output_text::{status_of, text_in};
+use crate::strict_fault::StrictFault;
+use crate::strict_told::strict_told;
+use crate::verify_with_notes::note;
+use it_dsse::checks::Checks;
+use it_outcome::output::{Output, put};
+use it_outcome::{RunFault, Status};
+use it_verify::inputs::Inputs;
+use std::alloc::Global;
+use std::io::Write;
+
+/// Verifies delivered files as `verify_with_notes` does, and writes the same output and notes, but
+/// where the verdict accepts and something is found, the lines of what is found go to `notes`, and
+/// nothing else is written.
+///
+/// # Errors
+///
+/// `Findings` where the verdict accepts and something is found. `Run` with `Write` where the report
+/// could not be written; a beginning of it went out. `Run` with `OutOfMemory` where memory was
+/// refused for the verdict, for what is found or for the report, or the checks refused to check
+/// more signatures for the verdict; nothing went out.
+pub fn verify_strictly<C: Checks, W: Write, N: Write>(
+    alloc: Global,
+    inputs: &Inputs,
+    checks: &C,
+    form: OutputForm,
+    out: &mut W,
+    notes: &mut N,
+) -> Result<Status, StrictFault>
+    requires { inputs.now.depth ≤ 8 }
+    ensures ok { IfOk result (λ status. (text : _)
+        × IsVerifyOutputIn form (C.panel checks.now) inputs.now text status
+        × Appends (W.contents out.old) (W.contents out.new) text) }
+    ensures stands { IfOk result (λ status. status ≡ Status.Good
+        → StandsStrictly (C.panel checks.now) inputs.now) }
+    ensures findings { IsErrOf result StrictFault.Findings → (text : _)
+        × HasFindings (C.panel checks.now) inputs.now text
+        × AppendsBeginning (N.contents notes.old) (N.contents notes.new) text }
+    ensures write { IsErrOf result (StrictFault.Run RunFault.Write) → (text : _) × (status : _)
+        × IsVerifyOutputIn form (C.panel checks.now) inputs.now text status
+        × AppendsBeginning (W.contents out.old) (W.contents out.new) text }
+    ensures kept { IfErr result (λ fault. fault ≢ StrictFault.Run RunFault.Write
+        → out.new ≡ out.old) }
+{
+    let told = strict_told(alloc, inputs, checks, notes)?;
+    let text = text_in(alloc, inputs, &told, checks, form)?;
+    let status = status_of(&told.verdict);
+    let status = put(out, &Output { text, status })?;
+    if form.is_report() {
+        note(alloc, inputs, &told, checks, notes);
+    }
+    Ok(status)
+}

@@ -9,7 +9,7 @@ complete -c itv -n '__fish_seen_subcommand_from verify' -l at -x -d 'The moment 
 complete -c itv -n '__fish_seen_subcommand_from verify' -l ring -r -F -d 'A ring of secrets, at most eight of them; the first ring that has an id decides what its key is. May be left out with --public-keys.'
 complete -c itv -n '__fish_seen_subcommand_from verify' -l public-keys -d 'Checks signatures by the public keys in the policy and in the layouts too, after the rings.'
 complete -c itv -n '__fish_seen_subcommand_from verify' -l json -f -a 2 -d 'Writes the report as one JSON object; with =2 also what is found and noted.'
-complete -c itv -n '__fish_seen_subcommand_from verify' -l strict -d 'Refuses what would be accepted, with status 2, where something is found in the policy, in the layout or in a sublayout, as itv check finds it, or a delivered file is tied to no step.'
+complete -c itv -n '__fish_seen_subcommand_from verify' -l strict -d 'Refuses what would be accepted, with status 2, where something is found in the policy, in the layout or in a sublayout, as itv check finds it, an expectation is unused, or a delivered file is tied to no step.'
 complete -c itv -n '__fish_seen_subcommand_from verify' -l provenance -r -F -d 'The provenance, one envelope a line.'
 complete -c itv -n '__fish_seen_subcommand_from verify' -l records -x -a '(__fish_complete_directories)' -d 'The folder of the records of inspections, link bodies without envelopes.'
 complete -c itv -n '__fish_seen_subcommand_from verify' -l depth -x -a '0 1 2 3 4 5 6 7 8' -d 'How deep sublayouts may lie, from 0 to 8; 4 where it is not given.'

@@ -149,7 +149,7 @@ class GoPackage:
             delivery["records"] = texts_of(records_of(case))
         verdict = self.asked(delivery=delivery)
         report = {name: one for name, one in verdict["Report"].items()
-                  if name not in ("findings", "notes", "notesComplete")}
+                  if name not in ("findings", "evidence", "notes", "notesComplete")}
         if verdict["Accepted"]:
             return report, {"verdict": "accepted", "steps": verdict["Steps"] or [],
                             "files": verdict["Files"] or []}

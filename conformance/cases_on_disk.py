@@ -3,6 +3,7 @@
 import dataclasses
 import json
 
+import evidence_in_reports
 from on_disk import bytes_of, is_name
 from report_forms import json_of_lines, places_text
 
@@ -109,7 +110,8 @@ def full_parts(case, as_json, noted, given):
     """What `--json=2` has to give beside what it gave, where `--json` gave these notes.
 
     The object goes on behind that of `--json`. Its findings are among the lines of the notes but
-    for those that a note says in other words, and its notes are the other lines.
+    for those that a note says in other words, and its notes are the other lines. What its evidence
+    names is in the documents.
     """
     written = json.loads(given.out)
     findings = [(document_of(one), one) for one in written.get("findings", [])]
@@ -123,9 +125,10 @@ def full_parts(case, as_json, noted, given):
     if others and others[-1].endswith(" further notes"):
         # What is found is counted among the further notes, and is not among the notes of the object.
         others, given_notes = others[:39], given_notes[:39]
-    members = ["notes", "notesComplete"]
+    members, unfit = ["notes", "notesComplete"], []
     if case["status"] == 0:
-        members.insert(0, "findings")
+        members = ["findings", "evidence", *members]
+        unfit = evidence_in_reports.faults(case, written)
     return [("status of --json=2", str(case["status"]).encode(), str(given.status).encode()),
             ("beginning of --json=2", as_json[:-2], given.out[:len(as_json) - 2]),
             ("members of --json=2", str(members).encode(),
@@ -133,4 +136,5 @@ def full_parts(case, as_json, noted, given):
             ("notes of --json=2", str((others, True)).encode(),
              str((given_notes, written["notesComplete"])).encode()),
             ("findings of --json=2", b"[]", str(missing).encode()),
+            ("evidence of --json=2", b"[]", str(unfit).encode()),
             ("errors of --json=2", b"", given.err)]

@@ -64,6 +64,15 @@ func TestVerdicts(t *testing.T) {
 	is(t, accepted.Notes, []string(nil))
 	is(t, accepted.NotesComplete, true)
 	is(t, len(accepted.Findings), 0)
+	is(t, accepted.Evidence.Expires, "2030-01-01T00:00:00Z")
+	is(t, accepted.Evidence.Steps, []itv.StepEvidence{
+		{Name: "build", Keys: []itv.CountedKey{{KeyID: "alice", Files: []string{"build.alice.link"}}}},
+		{Name: "pack", Keys: []itv.CountedKey{{KeyID: "carol", Files: []string{"pack.carol.link"}}}},
+	})
+	is(t, len(accepted.Evidence.Files), 1)
+	is(t, accepted.Evidence.Files[0].Line, uint64(1))
+	is(t, accepted.Evidence.Files[0].Builder, "https://ci.example/pack")
+	is(t, accepted.Evidence.Files[0].Level, uint8(2))
 	is(t, strings.HasPrefix(string(accepted.Report), `{"verdict":"accepted",`), true)
 
 	late := public()

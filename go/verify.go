@@ -60,6 +60,8 @@ type Verdict struct {
 	// Findings are what is found in the policy, the layout and the sublayouts of an accepted
 	// delivery.
 	Findings []Finding
+	// Evidence is what stands behind an accepted delivery. Of a refused one it is nil.
+	Evidence *Evidence
 	// Notes are sentences for people, which say more about the verdict.
 	Notes []string
 	// NotesComplete is false where memory was refused for the notes.
@@ -206,14 +208,16 @@ func verdictOf(ran *Result) (*Verdict, error) {
 		Name          string    `json:"name"`
 		At            []Place   `json:"at"`
 		Findings      []Finding `json:"findings"`
+		Evidence      *Evidence `json:"evidence"`
 		Notes         []string  `json:"notes"`
 		NotesComplete bool      `json:"notesComplete"`
 	}
 	if err := json.Unmarshal(ran.Output, &report); err != nil {
 		return nil, fmt.Errorf("itv: the report is not read: %w", err)
 	}
-	verdict := Verdict{Findings: report.Findings, Notes: append(ran.Notes, report.Notes...),
-		NotesComplete: report.NotesComplete, Report: ran.Output}
+	verdict := Verdict{Findings: report.Findings, Evidence: report.Evidence,
+		Notes: append(ran.Notes, report.Notes...), NotesComplete: report.NotesComplete,
+		Report: ran.Output}
 	if report.Verdict == "accepted" {
 		verdict.Accepted, verdict.Steps, verdict.Files = true, report.Steps, report.Files
 		return &verdict, nil

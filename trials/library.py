@@ -5,6 +5,7 @@
 
 import concurrent.futures
 import datetime
+import hashlib
 import json
 import os
 import pathlib
@@ -35,6 +36,21 @@ def given(**other):
     return {**parts, **other}
 
 
+def sha256(name):
+    """The SHA-256 of a file of the example, in hexadecimal."""
+    return hashlib.sha256((EXAMPLE / name).read_bytes()).hexdigest()
+
+
+def wanted_evidence():
+    """What stands behind the delivery of the example."""
+    steps = [itv.StepEvidence(step, [itv.CountedKey(who, [f"{step}.{who}.link"])])
+             for step, who in [("build", "alice"), ("pack", "carol")]]
+    file = itv.FileEvidence("hello.tar", {"sha256": sha256("hello.tar")}, 1,
+                            "https://ci.example/pack", 2)
+    return itv.Evidence(AT.strftime("%Y-%m-%dT%H:%M:%SZ"), sha256("policy.json"),
+                        sha256("layout.envelope.json"), "2030-01-01T00:00:00Z", steps, [file])
+
+
 def raises(kind, call, *words, **parts):
     """What a call raises, which must be of a kind."""
     try:
@@ -49,6 +65,7 @@ def verifications():
     verdict = itv.verify(**given())
     assert verdict.accepted and verdict.refusal is None and verdict.notes == []
     assert verdict.findings == [] and verdict.notes_complete
+    assert verdict.evidence == wanted_evidence(), verdict.evidence
     loose = json.loads((EXAMPLE / "policy.json").read_text())
     del loose["expectations"][0]["level"]
     found = itv.verify(**given(policy=json.dumps(loose).encode()))
@@ -59,6 +76,7 @@ def verifications():
     assert verdict.report["verdict"] == "accepted" and verdict.report["files"] == ["hello.tar"]
     late = itv.verify(**given(at=datetime.datetime(2126, 1, 1, tzinfo=datetime.timezone.utc)))
     assert not late.accepted and (late.refusal.number, late.refusal.name) == (30, "Expired")
+    assert late.evidence is None
     assert raises(itv.Refused, late.raise_for_refusal).verdict is late
     other = itv.verify(**given(sums=itv.digest(of={"hello.tar": b""})))
     assert other.refusal.number == 40 and other.refusal.details["path"] == "hello.tar"

@@ -124,6 +124,12 @@ def two_builders(document):
     builders.append({**builders[0], "id": "https://ci.example/hardened", "level": 3})
 
 
+def stricter_behind(document):
+    """A stricter expectation for one file behind that of all files."""
+    expectations = document["expectations"]
+    expectations.append({**expectations[0], "files": "hello.tar", "ignore": []})
+
+
 def swapped(release):
     """Policy and layout in each other's place."""
     return release.verify(policy="layout.json", layout="policy.json")
@@ -168,6 +174,8 @@ def silent():
                name="levels for level"),
         policy(removed("expectations", 0, "level"), 2, "no-level", name="no level"),
         policy(put("expectations", 0, "level", None), 2, "no-level", name="level is null"),
+        policy(stricter_behind, 2, "unused-expectation", "/expectations/1",
+               name="a stricter expectation behind one of all files"),
         layout(renamed("treshold", "steps", 1, "threshold"), 2, '"treshold"', '"threshold"',
                name="treshold for threshold"),
         layout(renamed("expected_product", "steps", 1, "expected_products"), 2,

@@ -7,6 +7,7 @@ from typing import Any, Dict, List, Optional, Sequence
 
 from ._documents import Document, Folder, bytes_of, files_of
 from ._errors import Refused
+from ._evidence import Evidence, evidence_of
 from ._library import run
 
 # The form of the report that is asked for.
@@ -52,13 +53,14 @@ class Finding:
 
 @dataclasses.dataclass(frozen=True)
 class Verdict:
-    """Whether a delivery is accepted, the refusal where it is not, what is found where it is, the
-    notes, whether these are all, and the report.
+    """Whether a delivery is accepted, the refusal where it is not, what is found and what stands
+    behind it where it is, the notes, whether these are all, and the report.
     """
 
     accepted: bool
     refusal: Optional[Refusal]
     findings: List[Finding]
+    evidence: Optional[Evidence]
     notes: List[str]
     notes_complete: bool
     report: Dict[str, Any]
@@ -71,9 +73,11 @@ class Verdict:
 
 
 def _verdict(report, before):
-    """The verdict of a report in JSON, with what is found and noted, and the notes before it."""
+    """The verdict of a report in JSON, with what stands beside it, and the notes before it."""
     findings = [Finding(**one) for one in report.pop("findings", [])]
-    told = findings, [*before, *report.pop("notes")], report.pop("notesComplete"), report
+    evidence = evidence_of(report.pop("evidence")) if "evidence" in report else None
+    notes, complete = [*before, *report.pop("notes")], report.pop("notesComplete")
+    told = findings, evidence, notes, complete, report
     if report["verdict"] == "accepted":
         return Verdict(True, None, *told)
     further = {name: value for name, value in report.items()

@@ -1,3 +1,4 @@
+pub mod Baring
 pub mod Counting
 pub mod Listing
 pub mod Stamping

@@ -4,7 +4,8 @@ use Rattle.std.proofs.Common.{Bool, true, false, true≢false, IsTrue, ◌↔◌
 use Rattle.std.proofs.lemmas.List.{length-map}
 use Rattle.std.specs.List.{AllByRecursion, flat_map}
 use Rattle.it_certificate_log.specs.Counted.{BeginsCounted, counted}
-use Rattle.it_certificate_log.specs.Items.{AreItems, BeginsItem, IsCountedList, IsItem}
+use Rattle.it_certificate.proofs.OneWay.{one_content}
+use Rattle.it_certificate_log.specs.Items.{AreItems, BeginsItem, IsCountedList, IsItem, IsItemList}
 use Rattle.it_certificate_log.proofs.Counting.{one_counted}
 
 abbrev pub AreItem : List (List ℕ) → Type 0
@@ -97,6 +98,14 @@ list_is content front rest items begins none are few = record {
   written = begins.written ∙ ap (λ (l : List ℕ). counted front ++ l) none ∙ append-nil (counted front)
       ∙ ap (λ (l : List ℕ). counted l) are.written;
 }
+
+-- a value is a list of items in at most one way
+pub one_list : (value : List ℕ) (items others : List (List ℕ)) → IsItemList value items → IsItemList value others → items ≡ others
+one_list value items others one two =
+    let same : one.content ≡ two.content = one_content value one.content two.content one.whole two.whole in
+    let theirs : IsCountedList two.content items = subst (λ (c : List ℕ). IsCountedList c items) same one.says in
+    let own : AreItems (flat_map counted others) others = record { each = two.says.each; written = refl } in
+    same_list two.content (flat_map counted others) [] others items (list_begins two.content others two.says) own theirs
 
 -- how many items there are, before and after they are shown
 abbrev pub AreFew : List (Bor (List ℕ)) → Type 0

@@ -1,5 +1,5 @@
 -- The parts of a timestamp, one after another.
-use Rattle.std.proofs.Common.{◌≡◌, ℕ, ◌<◌, List, [], ◌∷◌, ◌++◌, length, sym, ap, ◌∙◌, arith, append-nil}
+use Rattle.std.proofs.Common.{◌≡◌, ℕ, ◌<◌, List, [], ◌∷◌, ◌++◌, length, refl, sym, ap, ◌∙◌, arith, append-nil}
 use Rattle.it_der.proofs.Reading.{same_front}
 use Rattle.it_certificate_log.specs.Counted.{BeginsCounted, counted}
 use Rattle.it_certificate_log.specs.Timestamp.{Stamp, TimestampOf}
@@ -126,3 +126,31 @@ stamp_is item version log moment extensions algorithm after signature rest reads
       reads.before.before.before.before.written ∙ ap (λ (l : List ℕ). l ++ reads.before.before.before.after) version_is
       ∙ ap (λ (l : List ℕ). (0 ∷ []) ++ l) log_is;
 }
+
+abbrev stamp : List ℕ → List ℕ → List ℕ → List ℕ → Stamp
+stamp log moment extensions signature = record { log = log; moment = moment; extensions = extensions; signature = signature }
+
+-- an item is a timestamp in at most one way
+pub one_stamp : (item : List ℕ) (s t : Stamp) → TimestampOf item s → TimestampOf item t → s ≡ t
+one_stamp item s t one two =
+    let whole : (0 ∷ []) ++ after_version s ≡ (0 ∷ []) ++ after_version t = sym one.written ∙ two.written in
+    let version = same_front (0 ∷ []) (0 ∷ []) (after_version s) (after_version t) refl whole in
+    let log = same_front s.log t.log (after_log s) (after_log t) (one.log_size ∙ sym two.log_size) version.1 in
+    let moment = same_front s.moment t.moment (after_moment s) (after_moment t) (one.moment_size ∙ sym two.moment_size) log.1 in
+    let here : BeginsCounted (after_moment s) s.extensions (after_extensions s) = record { short = one.extensions_short; written = refl } in
+    let there : BeginsCounted (after_moment s) t.extensions (after_extensions t) = record { short = two.extensions_short; written = moment.1 } in
+    let extensions = one_counted (after_moment s) s.extensions t.extensions (after_extensions s) (after_extensions t) here there in
+    let algorithm = same_front (4 ∷ 3 ∷ []) (4 ∷ 3 ∷ []) (after_algorithm s) (after_algorithm t) refl extensions.1 in
+    let last : BeginsCounted (counted s.signature) s.signature [] = record {
+      short = one.signature_short;
+      written = sym (append-nil (counted s.signature));
+    } in
+    let theirs : BeginsCounted (counted s.signature) t.signature [] = record {
+      short = two.signature_short;
+      written = algorithm.1 ∙ sym (append-nil (counted t.signature));
+    } in
+    let signature = one_counted (counted s.signature) s.signature t.signature [] [] last theirs in
+    ap (λ (x : List ℕ). stamp x s.moment s.extensions s.signature) log.0
+    ∙ ap (λ (x : List ℕ). stamp t.log x s.extensions s.signature) moment.0
+    ∙ ap (λ (x : List ℕ). stamp t.log t.moment x s.signature) extensions.0
+    ∙ ap (λ (x : List ℕ). stamp t.log t.moment t.extensions x) signature.0

@@ -1,3 +1,5 @@
+pub mod inside
+pub mod Bare
 pub mod Counted
 pub mod Items
 pub mod SignedText

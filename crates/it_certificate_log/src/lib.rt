@@ -8,11 +8,13 @@
 //! ```
 #![tactic(auto)]
 
+mod bare;
 mod counted;
 mod items;
 mod signed;
 mod timestamp;
 
+pub use bare::bare_bytes;
 pub use items::items_of;
 pub use signed::signed_text;
 pub use timestamp::{Timestamp, timestamp_in};

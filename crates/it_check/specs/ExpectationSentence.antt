@@ -22,3 +22,8 @@ unequal_number_sentence place name =
     number_form (codes "expectation ") place (codes " has in the parameter ")
     ++ told_form (codes "") name
     (codes " a number that is no whole number of 64 bits, so that no provenance meets it")
+
+abbrev pub unused_expectation_sentence : ℕ → List ℕ
+unused_expectation_sentence place =
+    number_form (codes "expectation ") place
+    (codes " is unused, since earlier ones apply to each delivered file that it matches")

@@ -30,6 +30,7 @@ name_of (findings.NoBuilders place) = codes "no-builders"
 name_of (findings.NoLevel place) = codes "no-level"
 name_of (findings.UnreachableLevel place level) = codes "unreachable-level"
 name_of (findings.UnequalNumber place name) = codes "unequal-number"
+name_of (findings.UnusedExpectation place) = codes "unused-expectation"
 name_of (findings.NoThreshold place) = codes "no-threshold"
 name_of (findings.NullKey key) = null_name key.list
 name_of (findings.SharedKey shared) = codes "shared-key"

@@ -69,6 +69,7 @@ document_of (findings.NoBuilders place) = codes "policy"
 document_of (findings.NoLevel place) = codes "policy"
 document_of (findings.UnreachableLevel place level) = codes "policy"
 document_of (findings.UnequalNumber place name) = codes "policy"
+document_of (findings.UnusedExpectation place) = codes "policy"
 document_of (findings.NoThreshold place) = codes "layout"
 document_of (findings.NullKey key) = document_of_keys key.list
 document_of (findings.SharedKey shared) = document_of_keys (list_of shared.place)
@@ -177,6 +178,7 @@ pointer_of form (findings.NoLevel place) = expectation_pointer place (codes "/le
 pointer_of form (findings.UnreachableLevel place level) =
     expectation_pointer place (codes "/level")
 pointer_of form (findings.UnequalNumber place name) = parameter_pointer form place name
+pointer_of form (findings.UnusedExpectation place) = expectation_pointer place (codes "")
 pointer_of form (findings.NoThreshold place) = step_pointer place (codes "/threshold")
 pointer_of form (findings.NullKey key) = key_pointer form key.list key.id
 pointer_of form (findings.SharedKey shared) =

@@ -4,6 +4,7 @@ use Rattle.it_findings.specs.declared.finding.Finding.{Finding}
 use Rattle.it_findings.specs.declared.finding.Finding.TheVariants as findings
 use Rattle.it_check.specs.ExpectationSentence.{no_builders_sentence, no_level_sentence}
 use Rattle.it_check.specs.ExpectationSentence.{unequal_number_sentence, unreachable_level_sentence}
+use Rattle.it_check.specs.ExpectationSentence.{unused_expectation_sentence}
 use Rattle.it_check.specs.MemberSentence.{member_sentence}
 use Rattle.it_check.specs.NullKeySentence.{null_key_sentence}
 use Rattle.it_check.specs.RuleSentence.{no_rules_sentence, open_rules_sentence, parameter_sentence}
@@ -26,6 +27,7 @@ sentence_of (findings.NoBuilders place) = no_builders_sentence place
 sentence_of (findings.NoLevel place) = no_level_sentence place
 sentence_of (findings.UnreachableLevel place level) = unreachable_level_sentence place level
 sentence_of (findings.UnequalNumber place name) = unequal_number_sentence place name
+sentence_of (findings.UnusedExpectation place) = unused_expectation_sentence place
 sentence_of (findings.NoThreshold place) = no_threshold_sentence place
 sentence_of (findings.NullKey key) = null_key_sentence key
 sentence_of (findings.SharedKey shared) = shared_key_sentence shared

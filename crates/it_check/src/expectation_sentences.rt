@@ -3,6 +3,7 @@ ghost use Rattle.std.specs.Prelude.{◌≡◌, ◌++◌, OnOk};
 ghost use Rattle.it_check.specs.ExpectationSentence.{no_builders_sentence, no_level_sentence};
 ghost use Rattle.it_check.specs.ExpectationSentence.{unequal_number_sentence};
 ghost use Rattle.it_check.specs.ExpectationSentence.{unreachable_level_sentence};
+ghost use Rattle.it_check.specs.ExpectationSentence.{unused_expectation_sentence};
 
 use crate::writing::{push_told, push_told_number};
 use it_base::text::Text;
@@ -52,4 +53,12 @@ pub(crate) fn push_unequal_number(
     push_told_number(text, "expectation ", place, " has in the parameter ")?;
     let after = " a number that is no whole number of 64 bits, so that no provenance meets it";
     push_told(text, "", name, after)
+}
+
+/// Appends what is said of an expectation that is unused in a delivery.
+pub(crate) fn push_unused_expectation(text: &mut Vec<u8>, place: usize) -> Result<(), AllocError>
+    ensures { OnOk result (text.new.items ≡ text.old.items ++ unused_expectation_sentence place) }
+{
+    let after = " is unused, since earlier ones apply to each delivered file that it matches";
+    push_told_number(text, "expectation ", place, after)
 }

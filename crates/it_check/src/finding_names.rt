@@ -23,6 +23,7 @@ pub fn finding_name(finding: &Finding) -> &'static str
         Finding::NoLevel(_) => "no-level",
         Finding::UnreachableLevel { .. } => "unreachable-level",
         Finding::UnequalNumber { .. } => "unequal-number",
+        Finding::UnusedExpectation(_) => "unused-expectation",
         Finding::NoThreshold(_) => "no-threshold",
         Finding::NullKey(key) => null_name(key.list),
         Finding::SharedKey(_) => "shared-key",

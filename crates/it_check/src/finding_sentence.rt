@@ -4,6 +4,7 @@ ghost use Rattle.it_check.specs.FindingSentence.{sentence_of};
 
 use crate::expectation_sentences::{
     push_no_builders, push_no_level, push_unequal_number, push_unreachable_level,
+    push_unused_expectation,
 };
 use crate::member_sentences::push_on_member;
 use crate::null_key_sentence::push_null_key;
@@ -42,6 +43,7 @@ pub fn push_sentence(text: &mut Vec<u8>, finding: &Finding) -> Result<(), AllocE
             push_unreachable_level(text, *place, *level)
         }
         Finding::UnequalNumber { place, name } => push_unequal_number(text, *place, name),
+        Finding::UnusedExpectation(place) => push_unused_expectation(text, *place),
         Finding::NoThreshold(place) => push_no_threshold(text, *place),
         Finding::NullKey(key) => push_null_key(text, key),
         Finding::SharedKey(shared) => push_shared_key(text, shared),

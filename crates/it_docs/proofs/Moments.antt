@@ -5,7 +5,7 @@ use Rattle.std.proofs.lemmas.Int.{ints}
 use Rattle.std.proofs.lemmas.Slice.Eq.{text_from_reads}
 use Rattle.jiff.specs.Words.{IsYmd, epoch_day}
 use Rattle.it_docs.specs.Moment.{MomentOf, moment_text}
-use Rattle.it_docs.specs.inside.Digits.{AreTwoDigits}
+use Rattle.it_calendar.specs.Digits.{AreTwoDigits}
 
 -- the bytes at these places are the two digits of the number
 abbrev pub HasNumber : List ℕ → ℕ → ℕ → ℕ → Type 0

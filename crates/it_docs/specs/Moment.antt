@@ -6,10 +6,7 @@ use Rattle.serde_json.specs.Data.{Data}
 use Rattle.serde_json.specs.Find.{as_str}
 use Rattle.jiff.specs.Types.{Date}
 use Rattle.jiff.specs.Words.{epoch_day}
-
--- a number below a hundred, in two decimal digits
-abbrev pub two_digits_of : ℕ → List ℕ
-two_digits_of n = (48 + n / 10) ∷ (48 + n % 10) ∷ []
+use Rattle.it_calendar.specs.Digits.{two_digits_of}
 
 -- `YYYY-MM-DDThh:mm:ssZ`
 abbrev pub moment_text : ℕ → ℕ → ℕ → ℕ → ℕ → ℕ → List ℕ

@@ -1,4 +1,3 @@
-pub mod Digits
 pub mod LayoutFaults
 pub mod Numbered
 pub mod PolicyFaults

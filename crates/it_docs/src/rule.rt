@@ -53,6 +53,24 @@ pub enum Rule {
     Require(Text),
 }
 
+/// The prefixes of a `MATCH`, each empty where the rule has none.
+#[derive(Drop)]
+struct Prefixes<'a> {
+    /// The one on the judged side.
+    source: &'a str,
+    /// The one in the named step.
+    target: &'a str,
+}
+
+impl<'a> Prefixes<'a> {
+    fn of(source: &'a str, target: &'a str) -> Prefixes<'a>
+        ensures source { result.source.now ≡ source.now }
+        ensures target { result.target.now ≡ target.now }
+    {
+        Prefixes { source, target }
+    }
+}
+
 impl FromDocument for Rule {
     ghost is_of = { IsRule };
 
@@ -111,7 +129,7 @@ fn rule_from(alloc: Global, texts: &[Text]) -> Result<Option<Rule>, AllocError>
             if !is_match(word, with, from) {
                 return Ok(None);
             }
-            match_rule(alloc, pattern, "", side, "", step)
+            match_rule(alloc, pattern, &Prefixes::of("", ""), side, step)
         }
         _ => prefixed_match(alloc, texts),
     }
@@ -125,9 +143,11 @@ fn prefixed_match(alloc: Global, texts: &[Text]) -> Result<Option<Rule>, AllocEr
     match texts {
         [word, pattern, third, fourth, fifth, sixth, from, step] => {
             if is_keyword(third, "IN") && is_match(word, fifth, from) {
-                match_rule(alloc, pattern, fourth.as_str(), sixth, "", step)
+                let prefixes = Prefixes::of(fourth.as_str(), "");
+                match_rule(alloc, pattern, &prefixes, sixth, step)
             } else if is_keyword(fifth, "IN") && is_match(word, third, from) {
-                match_rule(alloc, pattern, "", fourth, sixth.as_str(), step)
+                let prefixes = Prefixes::of("", sixth.as_str());
+                match_rule(alloc, pattern, &prefixes, fourth, step)
             } else {
                 Ok(None)
             }
@@ -148,7 +168,8 @@ fn prefixed_match(alloc: Global, texts: &[Text]) -> Result<Option<Rule>, AllocEr
             if !(in_both && is_match(word, with, from)) {
                 return Ok(None);
             }
-            match_rule(alloc, pattern, source.as_str(), side, target.as_str(), step)
+            let prefixes = Prefixes::of(source.as_str(), target.as_str());
+            match_rule(alloc, pattern, &prefixes, side, step)
         }
         _ => Ok(None),
     }
@@ -183,22 +204,21 @@ fn side_of(word: &Text) -> Option<Side>
 fn match_rule(
     alloc: Global,
     pattern: &Text,
-    source_prefix: &str,
+    prefixes: &Prefixes,
     side: &Text,
-    target_prefix: &str,
     step: &Text,
 ) -> Result<Option<Rule>, AllocError>
-    ensures { IfOk result (λ found.
-        found ≡ match_of pattern.now source_prefix.now side.now target_prefix.now step.now) }
+    ensures { IfOk result (λ found. found
+        ≡ match_of pattern.now prefixes.now.source.now side.now prefixes.now.target.now step.now) }
 {
     let Some(side) = side_of(side) else {
         return Ok(None);
     };
     Ok(Some(Rule::Match {
         pattern: Pattern::read(alloc, pattern.as_str())?,
-        source_prefix: Text::copy(alloc, source_prefix)?,
+        source_prefix: Text::copy(alloc, prefixes.source)?,
         side,
-        target_prefix: Text::copy(alloc, target_prefix)?,
+        target_prefix: Text::copy(alloc, prefixes.target)?,
         from: Text::copy(alloc, step.as_str())?,
     }))
 }

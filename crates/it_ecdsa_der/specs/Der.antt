@@ -1,6 +1,6 @@
 -- The strict encoding (DER, X.690) of ECDSA-Sig-Value, a SEQUENCE of two INTEGERs (RFC 3279,
 -- section 2.2.3). No length is above 127 here, since two numbers below 2 ^ 384 take at most 104
--- bytes: so a length is one byte.
+-- bytes, and two below 2 ^ 256 at most 70: so a length is one byte.
 use Rattle.std.specs.Prelude.{◌≡◌, ℕ, ◌+◌, ◌-◌, ◌<◌, ◌≤◌, List, length, take, drop, slice_index}
 use Rattle.it_numbers.specs.Bytes.{big}
 

@@ -111,6 +111,9 @@ pub enum Finding {
         /// The name of the parameter that is the number, or holds it.
         name: Text,
     },
+    /// The expectation at this place is unused in a delivery: to each delivered file that its
+    /// pattern matches an earlier one applies.
+    UnusedExpectation(usize),
     /// The step at this place has no threshold, so that one key is enough for it.
     NoThreshold(usize),
     /// Null stands under a key id, which so counts as missing.

@@ -1,9 +1,9 @@
 //! A text in JSON (RFC 8259, section 7).
-ghost use Rattle.std.specs.Prelude.{◌≡◌, ◌++◌, ◌<◌, OnOk};
+ghost use Rattle.std.specs.Prelude.{◌≡◌, ◌++◌, OnOk};
 ghost use Rattle.std.specs.List.{flat_map};
-ghost use Rattle.it_report.specs.Name.{digit_form};
 ghost use Rattle.it_json_report.specs.Json.{escaped, is_special, json_text};
 
+use it_report::name::hexadecimal_digit;
 use std::alloc::AllocError;
 
 pub(super) fn push_text(json: &mut Vec<u8>, text: &str) -> Result<(), AllocError>
@@ -35,8 +35,9 @@ fn push_byte(json: &mut Vec<u8>, byte: u8) -> Result<(), AllocError>
     ensures { OnOk result (json.new.items ≡ json.old.items ++ escaped byte) }
 {
     if byte < b' ' {
-        let form = [b'\\', b'u', b'0', b'0', digit(byte / 16), digit(byte % 16)];
-        return json.extend_from_slice(&form);
+        let digits = [hexadecimal_digit(byte / 16), hexadecimal_digit(byte % 16)];
+        json.extend_from_slice(b"\\u00")?;
+        return json.extend_from_slice(&digits);
     }
     if is_special(byte) {
         json.push(b'\\')?;
@@ -49,15 +50,4 @@ fn is_special(byte: u8) -> bool
     ensures { result ≡ is_special byte }
 {
     byte == b'"' || byte == b'\\'
-}
-
-fn digit(value: u8) -> u8
-    requires { value < 16 }
-    ensures { result ≡ digit_form value }
-{
-    if value < 10 {
-        b'0' + value
-    } else {
-        b'a' + (value - 10)
-    }
 }

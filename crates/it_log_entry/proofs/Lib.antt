@@ -1,6 +1,7 @@
 pub mod Bodies
 pub mod CertificateLines
 pub mod Checkpoints
+pub mod Entries
 pub mod First
 pub mod Hashes
 pub mod Items

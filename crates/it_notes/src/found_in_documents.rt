@@ -30,7 +30,11 @@ pub struct FoundInDocuments {
 
 /// What is found in the policy, in the layout and in the sublayouts, as far as it counts, where a
 /// delivery of the `inputs` is accepted on these grounds by the `checks`.
-pub(crate) fn found_in_documents<C: Checks>(
+///
+/// # Errors
+///
+/// `AllocError` where memory was refused, or where the checks refuse to check more signatures.
+pub fn found_in_documents<C: Checks>(
     alloc: Global,
     inputs: &Inputs,
     grounds: &Grounds,

@@ -1,5 +1,5 @@
 //! What the verification read and found, from which the notes are made.
-ghost use Rattle.std.specs.Prelude.{◌≤◌, IfOk, IfSome};
+ghost use Rattle.std.specs.Prelude.{IfOk, IfSome};
 ghost use Rattle.it_dsse.specs.Panel.{Panel};
 ghost use Rattle.it_verify.specs.Grounds.{IsFound};
 ghost use Rattle.it_verify.specs.Made.{IsMadeBy};
@@ -7,16 +7,15 @@ ghost use Rattle.it_notes.specs.Known.{IsKnown, IsTold};
 ghost use Rattle.it_notes.specs.FoundInDocuments.{AreFoundInDocuments};
 
 use crate::fault_level::FaultLevel;
-use crate::found_in_documents::{FoundInDocuments, found_in_documents};
+use crate::found_in_documents::FoundInDocuments;
 use it_digest::artifacts::Artifacts;
 use it_docs::policy::Policy;
-use it_dsse::checks::Checks;
 use it_report::verdict::Verdict;
 use it_step_notes::signed_layout::SignedLayout;
 use it_verify::documents::Documents;
-use it_verify::grounds::{Found, Grounds, Outcome};
+use it_verify::grounds::{Found, Grounds};
 use it_verify::inputs::Inputs;
-use it_verify::{verdict_of, verify_grounds};
+use it_verify::verdict_of;
 use std::alloc::{AllocError, Global};
 
 /// What the verification read and found, where the documents read and every owner signed the
@@ -44,32 +43,6 @@ pub struct Told<'a> {
     /// Where the verdict accepts, what is found in the policy, in the layout and in the sublayouts
     /// all the same, or `None` where memory was refused for that.
     pub found: Option<FoundInDocuments>,
-}
-
-/// Verifies delivered files, and keeps what was found.
-///
-/// # Errors
-///
-/// `AllocError` where memory was refused.
-pub fn verify_told<'a, C: Checks>(
-    alloc: Global,
-    inputs: &'a Inputs,
-    checks: &C,
-) -> Result<Told<'a>, AllocError>
-    requires { inputs.now.depth ≤ 8 }
-    ensures { IfOk result (IsTold (C.panel checks.now) inputs.now) }
-{
-    match verify_grounds(alloc, inputs, checks)? {
-        Outcome::Made(grounds) => {
-            let found = found_in_documents(alloc, inputs, &grounds, checks).ok();
-            made_told(alloc, inputs, grounds, found)
-        }
-        Outcome::Refused { refusal, found } => Ok(Told {
-            verdict: Verdict::Refused(refusal),
-            known: known_of(inputs, found),
-            found: None,
-        }),
-    }
 }
 
 /// The verdict that accepts, what was found before it, and what is found all the same.

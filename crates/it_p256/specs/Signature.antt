@@ -3,7 +3,7 @@ use Rattle.std.specs.Prelude.{◌≡◌, ◌≢◌, ℕ, ◌-◌, ◌*◌, ◌%�
 use Rattle.sha2.specs.Sha256.{sha256}
 use Rattle.it_numbers.specs.Bytes.{big}
 use Rattle.it_numbers.specs.Modular.{power_mod}
-use Rattle.it_p256_der.specs.Der.{IsSignatureValue}
+use Rattle.it_ecdsa_der.specs.Der.{IsSignatureValue}
 use Rattle.it_p256_order.specs.Order.{group_order}
 use Rattle.it_p256_point.specs.declared.point.Point.{Point}
 use Rattle.it_p256_point.specs.Points.{affine, base, sum_of_multiples, first_coordinate}

@@ -13,9 +13,12 @@
 mod digest;
 mod key;
 pub mod laws;
+mod number;
 mod signature;
+mod signature_value;
 mod verification;
 
 pub use digest::message_digest;
 pub use key::PublicKey;
 pub use signature::{is_signature, is_signature_of_digest};
+pub use signature_value::{SignatureValue, read_signature_value};

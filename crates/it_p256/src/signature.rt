@@ -5,8 +5,8 @@ ghost use Rattle.it_p256.specs.Signature.{IsSignature, IsSignatureOfDigest};
 
 use crate::digest::message_digest;
 use crate::key::PublicKey;
+use crate::signature_value::read_signature_value;
 use crate::verification::is_signed;
-use it_p256_der::read_signature_value;
 use it_p256_limbs::limbs_of;
 
 /// Whether `signature` is the key's signature of the message that the parts make when they are

@@ -5,7 +5,7 @@ ghost use Rattle.it_p256_order.specs.Order.{group_order};
 ghost use Rattle.it_p256.specs.Signature.{IsInRange, Agrees, IsSigned, combination_of};
 
 use crate::key::PublicKey;
-use it_p256_der::SignatureValue;
+use crate::signature_value::SignatureValue;
 use it_p256_limbs::{Limbs, is_below, is_same};
 use it_p256_order::{GROUP_ORDER, Scalar};
 use it_p256_point::Point;

@@ -6,7 +6,7 @@ use Rattle.std.proofs.lemmas.Bool.{cases_lt}
 use Rattle.std.proofs.lemmas.Bool.Decides.{Decides-and, Decides-eqb, Decides-like, Decides-ltb}
 use Rattle.std.proofs.lemmas.Bool.Decides.{Decides-not, leb_tells}
 use Rattle.it_numbers.specs.Bytes.{big}
-use Rattle.it_p256_der.specs.Der.{IsInteger, IsSignatureValue}
+use Rattle.it_ecdsa_der.specs.Der.{IsInteger, IsSignatureValue}
 use Rattle.it_p256.specs.Key.{Key}
 use Rattle.it_p256.specs.Signature.{Agrees, IsInRange, IsSigned, IsSignatureOfDigest, combination_of}
 use Rattle.it_public_keys.specs.P256Test.{agrees_at, integer_at, is_in_range, is_integer}

@@ -2,7 +2,7 @@
 -- refused with no arithmetic: the length (RFC 8032, section 5.1.7; RFC 8017, section 8.1.2), or the
 -- encoding of two numbers (RFC 3279, section 2.2.3).
 use Rattle.std.specs.Prelude.{◌≡◌, ℕ, ◌^◌, ◌<◌, List, length}
-use Rattle.it_p256_der.specs.Der.{IsSignatureValue}
+use Rattle.it_ecdsa_der.specs.Der.{IsSignatureValue}
 use Rattle.it_public_keys.specs.declared.key.Key.{Key}
 use Rattle.it_public_keys.specs.declared.key.Key.TheVariants.{Ed25519, P256, Rsa}
 

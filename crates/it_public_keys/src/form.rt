@@ -3,7 +3,7 @@ ghost use Rattle.std.specs.Prelude.{◌↔◌, IsTrue};
 ghost use Rattle.it_public_keys.specs.Form.{EncodesNumbers, HasForm};
 
 use crate::key::Key;
-use it_p256_der::read_signature_value;
+use it_p256::read_signature_value;
 
 /// Whether `sig` has the form of a signature by the key: the length or, for P-256, the encoding.
 /// What lacks it is no signature by the key, of whatever message.

@@ -5,7 +5,7 @@ mod fault_lines;
 pub mod laws;
 mod lines;
 pub mod name;
-mod place;
+pub mod place;
 pub mod refusal;
 mod reporting;
 mod side;

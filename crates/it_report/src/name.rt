@@ -109,7 +109,12 @@ fn push_byte(text: &mut Vec<u8>, byte: u8) -> Result<(), AllocError>
         text.push(byte)?;
         return Ok(());
     }
-    let form = [b'\\', b'x', digit(byte / 16), digit(byte % 16)];
+    let form = [
+        b'\\',
+        b'x',
+        hexadecimal_digit(byte / 16),
+        hexadecimal_digit(byte % 16),
+    ];
     text.extend_from_slice(&form)?;
     Ok(())
 }
@@ -120,7 +125,8 @@ fn is_plain(byte: u8) -> bool
     b'!' <= byte && byte <= b'~' && byte != b'\\'
 }
 
-fn digit(value: u8) -> u8
+/// The lower-case hexadecimal digit of a number below 16. Takes no memory.
+pub fn hexadecimal_digit(value: u8) -> u8
     requires { value < 16 }
     ensures { result ≡ digit_form value }
 {

@@ -7,7 +7,7 @@ ghost use Rattle.it_report.specs.declared.verdict.Verdict.TheVariants.{Accepted,
 use crate::fault_lines::push_fault;
 use crate::lines::push_name_line;
 use crate::name::push_name;
-use crate::place::push_place;
+use crate::place::push_place_line;
 use crate::refusal::Refusal;
 use crate::verdict::Verdict;
 use it_base::text::Text;
@@ -56,7 +56,7 @@ pub fn refused_report(alloc: Global, refusal: &Refusal) -> Result<Vec<u8>, Alloc
     let name = refusal.name();
     let head = format!(in alloc; "refused {number} {name}\n")?;
     let mut text = head.into_bytes();
-    push_place(&mut text, refusal.at.as_slice())?;
+    push_place_line(&mut text, refusal.at.as_slice())?;
     push_fault(alloc, &mut text, &refusal.fault)?;
     Ok(text)
 }

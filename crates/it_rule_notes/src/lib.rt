@@ -9,7 +9,6 @@ pub mod difference;
 mod digest_words;
 pub mod disagree_note;
 pub mod expiry_note;
-mod folder_prefix;
 mod judged;
 pub mod judged_note;
 pub mod level;

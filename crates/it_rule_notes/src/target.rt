@@ -5,10 +5,10 @@ ghost use Rattle.it_base.specs.Finds.{Finds};
 ghost use Rattle.it_rule_notes.specs.Missed.{IsUnmatched, LooksFor};
 ghost use Rattle.it_rule_notes.specs.inside.JudgedRules.{judging_in};
 
-use crate::folder_prefix::{join_folder, strip_folder};
 use crate::judged::JudgedRules;
 use it_base::text::Text;
 use it_docs::rule::{Rule, Side};
+use it_rules::folder_prefix::{join_folder, strip_folder};
 use std::alloc::{AllocError, Global};
 
 /// Where a `MATCH` looks for a path that its pattern matches.
@@ -49,7 +49,7 @@ pub(crate) fn target_of(
     Ok(Some(Target {
         from: Text::copy(alloc, from.as_str())?,
         side: *side,
-        path: join_folder(alloc, target_prefix.as_str(), rest)?,
+        path: Text::from(join_folder(alloc, target_prefix.as_str(), rest)?),
     }))
 }
 

@@ -3,7 +3,7 @@
 #![tactic(auto)]
 
 pub mod claims;
-mod folder_prefix;
+pub mod folder_prefix;
 pub mod free;
 pub mod item;
 mod looked;

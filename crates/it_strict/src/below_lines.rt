@@ -8,11 +8,11 @@ ghost use Rattle.it_strict.specs.BelowText.{all_below_text, below_document, belo
 ghost use Rattle.it_strict.specs.BelowText.{more_below, placed_line};
 
 use crate::below::FoundBelow;
-use crate::place::push_place;
 use it_base::text::Text;
 use it_check::pointer_form::PointerForm;
 use it_check::{MOST_WRITTEN, finding_name, push_more, push_pointer, push_sentence, push_text};
 use it_findings::finding::Finding;
+use it_report::place::push_place;
 use std::alloc::AllocError;
 
 /// Appends the lines of what is found in sublayouts: of each the first 40, and how many there are

@@ -10,6 +10,7 @@ use crate::below_lines::push_all_below;
 use crate::counting::counting_findings;
 use crate::untied::untied_files;
 use crate::untied_lines::push_untied;
+use crate::unused::unused_findings;
 use it_base::sequence::Sequence;
 use it_base::text::Text;
 use it_check::{findings_in_policy, push_findings};
@@ -68,7 +69,8 @@ pub fn found_in<C: Checks>(
     })
 }
 
-/// What is found in the policy, which is read from these bytes.
+/// What is found in the policy, which is read from these bytes: what `findings_in_policy` finds,
+/// and then the expectations that are unused for the delivered files of the documents.
 ///
 /// # Errors
 ///
@@ -84,7 +86,10 @@ pub fn found_in_policy(
     let nulls = policy_nulls(alloc, bytes)?;
     let (members, nulls) = (members.as_slice(), nulls.as_slice());
     let layout = Some(&documents.layout);
-    findings_in_policy(alloc, layout, &documents.policy, members, nulls)
+    let mut found = findings_in_policy(alloc, layout, &documents.policy, members, nulls)?;
+    let mut unused = unused_findings(alloc, documents)?;
+    found.append(&mut unused)?;
+    Ok(found)
 }
 
 /// What is found in the layout, and counts where its steps have the records of the evidence.

@@ -8,9 +8,9 @@ mod below_lines;
 mod counting;
 pub mod found;
 pub mod laws;
-mod place;
 mod untied;
 mod untied_lines;
+mod unused;
 
 pub use below_lines::push_placed_finding;
 pub use untied_lines::{UNTIED_NAME, UNTIED_POINTER, push_untied_sentence};

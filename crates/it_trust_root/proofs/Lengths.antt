@@ -1,10 +1,10 @@
 -- A list of a document has one length.
-use Rattle.std.proofs.Common.{◌≡◌, ℕ, List, [], ◌∷◌, length, Option, Some, None, MatchOption, ap, sym}
-use Rattle.std.proofs.Common.{refl, ◌∙◌, arith}
+use Rattle.std.proofs.Common.{◌≡◌, ℕ, List, [], ◌∷◌, length, Option, Some, None, MatchOption, refl}
+use Rattle.std.proofs.Common.{arith}
 use Rattle.serde_json.specs.Data.{Data, Items, no_items, item}
 use Rattle.serde_json.specs.Find.{as_array}
 use Rattle.it_base.specs.Document.{member_at}
-use Rattle.it_base.specs.Parts.{IsPart, IsPartOr}
+use Rattle.it_base.specs.Parts.{IsPart}
 use Rattle.it_base.specs.Sequence.{AreEach, IsList}
 
 -- all lists that a part is have the same length
@@ -38,13 +38,3 @@ member_long P long (Some v) xs ys h k = long v xs ys h k
 pub part_long : {X : Type 0} (P : Data → List X → Type 0) → HasOneLength P → (name : List ℕ)
     → HasOneLength (IsPart P name)
 part_long P long name d = member_long P long (member_at name d)
-
-or_long : {X : Type 0} (P : Data → List X → Type 0) → HasOneLength P → (missing : List X)
-    (found : Option Data) (xs ys : List X) → MatchOption found (xs ≡ missing) (λ v. P v xs)
-    → MatchOption found (ys ≡ missing) (λ v. P v ys) → length xs ≡ length ys
-or_long P long missing None xs ys h k = ap length (h ∙ sym k)
-or_long P long missing (Some v) xs ys h k = long v xs ys h k
-
-pub part_or_long : {X : Type 0} (P : Data → List X → Type 0) → HasOneLength P → (missing : List X)
-    (name : List ℕ) → HasOneLength (IsPartOr P missing name)
-part_or_long P long missing name d = or_long P long missing (member_at name d)

@@ -28,7 +28,7 @@ no_log listed algorithm details long none (PassedOver (HashAlgorithm name)) is =
 no_log listed algorithm details long none (PassedOver (KeyDetails name)) is = is.1 details
 no_log listed algorithm details long none (PassedOver (IdLength n)) is = is.2 long
 
-base64_same : IsUnique IsBase64
+pub base64_same : IsUnique IsBase64
 base64_same d x y h k = same_Some x y (sym h ∙ k)
 
 -- two readings of a log agree in all but the window

@@ -53,11 +53,11 @@ second_long to_second moment is =
     omega (arith, length-append to_second (codes "Z"))
 
 -- a time begins with its moment up to the second, and goes on with the fraction
-front_is : (text : List ℕ) (time : ℤ) (is : TimeOf text time) → take 19 text ≡ is.to_second
+pub front_is : (text : List ℕ) (time : ℤ) (is : TimeOf text time) → take 19 text ≡ is.to_second
 front_is text time is = ap (take 19) is.written
     ∙ take_at is.to_second (is.fraction ++ codes "Z") 19 (second_long is.to_second is.moment is.moment_is)
 
-back_is : (text : List ℕ) (time : ℤ) (is : TimeOf text time) → drop 19 text ≡ is.fraction ++ codes "Z"
+pub back_is : (text : List ℕ) (time : ℤ) (is : TimeOf text time) → drop 19 text ≡ is.fraction ++ codes "Z"
 back_is text time is = ap (drop 19) is.written
     ∙ drop_at is.to_second (is.fraction ++ codes "Z") 19 (second_long is.to_second is.moment is.moment_is)
 

@@ -1,5 +1,9 @@
 pub mod Authority
+pub mod Laws
 pub mod Log
 pub mod Root
+pub mod RootPart
+pub mod ShortList
 pub mod Time
 pub mod Window
+pub mod inside

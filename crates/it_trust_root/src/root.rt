@@ -1,20 +1,22 @@
 //! Trusted roots.
-ghost use Rattle.std.specs.Prelude.{◌↔◌, IfOk, IsTrue};
+ghost use Rattle.std.specs.Prelude.{◌≡◌, ◌↔◌, IfErr, IfOk, IsTrue, MatchResult};
 ghost use Rattle.serde_json.specs.View.{view};
 ghost use Rattle.it_base.specs.Finds.{Finds};
-ghost use Rattle.it_trust_root.specs.Root.{AreAuthorities, AreLogs, IsMediaType, IsRoot, RootOf};
+ghost use Rattle.it_trust_root.specs.Root.{IsMediaType, IsRoot, RootOf};
+ghost use Rattle.it_trust_root.specs.RootPart.{RootPartOf};
+ghost use Rattle.it_trust_root.specs.inside.ListFaults.{IsRootFault};
+ghost use Rattle.it_trust_root.specs.declared.root_part.RootPart.{RootPart as Part};
 
 use crate::authority::Authority;
 use crate::root_log::RootLog;
-use it_base::list::list_or_empty;
+use crate::root_part::{RootFault, RootList, RootPart};
+use crate::short_list::short_list;
+use it_base::document::read_document;
 use it_base::parts::{FromDocument, from_bytes};
 use it_base::sequence::Sequence;
 use it_base::text::has_text;
 use serde_json::Value;
 use std::alloc::{AllocError, Global};
-
-/// The most elements that a list may have.
-const MOST_ELEMENTS: usize = 64;
 
 /// Who is trusted, and when.
 #[derive(Drop)]
@@ -38,28 +40,52 @@ pub fn read_root(alloc: Global, bytes: &[u8]) -> Result<Option<TrustedRoot>, All
     from_bytes::<TrustedRoot>(alloc, bytes)
 }
 
+/// Reads a trusted root from all of the bytes, or says why they are none.
+///
+/// # Errors
+///
+/// `BadRoot` with the first part that fails, and `OutOfMemory` where memory was refused.
+pub fn root_or_fault(alloc: Global, bytes: &[u8]) -> Result<TrustedRoot, RootFault>
+    ensures ok { IfOk result (λ root. RootOf bytes.now root) }
+    ensures bad { IfErr result (λ e. (part : Part) → e ≡ RootFault.BadRoot part
+        → RootPartOf bytes.now part) }
+{
+    match read_document(alloc, bytes)? {
+        Some(document) => root_of(alloc, &document),
+        None => Err(RootFault::BadRoot(RootPart::Json)),
+    }
+}
+
 impl FromDocument for TrustedRoot {
     ghost is_of = { IsRoot };
 
+    /// The trusted root, where no part of it fails.
     fn from_document(alloc: Global, value: &Value) -> Result<Option<TrustedRoot>, AllocError> {
-        if !has_media_type(value) {
-            return Ok(None);
+        match root_of(alloc, value) {
+            Ok(root) => Ok(Some(root)),
+            Err(RootFault::BadRoot(_)) => Ok(None),
+            Err(RootFault::OutOfMemory) => Err(AllocError),
         }
-        let Some(logs) = logs_of(alloc, value, "tlogs")? else {
-            return Ok(None);
-        };
-        let Some(authorities) = authorities_of(alloc, value)? else {
-            return Ok(None);
-        };
-        let Some(certificate_logs) = logs_of(alloc, value, "ctlogs")? else {
-            return Ok(None);
-        };
-        Ok(Some(TrustedRoot {
-            logs,
-            authorities,
-            certificate_logs,
-        }))
     }
+}
+
+fn root_of(alloc: Global, document: &Value) -> Result<TrustedRoot, RootFault>
+    ensures { MatchResult result (IsRoot (view document.now)) (IsRootFault (view document.now)) }
+{
+    if !document.is_object() {
+        return Err(RootFault::BadRoot(RootPart::Json));
+    }
+    if !has_media_type(document) {
+        return Err(RootFault::BadRoot(RootPart::MediaType));
+    }
+    let logs = short_list::<RootLog>(alloc, document, RootList::Logs)?;
+    let authorities = short_list::<Authority>(alloc, document, RootList::Authorities)?;
+    let certificate_logs = short_list::<RootLog>(alloc, document, RootList::CertificateLogs)?;
+    Ok(TrustedRoot {
+        logs,
+        authorities,
+        certificate_logs,
+    })
 }
 
 fn has_media_type(value: &Value) -> bool
@@ -77,33 +103,4 @@ fn has_media_type(value: &Value) -> bool
         "mediaType",
         "application/vnd.dev.sigstore.trustedroot.v0.1+json",
     )
-}
-
-fn logs_of(
-    alloc: Global,
-    value: &Value,
-    name: &str,
-) -> Result<Option<Sequence<RootLog>>, AllocError>
-    ensures { IfOk result (Finds (AreLogs name.now (view value.now))) }
-{
-    let Some(logs) = list_or_empty::<RootLog>(alloc, value, name)? else {
-        return Ok(None);
-    };
-    if logs.as_slice().len() > MOST_ELEMENTS {
-        return Ok(None);
-    }
-    Ok(Some(logs))
-}
-
-fn authorities_of(alloc: Global, value: &Value) -> Result<Option<Sequence<Authority>>, AllocError>
-    ensures { IfOk result (Finds (AreAuthorities (view value.now))) }
-{
-    let Some(authorities) = list_or_empty::<Authority>(alloc, value, "certificateAuthorities")?
-    else {
-        return Ok(None);
-    };
-    if authorities.as_slice().len() > MOST_ELEMENTS {
-        return Ok(None);
-    }
-    Ok(Some(authorities))
 }

@@ -118,7 +118,7 @@ pub use Rattle.it_docs.specs.Moment.{MomentOf}
 -- `YYYY-MM-DDThh:mm:ssZ`
 pub use Rattle.it_docs.specs.Moment.{moment_text}
 -- a number below a hundred, in two decimal digits
-pub use Rattle.it_docs.specs.Moment.{two_digits_of}
+pub use Rattle.it_calendar.specs.Digits.{two_digits_of}
 -- the part is a list of texts that are this rule
 pub use Rattle.it_docs.specs.Rule.{IsRule}
 -- the texts are this rule

@@ -1,11 +1,13 @@
--- The report as JSON with what is found and noted (this profile's choice).
-use Rattle.std.specs.Prelude.{◌≡◌, ℕ, List, [], ◌++◌, map}
+-- The report as JSON with what is found and noted, and what stands behind it (this profile's
+-- choice).
+use Rattle.std.specs.Prelude.{◌≡◌, ℕ, List, [], ◌++◌, MatchOption, map}
 use Rattle.std.specs.List.{flat_map}
 use Rattle.it_check.specs.FindingName.{name_of}
 use Rattle.it_check.specs.FindingPlace.{document_of, pointer_of}
 use Rattle.it_check.specs.FindingSentence.{sentence_of}
 use Rattle.it_check.specs.declared.pointer_form.PointerForm.TheVariants.{Plain}
 use Rattle.it_dsse.specs.Panel.{Panel}
+use Rattle.it_evidence.specs.Evidence.{IsBehind}
 use Rattle.it_findings.specs.declared.finding.Finding.{Finding}
 use Rattle.it_json_report.specs.Form.{form_of}
 use Rattle.it_json_report.specs.FullReport.{full_json_of}
@@ -48,11 +50,13 @@ pub record AreFindings (panel : Panel) (inputs : Inputs) (findings : List Report
   pub are_found : AreFoundInDocuments panel inputs found
   pub are_shown : findings ≡ all_shown found
 
--- the text is the report of the verdict with what is found, where it accepts, and with some notes
+-- the text is the report of the verdict, where it accepts with what is found and with what stands
+-- behind the delivery, and with some notes
 pub record IsFullText (panel : Panel) (inputs : Inputs) (verdict : Verdict) (text : List ℕ)
     : Type 0 where
   pub beside : Beside
   pub findings : OnAccepted verdict (AreFindings panel inputs beside.findings)
+  pub evidence : OnAccepted verdict (MatchOption beside.evidence ⊥ (IsBehind panel inputs))
   pub text_is : text ≡ full_json_of verdict beside
 
 -- the text is the output for the verdict in a form

@@ -1,3 +1,4 @@
 pub mod FullOutput
 pub mod Strictly
 pub mod VerifyOutputIn
+pub mod inside

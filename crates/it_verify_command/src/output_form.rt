@@ -7,7 +7,7 @@ use it_json_report::form::ReportForm;
 pub enum OutputForm {
     /// The report alone; the notes follow elsewhere.
     Report(ReportForm),
-    /// The report as JSON, with what is found and noted.
+    /// The report as JSON, with what is found and noted and what stands behind it.
     Full,
 }
 

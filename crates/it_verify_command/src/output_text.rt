@@ -1,12 +1,15 @@
 //! The output on a verdict, and the status that goes with it.
 ghost use Rattle.std.specs.Prelude.{◌≡◌, IfOk};
+ghost use Rattle.it_verify.specs.Verdict.{OnAccepted};
 ghost use Rattle.it_verify.specs.VerifyOutput.{status_of};
 ghost use Rattle.it_verify_command.specs.FullOutput.{IsTextIn};
+ghost use Rattle.it_verify_command.specs.inside.Answer.{IsBehindIn};
 ghost use Rattle.it_notes.specs.Known.{IsTold};
 
 use crate::full_output::full_text;
 use crate::output_form::OutputForm;
 use it_dsse::checks::Checks;
+use it_json_report::evidence::Evidence;
 use it_json_report::form::report_in;
 use it_notes::known::Told;
 use it_outcome::Status;
@@ -14,21 +17,24 @@ use it_report::verdict::Verdict;
 use it_verify::inputs::Inputs;
 use std::alloc::{AllocError, Global};
 
-/// The output on what was told, in this form.
+/// The output on what was told, in this form, with what stands behind it.
 pub(crate) fn text_in<C: Checks>(
     alloc: Global,
     inputs: &Inputs,
     told: &Told,
+    behind: Option<Evidence>,
     checks: &C,
     form: OutputForm,
 ) -> Result<Vec<u8>, AllocError>
-    requires { IsTold (C.panel checks.now) inputs.now told.now }
+    requires told { IsTold (C.panel checks.now) inputs.now told.now }
+    requires behind { OnAccepted told.now.verdict
+        (IsBehindIn form (C.panel checks.now) inputs.now behind) }
     ensures { IfOk result
         (λ text. IsTextIn form (C.panel checks.now) inputs.now told.now.verdict text.items) }
 {
     match form {
         OutputForm::Report(form) => report_in(alloc, form, &told.verdict),
-        OutputForm::Full => full_text(alloc, inputs, told, checks),
+        OutputForm::Full => full_text(alloc, inputs, told, behind, checks),
     }
 }
 

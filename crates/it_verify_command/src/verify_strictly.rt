@@ -6,12 +6,10 @@ ghost use Rattle.it_verify_command.specs.Strictly.{HasFindings, StandsStrictly};
 ghost use Rattle.it_verify_command.specs.VerifyOutputIn.{IsVerifyOutputIn};
 
 use crate::output_form::OutputForm;
-use crate::output_text::{status_of, text_in};
+use crate::strict_answer::{StrictAnswer, strict_answer};
 use crate::strict_fault::StrictFault;
-use crate::strict_told::strict_told;
-use crate::verify_with_notes::note;
+use crate::writing::{write_answer, write_found};
 use it_dsse::checks::Checks;
-use it_outcome::output::{Output, put};
 use it_outcome::{RunFault, Status};
 use it_verify::inputs::Inputs;
 use std::alloc::Global;
@@ -26,7 +24,7 @@ use std::io::Write;
 /// `Findings` where the verdict accepts and something is found. `Run` with `Write` where the report
 /// could not be written; a beginning of it went out. `Run` with `OutOfMemory` where memory was
 /// refused for the verdict, for what is found or for the report, or the checks refused to check
-/// more signatures for the verdict; nothing went out.
+/// more signatures for these; nothing went out.
 pub fn verify_strictly<C: Checks, W: Write, N: Write>(
     alloc: Global,
     inputs: &Inputs,
@@ -50,12 +48,13 @@ pub fn verify_strictly<C: Checks, W: Write, N: Write>(
     ensures kept { IfErr result (λ fault. fault ≢ StrictFault.Run RunFault.Write
         → out.new ≡ out.old) }
 {
-    let told = strict_told(alloc, inputs, checks, notes)?;
-    let text = text_in(alloc, inputs, &told, checks, form)?;
-    let status = status_of(&told.verdict);
-    let status = put(out, &Output { text, status })?;
-    if form.is_report() {
-        note(alloc, inputs, &told, checks, notes);
+    match strict_answer(alloc, inputs, checks, form)? {
+        StrictAnswer::Stands(answer) => {
+            Ok(write_answer(alloc, inputs, answer, checks, out, notes)?)
+        }
+        StrictAnswer::Against(found) => {
+            write_found(alloc, &found, notes)?;
+            Err(StrictFault::Findings)
+        }
     }
-    Ok(status)
 }

@@ -3,19 +3,15 @@ ghost use Rattle.std.specs.Prelude.{◌≡◌, ◌≤◌, IfErr, IfOk, IsErrOf};
 ghost use Rattle.std.specs.Io.KnownBytes.{Appends};
 ghost use Rattle.it_base.specs.Writing.{AppendsBeginning};
 ghost use Rattle.it_outcome.specs.Outcome.{IsOutputFault};
-ghost use Rattle.it_notes.specs.Known.{IsTold};
 ghost use Rattle.it_verify_command.specs.VerifyOutputIn.{IsVerifyOutputIn};
 
+use crate::answer::answer_to;
 use crate::output_form::OutputForm;
-use crate::output_text::{status_of, text_in};
+use crate::writing::write_answer;
 use it_dsse::checks::Checks;
-use it_notes::found_in_documents::add_found;
-use it_notes::known::{Told, verify_told};
-use it_notes::notes::Notes;
-use it_outcome::output::{Output, put};
 use it_outcome::{RunFault, Status};
 use it_verify::inputs::Inputs;
-use std::alloc::{AllocError, Global};
+use std::alloc::Global;
 use std::io::Write;
 
 /// Verifies delivered files, as `verify_by` of `it_verify` does, writes the output in this form,
@@ -29,7 +25,8 @@ use std::io::Write;
 ///
 /// `Write` where the report could not be written; a beginning of it went out. `OutOfMemory` where
 /// memory was refused for the verdict or the report, or the checks refused to check more signatures
-/// for the verdict; nothing went out.
+/// for these; nothing went out. What is found and what stands behind a delivery are part of the
+/// report in the full form.
 pub fn verify_with_notes<C: Checks, W: Write, N: Write>(
     alloc: Global,
     inputs: &Inputs,
@@ -48,41 +45,6 @@ pub fn verify_with_notes<C: Checks, W: Write, N: Write>(
     ensures memory { IsErrOf result RunFault.OutOfMemory → out.new ≡ out.old }
     ensures faults { IfErr result IsOutputFault }
 {
-    let told = verify_told(alloc, inputs, checks)?;
-    let text = text_in(alloc, inputs, &told, checks, form)?;
-    let status = status_of(&told.verdict);
-    let outcome = put(out, &Output { text, status });
-    if outcome.is_ok() && form.is_report() {
-        note(alloc, inputs, &told, checks, notes);
-    }
-    outcome
-}
-
-/// Writes the notes on what was told, as far as memory suffices and they can be written.
-pub(crate) fn note<C: Checks, N: Write>(
-    alloc: Global,
-    inputs: &Inputs,
-    told: &Told,
-    checks: &C,
-    notes: &mut N,
-)
-    requires { IsTold (C.panel checks.now) inputs.now told.now }
-{
-    if let Ok(text) = notes_text(alloc, inputs, told, checks) {
-        let _ = notes.write_all(text.as_slice());
-    }
-}
-
-/// The lines of the notes on what was told.
-fn notes_text<C: Checks>(
-    alloc: Global,
-    inputs: &Inputs,
-    told: &Told,
-    checks: &C,
-) -> Result<Vec<u8>, AllocError>
-    requires { IsTold (C.panel checks.now) inputs.now told.now }
-{
-    let mut lines = Notes::of(alloc, inputs, told, checks)?.lines(alloc)?;
-    add_found(&mut lines, told)?;
-    lines.into_text()
+    let answer = answer_to(alloc, inputs, checks, form)?;
+    write_answer(alloc, inputs, answer, checks, out, notes)
 }

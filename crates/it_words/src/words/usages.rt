@@ -39,8 +39,8 @@ pub(super) const VERIFY: Usage = Usage {
                        is found and noted.
       --strict         Refuses what would be accepted, with status 2, where
                        something is found in the policy, in the layout or in a
-                       sublayout, as itv check finds it, or a delivered file is
-                       tied to no step.
+                       sublayout, as itv check finds it, an expectation is
+                       unused, or a delivered file is tied to no step.
       --provenance F   The provenance, one envelope a line.
       --records DIR    The folder of the records of inspections, link bodies
                        without envelopes.

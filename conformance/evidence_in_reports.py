@@ -1,0 +1,73 @@
+"""Whether the evidence in a report fits the documents of a case and the rest of the report.
+
+This does not say what counts: it looks up, in the documents alone, what the evidence names.
+"""
+
+import base64
+import hashlib
+import json
+
+from on_disk import bytes_of
+
+
+def payload_of(envelope):
+    """The document in an envelope."""
+    return json.loads(base64.b64decode(json.loads(envelope)["payload"]))
+
+
+def is_rising(texts):
+    """Whether texts are in the order of their bytes, each once."""
+    return texts == sorted(set(texts), key=str.encode)
+
+
+def faults_of_documents(case, evidence):
+    """What is told of the moment and of the policy and the layout, and does not fit them."""
+    layout = bytes_of(case["layout"])
+    wanted = {"moment": case["at"], "policy": hashlib.sha256(bytes_of(case["policy"])).hexdigest(),
+              "layout": hashlib.sha256(layout).hexdigest(),
+              "expires": payload_of(layout)["expires"]}
+    return [name for name, one in wanted.items() if evidence[name] != one]
+
+
+def faults_of_step(case, step, told, shown):
+    """What is told of a step of the layout, and does not fit it and the links."""
+    names = {bytes_of(name).decode(errors="replace") for name, _ in case["links"]["files"]}
+    ids = [key["keyid"] for key in told["keys"]]
+    if told["name"] != step["name"] or told["name"] != shown["name"]:
+        yield "name of a step"
+    if len(ids) < shown["keys"] or not is_rising(ids) or not set(ids) <= set(step["pubkeys"]):
+        yield f"keys of {step['name']}"
+    for key in told["keys"]:
+        if not key["files"] or not is_rising(key["files"]) or not set(key["files"]) <= names:
+            yield f"files of {key['keyid']}"
+
+
+def digests_of(case):
+    """The digests of the delivered files, by their paths."""
+    lines = bytes_of(case["sums"]).split(b"\n")
+    return {line[66:].decode(): line[:64].decode().lower() for line in lines if line}
+
+
+def faults_of_file(case, told, digests):
+    """What is told of a delivered file, and does not fit its digests and its provenance."""
+    line = bytes_of(case["provenance"]).split(b"\n")[told["line"] - 1]
+    statement = payload_of(line)
+    named = [subject["digest"].get("sha256", "").lower() for subject in statement["subject"]
+             if subject.get("digest")]
+    if told["digests"] != {"sha256": digests[told["path"]]} or digests[told["path"]] not in named:
+        yield f"digests of {told['path']}"
+    if statement["predicate"]["runDetails"]["builder"]["id"] != told["builder"]:
+        yield f"builder of {told['path']}"
+
+
+def faults(case, report):
+    """What is told in the evidence of the report of an accepted case, and does not fit."""
+    evidence, steps = report["evidence"], payload_of(bytes_of(case["layout"]))["steps"]
+    found = faults_of_documents(case, evidence)
+    for told in zip(steps, evidence["steps"], report["steps"], strict=True):
+        found += faults_of_step(case, *told)
+    digests = digests_of(case)
+    for told, path in zip(evidence["files"], report["files"], strict=True):
+        found += [] if told["path"] == path else ["path of a file"]
+        found += faults_of_file(case, told, digests)
+    return found

@@ -1,6 +1,0 @@
--- Decimal digits in pairs.
-use Rattle.std.specs.Prelude.{◌≡◌, ℕ, ◌+◌, ◌/◌, ◌%◌, ◌<◌}
-
--- these two bytes are the digits of the number
-abbrev pub AreTwoDigits : ℕ → ℕ → ℕ → Type 0
-AreTwoDigits tens ones n = (n < 100) × (tens ≡ 48 + n / 10) × (ones ≡ 48 + n % 10)

@@ -1,0 +1,4 @@
+pub mod Identity
+pub mod KeyObject
+pub mod Laws
+pub mod Name

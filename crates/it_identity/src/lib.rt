@@ -1,0 +1,11 @@
+//! Identities: who signed, as a certificate names it, and who says so; which of them a key object
+//! describes, and their numbers. No command uses them yet.
+#![tactic(auto)]
+
+mod identity;
+mod key_object;
+pub mod laws;
+mod name;
+
+pub use identity::Identity;
+pub use name::{IdentityName, identity_name};

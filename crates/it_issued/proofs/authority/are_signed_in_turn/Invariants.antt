@@ -1,0 +1,6 @@
+use Rattle.std.proofs.Common.{◌↔◌, ◌-◌, drop}
+use Rattle.it_issued.proofs.Turning.{InTurn}
+use Rattle.it_issued.proofs.authority.are_signed_in_turn.Given as goal
+
+abbrev pub invariant-loop-place : goal.invariant-loop-place
+invariant-loop-place l = InTurn l.certificates ↔ InTurn (drop (l.place - 1) l.certificates)

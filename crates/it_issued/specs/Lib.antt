@@ -1,0 +1,3 @@
+pub mod Signature
+pub mod Issued
+pub mod Logged

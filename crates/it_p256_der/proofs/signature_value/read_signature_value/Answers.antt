@@ -1,4 +1,0 @@
-use Rattle.it_p256_der.proofs.signature_value.read_signature_value.Goals as goal
-
-pub returns-in_default : goal.returns-in_default
-returns-in_default c = λ r s hr hs v. c.in_default.ensures v.middle r hr v.first

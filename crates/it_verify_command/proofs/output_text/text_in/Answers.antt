@@ -1,0 +1,10 @@
+use Rattle.std.proofs.Common.{subst}
+use Rattle.it_verify.specs.Verdict.{OnAccepted}
+use Rattle.it_verify_command.specs.inside.Answer.{IsBehindIn}
+use Rattle.it_verify_command.proofs.output_text.text_in.Goals as goal
+
+pub full_text-requires-clause-behind : goal.full_text-requires-clause-behind
+full_text-requires-clause-behind g c =
+    let panel = g.C.Checks.panel c.args.checks.now in
+    subst (λ form. OnAccepted c.args.told.now.verdict
+    (IsBehindIn form panel c.args.inputs.now c.args.behind)) c.in-Full.is c.requires.behind

@@ -1,0 +1,41 @@
+-- What the answer to what was handed in is made of.
+use Rattle.std.specs.Prelude.{◌≡◌, MatchOption, Option, ⊤}
+use Rattle.it_dsse.specs.Panel.{Panel}
+use Rattle.it_evidence.specs.Evidence.{IsBehind}
+use Rattle.it_json_report.specs.declared.evidence.Evidence.{Evidence}
+use Rattle.it_outcome.specs.declared.outcome.Status.TheVariants.{Good}
+use Rattle.it_strict.specs.Found.{IsNothing}
+use Rattle.it_verify.specs.VerifyOutput.{status_of}
+use Rattle.it_verify.specs.declared.inputs.Inputs.{Inputs}
+use Rattle.it_notes.specs.Known.{IsTold}
+use Rattle.it_verify_command.specs.FullOutput.{IsTextIn}
+use Rattle.it_verify_command.specs.Strictly.{IsFoundIn, StandsStrictly}
+use Rattle.it_verify_command.specs.declared.answer.Answer.{Answer}
+use Rattle.it_verify_command.specs.declared.output_form.OutputForm.{OutputForm}
+use Rattle.it_verify_command.specs.declared.output_form.OutputForm.TheVariants.{Full, Report}
+use Rattle.it_verify_command.specs.declared.strict_answer.StrictAnswer.{StrictAnswer}
+use Rattle.it_verify_command.specs.declared.strict_answer.StrictAnswer.TheVariants.{Against}
+use Rattle.it_verify_command.specs.declared.strict_answer.StrictAnswer.TheVariants.{Stands}
+
+-- this stands behind a delivery, in the form that has it
+abbrev pub IsBehindIn : OutputForm → Panel → Inputs → Option Evidence → Type 0
+IsBehindIn (Report form) panel inputs evidence = ⊤
+IsBehindIn Full panel inputs evidence = MatchOption evidence ⊥ (IsBehind panel inputs)
+
+-- the output is that on the verdict which was told, in this form
+pub record IsAnswer (form : OutputForm) (panel : Panel) (inputs : Inputs) (answer : Answer)
+    : Type 0 where
+  pub told : IsTold panel inputs answer.told
+  pub text : IsTextIn form panel inputs answer.told.verdict answer.output.text.items
+  pub status : answer.output.status ≡ status_of answer.told.verdict
+
+-- the same, and nothing is found in what is accepted
+pub record StandsAs (form : OutputForm) (panel : Panel) (inputs : Inputs) (answer : Answer)
+    : Type 0 where
+  pub is_answer : IsAnswer form panel inputs answer
+  pub stands : answer.output.status ≡ Good → StandsStrictly panel inputs
+
+-- either that, or something is found in what would be accepted
+abbrev pub IsStrictAnswer : OutputForm → Panel → Inputs → StrictAnswer → Type 0
+IsStrictAnswer form panel inputs (Stands answer) = StandsAs form panel inputs answer
+IsStrictAnswer form panel inputs (Against found) = IsFoundIn panel inputs found × ¬ IsNothing found

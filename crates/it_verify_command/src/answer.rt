@@ -1,0 +1,122 @@
+//! The answer to what was handed in: an output, and what was told before it.
+ghost use Rattle.std.specs.Prelude.{◌≡◌, ◌≤◌, IfOk, IfSome};
+ghost use Rattle.it_report.specs.declared.verdict.Verdict.TheVariants.{Refused};
+ghost use Rattle.it_verify.specs.Grounds.{IsFound};
+ghost use Rattle.it_verify.specs.Made.{IsMadeBy};
+ghost use Rattle.it_verify.specs.RefusedFor.{RefusedFor};
+ghost use Rattle.it_verify.specs.Verdict.{OnAccepted};
+ghost use Rattle.it_notes.specs.FoundInDocuments.{AreFoundInDocuments};
+ghost use Rattle.it_notes.specs.Known.{IsTold};
+ghost use Rattle.it_verify_command.specs.inside.Answer.{IsAnswer, IsBehindIn};
+
+use crate::behind::behind_in;
+use crate::output_form::OutputForm;
+use crate::output_text::{status_of, text_in};
+use it_dsse::checks::Checks;
+use it_json_report::evidence::Evidence;
+use it_notes::found_in_documents::{FoundInDocuments, found_in_documents};
+use it_notes::known::{Told, known_of, made_told};
+use it_outcome::output::Output;
+use it_report::refusal::Refusal;
+use it_report::verdict::Verdict;
+use it_verify::grounds::{Found, Grounds, Outcome};
+use it_verify::inputs::Inputs;
+use it_verify::verify_grounds;
+use std::alloc::{AllocError, Global};
+
+/// An output, and what was told before it.
+#[derive(Drop)]
+pub(crate) struct Answer<'a> {
+    /// The verdict, and what was found before it.
+    pub(crate) told: Told<'a>,
+    /// The form of the output.
+    pub(crate) form: OutputForm,
+    /// The output on the verdict, and the status that goes with it.
+    pub(crate) output: Output,
+}
+
+/// The answer to delivered files, in this form.
+pub(crate) fn answer_to<'a, C: Checks>(
+    alloc: Global,
+    inputs: &'a Inputs,
+    checks: &C,
+    form: OutputForm,
+) -> Result<Answer<'a>, AllocError>
+    requires { inputs.now.depth ≤ 8 }
+    ensures { IfOk result (IsAnswer form (C.panel checks.now) inputs.now) }
+{
+    match verify_grounds(alloc, inputs, checks)? {
+        Outcome::Made(grounds) => {
+            let found = found_in_documents(alloc, inputs, &grounds, checks).ok();
+            made_answer(alloc, inputs, grounds, found, checks, form)
+        }
+        Outcome::Refused { refusal, found } => {
+            refused_answer(alloc, inputs, refusal, found, checks, form)
+        }
+    }
+}
+
+/// The answer that accepts on these grounds, where this is found in the documents, or memory was
+/// refused for that.
+pub(crate) fn made_answer<'a, C: Checks>(
+    alloc: Global,
+    inputs: &'a Inputs,
+    grounds: Grounds,
+    found: Option<FoundInDocuments>,
+    checks: &C,
+    form: OutputForm,
+) -> Result<Answer<'a>, AllocError>
+    requires made { IsMadeBy (C.panel checks.now) inputs.now grounds.documents grounds.evidence }
+    requires found { IfSome found (AreFoundInDocuments (C.panel checks.now) inputs.now) }
+    ensures { IfOk result (IsAnswer form (C.panel checks.now) inputs.now) }
+{
+    let behind = behind_in(alloc, inputs, &grounds, checks, form)?;
+    let told = made_told(alloc, inputs, grounds, found)?;
+    answer_on(alloc, inputs, told, behind, checks, form)
+}
+
+/// The answer that refuses, for the first thing that does not hold and after what was found.
+pub(crate) fn refused_answer<'a, C: Checks>(
+    alloc: Global,
+    inputs: &'a Inputs,
+    refusal: Refusal,
+    found: Option<Found>,
+    checks: &C,
+    form: OutputForm,
+) -> Result<Answer<'a>, AllocError>
+    requires refused { RefusedFor (C.panel checks.now) inputs.now refusal }
+    requires found { IfSome found (IsFound (C.panel checks.now) inputs.now) }
+    ensures answer { IfOk result (IsAnswer form (C.panel checks.now) inputs.now) }
+    ensures refuses { IfOk result (λ answer. answer.told.verdict ≡ Refused refusal) }
+{
+    let told = Told {
+        verdict: Verdict::Refused(refusal),
+        known: known_of(inputs, found),
+        found: None,
+    };
+    answer_on(alloc, inputs, told, None, checks, form)
+}
+
+/// The answer on what was told, in this form, with what stands behind it.
+fn answer_on<'a, C: Checks>(
+    alloc: Global,
+    inputs: &Inputs,
+    told: Told<'a>,
+    behind: Option<Evidence>,
+    checks: &C,
+    form: OutputForm,
+) -> Result<Answer<'a>, AllocError>
+    requires told { IsTold (C.panel checks.now) inputs.now told }
+    requires behind { OnAccepted told.verdict
+        (IsBehindIn form (C.panel checks.now) inputs.now behind) }
+    ensures answer { IfOk result (IsAnswer form (C.panel checks.now) inputs.now) }
+    ensures verdict { IfOk result (λ answer. answer.told.verdict ≡ told.entry.verdict) }
+{
+    let text = text_in(alloc, inputs, &told, behind, checks, form)?;
+    let status = status_of(&told.verdict);
+    Ok(Answer {
+        told,
+        form,
+        output: Output { text, status },
+    })
+}

@@ -1,0 +1,85 @@
+//! The answer of a strict verification.
+ghost use Rattle.std.specs.Prelude.{◌≤◌, IfOk};
+ghost use Rattle.it_strict.specs.Found.{AreFound};
+ghost use Rattle.it_verify.specs.Made.{IsMadeBy};
+ghost use Rattle.it_verify_command.specs.Strictly.{IsFoundIn};
+ghost use Rattle.it_verify_command.specs.inside.Answer.{IsStrictAnswer};
+
+use crate::answer::{Answer, made_answer, refused_answer};
+use crate::output_form::OutputForm;
+use it_dsse::checks::Checks;
+use it_notes::found_in_documents::FoundInDocuments;
+use it_strict::found::{Found, found_in};
+use it_verify::grounds::{Grounds, Outcome};
+use it_verify::inputs::Inputs;
+use it_verify::verify_grounds;
+use std::alloc::{AllocError, Global};
+
+/// What a strict verification comes to.
+#[derive(Drop)]
+pub(crate) enum StrictAnswer<'a> {
+    /// The verdict refuses, or it accepts and nothing is found.
+    Stands(Answer<'a>),
+    /// The verdict would accept, and this is found.
+    Against(Found),
+}
+
+/// The answer to delivered files, in this form, or what is found in what would be accepted.
+pub(crate) fn strict_answer<'a, C: Checks>(
+    alloc: Global,
+    inputs: &'a Inputs,
+    checks: &C,
+    form: OutputForm,
+) -> Result<StrictAnswer<'a>, AllocError>
+    requires { inputs.now.depth ≤ 8 }
+    ensures { IfOk result (IsStrictAnswer form (C.panel checks.now) inputs.now) }
+{
+    match verify_grounds(alloc, inputs, checks)? {
+        Outcome::Made(grounds) => strict_made(alloc, inputs, grounds, checks, form),
+        Outcome::Refused { refusal, found } => {
+            let answer = refused_answer(alloc, inputs, refusal, found, checks, form)?;
+            Ok(StrictAnswer::Stands(answer))
+        }
+    }
+}
+
+/// The same of delivered files that were made as the owners prescribed.
+fn strict_made<'a, C: Checks>(
+    alloc: Global,
+    inputs: &'a Inputs,
+    grounds: Grounds,
+    checks: &C,
+    form: OutputForm,
+) -> Result<StrictAnswer<'a>, AllocError>
+    requires shallow { inputs.now.depth ≤ 8 }
+    requires made { IsMadeBy (C.panel checks.now) inputs.now grounds.documents grounds.evidence }
+    ensures { IfOk result (IsStrictAnswer form (C.panel checks.now) inputs.now) }
+{
+    let found = found_in(alloc, inputs, &grounds, checks)?;
+    judged(alloc, inputs, grounds, found, checks, form)
+}
+
+/// The same, where this is found.
+fn judged<'a, C: Checks>(
+    alloc: Global,
+    inputs: &'a Inputs,
+    grounds: Grounds,
+    found: Found,
+    checks: &C,
+    form: OutputForm,
+) -> Result<StrictAnswer<'a>, AllocError>
+    requires made { IsMadeBy (C.panel checks.now) inputs.now grounds.documents grounds.evidence }
+    requires found { AreFound (C.panel checks.now) inputs.now grounds.documents grounds.evidence
+        found }
+    ensures { IfOk result (IsStrictAnswer form (C.panel checks.now) inputs.now) }
+{
+    if !found.is_nothing() {
+        return Ok(StrictAnswer::Against(found));
+    }
+    let nothing = FoundInDocuments {
+        of_documents: Vec::new(alloc),
+        below: found.of_sublayouts.into_vec(),
+    };
+    let answer = made_answer(alloc, inputs, grounds, Some(nothing), checks, form)?;
+    Ok(StrictAnswer::Stands(answer))
+}

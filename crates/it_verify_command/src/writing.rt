@@ -1,0 +1,79 @@
+//! The writing of an answer, and of what is found against a delivery.
+ghost use Rattle.std.specs.Prelude.{◌≡◌, IfErr, IfOk, OnOk};
+ghost use Rattle.std.specs.Io.KnownBytes.{Appends};
+ghost use Rattle.it_base.specs.Writing.{AppendsBeginning};
+ghost use Rattle.it_strict.specs.FoundText.{found_text};
+ghost use Rattle.it_notes.specs.Known.{IsTold};
+
+use crate::answer::Answer;
+use it_base::writing::write_all_of;
+use it_dsse::checks::Checks;
+use it_notes::found_in_documents::add_found;
+use it_notes::known::Told;
+use it_notes::notes::Notes;
+use it_outcome::output::put;
+use it_outcome::{RunFault, Status};
+use it_strict::found::Found;
+use it_verify::inputs::Inputs;
+use std::alloc::{AllocError, Global};
+use std::io::Write;
+
+/// Writes the output of an answer, and then, where that is the report alone, the notes on it.
+pub(crate) fn write_answer<C: Checks, W: Write, N: Write>(
+    alloc: Global,
+    inputs: &Inputs,
+    answer: Answer,
+    checks: &C,
+    out: &mut W,
+    notes: &mut N,
+) -> Result<Status, RunFault>
+    requires { IsTold (C.panel checks.now) inputs.now answer.told }
+    ensures ok { IfOk result (λ status. (status ≡ answer.entry.output.status)
+        × Appends (W.contents out.old) (W.contents out.new) answer.entry.output.text.items) }
+    ensures err { IfErr result (λ fault. (fault ≡ RunFault.Write) × AppendsBeginning
+        (W.contents out.old) (W.contents out.new) answer.entry.output.text.items) }
+{
+    let outcome = put(out, &answer.output);
+    if outcome.is_ok() && answer.form.is_report() {
+        note(alloc, inputs, &answer.told, checks, notes);
+    }
+    outcome
+}
+
+/// Writes the notes on what was told, as far as memory suffices and they can be written.
+fn note<C: Checks, N: Write>(alloc: Global, inputs: &Inputs, told: &Told, checks: &C, notes: &mut N)
+    requires { IsTold (C.panel checks.now) inputs.now told.now }
+{
+    if let Ok(text) = notes_text(alloc, inputs, told, checks) {
+        let _ = notes.write_all(text.as_slice());
+    }
+}
+
+/// The lines of the notes on what was told.
+fn notes_text<C: Checks>(
+    alloc: Global,
+    inputs: &Inputs,
+    told: &Told,
+    checks: &C,
+) -> Result<Vec<u8>, AllocError>
+    requires { IsTold (C.panel checks.now) inputs.now told.now }
+{
+    let mut lines = Notes::of(alloc, inputs, told, checks)?.lines(alloc)?;
+    add_found(&mut lines, told)?;
+    lines.into_text()
+}
+
+/// Writes the lines of what is found, as far as they can be written.
+pub(crate) fn write_found<N: Write>(
+    alloc: Global,
+    found: &Found,
+    notes: &mut N,
+) -> Result<(), AllocError>
+    ensures { OnOk result (AppendsBeginning (N.contents notes.old) (N.contents notes.new)
+        (found_text found.now)) }
+{
+    let mut text = Vec::new(alloc);
+    found.push_lines(&mut text)?;
+    let _ = write_all_of(notes, text.as_slice());
+    Ok(())
+}

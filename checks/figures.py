@@ -16,13 +16,13 @@ import tree
 
 CRATES = tree.TOP / "crates"
 # The folders of tables: those of the programs that `rt ci` runs, and that of conformance/run.
-TABLES = {name: CRATES / name / "data" for name in ("it_values", "it_rows", "itv_cases", "itv_runs",
-                                                "it_vectors")}
+TABLES = {name: CRATES / name / "data" for name in ("it_values", "it_sigstore_values", "it_rows",
+                                                "itv_cases", "itv_runs", "it_vectors")}
 TABLES["conformance"] = tree.TOP / "conformance" / "data"
 OF_CASES, OF_RUNS = ("itv_cases", "conformance"), ("itv_runs", "conformance")
 NUMBER = r"(?P<figure>\d[\d,]*)"
 # The folders of tables of rows, with where they are.
-OF_ROWS = {"values": ["it_values"], "reports": ["it_rows"], "commands": ["it_rows"],
+OF_ROWS = {"values": ["it_values"], "sigstore": ["it_sigstore_values"], "reports": ["it_rows"], "commands": ["it_rows"],
            "verify": ["itv_cases"], "runs": OF_RUNS}
 # The name of each figure, with a page that gives it and the words around it there.
 PLACES = [
@@ -37,6 +37,7 @@ PLACES = [
     ("worked", "docs/testing.md", "whole verifications, {} written by hand"),
     ("random", "docs/testing.md", "by hand and {} changed at random"),
     ("rows of values", "docs/testing.md", "envelopes, rings and documents, in {} rows"),
+    ("rows of sigstore", "docs/testing.md", "identities, and trusted roots, in {} rows"),
     ("rows of verify", "docs/testing.md", "that the cases cannot show, in {} rows"),
     ("rows of commands", "docs/testing.md", "and the exit status, in {} rows"),
     ("rows of reports", "docs/testing.md", "reports, most as JSON, in {} rows"),

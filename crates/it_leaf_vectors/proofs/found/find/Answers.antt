@@ -1,0 +1,54 @@
+use Rattle.std.proofs.Common.{map, drop, subst, List}
+use Rattle.it_certificate.specs.Certificate.{Facts, facts_of}
+use Rattle.it_issued.specs.Issued.{IsUsable}
+use Rattle.it_issued.proofs.Issuing.{first_facts, first_read}
+use Rattle.it_leaf_vectors.proofs.Finding.{issues_is, no_issuer, no_leaf, promises_is, unusable}
+use Rattle.it_leaf_vectors.proofs.found.find.Goals as goal
+
+pub returns-in_default : goal.returns-in_default
+returns-in_default c = unusable c.args.vector.now (rw c.in_default.is at c.in_ok-authority.ensures)
+
+pub returns-in_default-2 : goal.returns-in_default-2
+returns-in_default-2 c =
+    no_leaf c.args.vector.now (rw (c.in_default-2.is, c.as_slice-bytes.ensures) at c.in_ok-leaf.ensures)
+
+pub returns-in_default-first : goal.returns-in_default-first
+returns-in_default-first c =
+    let read = rw c.in-Some.is at c.in_ok-authority.ensures in
+    no_issuer c.args.vector.now c.in-Some.authority.certificates.items
+    (rw c.as_slice-certificates.ensures.value at c.in_default-first.ensures.value) read.0
+
+pub is_issued-requires : goal.is_issued-requires
+is_issued-requires c =
+    let read = rw c.in-Some.is at c.in_ok-authority.ensures in
+    let leaf = rw c.in-Some-2.is at c.in_ok-leaf.ensures in
+    record {
+      authority_read = read.1;
+      leaf_read = record { bytes = c.as_slice-bytes.result.now; certificate = leaf.0; signed = leaf.1 };
+    }
+
+pub is_logged-requires : goal.is_logged-requires
+is_logged-requires c =
+    let read = rw c.in-Some.is at c.in_ok-authority.ensures in
+    let leaf = rw c.in-Some-2.is at c.in_ok-leaf.ensures in
+    let first = rw c.as_slice-certificates.ensures.value at c.in-Some-first.ensures.value in
+    record {
+      issuer_read = first_read c.in-Some.authority.certificates.items c.in-Some-first.issuer.now read.1 first;
+      leaf_read = record { bytes = c.as_slice-bytes.result.now; certificate = leaf.0; signed = leaf.1 };
+    }
+
+pub returns : goal.returns
+returns c =
+    let v = c.args.vector.now in
+    let xs = c.in-Some.authority.certificates.items in
+    let issuer = c.in-Some-first.issuer.now in
+    let read = rw c.in-Some.is at c.in_ok-authority.ensures in
+    let leaf = rw (c.in-Some-2.is, c.as_slice-bytes.ensures) at c.in_ok-leaf.ensures in
+    let first = rw c.as_slice-certificates.ensures.value at c.in-Some-first.ensures.value in
+    let named = subst (λ (cs : List Facts). IsUsable c.args.vector.now.authority cs)
+    (first_facts c.in-Some.authority.certificates.items c.in-Some-first.issuer.now first) read.0 in (
+      issues_is v (map facts_of xs) (facts_of c.in-Some-2.leaf) c.in-Some.authority.window c.in_ok-issued.issued read.0 leaf.0
+          read.2 c.in_ok-issued.ensures,
+      promises_is v (facts_of issuer) (map facts_of (drop 1 xs)) (facts_of c.in-Some-2.leaf) c.in_ok-logged.logged named leaf.0
+          (rw c.as_slice-logs.ensures at c.in_ok-logged.ensures),
+    )

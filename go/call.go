@@ -12,8 +12,9 @@ import (
 	"unsafe"
 )
 
-// firstRoom is how many bytes of room each of the texts of a call gets at first.
-const firstRoom = 65536
+// leastRoom is how many bytes of room each of the texts of a call gets at first. The output gets as
+// many more as the files have, which are seldom too few: what is written of a file is in them too.
+const leastRoom = 65536
 
 // nothing is where bytes begin of which there are none: C is given no null pointer.
 var nothing [1]C.size_t
@@ -59,7 +60,7 @@ func addEnded(bytes *[]byte, text, what string) error {
 // run runs the command, and returns its status, its output and its notes. Where one of these has no
 // room, it runs the command again, which gives the same.
 func (given *handed) run() (status int, output, notes []byte) {
-	output, notes = make([]byte, firstRoom), make([]byte, firstRoom)
+	output, notes = make([]byte, leastRoom+len(given.contents)), make([]byte, leastRoom)
 	for {
 		var lengths C.struct_itv_lengths
 		status = int(C.itv_run(

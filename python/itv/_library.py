@@ -10,7 +10,8 @@ from ._errors import Found, ItvError, NoMemory, Stopped
 
 # Its name on systems where it is installed. The environment variable ITV_LIBRARY names another.
 SONAME = "libitv.so.1"
-# How many bytes of room the texts of a run get at first.
+# How many bytes of room the texts of a run get at first. The output gets as many more as the files
+# have, which are seldom too few: what is written of a file is in them too.
 ROOM = 65536
 GOOD, REFUSED, STOPPED, NO_MEMORY = range(4)
 # Why a strict verification stops that found something.
@@ -78,7 +79,7 @@ def _called(words, files):
     """The status, the output and the notes of a command."""
     paths, contents = _ended(files, "path"), b"".join(files.values())
     sizes = (ctypes.c_size_t * max(len(files), 1))(*map(len, files.values()))
-    words, room = _ended(words, "word"), (ROOM, ROOM)
+    words, room = _ended(words, "word"), (ROOM + len(contents), ROOM)
     while True:
         output, notes = map(ctypes.create_string_buffer, room)
         lengths = _Lengths()
@@ -86,7 +87,8 @@ def _called(words, files):
                                   contents, len(contents), output, room[0], notes, room[1],
                                   ctypes.byref(lengths))
         if lengths.output <= room[0] and lengths.notes <= room[1]:
-            return status, output.raw[:lengths.output], notes.raw[:lengths.notes]
+            return (status, ctypes.string_at(output, lengths.output),
+                    ctypes.string_at(notes, lengths.notes))
         room = max(lengths.output, 1), max(lengths.notes, 1)
 
 

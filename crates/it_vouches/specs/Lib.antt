@@ -1,0 +1,5 @@
+pub mod Claim
+pub mod Logged
+pub mod Laws
+pub mod Vouches
+pub mod inside

@@ -1,0 +1,2 @@
+pub mod Attested
+pub mod Usable

@@ -1,1 +1,6 @@
-pub mod Any
+pub mod Loops
+pub mod Usable
+pub mod Attesting
+pub mod Claiming
+pub mod SameLogged
+pub mod Vouching

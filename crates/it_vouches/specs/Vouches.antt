@@ -19,10 +19,12 @@ use Rattle.it_trust_root.specs.declared.root.TrustedRoot.{TrustedRoot}
 use Rattle.it_vouches.specs.Claim.{Claims, needs_proof}
 use Rattle.it_vouches.specs.Logged.{IsAbout, VouchesBy}
 
--- an authority of the root, whose certificates are these, issued the leaf at the moment, in
--- seconds, and a certificate log of the root promised it to log the leaf
-pub record IsAttested (root : TrustedRoot) (authority : Authority) (issuer : Facts)
-    (others : List Facts) (leaf : Facts) (moment : ℕ) : Type 0 where
+-- at the moment, in seconds, an authority of the root issued the leaf, and a certificate log of the
+-- root promised it to log the leaf
+pub record IsAttested (root : TrustedRoot) (leaf : Facts) (moment : ℕ) : Type 0 where
+  pub authority : Authority
+  pub issuer : Facts
+  pub others : List Facts
   pub is_authority : Contains root.authorities authority
   pub usable : IsUsable authority (issuer ∷ others)
   pub issued : IsIssued (issuer ∷ others) authority.window leaf moment
@@ -41,15 +43,12 @@ pub record Vouches (root : TrustedRoot) (bundle : SigstoreBundle) (identity : Id
   pub leaf : Facts
   pub logged : Logged
   pub entry : LogEntry
-  pub authority : Authority
-  pub issuer : Facts
-  pub others : List Facts
   pub claims : Claims bundle signature certificate entries
   pub leaf_is : LeafOf certificate leaf identity.name identity.issuer
   pub is_identity : IsIdentity identity
   pub is_entry : Contains entries (Entry entry)
   pub about : IsAbout bundle.envelope signature certificate logged
   pub by_log : Any (VouchesBy (needs_proof bundle.version) entry logged) root.logs
-  pub attested : IsAttested root authority issuer others leaf entry.time
+  pub attested : IsAttested root leaf entry.time
   pub signed : IsByP256 (key_info leaf.curve leaf.coordinates) (message_of bundle.envelope)
       signature

@@ -84,5 +84,5 @@ fn is_proved(
     )? {
         return Ok(false);
     }
-    trust.is_attested_at(alloc, question.leaf, entry.time)
+    trust.attests(alloc, question.leaf, entry.time)
 }

@@ -2,7 +2,8 @@
 ghost use Rattle.std.specs.Prelude.{◌≡◌, ◌↔◌, Any, IfOk, IsTrue, All};
 ghost use Rattle.it_certificate.specs.Certificate.{facts_of};
 ghost use Rattle.it_certificate_log.specs.Bare.{WasRead};
-ghost use Rattle.it_vouches.specs.inside.Attested.{IsAttestedAt, IsIssuedBy};
+ghost use Rattle.it_vouches.specs.Vouches.{IsAttested};
+ghost use Rattle.it_vouches.specs.inside.Attested.{IsIssuedBy};
 ghost use Rattle.it_vouches.specs.inside.Usable.{AreUsable};
 
 use it_base::optional::push_some;
@@ -58,7 +59,7 @@ impl<'r> Trust<'r> {
     /// # Errors
     ///
     /// `AllocError` where memory was refused.
-    pub(crate) fn is_attested_at(
+    pub(crate) fn attests(
         &self,
         alloc: Global,
         leaf: &Certificate<'_>,
@@ -66,7 +67,7 @@ impl<'r> Trust<'r> {
     ) -> Result<bool, AllocError>
         requires { WasRead leaf.now }
         ensures { IfOk result (λ is. IsTrue is
-            ↔ IsAttestedAt self.now (facts_of leaf.now) moment) }
+            ↔ IsAttested self.now (facts_of leaf.now) moment) }
     {
         let logs = self.root.certificate_logs.as_slice();
         is_issued_by_one(alloc, self.authorities.as_slice(), logs, leaf, moment)

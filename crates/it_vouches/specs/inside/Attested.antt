@@ -1,5 +1,5 @@
 -- What vouches for a leaf, step by step. Nothing here is trusted.
-use Rattle.std.specs.Prelude.{ℕ, Bool, List, ◌∷◌, Any, map}
+use Rattle.std.specs.Prelude.{◌≡◌, ℕ, Bool, List, ◌∷◌, Any, map}
 use Rattle.it_bundle.specs.declared.listed_entry.ListedEntry.{ListedEntry}
 use Rattle.it_bundle.specs.declared.listed_entry.ListedEntry.TheVariants.{Entry, Unreadable}
 use Rattle.it_certificate.specs.Certificate.{Facts, facts_of}
@@ -8,12 +8,10 @@ use Rattle.it_issued.specs.Logged.{IsLogged}
 use Rattle.it_issued.specs.declared.authority.UsableAuthority.{UsableAuthority}
 use Rattle.it_log_entry.specs.declared.entry.LogEntry.{LogEntry}
 use Rattle.it_log_entry.specs.declared.logged.Logged.{Logged}
-use Rattle.it_trust_root.specs.declared.authority.Authority.{Authority}
 use Rattle.it_trust_root.specs.declared.root.TrustedRoot.{TrustedRoot}
 use Rattle.it_trust_root.specs.declared.root_log.RootLog.{RootLog}
 use Rattle.it_vouches.specs.Logged.{VouchesBy}
 use Rattle.it_vouches.specs.Vouches.{IsAttested}
-use Rattle.std.specs.Prelude.{◌≡◌}
 
 -- an authority that can be used issued the leaf at the moment, and was promised that it is logged
 pub record IsIssuedBy (logs : List RootLog) (leaf : Facts) (moment : ℕ)
@@ -24,16 +22,11 @@ pub record IsIssuedBy (logs : List RootLog) (leaf : Facts) (moment : ℕ)
   pub issued : IsIssued (issuer ∷ others) authority.window leaf moment
   pub promised : IsLogged logs issuer leaf
 
--- an authority of the root attests the leaf at the moment
-abbrev pub IsAttestedAt : TrustedRoot → Facts → ℕ → Type 0
-IsAttestedAt root leaf moment = (authority : Authority) × ((issuer : Facts) × ((others : List Facts)
-    × IsAttested root authority issuer others leaf moment))
-
 -- a log vouches by the entry, and the leaf is attested at its time
 pub record IsProved (root : TrustedRoot) (needs : Bool) (logged : Logged) (leaf : Facts)
     (entry : LogEntry) : Type 0 where
   pub by_log : Any (VouchesBy needs entry logged) root.logs
-  pub attested : IsAttestedAt root leaf entry.time
+  pub attested : IsAttested root leaf entry.time
 
 abbrev pub IsProvedBy : TrustedRoot → Bool → Logged → Facts → ListedEntry → Type 0
 IsProvedBy root needs logged leaf (Entry entry) = IsProved root needs logged leaf entry

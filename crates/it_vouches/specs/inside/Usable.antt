@@ -15,10 +15,18 @@ pub record IsRead (authority : Authority) (usable : UsableAuthority) : Type 0 wh
 abbrev pub CannotBeUsed : Authority → Type 0
 CannotBeUsed authority = (certificates : List Facts) → ¬ IsUsable authority certificates
 
+-- the first of some is an authority that can be used, and the rest are as they are to be
+pub record BeginsWith (authority : Authority) (AreRest : List UsableAuthority → Type 0)
+    (usable : List UsableAuthority) : Type 0 where
+  pub first : UsableAuthority
+  pub rest : List UsableAuthority
+  pub usable_are : usable ≡ first ∷ rest
+  pub first_is : IsRead authority first
+  pub rest_are : AreRest rest
+
 -- those that can be used, in their order
 abbrev pub AreUsable : List Authority → List UsableAuthority → Type 0
 AreUsable [] usable = usable ≡ []
 AreUsable (authority ∷ listed) usable =
     (CannotBeUsed authority × AreUsable listed usable)
-    ⊎ ((first : UsableAuthority) × ((rest : List UsableAuthority) × (usable ≡ first ∷ rest)
-    × IsRead authority first × AreUsable listed rest))
+    ⊎ BeginsWith authority (AreUsable listed) usable

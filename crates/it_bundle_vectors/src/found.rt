@@ -1,0 +1,41 @@
+//! What the library says of a vector.
+ghost use Rattle.std.specs.Prelude.{◌≡◌, ◌↔◌, IfOk, IsTrue};
+ghost use Rattle.it_bundle_vectors.specs.Agreement.{IsVouchedFor};
+
+use crate::vector::Vector;
+use it_bundle::read_bundle;
+use it_identity::Identity;
+use it_trust_root::read_root;
+use it_vouches::{Trust, vouched_identity};
+use std::alloc::{AllocError, Global};
+
+/// Whether the line of a vector is a bundle that vouches, by the vector's trusted root, for its
+/// identity. A text that is no trusted root vouches for nobody.
+///
+/// # Errors
+///
+/// `AllocError` where memory was refused.
+pub(crate) fn is_vouched_for(alloc: Global, vector: &Vector) -> Result<bool, AllocError>
+    ensures { IfOk result (λ is. IsTrue is ↔ IsVouchedFor vector.now) }
+{
+    let Some(root) = read_root(alloc, vector.root.as_str().as_bytes())? else {
+        return Ok(false);
+    };
+    let Some(bundle) = read_bundle(alloc, vector.line.as_str().as_bytes())? else {
+        return Ok(false);
+    };
+    let trust = Trust::of(alloc, &root)?;
+    match vouched_identity(alloc, &trust, &bundle)? {
+        Some(identity) => Ok(is_wanted(&identity, vector)),
+        None => Ok(false),
+    }
+}
+
+/// Whether an identity is that of a vector.
+fn is_wanted(identity: &Identity, vector: &Vector) -> bool
+    ensures { IsTrue result ↔ ((identity.now.name ≡ vector.now.identity)
+        × (identity.now.issuer ≡ vector.now.issuer)) }
+{
+    identity.name.as_slice() == vector.identity.as_str().as_bytes()
+        && identity.issuer.as_slice() == vector.issuer.as_str().as_bytes()
+}

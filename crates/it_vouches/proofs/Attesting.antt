@@ -58,12 +58,12 @@ by_one root us leaf moment are any =
     let by = any.4 in
     let of = read_of root.authorities us any.1 are (contains_of_any (IsIssuedBy root.certificate_logs leaf moment) us any) in
     record {
-      authority = of.authority;
+      authority = of.element;
       issuer = by.issuer;
       others = by.others;
       is_authority = of.among;
-      usable = subst (IsUsable of.authority) by.certificates_are of.is_read.certificates;
-      issued = subst (λ (w : Window). IsIssued (by.issuer ∷ by.others) w leaf moment) of.is_read.window by.issued;
+      usable = subst (IsUsable of.element) by.certificates_are of.is.certificates;
+      issued = subst (λ (w : Window). IsIssued (by.issuer ∷ by.others) w leaf moment) of.is.window by.issued;
       promised = by.promised;
     }
 
@@ -71,13 +71,13 @@ one_of : (root : TrustedRoot) (us : List UsableAuthority) (leaf : Facts) (moment
     → IsAttested root leaf moment → Any (IsIssuedBy root.certificate_logs leaf moment) us
 one_of root us leaf moment are is =
     let among = of_read root.authorities us is.authority (is.issuer ∷ is.others) are is.is_authority is.usable in
-    let certificates = one_way is.authority.certificates (map facts_of among.usable.certificates.items) (is.issuer ∷ is.others)
-    among.is_read.certificates.read is.usable.read in
-    any_of_contains (IsIssuedBy root.certificate_logs leaf moment) us among.usable among.among (record {
+    let certificates = one_way is.authority.certificates (map facts_of among.found.certificates.items) (is.issuer ∷ is.others)
+    among.is.certificates.read is.usable.read in
+    any_of_contains (IsIssuedBy root.certificate_logs leaf moment) us among.found among.among (record {
       issuer = is.issuer;
       others = is.others;
       certificates_are = certificates;
-      issued = subst (λ (w : Window). IsIssued (is.issuer ∷ is.others) w leaf moment) (sym among.is_read.window) is.issued;
+      issued = subst (λ (w : Window). IsIssued (is.issuer ∷ is.others) w leaf moment) (sym among.is.window) is.issued;
       promised = is.promised;
     })
 

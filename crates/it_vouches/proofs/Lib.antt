@@ -1,4 +1,5 @@
 pub mod Loops
+pub mod Found
 pub mod Usable
 pub mod Attesting
 pub mod Claiming

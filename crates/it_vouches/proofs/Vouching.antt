@@ -1,5 +1,5 @@
 -- Whom a bundle vouches for, by what is read of it.
-use Rattle.std.proofs.Common.{◌≡◌, ℕ, Bool, List, Any, sym, subst, ◌∙◌}
+use Rattle.std.proofs.Common.{◌≡◌, ◌↔◌, ℕ, Bool, IsTrue, List, Any, sym, subst, ◌∙◌}
 use Rattle.std.specs.List.{Contains}
 use Rattle.it_bundle.specs.declared.bundle.SigstoreBundle.{SigstoreBundle}
 use Rattle.it_bundle.specs.declared.listed_entry.ListedEntry.{ListedEntry}
@@ -15,18 +15,18 @@ use Rattle.it_log_entry.specs.declared.logged.Logged.{Logged}
 use Rattle.it_trust_root.specs.declared.root.TrustedRoot.{TrustedRoot}
 use Rattle.it_vouches.specs.Claim.{Claims, needs_proof}
 use Rattle.it_vouches.specs.Logged.{IsAbout}
-use Rattle.it_vouches.specs.Vouches.{IsAttested, Vouches}
-use Rattle.it_vouches.specs.inside.Attested.{IsProved, IsProvedBy}
+use Rattle.it_vouches.specs.Vouches.{Vouches}
+use Rattle.it_vouches.specs.inside.Attested.{IsClaimProved, IsProvedBy}
 use Rattle.it_vouches.proofs.Claiming.{one_claim}
 use Rattle.it_vouches.proofs.Loops.{any_of_contains, contains_of_any}
 use Rattle.it_vouches.proofs.SameLogged.{IsSame, by_log_same}
 
 -- the same, in terms of what was read
-pub record IsSeen (root : TrustedRoot) (bundle : SigstoreBundle) (s c : List ℕ) (es : List ListedEntry) (f : Facts) (logged : Logged)
+pub record IsSeen (root : TrustedRoot) (bundle : SigstoreBundle) (s c : List ℕ) (es : List ListedEntry) (f : Facts)
     (identity : Identity) : Type 0 where
   pub leaf_is : LeafOf c f identity.name identity.issuer
   pub is_identity : IsIdentity identity
-  pub proved : Any (IsProvedBy root (needs_proof bundle.version) logged f) es
+  pub proved : IsClaimProved root bundle s c es f
   pub signed : IsByP256 (key_info f.curve f.coordinates) (message_of bundle.envelope) s
 
 -- the leaf, before it is read
@@ -40,66 +40,90 @@ leaf_of root bundle s c es identity claims v =
     let same = one_claim bundle v.signature v.certificate v.entries s c es v.claims claims in
     record { leaf = v.leaf; is = subst (λ (b : List ℕ). LeafOf b v.leaf identity.name identity.issuer) same.1 v.leaf_is }
 
-about_same : (bundle : SigstoreBundle) (s c s' c' : List ℕ) (x y : Logged) → s ≡ s' → c ≡ c' → IsAbout bundle.envelope s c x
-    → IsAbout bundle.envelope s' c' y → IsSame x y
-about_same bundle s c s' c' x y signature certificate one two = record {
-  payload = one.payload ∙ sym two.payload;
-  payload_type = one.payload_type ∙ sym two.payload_type;
-  signature = one.signature_is ∙ signature ∙ sym two.signature_is;
-  certificate = one.certificate_is ∙ certificate ∙ sym two.certificate_is;
-}
+-- what is proved of one claim and leaf is proved of the same
+proved_as : (root : TrustedRoot) (bundle : SigstoreBundle) (s c s' c' : List ℕ) (es es' : List ListedEntry) (f f' : Facts) → s ≡ s' → c ≡ c'
+    → es ≡ es' → f ≡ f' → IsClaimProved root bundle s c es f → IsClaimProved root bundle s' c' es' f'
+proved_as root bundle s c s' c' es es' f f' signature certificate entries facts is =
+    subst (λ (x : List ℕ). IsClaimProved root bundle x c' es' f') signature
+    (subst (λ (x : List ℕ). IsClaimProved root bundle s x es' f') certificate
+    (subst (λ (l : List ListedEntry). IsClaimProved root bundle s c l f') entries
+    (subst (λ (g : Facts). IsClaimProved root bundle s c es g) facts is)))
 
 pub seen : (root : TrustedRoot) (bundle : SigstoreBundle) (s c : List ℕ) (es : List ListedEntry) (f : Facts) (name issuer : List ℕ)
-    (logged : Logged) (identity : Identity) → Claims bundle s c es → LeafOf c f name issuer → IsAbout bundle.envelope s c logged
-    → Vouches root bundle identity → IsSeen root bundle s c es f logged identity
-seen root bundle s c es f name issuer logged identity claims leaf_is about v =
+    (identity : Identity) → Claims bundle s c es → LeafOf c f name issuer → Vouches root bundle identity
+    → IsSeen root bundle s c es f identity
+seen root bundle s c es f name issuer identity claims leaf_is v =
     let same = one_claim bundle v.signature v.certificate v.entries s c es v.claims claims in
     let leaf = subst (λ (b : List ℕ). LeafOf b v.leaf identity.name identity.issuer) same.1 v.leaf_is in
     let facts : v.leaf ≡ f = (one_leaf c v.leaf f identity.name identity.issuer name issuer leaf leaf_is).0 in
-    let needs = needs_proof bundle.version in
-    let logs = by_log_same needs v.entry v.logged logged
-    (about_same bundle v.signature v.certificate s c v.logged logged same.0 same.1 v.about about) root.logs v.by_log in
-    let among = subst (λ (l : List ListedEntry). Contains l (Entry v.entry)) same.2 v.is_entry in
+    let claimed : IsClaimProved root bundle v.signature v.certificate v.entries v.leaf = record {
+      logged = v.logged;
+      about = v.about;
+      proved = any_of_contains (IsProvedBy root (needs_proof bundle.version) v.logged v.leaf) v.entries (Entry v.entry) v.is_entry
+          (record { by_log = v.by_log; attested = v.attested });
+    } in
     record {
       leaf_is = subst (λ (g : Facts). LeafOf c g identity.name identity.issuer) facts leaf;
       is_identity = v.is_identity;
-      proved = any_of_contains (IsProvedBy root needs logged f) es (Entry v.entry) among (record {
-        by_log = logs;
-        attested = subst (λ (g : Facts). IsAttested root g v.entry.time) facts v.attested;
-      });
+      proved = proved_as root bundle v.signature v.certificate s c v.entries es v.leaf f same.0 same.1 same.2 facts claimed;
       signed = subst (λ (t : List ℕ). IsByP256 (key_info f.curve f.coordinates) (message_of bundle.envelope) t) same.0
           (subst (λ (g : Facts). IsByP256 (key_info g.curve g.coordinates) (message_of bundle.envelope) v.signature) facts v.signed);
     }
 
 -- and the other way round
-vouches_with : (root : TrustedRoot) (bundle : SigstoreBundle) (s c : List ℕ) (es : List ListedEntry) (f : Facts) (logged : Logged)
-    (identity : Identity) (e : ListedEntry) → Claims bundle s c es → IsAbout bundle.envelope s c logged
-    → IsSeen root bundle s c es f logged identity → Contains es e → IsProvedBy root (needs_proof bundle.version) logged f e
-    → Vouches root bundle identity
-vouches_with root bundle s c es f logged identity (Entry entry) claims about is among proved = record {
+vouches_with : (root : TrustedRoot) (bundle : SigstoreBundle) (s c : List ℕ) (es : List ListedEntry) (f : Facts)
+    (identity : Identity) (e : ListedEntry) → Claims bundle s c es → (is : IsSeen root bundle s c es f identity) → Contains es e
+    → IsProvedBy root (needs_proof bundle.version) is.proved.logged f e → Vouches root bundle identity
+vouches_with root bundle s c es f identity (Entry entry) claims is among proved = record {
   signature = s;
   certificate = c;
   entries = es;
   leaf = f;
-  logged = logged;
+  logged = is.proved.logged;
   entry = entry;
   claims = claims;
   leaf_is = is.leaf_is;
   is_identity = is.is_identity;
   is_entry = among;
-  about = about;
+  about = is.proved.about;
   by_log = proved.by_log;
   attested = proved.attested;
   signed = is.signed;
 }
-vouches_with root bundle s c es f logged identity Unreadable claims about is among proved = absurd proved
+vouches_with root bundle s c es f identity Unreadable claims is among proved = absurd proved
 
-pub vouches_of : (root : TrustedRoot) (bundle : SigstoreBundle) (s c : List ℕ) (es : List ListedEntry) (f : Facts) (logged : Logged)
-    (identity : Identity) → Claims bundle s c es → IsAbout bundle.envelope s c logged
-    → IsSeen root bundle s c es f logged identity → Vouches root bundle identity
-vouches_of root bundle s c es f logged identity claims about is =
-    vouches_with root bundle s c es f logged identity is.proved.1 claims about is
-    (contains_of_any (IsProvedBy root (needs_proof bundle.version) logged f) es is.proved) is.proved.4
+pub vouches_of : (root : TrustedRoot) (bundle : SigstoreBundle) (s c : List ℕ) (es : List ListedEntry) (f : Facts) (identity : Identity)
+    → Claims bundle s c es → IsSeen root bundle s c es f identity → Vouches root bundle identity
+vouches_of root bundle s c es f identity claims is =
+    let proved = is.proved.proved in
+    vouches_with root bundle s c es f identity proved.1 claims is
+    (contains_of_any (IsProvedBy root (needs_proof bundle.version) is.proved.logged f) es proved) proved.4
+
+-- what is logged may lie anywhere
+about_same : (bundle : SigstoreBundle) (s c : List ℕ) (x y : Logged) → IsAbout bundle.envelope s c x → IsAbout bundle.envelope s c y → IsSame x y
+about_same bundle s c x y one two = record {
+  payload = one.payload ∙ sym two.payload;
+  payload_type = one.payload_type ∙ sym two.payload_type;
+  signature = one.signature_is ∙ sym two.signature_is;
+  certificate = one.certificate_is ∙ sym two.certificate_is;
+}
+
+entry_same : (root : TrustedRoot) (needs : Bool) (x y : Logged) (f : Facts) → IsSame x y → (e : ListedEntry) → IsProvedBy root needs x f e
+    → IsProvedBy root needs y f e
+entry_same root needs x y f same (Entry entry) is =
+    record { by_log = by_log_same needs entry x y same root.logs is.by_log; attested = is.attested }
+entry_same root needs x y f same Unreadable is = is
+
+pub claim_is : (root : TrustedRoot) (bundle : SigstoreBundle) (s c : List ℕ) (es : List ListedEntry) (f : Facts) (logged : Logged) (b : Bool)
+    → IsAbout bundle.envelope s c logged → IsTrue b ↔ Any (IsProvedBy root (needs_proof bundle.version) logged f) es
+    → IsTrue b ↔ IsClaimProved root bundle s c es f
+claim_is root bundle s c es f logged b about iff = (
+  λ t. record { logged = logged; about = about; proved = iff.0 t },
+  λ is.
+      let any = is.proved in
+      let same = about_same bundle s c is.logged logged is.about about in
+      iff.1 (any.0, any.1, any.2, any.3, entry_same root (needs_proof bundle.version) is.logged logged f same any.1 any.4),
+)
 
 -- at most one identity
 pub vouches_same : (root : TrustedRoot) (bundle : SigstoreBundle) (x y : Identity) → Vouches root bundle x → Vouches root bundle y → x ≡ y

@@ -1,4 +1,5 @@
 pub mod Claim
+pub mod Found
 pub mod Logged
 pub mod Laws
 pub mod Vouches

@@ -1,16 +1,20 @@
 //! Whom a bundle vouches for.
-ghost use Rattle.std.specs.Prelude.{◌≡◌, IfOk};
+ghost use Rattle.std.specs.Prelude.{◌↔◌, IfOk, IsTrue};
 ghost use Rattle.it_base.specs.Finds.{Finds};
+ghost use Rattle.it_certificate.specs.Certificate.{facts_of};
+ghost use Rattle.it_certificate_log.specs.Bare.{WasRead};
 ghost use Rattle.it_dsse.specs.Signed.{message_of};
+ghost use Rattle.it_issued.specs.Signature.{IsByP256, key_info};
 ghost use Rattle.it_vouches.specs.Logged.{IsAbout};
 ghost use Rattle.it_vouches.specs.Vouches.{Vouches};
+ghost use Rattle.it_vouches.specs.inside.Attested.{IsClaimProved};
 
 use crate::attested::{Question, is_attested};
 use crate::claim::{Claim, claim_of, needs_proof};
 use crate::leaf_key::is_by_leaf;
 use crate::trust::Trust;
 use it_bundle::SigstoreBundle;
-use it_certificate::read_leaf;
+use it_certificate::{Certificate, read_leaf};
 use it_dsse::envelope::Envelope;
 use it_dsse::pae;
 use it_identity::Identity;
@@ -40,19 +44,54 @@ pub fn vouched_identity(
     let Some(identity) = Identity::of(alloc, leaf.identity.name, leaf.identity.issuer)? else {
         return Ok(None);
     };
-    let question = Question {
-        logged: logged_of(&bundle.envelope, &claim),
-        needs_proof: needs_proof(bundle.version),
-        leaf: &leaf.certificate,
-    };
-    if !is_attested(alloc, trust, &question, claim.entries)? {
+    if !is_claim_attested(alloc, trust, bundle, &claim, &leaf.certificate)? {
         return Ok(None);
     }
-    let message = message_of(alloc, &bundle.envelope)?;
-    if !is_by_leaf(alloc, &leaf.certificate, message.as_slice(), claim.signature)? {
+    if !is_envelope_signed(alloc, &bundle.envelope, &leaf.certificate, claim.signature)? {
         return Ok(None);
     }
     Ok(Some(identity))
+}
+
+/// Whether the entries and the authorities attest what a bundle claims.
+fn is_claim_attested(
+    alloc: Global,
+    trust: &Trust<'_>,
+    bundle: &SigstoreBundle,
+    claim: &Claim<'_>,
+    leaf: &Certificate<'_>,
+) -> Result<bool, AllocError>
+    requires { WasRead leaf.now }
+    ensures { IfOk result (λ is. IsTrue is
+        ↔ IsClaimProved trust.now bundle.now claim.now.signature.now claim.now.certificate.now
+        claim.now.entries.now (facts_of leaf.now)) }
+{
+    let question = Question {
+        logged: logged_of(&bundle.envelope, claim),
+        needs_proof: needs_proof(bundle.version),
+        leaf,
+    };
+    is_attested(alloc, trust, &question, claim.entries)
+}
+
+/// Whether a signature of an envelope is by the key of a leaf.
+fn is_envelope_signed(
+    alloc: Global,
+    envelope: &Envelope,
+    leaf: &Certificate<'_>,
+    signature: &[u8],
+) -> Result<bool, AllocError>
+    requires { WasRead leaf.now }
+    ensures { IfOk result (λ is. IsTrue is
+        ↔ IsByP256 (key_info leaf.now.key.curve leaf.now.key.coordinates.now)
+        (message_of envelope.now) signature.now) }
+{
+    let message = pae(
+        alloc,
+        envelope.payload_type.as_str(),
+        envelope.payload.as_slice(),
+    )?;
+    is_by_leaf(alloc, leaf, message.as_slice(), signature)
 }
 
 /// What an entry is to be about: the signature of the envelope, and what it was made with.
@@ -65,15 +104,4 @@ fn logged_of<'b>(envelope: &'b Envelope, claim: &Claim<'b>) -> Logged<'b>
         signature: claim.signature,
         certificate: claim.certificate,
     }
-}
-
-/// What the signatures of an envelope sign (DSSE v1.0, "Protocol", PAE).
-fn message_of(alloc: Global, envelope: &Envelope) -> Result<Vec<u8>, AllocError>
-    ensures { IfOk result (λ message. message.items ≡ message_of envelope.now) }
-{
-    pae(
-        alloc,
-        envelope.payload_type.as_str(),
-        envelope.payload.as_slice(),
-    )
 }

@@ -100,10 +100,18 @@ fn is_saying(one: &Vouched, identity: &Identity, message: &[u8], signature: &[u8
     if !is_same(&one.identity, identity) {
         return false;
     }
+    is_with(one, message, signature)
+}
+
+/// Whether it is with this message and this signature that an identity is vouched for.
+fn is_with(one: &Vouched, message: &[u8], signature: &[u8]) -> bool
+    ensures { IsTrue result ↔ ((one.now.message ≡ message.now)
+        × (one.now.signature ≡ signature.now)) }
+{
     one.message.as_slice() == message && one.signature.as_slice() == signature
 }
 
-/// Whether two identities are the same.
+/// Whether two identities have one number.
 fn is_same(one: &Identity, other: &Identity) -> bool
     requires one_is { IsIdentity one.now }
     requires other_is { IsIdentity other.now }
@@ -115,7 +123,8 @@ fn is_same(one: &Identity, other: &Identity) -> bool
 }
 
 fn are_equal(one: &Identity, other: &Identity) -> bool
-    ensures { IsTrue result ↔ (one.now ≡ other.now) }
+    ensures { IsTrue result ↔ ((one.now.name ≡ other.now.name)
+        × (one.now.issuer ≡ other.now.issuer)) }
 {
     one.name.as_slice() == other.name.as_slice() && one.issuer.as_slice() == other.issuer.as_slice()
 }

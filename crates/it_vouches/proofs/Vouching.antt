@@ -1,5 +1,5 @@
 -- Whom a bundle vouches for, by what is read of it.
-use Rattle.std.proofs.Common.{◌≡◌, ◌↔◌, ℕ, Bool, IsTrue, List, Any, sym, subst, ◌∙◌}
+use Rattle.std.proofs.Common.{◌≡◌, ◌↔◌, ℕ, Bool, true, false, true≢false, IsTrue, List, Any, sym, subst, ◌∙◌}
 use Rattle.std.specs.List.{Contains}
 use Rattle.it_bundle.specs.declared.bundle.SigstoreBundle.{SigstoreBundle}
 use Rattle.it_bundle.specs.declared.listed_entry.ListedEntry.{ListedEntry}
@@ -124,6 +124,52 @@ claim_is root bundle s c es f logged b about iff = (
       let same = about_same bundle s c is.logged logged is.about about in
       iff.1 (any.0, any.1, any.2, any.3, entry_same root (needs_proof bundle.version) is.logged logged f same any.1 any.4),
 )
+
+-- ---- step by step
+refuted : (P : Type 0) (b : Bool) → IsTrue b ↔ P → b ≡ false → P → ⊥
+refuted P b iff wrong p = true≢false (sym (subst IsTrue wrong (iff.1 p)))
+
+pub no_leaf : (root : TrustedRoot) (bundle : SigstoreBundle) (s c : List ℕ) (es : List ListedEntry) → Claims bundle s c es
+    → ((f : Facts) (name issuer : List ℕ) → LeafOf c f name issuer → ⊥) → (identity : Identity) → Vouches root bundle identity → ⊥
+no_leaf root bundle s c es claims none identity v =
+    let leaf = leaf_of root bundle s c es identity claims v in
+    none leaf.leaf identity.name identity.issuer leaf.is
+
+pub no_identity : (root : TrustedRoot) (bundle : SigstoreBundle) (s c : List ℕ) (es : List ListedEntry) (f : Facts) (name issuer : List ℕ)
+    → Claims bundle s c es → LeafOf c f name issuer
+    → ((x : Identity) → (x.name ≡ name) × (x.issuer ≡ issuer) × IsIdentity x → ⊥)
+    → (identity : Identity) → Vouches root bundle identity → ⊥
+no_identity root bundle s c es f name issuer claims leaf_is none identity v =
+    let leaf = leaf_of root bundle s c es identity claims v in
+    let same = one_leaf c leaf.leaf f identity.name identity.issuer name issuer leaf.is leaf_is in
+    none identity (same.1, same.2, v.is_identity)
+
+pub not_proved : (root : TrustedRoot) (bundle : SigstoreBundle) (s c : List ℕ) (es : List ListedEntry) (f : Facts) (name issuer : List ℕ)
+    (b : Bool) → Claims bundle s c es → LeafOf c f name issuer → IsTrue b ↔ IsClaimProved root bundle s c es f → b ≡ false
+    → (identity : Identity) → Vouches root bundle identity → ⊥
+not_proved root bundle s c es f name issuer b claims leaf_is iff wrong identity v =
+    refuted (IsClaimProved root bundle s c es f) b iff wrong (seen root bundle s c es f name issuer identity claims leaf_is v).proved
+
+pub not_signed : (root : TrustedRoot) (bundle : SigstoreBundle) (s c : List ℕ) (es : List ListedEntry) (f : Facts) (name issuer : List ℕ)
+    (b : Bool) → Claims bundle s c es → LeafOf c f name issuer
+    → IsTrue b ↔ IsByP256 (key_info f.curve f.coordinates) (message_of bundle.envelope) s → b ≡ false
+    → (identity : Identity) → Vouches root bundle identity → ⊥
+not_signed root bundle s c es f name issuer b claims leaf_is iff wrong identity v =
+    refuted (IsByP256 (key_info f.curve f.coordinates) (message_of bundle.envelope) s) b iff wrong
+    (seen root bundle s c es f name issuer identity claims leaf_is v).signed
+
+pub vouches_is : (root : TrustedRoot) (bundle : SigstoreBundle) (s c : List ℕ) (es : List ListedEntry) (f : Facts) (name issuer : List ℕ)
+    (identity : Identity) → Claims bundle s c es → LeafOf c f name issuer
+    → (identity.name ≡ name) × (identity.issuer ≡ issuer) × IsIdentity identity → IsClaimProved root bundle s c es f
+    → IsByP256 (key_info f.curve f.coordinates) (message_of bundle.envelope) s → Vouches root bundle identity
+vouches_is root bundle s c es f name issuer identity claims leaf_is names proved signed =
+    vouches_of root bundle s c es f identity claims (record {
+      leaf_is = subst (λ (n : List ℕ). LeafOf c f n identity.issuer) (sym names.0)
+          (subst (λ (n : List ℕ). LeafOf c f name n) (sym names.1) leaf_is);
+      is_identity = names.2;
+      proved = proved;
+      signed = signed;
+    })
 
 -- at most one identity
 pub vouches_same : (root : TrustedRoot) (bundle : SigstoreBundle) (x y : Identity) → Vouches root bundle x → Vouches root bundle y → x ≡ y

@@ -7,5 +7,5 @@ use Rattle.it_vouches.proofs.attested.is_attested.Given as goal
 -- the leaf is proved by none of the entries so far
 abbrev pub invariant-loop-listed : goal.invariant-loop-listed
 invariant-loop-listed l =
-    NoneIn (IsProvedBy l.trust.now l.question.needs_proof l.question.logged (facts_of l.question.leaf.now))
+    NoneIn (IsProvedBy l.trust l.question.needs_proof l.question.logged (facts_of l.question.leaf.now))
     (take l.listed-index l.entries)

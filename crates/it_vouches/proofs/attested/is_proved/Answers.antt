@@ -5,7 +5,7 @@ use Rattle.it_vouches.proofs.attested.is_proved.Goals as goal
 
 pub returns-then-not-branch : goal.returns-then-not-branch
 returns-then-not-branch c =
-    fails _ _ c.in_ok-is_by_one.value (rw c.logs.ensures at c.in_ok-is_by_one.ensures) c.if-not-branch.true (λ is. is.by_log)
+    fails _ _ _ (rw c.logs.ensures at c.in_ok-is_by_one.ensures) c.if-not-branch.true (λ is. is.by_log)
 
 pub returns : goal.returns
 returns c =

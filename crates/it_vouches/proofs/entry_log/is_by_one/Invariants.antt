@@ -5,4 +5,4 @@ use Rattle.it_vouches.proofs.entry_log.is_by_one.Given as goal
 
 -- none of the logs so far vouches
 abbrev pub invariant-loop-log : goal.invariant-loop-log
-invariant-loop-log l = NoneIn (VouchesBy l.needs_proof l.entry.now l.logged.now) (take l.log-index l.logs)
+invariant-loop-log l = NoneIn (VouchesBy l.needs_proof l.entry l.logged) (take l.log-index l.logs)

@@ -15,7 +15,7 @@ is_issued-requires c = record { authority_read = c.requires.authority_read; leaf
 
 pub returns-then-not-branch : goal.returns-then-not-branch
 returns-then-not-branch c =
-    fails _ _ c.in_ok-is_issued.value c.in_ok-is_issued.ensures c.if-not-branch.true
+    fails _ _ _ c.in_ok-is_issued.ensures c.if-not-branch.true
     (as_read c.args.logs.now (facts_of c.args.leaf.now) c.args.moment c.args.authority.now)
 
 pub is_logged-requires : goal.is_logged-requires

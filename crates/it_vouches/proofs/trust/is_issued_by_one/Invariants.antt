@@ -6,4 +6,4 @@ use Rattle.it_vouches.proofs.trust.is_issued_by_one.Given as goal
 
 -- none of the authorities so far issued the leaf
 abbrev pub invariant-loop-authority : goal.invariant-loop-authority
-invariant-loop-authority l = NoneIn (IsIssuedBy l.logs (facts_of l.leaf.now) l.moment) (take l.authority-index l.authorities)
+invariant-loop-authority l = NoneIn (IsIssuedBy l.logs (facts_of l.leaf) l.moment) (take l.authority-index l.authorities)

@@ -10,9 +10,9 @@ loop-authority-init c = c.new-usable.ensures.items
 pub loop-authority-preserved : goal.loop-authority-preserved
 loop-authority-preserved c =
     found_at CannotBeUsed IsRead c.args.listed.now c.loop-authority.authority-index c.authority-item.result
-    c.loop-authority.usable.items c.push_some.new.values.items c.in_ok-read_authority.value c.loop-authority-test.true
+    c.loop-authority.usable.items c.push_some.new.values.items c.in_ok-read_authority.field-0 c.loop-authority-test.true
     c.authority-item.is c.loop-authority.invariant
-    (read_is c.authority-item.result c.in_ok-read_authority.value c.in_ok-read_authority.ensures) c.in_ok-push_some.ensures
+    (read_is c.authority-item.result c.in_ok-read_authority.field-0 c.in_ok-read_authority.ensures) c.in_ok-push_some.ensures
 
 pub returns : goal.returns
 returns c =

@@ -25,10 +25,10 @@ pub(crate) fn is_vouched_for(alloc: Global, vector: &Vector) -> Result<bool, All
         return Ok(false);
     };
     let trust = Trust::of(alloc, &root)?;
-    match vouched_identity(alloc, &trust, &bundle)? {
-        Some(identity) => Ok(is_wanted(&identity, vector)),
-        None => Ok(false),
-    }
+    let Some(identity) = vouched_identity(alloc, &trust, &bundle)? else {
+        return Ok(false);
+    };
+    Ok(is_wanted(&identity, vector))
 }
 
 /// Whether an identity is that of a vector.

@@ -1,9 +1,12 @@
-use Rattle.std.proofs.Common.{◌≡◌, ◌∙◌, [], ◌∷◌, ◌++◌, append_assoc, sym, ap}
+use Rattle.std.proofs.Common.{◌≡◌, ◌∙◌, [], ◌∷◌, ◌++◌, append_assoc, refl, sym, ap}
 use Rattle.it_digest.specs.Sums.{lines_of}
 use Rattle.it_vouches.proofs.Found.{found_more}
 use Rattle.it_vouched.specs.Line.{IsVouched, VouchesForNone}
 use Rattle.it_vouched.proofs.Lines.{as_found}
 use Rattle.it_vouched.proofs.vouched_lines.vouched_in.Goals as goal
+
+pub loop-rest-init : goal.loop-rest-init
+loop-rest-init c = ([], refl, c.new-all.ensures.items)
 
 pub loop-rest-preserved : goal.loop-rest-preserved
 loop-rest-preserved c =

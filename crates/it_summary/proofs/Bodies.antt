@@ -12,7 +12,7 @@ use Rattle.it_json_report.specs.declared.evidence.Evidence.{Evidence}
 use Rattle.it_making.specs.StatementOutput.{IsWritten}
 use Rattle.it_summary.specs.Summary.{digests_of, least_level, level_names, statement_of}
 use Rattle.it_summary.specs.Summary.{subjects_document, summary_document, summary_of}
-use Rattle.it_summary.proofs.Subjects.{no_float_in_subjects, shallow_subjects}
+use Rattle.it_summary.proofs.SubjectsWritten.{no_float_in_subjects, shallow_subjects}
 
 no_float_in_one : (none : Bool) (name : List ℕ)
     → items_have_float (items_of (map string (if none then [] else name ∷ []))) ≡ false

@@ -5,7 +5,7 @@ use Rattle.serde_json.specs.View.{items_of, view}
 use Rattle.it_dsse.proofs.Documents.{documents_more}
 use Rattle.it_making.specs.StatementOutput.{subject_document}
 use Rattle.it_summary.specs.Summary.{subject_of}
-use Rattle.it_summary.proofs.Subjects.{one_more_back, subjects_read_back}
+use Rattle.it_summary.proofs.SubjectsWritten.{one_more_back, subjects_read_back}
 use Rattle.it_summary.proofs.subjects.subjects_value.Goals as goal
 
 pub loop-file-preserved : goal.loop-file-preserved

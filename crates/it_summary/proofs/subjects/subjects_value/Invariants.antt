@@ -2,7 +2,7 @@ use Rattle.std.proofs.Common.{◌≡◌, map, take}
 use Rattle.std.specs.List.{AllByRecursion}
 use Rattle.serde_json.specs.View.{view}
 use Rattle.it_summary.specs.Summary.{subject_of}
-use Rattle.it_summary.proofs.Subjects.{ReadsBack}
+use Rattle.it_summary.proofs.SubjectsWritten.{ReadsBack}
 use Rattle.it_summary.proofs.subjects.subjects_value.Given as goal
 
 -- the subjects so far

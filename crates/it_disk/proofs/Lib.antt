@@ -1,1 +1,2 @@
+mod LinksCounted
 mod LinksSized

@@ -1,4 +1,5 @@
 pub mod Faults
+pub mod LinksCount
 pub mod LinksSize
 pub mod Reading
 pub mod RingFlaw

@@ -47,6 +47,9 @@ pub enum Fault {
     /// A folder has more entries to read than this.
     #[error("{path} has more than {limit} entries to read")]
     TooMany { path: Shown, limit: usize },
+    /// With what is at this path, links have more files and folders in all than this.
+    #[error("with {path} the links have more than {limit} files and folders in all")]
+    TooManyInAll { path: Shown, limit: u64 },
     /// With this file, links have more bytes in all than this.
     #[error("with {path} the links have more than {limit} bytes in all")]
     TooMuch { path: Shown, limit: u64 },

@@ -1,8 +1,10 @@
 //! Folders of links, read as far as they count and no further.
 ghost use Rattle.std.specs.Prelude.{◌≡◌, ◌+◌, ◌≤◌, IfOk, OnOk, length};
 ghost use Rattle.it_limits.specs.Links.{AreFilesWithin};
-ghost use Rattle.it_disk.specs.LinksSize.{IsWithinSize, most_bytes, size_of};
+ghost use Rattle.it_disk.specs.LinksCount.{IsWithinCount, count_of};
+ghost use Rattle.it_disk.specs.LinksSize.{IsWithinSize, size_of};
 ghost use Rattle.it_disk.specs.Reading.{AreLimited};
+ghost use Rattle.it_disk.specs.inside.SoFar.{IsCountedIn, IsWithin};
 
 use crate::fault::Fault;
 use crate::left_out::{LeftOut, too_many_in};
@@ -20,6 +22,9 @@ const MOST_ENTRIES: usize = 1_000;
 
 /// How many bytes the files of links may have in all.
 const MOST_LINK_BYTES: u64 = 2_147_483_648;
+
+/// How many files and folders of links may be read in all.
+const MOST_LINK_ENTRIES: u64 = 1_000_000;
 
 /// How the names of the files that are read end.
 pub(crate) const ENDING: &str = ".link";
@@ -55,6 +60,15 @@ impl Wanted {
     }
 }
 
+/// How much of a folder of links was read so far.
+#[derive(Clone, Copy)]
+pub(crate) struct SoFar {
+    /// The bytes of the files.
+    pub(crate) bytes: u64,
+    /// The files and folders.
+    pub(crate) entries: u64,
+}
+
 /// What is read of a folder of links.
 #[derive(Drop)]
 pub struct Links {
@@ -62,15 +76,16 @@ pub struct Links {
     pub bundle: Bundle,
     /// The files that are left out, in the order in which they were found.
     pub left_out: Vec<LeftOut>,
-    /// How many bytes were read so far, those of what was read before included.
-    read: u64,
+    /// How much was read so far, with what was read before and what is left out.
+    read: SoFar,
 }
 
 impl Links {
-    /// No links, after so many bytes were read.
-    fn after(alloc: Global, read: u64) -> Links
+    /// No links, after so much was read.
+    fn after(alloc: Global, read: SoFar) -> Links
         ensures within { AreFilesWithin result.bundle }
-        ensures empty { size_of result.bundle ≡ 0 }
+        ensures no_bytes { size_of result.bundle ≡ 0 }
+        ensures no_entries { count_of result.bundle ≡ 0 }
         ensures read { result.read ≡ read }
     {
         Links {
@@ -96,7 +111,8 @@ pub(crate) struct Entry {
 /// # Errors
 ///
 /// The fault of a folder, an entry or a file that cannot be read; `TooMany` where more than 1,000
-/// entries of a folder would be read; and `TooMuch` where the files have more than 2 GiB in all.
+/// entries of a folder would be read; `TooManyInAll` where more than 1,000,000 files and folders
+/// would be read in all; and `TooMuch` where the files have more than 2 GiB in all.
 pub fn read_links<T: Tree + AllocGlobal>(
     tree: &T,
     folder: &str,
@@ -104,29 +120,36 @@ pub fn read_links<T: Tree + AllocGlobal>(
     limited: bool,
 ) -> Result<Links, Fault>
     ensures limited { IfOk result (λ links. AreLimited limited links.bundle) }
-    ensures within { IfOk result (λ links. IsWithinSize links.bundle) }
+    ensures size { IfOk result (λ links. IsWithinSize links.bundle) }
+    ensures count { IfOk result (λ links. IsWithinCount links.bundle) }
 {
-    read_more(tree, folder, depth, limited, 0)
+    let nothing = SoFar {
+        bytes: 0,
+        entries: 0,
+    };
+    read_more(tree, folder, depth, limited, nothing)
 }
 
-/// `read_links`, after so many bytes of files were read.
+/// `read_links`, after so much was read.
 fn read_more<T: Tree + AllocGlobal>(
     tree: &T,
     folder: &str,
     depth: u8,
     limited: bool,
-    read: u64,
+    read: SoFar,
 ) -> Result<Links, Fault>
-    requires { read ≤ most_bytes }
+    requires { IsWithin read }
     ensures limited { IfOk result (λ links. AreLimited limited links.bundle) }
-    ensures counted { IfOk result (λ links. read + size_of links.bundle ≤ links.read) }
-    ensures within { IfOk result (λ links. links.read ≤ most_bytes) }
+    ensures counted { IfOk result (λ links. IsCountedIn links.read read links.bundle) }
+    ensures within { IfOk result (λ links. IsWithin links.read) }
 {
     let mut links = Links::after(tree.alloc(), read);
     for entry in entries(tree, folder, depth)? {
         match depth.checked_sub(1) {
             Some(below) if entry.kind == Kind::Folder => {
-                let inner = read_more(tree, entry.path.as_str(), below, limited, links.read)?;
+                let path = entry.path.as_str();
+                let so_far = read_with(tree.alloc(), links.read, path, &[])?;
+                let inner = read_more(tree, path, below, limited, so_far)?;
                 add_folder(tree.alloc(), &mut links, entry, inner)?;
             }
             _ => add_file(tree, &mut links, entry, limited)?,
@@ -144,9 +167,10 @@ fn add_file<T: Tree + AllocGlobal>(
 ) -> Result<(), Fault>
     ensures limited { OnOk result (AreLimited limited links.old.bundle
         → AreLimited limited links.new.bundle) }
-    ensures counted { OnOk result (links.old.read + size_of links.new.bundle
-        ≤ size_of links.old.bundle + links.new.read) }
-    ensures within { OnOk result (links.new.read ≤ most_bytes) }
+    ensures counted { OnOk result ((before : SoFar)
+        → IsCountedIn links.old.read before links.old.bundle
+        → IsCountedIn links.new.read before links.new.bundle) }
+    ensures within { OnOk result (IsWithin links.new.read) }
 {
     let alloc = tree.alloc();
     let bytes = Sequence::from(tree.read_whole(entry.path.as_str())?);
@@ -163,13 +187,23 @@ fn add_file<T: Tree + AllocGlobal>(
     Ok(())
 }
 
-/// How many bytes were read with those of the file at a path.
-fn read_with(alloc: Global, before: u64, path: &str, bytes: &[u8]) -> Result<u64, Fault>
-    ensures sum { IfOk result (λ read. read ≡ before + length bytes.now) }
-    ensures within { IfOk result (λ read. read ≤ most_bytes) }
+/// How much was read with what is at a path: a file of these bytes, or a folder, which has none.
+fn read_with(alloc: Global, before: SoFar, path: &str, bytes: &[u8]) -> Result<SoFar, Fault>
+    ensures bytes { IfOk result (λ read. read.bytes ≡ before.bytes + length bytes.now) }
+    ensures entries { IfOk result (λ read. read.entries ≡ before.entries + 1) }
+    ensures within { IfOk result (λ read. IsWithin read) }
 {
-    match before.checked_add(bytes.len() as u64) {
-        Some(read) if read <= MOST_LINK_BYTES => Ok(read),
+    if before.entries >= MOST_LINK_ENTRIES {
+        return Err(Fault::TooManyInAll {
+            path: Shown::of(alloc, path)?,
+            limit: MOST_LINK_ENTRIES,
+        });
+    }
+    match before.bytes.checked_add(bytes.len() as u64) {
+        Some(read) if read <= MOST_LINK_BYTES => Ok(SoFar {
+            bytes: read,
+            entries: before.entries + 1,
+        }),
         _ => Err(Fault::TooMuch {
             path: Shown::of(alloc, path)?,
             limit: MOST_LINK_BYTES,
@@ -181,8 +215,10 @@ fn read_with(alloc: Global, before: u64, path: &str, bytes: &[u8]) -> Result<u64
 fn add_folder(alloc: Global, links: &mut Links, entry: Entry, inner: Links) -> Result<(), Fault>
     ensures limited { OnOk result ((limited : _) → AreLimited limited links.old.bundle
         → AreLimited limited inner.bundle → AreLimited limited links.new.bundle) }
-    ensures counted { OnOk result
+    ensures size { OnOk result
         (size_of links.new.bundle ≤ size_of links.old.bundle + size_of inner.bundle) }
+    ensures count { OnOk result
+        (count_of links.new.bundle ≤ count_of links.old.bundle + 1 + count_of inner.bundle) }
     ensures read { OnOk result (links.new.read ≡ inner.read) }
 {
     let Links {

@@ -1,15 +1,31 @@
-use Rattle.std.proofs.Common.{arith}
+use Rattle.std.proofs.Common.{ap, arith, length, refl}
 use Rattle.it_disk.proofs.folders.+read_more.Goals as goal
 
 pub loop-entry-preserved-then-eq : goal.loop-entry-preserved-then-eq
 loop-entry-preserved-then-eq g t c =
     let inner = c.in_ok-inner-in-Some-checked_sub.ensures in
     let added = c.in_ok-add_folder-in-Some-checked_sub.ensures in
+    let read = c.in_ok-so_far-in-Some-checked_sub.ensures in
     let before = c.loop-entry.invariant in
     record {
       limited = added.limited c.args.limited before.limited inner.limited;
-      counted = let x = added.counted in let y = added.read in let z = inner.counted in let w = before.counted in omega (arith, x, y, z, w);
-      within = let y = added.read in let z = inner.within in omega (arith, y, z);
+      counted = record {
+        bytes =
+            let v = added.size in
+            let w = ap (λ r. r.bytes) added.read in
+            let x = inner.counted.bytes in
+            let y = read.bytes in
+            let z = before.counted.bytes in
+            omega (arith, v, w, x, y, z);
+        entries =
+            let v = added.count in
+            let w = ap (λ r. r.entries) added.read in
+            let x = inner.counted.entries in
+            let y = read.entries in
+            let z = before.counted.entries in
+            omega (arith, v, w, x, y, z);
+      };
+      within = rw added.read inner.within;
     }
 
 pub loop-entry-preserved : goal.loop-entry-preserved
@@ -18,6 +34,6 @@ loop-entry-preserved g t c =
     let before = c.loop-entry.invariant in
     record {
       limited = added.limited before.limited;
-      counted = let x = added.counted in let w = before.counted in omega (arith, x, w);
+      counted = added.counted c.args.read before.counted;
       within = added.within;
     }

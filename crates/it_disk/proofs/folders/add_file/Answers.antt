@@ -1,6 +1,7 @@
 use Rattle.std.proofs.Common.{IsNone, IsTrue, Option, ap, arith, length, refl, subst, ℕ}
 use Rattle.it_limits.specs.Limit.{IsWithinLimit}
 use Rattle.it_limits.proofs.LinksWithin.{file_within}
+use Rattle.it_disk.proofs.LinksCounted.{file_counted}
 use Rattle.it_disk.proofs.LinksSized.{file_sized}
 use Rattle.it_disk.proofs.folders.add_file.Goals as goal
 use Rattle.it_disk.proofs.folders.add_file.Goals.{in-None+in_ok-add_read-in-None}
@@ -18,17 +19,27 @@ returns-clause-limited g c = λ before limited. elim c.match-too_many_in.branch 
 ]
 
 pub returns-clause-counted : goal.returns-clause-counted
-returns-clause-counted g c =
-    let sum = c.in_ok-links.ensures.sum in
+returns-clause-counted g c = λ start before.
+    let sum = c.in_ok-links.ensures.bytes in
+    let one = c.in_ok-links.ensures.entries in
+    let old = before.bytes in
+    let few = before.entries in
     elim c.match-too_many_in.branch [
       | in-Some+in_ok-path-in-Some+in_ok-push-in-Some w ↦
-          let read = ap (λ l. l.read) w.links-is in
-          rw (ap (λ l. l.bundle) w.links-is) (omega (arith, read, sum))
+          let read = ap (λ l. l.read.bytes) w.links-is in
+          let count = ap (λ l. l.read.entries) w.links-is in
+          rw (ap (λ l. l.bundle) w.links-is)
+          (record { bytes = omega (arith, read, sum, old); entries = omega (arith, count, one, few) })
       | in-None+in_ok-add_read-in-None w ↦
-          let read = ap (λ l. l.read) w.links-is in
+          let read = ap (λ l. l.read.bytes) w.links-is in
+          let count = ap (λ l. l.read.entries) w.links-is in
           let size = file_sized c.in_ok-file.file c.args.links.now.bundle in
+          let more = file_counted c.in_ok-file.file c.args.links.now.bundle in
           let held = ap (λ f. length f.bytes) c.in_ok-file.ensures in
           let bytes = ap length c.as_slice.ensures in
           rw (ap (λ l. l.bundle) w.links-is, w.in_ok-add_read-in-None.ensures.ok)
-          (omega (arith, read, sum, size, held, bytes))
+          (record {
+            bytes = omega (arith, read, sum, size, held, bytes, old);
+            entries = omega (arith, count, one, more, few);
+          })
     ]

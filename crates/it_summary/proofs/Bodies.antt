@@ -53,15 +53,15 @@ unfolding summary_of
 is_body evidence verifier resource text written =
     written.text_is (no_float evidence verifier resource)
 
-length_of : Option (List ℕ) → ℕ
+abbrev length_of : Option (List ℕ) → ℕ
 length_of None = 0
 length_of (Some text) = length text
 
 -- the predicate is not provenance
 no_provenance : Some summary_type ≡ Some (codes "https://slsa.dev/provenance/v1") → ⊥
 no_provenance same =
-    let bad : 40 ≡ 30 = ap length_of same in
-    omega (arith, bad)
+    let lengths : 40 ≡ 30 = ap length_of same in
+    omega (arith, lengths)
 
 -- the document is a Statement about the delivered files
 statement_reads : (evidence : Evidence) (verifier resource : List ℕ)

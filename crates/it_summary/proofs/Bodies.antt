@@ -5,7 +5,6 @@ use Rattle.serde_json.specs.Data.{depth, items_depth, string}
 use Rattle.serde_json.specs.Read.{max_depth}
 use Rattle.serde_json.specs.View.{items_of}
 use Rattle.serde_json.specs.Written.{has_float, items_have_float}
-use Rattle.it_base.specs.Document.{IsDocument}
 use Rattle.it_base.specs.Sequence.{IsList}
 use Rattle.it_docs.specs.Statement.{IsStatement, IsSubject, StatementOf}
 use Rattle.it_json_report.specs.declared.evidence.Evidence.{Evidence}

@@ -1,17 +1,16 @@
 -- Bodies of verification summaries that are written.
 use Rattle.std.proofs.Common.{◌≡◌, ◌≤◌, ◌==◌, ℕ, List, [], ◌∷◌, ◌++◌, Bool, true, false, arith}
-use Rattle.std.proofs.Common.{Option, None, Some, codes, decimal, if◌then◌else◌, map, refl}
+use Rattle.std.proofs.Common.{Option, None, Some, ap, codes, decimal, if◌then◌else◌, length, map, refl}
 use Rattle.serde_json.specs.Data.{depth, items_depth, string}
 use Rattle.serde_json.specs.Read.{max_depth}
 use Rattle.serde_json.specs.View.{items_of}
 use Rattle.serde_json.specs.Written.{has_float, items_have_float}
-use Rattle.it_base.specs.Document.{IsDocument}
 use Rattle.it_base.specs.Sequence.{IsList}
 use Rattle.it_docs.specs.Statement.{IsStatement, IsSubject, StatementOf}
 use Rattle.it_json_report.specs.declared.evidence.Evidence.{Evidence}
 use Rattle.it_making.specs.StatementOutput.{IsWritten}
 use Rattle.it_summary.specs.Summary.{digests_of, least_level, level_names, statement_of}
-use Rattle.it_summary.specs.Summary.{subjects_document, summary_document, summary_of}
+use Rattle.it_summary.specs.Summary.{subjects_document, summary_document, summary_of, summary_type}
 use Rattle.it_summary.proofs.SubjectsWritten.{no_float_in_subjects, shallow_subjects}
 
 no_float_in_one : (none : Bool) (name : List ℕ)
@@ -53,6 +52,16 @@ unfolding summary_of
 is_body evidence verifier resource text written =
     written.text_is (no_float evidence verifier resource)
 
+abbrev length_of : Option (List ℕ) → ℕ
+length_of None = 0
+length_of (Some text) = length text
+
+-- the predicate is not provenance
+no_provenance : Some summary_type ≡ Some (codes "https://slsa.dev/provenance/v1") → ⊥
+no_provenance same =
+    let lengths : 40 ≡ 30 = ap length_of same in
+    omega (arith, lengths)
+
 -- the document is a Statement about the delivered files
 statement_reads : (evidence : Evidence) (verifier resource : List ℕ)
     → IsList IsSubject (subjects_document evidence.files) (digests_of evidence.files)
@@ -61,7 +70,7 @@ statement_reads evidence verifier resource subjects = record {
   type_is = refl;
   subjects = subjects;
   predicate_type = refl;
-  provenance = λ provenance is. absurd (let other = is.type_is in cc);
+  provenance = λ provenance is. no_provenance is.type_is;
 }
 
 -- a text that was written of the document reads back as that Statement

@@ -31,8 +31,8 @@ subjects_document files = array (items_of (map subject_of files))
 abbrev pub digest_uri : List ℕ → List ℕ
 digest_uri digest = codes "ni:///sha-256;" ++ encode_of url_safe_no_pad digest
 
--- the policy that has this SHA-256 (in-toto Attestation v1, ResourceDescriptor); its URI names it by
--- that, since a policy has no other name (this profile's choice)
+-- the policy that has this SHA-256 (in-toto Attestation v1, ResourceDescriptor); its URI names it
+-- by that, since a policy has no other name (this profile's choice)
 abbrev pub policy_document : List ℕ → Data
 policy_document digest = object
     (member (codes "digest")

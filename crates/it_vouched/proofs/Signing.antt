@@ -1,5 +1,5 @@
 -- Which signatures are valid.
-use Rattle.std.proofs.Common.{◌≡◌, ◌↔◌, ◌∙◌, ℕ, List, All, Any, get_or, sym, subst, ap}
+use Rattle.std.proofs.Common.{◌≡◌, ◌↔◌, ℕ, List, All, Any, subst}
 use Rattle.std.specs.List.{Contains}
 use Rattle.it_identity.specs.Identity.{IsIdentity, IsOfBytes}
 use Rattle.it_identity.specs.Name.{number_of}

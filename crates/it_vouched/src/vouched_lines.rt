@@ -33,8 +33,8 @@ impl Model for VouchedLines {
 }
 
 impl VouchedLines {
-    /// What the lines of provenance vouch for, by a trusted root. Each line is judged once; one that
-    /// is no bundle, or vouches for nobody, is passed over.
+    /// What the lines of provenance vouch for, by a trusted root. Each line is judged once; one
+    /// that is no bundle, or vouches for nobody, is passed over.
     ///
     /// # Errors
     ///
@@ -50,8 +50,8 @@ impl VouchedLines {
         Ok(VouchedLines { all })
     }
 
-    /// Whether a signature of a message is valid for an identity: whether some line with this message
-    /// and this signature vouches for it. Takes no memory, and checks no signature.
+    /// Whether a signature of a message is valid for an identity: whether some line with this
+    /// message and this signature vouches for it. Takes no memory, and checks no signature.
     pub fn is_valid(&self, identity: &Identity, message: &[u8], signature: &[u8]) -> bool
         requires { IsIdentity identity.now }
         ensures { IsTrue result

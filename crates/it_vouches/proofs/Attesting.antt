@@ -1,6 +1,6 @@
 -- What attests a leaf, step by step.
-use Rattle.std.proofs.Common.{◌≡◌, ℕ, ◌↔◌, Bool, true, false, true≢false, IsTrue, List, [], ◌∷◌, Any, map, drop, Some, None}
-use Rattle.std.proofs.Common.{slice_get, refl, sym, subst, ◌∙◌}
+use Rattle.std.proofs.Common.{◌≡◌, ℕ, ◌↔◌, Bool, true, false, true≢false, IsTrue, List, ◌∷◌, Any, map, drop, Some, None}
+use Rattle.std.proofs.Common.{slice_get, sym, subst, ◌∙◌}
 use Rattle.it_certificate.specs.Certificate.{Facts, facts_of}
 use Rattle.it_certificate.specs.declared.certificate.Certificate.{Certificate}
 use Rattle.it_issued.specs.Issued.{IsIssued, IsUsable}
@@ -10,7 +10,6 @@ use Rattle.it_issued.proofs.Issuing.{first_facts, none_issued}
 use Rattle.it_issued.proofs.Reading.{one_way}
 use Rattle.it_issued.proofs.Tests.{refused}
 use Rattle.it_log.specs.declared.window.Window.{Window}
-use Rattle.it_trust_root.specs.declared.authority.Authority.{Authority}
 use Rattle.it_trust_root.specs.declared.root.TrustedRoot.{TrustedRoot}
 use Rattle.it_trust_root.specs.declared.root_log.RootLog.{RootLog}
 use Rattle.it_vouches.specs.Vouches.{IsAttested}

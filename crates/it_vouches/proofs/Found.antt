@@ -1,9 +1,9 @@
 -- What is found one after another.
-use Rattle.std.proofs.Common.{◌≡◌, ℕ, ◌+◌, ◌<◌, ◌≤◌, List, [], ◌∷◌, ◌++◌, length, get_or, take, ◌⊎◌}
-use Rattle.std.proofs.Common.{Option, Some, None, MatchOption, refl, sym, ap, subst, ◌∙◌, arith, inl, inr, append-nil}
+use Rattle.std.proofs.Common.{◌≡◌, ℕ, ◌+◌, ◌<◌, ◌≤◌, List, [], ◌∷◌, ◌++◌, length, get_or, take}
+use Rattle.std.proofs.Common.{Option, Some, None, MatchOption, refl, sym, ap, subst, ◌∙◌, inl, inr, append-nil}
 use Rattle.std.specs.List.{Contains, cons_option}
 use Rattle.std.proofs.lemmas.List.{take_all, take_more}
-use Rattle.it_vouches.specs.Found.{AreFound, BeginsWith}
+use Rattle.it_vouches.specs.Found.{AreFound}
 use Rattle.it_vouches.proofs.Loops.{contains_cases, contains_first, contains_later, contains_none}
 
 none_more : {X Y : Type 0} (IsNone : X → Type 0) (Is : X → Y → Type 0) (xs : List X) (x : X) (ys : List Y) → AreFound IsNone Is xs ys

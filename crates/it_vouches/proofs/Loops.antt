@@ -1,6 +1,6 @@
 -- Loops that look for an element.
 use Rattle.std.proofs.Common.{◌≡◌, ℕ, ◌+◌, ◌<◌, ◌≤◌, ◌↔◌, true, false, IsTrue, List, [], ◌∷◌, length, get_or, take, All, Any}
-use Rattle.std.proofs.Common.{refl, sym, subst, ap, arith, ◌⊎◌, inl, inr, suc, zero}
+use Rattle.std.proofs.Common.{refl, sym, subst, arith, ◌⊎◌, inl, inr, suc, zero}
 use Rattle.std.specs.List.{Contains}
 use Rattle.std.proofs.lemmas.List.{take_all}
 use Rattle.std.proofs.lemmas.List.Elements.{All-more}

@@ -12,7 +12,6 @@ use Rattle.it_log_entry.specs.CertificateText.{IsEncodedCertificate}
 use Rattle.it_log_entry.specs.DsseBody.{IsDsseBody, IsDsseSignature}
 use Rattle.it_log_entry.specs.IntotoBody.{IsIntotoBody, IsIntotoContent, IsIntotoEnvelope, IsIntotoSignature, IsTwiceBase64}
 use Rattle.it_log_entry.specs.PayloadHash.{IsPayloadHash}
-use Rattle.it_log_entry.specs.Vouching.{EntryVouches}
 use Rattle.it_log_entry.specs.declared.entry.LogEntry.{LogEntry}
 use Rattle.it_log_entry.specs.declared.kind.EntryKind.{EntryKind}
 use Rattle.it_log_entry.specs.declared.logged.Logged.{Logged}

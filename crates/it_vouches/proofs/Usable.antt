@@ -1,5 +1,5 @@
 -- The authorities that can be used, as they are read one after another.
-use Rattle.std.proofs.Common.{◌≡◌, ℕ, List, get_or, All, map, Option, Some, None, MatchOption}
+use Rattle.std.proofs.Common.{◌≡◌, List, get_or, All, map, Option, Some, None, MatchOption}
 use Rattle.std.specs.List.{Contains}
 use Rattle.std.proofs.lemmas.List.Elements.{Contains-get_or}
 use Rattle.it_certificate.specs.Certificate.{Facts, facts_of}

@@ -22,8 +22,8 @@ pub(crate) struct Question<'q> {
     pub(crate) leaf: &'q Certificate<'q>,
 }
 
-/// Whether, by one of the entries, a log vouches for what is logged, and the leaf was issued at that
-/// entry's time and promised to be logged.
+/// Whether, by one of the entries, a log vouches for what is logged, and the leaf was issued at
+/// that entry's time and promised to be logged.
 ///
 /// # Errors
 ///

@@ -53,8 +53,8 @@ impl<'r> Trust<'r> {
         self.root.logs.as_slice()
     }
 
-    /// Whether an authority issued a leaf at a moment, in seconds, and a certificate log promised it
-    /// to log the leaf.
+    /// Whether an authority issued a leaf at a moment, in seconds, and a certificate log promised
+    /// it to log the leaf.
     ///
     /// # Errors
     ///

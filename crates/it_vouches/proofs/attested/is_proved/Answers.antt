@@ -1,5 +1,4 @@
 use Rattle.std.proofs.lemmas.Result.{IfOk-weaker}
-use Rattle.it_certificate.specs.Certificate.{facts_of}
 use Rattle.it_issued.proofs.Tests.{fails}
 use Rattle.it_vouches.proofs.attested.is_proved.Goals as goal
 

@@ -1,4 +1,3 @@
-use Rattle.std.proofs.Common.{◌≡◌, ◌∙◌, ◌++◌, List, refl, ap}
 use Rattle.it_vouches.specs.inside.Usable.{CannotBeUsed, IsRead}
 use Rattle.it_vouches.proofs.Found.{all_found, found_at}
 use Rattle.it_vouches.proofs.Usable.{read_is}

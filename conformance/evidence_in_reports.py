@@ -29,17 +29,38 @@ def faults_of_documents(case, evidence):
     return [name for name, one in wanted.items() if evidence[name] != one]
 
 
-def faults_of_step(case, step, told, shown):
+def is_admitted(envelope, place, key):
+    """Whether a signature stands at a place of an envelope, from 1, and is admitted for a key id."""
+    signatures = json.loads(envelope)["signatures"]
+    return 1 <= place <= len(signatures) and signatures[place - 1].get("keyid") in (None, "", key)
+
+
+def faults_of_key(key, files):
+    """What is told of the files and the signatures of a key id, and does not fit these files."""
+    if not key["files"] or not is_rising(key["files"]) or not set(key["files"]) <= set(files):
+        yield f"files of {key['keyid']}"
+    elif not all(any(is_admitted(envelope, place, key["keyid"]) for envelope in files[name])
+                 for name, place in zip(key["files"], key["signatures"], strict=True)):
+        yield f"signatures of {key['keyid']}"
+
+
+def files_of(case):
+    """The contents of the files of the links, under their names."""
+    files = {}
+    for name, content in case["links"]["files"]:
+        files.setdefault(bytes_of(name).decode(errors="replace"), []).append(bytes_of(content))
+    return files
+
+
+def faults_of_step(step, told, shown, files):
     """What is told of a step of the layout, and does not fit it and the links."""
-    names = {bytes_of(name).decode(errors="replace") for name, _ in case["links"]["files"]}
     ids = [key["keyid"] for key in told["keys"]]
     if told["name"] != step["name"] or told["name"] != shown["name"]:
         yield "name of a step"
     if len(ids) < shown["keys"] or not is_rising(ids) or not set(ids) <= set(step["pubkeys"]):
         yield f"keys of {step['name']}"
     for key in told["keys"]:
-        if not key["files"] or not is_rising(key["files"]) or not set(key["files"]) <= names:
-            yield f"files of {key['keyid']}"
+        yield from faults_of_key(key, files)
 
 
 def digests_of(case):
@@ -64,8 +85,9 @@ def faults(case, report):
     """What is told in the evidence of the report of an accepted case, and does not fit."""
     evidence, steps = report["evidence"], payload_of(bytes_of(case["layout"]))["steps"]
     found = faults_of_documents(case, evidence)
+    files = files_of(case)
     for told in zip(steps, evidence["steps"], report["steps"], strict=True):
-        found += faults_of_step(case, *told)
+        found += faults_of_step(*told, files)
     digests = digests_of(case)
     for told, path in zip(evidence["files"], report["files"], strict=True):
         found += [] if told["path"] == path else ["path of a file"]

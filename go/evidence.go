@@ -27,6 +27,9 @@ type StepEvidence struct {
 type CountedKey struct {
 	KeyID string   `json:"keyid"`
 	Files []string `json:"files"`
+	// Signatures are, for each of the files, the place of the key's signature among the signatures
+	// of its envelope, counted from 1.
+	Signatures []uint64 `json:"signatures"`
 }
 
 // FileEvidence is a delivered file, and what stood for it.

@@ -6,10 +6,13 @@ from typing import Any, Dict, List
 
 @dataclasses.dataclass(frozen=True)
 class CountedKey:
-    """A key id that counted for a step, and the names of the files by which it did."""
+    """A key id that counted for a step, the names of the files by which it did, and for each of
+    these the place of the key's signature among the signatures of its envelope, counted from 1.
+    """
 
     keyid: str
     files: List[str]
+    signatures: List[int]
 
 
 @dataclasses.dataclass(frozen=True)

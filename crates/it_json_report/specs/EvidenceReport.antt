@@ -24,13 +24,15 @@ set_members set =
     digest_members (name_of in_sha256) set.sha256 ++ digest_members (name_of in_sha384) set.sha384
     ++ digest_members (name_of in_sha512) set.sha512
 
--- a key id that counted for a step, and the files by which it did
-abbrev pub key_form : (id : List ℕ) (files : List (List ℕ)) → List ℕ
-key_form id files =
-    json_object ((codes "keyid", json_text id) ∷ (codes "files", json_list json_text files) ∷ [])
+-- a key id that counted for a step, the files by which it did, and the places of its signatures in
+-- their envelopes
+abbrev pub key_form : (id : List ℕ) (files : List (List ℕ)) (signatures : List ℕ) → List ℕ
+key_form id files signatures =
+    json_object ((codes "keyid", json_text id) ∷ (codes "files", json_list json_text files)
+    ∷ (codes "signatures", json_list decimal signatures) ∷ [])
 
 abbrev pub key_object : CountedKey → List ℕ
-key_object key = key_form key.id key.files
+key_object key = key_form key.id key.files key.signatures
 
 -- a step, and the key ids that counted for it
 abbrev pub counted_form : (name : List ℕ) (keys : List CountedKey) → List ℕ

@@ -3,7 +3,7 @@ use it_base::sequence::Sequence;
 use it_base::text::Text;
 use it_digest::compare::DigestSet;
 
-/// A key id that counted for a step, and by which files.
+/// A key id that counted for a step, and by which files and signatures.
 #[derive(Drop)]
 pub struct CountedKey {
     /// The key id.
@@ -11,6 +11,9 @@ pub struct CountedKey {
     /// The names of the files that are signed by its key and count for the step, in the order of
     /// the bytes of their names.
     pub files: Sequence<Text>,
+    /// For each of the files, in their order, the place of that signature among the signatures of
+    /// its envelope, from 1: of several that are valid for the key, that of the first.
+    pub signatures: Sequence<u64>,
 }
 
 /// The key ids that counted for a step.

@@ -19,16 +19,25 @@ impl JsonItem for CountedKey {
     ghost form = { key_object };
 
     fn push_item(&self, alloc: Global, json: &mut Vec<u8>) -> Result<(), AllocError> {
-        push_key(alloc, json, &self.id, self.files.as_slice())
+        let signatures = self.signatures.as_slice();
+        push_key(alloc, json, &self.id, self.files.as_slice(), signatures)
     }
 }
 
-fn push_key(alloc: Global, json: &mut Vec<u8>, id: &Text, files: &[Text]) -> Result<(), AllocError>
-    ensures { OnOk result (json.new.items ≡ json.old.items ++ key_form id.now files.now) }
+fn push_key(
+    alloc: Global,
+    json: &mut Vec<u8>,
+    id: &Text,
+    files: &[Text],
+    signatures: &[u64],
+) -> Result<(), AllocError>
+    ensures { OnOk result (json.new.items
+        ≡ json.old.items ++ key_form id.now files.now signatures.now) }
 {
     json.extend_from_slice(b"{\"keyid\":")?;
     push_text(json, id.as_str())?;
     push_list_member(alloc, json, "files", files)?;
+    push_list_member(alloc, json, "signatures", signatures)?;
     json.push(b'}')?;
     Ok(())
 }

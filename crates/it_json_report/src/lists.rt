@@ -1,5 +1,5 @@
 //! Lists in JSON (RFC 8259, section 5), and the items of those in a report.
-ghost use Rattle.std.specs.Prelude.{◌≡◌, ◌++◌, ℕ, List, OnOk};
+ghost use Rattle.std.specs.Prelude.{◌≡◌, ◌++◌, ℕ, List, OnOk, decimal};
 ghost use Rattle.it_json_report.specs.Json.{further, json_list, json_text, member, parted};
 ghost use Rattle.it_json_report.specs.JsonReport.{step_object, sublayout_object};
 
@@ -25,6 +25,17 @@ impl JsonItem for Text {
     /// A name or a path, as a text.
     fn push_item(&self, _alloc: Global, json: &mut Vec<u8>) -> Result<(), AllocError> {
         push_text(json, self.as_str())
+    }
+}
+
+impl JsonItem for u64 {
+    ghost form = { decimal };
+
+    /// A number.
+    fn push_item(&self, alloc: Global, json: &mut Vec<u8>) -> Result<(), AllocError> {
+        let number = *self;
+        let digits = format!(in alloc; "{number}")?;
+        json.extend_from_slice(digits.as_bytes())
     }
 }
 

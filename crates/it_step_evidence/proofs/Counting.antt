@@ -3,7 +3,7 @@ use Rattle.std.proofs.Common.{◌≡◌, ◌∙◌, ◌↔◌, ℕ, List, Option
 use Rattle.std.proofs.Common.{refl, sym, subst}
 use Rattle.std.specs.FinMap.{get}
 use Rattle.std.proofs.lemmas.Option.{same_Some}
-use Rattle.it_base.specs.Finds.{FindsAs}
+use Rattle.it_base.specs.Finds.{Finds, FindsAs}
 use Rattle.it_dsse.specs.Panel.{Panel}
 use Rattle.it_dsse.specs.Signed.{IsSigner, Signed}
 use Rattle.it_dsse.specs.declared.envelope.Envelope.{Envelope}
@@ -20,9 +20,11 @@ use Rattle.it_chain.specs.declared.body.Body.{Body as Held}
 use Rattle.it_chain.specs.declared.bundle.File.{File}
 use Rattle.it_chain.proofs.ClaimedFiles.{in_those, of_those}
 use Rattle.it_chain.proofs.Documents.{envelope_same}
-use Rattle.it_step_evidence.specs.CountsBy.{CountsBy}
+use Rattle.it_step_evidence.specs.CountsBy.{CountsAt, CountsBy}
 use Rattle.it_step_evidence.specs.EvidenceLaws.{FilesCount}
-use Rattle.it_step_evidence.specs.inside.Counting.{HoldsBody, IsNameFor}
+use Rattle.it_step_evidence.specs.inside.Counting.{HoldsAt, HoldsBody, IsNameFor, IsPlaceFor}
+use Rattle.it_valid_signatures.specs.FirstPlace.{IsSignedAt}
+use Rattle.it_valid_signatures.proofs.FirstSigned.{placed_signed}
 
 -- ---- whether a file holds a body
 module _ (panel : Panel) (step id : List ℕ) (object : KeyObject) (file : File) where
@@ -58,6 +60,38 @@ module _ (panel : Panel) (step id : List ℕ) (object : KeyObject) (file : File)
       },
       λ h. refl,
     )
+
+-- ---- at which place of its envelope a file's signature stands
+module _ (panel : Panel) (step id : List ℕ) (object : KeyObject) (file : File) where
+  abbrev IsHeld : ℕ → Type 0
+  IsHeld = HoldsAt panel step id object file
+
+  -- a file with such a place holds a body
+  pub held_body : (place : ℕ) → IsHeld place → HoldsBody panel step id object file
+  held_body place h = record {
+    envelope = h.envelope;
+    body = h.body;
+    is_candidate = h.is_candidate;
+    signed = (h.signed.n, placed_signed panel h.envelope id object place h.signed);
+    reads = h.reads;
+  }
+
+  module _ (envelope : Envelope) (is : IsCandidate file.bytes envelope) where
+    pub held_where : HoldsBody panel step id object file → (found : Option ℕ)
+        → Finds (IsSignedAt panel envelope id object) found → Finds IsHeld found
+    held_where h None none = λ place held. none place
+        (subst (λ (e : Envelope). IsSignedAt panel e id object place)
+        (envelope_same file.bytes held.envelope envelope held.is_candidate.is_envelope
+        is.is_envelope) held.signed)
+    held_where h (Some place) at = record {
+      envelope = envelope;
+      body = h.body;
+      is_candidate = is;
+      signed = at;
+      reads = subst (λ (e : Envelope). BodyOf step e.payload h.body)
+          (envelope_same file.bytes h.envelope envelope h.is_candidate.is_envelope
+          is.is_envelope) h.reads;
+    }
 
 -- ---- what counts
 -- something counts exactly where it counts by a file
@@ -124,4 +158,35 @@ module _ (setting : Setting) (layout : Layout) (bundle : Contents) (step : Step)
           );
           reads = subst (λ payload. BodyOf step.name payload c.body) (sym c.payload_is) c.reads;
         };
+      }
+
+  -- and its place is that of the signature by which something counts
+  pub place_counts : (place : ℕ) → Contains step.pubkeys id
+      → IsPlaceFor setting.panel step.name claimed (id, object) name place
+      → CountsAt setting layout bundle step id name place
+  place_counts place listed is =
+      let from = of_those Claims (files_of bundle) claimed are is.file is.stands in
+      let holds = is.holds in
+      record {
+        by = record {
+          payload = holds.envelope.payload;
+          counted = record {
+            file = is.file;
+            envelope = holds.envelope;
+            object = object;
+            key = holds.signed.n;
+            body = holds.body;
+            stands = from.0;
+            claimed = from.1;
+            is_envelope = holds.is_candidate.is_envelope;
+            type_is = holds.is_candidate.type_is;
+            payload_is = refl;
+            listed = listed;
+            known = known;
+            signed = placed_signed setting.panel holds.envelope id object place holds.signed;
+            reads = holds.reads;
+          };
+          name_is = is.name_is;
+        };
+        first = holds.signed.first;
       }

@@ -1,38 +1,35 @@
 -- The key ids that count, of the signers of a step.
 use Rattle.std.proofs.Common.{◌≡◌, ◌++◌, ◌∷◌, [], ℕ, List, Option, Some, None, Contains, All}
-use Rattle.std.proofs.Common.{Less, map, nat_cmp, append-nil, refl, sym, subst, ⊎_elim}
-use Rattle.std.specs.Cmp.Lexicographic.{slice_cmp}
+use Rattle.std.proofs.Common.{map, append-nil, refl, sym, subst}
 use Rattle.std.specs.FinMap.{entries, entries_sorted}
-use Rattle.std.specs.List.{AllByRecursion, AllZip, cons_option}
-use Rattle.std.specs.List.Sorted.{IsStrictlySortedBy}
+use Rattle.std.specs.List.{AllZip, cons_option}
 use Rattle.std.proofs.lemmas.List.Elements.{All-cons, All-nil}
 use Rattle.std.proofs.lemmas.Slice.Zip.{all_zipped_more}
 use Rattle.it_base.proofs.Members.{in_head, in_tail}
 use Rattle.it_dsse.specs.Panel.{Panel}
-use Rattle.it_dsse.specs.Signed.{AreThose}
 use Rattle.it_dsse.specs.declared.key_object.KeyObject.{KeyObject}
 use Rattle.it_dsse.proofs.Keeping.{keep_last, pass_last}
 use Rattle.it_docs.specs.declared.layout.Layout.{Layout}
 use Rattle.it_docs.specs.declared.step.Step.{Step}
 use Rattle.it_rules.proofs.Listed.{Contains-from_place, Contains-map, Contains-map_cases, place_of}
 use Rattle.it_chain.specs.Answer.{signers}
-use Rattle.it_chain.specs.First.{IsBefore}
 use Rattle.it_chain.specs.inside.ClaimedFiles.{AreClaimed}
 use Rattle.it_chain.specs.Contents.{Contents, files_of}
 use Rattle.it_chain.specs.CountedBodies.{Setting}
 use Rattle.it_chain.specs.declared.bundle.File.{File}
 use Rattle.it_chain.proofs.ClaimedFiles.{in_those, of_those}
 use Rattle.it_chain.proofs.Records.{is_listed}
-use Rattle.it_chain.proofs.SignerLists.{Rises, is_signer, rises_filter}
+use Rattle.it_chain.proofs.SignerLists.{is_signer, rises_filter}
 use Rattle.it_json_report.specs.declared.evidence.CountedKey.{CountedKey}
 use Rattle.it_json_report.specs.declared.evidence.StepEvidence.{StepEvidence}
-use Rattle.it_step_evidence.specs.CountsBy.{CountsBy, CountsUnder}
+use Rattle.it_step_evidence.specs.CountsBy.{CountsAt, CountsBy, CountsUnder}
 use Rattle.it_step_evidence.specs.Exactly.{AreExactly}
 use Rattle.it_step_evidence.specs.StepEvidence.{IsStepEvidence}
 use Rattle.it_step_evidence.specs.inside.Counting.{AreKeys, IsKey, IsKeyOrNone, IsNameFor}
-use Rattle.it_step_evidence.specs.inside.Counting.{SignsSome}
-use Rattle.it_step_evidence.proofs.Counting.{counts_name, name_counts}
+use Rattle.it_step_evidence.specs.inside.Counting.{IsPlaceFor, SignsSome}
+use Rattle.it_step_evidence.proofs.Counting.{counts_name, name_counts, place_counts}
 use Rattle.it_step_evidence.proofs.Names.{exactly_alike}
+use Rattle.it_step_evidence.proofs.Rising.{ids_rise, rises_those}
 
 -- ---- one signer more
 module _ (panel : Panel) (step : List ℕ) (files : List File) where
@@ -65,32 +62,13 @@ module _ (panel : Panel) (step : List ℕ) (files : List File) where
       let rest = ids_same counted keys h.1 in
       λ i. h.0.id_is i ∷ rest i
 
--- ---- ids that rise
-module _ {X : Type 0} where
-  -- those of a list whose ids rise
-  rises_those : (P : List ℕ × X → Type 0) (xs kept : List (List ℕ × X)) → Rises xs
-      → AreThose P xs kept → Rises kept
-  rises_those P [] kept rises are =
-      subst (λ (es : List (List ℕ × X)). Rises es) (sym are) tt
-  rises_those P (x ∷ xs) kept rises are = ⊎_elim
-      (λ k. subst (λ (es : List (List ℕ × X)). Rises es) (sym k.1.1) (
-        λ f c. rises.0 f ((of_those P xs k.1.0 k.1.2 f c).0),
-        rises_those P xs k.1.0 rises.1 k.1.2,
-      ))
-      (λ k. rises_those P xs kept rises.1 k.1) are
-
-  before_each : (id : List ℕ) (es : List (List ℕ × X))
-      → ((f : List ℕ × X) → Contains es f → IsBefore id f.0)
-      → AllByRecursion (λ t. slice_cmp nat_cmp id t ≡ Less) (map (λ (e : List ℕ × X). e.0) es)
-  before_each id [] h = tt
-  before_each id (e ∷ es) h =
-      (h e (in_head e es), before_each id es (λ f c. h f (in_tail e es f c)))
-
-  ids_rise : (es : List (List ℕ × X)) → Rises es
-      → IsStrictlySortedBy (slice_cmp nat_cmp) (map (λ (e : List ℕ × X). e.0) es)
-  unfolding IsStrictlySortedBy
-  ids_rise [] rises = tt
-  ids_rise (e ∷ es) rises = (before_each e.0 es rises.0, ids_rise es rises.1)
+-- a relation side by side gives another that follows from it
+zip_weaker : {X Y : Type 0} (R S : X → Y → Type 0) → ((x : X) (y : Y) → R x y → S x y)
+    → (xs : List X) (ys : List Y) → AllZip R xs ys → AllZip S xs ys
+zip_weaker R S to [] [] h = tt
+zip_weaker R S to [] (y ∷ ys) h = absurd h
+zip_weaker R S to (x ∷ xs) [] h = absurd h
+zip_weaker R S to (x ∷ xs) (y ∷ ys) h = (to x y h.0, zip_weaker R S to xs ys h.1)
 
 -- ---- the keys of a step
 module _ (setting : Setting) (layout : Layout) (bundle : Contents) (step : Step)
@@ -163,6 +141,30 @@ module _ (setting : Setting) (layout : Layout) (bundle : Contents) (step : Step)
       (λ name. counts_name setting layout bundle step claimed are s.0 s.1 known.1 name) key.files
       is.files_are)
 
+  abbrev HasPlaces : CountedKey → Type 0
+  HasPlaces key = AllZip (CountsAt setting layout bundle step key.id) key.files key.signatures
+
+  places_of_key : (s : Signer) (key : CountedKey) → Contains (signers layout step) s → HasKey s key
+      → HasPlaces key
+  places_of_key s key c is =
+      let known = (is_signer layout step s.0 s.1).0 c in
+      subst (λ id. AllZip (CountsAt setting layout bundle step id) key.files key.signatures)
+      (sym is.id_is)
+      (zip_weaker (IsPlaceFor setting.panel step.name claimed s)
+      (CountsAt setting layout bundle step s.0)
+      (λ name place. place_counts setting layout bundle step claimed are s.0 s.1 known.1 name place
+      known.0) key.files key.signatures is.signatures_are)
+
+  all_places : (some : List Signer) (rest : List CountedKey)
+      → ((s : Signer) → Contains some s → Contains (signers layout step) s)
+      → AllZip HasKey some rest → All HasPlaces rest
+  all_places [] [] within h = All-nil HasPlaces
+  all_places [] (key ∷ rest) within h = absurd h
+  all_places (s ∷ some) [] within h = absurd h
+  all_places (s ∷ some) (key ∷ rest) within h =
+      All-cons HasPlaces key rest (places_of_key s key (within s (in_head s some)) h.0)
+      (all_places some rest (λ t c. within t (in_tail s some t c)) h.1)
+
   all_files : (some : List Signer) (rest : List CountedKey)
       → ((s : Signer) → Contains some s → Contains (signers layout step) s)
       → AllZip HasKey some rest → All HasFiles rest
@@ -179,4 +181,5 @@ module _ (setting : Setting) (layout : Layout) (bundle : Contents) (step : Step)
     name_is = named;
     keys_are = rw is ids_are;
     files_are = rw is (all_files counted keys inside are_keys.each);
+    signatures_are = rw is (all_places counted keys inside are_keys.each);
   }

@@ -2,3 +2,5 @@ pub mod ClaimedFor
 pub mod Counting
 pub mod Keys
 pub mod Names
+pub mod PlacesMore
+pub mod Rising

@@ -4,8 +4,8 @@ ghost use Rattle.it_chain.specs.Answer.{signers as signers_of};
 ghost use Rattle.it_chain.specs.Signers.{entry_of};
 ghost use Rattle.it_step_evidence.specs.inside.Counting.{AreKeys, IsKeyOrNone};
 
-use crate::counted_files::counted_files;
-use crate::file_names::names_of;
+use crate::listed::names_and_places;
+use crate::places::signed_places;
 use it_base::optional::push_some;
 use it_base::sequence::Sequence;
 use it_base::text::Text;
@@ -38,8 +38,8 @@ pub(crate) fn counted_keys<C: Checks>(
     Ok(keys)
 }
 
-/// A signer's key id with the files by which it counts for a step, or `None` where it does not
-/// count.
+/// A signer's key id with the files by which it counts for a step and the places of its signatures,
+/// or `None` where it does not count.
 fn counted_key<C: Checks>(
     alloc: Global,
     checks: &C,
@@ -50,14 +50,14 @@ fn counted_key<C: Checks>(
     ensures { IfOk result (IsKeyOrNone (C.panel checks.now) step.now
         (map (λ file. file.now) files.now) (entry_of signer.now)) }
 {
-    let counted = counted_files(alloc, checks, step, signer, files)?;
-    let counted = counted.as_slice();
-    if counted.is_empty() {
+    let places = signed_places(alloc, checks, step, signer, files)?;
+    if places.is_empty() {
         return Ok(None);
     }
-    let names = names_of(alloc, counted)?;
+    let (names, signatures) = names_and_places(alloc, &places)?;
     Ok(Some(CountedKey {
         id: Text::copy(alloc, signer.id)?,
         files: Sequence::from(names),
+        signatures: Sequence::from(signatures),
     }))
 }

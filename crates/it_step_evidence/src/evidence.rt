@@ -14,8 +14,9 @@ use it_json_report::evidence::StepEvidence;
 use std::alloc::{AllocError, Global};
 
 /// The key ids by which something counts for each step of a layout over a bundle, in the layout's
-/// order, and for each the names of the files by which it counts (in-toto 1.0 sections 4.4 and
-/// 5.2). Signatures are checked by the `checks`, each pair of a key id and a claimed file once.
+/// order, and for each the names of the files by which it counts, with the places of the signatures
+/// in their envelopes (in-toto 1.0 sections 4.4 and 5.2). Signatures are checked by the `checks`:
+/// for each pair of a key id and a claimed file, and once more where it counts.
 ///
 /// # Errors
 ///

@@ -1,6 +1,6 @@
 use Rattle.it_chain.specs.Candidate.{IsCandidate}
 use Rattle.it_step_evidence.proofs.Counting.{holds_where, no_candidate, unsigned}
-use Rattle.it_step_evidence.proofs.counted_files.holds_body.Goals as goal
+use Rattle.it_step_evidence.proofs.places.holds_body.Goals as goal
 
 pub returns-in_default : goal.returns-in_default
 returns-in_default g c =

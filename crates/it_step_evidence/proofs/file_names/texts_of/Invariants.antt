@@ -1,6 +1,0 @@
-use Rattle.std.proofs.Common.{◌≡◌, map, take}
-use Rattle.it_step_evidence.proofs.file_names.texts_of.Given as goal
-
--- the names so far
-abbrev pub invariant-loop-name : goal.invariant-loop-name
-invariant-loop-name l = l.texts.items ≡ map (λ name. name.now) (take l.name-index l.names)

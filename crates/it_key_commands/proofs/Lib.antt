@@ -3,3 +3,4 @@ pub mod FilesRead
 pub mod KeysRead
 pub mod KeysWritten
 pub mod Naming
+pub mod RsaForms

@@ -1,6 +1,6 @@
 -- What a signature is that was made elsewhere and is not valid for its key, as far as it is tried
 -- (what is tried is this profile's choice).
-use Rattle.std.specs.Prelude.{◌≡◌, ◌==◌, ℕ, List, [], ◌∷◌, ◌++◌, Some, Ok, codes, drop, length}
+use Rattle.std.specs.Prelude.{◌≡◌, ◌≢◌, ◌==◌, ℕ, List, [], ◌∷◌, ◌++◌, Some, Ok, codes, drop, length}
 use Rattle.std.specs.Prelude.{if◌then◌else◌, nat_lt, take}
 use Rattle.std.specs.List.{filter}
 use Rattle.base64.specs.Engines.{standard}
@@ -8,7 +8,11 @@ use Rattle.base64.specs.GeneralPurpose.{decoded_of}
 use Rattle.hex.specs.Hex.{decode_of}
 use Rattle.it_dsse.specs.Pae.{pae_of}
 use Rattle.it_dsse.specs.declared.key_object.KeyObject.{KeyObject}
-use Rattle.it_key_commands.specs.Signers.{IsValidFor}
+use Rattle.it_public_keys.specs.declared.key.Key.TheVariants.{Rsa}
+use Rattle.it_rsa.specs.Key.{Key as RsaKey}
+use Rattle.it_rsa_forms.specs.Pkcs1.{IsPkcs1Signature}
+use Rattle.it_rsa_forms.specs.Pss.{IsPssOfSalt}
+use Rattle.it_key_commands.specs.Signers.{Describes, IsValidFor}
 use Rattle.it_key_commands.specs.declared.fault.SignatureFlaw.{SignatureFlaw}
 use Rattle.it_key_commands.specs.declared.fault.SignatureFlaw.TheVariants.{
   Base64,
@@ -16,6 +20,8 @@ use Rattle.it_key_commands.specs.declared.fault.SignatureFlaw.TheVariants.{
   TwoNumbers,
   OfBody,
   OfType,
+  Pkcs1,
+  OtherSalt,
   OtherRsa,
   Other,
 }
@@ -63,6 +69,21 @@ module _ (object : KeyObject) (message signature : List ℕ) where
     pub long : length signature ≡ 64
     pub valid : IsValidFor object message (signature_form (take 32 signature) (drop 32 signature))
 
+-- a signature of the message by the RSA key that the object describes, in a form that is not taken:
+-- by RSASSA-PKCS1-v1_5 (RFC 8017, section 8.2), or by RSASSA-PSS with a salt of another length than
+-- 32 bytes (section 8.1)
+module _ (object : KeyObject) (message signature : List ℕ) where
+  pub record IsPkcs1 : Type 0 where
+    pub key : RsaKey
+    pub described : Describes object (Rsa key)
+    pub signs : IsPkcs1Signature key message signature
+
+  pub record IsOtherSalt (salt : ℕ) : Type 0 where
+    pub key : RsaKey
+    pub described : Describes object (Rsa key)
+    pub signs : IsPssOfSalt key message signature salt
+    pub other : salt ≢ 32
+
 -- what it is, by the key that the object describes; a valid one signs the message
 module _ (object : KeyObject) (message body signature : List ℕ) where
   abbrev pub IsSignatureFlaw : SignatureFlaw → Type 0
@@ -71,5 +92,7 @@ module _ (object : KeyObject) (message body signature : List ℕ) where
   IsSignatureFlaw TwoNumbers = AreNumbers object message signature
   IsSignatureFlaw OfBody = IsValidFor object body signature
   IsSignatureFlaw (OfType other) = IsValidFor object (pae_of other.now body) signature
+  IsSignatureFlaw Pkcs1 = IsPkcs1 object message signature
+  IsSignatureFlaw (OtherSalt salt) = IsOtherSalt object message signature salt
   IsSignatureFlaw OtherRsa = object.scheme ≡ codes "rsassa-pss-sha256"
   IsSignatureFlaw Other = Unit {0}

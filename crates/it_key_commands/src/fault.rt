@@ -48,6 +48,12 @@ pub enum SignatureFlaw {
     /// A signature of the body as of this other type.
     #[error("it is one of the body as of the type {0}")]
     OfType(&'static str),
+    /// A signature by an RSA key in the older form, RSASSA-PKCS1-v1_5 (RFC 8017, section 8.2).
+    #[error("it is one by PKCS #1 v1.5, and only RSASSA-PSS with a salt of 32 bytes is taken")]
+    Pkcs1,
+    /// A signature by an RSA key with a salt of this many bytes (RFC 8017, section 8.1).
+    #[error("it is one by RSASSA-PSS with a salt of {0} bytes, and only one of 32 is taken")]
+    OtherSalt(usize),
     /// None of these, where the key is of RSA.
     #[error("by RSA only RSASSA-PSS with SHA-256 and a salt of 32 bytes is taken, \
          and neither PKCS #1 v1.5 nor another salt")]

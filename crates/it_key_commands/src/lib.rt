@@ -9,6 +9,7 @@ mod key_info;
 mod key_output;
 mod keys_file;
 mod made_signature;
+mod rsa_form;
 mod sign_made_onto_output;
 mod sign_made_output;
 mod signature_flaw;

@@ -1,5 +1,5 @@
 //! What a signature is that is not valid for its key.
-ghost use Rattle.std.specs.Prelude.{◌≡◌, ℕ, List, Some, Ok, IfOk, IfSome, IsTrue};
+ghost use Rattle.std.specs.Prelude.{◌≡◌, Some, Ok, IfOk, IfSome, IsTrue};
 ghost use Rattle.base64.specs.Engines.{standard};
 ghost use Rattle.base64.specs.GeneralPurpose.{decoded_of};
 ghost use Rattle.hex.specs.Hex.{decode_of};
@@ -10,6 +10,7 @@ ghost use Rattle.it_key_commands.specs.Signers.{IsValidFor};
 
 use crate::fault::SignatureFlaw;
 use crate::made_signature::MadeSignature;
+use crate::rsa_form::form_flaw;
 use crate::signer::is_valid_for;
 use crate::two_numbers::signature_form;
 use base64::DecodeAllocError;
@@ -22,9 +23,6 @@ use std::alloc::{AllocError, Global};
 
 /// The types under which a body is tried: in-toto's, and two that are written in their place.
 const KINDS: [&str; 3] = [IN_TOTO, "application/json", "text/plain"];
-
-/// The scheme of RSA keys.
-const RSA_SCHEME: &str = "rsassa-pss-sha256";
 
 /// What a signature is that is not valid for the key that an object describes. `message` is what a
 /// valid one signs.
@@ -51,19 +49,7 @@ pub(crate) fn signature_flaw(
     }
     match other_kind(alloc, object, made)? {
         Some(kind) => Ok(SignatureFlaw::OfType(kind)),
-        None => Ok(other_flaw(object)),
-    }
-}
-
-/// What is said of a signature of which nothing else is found.
-fn other_flaw(object: &KeyObject) -> SignatureFlaw
-    ensures { (message body signature : List ℕ)
-        → IsSignatureFlaw object.now message body signature result }
-{
-    if object.scheme.as_str() == RSA_SCHEME {
-        SignatureFlaw::OtherRsa
-    } else {
-        SignatureFlaw::Other
+        None => form_flaw(alloc, object, made, message),
     }
 }
 

@@ -7,7 +7,7 @@ use Rattle.it_rsa.specs.Info.{info_of as rsa_info}
 use Rattle.it_rsa.specs.Key.{Key as RsaKey, IsKey as IsRsaKey}
 use Rattle.it_vectors.specs.declared.kind.Kind.{Kind}
 use Rattle.it_vectors.specs.declared.kind.Kind.TheVariants.{Ed25519, P256, P256Digest, Rsa}
-use Rattle.it_vectors.specs.declared.kind.Kind.TheVariants.{P384, P384Digest}
+use Rattle.it_vectors.specs.declared.kind.Kind.TheVariants.{P384, P384Digest, RsaAnySalt, RsaPkcs1}
 
 -- the bytes are the SubjectPublicKeyInfo of this key of P-256
 pub record IsP256Info (bytes : List ℕ) (key : P256Key) : Type 0 where
@@ -32,3 +32,5 @@ IsKeyOf P256Digest bytes = (key : P256Key) × IsP256Info bytes key
 IsKeyOf P384 bytes = (key : P384Key) × IsP384Info bytes key
 IsKeyOf P384Digest bytes = (key : P384Key) × IsP384Info bytes key
 IsKeyOf Rsa bytes = (key : RsaKey) × IsRsaInfo bytes key
+IsKeyOf RsaPkcs1 bytes = (key : RsaKey) × IsRsaInfo bytes key
+IsKeyOf RsaAnySalt bytes = (key : RsaKey) × IsRsaInfo bytes key

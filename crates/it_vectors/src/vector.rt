@@ -1,10 +1,11 @@
 //! A vector: a key, a message and a signature, and what other implementations say of them.
-ghost use Rattle.std.specs.Prelude.{◌↔◌, IsTrue};
+ghost use Rattle.std.specs.Prelude.{◌↔◌, IfOk, IsTrue};
 ghost use Rattle.it_vectors.specs.Agreement.{Holds};
 
 use crate::kind::Kind;
 use it_base::sequence::Sequence;
 use it_base::text::Text;
+use std::alloc::{AllocError, Global};
 
 /// A key and what is tried with it, and whether that should hold.
 #[derive(Drop)]
@@ -43,21 +44,23 @@ impl Vector {
     ghost use Rattle.it_vectors.specs.Agreement.{Agrees};
 
     /// Whether what is tried holds exactly where that is wanted.
-    pub(crate) fn agrees(&self) -> bool
-        ensures { IsTrue result ↔ Agrees self.now }
+    pub(crate) fn agrees(&self, alloc: Global) -> Result<bool, AllocError>
+        ensures { IfOk result (λ agrees. IsTrue agrees ↔ Agrees self.now) }
     {
-        holds(self.kind, self.key.as_slice(), &self.tried) == self.wanted
+        let held = holds(alloc, self.kind, self.key.as_slice(), &self.tried)?;
+        Ok(held == self.wanted)
     }
 }
 
 /// Whether what is tried holds, by that kind's library.
-fn holds(kind: Kind, key: &[u8], tried: &Tried) -> bool
-    ensures { IsTrue result ↔ Holds kind key.now tried.now }
+fn holds(alloc: Global, kind: Kind, key: &[u8], tried: &Tried) -> Result<bool, AllocError>
+    ensures { IfOk result (λ held. IsTrue held ↔ Holds kind key.now tried.now) }
 {
     match tried {
-        Tried::KeyAlone => kind.takes_key(key),
+        Tried::KeyAlone => Ok(kind.takes_key(key)),
         Tried::Signature(signed) => {
-            kind.takes_signature(key, signed.message.as_slice(), signed.signature.as_slice())
+            let (message, signature) = (signed.message.as_slice(), signed.signature.as_slice());
+            kind.takes_signature(alloc, key, message, signature)
         }
     }
 }

@@ -16,7 +16,7 @@ impl Trial for Vectors {
     fn difference(&self, alloc: Global, document: &Value) -> Result<Option<String>, RowFault> {
         let vector = Vector::from_document(alloc, document)?;
         let vector = vector.ok_or(RowFault::Malformed("vector"))?;
-        if vector.agrees() {
+        if vector.agrees(alloc)? {
             return Ok(None);
         }
         let name = vector.name.as_str();

@@ -16,8 +16,7 @@ use it_key_commands::{FileFault, KeyFault};
 use it_outcome::RunFault;
 use it_words::words::WordsFault;
 use std::alloc::{AllocError, AllocFailed, Global};
-use std::io;
-use std::io::ErrorKind;
+use std::io::{self, ErrorKind};
 use thiserror::Error;
 
 /// Why the program stops.
@@ -213,8 +212,7 @@ impl Fault {
         })
     }
 
-    /// The fault of a digest list with a bad line, counted from 1. A list that is not given has no
-    /// lines; its path is empty.
+    /// The fault of a bad line, counted from 1, of a digest list; one that is not given has no path.
     ///
     /// # Errors
     ///

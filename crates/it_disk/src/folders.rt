@@ -9,6 +9,7 @@ ghost use Rattle.it_disk.specs.inside.SoFar.{IsCountedIn, IsWithin};
 use crate::fault::Fault;
 use crate::left_out::{LeftOut, too_many_in};
 use crate::shown::Shown;
+use crate::so_far::SoFar;
 use crate::tree::Tree;
 use it_base::sequence::Sequence;
 use it_base::text::Text;
@@ -19,12 +20,6 @@ use std::path::{Path, PathBuf};
 
 /// How many entries of one folder may be read.
 const MOST_ENTRIES: usize = 1_000;
-
-/// How many bytes the files of links may have in all.
-const MOST_LINK_BYTES: u64 = 2_147_483_648;
-
-/// How many files and folders of links may be read in all.
-const MOST_LINK_ENTRIES: u64 = 1_000_000;
 
 /// How the names of the files that are read end.
 pub(crate) const ENDING: &str = ".link";
@@ -58,15 +53,6 @@ impl Wanted {
             Wanted::OfLinks { folders } => name.ends_with(ENDING) || folders && name.contains('.'),
         }
     }
-}
-
-/// How much of a folder of links was read so far.
-#[derive(Clone, Copy)]
-pub(crate) struct SoFar {
-    /// The bytes of the files.
-    pub(crate) bytes: u64,
-    /// The files and folders.
-    pub(crate) entries: u64,
 }
 
 /// What is read of a folder of links.
@@ -148,7 +134,7 @@ fn read_more<T: Tree + AllocGlobal>(
         match depth.checked_sub(1) {
             Some(below) if entry.kind == Kind::Folder => {
                 let path = entry.path.as_str();
-                let so_far = read_with(tree.alloc(), links.read, path, &[])?;
+                let so_far = links.read.with(tree.alloc(), path, &[])?;
                 let inner = read_more(tree, path, below, limited, so_far)?;
                 add_folder(tree.alloc(), &mut links, entry, inner)?;
             }
@@ -174,7 +160,9 @@ fn add_file<T: Tree + AllocGlobal>(
 {
     let alloc = tree.alloc();
     let bytes = Sequence::from(tree.read_whole(entry.path.as_str())?);
-    links.read = read_with(alloc, links.read, entry.path.as_str(), bytes.as_slice())?;
+    links.read = links
+        .read
+        .with(alloc, entry.path.as_str(), bytes.as_slice())?;
     let name = Text::from(entry.name);
     let file = HeldFile::read(alloc, File { name, bytes })?;
     match too_many_in(&file, limited) {
@@ -185,30 +173,6 @@ fn add_file<T: Tree + AllocGlobal>(
         None => links.bundle.add_read(file)?,
     }
     Ok(())
-}
-
-/// How much was read with what is at a path: a file of these bytes, or a folder, which has none.
-fn read_with(alloc: Global, before: SoFar, path: &str, bytes: &[u8]) -> Result<SoFar, Fault>
-    ensures bytes { IfOk result (λ read. read.bytes ≡ before.bytes + length bytes.now) }
-    ensures entries { IfOk result (λ read. read.entries ≡ before.entries + 1) }
-    ensures within { IfOk result (λ read. IsWithin read) }
-{
-    if before.entries >= MOST_LINK_ENTRIES {
-        return Err(Fault::TooManyInAll {
-            path: Shown::of(alloc, path)?,
-            limit: MOST_LINK_ENTRIES,
-        });
-    }
-    match before.bytes.checked_add(bytes.len() as u64) {
-        Some(read) if read <= MOST_LINK_BYTES => Ok(SoFar {
-            bytes: read,
-            entries: before.entries + 1,
-        }),
-        _ => Err(Fault::TooMuch {
-            path: Shown::of(alloc, path)?,
-            limit: MOST_LINK_BYTES,
-        }),
-    }
 }
 
 /// Adds the links of a folder, and what is left out of it.

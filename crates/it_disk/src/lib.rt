@@ -22,6 +22,7 @@ mod records;
 mod ring_flaw;
 mod shown;
 mod signature_fault;
+mod so_far;
 mod tree;
 
 pub use disk::Disk;

@@ -3,7 +3,7 @@ use Rattle.std.specs.Prelude.{◌+◌, ◌≤◌}
 use Rattle.it_chain.specs.Contents.{Contents}
 use Rattle.it_disk.specs.LinksCount.{count_of, most_entries}
 use Rattle.it_disk.specs.LinksSize.{most_bytes, size_of}
-use Rattle.it_disk.specs.declared.folders.SoFar.{SoFar}
+use Rattle.it_disk.specs.declared.so_far.SoFar.{SoFar}
 
 -- it is no more than may be read
 pub record IsWithin (read : SoFar) : Type 0 where

@@ -212,7 +212,7 @@ impl Fault {
         })
     }
 
-    /// The fault of a bad line, counted from 1, of a digest list; one that is not given has no path.
+    /// The fault of a bad line of a digest list, from 1; a list that is not given has no path.
     ///
     /// # Errors
     ///

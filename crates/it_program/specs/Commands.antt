@@ -1,5 +1,6 @@
 -- What the commands write and find, by their words and by what is at the paths in them.
-use Rattle.std.specs.Prelude.{◌≡◌, ℕ, List, IsTrue}
+use Rattle.std.specs.Prelude.{◌≡◌, ℕ, List, Option, IsTrue}
+use Rattle.std.specs.Io.KnownBytes.{Appends}
 use Rattle.std.specs.List.{AllZip}
 use Rattle.it_dsse.specs.Panel.{panel_of}
 use Rattle.it_dsse.specs.declared.ring_entry.RingEntry.{RingEntry}
@@ -46,15 +47,19 @@ pub record Verifies (disk : Holdings) (words : VerifyWords) (text : List ℕ)
   pub stands : IsTrue words.strict → status ≡ Good
       → StandsStrictly (panel_of (own_checks rings words.public_keys)) inputs
 
--- verify --strict: all that was prescribed holds of the inputs, and something is found
-pub record FindsAgainst (disk : Holdings) (words : VerifyWords) : Type 0 where
+-- verify --strict: all that was prescribed holds of the inputs, and something is found; with
+-- --json=2 that is what went out
+pub record FindsAgainst (disk : Holdings) (words : VerifyWords) (old new : Option (List ℕ))
+    : Type 0 where
   pub is_strict : IsTrue words.strict
   pub inputs : Inputs
   pub are_inputs : AreInputs disk words inputs
   pub rings : List (List RingEntry)
   pub holds_rings : AllZip (HoldsRing disk) words.rings rings
   pub text : List ℕ
-  pub has_findings : HasFindings (panel_of (own_checks rings words.public_keys)) inputs text
+  pub has_findings : HasFindings (form_asked words.form)
+      (panel_of (own_checks rings words.public_keys)) inputs text
+  pub goes_out : words.form ≡ asked.Full → Appends old new text
 
 -- what a command writes and finds
 abbrev pub IsOutputOf : Holdings → Words → List ℕ → Status → Type 0

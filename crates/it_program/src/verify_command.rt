@@ -35,7 +35,7 @@ use std::io::Write;
 
 /// Reads all files and folders and the rings, notes what is left out, and writes the report of the
 /// verdict and then the notes on it. With `--strict` it stops where something is found in what it
-/// would accept, and the lines of that go to `notes`.
+/// would accept: with `--json=2` that goes out, and otherwise its lines go to `notes`.
 pub(crate) fn run<R: Disk + AllocGlobal, W: Write, N: Write>(
     rt: &R,
     words: &VerifyWords,
@@ -47,8 +47,11 @@ pub(crate) fn run<R: Disk + AllocGlobal, W: Write, N: Write>(
         × Verifies (R.holdings rt.now) words.now text status
         × Appends (W.contents out.old) (W.contents out.new) text) }
     ensures nothing { IfErr result (λ stop. stop ≢ Stop.OfFault (Fault.Run RunFault.Write)
-        → out.new ≡ out.old) }
-    ensures findings { IsErrOf result Stop.Findings → FindsAgainst (R.holdings rt.now) words.now }
+        → stop ≢ Stop.Findings → out.new ≡ out.old) }
+    ensures findings { IsErrOf result Stop.Findings → FindsAgainst (R.holdings rt.now) words.now
+        (W.contents out.old) (W.contents out.new) }
+    ensures lines { IsErrOf result Stop.Findings → words.now.form ≢ Form.Full
+        → out.new ≡ out.old }
 {
     let alloc = rt.alloc();
     let mut left_out = Vec::new(alloc);
@@ -93,9 +96,12 @@ fn verify_as_asked<C: Checks, W: Write, N: Write>(
     ensures stands { IfOk result (λ status. IsTrue words.now.strict → status ≡ Status.Good
         → StandsStrictly (C.panel checks.now) inputs.now) }
     ensures nothing { IfErr result (λ stop. stop ≢ Stop.OfFault (Fault.Run RunFault.Write)
-        → out.new ≡ out.old) }
+        → stop ≢ Stop.Findings → out.new ≡ out.old) }
     ensures findings { IsErrOf result Stop.Findings → IsTrue words.now.strict
-        × (text : _) × HasFindings (C.panel checks.now) inputs.now text }
+        × (text : _) × HasFindings (form_asked words.now.form) (C.panel checks.now) inputs.now text
+        × (words.now.form ≡ Form.Full → Appends (W.contents out.old) (W.contents out.new) text) }
+    ensures lines { IsErrOf result Stop.Findings → words.now.form ≢ Form.Full
+        → out.new ≡ out.old }
 {
     let form = form_asked(words.form);
     if words.strict {

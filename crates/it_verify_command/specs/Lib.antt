@@ -1,3 +1,4 @@
+pub mod FoundOutput
 pub mod FullOutput
 pub mod Strictly
 pub mod VerifyOutputIn

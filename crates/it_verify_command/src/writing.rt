@@ -1,19 +1,16 @@
-//! The writing of an answer, and of what is found against a delivery.
-ghost use Rattle.std.specs.Prelude.{◌≡◌, IfErr, IfOk, OnOk};
+//! The writing of an answer.
+ghost use Rattle.std.specs.Prelude.{◌≡◌, IfErr, IfOk};
 ghost use Rattle.std.specs.Io.KnownBytes.{Appends};
 ghost use Rattle.it_base.specs.Writing.{AppendsBeginning};
-ghost use Rattle.it_strict.specs.FoundText.{found_text};
 ghost use Rattle.it_notes.specs.Known.{IsTold};
 
 use crate::answer::Answer;
-use it_base::writing::write_all_of;
 use it_dsse::checks::Checks;
 use it_notes::found_in_documents::add_found;
 use it_notes::known::Told;
 use it_notes::notes::Notes;
 use it_outcome::output::put;
 use it_outcome::{RunFault, Status};
-use it_strict::found::Found;
 use it_verify::inputs::Inputs;
 use std::alloc::{AllocError, Global};
 use std::io::Write;
@@ -61,19 +58,4 @@ fn notes_text<C: Checks>(
     let mut lines = Notes::of(alloc, inputs, told, checks)?.lines(alloc)?;
     add_found(&mut lines, told)?;
     lines.into_text()
-}
-
-/// Writes the lines of what is found, as far as they can be written.
-pub(crate) fn write_found<N: Write>(
-    alloc: Global,
-    found: &Found,
-    notes: &mut N,
-) -> Result<(), AllocError>
-    ensures { OnOk result (AppendsBeginning (N.contents notes.old) (N.contents notes.new)
-        (found_text found.now)) }
-{
-    let mut text = Vec::new(alloc);
-    found.push_lines(&mut text)?;
-    let _ = write_all_of(notes, text.as_slice());
-    Ok(())
 }

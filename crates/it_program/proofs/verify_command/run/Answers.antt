@@ -27,8 +27,8 @@ returns-clause-ok g c = elim c.told_spent.ensures [
 pub returns-clause-nothing : goal.returns-clause-nothing
 returns-clause-nothing g c = elim c.told_spent.ensures [
   | inl same ↦ rw same c.verify_as_asked-outcome.ensures.nothing
-  | inr spent ↦ rw spent.1 (λ other.
-      (rw spent.0 at c.verify_as_asked-outcome.ensures.nothing) (λ same. cc))
+  | inr spent ↦ rw spent.1 (λ other found.
+      (rw spent.0 at c.verify_as_asked-outcome.ensures.nothing) (λ same. cc) (λ same. cc))
 ]
 
 pub returns-clause-findings : goal.returns-clause-findings
@@ -42,6 +42,13 @@ returns-clause-findings g c = λ is. elim c.told_spent.ensures [
         holds_rings = search rules;
         text = told.1;
         has_findings = rw (c.new-checks.ensures.rings, c.new-checks.ensures.public_keys) at told.2;
+        goes_out = told.3;
       })
+  | inr spent ↦ cc (spent.1, is)
+]
+
+pub returns-clause-lines : goal.returns-clause-lines
+returns-clause-lines g c = λ is. elim c.told_spent.ensures [
+  | inl same ↦ c.verify_as_asked-outcome.ensures.lines (sym same ∙ is)
   | inr spent ↦ cc (spent.1, is)
 ]

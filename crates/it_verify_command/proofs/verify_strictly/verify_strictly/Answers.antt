@@ -1,4 +1,4 @@
-use Rattle.std.proofs.Common.{subst}
+use Rattle.std.proofs.Common.{inl, subst}
 use Rattle.it_verify_command.specs.inside.Answer.{IsStrictAnswer}
 use Rattle.it_verify_command.proofs.verify_strictly.verify_strictly.Goals as goal
 
@@ -11,12 +11,14 @@ returns-in_err-write_answer-in-Stands-clause-write g c = λ failed.
     let given = stands.is_answer in
     let answer = c.in-Stands.answer in (
       answer.output.text.items,
-      answer.output.status,
-      record {
-        verdict = answer.told.verdict;
-        is_verdict = given.told.verdict;
-        text_is = given.text;
-        status_is = given.status;
-      },
+      inl (
+        answer.output.status,
+        record {
+          verdict = answer.told.verdict;
+          is_verdict = given.told.verdict;
+          text_is = given.text;
+          status_is = given.status;
+        },
+      ),
       c.in_err-write_answer-in-Stands.ensures.err.1,
     )

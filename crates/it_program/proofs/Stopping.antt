@@ -6,12 +6,11 @@ use Rattle.it_disk.specs.Reading.{Holdings}
 use Rattle.it_words.specs.Words.{AreWordsOf}
 use Rattle.it_words.specs.declared.words.Words.{Words}
 use Rattle.it_words.specs.declared.words.Words.TheVariants.{Verify}
-use Rattle.it_words.specs.declared.words.form.Form.{Form}
-use Rattle.it_words.specs.declared.words.form.Form.TheVariants as asked
 use Rattle.it_words.specs.declared.words.verify_words.VerifyWords.{VerifyWords}
 use Rattle.it_disk.specs.declared.fault.Fault.{Fault}
 use Rattle.it_disk.specs.declared.fault.Fault.TheVariants.{Run as by_run}
-use Rattle.it_verify_command.specs.declared.output_form.OutputForm.TheVariants as forms
+use Rattle.it_verify_command.specs.declared.output_form.OutputForm.{OutputForm}
+use Rattle.it_verify_command.specs.declared.output_form.OutputForm.TheVariants.{Full, Report}
 use Rattle.it_verify_command.specs.declared.strict_fault.StrictFault.{StrictFault}
 use Rattle.it_verify_command.specs.declared.strict_fault.StrictFault.TheVariants.{Findings, Run}
 use Rattle.it_outcome.specs.declared.outcome.RunFault.TheVariants.{Write}
@@ -55,30 +54,23 @@ kept_by Same (Ok x) fault is kept = tt
 kept_by Same (Err stop) fault is kept = λ other found.
     kept (λ same. other (is ∙ ap stop_of same)) (λ same. found (is ∙ ap stop_of same))
 
--- the full form is written only where it is asked for
-pub full_asked : (form : Form) → form_asked form ≡ forms.Full → form ≡ asked.Full
-full_asked asked.Lines is = cc
-full_asked asked.Json is = cc
-full_asked asked.Full is = refl
-
 -- what is found has gone out in the full form, and otherwise nothing
-pub shown_or_same : (Same Shown : Type 0) (form : Form) → Shown → (form ≢ asked.Full → Same)
-    → Same ⊎ ((form ≡ asked.Full) × Shown)
-shown_or_same Same Shown asked.Lines shown same = inl (same (λ is. cc))
-shown_or_same Same Shown asked.Json shown same = inl (same (λ is. cc))
-shown_or_same Same Shown asked.Full shown same = inr (refl, shown)
+pub shown_or_same : (Same Shown : Type 0) (form : OutputForm) → Shown → (form ≢ Full → Same)
+    → Same ⊎ ((form ≡ Full) × Shown)
+shown_or_same Same Shown (Report form) shown same = inl (same (λ is. cc))
+shown_or_same Same Shown Full shown same = inr (refl, shown)
 
 -- what has gone out of a verification that stopped
 pub verify_begun : {T : Type 0} (Same : Type 0) (disk : Holdings) (words : VerifyWords)
     (old new : Option (List ℕ)) (result : Result T Stop)
     → IfErr result (λ stop. stop ≢ OfFault (by_run Write) → stop ≢ by_findings → Same)
     → (IsErrOf result by_findings → FindsAgainst disk words old new)
-    → (IsErrOf result by_findings → words.form ≢ asked.Full → Same)
+    → (IsErrOf result by_findings → form_asked words.form ≢ Full → Same)
     → IfErr result (λ stop. stop ≢ OfFault (by_run Write)
     → Same ⊎ IsBegun disk (Verify words) old new)
 verify_begun Same disk words old new (Ok x) nothing finds lines = tt
 verify_begun Same disk words old new (Err by_findings) nothing finds lines = λ other.
-    shown_or_same Same _ words.form (finds refl) (lines refl)
+    shown_or_same Same _ (form_asked words.form) (finds refl) (lines refl)
 verify_begun Same disk words old new (Err (TooManyChecks most)) nothing finds lines = λ other.
     inl (nothing other (λ is. cc))
 verify_begun Same disk words old new (Err (OfFault fault)) nothing finds lines = λ other.

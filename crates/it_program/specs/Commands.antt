@@ -59,7 +59,7 @@ pub record FindsAgainst (disk : Holdings) (words : VerifyWords) (old new : Optio
   pub text : List ℕ
   pub has_findings : HasFindings (form_asked words.form)
       (panel_of (own_checks rings words.public_keys)) inputs text
-  pub goes_out : words.form ≡ asked.Full → Appends old new text
+  pub goes_out : form_asked words.form ≡ Full → Appends old new text
 
 -- what a command writes and finds
 abbrev pub IsOutputOf : Holdings → Words → List ℕ → Status → Type 0

@@ -5,12 +5,12 @@ use Rattle.it_disk.specs.declared.fault.Fault.TheVariants.{Run as by_run}
 use Rattle.it_words.specs.Words.{AreWordsOf}
 use Rattle.it_words.specs.declared.words.Words.{Words}
 use Rattle.it_words.specs.declared.words.Words.TheVariants.{Digest, Verify}
-use Rattle.it_words.specs.declared.words.form.Form.TheVariants.{Full}
 use Rattle.it_words.specs.declared.words.verify_words.VerifyWords.{VerifyWords}
 use Rattle.it_file_commands.specs.Stopped.{ListsFirst}
+use Rattle.it_verify_command.specs.declared.output_form.OutputForm.TheVariants.{Full}
 use Rattle.it_verify_command.specs.declared.strict_fault.StrictFault.{StrictFault}
 use Rattle.it_verify_command.specs.declared.strict_fault.StrictFault.TheVariants.{Findings, Run}
-use Rattle.it_program.specs.Commands.{FindsAgainst}
+use Rattle.it_program.specs.Commands.{FindsAgainst, form_asked}
 use Rattle.it_program.specs.declared.stop.Stop.{Stop}
 use Rattle.it_program.specs.declared.stop.Stop.TheVariants.{Findings as by_findings, OfFault}
 
@@ -23,7 +23,8 @@ stop_of (Run fault) = OfFault (by_run fault)
 -- what is found against what it would accept
 abbrev pub IsBegun : Holdings → Words → (old new : Option (List ℕ)) → Type 0
 IsBegun disk (Digest words) old new = ListsFirst disk words old new
-IsBegun disk (Verify words) old new = (words.form ≡ Full) × FindsAgainst disk words old new
+IsBegun disk (Verify words) old new =
+    (form_asked words.form ≡ Full) × FindsAgainst disk words old new
 IsBegun disk command old new = ⊥
 
 -- the words name such a command

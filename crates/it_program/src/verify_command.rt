@@ -50,7 +50,7 @@ pub(crate) fn run<R: Disk + AllocGlobal, W: Write, N: Write>(
         → stop ≢ Stop.Findings → out.new ≡ out.old) }
     ensures findings { IsErrOf result Stop.Findings → FindsAgainst (R.holdings rt.now) words.now
         (W.contents out.old) (W.contents out.new) }
-    ensures lines { IsErrOf result Stop.Findings → words.now.form ≢ Form.Full
+    ensures lines { IsErrOf result Stop.Findings → form_asked words.now.form ≢ OutputForm.Full
         → out.new ≡ out.old }
 {
     let alloc = rt.alloc();
@@ -99,8 +99,9 @@ fn verify_as_asked<C: Checks, W: Write, N: Write>(
         → stop ≢ Stop.Findings → out.new ≡ out.old) }
     ensures findings { IsErrOf result Stop.Findings → IsTrue words.now.strict
         × (text : _) × HasFindings (form_asked words.now.form) (C.panel checks.now) inputs.now text
-        × (words.now.form ≡ Form.Full → Appends (W.contents out.old) (W.contents out.new) text) }
-    ensures lines { IsErrOf result Stop.Findings → words.now.form ≢ Form.Full
+        × (form_asked words.now.form ≡ OutputForm.Full
+        → Appends (W.contents out.old) (W.contents out.new) text) }
+    ensures lines { IsErrOf result Stop.Findings → form_asked words.now.form ≢ OutputForm.Full
         → out.new ≡ out.old }
 {
     let form = form_asked(words.form);

@@ -1,7 +1,6 @@
-use Rattle.std.proofs.Common.{◌∙◌, ap, Err, subst}
+use Rattle.std.proofs.Common.{◌∙◌, ap, Err, subst, sym}
 use Rattle.it_verify_command.specs.FoundOutput.{AreTold}
-use Rattle.it_program.specs.Commands.{form_asked}
-use Rattle.it_program.proofs.Stopping.{found_by, full_asked, kept_by}
+use Rattle.it_program.proofs.Stopping.{found_by, kept_by}
 use Rattle.it_program.proofs.verify_command.verify_as_asked.Goals as goal
 
 pub returns-in_err-verify_strictly-clause-findings : goal.returns-in_err-verify_strictly-clause-findings
@@ -13,7 +12,7 @@ returns-in_err-verify_strictly-clause-findings g c = λ is.
       told.0,
       rw c.form_asked.ensures at told.1,
       λ full. (subst (λ form. AreTold form _ _ _ _ told.0)
-          (c.form_asked.ensures ∙ ap form_asked full) told.2).0,
+          (c.form_asked.ensures ∙ full) told.2).0,
     )
 
 pub returns-in_err-verify_strictly-clause-nothing : goal.returns-in_err-verify_strictly-clause-nothing
@@ -26,4 +25,4 @@ returns-in_err-verify_strictly-clause-lines g c = λ is other.
     let fault = c.in_err-verify_strictly.field-0.0 in
     c.in_err-verify_strictly.ensures.lines
     (ap Err (found_by c.from_residual.result fault c.from_residual.ensures.1 is))
-    (λ full. other (full_asked c.args.words.now.form (rw c.form_asked.ensures at full)))
+    (λ full. other (sym c.form_asked.ensures ∙ full))

@@ -104,7 +104,7 @@ def value_lines(listed):
                 yield f"        {named} | {named}=) {BASH[option['kind']]} ;;"
             if option["use"] == "maybe":
                 yield f"        {named}=) compgen -W {option['value']} -- \"$word\" ;;"
-            if option["use"] in ("bare", "maybe"):
+            if option["use"] == "maybe" or not option["value"]:
                 yield f"        {named}) {offers_of(command)} ;;"
 
 

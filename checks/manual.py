@@ -101,6 +101,8 @@ def words_of(command):
     for use, options in itertools.groupby(command["options"], key=lambda option: option["use"]):
         if use == "one":
             words.append(choice_of(options))
+        elif use == "together":
+            words.append("[" + " ".join(with_value(option) for option in options) + "]")
         else:
             words += [forms.get(use, "[{}]").format(with_value(option)) for option in options]
     return " ".join(words)

@@ -7,6 +7,5 @@ pub mod ParametersGiven
 pub mod PrintedLines
 pub mod StatementFaults
 pub mod StatementWritten
-pub mod SummaryWritten
 pub mod TablesWritten
 pub mod WordFeeds

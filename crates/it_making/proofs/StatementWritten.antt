@@ -17,10 +17,10 @@ use Rattle.it_docs.specs.Statement.{IsStatement, IsSubject, StatementOf}
 use Rattle.it_docs.proofs.Same.{statement_same}
 use Rattle.it_making.specs.ArtifactDocuments.{digest_set_document}
 use Rattle.it_making.specs.StatementOutput.{AreParameters, AreSubjects, IsStatementOutput}
+use Rattle.it_making.specs.StatementOutput.{IsWritten}
 use Rattle.it_making.specs.StatementOutput.{provenance_document}
 use Rattle.it_making.specs.StatementOutput.{statement_document, statement_of, subject_document}
 use Rattle.it_making.specs.StatementOutput.{subjects_document}
-use Rattle.it_making.specs.inside.StatementParts.{IsWritten}
 use Rattle.it_making.proofs.DigestsWritten.{no_float_in_digests, shallow_digests}
 use Rattle.it_making.proofs.TablesWritten.{Entry}
 

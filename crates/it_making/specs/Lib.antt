@@ -1,5 +1,4 @@
 pub mod ArtifactDocuments
 pub mod LinkOutput
 pub mod StatementOutput
-pub mod SummaryOutput
 pub mod inside

@@ -6,6 +6,7 @@ use Rattle.std.specs.FinMap.{empty, entries, values}
 use Rattle.json.specs.Lex.{tokens}
 use Rattle.json.specs.Print.{print}
 use Rattle.serde_json.specs.Data.{Data, array, depth, member, no_members, object, string}
+use Rattle.serde_json.specs.Read.{max_depth}
 use Rattle.serde_json.specs.View.{items_of}
 use Rattle.serde_json.specs.Written.{IsInOrder, compact_text, has_float}
 use Rattle.it_base.specs.Document.{IsDocument}
@@ -53,17 +54,18 @@ provenance_document build_type builder parameters = object
 
 -- a Statement of a predicate type as a JSON object, its members in the order of their bytes (this
 -- profile's choice)
-abbrev pub typed_document : (predicate_type : List ℕ) → ArtifactMap → (predicate : Data) → Data
+abbrev pub typed_document : (predicate_type : List ℕ) → (subjects predicate : Data) → Data
 typed_document predicate_type subjects predicate = object
     (member (codes "_type") (string (codes "https://in-toto.io/Statement/v1"))
     (member (codes "predicate") predicate
     (member (codes "predicateType") (string predicate_type)
-    (member (codes "subject") (subjects_document subjects)
+    (member (codes "subject") subjects
     no_members))))
 
 -- the Statement that carries provenance
 abbrev pub statement_document : ArtifactMap → (predicate : Data) → Data
-statement_document = typed_document (codes "https://slsa.dev/provenance/v1")
+statement_document subjects predicate =
+    typed_document (codes "https://slsa.dev/provenance/v1") (subjects_document subjects) predicate
 
 -- the Statement as it is read
 abbrev pub statement_of : ArtifactMap → (build_type builder : List ℕ) → Fields → Statement
@@ -93,6 +95,13 @@ pub record IsCompactLine (text : List ℕ) (document : Data) : Type 0 where
   pub no_feed : ¬ Contains line 10
   pub compact : line ≡ print (tokens line)
   pub in_order : IsInOrder line document
+
+-- the text is this document written on one line, and reads back if it is not too deep; where no
+-- number in it has a fraction or an exponent, or is past 64 bits, each byte is determined
+pub record IsWritten (text : List ℕ) (d : Data) : Type 0 where
+  pub reads : depth d ≤ max_depth → IsDocument text d
+  pub one_line : IsCompactLine text d
+  pub text_is : has_float d ≡ false → text ≡ compact_text d ++ codes "\n"
 
 -- the digest list describes these subjects, of which there is at least one (this project's choice:
 -- a Statement without a subject attests nothing)

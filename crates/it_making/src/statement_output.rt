@@ -10,7 +10,8 @@ ghost use Rattle.it_making.specs.StatementOutput.{provenance_document};
 ghost use Rattle.it_making.specs.inside.StatementParts.{IsSubjectsFault};
 
 use crate::parameters::parameters_of;
-use crate::statement_text::written;
+use crate::statement_text::statement_line;
+use crate::subjects::subjects_value;
 use it_digest::artifacts::Artifacts;
 use it_digest::sums::{SumsFault, read_sums};
 use it_outcome::output::put_text;
@@ -79,7 +80,8 @@ fn statement_text(alloc: Global, parts: &StatementParts<'_>) -> Result<Vec<u8>, 
     let subjects = subjects_of(alloc, parts.subjects)?;
     let parameters = parameters_of(alloc, parts.parameters)?;
     let predicate = provenance_value(alloc, parts.build_type, parts.builder, parameters)?;
-    let text = written(alloc, &subjects, PROVENANCE, predicate)?;
+    let listed = subjects_value(alloc, &subjects)?;
+    let text = statement_line(alloc, listed, PROVENANCE, predicate)?;
     Ok(text)
 }
 

@@ -28,7 +28,14 @@ pub(crate) fn subjects_value(alloc: Global, artifacts: &Artifacts) -> Result<Val
     Ok(Value::from(subjects))
 }
 
-fn subject_value(alloc: Global, path: &str, digests: &DigestSet) -> Result<Value, AllocError>
+/// A subject of a Statement (in-toto Attestation, Statement v1) as a JSON object: a file's path as
+/// its name, and its digest set, in lower-case hexadecimal digits. What is made reads back as a
+/// subject with that digest set.
+///
+/// # Errors
+///
+/// `AllocError` where memory was refused.
+pub fn subject_value(alloc: Global, path: &str, digests: &DigestSet) -> Result<Value, AllocError>
     ensures document { IfOk result
         (λ value. view value ≡ subject_document (path.now, digests.now)) }
     ensures reads_back { IfOk result

@@ -9,6 +9,8 @@ use Rattle.std.specs.Prelude.{
   [],
   length,
   Bool,
+  true,
+  false,
   ◌||◌,
   IsTrue,
   nat_lt,
@@ -25,8 +27,11 @@ use Rattle.clap.specs.Walk.{all_of, count_of}
 use Rattle.clap.specs.Words.{Row, Text, first_of, one_of}
 use Rattle.it_words.specs.declared.words.check_words.CheckWords.{CheckWords}
 use Rattle.it_words.specs.declared.words.digest_words.DigestWords.{DigestWords}
+use Rattle.it_words.specs.declared.words.form.AskedOutput.{AskedOutput}
+use Rattle.it_words.specs.declared.words.form.AskedOutput.TheVariants.{Report, Summary}
 use Rattle.it_words.specs.declared.words.form.Form.{Form}
 use Rattle.it_words.specs.declared.words.form.Form.TheVariants.{Lines, Json, Full}
+use Rattle.it_words.specs.declared.words.form.SummaryWords.{SummaryWords}
 use Rattle.it_words.specs.declared.words.key_words.KeyWords.{KeyWords}
 use Rattle.it_words.specs.declared.words.link_words.LinkWords.{LinkWords}
 use Rattle.it_words.specs.declared.words.match_words.MatchWords.{MatchWords}
@@ -161,6 +166,27 @@ IsForm given Lines = given ≡ None
 IsForm given Json = GivesNumber given 1
 IsForm given Full = GivesNumber given 2
 
+-- the words of a summary: who verifies, and what is verified, and no form of the report
+pub record IsSummary (values : List Row) (words : SummaryWords) : Type 0 where
+  pub no_form : one_of (codes "json") values ≡ None
+  pub verifier : first_of (codes "verifier") values ≡ Some words.verifier
+  pub resource : first_of (codes "resource") values ≡ Some words.resource
+
+-- the form of the report, with no word of a summary
+pub record IsReport (values : List Row) (form : Form) : Type 0 where
+  pub no_verifier : first_of (codes "verifier") values ≡ None
+  pub no_resource : first_of (codes "resource") values ≡ None
+  pub form_is : IsForm (one_of (codes "json") values) form
+
+-- whether a summary is asked for
+abbrev pub asks_summary : List Row → Bool
+asks_summary values = nat_lt 0 (count_of (codes "summary") values)
+
+-- what is asked for: a report, or a summary
+abbrev pub IsAsked : List Row → AskedOutput → Type 0
+IsAsked values (Report form) = (asks_summary values ≡ false) × IsReport values form
+IsAsked values (Summary words) = (asks_summary values ≡ true) × IsSummary values words
+
 -- the values of the command verify
 pub record IsVerify (values : List Row) (words : VerifyWords) : Type 0 where
   pub policy : first_of (codes "policy") values ≡ Some words.policy
@@ -170,8 +196,8 @@ pub record IsVerify (values : List Row) (words : VerifyWords) : Type 0 where
   pub at : first_of (codes "at") values ≡ Some words.at
   pub rings : AreRings (all_of (codes "ring") values) words.rings
   pub public_keys : words.public_keys ≡ nat_lt 0 (count_of (codes "public-keys") values)
-  pub form : IsForm (one_of (codes "json") values) words.form
-  pub strict : words.strict ≡ nat_lt 0 (count_of (codes "strict") values)
+  pub output : IsAsked values words.output
+  pub strict : words.strict ≡ (nat_lt 0 (count_of (codes "strict") values) || asks_summary values)
   pub has_check : HasCheck words.rings words.public_keys
   pub provenance : first_of (codes "provenance") values ≡ words.provenance
   pub records : first_of (codes "records") values ≡ words.records

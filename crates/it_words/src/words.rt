@@ -76,8 +76,9 @@ pub enum Words {
     /// one is given at least.
     Check(CheckWords),
     /// `itv verify --policy F --layout F --links DIR --sums F --at MOMENT [--ring F..]
-    /// [--public-keys] [--json[=2]] [--strict] [--provenance F] [--records DIR] [--depth N]
-    /// [--most-checks N]`: whether delivered files were made as the owners prescribed.
+    /// [--public-keys] [--json[=2]] [--strict] [--summary --verifier ID --resource URI]
+    /// [--provenance F] [--records DIR] [--depth N] [--most-checks N]`: whether delivered files
+    /// were made as the owners prescribed.
     Verify(VerifyWords),
 }
 

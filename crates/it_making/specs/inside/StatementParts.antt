@@ -1,10 +1,7 @@
 -- The parts of a Statement that is made.
-use Rattle.std.specs.Prelude.{◌≡◌, ℕ, ◌≤◌, List, ◌++◌, codes, false, Option, IsTrue, is_some}
+use Rattle.std.specs.Prelude.{ℕ, ◌≤◌, List, Option, IsTrue, is_some}
 use Rattle.serde_json.specs.Data.{Data, depth}
 use Rattle.serde_json.specs.Find.{as_object}
-use Rattle.serde_json.specs.Read.{max_depth}
-use Rattle.serde_json.specs.Written.{compact_text, has_float}
-use Rattle.it_base.specs.Document.{IsDocument}
 use Rattle.it_base.specs.Json.{Fields}
 use Rattle.std.specs.FinMap.{empty}
 use Rattle.it_digest.specs.Sums.{IsFirstBadLine, SumsOf}
@@ -15,7 +12,7 @@ use Rattle.it_outcome.specs.declared.outcome.RunFault.TheVariants.{
   NoSubjects,
   BadParameters,
 }
-use Rattle.it_making.specs.StatementOutput.{AreParameters, IsCompactLine}
+use Rattle.it_making.specs.StatementOutput.{AreParameters}
 
 -- what is given are parameters, as this JSON
 abbrev pub GivesParameters : Option (List ℕ) → Data → Type 0
@@ -34,12 +31,6 @@ IsParametersFault given OutOfMemory = Unit {0}
 IsParametersFault given BadParameters =
     (d : Data) (parameters : Fields) → ¬ AreParameters given d parameters
 IsParametersFault given other = ⊥
-
--- the text is this document written on one line, and reads back if it is not too deep
-pub record IsWritten (text : List ℕ) (d : Data) : Type 0 where
-  pub reads : depth d ≤ max_depth → IsDocument text d
-  pub one_line : IsCompactLine text d
-  pub text_is : has_float d ≡ false → text ≡ compact_text d ++ codes "\n"
 
 -- an object that is not too deep
 abbrev pub CanBeParameters : Data → Type 0

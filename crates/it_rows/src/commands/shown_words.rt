@@ -3,7 +3,7 @@ use it_base::text::Text;
 use it_words::words::Words;
 use it_words::words::checking::CheckWords;
 use it_words::words::digesting::DigestWords;
-use it_words::words::form::Form;
+use it_words::words::form::{AskedOutput, Form};
 use it_words::words::keys::KeyWords;
 use it_words::words::linking::LinkWords;
 use it_words::words::signed::{SignedBy, SignedWords};
@@ -38,17 +38,21 @@ fn shown_or_none(text: &Option<Text>) -> &str {
 }
 
 /// The rings, with a star if public keys are checked too, a question mark if the report is to be
-/// JSON, two if it is also to have what is found and noted, and an exclamation mark if nothing may
-/// be found.
+/// JSON, two if it is also to have what is found and noted, the verifier and the resource between
+/// parentheses if it is to be a summary, and an exclamation mark if nothing may be found.
 fn shown_checks(alloc: Global, words: &VerifyWords) -> Result<String, AllocError> {
     let mut checks = joined(alloc, words.rings.as_slice())?;
     if words.public_keys {
         checks.push('*')?;
     }
-    match words.form {
-        Form::Lines => {}
-        Form::Json => checks.push('?')?,
-        Form::Full => checks.push_str("??")?,
+    match &words.output {
+        AskedOutput::Report(Form::Lines) => {}
+        AskedOutput::Report(Form::Json) => checks.push('?')?,
+        AskedOutput::Report(Form::Full) => checks.push_str("??")?,
+        AskedOutput::Summary(names) => {
+            let (verifier, resource) = (names.verifier.as_str(), names.resource.as_str());
+            checks.push_str(format!(in alloc; "({verifier} {resource})")?.as_str())?;
+        }
     }
     if words.strict {
         checks.push('!')?;

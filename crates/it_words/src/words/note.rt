@@ -42,8 +42,11 @@ pub(super) fn unfit(alloc: Global, words: &[String]) -> WordsFault {
 fn misfit(command: &str, values: &[String]) -> &'static str {
     match (command, gives(values, "--ring")) {
         ("check", _) => "neither '--policy <F>' nor '--layout <F>' is given",
-        ("verify", true) => "the option '--ring <F>' is given more than 8 times",
-        ("verify", false) => "neither '--ring <F>' nor '--public-keys' is given",
+        ("verify", has_ring) => match misfit_of_summary(values) {
+            Some(misfit) => misfit,
+            None if has_ring => "the option '--ring <F>' is given more than 8 times",
+            None => "neither '--ring <F>' nor '--public-keys' is given",
+        },
         ("signed", true) => "the options '--ring <F>' and '--keys <F>' are both given",
         ("signed", false) => "neither '--ring <F>' nor '--keys <F>' is given",
         ("sign", true) =>
@@ -51,6 +54,23 @@ fn misfit(command: &str, values: &[String]) -> &'static str {
         ("sign", false) =>
             "neither '--ring <F>' nor '--signature <SIG>' with '--keys <F>' is given",
         _ => "the option '--name <ID>' is given with more than one file",
+    }
+}
+
+/// What does not fit together in the words of a summary, where they do not.
+fn misfit_of_summary(values: &[String]) -> Option<&'static str> {
+    let has_verifier = gives(values, "--verifier");
+    let has_resource = gives(values, "--resource");
+    match (gives(values, "--summary"), has_verifier, has_resource) {
+        (true, false, _) => Some("the option '--summary' is given without '--verifier <ID>'"),
+        (true, true, false) => Some("the option '--summary' is given without '--resource <URI>'"),
+        (true, true, true) if gives(values, "--json") => {
+            Some("the options '--summary' and '--json [<N>]' are both given")
+        }
+        (true, true, true) => None,
+        (false, true, _) => Some("the option '--verifier <ID>' is given without '--summary'"),
+        (false, false, true) => Some("the option '--resource <URI>' is given without '--summary'"),
+        (false, false, false) => None,
     }
 }
 

@@ -17,8 +17,9 @@ pub(super) static USAGES: [Usage; 11] = [
 pub(super) const VERIFY: Usage = Usage {
     name: "verify",
     line: "itv verify --policy F --layout F --links DIR --sums F --at MOMENT [--ring F..]
-    [--public-keys] [--json[=2]] [--strict] [--provenance F] [--records DIR]
-    [--depth N] [--most-checks N]",
+    [--public-keys] [--json[=2]] [--strict] [--summary --verifier ID
+    --resource URI] [--provenance F] [--records DIR] [--depth N]
+    [--most-checks N]",
     text: "    Writes the report of the verification: the line accepted with each step and
     each file, or the line refused with the first thing that does not hold.
       --policy F       The policy: the owners of the layout, what may be
@@ -41,6 +42,12 @@ pub(super) const VERIFY: Usage = Usage {
                        something is found in the policy, in the layout or in a
                        sublayout, as itv check finds it, an expectation is
                        unused, or a delivered file is tied to no step.
+      --summary        Writes the body of a SLSA verification summary in place
+                       of a report that accepts, for itv sign to sign; the
+                       report of a refusal goes to standard error. It implies
+                       --strict and excludes --json.
+      --verifier ID    With --summary, the id of who verifies, a URI.
+      --resource URI   With --summary, the URI of what is verified.
       --provenance F   The provenance, one envelope a line.
       --records DIR    The folder of the records of inspections, link bodies
                        without envelopes.

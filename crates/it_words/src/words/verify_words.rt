@@ -1,9 +1,9 @@
 //! The words of `itv verify`.
 ghost use Rattle.std.specs.Prelude.{◌≤◌, ◌↔◌, IfErr, IfOk, IsTrue, length};
-ghost use Rattle.it_words.specs.Values.{HasCheck, IsVerify};
+ghost use Rattle.it_words.specs.Values.{HasCheck, IsAsked, IsReport, IsSummary, IsVerify};
 ghost use Rattle.it_words.specs.inside.Unfit.{FitsNone};
 
-use super::form::Form;
+use super::form::{AskedOutput, Form, SummaryWords};
 use super::values::{Values, ValuesFault};
 use it_base::sequence::Sequence;
 use it_base::text::Text;
@@ -29,9 +29,10 @@ pub struct VerifyWords {
     pub rings: Sequence<Text>,
     /// Whether signatures are checked by public keys too.
     pub public_keys: bool,
-    /// The form of the report.
-    pub form: Form,
-    /// Whether nothing is accepted against which findings stand.
+    /// What is asked for on standard output.
+    pub output: AskedOutput,
+    /// Whether nothing is accepted against which findings stand, as it is where a summary is asked
+    /// for.
     pub strict: bool,
     /// The path of the provenance's file, where there is one.
     pub provenance: Option<Text>,
@@ -43,8 +44,8 @@ pub struct VerifyWords {
     pub most_checks: u64,
 }
 
-/// The command's values, or `Unfit` where one is missing, there are more than 8 rings, or there is
-/// no ring and no public keys.
+/// The command's values, or `Unfit` where one is missing, there are more than 8 rings, there is no
+/// ring and no public keys, or the words of a summary do not fit together.
 pub(super) fn read(values: &Values<'_, '_>) -> Result<VerifyWords, ValuesFault>
     ensures found { IfOk result (IsVerify values.now) }
     ensures unfit { IfErr result (FitsNone (IsVerify values.now)) }
@@ -62,8 +63,8 @@ pub(super) fn read(values: &Values<'_, '_>) -> Result<VerifyWords, ValuesFault>
         at: values.needed("at")?,
         rings,
         public_keys,
-        form: values.form()?,
-        strict: values.is_given("strict"),
+        output: asked(values)?,
+        strict: values.is_given("strict") || values.is_given("summary"),
         provenance: values.optional("provenance")?,
         records: values.optional("records")?,
         depth: values.depth()?,
@@ -76,4 +77,41 @@ fn are_checks(rings: &[Text], public_keys: bool) -> bool
     ensures { IsTrue result ↔ ((length rings.now ≤ 8) × HasCheck rings.now public_keys) }
 {
     rings.len() <= MOST_RINGS && (!rings.is_empty() || public_keys)
+}
+
+/// What is asked for on standard output, or `Unfit` where a word of a summary is missing, or stands
+/// without `--summary` or beside `--json`.
+fn asked(values: &Values<'_, '_>) -> Result<AskedOutput, ValuesFault>
+    ensures found { IfOk result (IsAsked values.now) }
+    ensures unfit { IfErr result (FitsNone (IsAsked values.now)) }
+{
+    if values.is_given("summary") {
+        Ok(AskedOutput::Summary(summary(values)?))
+    } else {
+        Ok(AskedOutput::Report(report(values)?))
+    }
+}
+
+/// The words of a summary, or `Unfit` where one is missing, or a form of the report is given.
+fn summary(values: &Values<'_, '_>) -> Result<SummaryWords, ValuesFault>
+    ensures found { IfOk result (IsSummary values.now) }
+    ensures unfit { IfErr result (FitsNone (IsSummary values.now)) }
+{
+    if values.form()? != Form::Lines {
+        return Err(ValuesFault::Unfit);
+    }
+    Ok(SummaryWords {
+        verifier: values.needed("verifier")?,
+        resource: values.needed("resource")?,
+    })
+}
+
+/// The form of the report, or `Unfit` where it is none, or a word of a summary is given.
+fn report(values: &Values<'_, '_>) -> Result<Form, ValuesFault>
+    ensures found { IfOk result (IsReport values.now) }
+    ensures unfit { IfErr result (FitsNone (IsReport values.now)) }
+{
+    values.absent("verifier")?;
+    values.absent("resource")?;
+    values.form()
 }

@@ -12,8 +12,8 @@ returns-clause-ok c =
     is_statement_output parts.subjects.now parts.build_type.now parts.builder.now
     (option_copied parts.parameters) c.in_ok-text.text.items c.in_ok-subjects.subjects
     (view c.in_ok-parameters.parameters) given.0 c.in_ok-subjects.ensures.ok given.1
-    c.in_ok-text.ensures.reads_back
-    (rw c.in_ok-predicate.ensures at c.in_ok-text.ensures.reads)
+    c.in_ok-listed.ensures.reads_back
+    (rw (c.in_ok-listed.ensures.document, c.in_ok-predicate.ensures) at c.in_ok-text.ensures)
 
 pub returns-in_err-parameters-clause-err : goal.returns-in_err-parameters-clause-err
 returns-in_err-parameters-clause-err c =

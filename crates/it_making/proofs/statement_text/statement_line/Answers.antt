@@ -1,11 +1,11 @@
 use Rattle.std.proofs.Common.{◌∙◌, ◌++◌, ap, codes}
 use Rattle.it_making.proofs.LineFeeds.{document_feed}
 use Rattle.it_making.proofs.PrintedLines.{one_line}
-use Rattle.it_making.proofs.statement_text.written.Goals as goal
+use Rattle.it_making.proofs.statement_text.statement_line.Goals as goal
 
-pub returns-clause-reads : goal.returns-clause-reads
-returns-clause-reads c =
-    let document = c.in_ok-value.ensures.document in
+pub returns : goal.returns
+returns c =
+    let document = c.in_ok-value.ensures in
     let ended = c.in_ok-push.ensures.items in
     record {
       reads = λ low. rw ended (document_feed c.in_ok-text.text.items _ (record {

@@ -1,0 +1,55 @@
+//! The predicate of a verification summary (SLSA v1.0, verification summary).
+ghost use Rattle.std.specs.Prelude.{◌≡◌, IfOk, map, reduce};
+ghost use Rattle.std.specs.Prelude.{min};
+ghost use Rattle.serde_json.specs.Data.{array, string};
+ghost use Rattle.serde_json.specs.View.{items_of, view};
+ghost use Rattle.it_summary.specs.Summary.{least_level, level_names, summary_predicate};
+
+use it_json_report::evidence::{Evidence, FileEvidence};
+use serde_json::{Value, json};
+use std::alloc::{AllocError, Global};
+
+/// The predicate about a delivery that was accepted, of which the `evidence` tells.
+pub(crate) fn predicate_value(
+    alloc: Global,
+    evidence: &Evidence,
+    verifier: &str,
+    resource: &str,
+) -> Result<Value, AllocError>
+    ensures { IfOk result
+        (λ value. view value ≡ summary_predicate evidence.now verifier.now resource.now) }
+{
+    let policy = hex::encode(alloc, evidence.policy.as_slice())?;
+    let levels = levels_value(alloc, least_level(evidence.files.as_slice()))?;
+    let moment = evidence.moment.as_str();
+    json!(in alloc; {
+        "policy": {"digest": {"sha256": policy}},
+        "resourceUri": resource,
+        "slsaVersion": "1.0",
+        "timeVerified": moment,
+        "verificationResult": "PASSED",
+        "verifiedLevels": levels,
+        "verifier": {"id": verifier}
+    })
+}
+
+/// The least level that stood for a file, where there is a file.
+fn least_level(files: &[FileEvidence]) -> Option<u8>
+    ensures { result ≡ least_level files.now }
+{
+    files.iter().map(|file| file.level).min()
+}
+
+/// The list of the levels that were reached.
+fn levels_value(alloc: Global, level: Option<u8>) -> Result<Value, AllocError>
+    ensures { IfOk result
+        (λ value. view value ≡ array (items_of (map string (level_names level)))) }
+{
+    match level {
+        None | Some(0) => json!(in alloc; []),
+        Some(level) => {
+            let name = format!(in alloc; "SLSA_BUILD_LEVEL_{level}")?;
+            json!(in alloc; [name])
+        }
+    }
+}

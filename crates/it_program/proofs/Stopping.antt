@@ -11,6 +11,7 @@ use Rattle.it_disk.specs.declared.fault.Fault.{Fault}
 use Rattle.it_disk.specs.declared.fault.Fault.TheVariants.{Run as by_run}
 use Rattle.it_verify_command.specs.declared.output_form.OutputForm.{OutputForm}
 use Rattle.it_verify_command.specs.declared.output_form.OutputForm.TheVariants.{Full, Report}
+use Rattle.it_verify_command.specs.declared.output_form.OutputForm.TheVariants.{Summary}
 use Rattle.it_verify_command.specs.declared.strict_fault.StrictFault.{StrictFault}
 use Rattle.it_verify_command.specs.declared.strict_fault.StrictFault.TheVariants.{Findings, Run}
 use Rattle.it_outcome.specs.declared.outcome.RunFault.TheVariants.{Write}
@@ -58,6 +59,7 @@ kept_by Same (Err stop) fault is kept = λ other found.
 pub shown_or_same : (Same Shown : Type 0) (form : OutputForm) → Shown → (form ≢ Full → Same)
     → Same ⊎ ((form ≡ Full) × Shown)
 shown_or_same Same Shown (Report form) shown same = inl (same (λ is. cc))
+shown_or_same Same Shown (Summary names) shown same = inl (same (λ is. cc))
 shown_or_same Same Shown Full shown same = inr (refl, shown)
 
 -- what has gone out of a verification that stopped
@@ -65,12 +67,12 @@ pub verify_begun : {T : Type 0} (Same : Type 0) (disk : Holdings) (words : Verif
     (old new : Option (List ℕ)) (result : Result T Stop)
     → IfErr result (λ stop. stop ≢ OfFault (by_run Write) → stop ≢ by_findings → Same)
     → (IsErrOf result by_findings → FindsAgainst disk words old new)
-    → (IsErrOf result by_findings → form_asked words.form ≢ Full → Same)
+    → (IsErrOf result by_findings → form_asked words.output ≢ Full → Same)
     → IfErr result (λ stop. stop ≢ OfFault (by_run Write)
     → Same ⊎ IsBegun disk (Verify words) old new)
 verify_begun Same disk words old new (Ok x) nothing finds lines = tt
 verify_begun Same disk words old new (Err by_findings) nothing finds lines = λ other.
-    shown_or_same Same _ (form_asked words.form) (finds refl) (lines refl)
+    shown_or_same Same _ (form_asked words.output) (finds refl) (lines refl)
 verify_begun Same disk words old new (Err (TooManyChecks most)) nothing finds lines = λ other.
     inl (nothing other (λ is. cc))
 verify_begun Same disk words old new (Err (OfFault fault)) nothing finds lines = λ other.

@@ -24,7 +24,7 @@ stop_of (Run fault) = OfFault (by_run fault)
 abbrev pub IsBegun : Holdings → Words → (old new : Option (List ℕ)) → Type 0
 IsBegun disk (Digest words) old new = ListsFirst disk words old new
 IsBegun disk (Verify words) old new =
-    (form_asked words.form ≡ Full) × FindsAgainst disk words old new
+    (form_asked words.output ≡ Full) × FindsAgainst disk words old new
 IsBegun disk command old new = ⊥
 
 -- the words name such a command

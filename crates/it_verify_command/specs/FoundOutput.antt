@@ -10,6 +10,7 @@ use Rattle.it_strict.specs.declared.found.Found.{Found}
 use Rattle.it_verify_command.specs.FullOutput.{shown_below, shown_finding}
 use Rattle.it_verify_command.specs.declared.output_form.OutputForm.{OutputForm}
 use Rattle.it_verify_command.specs.declared.output_form.OutputForm.TheVariants.{Full, Report}
+use Rattle.it_verify_command.specs.declared.output_form.OutputForm.TheVariants.{Summary}
 
 -- a delivered file that is tied to no step, as it is written
 abbrev pub shown_untied : List ℕ → ReportFinding
@@ -32,9 +33,11 @@ found_shown found =
 abbrev pub found_in : OutputForm → Found → List ℕ
 found_in (Report form) found = found_text found
 found_in Full found = findings_json_of (found_shown found)
+found_in (Summary names) found = found_text found
 
 -- the text is told: in the full form it went out, and no note was written; otherwise it was
 -- written to the notes, or a beginning of it
 abbrev pub AreTold : OutputForm → (old new before after : Option (List ℕ)) → List ℕ → Type 0
 AreTold (Report form) old new before after text = AppendsBeginning before after text
 AreTold Full old new before after text = Appends old new text × (after ≡ before)
+AreTold (Summary names) old new before after text = AppendsBeginning before after text

@@ -21,20 +21,21 @@ use std::io::Write;
 pub(crate) fn tell_found<W: Write, N: Write>(
     alloc: Global,
     found: &Found,
-    form: OutputForm,
+    form: &OutputForm,
     out: &mut W,
     notes: &mut N,
 ) -> Result<(), RunFault>
-    ensures ok { OnOk result (AreTold form (W.contents out.old) (W.contents out.new)
-        (N.contents notes.old) (N.contents notes.new) (found_in form found.now)) }
-    ensures write { IsErrOf result RunFault.Write → (form ≡ OutputForm.Full)
-        × AppendsBeginning (W.contents out.old) (W.contents out.new) (found_in form found.now) }
+    ensures ok { OnOk result (AreTold form.now (W.contents out.old) (W.contents out.new)
+        (N.contents notes.old) (N.contents notes.new) (found_in form.now found.now)) }
+    ensures write { IsErrOf result RunFault.Write → (form.now ≡ OutputForm.Full)
+        × AppendsBeginning (W.contents out.old) (W.contents out.new) (found_in form.now found.now) }
     ensures kept { IfErr result (λ fault. fault ≢ RunFault.Write → out.new ≡ out.old) }
-    ensures lines { form ≢ OutputForm.Full → out.new ≡ out.old }
+    ensures lines { form.now ≢ OutputForm.Full → out.new ≡ out.old }
 {
     match form {
         OutputForm::Report(_) => Ok(write_lines(alloc, found, notes)?),
         OutputForm::Full => write_object(alloc, found, out),
+        OutputForm::Summary(_) => Ok(write_lines(alloc, found, notes)?),
     }
 }
 

@@ -17,7 +17,7 @@ use it_verify::inputs::Inputs;
 use std::alloc::Global;
 use std::io::Write;
 
-/// Verifies delivered files as `verify_with_notes` does, and writes the same output and notes, but
+/// Verifies delivered files as `verify_with_notes` does, and writes the same to `out` and `notes`, but
 /// where the verdict accepts and something is found, only that is told: in the full form it is the
 /// output, as one JSON object, and otherwise its lines go to `notes`, as far as they can be written.
 ///
@@ -31,26 +31,26 @@ pub fn verify_strictly<C: Checks, W: Write, N: Write>(
     alloc: Global,
     inputs: &Inputs,
     checks: &C,
-    form: OutputForm,
+    form: &OutputForm,
     out: &mut W,
     notes: &mut N,
 ) -> Result<Status, StrictFault>
     requires { inputs.now.depth ≤ 8 }
     ensures ok { IfOk result (λ status. (text : _)
-        × IsVerifyOutputIn form (C.panel checks.now) inputs.now text status
+        × IsVerifyOutputIn form.now (C.panel checks.now) inputs.now text status
         × Appends (W.contents out.old) (W.contents out.new) text) }
     ensures stands { IfOk result (λ status. status ≡ Status.Good
         → StandsStrictly (C.panel checks.now) inputs.now) }
     ensures findings { IsErrOf result StrictFault.Findings → (text : _)
-        × HasFindings form (C.panel checks.now) inputs.now text
-        × AreTold form (W.contents out.old) (W.contents out.new) (N.contents notes.old)
+        × HasFindings form.now (C.panel checks.now) inputs.now text
+        × AreTold form.now (W.contents out.old) (W.contents out.new) (N.contents notes.old)
         (N.contents notes.new) text }
     ensures write { IsErrOf result (StrictFault.Run RunFault.Write) → (text : _)
-        × IsStrictOutput form (C.panel checks.now) inputs.now text
+        × IsStrictOutput form.now (C.panel checks.now) inputs.now text
         × AppendsBeginning (W.contents out.old) (W.contents out.new) text }
     ensures kept { IfErr result (λ fault. fault ≢ StrictFault.Run RunFault.Write
         → fault ≢ StrictFault.Findings → out.new ≡ out.old) }
-    ensures lines { IsErrOf result StrictFault.Findings → form ≢ OutputForm.Full
+    ensures lines { IsErrOf result StrictFault.Findings → form.now ≢ OutputForm.Full
         → out.new ≡ out.old }
 {
     match strict_answer(alloc, inputs, checks, form)? {

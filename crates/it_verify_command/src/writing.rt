@@ -5,6 +5,7 @@ ghost use Rattle.it_base.specs.Writing.{AppendsBeginning};
 ghost use Rattle.it_notes.specs.Known.{IsTold};
 
 use crate::answer::Answer;
+use it_base::writing::write_all_of;
 use it_dsse::checks::Checks;
 use it_notes::found_in_documents::add_found;
 use it_notes::known::Told;
@@ -15,7 +16,8 @@ use it_verify::inputs::Inputs;
 use std::alloc::{AllocError, Global};
 use std::io::Write;
 
-/// Writes the output of an answer, and then, where that is the report alone, the notes on it.
+/// Writes the output of an answer, and then, where they follow elsewhere, the notes on it, after
+/// what goes before them.
 pub(crate) fn write_answer<C: Checks, W: Write, N: Write>(
     alloc: Global,
     inputs: &Inputs,
@@ -31,7 +33,8 @@ pub(crate) fn write_answer<C: Checks, W: Write, N: Write>(
         (W.contents out.old) (W.contents out.new) answer.entry.output.text.items) }
 {
     let outcome = put(out, &answer.output);
-    if outcome.is_ok() && answer.form.is_report() {
+    if outcome.is_ok() && answer.noted {
+        let _ = write_all_of(notes, answer.before_notes.as_slice());
         note(alloc, inputs, &answer.told, checks, notes);
     }
     outcome

@@ -1,4 +1,4 @@
-use Rattle.std.proofs.Common.{◌∙◌, ap, Err, subst, sym}
+use Rattle.std.proofs.Common.{ap, Err, subst}
 use Rattle.it_verify_command.specs.FoundOutput.{AreTold}
 use Rattle.it_program.proofs.Stopping.{found_by, kept_by}
 use Rattle.it_program.proofs.verify_command.verify_as_asked.Goals as goal
@@ -8,11 +8,10 @@ returns-in_err-verify_strictly-clause-findings g c = λ is.
     let fault = c.in_err-verify_strictly.field-0.0 in
     let told = c.in_err-verify_strictly.ensures.findings
     (ap Err (found_by c.from_residual.result fault c.from_residual.ensures.1 is)) in (
-      c.if-words.true,
+      c.if-asked.true,
       told.0,
-      rw c.form_asked.ensures at told.1,
-      λ full. (subst (λ form. AreTold form _ _ _ _ told.0)
-          (c.form_asked.ensures ∙ full) told.2).0,
+      told.1,
+      λ full. (subst (λ form. AreTold form _ _ _ _ told.0) full told.2).0,
     )
 
 pub returns-in_err-verify_strictly-clause-nothing : goal.returns-in_err-verify_strictly-clause-nothing
@@ -21,8 +20,7 @@ returns-in_err-verify_strictly-clause-nothing g c =
     c.in_err-verify_strictly.ensures.kept
 
 pub returns-in_err-verify_strictly-clause-lines : goal.returns-in_err-verify_strictly-clause-lines
-returns-in_err-verify_strictly-clause-lines g c = λ is other.
+returns-in_err-verify_strictly-clause-lines g c = λ is.
     let fault = c.in_err-verify_strictly.field-0.0 in
     c.in_err-verify_strictly.ensures.lines
     (ap Err (found_by c.from_residual.result fault c.from_residual.ensures.1 is))
-    (λ full. other (sym c.form_asked.ensures ∙ full))

@@ -6,7 +6,7 @@ pub returns-in_err-write_answer-in-Stands-clause-write :
     goal.returns-in_err-write_answer-in-Stands-clause-write
 returns-in_err-write_answer-in-Stands-clause-write g c = λ failed.
     let panel = g.C.Checks.panel c.args.checks.now in
-    let stands = subst (IsStrictAnswer c.args.form panel c.args.inputs.now) c.in-Stands.is
+    let stands = subst (IsStrictAnswer c.args.form.now panel c.args.inputs.now) c.in-Stands.is
     c.in_ok-answer.ensures in
     let given = stands.is_answer in
     let answer = c.in-Stands.answer in (

@@ -2,6 +2,8 @@
 -- Attestation, Statement v1) about the files of a delivery that was accepted.
 use Rattle.std.specs.Prelude.{ℕ, ◌==◌, List, [], ◌∷◌, ◌++◌, Option, None, Some, codes, decimal}
 use Rattle.std.specs.Prelude.{if◌then◌else◌, map, min, reduce}
+use Rattle.base64.specs.Engines.{url_safe_no_pad}
+use Rattle.base64.specs.GeneralPurpose.{encode_of}
 use Rattle.hex.specs.Hex.{encode_lower}
 use Rattle.serde_json.specs.Data.{Data, array, member, no_members, object, string}
 use Rattle.serde_json.specs.View.{items_of}
@@ -16,16 +18,26 @@ use Rattle.it_making.specs.StatementOutput.{subject_document, typed_document}
 abbrev pub summary_type : List ℕ
 summary_type = codes "https://slsa.dev/verification_summary/v1"
 
--- the delivered files as subjects, in the order of the bytes of their paths: each by its path and
--- its digests
-abbrev pub subjects_document : List FileEvidence → Data
-subjects_document files =
-    array (items_of (map (λ file. subject_document (file.path, file.digests)) files))
+-- a delivered file as a subject: by its path, and its digests
+abbrev pub subject_of : FileEvidence → Data
+subject_of file = subject_document (file.path, file.digests)
 
--- an object whose digest is this SHA-256 (in-toto Attestation v1, ResourceDescriptor)
-abbrev pub digest_document : List ℕ → Data
-digest_document digest = object (member (codes "digest")
-    (object (member (codes "sha256") (string (encode_lower digest)) no_members)) no_members)
+-- the delivered files as subjects, in the order of the bytes of their paths
+abbrev pub subjects_document : List FileEvidence → Data
+subjects_document files = array (items_of (map subject_of files))
+
+-- the URI that names what has this SHA-256 (RFC 6920, section 3)
+abbrev pub digest_uri : List ℕ → List ℕ
+digest_uri digest = codes "ni:///sha-256;" ++ encode_of url_safe_no_pad digest
+
+-- the policy that has this SHA-256 (in-toto Attestation v1, ResourceDescriptor); its URI names it by
+-- that, since a policy has no other name (this profile's choice)
+abbrev pub policy_document : List ℕ → Data
+policy_document digest = object
+    (member (codes "digest")
+    (object (member (codes "sha256") (string (encode_lower digest)) no_members))
+    (member (codes "uri") (string (digest_uri digest))
+    no_members))
 
 -- the least level that stood for a file, where there is a file
 abbrev pub least_level : List FileEvidence → Option ℕ
@@ -42,7 +54,7 @@ level_names (Some level) =
 -- their bytes; it names no input attestations, as the standard allows (this profile's choice)
 abbrev pub summary_predicate : Evidence → (verifier resource : List ℕ) → Data
 summary_predicate evidence verifier resource = object
-    (member (codes "policy") (digest_document evidence.policy)
+    (member (codes "policy") (policy_document evidence.policy)
     (member (codes "resourceUri") (string resource)
     (member (codes "slsaVersion") (string (codes "1.0"))
     (member (codes "timeVerified") (string evidence.moment)

@@ -1,5 +1,5 @@
 //! The delivered files as the subjects of a Statement (in-toto Attestation, Statement v1).
-ghost use Rattle.std.specs.Prelude.{◌≡◌, IfOk, map};
+ghost use Rattle.std.specs.Prelude.{◌≡◌, IfOk};
 ghost use Rattle.serde_json.specs.View.{view};
 ghost use Rattle.it_base.specs.Sequence.{IsList};
 ghost use Rattle.it_docs.specs.Statement.{IsSubject};

@@ -1,4 +1,4 @@
-use Rattle.it_words.specs.Values.{GivesNumber, IsDepth, IsForm, IsVerify}
+use Rattle.it_words.specs.Values.{GivesNumber, IsAsked, IsDepth, IsVerify}
 use Rattle.it_words.proofs.Unfit.{missing, part_unfit}
 use Rattle.it_words.proofs.words.verify_words.read.Goals as goal
 
@@ -27,10 +27,10 @@ returns-in_err-needed-5-clause-unfit c =
     missing (IsVerify _) _ _ c.from_residual-in_err-needed-5.ensures.1 _ (λ words. words.at)
     (λ words is. is.at) c.in_err-needed-5.ensures.unfit
 
-pub returns-in_err-form-clause-unfit : goal.returns-in_err-form-clause-unfit
-returns-in_err-form-clause-unfit c =
-    part_unfit (IsVerify _) _ _ c.from_residual-in_err-form.ensures.1 (IsForm _)
-    (λ words. words.form) (λ words is. is.form) c.in_err-form.ensures.unfit
+pub returns-in_err-asked-clause-unfit : goal.returns-in_err-asked-clause-unfit
+returns-in_err-asked-clause-unfit c =
+    part_unfit (IsVerify _) _ _ c.from_residual-in_err-asked.ensures.1 (IsAsked _)
+    (λ words. words.output) (λ words is. is.output) c.in_err-asked.ensures.unfit
 
 pub returns-in_err-depth-clause-unfit : goal.returns-in_err-depth-clause-unfit
 returns-in_err-depth-clause-unfit c =

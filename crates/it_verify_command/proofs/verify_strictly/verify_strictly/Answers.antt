@@ -29,13 +29,13 @@ pub returns-in_err-tell_found-in-Against-clause-write :
     goal.returns-in_err-tell_found-in-Against-clause-write
 returns-in_err-tell_found-in-Against-clause-write g c = λ failed.
     let panel = g.C.Checks.panel c.args.checks.now in
-    let given = subst (IsStrictAnswer c.args.form panel c.args.inputs.now) c.in-Against.is
+    let given = subst (IsStrictAnswer c.args.form.now panel c.args.inputs.now) c.in-Against.is
     c.in_ok-answer.ensures in
     let residual = c.from_residual-in_err-tell_found-in-Against in
     let fault = c.in_err-tell_found-in-Against.field-0.0 in
     let told = c.in_err-tell_found-in-Against.ensures.write
     (ap Err (write_by residual.result fault residual.ensures.1 failed)) in (
-      found_in c.args.form c.in-Against.found,
+      found_in c.args.form.now c.in-Against.found,
       inr (
         told.0,
         record {
@@ -52,9 +52,9 @@ pub returns-in_ok-tell_found-in-Against-clause-findings :
     goal.returns-in_ok-tell_found-in-Against-clause-findings
 returns-in_ok-tell_found-in-Against-clause-findings g c = λ is.
     let panel = g.C.Checks.panel c.args.checks.now in
-    let given = subst (IsStrictAnswer c.args.form panel c.args.inputs.now) c.in-Against.is
+    let given = subst (IsStrictAnswer c.args.form.now panel c.args.inputs.now) c.in-Against.is
     c.in_ok-answer.ensures in (
-      found_in c.args.form c.in-Against.found,
+      found_in c.args.form.now c.in-Against.found,
       record {
         found = c.in-Against.found;
         is_found = given.0;

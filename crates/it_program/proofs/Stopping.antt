@@ -1,6 +1,7 @@
 -- What has gone out where a command stops.
 use Rattle.std.proofs.Common.{◌⊎◌, ⊎_elim, inl, inr, ℕ, List, Option, Result, Ok, Err, IfErr}
 use Rattle.std.proofs.Common.{◌≡◌, ◌≢◌, ◌∙◌, IsErrOf, ap, refl}
+use Rattle.std.specs.Io.KnownBytes.{Appends}
 use Rattle.std.specs.Result.{IsErrAnd}
 use Rattle.it_disk.specs.Reading.{Holdings}
 use Rattle.it_words.specs.Words.{AreWordsOf}
@@ -15,6 +16,7 @@ use Rattle.it_verify_command.specs.declared.output_form.OutputForm.TheVariants.{
 use Rattle.it_verify_command.specs.declared.strict_fault.StrictFault.{StrictFault}
 use Rattle.it_verify_command.specs.declared.strict_fault.StrictFault.TheVariants.{Findings, Run}
 use Rattle.it_outcome.specs.declared.outcome.RunFault.TheVariants.{Write}
+use Rattle.it_verify_command.specs.FoundOutput.{AreTold}
 use Rattle.it_program.specs.Commands.{FindsAgainst, form_asked}
 use Rattle.it_program.specs.Stopped.{IsBegun, NamesBegun, stop_of}
 use Rattle.it_program.specs.declared.stop.Stop.{Stop}
@@ -77,3 +79,10 @@ verify_begun Same disk words old new (Err (TooManyChecks most)) nothing finds li
     inl (nothing other (λ is. cc))
 verify_begun Same disk words old new (Err (OfFault fault)) nothing finds lines = λ other.
     inl (nothing other (λ is. cc))
+
+-- in the full form what is told has gone out
+pub told_out : (form : OutputForm) (old new before after : Option (List ℕ)) (text : List ℕ)
+    → AreTold form old new before after text → form ≡ Full → Appends old new text
+told_out (Report kind) old new before after text told is = cc
+told_out (Summary names) old new before after text told is = cc
+told_out Full old new before after text told is = told.0

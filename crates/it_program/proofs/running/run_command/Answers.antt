@@ -55,12 +55,12 @@ returns-in_err-run-in-Check-clause-stopped g c =
 
 pub returns-in-Verify-clause-stopped : goal.returns-in-Verify-clause-stopped
 returns-in-Verify-clause-stopped g c =
-    rw c.in-Verify.is (verify_begun _ _ c.in-Verify.words _ _ c.run.result c.run.ensures.nothing
-    c.run.ensures.findings c.run.ensures.lines)
+    rw c.in-Verify.is (verify_begun _ _ c.in-Verify.words _ _ c.run-in-Verify.result
+    c.run-in-Verify.ensures.nothing c.run-in-Verify.ensures.findings c.run-in-Verify.ensures.lines)
 
 pub returns-in-Verify-clause-findings : goal.returns-in-Verify-clause-findings
 returns-in-Verify-clause-findings g c = λ is. record {
   words = c.in-Verify.words;
   is_verify = c.in-Verify.is;
-  finds = c.run.ensures.findings is;
+  finds = c.run-in-Verify.ensures.findings is;
 }

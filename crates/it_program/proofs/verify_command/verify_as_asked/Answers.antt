@@ -1,6 +1,5 @@
-use Rattle.std.proofs.Common.{ap, Err, subst}
-use Rattle.it_verify_command.specs.FoundOutput.{AreTold}
-use Rattle.it_program.proofs.Stopping.{found_by, kept_by}
+use Rattle.std.proofs.Common.{ap, Err}
+use Rattle.it_program.proofs.Stopping.{found_by, kept_by, told_out}
 use Rattle.it_program.proofs.verify_command.verify_as_asked.Goals as goal
 
 pub returns-in_err-verify_strictly-clause-findings : goal.returns-in_err-verify_strictly-clause-findings
@@ -11,7 +10,9 @@ returns-in_err-verify_strictly-clause-findings g c = λ is.
       c.if-asked.true,
       told.0,
       told.1,
-      λ full. (subst (λ form. AreTold form _ _ _ _ told.0) full told.2).0,
+      told_out c.args.asked.now.form (g.W.Write.contents c.args.out.now)
+          (g.W.Write.contents c.verify_strictly.new.out) (g.N.Write.contents c.args.notes.now)
+          (g.N.Write.contents c.verify_strictly.new.notes) told.0 told.2,
     )
 
 pub returns-in_err-verify_strictly-clause-nothing : goal.returns-in_err-verify_strictly-clause-nothing

@@ -25,12 +25,9 @@ pub(crate) fn summary_text(
     match (verdict, behind) {
         (Verdict::Refused(_), _) => Ok(Vec::new(alloc)),
         (Verdict::Accepted { .. }, Some(evidence)) => {
-            summary_body(
-                alloc,
-                evidence,
-                names.verifier.as_str(),
-                names.resource.as_str(),
-            )
+            let verifier = names.verifier.as_str();
+            let resource = names.resource.as_str();
+            summary_body(alloc, evidence, verifier, resource)
         }
         (Verdict::Accepted { .. }, None) => Err(AllocError),
     }

@@ -7,4 +7,4 @@ returns-in-Accepted-Some c = λ panel inputs behind.
     IfOk-weaker c.summary_body.result _ _ (λ text is. is_summary c.args.names.now panel inputs
     c.args.verdict.now c.args.behind.now c.in-Accepted-Some.evidence text.items behind
     c.in-Accepted-Some.is-1 is _ _ c.in-Accepted-Some.is-0)
-    (rw (c.as_str.ensures, c.as_str-resource.ensures) at c.summary_body.ensures.body)
+    (rw (c.as_str-verifier.ensures, c.as_str-resource.ensures) at c.summary_body.ensures.body)

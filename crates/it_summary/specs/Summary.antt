@@ -1,7 +1,8 @@
 -- The body of a verification summary (SLSA v1.0, verification summary): a Statement (in-toto
 -- Attestation, Statement v1) about the files of a delivery that was accepted.
 use Rattle.std.specs.Prelude.{ℕ, ◌==◌, List, [], ◌∷◌, ◌++◌, Option, None, Some, codes, decimal}
-use Rattle.std.specs.Prelude.{if◌then◌else◌, map, min, reduce}
+use Rattle.std.specs.Prelude.{if◌then◌else◌, map, min}
+use Rattle.std.specs.List.{reduce}
 use Rattle.base64.specs.Engines.{url_safe_no_pad}
 use Rattle.base64.specs.GeneralPurpose.{encode_of}
 use Rattle.hex.specs.Hex.{encode_lower}

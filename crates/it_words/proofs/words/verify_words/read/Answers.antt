@@ -29,8 +29,9 @@ returns-in_err-needed-5-clause-unfit c =
 
 pub returns-in_err-asked-clause-unfit : goal.returns-in_err-asked-clause-unfit
 returns-in_err-asked-clause-unfit c =
-    part_unfit (IsVerify _) _ _ c.from_residual-in_err-asked.ensures.1 (IsAsked _)
-    (λ words. words.output) (λ words is. is.output) c.in_err-asked.ensures.unfit
+    part_unfit (IsVerify _) _ _ c.from_residual-in_err-asked.ensures.1
+    (IsAsked c.args.values.now) (λ words. words.output) (λ words is. is.output)
+    c.in_err-asked.ensures.unfit
 
 pub returns-in_err-depth-clause-unfit : goal.returns-in_err-depth-clause-unfit
 returns-in_err-depth-clause-unfit c =

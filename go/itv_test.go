@@ -162,8 +162,9 @@ func TestStrict(t *testing.T) {
 	is(t, errors.Is(err, itv.ErrFindings) && errors.Is(err, itv.ErrStopped), true)
 	var stop *itv.StopError
 	is(t, errors.As(err, &stop), true)
-	is(t, stop.Notes, []string{
-		`policy untied-file /deliver: no MATCH rule WITH PRODUCTS FROM a step takes "hello.tar"`})
+	is(t, stop.Findings, []itv.Finding{{Document: "policy", At: []itv.Place{}, Name: "untied-file",
+		Place: "/deliver", Sentence: `no MATCH rule WITH PRODUCTS FROM a step takes "hello.tar"`}})
+	is(t, len(stop.Notes), 0)
 	tied := public()
 	tied.Strict = true
 	is(t, must(itv.Verify(tied)).Accepted, true)

@@ -33,8 +33,13 @@ type StopError struct {
 	Status int
 	// Sentence is what the program says, without "itv: " and the line feed.
 	Sentence string
-	// Notes are the lines before it. For ErrFindings they say what is found.
+	// Notes are the lines before it. For ErrFindings they say what is found, unless the words ask
+	// for --json=2, as those of Verify do.
 	Notes []string
+	// Output is what was written to standard output before.
+	Output []byte
+	// Findings are what Verify found, for ErrFindings.
+	Findings []Finding
 }
 
 func (err *StopError) Error() string {
@@ -80,21 +85,21 @@ func Run(words []string, files map[string][]byte) (*Result, error) {
 	case good, refused:
 		return &Result{Status: status, Output: output, Notes: lines}, nil
 	case stopped, noMemory:
-		return nil, stopOf(status, lines)
+		return nil, stopOf(status, output, lines)
 	}
 	return nil, fmt.Errorf("itv: the library returned the status %d", status)
 }
 
 // stopOf is the error of notes of which the last line that begins with the program's name, with what
 // follows it, says why the command stopped. Without memory there may be no such line.
-func stopOf(status int, lines []string) *StopError {
+func stopOf(status int, output []byte, lines []string) *StopError {
 	for at := len(lines) - 1; at >= 0; at-- {
 		if strings.HasPrefix(lines[at], "itv: ") {
 			sentence := strings.TrimPrefix(strings.Join(lines[at:], "\n"), "itv: ")
-			return &StopError{Status: status, Sentence: sentence, Notes: lines[:at]}
+			return &StopError{Status: status, Sentence: sentence, Notes: lines[:at], Output: output}
 		}
 	}
-	return &StopError{Status: status, Sentence: "no memory", Notes: lines}
+	return &StopError{Status: status, Sentence: "no memory", Notes: lines, Output: output}
 }
 
 // linesOf is the lines of a text, each of which ends with a line feed.

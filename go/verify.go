@@ -71,7 +71,7 @@ type Verdict struct {
 }
 
 // Finding is something in the policy, in the layout or in a sublayout that may not do what its
-// author meant.
+// author meant, or a file that is tied to no step.
 type Finding struct {
 	// Document is "policy" or "layout".
 	Document string `json:"document"`
@@ -125,8 +125,8 @@ func (refusal *Refusal) String() string {
 // Verify says whether the files of a digest list were made as the policy and the layout prescribe.
 //
 // A refusal is a verdict. The error is a [*StopError] where the command stops, also where a strict
-// verification finds something in what would be accepted; otherwise it says what of the delivery is
-// not set, or which file of Links or Records cannot be read.
+// verification finds something in what would be accepted, which are then its Findings; otherwise it
+// says what of the delivery is not set, or which file of Links or Records cannot be read.
 func Verify(delivery Delivery) (*Verdict, error) {
 	words, files, err := delivery.handOver()
 	if err != nil {
@@ -134,9 +134,25 @@ func Verify(delivery Delivery) (*Verdict, error) {
 	}
 	ran, err := Run(words, files)
 	if err != nil {
-		return nil, err
+		return nil, withFindings(err)
 	}
 	return verdictOf(ran)
+}
+
+// withFindings is why a verification stopped, with what it found where that is why.
+func withFindings(err error) error {
+	var stop *StopError
+	if !errors.As(err, &stop) || !stop.Is(ErrFindings) {
+		return err
+	}
+	var report struct {
+		Findings []Finding `json:"findings"`
+	}
+	if err := json.Unmarshal(stop.Output, &report); err != nil {
+		return fmt.Errorf("itv: what is found is not read: %w", err)
+	}
+	stop.Findings = report.Findings
+	return stop
 }
 
 // handOver is the words that verify the delivery, and its files.

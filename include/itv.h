@@ -56,7 +56,8 @@ struct itv_lengths {
  *
  * No zero byte is added to a text. Bytes of a room after its text stay as they were. Where the status
  * is ITV_STOPPED or ITV_NO_MEMORY, the output is empty, but for digest, which may have written the
- * lines of earlier files. Without memory the notes may be empty too.
+ * lines of earlier files, and for verify --strict --json=2, which writes what it found. Without
+ * memory the notes may be empty too.
  *
  * The status is ITV_STOPPED, and the notes say why, also where words or paths are not UTF-8, the
  * last of them is not ended by a zero byte, paths, sizes and contents do not go together, two files

@@ -99,8 +99,9 @@ def strictly():
     untied = given(policy=json.dumps(policy).encode())
     assert itv.verify(**untied).accepted
     told = raises(itv.Found, itv.verify, **untied, strict=True)
-    assert told.notes == ['policy untied-file /deliver: no MATCH rule WITH PRODUCTS FROM a step '
-                          'takes "hello.tar"'], told.notes
+    untied_file = itv.Finding("policy", [], "untied-file", "/deliver",
+                              'no MATCH rule WITH PRODUCTS FROM a step takes "hello.tar"')
+    assert told.findings == [untied_file] and told.notes == [], told.findings
 
 
 def folders():

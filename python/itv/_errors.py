@@ -8,17 +8,24 @@ class ItvError(Exception):
 class Stopped(ItvError):
     """A command did not run, or stopped: status 2 of the program.
 
-    The text is the program's sentence on why; `notes` are the lines before it.
+    The text is the program's sentence on why; `notes` are the lines before it, and `output` is what
+    was written to standard output before.
     """
 
-    def __init__(self, sentence, notes=()):
+    def __init__(self, sentence, notes=(), output=b""):
         super().__init__(sentence)
         self.notes = list(notes)
+        self.output = output
 
 
 class Found(Stopped):
-    """A strict verification found something in a delivery that it would have accepted: `notes` say
-    what, after those on links that are left out."""
+    """A strict verification found something in a delivery that it would have accepted.
+
+    `findings` are what `verify` found, each a `Finding`; `notes` are those on links that are left
+    out. Where `run` is given other words than `--json=2`, the notes say what is found.
+    """
+
+    findings = ()
 
 
 class NoMemory(Stopped, MemoryError):

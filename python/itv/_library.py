@@ -108,4 +108,4 @@ def run(words: Sequence[str], files: Mapping[str, bytes]) -> Run:
                 default=len(lines))
     sentence = "\n".join(lines[begin:]).partition("itv: ")[2] or "no memory"
     kind = NoMemory if status == NO_MEMORY else Found if sentence == FOUND else Stopped
-    raise kind(sentence, lines[:begin])
+    raise kind(sentence, lines[:begin], output)

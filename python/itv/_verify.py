@@ -6,7 +6,7 @@ import json
 from typing import Any, Dict, List, Optional, Sequence
 
 from ._documents import Document, Folder, bytes_of, files_of
-from ._errors import Refused
+from ._errors import Found, Refused
 from ._evidence import Evidence, evidence_of
 from ._library import run
 
@@ -37,8 +37,8 @@ class Refusal:
 @dataclasses.dataclass(frozen=True)
 class Finding:
     """Something in the policy, in the layout or in a sublayout that may not do what its author
-    meant: in which document, and `at` which sublayout, as the `at` of a refusal; the name of
-    docs/formats.md, the place as a JSON pointer, and a sentence.
+    meant, or a file that is tied to no step: in which document, and `at` which sublayout, as the
+    `at` of a refusal; the name of docs/formats.md, the place as a JSON pointer, and a sentence.
     """
 
     document: str
@@ -72,9 +72,14 @@ class Verdict:
         return self
 
 
+def _findings(report):
+    """What is found, by a report in JSON."""
+    return [Finding(**one) for one in report.pop("findings", [])]
+
+
 def _verdict(report, before):
     """The verdict of a report in JSON, with what stands beside it, and the notes before it."""
-    findings = [Finding(**one) for one in report.pop("findings", [])]
+    findings = _findings(report)
     evidence = evidence_of(report.pop("evidence")) if "evidence" in report else None
     notes, complete = [*before, *report.pop("notes")], report.pop("notesComplete")
     told = findings, evidence, notes, complete, report
@@ -111,7 +116,7 @@ def verify(*, policy: Document, layout: Document, links: Folder, sums: Document,
     signatures are checked by public keys at most, 20,000 where it is not.
 
     Raises `Stopped` where the command stops; with `strict` a `Found` where something is found in what
-    would be accepted.
+    would be accepted, with these `findings`.
     """
     files = {"policy": bytes_of(policy, "policy"), "layout": bytes_of(layout, "layout"),
              "sums": bytes_of(sums, "sums"),
@@ -130,5 +135,9 @@ def verify(*, policy: Document, layout: Document, links: Folder, sums: Document,
     words += ["--public-keys"] * bool(public_keys) + ["--strict"] * bool(strict)
     given_numbers = {"depth": depth, "most-checks": most_checks}
     words += [f"--{name}={one}" for name, one in given_numbers.items() if one is not None]
-    given = run(words, files)
+    try:
+        given = run(words, files)
+    except Found as found:
+        found.findings = _findings(json.loads(found.output))
+        raise
     return _verdict(json.loads(given.output), given.notes)

@@ -1,25 +1,34 @@
 -- What has gone out where a command stops.
 use Rattle.std.proofs.Common.{◌⊎◌, ⊎_elim, inl, inr, ℕ, List, Option, Result, Ok, Err, IfErr}
 use Rattle.std.proofs.Common.{◌≡◌, ◌≢◌, ◌∙◌, IsErrOf, ap, refl}
+use Rattle.std.specs.Io.KnownBytes.{Appends}
 use Rattle.std.specs.Result.{IsErrAnd}
 use Rattle.it_disk.specs.Reading.{Holdings}
 use Rattle.it_words.specs.Words.{AreWordsOf}
 use Rattle.it_words.specs.declared.words.Words.{Words}
+use Rattle.it_words.specs.declared.words.Words.TheVariants.{Verify}
+use Rattle.it_words.specs.declared.words.verify_words.VerifyWords.{VerifyWords}
 use Rattle.it_disk.specs.declared.fault.Fault.{Fault}
 use Rattle.it_disk.specs.declared.fault.Fault.TheVariants.{Run as by_run}
+use Rattle.it_verify_command.specs.declared.output_form.OutputForm.{OutputForm}
+use Rattle.it_verify_command.specs.declared.output_form.OutputForm.TheVariants.{Full, Report}
+use Rattle.it_verify_command.specs.declared.output_form.OutputForm.TheVariants.{Summary}
 use Rattle.it_verify_command.specs.declared.strict_fault.StrictFault.{StrictFault}
 use Rattle.it_verify_command.specs.declared.strict_fault.StrictFault.TheVariants.{Findings, Run}
 use Rattle.it_outcome.specs.declared.outcome.RunFault.TheVariants.{Write}
-use Rattle.it_program.specs.Stopped.{IsDigestBegun, NamesDigestBegun, stop_of}
+use Rattle.it_verify_command.specs.FoundOutput.{AreTold}
+use Rattle.it_program.specs.Commands.{FindsAgainst, form_asked}
+use Rattle.it_program.specs.Stopped.{IsBegun, NamesBegun, stop_of}
 use Rattle.it_program.specs.declared.stop.Stop.{Stop}
 use Rattle.it_program.specs.declared.stop.Stop.TheVariants.{Findings as by_findings, OfFault}
+use Rattle.it_program.specs.declared.stop.Stop.TheVariants.{TooManyChecks}
 
 -- what went out of the command that words name
 pub named_begun : {S E : Type 0} (Other : E → Type 0) (Same : Type 0) (disk : Holdings)
     (command : Words) (old new : Option (List ℕ)) (words : List (List ℕ)) (result : Result S E)
     → AreWordsOf words command
-    → IfErr result (λ e. Other e → Same ⊎ IsDigestBegun disk command old new)
-    → IfErr result (λ e. Other e → Same ⊎ NamesDigestBegun disk words old new)
+    → IfErr result (λ e. Other e → Same ⊎ IsBegun disk command old new)
+    → IfErr result (λ e. Other e → Same ⊎ NamesBegun disk words old new)
 named_begun Other Same disk command old new words (Ok s) named h = tt
 named_begun Other Same disk command old new words (Err e) named h = λ other. ⊎_elim inl
     (λ begun. inr (record { command = command; are_words = named; begun = begun })) (h other)
@@ -38,3 +47,42 @@ pub found_by : {T : Type 0} (result : Result T Stop) (fault : StrictFault)
 found_by (Ok x) fault is of = absurd is
 found_by (Err stop) Findings is of = refl
 found_by (Err stop) (Run reason) is of = cc
+
+-- a strict verification stops the program with nothing gone out where that holds of its fault
+pub kept_by : {T : Type 0} (Same : Type 0) (result : Result T Stop) (fault : StrictFault)
+    → IsErrAnd result (λ stop. stop ≡ stop_of fault)
+    → (fault ≢ Run Write → fault ≢ Findings → Same)
+    → IfErr result (λ stop. stop ≢ OfFault (by_run Write) → stop ≢ by_findings → Same)
+kept_by Same (Ok x) fault is kept = tt
+kept_by Same (Err stop) fault is kept = λ other found.
+    kept (λ same. other (is ∙ ap stop_of same)) (λ same. found (is ∙ ap stop_of same))
+
+-- what is found has gone out in the full form, and otherwise nothing
+pub shown_or_same : (Same Shown : Type 0) (form : OutputForm) → Shown → (form ≢ Full → Same)
+    → Same ⊎ ((form ≡ Full) × Shown)
+shown_or_same Same Shown (Report form) shown same = inl (same (λ is. cc))
+shown_or_same Same Shown (Summary names) shown same = inl (same (λ is. cc))
+shown_or_same Same Shown Full shown same = inr (refl, shown)
+
+-- what has gone out of a verification that stopped
+pub verify_begun : {T : Type 0} (Same : Type 0) (disk : Holdings) (words : VerifyWords)
+    (old new : Option (List ℕ)) (result : Result T Stop)
+    → IfErr result (λ stop. stop ≢ OfFault (by_run Write) → stop ≢ by_findings → Same)
+    → (IsErrOf result by_findings → FindsAgainst disk words old new)
+    → (IsErrOf result by_findings → form_asked words.output ≢ Full → Same)
+    → IfErr result (λ stop. stop ≢ OfFault (by_run Write)
+    → Same ⊎ IsBegun disk (Verify words) old new)
+verify_begun Same disk words old new (Ok x) nothing finds lines = tt
+verify_begun Same disk words old new (Err by_findings) nothing finds lines = λ other.
+    shown_or_same Same _ (form_asked words.output) (finds refl) (lines refl)
+verify_begun Same disk words old new (Err (TooManyChecks most)) nothing finds lines = λ other.
+    inl (nothing other (λ is. cc))
+verify_begun Same disk words old new (Err (OfFault fault)) nothing finds lines = λ other.
+    inl (nothing other (λ is. cc))
+
+-- in the full form what is told has gone out
+pub told_out : (form : OutputForm) (old new before after : Option (List ℕ)) (text : List ℕ)
+    → AreTold form old new before after text → form ≡ Full → Appends old new text
+told_out (Report kind) old new before after text told is = cc
+told_out (Summary names) old new before after text told is = cc
+told_out Full old new before after text told is = told.0

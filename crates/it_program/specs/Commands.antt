@@ -1,5 +1,6 @@
 -- What the commands write and find, by their words and by what is at the paths in them.
-use Rattle.std.specs.Prelude.{◌≡◌, ℕ, List, IsTrue}
+use Rattle.std.specs.Prelude.{◌≡◌, ℕ, List, Option, IsTrue}
+use Rattle.std.specs.Io.KnownBytes.{Appends}
 use Rattle.std.specs.List.{AllZip}
 use Rattle.it_dsse.specs.Panel.{panel_of}
 use Rattle.it_dsse.specs.declared.ring_entry.RingEntry.{RingEntry}
@@ -7,6 +8,7 @@ use Rattle.it_commands.specs.MatchOutput.{IsMatchOutput}
 use Rattle.it_json_report.specs.declared.form.ReportForm.TheVariants.{Lines, Json}
 use Rattle.it_verify_command.specs.declared.output_form.OutputForm.{OutputForm}
 use Rattle.it_verify_command.specs.declared.output_form.OutputForm.TheVariants.{Full, Report}
+use Rattle.it_verify_command.specs.declared.output_form.OutputForm.TheVariants.{Summary}
 use Rattle.it_verify_command.specs.Strictly.{HasFindings, StandsStrictly}
 use Rattle.it_verify_command.specs.VerifyOutputIn.{IsVerifyOutputIn}
 use Rattle.it_public_keys.specs.OwnChecks.{own_checks}
@@ -17,8 +19,10 @@ use Rattle.it_words.specs.declared.words.Words.{Words}
 use Rattle.it_words.specs.declared.words.Words.TheVariants.{Signed, Match, Pae, Sign, Digest}
 use Rattle.it_words.specs.declared.words.Words.TheVariants.{Check}
 use Rattle.it_words.specs.declared.words.Words.TheVariants.{Verify, Link, Statement, Payload, Key}
+use Rattle.it_words.specs.declared.words.form.AskedOutput.{AskedOutput}
+use Rattle.it_words.specs.declared.words.form.AskedOutput.TheVariants as asked
 use Rattle.it_words.specs.declared.words.form.Form.{Form}
-use Rattle.it_words.specs.declared.words.form.Form.TheVariants as asked
+use Rattle.it_words.specs.declared.words.form.Form.TheVariants as forms
 use Rattle.it_words.specs.declared.words.verify_words.VerifyWords.{VerifyWords}
 use Rattle.it_disk.specs.Reading.{Holdings, HoldsRing}
 use Rattle.it_file_commands.specs.Commands.{Checks, Encodes, ListsDigests, MakesKeys, MakesLink}
@@ -26,11 +30,17 @@ use Rattle.it_file_commands.specs.Commands.{MakesStatement, ShowsPayload, ShowsS
 use Rattle.it_file_commands.specs.Commands.{SignsAsAsked}
 use Rattle.it_program.specs.Inputs.{AreInputs}
 
+-- the form of the report that is asked for
+abbrev pub report_asked : Form → OutputForm
+report_asked forms.Lines = Report Lines
+report_asked forms.Json = Report Json
+report_asked forms.Full = Full
+
 -- the form that is asked for
-abbrev pub form_asked : Form → OutputForm
-form_asked asked.Lines = Report Lines
-form_asked asked.Json = Report Json
-form_asked asked.Full = Full
+abbrev pub form_asked : AskedOutput → OutputForm
+form_asked (asked.Report form) = report_asked form
+form_asked (asked.Summary words) =
+    Summary (record { verifier = words.verifier; resource = words.resource })
 
 -- verify: the output of verifying the inputs, checked by the rings in the order of the words, and
 -- then, where they are asked for, by public keys; with --strict, nothing is found in what is
@@ -41,20 +51,24 @@ pub record Verifies (disk : Holdings) (words : VerifyWords) (text : List ℕ)
   pub are_inputs : AreInputs disk words inputs
   pub rings : List (List RingEntry)
   pub holds_rings : AllZip (HoldsRing disk) words.rings rings
-  pub is_output : IsVerifyOutputIn (form_asked words.form)
+  pub is_output : IsVerifyOutputIn (form_asked words.output)
       (panel_of (own_checks rings words.public_keys)) inputs text status
   pub stands : IsTrue words.strict → status ≡ Good
       → StandsStrictly (panel_of (own_checks rings words.public_keys)) inputs
 
--- verify --strict: all that was prescribed holds of the inputs, and something is found
-pub record FindsAgainst (disk : Holdings) (words : VerifyWords) : Type 0 where
+-- verify --strict: all that was prescribed holds of the inputs, and something is found; with
+-- --json=2 that is what went out
+pub record FindsAgainst (disk : Holdings) (words : VerifyWords) (old new : Option (List ℕ))
+    : Type 0 where
   pub is_strict : IsTrue words.strict
   pub inputs : Inputs
   pub are_inputs : AreInputs disk words inputs
   pub rings : List (List RingEntry)
   pub holds_rings : AllZip (HoldsRing disk) words.rings rings
   pub text : List ℕ
-  pub has_findings : HasFindings (panel_of (own_checks rings words.public_keys)) inputs text
+  pub has_findings : HasFindings (form_asked words.output)
+      (panel_of (own_checks rings words.public_keys)) inputs text
+  pub goes_out : form_asked words.output ≡ Full → Appends old new text
 
 -- what a command writes and finds
 abbrev pub IsOutputOf : Holdings → Words → List ℕ → Status → Type 0

@@ -5,12 +5,12 @@ use Rattle.it_disk.specs.declared.fault.Fault.TheVariants.{Run as by_run}
 use Rattle.it_words.specs.Words.{AreWordsOf}
 use Rattle.it_words.specs.declared.words.Words.{Words}
 use Rattle.it_words.specs.declared.words.Words.TheVariants.{Digest, Verify}
-use Rattle.it_words.specs.declared.words.digest_words.DigestWords.{DigestWords}
 use Rattle.it_words.specs.declared.words.verify_words.VerifyWords.{VerifyWords}
 use Rattle.it_file_commands.specs.Stopped.{ListsFirst}
+use Rattle.it_verify_command.specs.declared.output_form.OutputForm.TheVariants.{Full}
 use Rattle.it_verify_command.specs.declared.strict_fault.StrictFault.{StrictFault}
 use Rattle.it_verify_command.specs.declared.strict_fault.StrictFault.TheVariants.{Findings, Run}
-use Rattle.it_program.specs.Commands.{FindsAgainst}
+use Rattle.it_program.specs.Commands.{FindsAgainst, form_asked}
 use Rattle.it_program.specs.declared.stop.Stop.{Stop}
 use Rattle.it_program.specs.declared.stop.Stop.TheVariants.{Findings as by_findings, OfFault}
 
@@ -19,28 +19,32 @@ abbrev pub stop_of : StrictFault → Stop
 stop_of Findings = by_findings
 stop_of (Run fault) = OfFault (by_run fault)
 
--- the command is digest, and such lines have gone out
-pub record IsDigestBegun (disk : Holdings) (command : Words) (old new : Option (List ℕ))
-    : Type 0 where
-  pub words : DigestWords
-  pub is_digest : command ≡ Digest words
-  pub lists : ListsFirst disk words old new
+-- something has gone out of the command: of digest such lines; of verify --strict with --json=2
+-- what is found against what it would accept
+abbrev pub IsBegun : Holdings → Words → (old new : Option (List ℕ)) → Type 0
+IsBegun disk (Digest words) old new = ListsFirst disk words old new
+IsBegun disk (Verify words) old new =
+    (form_asked words.output ≡ Full) × FindsAgainst disk words old new
+IsBegun disk command old new = ⊥
 
 -- the words name such a command
-pub record NamesDigestBegun (disk : Holdings) (words : List (List ℕ)) (old new : Option (List ℕ))
+pub record NamesBegun (disk : Holdings) (words : List (List ℕ)) (old new : Option (List ℕ))
     : Type 0 where
   pub command : Words
   pub are_words : AreWordsOf words command
-  pub begun : IsDigestBegun disk command old new
+  pub begun : IsBegun disk command old new
 
--- the command is verify --strict, and something is found against what it would accept
-pub record IsFoundAgainst (disk : Holdings) (command : Words) : Type 0 where
+-- the command is verify --strict, and something is found against what it would accept; with
+-- --json=2 that is what went out
+pub record IsFoundAgainst (disk : Holdings) (command : Words) (old new : Option (List ℕ))
+    : Type 0 where
   pub words : VerifyWords
   pub is_verify : command ≡ Verify words
-  pub finds : FindsAgainst disk words
+  pub finds : FindsAgainst disk words old new
 
 -- the words name such a command
-pub record NamesFoundAgainst (disk : Holdings) (words : List (List ℕ)) : Type 0 where
+pub record NamesFoundAgainst (disk : Holdings) (words : List (List ℕ))
+    (old new : Option (List ℕ)) : Type 0 where
   pub command : Words
   pub are_words : AreWordsOf words command
-  pub found : IsFoundAgainst disk command
+  pub found : IsFoundAgainst disk command old new

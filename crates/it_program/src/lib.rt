@@ -11,6 +11,7 @@
 //! ```
 #![tactic(auto)]
 
+mod asked;
 mod command_line;
 mod running;
 mod size_note;

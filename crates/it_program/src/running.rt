@@ -4,7 +4,7 @@ ghost use Rattle.std.specs.Prelude.{string_bytes};
 ghost use Rattle.std.specs.Io.KnownBytes.{Appends};
 ghost use Rattle.it_words.specs.Words.{AreWordsOf, GoesNoDeeper};
 ghost use Rattle.it_program.specs.Commands.{IsOutputOf};
-ghost use Rattle.it_program.specs.Stopped.{IsDigestBegun, IsFoundAgainst, NamesDigestBegun};
+ghost use Rattle.it_program.specs.Stopped.{IsBegun, IsFoundAgainst, NamesBegun};
 ghost use Rattle.it_program.specs.Stopped.{NamesFoundAgainst};
 
 use crate::size_note::write_size_note;
@@ -38,10 +38,11 @@ pub fn run_to<R: Disk + AllocGlobal, W: Write, N: Write>(
         × Appends (W.contents out.old.inner) (W.contents out.new.inner) text) }
     ensures stopped { IfErr result (λ stop. stop ≢ Stop.OfFault (Fault.Run RunFault.Write)
         → out.new.error ≡ None → (out.new.inner ≡ out.old.inner)
-        ⊎ NamesDigestBegun (R.holdings rt.now) (map string_bytes words.now)
+        ⊎ NamesBegun (R.holdings rt.now) (map string_bytes words.now)
         (W.contents out.old.inner) (W.contents out.new.inner)) }
     ensures findings { IsErrOf result Stop.Findings
-        → NamesFoundAgainst (R.holdings rt.now) (map string_bytes words.now) }
+        → NamesFoundAgainst (R.holdings rt.now) (map string_bytes words.now)
+        (W.contents out.old.inner) (W.contents out.new.inner) }
 {
     let outcome = run_words(rt, words, out, notes);
     if outcome.is_ok() {
@@ -63,8 +64,8 @@ pub fn run_to<R: Disk + AllocGlobal, W: Write, N: Write>(
 /// `Fault::Words` where the words do not parse, `Fault::Run` where the command stopped,
 /// `Stop::Findings` where `verify --strict` found something in what it would have accepted, and
 /// otherwise the fault of the file, folder, line or key that kept it from running. Then nothing has
-/// gone out, except for `digest` the lines of earlier files, and, where the output could not be
-/// written, a beginning of it.
+/// gone out, except for `digest` the lines of earlier files, for `verify --strict --json=2` what it
+/// found, and, where the output could not be written, a beginning of it.
 pub fn run_words<R: Disk + AllocGlobal, W: Write, N: Write>(
     rt: &R,
     words: &[String],
@@ -77,11 +78,11 @@ pub fn run_words<R: Disk + AllocGlobal, W: Write, N: Write>(
         × Appends (W.contents out.old) (W.contents out.new) text) }
     ensures stopped { IfErr result (λ stop. stop ≢ Stop.OfFault (Fault.Run RunFault.Write)
         → (out.new ≡ out.old)
-        ⊎ NamesDigestBegun (R.holdings rt.now) (map string_bytes words.now) (W.contents out.old)
+        ⊎ NamesBegun (R.holdings rt.now) (map string_bytes words.now) (W.contents out.old)
         (W.contents out.new)) }
     ensures findings { IsErrOf result Stop.Findings
-        → NamesFoundAgainst (R.holdings rt.now) (map string_bytes words.now)
-        × (out.new ≡ out.old) }
+        → NamesFoundAgainst (R.holdings rt.now) (map string_bytes words.now) (W.contents out.old)
+        (W.contents out.new) }
 {
     let command = read_words(rt.alloc(), words)?;
     run_command(rt, &command, out, notes)
@@ -99,10 +100,10 @@ fn run_command<R: Disk + AllocGlobal, W: Write, N: Write>(
         × Appends (W.contents out.old) (W.contents out.new) text) }
     ensures stopped { IfErr result (λ stop. stop ≢ Stop.OfFault (Fault.Run RunFault.Write)
         → (out.new ≡ out.old)
-        ⊎ IsDigestBegun (R.holdings rt.now) command.now (W.contents out.old)
-        (W.contents out.new)) }
+        ⊎ IsBegun (R.holdings rt.now) command.now (W.contents out.old) (W.contents out.new)) }
     ensures findings { IsErrOf result Stop.Findings
-        → IsFoundAgainst (R.holdings rt.now) command.now × (out.new ≡ out.old) }
+        → IsFoundAgainst (R.holdings rt.now) command.now (W.contents out.old)
+        (W.contents out.new) }
 {
     match command {
         Words::Signed(words) => Ok(signed_command::run(rt, words, out)?),

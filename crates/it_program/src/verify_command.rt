@@ -11,6 +11,7 @@ ghost use Rattle.it_disk.specs.Reading.{AreLimited, HoldsIfGiven, HoldsRing};
 ghost use Rattle.it_program.specs.Inputs.{AreInputs, HoldsLookedAt};
 ghost use Rattle.it_program.specs.inside.Spent.{IsToldSpent};
 
+use crate::asked::Asked;
 use crate::stop::Stop;
 use it_base::sequence::Sequence;
 use it_base::text::Text;
@@ -20,7 +21,6 @@ use it_disk::{
 };
 use it_dsse::checks::Checks;
 use it_dsse::ring::HmacRing;
-use it_json_report::form::ReportForm;
 use it_limits::lines_within_limit;
 use it_outcome::{RunFault, Status};
 use it_public_keys::own_checks::OwnChecks;
@@ -28,14 +28,15 @@ use it_verify::inputs::Inputs;
 use it_verify_command::output_form::OutputForm;
 use it_verify_command::verify_strictly::verify_strictly;
 use it_verify_command::verify_with_notes::verify_with_notes;
-use it_words::words::form::Form;
 use it_words::words::verify_words::VerifyWords;
 use std::alloc::Global;
 use std::io::Write;
 
 /// Reads all files and folders and the rings, notes what is left out, and writes the report of the
 /// verdict and then the notes on it. With `--strict` it stops where something is found in what it
-/// would accept, and the lines of that go to `notes`.
+/// would accept: with `--json=2` that goes out, and otherwise its lines go to `notes`. With
+/// `--summary` the summary is written in place of a report that accepts, and a report that refuses
+/// goes to `notes`.
 pub(crate) fn run<R: Disk + AllocGlobal, W: Write, N: Write>(
     rt: &R,
     words: &VerifyWords,
@@ -47,16 +48,20 @@ pub(crate) fn run<R: Disk + AllocGlobal, W: Write, N: Write>(
         × Verifies (R.holdings rt.now) words.now text status
         × Appends (W.contents out.old) (W.contents out.new) text) }
     ensures nothing { IfErr result (λ stop. stop ≢ Stop.OfFault (Fault.Run RunFault.Write)
-        → out.new ≡ out.old) }
-    ensures findings { IsErrOf result Stop.Findings → FindsAgainst (R.holdings rt.now) words.now }
+        → stop ≢ Stop.Findings → out.new ≡ out.old) }
+    ensures findings { IsErrOf result Stop.Findings → FindsAgainst (R.holdings rt.now) words.now
+        (W.contents out.old) (W.contents out.new) }
+    ensures lines { IsErrOf result Stop.Findings → form_asked words.now.output ≢ OutputForm.Full
+        → out.new ≡ out.old }
 {
     let alloc = rt.alloc();
+    let asked = Asked::by(alloc, words)?;
     let mut left_out = Vec::new(alloc);
     let inputs = inputs(rt, words, &mut left_out)?;
     let rings = read_rings(rt, words.rings.as_slice())?;
     let checks = OwnChecks::new(alloc, rings, words.public_keys, words.most_checks);
     note_left_out(alloc, left_out.as_slice(), notes);
-    let outcome = verify_as_asked(alloc, words, &inputs, &checks, out, notes);
+    let outcome = verify_as_asked(alloc, &asked, &inputs, &checks, out, notes);
     told_spent(outcome, &checks, words.most_checks)
 }
 
@@ -77,10 +82,10 @@ fn told_spent(
     }
 }
 
-/// Verifies the inputs by the checks, in the form and as strictly as the words ask.
+/// Verifies the inputs by the checks, in the form and as strictly as is asked.
 fn verify_as_asked<C: Checks, W: Write, N: Write>(
     alloc: Global,
-    words: &VerifyWords,
+    asked: &Asked,
     inputs: &Inputs,
     checks: &C,
     out: &mut W,
@@ -88,31 +93,24 @@ fn verify_as_asked<C: Checks, W: Write, N: Write>(
 ) -> Result<Status, Stop>
     requires { inputs.now.depth ≤ 8 }
     ensures ok { IfOk result (λ status. (text : _)
-        × IsVerifyOutputIn (form_asked words.now.form) (C.panel checks.now) inputs.now text status
+        × IsVerifyOutputIn asked.now.form (C.panel checks.now) inputs.now text status
         × Appends (W.contents out.old) (W.contents out.new) text) }
-    ensures stands { IfOk result (λ status. IsTrue words.now.strict → status ≡ Status.Good
+    ensures stands { IfOk result (λ status. IsTrue asked.now.strict → status ≡ Status.Good
         → StandsStrictly (C.panel checks.now) inputs.now) }
     ensures nothing { IfErr result (λ stop. stop ≢ Stop.OfFault (Fault.Run RunFault.Write)
-        → out.new ≡ out.old) }
-    ensures findings { IsErrOf result Stop.Findings → IsTrue words.now.strict
-        × (text : _) × HasFindings (C.panel checks.now) inputs.now text }
+        → stop ≢ Stop.Findings → out.new ≡ out.old) }
+    ensures findings { IsErrOf result Stop.Findings → IsTrue asked.now.strict
+        × (text : _) × HasFindings asked.now.form (C.panel checks.now) inputs.now text
+        × (asked.now.form ≡ OutputForm.Full
+        → Appends (W.contents out.old) (W.contents out.new) text) }
+    ensures lines { IsErrOf result Stop.Findings → asked.now.form ≢ OutputForm.Full
+        → out.new ≡ out.old }
 {
-    let form = form_asked(words.form);
-    if words.strict {
+    let form = &asked.form;
+    if asked.strict {
         Ok(verify_strictly(alloc, inputs, checks, form, out, notes)?)
     } else {
         Ok(verify_with_notes(alloc, inputs, checks, form, out, notes)?)
-    }
-}
-
-/// The form that is asked for.
-fn form_asked(form: Form) -> OutputForm
-    ensures { result ≡ form_asked form }
-{
-    match form {
-        Form::Lines => OutputForm::Report(ReportForm::Lines),
-        Form::Json => OutputForm::Report(ReportForm::Json),
-        Form::Full => OutputForm::Full,
     }
 }
 

@@ -19,8 +19,10 @@ use Rattle.it_verify.specs.Verdict.{OnAccepted}
 use Rattle.it_verify.specs.declared.inputs.Inputs.{Inputs}
 use Rattle.it_notes.specs.FoundInDocuments.{AreFoundInDocuments}
 use Rattle.it_notes.specs.declared.found_in_documents.FoundInDocuments.{FoundInDocuments}
+use Rattle.it_verify_command.specs.SummaryOutput.{IsSummaryText}
 use Rattle.it_verify_command.specs.declared.output_form.OutputForm.{OutputForm}
 use Rattle.it_verify_command.specs.declared.output_form.OutputForm.TheVariants.{Full, Report}
+use Rattle.it_verify_command.specs.declared.output_form.OutputForm.TheVariants.{Summary}
 
 -- a finding in the layout at a place, as it is written; the place of a policy is that of the
 -- outermost layout
@@ -63,3 +65,4 @@ pub record IsFullText (panel : Panel) (inputs : Inputs) (verdict : Verdict) (tex
 abbrev pub IsTextIn : OutputForm → Panel → Inputs → Verdict → List ℕ → Type 0
 IsTextIn (Report form) panel inputs verdict text = text ≡ form_of form verdict
 IsTextIn Full panel inputs verdict text = IsFullText panel inputs verdict text
+IsTextIn (Summary names) panel inputs verdict text = IsSummaryText names panel inputs verdict text

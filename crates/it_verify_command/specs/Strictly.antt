@@ -1,13 +1,17 @@
 -- What a strict verification finds (a word of this project).
-use Rattle.std.specs.Prelude.{◌≡◌, ℕ, List}
+use Rattle.std.specs.Prelude.{◌≡◌, ◌⊎◌, ℕ, List}
 use Rattle.it_dsse.specs.Panel.{Panel}
+use Rattle.it_outcome.specs.declared.outcome.Status.{Status}
 use Rattle.it_strict.specs.Found.{AreFound, IsNothing}
-use Rattle.it_strict.specs.FoundText.{found_text}
 use Rattle.it_strict.specs.declared.found.Found.{Found}
 use Rattle.it_verify.specs.declared.documents.Documents.{Documents}
 use Rattle.it_verify.specs.declared.evidence.Evidence.{Evidence}
 use Rattle.it_verify.specs.Made.{IsMadeBy}
 use Rattle.it_verify.specs.declared.inputs.Inputs.{Inputs}
+use Rattle.it_verify_command.specs.FoundOutput.{found_in}
+use Rattle.it_verify_command.specs.VerifyOutputIn.{IsVerifyOutputIn}
+use Rattle.it_verify_command.specs.declared.output_form.OutputForm.{OutputForm}
+use Rattle.it_verify_command.specs.declared.output_form.OutputForm.TheVariants.{Full}
 
 -- the delivered files were made as the owners prescribed, and this is what is found all the same
 pub record IsFoundIn (panel : Panel) (inputs : Inputs) (found : Found) : Type 0 where
@@ -22,9 +26,17 @@ pub record StandsStrictly (panel : Panel) (inputs : Inputs) : Type 0 where
   pub is_found : IsFoundIn panel inputs found
   pub is_nothing : IsNothing found
 
--- the same, and something is found, of which these are the lines
-pub record HasFindings (panel : Panel) (inputs : Inputs) (text : List ℕ) : Type 0 where
+-- the same, and something is found, of which this is the text in a form
+pub record HasFindings (form : OutputForm) (panel : Panel) (inputs : Inputs) (text : List ℕ)
+    : Type 0 where
   pub found : Found
   pub is_found : IsFoundIn panel inputs found
   pub is_something : ¬ IsNothing found
-  pub text_is : text ≡ found_text found
+  pub text_is : text ≡ found_in form found
+
+-- the text is what a strict verification writes as its output: that for the verdict, or, in the
+-- full form, what is found
+abbrev pub IsStrictOutput : OutputForm → Panel → Inputs → List ℕ → Type 0
+IsStrictOutput form panel inputs text =
+    ((status : Status) × IsVerifyOutputIn form panel inputs text status)
+    ⊎ ((form ≡ Full) × HasFindings form panel inputs text)

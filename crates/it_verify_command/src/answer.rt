@@ -9,6 +9,7 @@ ghost use Rattle.it_notes.specs.FoundInDocuments.{AreFoundInDocuments};
 ghost use Rattle.it_notes.specs.Known.{IsTold};
 ghost use Rattle.it_verify_command.specs.inside.Answer.{IsAnswer, IsBehindIn};
 
+use crate::before_notes::text_before_notes;
 use crate::behind::behind_in;
 use crate::output_form::OutputForm;
 use crate::output_text::{status_of, text_in};
@@ -29,10 +30,12 @@ use std::alloc::{AllocError, Global};
 pub(crate) struct Answer<'a> {
     /// The verdict, and what was found before it.
     pub(crate) told: Told<'a>,
-    /// The form of the output.
-    pub(crate) form: OutputForm,
     /// The output on the verdict, and the status that goes with it.
     pub(crate) output: Output,
+    /// Whether the notes follow elsewhere.
+    pub(crate) noted: bool,
+    /// What goes before them.
+    pub(crate) before_notes: Vec<u8>,
 }
 
 /// The answer to delivered files, in this form.
@@ -40,10 +43,10 @@ pub(crate) fn answer_to<'a, C: Checks>(
     alloc: Global,
     inputs: &'a Inputs,
     checks: &C,
-    form: OutputForm,
+    form: &OutputForm,
 ) -> Result<Answer<'a>, AllocError>
     requires { inputs.now.depth ≤ 8 }
-    ensures { IfOk result (IsAnswer form (C.panel checks.now) inputs.now) }
+    ensures { IfOk result (IsAnswer form.now (C.panel checks.now) inputs.now) }
 {
     match verify_grounds(alloc, inputs, checks)? {
         Outcome::Made(grounds) => {
@@ -64,11 +67,11 @@ pub(crate) fn made_answer<'a, C: Checks>(
     grounds: Grounds,
     found: Option<FoundInDocuments>,
     checks: &C,
-    form: OutputForm,
+    form: &OutputForm,
 ) -> Result<Answer<'a>, AllocError>
     requires made { IsMadeBy (C.panel checks.now) inputs.now grounds.documents grounds.evidence }
     requires found { IfSome found (AreFoundInDocuments (C.panel checks.now) inputs.now) }
-    ensures { IfOk result (IsAnswer form (C.panel checks.now) inputs.now) }
+    ensures { IfOk result (IsAnswer form.now (C.panel checks.now) inputs.now) }
 {
     let behind = behind_in(alloc, inputs, &grounds, checks, form)?;
     let told = made_told(alloc, inputs, grounds, found)?;
@@ -82,11 +85,11 @@ pub(crate) fn refused_answer<'a, C: Checks>(
     refusal: Refusal,
     found: Option<Found>,
     checks: &C,
-    form: OutputForm,
+    form: &OutputForm,
 ) -> Result<Answer<'a>, AllocError>
     requires refused { RefusedFor (C.panel checks.now) inputs.now refusal }
     requires found { IfSome found (IsFound (C.panel checks.now) inputs.now) }
-    ensures answer { IfOk result (IsAnswer form (C.panel checks.now) inputs.now) }
+    ensures answer { IfOk result (IsAnswer form.now (C.panel checks.now) inputs.now) }
     ensures refuses { IfOk result (λ answer. answer.told.verdict ≡ Refused refusal) }
 {
     let told = Told {
@@ -104,19 +107,21 @@ fn answer_on<'a, C: Checks>(
     told: Told<'a>,
     behind: Option<Evidence>,
     checks: &C,
-    form: OutputForm,
+    form: &OutputForm,
 ) -> Result<Answer<'a>, AllocError>
     requires told { IsTold (C.panel checks.now) inputs.now told }
     requires behind { OnAccepted told.verdict
-        (IsBehindIn form (C.panel checks.now) inputs.now behind) }
-    ensures answer { IfOk result (IsAnswer form (C.panel checks.now) inputs.now) }
+        (IsBehindIn form.now (C.panel checks.now) inputs.now behind) }
+    ensures answer { IfOk result (IsAnswer form.now (C.panel checks.now) inputs.now) }
     ensures verdict { IfOk result (λ answer. answer.told.verdict ≡ told.entry.verdict) }
 {
     let text = text_in(alloc, inputs, &told, behind, checks, form)?;
+    let before_notes = text_before_notes(alloc, &told.verdict, form)?;
     let status = status_of(&told.verdict);
     Ok(Answer {
         told,
-        form,
         output: Output { text, status },
+        noted: form.is_noted(),
+        before_notes,
     })
 }

@@ -17,13 +17,14 @@ pub(crate) fn behind_in<C: Checks>(
     inputs: &Inputs,
     grounds: &Grounds,
     checks: &C,
-    form: OutputForm,
+    form: &OutputForm,
 ) -> Result<Option<Evidence>, AllocError>
     requires { IsMadeBy (C.panel checks.now) inputs.now grounds.now.documents grounds.now.evidence }
-    ensures { IfOk result (IsBehindIn form (C.panel checks.now) inputs.now) }
+    ensures { IfOk result (IsBehindIn form.now (C.panel checks.now) inputs.now) }
 {
     match form {
         OutputForm::Report(_) => Ok(None),
         OutputForm::Full => Ok(Some(evidence_of(alloc, inputs, grounds, checks)?)),
+        OutputForm::Summary(_) => Ok(Some(evidence_of(alloc, inputs, grounds, checks)?)),
     }
 }

@@ -2,13 +2,17 @@
 #![tactic(auto)]
 
 mod answer;
+mod before_notes;
 mod behind;
 mod full_output;
 pub mod output_form;
 mod output_text;
 mod shown_findings;
+mod shown_found;
 mod strict_answer;
 pub mod strict_fault;
+mod summary_text;
+mod telling;
 pub mod verify_strictly;
 pub mod verify_with_notes;
 mod writing;

@@ -8,6 +8,7 @@ ghost use Rattle.it_notes.specs.Known.{IsTold};
 
 use crate::full_output::full_text;
 use crate::output_form::OutputForm;
+use crate::summary_text::summary_text;
 use it_dsse::checks::Checks;
 use it_json_report::evidence::Evidence;
 use it_json_report::form::report_in;
@@ -24,17 +25,18 @@ pub(crate) fn text_in<C: Checks>(
     told: &Told,
     behind: Option<Evidence>,
     checks: &C,
-    form: OutputForm,
+    form: &OutputForm,
 ) -> Result<Vec<u8>, AllocError>
     requires told { IsTold (C.panel checks.now) inputs.now told.now }
     requires behind { OnAccepted told.now.verdict
-        (IsBehindIn form (C.panel checks.now) inputs.now behind) }
+        (IsBehindIn form.now (C.panel checks.now) inputs.now behind) }
     ensures { IfOk result
-        (λ text. IsTextIn form (C.panel checks.now) inputs.now told.now.verdict text.items) }
+        (λ text. IsTextIn form.now (C.panel checks.now) inputs.now told.now.verdict text.items) }
 {
     match form {
-        OutputForm::Report(form) => report_in(alloc, form, &told.verdict),
+        OutputForm::Report(form) => report_in(alloc, *form, &told.verdict),
         OutputForm::Full => full_text(alloc, inputs, told, behind, checks),
+        OutputForm::Summary(names) => summary_text(alloc, &told.verdict, &behind, names),
     }
 }
 

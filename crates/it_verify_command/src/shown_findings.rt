@@ -27,7 +27,7 @@ pub(crate) fn shown_in_documents(
 }
 
 /// Adds the findings in the sublayouts, as they are written.
-fn push_below(
+pub(crate) fn push_below(
     alloc: Global,
     findings: &mut Vec<ReportFinding>,
     found: &[FoundBelow],
@@ -43,7 +43,7 @@ fn push_below(
 }
 
 /// Adds the findings in the layout at a place, as they are written.
-fn push_shown(
+pub(crate) fn push_shown(
     alloc: Global,
     findings: &mut Vec<ReportFinding>,
     at: &[(Text, Text)],

@@ -29,10 +29,10 @@ pub(crate) fn strict_answer<'a, C: Checks>(
     alloc: Global,
     inputs: &'a Inputs,
     checks: &C,
-    form: OutputForm,
+    form: &OutputForm,
 ) -> Result<StrictAnswer<'a>, AllocError>
     requires { inputs.now.depth ≤ 8 }
-    ensures { IfOk result (IsStrictAnswer form (C.panel checks.now) inputs.now) }
+    ensures { IfOk result (IsStrictAnswer form.now (C.panel checks.now) inputs.now) }
 {
     match verify_grounds(alloc, inputs, checks)? {
         Outcome::Made(grounds) => strict_made(alloc, inputs, grounds, checks, form),
@@ -49,11 +49,11 @@ fn strict_made<'a, C: Checks>(
     inputs: &'a Inputs,
     grounds: Grounds,
     checks: &C,
-    form: OutputForm,
+    form: &OutputForm,
 ) -> Result<StrictAnswer<'a>, AllocError>
     requires shallow { inputs.now.depth ≤ 8 }
     requires made { IsMadeBy (C.panel checks.now) inputs.now grounds.documents grounds.evidence }
-    ensures { IfOk result (IsStrictAnswer form (C.panel checks.now) inputs.now) }
+    ensures { IfOk result (IsStrictAnswer form.now (C.panel checks.now) inputs.now) }
 {
     let found = found_in(alloc, inputs, &grounds, checks)?;
     judged(alloc, inputs, grounds, found, checks, form)
@@ -66,12 +66,12 @@ fn judged<'a, C: Checks>(
     grounds: Grounds,
     found: Found,
     checks: &C,
-    form: OutputForm,
+    form: &OutputForm,
 ) -> Result<StrictAnswer<'a>, AllocError>
     requires made { IsMadeBy (C.panel checks.now) inputs.now grounds.documents grounds.evidence }
     requires found { AreFound (C.panel checks.now) inputs.now grounds.documents grounds.evidence
         found }
-    ensures { IfOk result (IsStrictAnswer form (C.panel checks.now) inputs.now) }
+    ensures { IfOk result (IsStrictAnswer form.now (C.panel checks.now) inputs.now) }
 {
     if !found.is_nothing() {
         return Ok(StrictAnswer::Against(found));

@@ -15,7 +15,8 @@ use std::alloc::Global;
 use std::io::Write;
 
 /// Verifies delivered files, as `verify_by` of `it_verify` does, writes the output in this form,
-/// and then, where that is the report alone, writes the notes on the verdict to `notes`.
+/// and then, except in the full form, writes the notes on the verdict to `notes`. Where a summary
+/// is asked for and the verdict refuses, the report in lines goes there before them.
 ///
 /// The answer is `Good` where the verdict accepts, and `Refused` where it refuses. The notes affect
 /// neither it nor the report: where memory is refused for them, or the checks refuse to check more
@@ -31,16 +32,16 @@ pub fn verify_with_notes<C: Checks, W: Write, N: Write>(
     alloc: Global,
     inputs: &Inputs,
     checks: &C,
-    form: OutputForm,
+    form: &OutputForm,
     out: &mut W,
     notes: &mut N,
 ) -> Result<Status, RunFault>
     requires { inputs.now.depth ≤ 8 }
     ensures ok { IfOk result (λ status. (text : _)
-        × IsVerifyOutputIn form (C.panel checks.now) inputs.now text status
+        × IsVerifyOutputIn form.now (C.panel checks.now) inputs.now text status
         × Appends (W.contents out.old) (W.contents out.new) text) }
     ensures write { IsErrOf result RunFault.Write → (text : _) × (status : _)
-        × IsVerifyOutputIn form (C.panel checks.now) inputs.now text status
+        × IsVerifyOutputIn form.now (C.panel checks.now) inputs.now text status
         × AppendsBeginning (W.contents out.old) (W.contents out.new) text }
     ensures memory { IsErrOf result RunFault.OutOfMemory → out.new ≡ out.old }
     ensures faults { IfErr result IsOutputFault }

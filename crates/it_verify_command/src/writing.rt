@@ -1,8 +1,7 @@
-//! The writing of an answer, and of what is found against a delivery.
-ghost use Rattle.std.specs.Prelude.{◌≡◌, IfErr, IfOk, OnOk};
+//! The writing of an answer.
+ghost use Rattle.std.specs.Prelude.{◌≡◌, IfErr, IfOk};
 ghost use Rattle.std.specs.Io.KnownBytes.{Appends};
 ghost use Rattle.it_base.specs.Writing.{AppendsBeginning};
-ghost use Rattle.it_strict.specs.FoundText.{found_text};
 ghost use Rattle.it_notes.specs.Known.{IsTold};
 
 use crate::answer::Answer;
@@ -13,12 +12,12 @@ use it_notes::known::Told;
 use it_notes::notes::Notes;
 use it_outcome::output::put;
 use it_outcome::{RunFault, Status};
-use it_strict::found::Found;
 use it_verify::inputs::Inputs;
 use std::alloc::{AllocError, Global};
 use std::io::Write;
 
-/// Writes the output of an answer, and then, where that is the report alone, the notes on it.
+/// Writes the output of an answer, and then, where they follow elsewhere, the notes on it, after
+/// what goes before them.
 pub(crate) fn write_answer<C: Checks, W: Write, N: Write>(
     alloc: Global,
     inputs: &Inputs,
@@ -34,7 +33,8 @@ pub(crate) fn write_answer<C: Checks, W: Write, N: Write>(
         (W.contents out.old) (W.contents out.new) answer.entry.output.text.items) }
 {
     let outcome = put(out, &answer.output);
-    if outcome.is_ok() && answer.form.is_report() {
+    if outcome.is_ok() && answer.noted {
+        let _ = write_all_of(notes, answer.before_notes.as_slice());
         note(alloc, inputs, &answer.told, checks, notes);
     }
     outcome
@@ -61,19 +61,4 @@ fn notes_text<C: Checks>(
     let mut lines = Notes::of(alloc, inputs, told, checks)?.lines(alloc)?;
     add_found(&mut lines, told)?;
     lines.into_text()
-}
-
-/// Writes the lines of what is found, as far as they can be written.
-pub(crate) fn write_found<N: Write>(
-    alloc: Global,
-    found: &Found,
-    notes: &mut N,
-) -> Result<(), AllocError>
-    ensures { OnOk result (AppendsBeginning (N.contents notes.old) (N.contents notes.new)
-        (found_text found.now)) }
-{
-    let mut text = Vec::new(alloc);
-    found.push_lines(&mut text)?;
-    let _ = write_all_of(notes, text.as_slice());
-    Ok(())
 }

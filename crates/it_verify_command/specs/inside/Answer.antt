@@ -1,9 +1,12 @@
 -- What the answer to what was handed in is made of.
-use Rattle.std.specs.Prelude.{◌≡◌, MatchOption, Option, ⊤}
+use Rattle.std.specs.Prelude.{◌≡◌, ℕ, List, [], MatchOption, Option, ⊤}
 use Rattle.it_dsse.specs.Panel.{Panel}
 use Rattle.it_evidence.specs.Evidence.{IsBehind}
 use Rattle.it_json_report.specs.declared.evidence.Evidence.{Evidence}
 use Rattle.it_outcome.specs.declared.outcome.Status.TheVariants.{Good}
+use Rattle.it_report.specs.Report.{report_of}
+use Rattle.it_report.specs.declared.verdict.Verdict.{Verdict}
+use Rattle.it_report.specs.declared.verdict.Verdict.TheVariants.{Accepted, Refused}
 use Rattle.it_strict.specs.Found.{IsNothing}
 use Rattle.it_verify.specs.VerifyOutput.{status_of}
 use Rattle.it_verify.specs.declared.inputs.Inputs.{Inputs}
@@ -13,6 +16,7 @@ use Rattle.it_verify_command.specs.Strictly.{IsFoundIn, StandsStrictly}
 use Rattle.it_verify_command.specs.declared.answer.Answer.{Answer}
 use Rattle.it_verify_command.specs.declared.output_form.OutputForm.{OutputForm}
 use Rattle.it_verify_command.specs.declared.output_form.OutputForm.TheVariants.{Full, Report}
+use Rattle.it_verify_command.specs.declared.output_form.OutputForm.TheVariants.{Summary}
 use Rattle.it_verify_command.specs.declared.strict_answer.StrictAnswer.{StrictAnswer}
 use Rattle.it_verify_command.specs.declared.strict_answer.StrictAnswer.TheVariants.{Against}
 use Rattle.it_verify_command.specs.declared.strict_answer.StrictAnswer.TheVariants.{Stands}
@@ -21,6 +25,18 @@ use Rattle.it_verify_command.specs.declared.strict_answer.StrictAnswer.TheVarian
 abbrev pub IsBehindIn : OutputForm → Panel → Inputs → Option Evidence → Type 0
 IsBehindIn (Report form) panel inputs evidence = ⊤
 IsBehindIn Full panel inputs evidence = MatchOption evidence ⊥ (IsBehind panel inputs)
+IsBehindIn (Summary names) panel inputs evidence = MatchOption evidence ⊥ (IsBehind panel inputs)
+
+-- the report in lines of a verdict that refuses
+abbrev pub refusal_text : Verdict → List ℕ
+refusal_text (Accepted steps files) = []
+refusal_text (Refused refusal) = report_of (Refused refusal)
+
+-- what goes before the notes in a form: that report, where a summary is asked for
+abbrev pub before_notes : OutputForm → Verdict → List ℕ
+before_notes (Report form) verdict = []
+before_notes Full verdict = []
+before_notes (Summary names) verdict = refusal_text verdict
 
 -- the output is that on the verdict which was told, in this form
 pub record IsAnswer (form : OutputForm) (panel : Panel) (inputs : Inputs) (answer : Answer)
@@ -28,6 +44,7 @@ pub record IsAnswer (form : OutputForm) (panel : Panel) (inputs : Inputs) (answe
   pub told : IsTold panel inputs answer.told
   pub text : IsTextIn form panel inputs answer.told.verdict answer.output.text.items
   pub status : answer.output.status ≡ status_of answer.told.verdict
+  pub before : answer.before_notes.items ≡ before_notes form answer.told.verdict
 
 -- the same, and nothing is found in what is accepted
 pub record StandsAs (form : OutputForm) (panel : Panel) (inputs : Inputs) (answer : Answer)

@@ -1,5 +1,5 @@
 use Rattle.std.proofs.Common.{⊎_elim, inl, inr}
-use Rattle.it_program.proofs.Stopping.{handed_on}
+use Rattle.it_program.proofs.Stopping.{handed_on, verify_begun}
 use Rattle.it_program.proofs.running.run_command.Goals as goal
 
 pub returns-in_err-run-in-Signed-clause-stopped : goal.returns-in_err-run-in-Signed-clause-stopped
@@ -26,11 +26,7 @@ pub returns-in_err-run-in-Digest-clause-stopped : goal.returns-in_err-run-in-Dig
 returns-in_err-run-in-Digest-clause-stopped g c =
     handed_on _ c.from_residual-in_err-run-in-Digest.result _ c.from_residual-in_err-run-in-Digest.ensures.1
     (λ other.
-    ⊎_elim inl (λ lists. inr (record {
-      words = c.in-Digest.words;
-      is_digest = c.in-Digest.is;
-      lists = lists;
-    })) (c.in_err-run-in-Digest.ensures.stopped other))
+    ⊎_elim inl (λ lists. inr (rw c.in-Digest.is lists)) (c.in_err-run-in-Digest.ensures.stopped other))
 
 pub returns-in_err-run-in-Link-clause-stopped : goal.returns-in_err-run-in-Link-clause-stopped
 returns-in_err-run-in-Link-clause-stopped g c =
@@ -56,3 +52,15 @@ pub returns-in_err-run-in-Check-clause-stopped : goal.returns-in_err-run-in-Chec
 returns-in_err-run-in-Check-clause-stopped g c =
     handed_on _ c.from_residual-in_err-run-in-Check.result _ c.from_residual-in_err-run-in-Check.ensures.1
     (λ other. inl (c.in_err-run-in-Check.ensures.nothing other))
+
+pub returns-in-Verify-clause-stopped : goal.returns-in-Verify-clause-stopped
+returns-in-Verify-clause-stopped g c =
+    rw c.in-Verify.is (verify_begun _ _ c.in-Verify.words _ _ c.run-in-Verify.result
+    c.run-in-Verify.ensures.nothing c.run-in-Verify.ensures.findings c.run-in-Verify.ensures.lines)
+
+pub returns-in-Verify-clause-findings : goal.returns-in-Verify-clause-findings
+returns-in-Verify-clause-findings g c = λ is. record {
+  words = c.in-Verify.words;
+  is_verify = c.in-Verify.is;
+  finds = c.run-in-Verify.ensures.findings is;
+}

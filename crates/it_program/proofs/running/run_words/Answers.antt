@@ -22,14 +22,11 @@ returns g c =
     let old = g.W.Write.contents c.args.out.now in
     let new = g.W.Write.contents c.run_command.new.out in
     record {
-      findings = λ is. (
-        record {
-          command = command;
-          are_words = named;
-          found = (c.run_command.ensures.findings is).0;
-        },
-        (c.run_command.ensures.findings is).1,
-      );
+      findings = λ is. record {
+        command = command;
+        are_words = named;
+        found = c.run_command.ensures.findings is;
+      };
       ok = of_some (AreWordsOf words) (IsOutputOf disk) (Appends old new) command
           c.run_command.result named c.run_command.ensures.ok;
       stopped = named_begun _ _ disk command old new words c.run_command.result named

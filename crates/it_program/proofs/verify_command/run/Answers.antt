@@ -16,8 +16,10 @@ returns-clause-ok g c = elim c.told_spent.ensures [
       are_inputs = c.in_ok-inputs.ensures;
       rings = c.in_ok-rings.rings.items;
       holds_rings = search rules;
-      is_output = rw (c.new-checks.ensures.rings, c.new-checks.ensures.public_keys) at told.1;
-      stands = rw (c.new-checks.ensures.rings, c.new-checks.ensures.public_keys) at stands;
+      is_output = rw (c.in_ok-asked.ensures.form, c.new-checks.ensures.rings, c.new-checks.ensures.public_keys)
+          at told.1;
+      stands = rw (c.in_ok-asked.ensures.strict, c.new-checks.ensures.rings, c.new-checks.ensures.public_keys)
+          at stands;
     },
     told.2,
   )) c.verify_as_asked-outcome.ensures.ok c.verify_as_asked-outcome.ensures.stands)
@@ -27,21 +29,29 @@ returns-clause-ok g c = elim c.told_spent.ensures [
 pub returns-clause-nothing : goal.returns-clause-nothing
 returns-clause-nothing g c = elim c.told_spent.ensures [
   | inl same ↦ rw same c.verify_as_asked-outcome.ensures.nothing
-  | inr spent ↦ rw spent.1 (λ other.
-      (rw spent.0 at c.verify_as_asked-outcome.ensures.nothing) (λ same. cc))
+  | inr spent ↦ rw spent.1 (λ other found.
+      (rw spent.0 at c.verify_as_asked-outcome.ensures.nothing) (λ same. cc) (λ same. cc))
 ]
 
 pub returns-clause-findings : goal.returns-clause-findings
 returns-clause-findings g c = λ is. elim c.told_spent.ensures [
   | inl same ↦ (let told = c.verify_as_asked-outcome.ensures.findings (sym same ∙ is) in
       record {
-        is_strict = told.0;
+        is_strict = rw c.in_ok-asked.ensures.strict at told.0;
         inputs = c.in_ok-inputs.inputs;
         are_inputs = c.in_ok-inputs.ensures;
         rings = c.in_ok-rings.rings.items;
         holds_rings = search rules;
         text = told.1;
-        has_findings = rw (c.new-checks.ensures.rings, c.new-checks.ensures.public_keys) at told.2;
+        has_findings = rw (c.in_ok-asked.ensures.form, c.new-checks.ensures.rings, c.new-checks.ensures.public_keys)
+            at told.2;
+        goes_out = rw c.in_ok-asked.ensures.form at told.3;
       })
+  | inr spent ↦ cc (spent.1, is)
+]
+
+pub returns-clause-lines : goal.returns-clause-lines
+returns-clause-lines g c = λ is. elim c.told_spent.ensures [
+  | inl same ↦ rw c.in_ok-asked.ensures.form at (c.verify_as_asked-outcome.ensures.lines (sym same ∙ is))
   | inr spent ↦ cc (spent.1, is)
 ]

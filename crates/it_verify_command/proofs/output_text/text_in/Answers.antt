@@ -8,3 +8,10 @@ full_text-requires-clause-behind g c =
     let panel = g.C.Checks.panel c.args.checks.now in
     subst (λ form. OnAccepted c.args.told.now.verdict
     (IsBehindIn form panel c.args.inputs.now c.args.behind)) c.in-Full.is c.requires.behind
+
+pub returns : goal.returns
+returns g c =
+    let panel = g.C.Checks.panel c.args.checks.now in
+    let behind = subst (λ form. OnAccepted c.args.told.now.verdict
+    (IsBehindIn form panel c.args.inputs.now c.args.behind)) c.in-Summary.is c.requires.behind in
+    rw c.in-Summary.is (c.summary_text.ensures panel c.args.inputs.now behind)

@@ -1,5 +1,5 @@
 -- Which vector a document is (a format of this project).
-use Rattle.std.specs.Prelude.{◌≡◌, Bool, Some, None, codes}
+use Rattle.std.specs.Prelude.{◌≡◌, Bool, None, codes}
 use Rattle.serde_json.specs.Data.{Data}
 use Rattle.it_base.specs.Document.{member_at}
 use Rattle.it_base.specs.HexadecimalText.{IsHexadecimal}

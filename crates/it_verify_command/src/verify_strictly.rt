@@ -17,9 +17,10 @@ use it_verify::inputs::Inputs;
 use std::alloc::Global;
 use std::io::Write;
 
-/// Verifies delivered files as `verify_with_notes` does, and writes the same to `out` and `notes`, but
-/// where the verdict accepts and something is found, only that is told: in the full form it is the
-/// output, as one JSON object, and otherwise its lines go to `notes`, as far as they can be written.
+/// Verifies delivered files as `verify_with_notes` does, and writes the same to `out` and `notes`,
+/// but where the verdict accepts and something is found, only that is told: in the full form it is
+/// the output, as one JSON object, and otherwise its lines go to `notes`, as far as they can be
+/// written.
 ///
 /// # Errors
 ///

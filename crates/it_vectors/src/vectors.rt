@@ -16,7 +16,8 @@ impl Trial for Vectors {
     fn difference(&self, alloc: Global, document: &Value) -> Result<Option<String>, RowFault> {
         let vector = Vector::from_document(alloc, document)?;
         let vector = vector.ok_or(RowFault::Malformed("vector"))?;
-        if vector.agrees(alloc)? {
+        let agrees = vector.agrees(alloc)?;
+        if agrees {
             return Ok(None);
         }
         let name = vector.name.as_str();

@@ -1,4 +1,4 @@
-use Rattle.std.proofs.Common.{◌≡◌, ◌∙◌, ◌↔◌, IsTrue, rules, sym}
+use Rattle.std.proofs.Common.{◌∙◌, ◌↔◌, IsTrue, rules, sym}
 use Rattle.it_rsa.specs.Signature.{IsSignature}
 use Rattle.it_vectors.specs.Key.{IsRsaInfo}
 use Rattle.it_vectors.proofs.OneKey.{of_one_key}

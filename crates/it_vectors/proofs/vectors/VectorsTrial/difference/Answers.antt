@@ -11,6 +11,6 @@ returns c =
       vector = vector;
       is_vector = is;
       none_where = λ agrees.
-          let clash : true ≡ false = sym (c.agrees.ensures.1 agrees) ∙ c.if-agrees.false in
+          let clash : true ≡ false = sym (c.in_ok-agrees.ensures.1 agrees) ∙ c.if-agrees.false in
           cc;
     }

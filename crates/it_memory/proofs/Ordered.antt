@@ -13,7 +13,8 @@ use Rattle.it_rules.proofs.Listed.{Contains-map, Contains-map_cases, mapped_plac
 use Rattle.it_rules.proofs.Listed.{slice_get_within}
 use Rattle.it_rules.proofs.PathOrder.{not_below_itself, path_cmp}
 use Rattle.it_memory.specs.Files.{HasBelow, HasFile, files_of}
-use Rattle.it_memory.specs.inside.Order.{AreOrdered, IsAt, IsNext}
+use Rattle.it_sorted_paths.specs.Order.{IsAt, IsNext}
+use Rattle.it_memory.specs.inside.Order.{AreOrdered}
 use Rattle.it_memory.specs.declared.file.File.{File}
 
 -- a path that comes after the last of some in order

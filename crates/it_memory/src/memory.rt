@@ -6,9 +6,10 @@ ghost use Rattle.it_memory.specs.Files.{AreApart, HasBelow, HasFile, HasKind, fi
 
 use crate::file::File;
 use crate::names::names_in;
-use crate::paths::{front_of, paths_of, place_of};
+use crate::paths::{front_of, paths_of};
 use it_disk::{Fault, Kind, Wanted};
 use it_rules::ranges::front_range;
+use it_sorted_paths::place_of;
 use std::alloc::{AllocError, Global};
 use std::marker::Model;
 

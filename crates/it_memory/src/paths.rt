@@ -1,10 +1,11 @@
 //! The paths of files, in the order of their bytes.
-ghost use Rattle.std.specs.Prelude.{◌≡◌, ◌++◌, IfOk, IfSome, IsTrue, codes, map, string_bytes};
+ghost use Rattle.std.specs.Prelude.{◌≡◌, ◌++◌, IfOk, codes, map, string_bytes};
 ghost use Rattle.it_rules.specs.Ranges.{AreInOrder};
-ghost use Rattle.it_memory.specs.inside.Order.{IsAt, IsNext};
+ghost use Rattle.it_sorted_paths.specs.Order.{IsNext};
 
 use crate::file::File;
 use it_disk::Fault;
+use it_sorted_paths::is_next;
 use std::alloc::{AllocError, Global};
 
 /// The paths of sorted files.
@@ -40,29 +41,9 @@ fn next_path<'a>(alloc: Global, paths: &[&str], file: &File<'a>) -> Result<&'a s
     Ok(path)
 }
 
-/// Whether a path comes after the last of some paths, if there are any.
-fn is_next(paths: &[&str], path: &str) -> bool
-    ensures { IsTrue result → IsNext paths.now path.now }
-{
-    match paths.last() {
-        Some(last) => *last < path,
-        None => true,
-    }
-}
-
 /// Whether a path has a part without a byte.
 fn has_empty_part(path: &str) -> bool {
     path.is_empty() || path.starts_with('/') || path.ends_with('/') || path.contains("//")
-}
-
-/// The place of a path among sorted paths.
-pub(crate) fn place_of(paths: &[&str], path: &str) -> Option<usize>
-    ensures { IfSome result (IsAt paths.now path.now) }
-{
-    match paths.binary_search(&path) {
-        Ok(place) => Some(place),
-        Err(_) => None,
-    }
 }
 
 /// What the paths below a folder begin with: its own path and a slash.

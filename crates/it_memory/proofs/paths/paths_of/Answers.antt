@@ -1,8 +1,8 @@
-use Rattle.std.proofs.Common.{◌≡◌, ◌∙◌, ◌+◌, ◌++◌, ◌∷◌, [], ap, get_or, map, subst, sym, take}
+use Rattle.std.proofs.Common.{◌∙◌, ◌+◌, ◌++◌, ◌∷◌, [], ap, map, subst, sym, take}
 use Rattle.std.proofs.lemmas.List.{map-append, map_more}
 use Rattle.it_rules.specs.Ranges.{AreInOrder}
 use Rattle.it_memory.proofs.Ordered.{in_order_more, now_of, path_of}
-use Rattle.it_memory.specs.inside.Order.{IsNext}
+use Rattle.it_sorted_paths.specs.Order.{IsNext}
 use Rattle.it_memory.proofs.paths.paths_of.Goals as goal
 
 pub loop-file-preserved : goal.loop-file-preserved

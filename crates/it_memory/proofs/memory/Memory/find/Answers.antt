@@ -1,6 +1,6 @@
 use Rattle.std.proofs.Common.{subst}
 use Rattle.it_memory.specs.Files.{HasFile}
-use Rattle.it_memory.specs.inside.Order.{IsAt}
+use Rattle.it_sorted_paths.specs.Order.{IsAt}
 use Rattle.it_memory.proofs.Ordered.{file_found}
 use Rattle.it_memory.proofs.memory.Memory.find.Goals as goal
 

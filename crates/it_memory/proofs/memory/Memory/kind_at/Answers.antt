@@ -1,6 +1,6 @@
 use Rattle.std.proofs.Common.{ℕ, List, subst}
 use Rattle.it_memory.specs.Files.{HasFile}
-use Rattle.it_memory.specs.inside.Order.{IsAt}
+use Rattle.it_sorted_paths.specs.Order.{IsAt}
 use Rattle.it_memory.proofs.Ordered.{file_there}
 use Rattle.it_memory.proofs.memory.Memory.kind_at.Goals as goal
 

@@ -9,8 +9,8 @@ full_text-requires-clause-behind g c =
     subst (λ form. OnAccepted c.args.told.now.verdict
     (IsBehindIn form panel c.args.inputs.now c.args.behind)) c.in-Full.is c.requires.behind
 
-pub returns : goal.returns
-returns g c =
+pub returns-in-Summary : goal.returns-in-Summary
+returns-in-Summary g c =
     let panel = g.C.Checks.panel c.args.checks.now in
     let behind = subst (λ form. OnAccepted c.args.told.now.verdict
     (IsBehindIn form panel c.args.inputs.now c.args.behind)) c.in-Summary.is c.requires.behind in

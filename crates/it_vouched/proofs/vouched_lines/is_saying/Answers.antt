@@ -1,11 +1,14 @@
-use Rattle.it_issued.proofs.Tests.{fails}
+use Rattle.std.proofs.Common.{IsTrue, true≢false, sym, subst}
 use Rattle.it_vouched.proofs.vouched_lines.is_saying.Goals as goal
 
 pub is_same-requires : goal.is_same-requires
 is_same-requires c = record { one_is = c.requires.one_is; other_is = c.requires.identity_is }
 
 pub returns-then-not-is_same : goal.returns-then-not-is_same
-returns-then-not-is_same c = fails _ _ c.is_same.result c.is_same.ensures c.if-not-is_same.true (λ says. says.number_is)
+returns-then-not-is_same c = (
+  λ t. absurd (true≢false (sym t)),
+  λ says. subst IsTrue c.if-not-is_same.true (c.is_same.ensures.1 says.number_is),
+)
 
 pub returns : goal.returns
 returns c =

@@ -1,12 +1,17 @@
 -- What is proved about these definitions.
-use Rattle.std.specs.Prelude.{◌↔◌, ℕ, List, All, Any, Contains}
+use Rattle.std.specs.Prelude.{◌≡◌, ◌↔◌, ℕ, List, All, Any, Contains}
+use Rattle.serde_json.specs.Data.{Data}
 use Rattle.it_identity.specs.Identity.{IsIdentity, IsOfBytes}
 use Rattle.it_identity.specs.Name.{number_of}
 use Rattle.it_identity.specs.declared.identity.Identity.{Identity}
 use Rattle.it_trust_root.specs.declared.root.TrustedRoot.{TrustedRoot}
-use Rattle.it_vouched.specs.Check.{IsValid}
+use Rattle.it_vouched.specs.Check.{IsKeyOf, IsValid}
 use Rattle.it_vouched.specs.Line.{AreVouched, LineVouches}
 use Rattle.it_vouched.specs.declared.vouched.Vouched.{Vouched}
+
+-- a key object has at most one key
+abbrev pub OneKey : Type 0
+OneKey = (d : Data) (m n : ℕ) → IsKeyOf d m → IsKeyOf d n → m ≡ n
 
 -- a signature of a message is valid for an identity exactly where a line with this message and this
 -- signature vouches for it

@@ -1,0 +1,3 @@
+pub mod Check
+pub mod Laws
+pub mod Line

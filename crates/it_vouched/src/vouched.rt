@@ -1,0 +1,77 @@
+//! What a line vouches for.
+ghost use Rattle.std.specs.Prelude.{◌≡◌, [], ◌∷◌, IfOk, MatchOption, ℕ, List, map};
+ghost use Rattle.it_base.specs.Finds.{Finds};
+ghost use Rattle.it_dsse.specs.Signed.{message_of};
+ghost use Rattle.it_vouched.specs.Line.{IsVouched};
+
+use it_base::sequence::Sequence;
+use it_bundle::read_bundle;
+use it_dsse::envelope::{Envelope, Signature};
+use it_dsse::pae;
+use it_identity::Identity;
+use it_vouches::{Trust, vouched_identity};
+use std::alloc::{AllocError, Global};
+
+/// An identity that is vouched for, and with what.
+#[derive(Drop)]
+pub struct Vouched {
+    /// The identity.
+    pub identity: Identity,
+    /// The message: the pre-authentication encoding of the envelope.
+    pub message: Sequence<u8>,
+    /// The envelope's one signature.
+    pub signature: Sequence<u8>,
+}
+
+/// What a line vouches for; `None` where it is no bundle, or one that vouches for nobody.
+///
+/// # Errors
+///
+/// `AllocError` where memory was refused.
+pub(crate) fn vouched_by(
+    alloc: Global,
+    trust: &Trust<'_>,
+    line: &[u8],
+) -> Result<Option<Vouched>, AllocError>
+    ensures { IfOk result (Finds (IsVouched trust.now line.now)) }
+{
+    let Some(bundle) = read_bundle(alloc, line)? else {
+        return Ok(None);
+    };
+    let Some(identity) = vouched_identity(alloc, trust, &bundle)? else {
+        return Ok(None);
+    };
+    let Some(signature) = only_signature(alloc, bundle.envelope.signatures.as_slice())? else {
+        return Ok(None);
+    };
+    let message = message_of(alloc, &bundle.envelope)?;
+    Ok(Some(Vouched {
+        identity,
+        message,
+        signature,
+    }))
+}
+
+/// The bytes of the signature, where there is one and no other.
+fn only_signature(
+    alloc: Global,
+    signatures: &[Signature],
+) -> Result<Option<Sequence<u8>>, AllocError>
+    ensures { IfOk result (λ found. MatchOption found
+        ((bytes : List ℕ) → map (λ s. s.sig) signatures.now ≡ bytes ∷ [] → ⊥)
+        (λ bytes. map (λ s. s.sig) signatures.now ≡ bytes ∷ [])) }
+{
+    match signatures {
+        [only] => Ok(Some(Sequence::from(Vec::from_slice(alloc, only.sig.as_slice())?))),
+        _ => Ok(None),
+    }
+}
+
+/// What the signatures of an envelope sign (DSSE v1.0, "Protocol", PAE).
+fn message_of(alloc: Global, envelope: &Envelope) -> Result<Sequence<u8>, AllocError>
+    ensures { IfOk result (λ message. message ≡ message_of envelope.now) }
+{
+    let kind = envelope.payload_type.as_str();
+    let message = pae(alloc, kind, envelope.payload.as_slice())?;
+    Ok(Sequence::from(message))
+}

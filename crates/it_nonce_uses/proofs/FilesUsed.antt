@@ -1,5 +1,6 @@
 -- The signatures of somebody on a file.
-use Rattle.std.proofs.Common.{◌≡◌, [], ℕ, List, Bor, Option, Some, None, sym, subst}
+use Rattle.std.proofs.Common.{◌≡◌, [], ℕ, List, Bor, Option, Some, None, true, false, sym, subst}
+use Rattle.std.specs.Option.{is_none}
 use Rattle.it_base.specs.Finds.{FindsAs}
 use Rattle.it_dsse.specs.Panel.{Panel}
 use Rattle.it_dsse.specs.declared.envelope.Envelope.{Envelope}
@@ -47,7 +48,7 @@ module _ (panel : Panel) (step : List ℕ) (signer : Signer) (object : KeyObject
     }
 
     -- one that holds a body
-    pub with_body : (uses : List NonceUse) (body : Held)
+    with_body : (uses : List NonceUse) (body : Held)
         → BodyOf step envelope.payload (as_body body)
         → EnvelopeUses panel envelope signer object uses
         → FileUses panel step signer object file uses
@@ -58,7 +59,7 @@ module _ (panel : Panel) (step : List ℕ) (signer : Signer) (object : KeyObject
     }
 
     -- and one that holds none
-    pub bodyless : FindsAs as_body (BodyOf step envelope.payload) None
+    bodyless : FindsAs as_body (BodyOf step envelope.payload) None
         → FileUses panel step signer object file []
     bodyless no_body = record {
       some = λ other holds. absurd (no_body holds.body
@@ -66,6 +67,20 @@ module _ (panel : Panel) (step : List ℕ) (signer : Signer) (object : KeyObject
           (sym (one_envelope other holds)) holds.reads));
       none = λ _. λ i. [];
     }
+
+    -- one in which a body is looked for, and not found
+    pub not_found : (found : Option Held) → FindsAs as_body (BodyOf step envelope.payload) found
+        → is_none found ≡ true → FileUses panel step signer object file []
+    not_found None no_body none = bodyless no_body
+    not_found (Some body) reads none = cc
+
+    -- and one in which it is found
+    pub body_found : (uses : List NonceUse) (found : Option Held)
+        → FindsAs as_body (BodyOf step envelope.payload) found → is_none found ≡ false
+        → EnvelopeUses panel envelope signer object uses
+        → FileUses panel step signer object file uses
+    body_found uses None no_body some are = cc
+    body_found uses (Some body) reads some are = with_body uses body reads are
 
 -- what is found of a file that is claimed
 pub claimed_found : (step : List ℕ) (file : File) → IsClaimed step file.name

@@ -1,6 +1,6 @@
 -- The signatures of somebody on a file.
-use Rattle.std.proofs.Common.{◌≡◌, [], ℕ, List, Bor, Option, Some, None, true, false, sym, subst}
-use Rattle.std.specs.Option.{is_none}
+use Rattle.std.proofs.Common.{◌≡◌, [], ℕ, List, Bor, Option, Some, None, is_some, true, false}
+use Rattle.std.proofs.Common.{sym, subst}
 use Rattle.it_base.specs.Finds.{FindsAs}
 use Rattle.it_dsse.specs.Panel.{Panel}
 use Rattle.it_dsse.specs.declared.envelope.Envelope.{Envelope}
@@ -70,13 +70,13 @@ module _ (panel : Panel) (step : List ℕ) (signer : Signer) (object : KeyObject
 
     -- one in which a body is looked for, and not found
     pub not_found : (found : Option Held) → FindsAs as_body (BodyOf step envelope.payload) found
-        → is_none found ≡ true → FileUses panel step signer object file []
+        → is_some found ≡ false → FileUses panel step signer object file []
     not_found None no_body none = bodyless no_body
     not_found (Some body) reads none = cc
 
     -- and one in which it is found
     pub body_found : (uses : List NonceUse) (found : Option Held)
-        → FindsAs as_body (BodyOf step envelope.payload) found → is_none found ≡ false
+        → FindsAs as_body (BodyOf step envelope.payload) found → is_some found ≡ true
         → EnvelopeUses panel envelope signer object uses
         → FileUses panel step signer object file uses
     body_found uses None no_body some are = cc
@@ -84,7 +84,8 @@ module _ (panel : Panel) (step : List ℕ) (signer : Signer) (object : KeyObject
 
 -- what is found of a file that is claimed
 pub claimed_found : (step : List ℕ) (file : File) → IsClaimed step file.name
-    → (found : Option (Bor Envelope)) → FindsAs (λ envelope. envelope.now) (IsCandidate file.bytes) found
+    → (found : Option (Bor Envelope))
+    → FindsAs (λ envelope. envelope.now) (IsCandidate file.bytes) found
     → FindsAs (λ envelope. envelope.now) (IsClaimedAs step file) found
 claimed_found step file claimed None none = λ envelope is. none envelope is.is_candidate
 claimed_found step file claimed (Some envelope) is =

@@ -1,5 +1,5 @@
 -- Lists of signatures by the signers of a step, and folders of sublayouts.
-use Rattle.std.proofs.Common.{◌≡◌, ◌+◌, ◌∙◌, ◌++◌, ◌∷◌, [], ℕ, List, ap, map, refl}
+use Rattle.std.proofs.Common.{◌≡◌, ◌+◌, ◌++◌, ◌∷◌, [], ℕ, List, map, refl}
 use Rattle.it_findings.specs.Joined.{JoinedFrom}
 use Rattle.it_chain.specs.Contents.{Contents}
 use Rattle.it_chain.specs.Sublayouts.{folder_of}

@@ -1,4 +1,4 @@
-use Rattle.std.proofs.Common.{◌≡◌, ◌∙◌, ◌++◌, ap, append_assoc}
+use Rattle.std.proofs.Common.{◌∙◌, ◌++◌, ap}
 use Rattle.it_nonce_uses.proofs.delivery_uses.uses_in_delivery.Goals as goal
 
 pub returns : goal.returns

@@ -1,7 +1,6 @@
-use Rattle.std.proofs.Common.{◌≡◌, ◌∙◌, ℕ, ap, arith, length, sym}
+use Rattle.std.proofs.Common.{◌≡◌, ◌∙◌, ℕ, ap, arith, length, not, sym}
 use Rattle.std.specs.Bool.{◌==◌}
 use Rattle.it_chain.proofs.Walks.{nil_of}
-use Rattle.it_nonce_uses.specs.FileUses.{IsClaimedAs}
 use Rattle.it_nonce_uses.proofs.FilesUsed.{body_found, no_uses, not_found, unclaimed}
 use Rattle.it_nonce_uses.proofs.file_uses.file_uses.Goals as goal
 
@@ -29,7 +28,7 @@ returns-then-is_none g c =
     (not_found (g.C.Checks.panel c.args.checks.now) functionary.step.now functionary.signer
     functionary.object.now c.args.file.now c.in-Some.envelope.now c.in-Some.ensures
     c.in_ok-body.body (rw c.as_slice.ensures at c.in_ok-body.ensures)
-    (sym c.is_none.ensures ∙ c.if-is_none.true))
+    (c.is_none.ensures ∙ ap not c.if-is_none.true))
 
 pub returns : goal.returns
 returns g c =
@@ -37,4 +36,4 @@ returns g c =
     body_found (g.C.Checks.panel c.args.checks.now) functionary.step.now functionary.signer
     functionary.object.now c.args.file.now c.in-Some.envelope.now c.in-Some.ensures
     c.in_ok-uses.uses.items c.in_ok-body.body (rw c.as_slice.ensures at c.in_ok-body.ensures)
-    (sym c.is_none.ensures ∙ c.if-is_none.false) c.in_ok-uses.ensures
+    (c.is_none.ensures ∙ ap not c.if-is_none.false) c.in_ok-uses.ensures

@@ -1,6 +1,6 @@
 -- Signatures by different keys with one number r (this profile's choice: signers that keep to FIPS
 -- 186-5, section 6.3, make each with a nonce of its own, and r follows from the nonce).
-use Rattle.std.specs.Prelude.{ℕ, List, [], ◌∷◌, Bool, ◌&&◌, nat_eq, if◌then◌else◌, MatchOption}
+use Rattle.std.specs.Prelude.{ℕ, List, [], ◌∷◌, Bool, ◌&&◌, nat_eq, if◌then◌else◌}
 use Rattle.std.specs.Prelude.{Option, None, Some, find}
 use Rattle.std.specs.List.{flat_map}
 use Rattle.it_dsse.specs.Panel.{KeyNumber}

@@ -1,7 +1,7 @@
 use Rattle.std.proofs.Common.{◌≡◌, codes, rules}
 use Rattle.std.proofs.lemmas.Result.{IfOk-weaker}
-use Rattle.it_nonces.specs.EnvelopeUses.{AreUses, EnvelopeUses, IsCurveKey}
-use Rattle.it_nonces.proofs.UsesMore.{curve_uses, no_curve_key, unknown_key}
+use Rattle.it_nonces.specs.EnvelopeUses.{AreUses, EnvelopeUses}
+use Rattle.it_nonces.proofs.UsesMore.{curve_uses}
 use Rattle.it_nonces.proofs.uses.envelope_uses.Goals as goal
 
 pub returns : goal.returns

@@ -1,7 +1,6 @@
 use Rattle.std.proofs.Common.{◌<◌, ◌^◌, arith}
 use Rattle.it_p256_limbs.specs.Numbers.{value_of}
 use Rattle.it_p256_limbs.proofs.Chains.{number_small}
-use Rattle.it_nonces.specs.EnvelopeUses.{HasNumbers}
 use Rattle.it_nonces.proofs.uses.read_use.Goals as goal
 
 pub returns-in_default : goal.returns-in_default

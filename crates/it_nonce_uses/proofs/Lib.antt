@@ -1,0 +1,2 @@
+pub mod FilesUsed
+pub mod Listed

@@ -1,0 +1,4 @@
+pub mod DeliveryUses
+pub mod FileUses
+pub mod LayoutUses
+pub mod OwnerUses

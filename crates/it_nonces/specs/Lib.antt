@@ -1,0 +1,2 @@
+pub mod EnvelopeUses
+pub mod SharedNonces

@@ -1,4 +1,6 @@
-use Rattle.std.proofs.Common.{◌≡◌, ◌∙◌, Err, IfOk, Ok, Result, inl, inr, rules, sym}
+use Rattle.std.proofs.Common.{◌≡◌, ◌∙◌, Err, IfOk, IsErrOf, Ok, Result, inl, inr, rules, sym, ℕ}
+use Rattle.it_program.specs.declared.stop.Stop.{Stop}
+use Rattle.it_program.specs.declared.stop.Stop.TheVariants.{Findings, TooManyChecks}
 use Rattle.it_program.proofs.verify_command.run.Goals as goal
 
 -- what is told of an answer in two parts
@@ -6,6 +8,11 @@ both : {S E : Type 0} (P Q R : S → Type 0) (r : Result S E) → ((s : S) → P
     → IfOk r P → IfOk r Q → IfOk r R
 both P Q R (Ok s) join p q = join s p q
 both P Q R (Err e) join p q = tt
+
+-- what is told of too many checks is told of no findings
+never : {S : Type 0} (r : Result S Stop) (most : ℕ) → r ≡ Err (TooManyChecks most)
+    → IsErrOf r Findings → ⊥
+never r most e f = cc (e, f)
 
 pub returns-clause-ok : goal.returns-clause-ok
 returns-clause-ok g c = elim c.told_spent.ensures [
@@ -53,5 +60,5 @@ returns-clause-findings g c = λ is. elim c.told_spent.ensures [
 pub returns-clause-lines : goal.returns-clause-lines
 returns-clause-lines g c = λ is. elim c.told_spent.ensures [
   | inl same ↦ rw c.in_ok-asked.ensures.form at (c.verify_as_asked-outcome.ensures.lines (sym same ∙ is))
-  | inr spent ↦ cc (spent.1, is)
+  | inr spent ↦ λ other. absurd (never _ _ spent.1 is)
 ]

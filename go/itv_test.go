@@ -66,8 +66,8 @@ func TestVerdicts(t *testing.T) {
 	is(t, len(accepted.Findings), 0)
 	is(t, accepted.Evidence.Expires, "2030-01-01T00:00:00Z")
 	is(t, accepted.Evidence.Steps, []itv.StepEvidence{
-		{Name: "build", Keys: []itv.CountedKey{{KeyID: "alice", Files: []string{"build.alice.link"}}}},
-		{Name: "pack", Keys: []itv.CountedKey{{KeyID: "carol", Files: []string{"pack.carol.link"}}}},
+		{Name: "build", Keys: []itv.CountedKey{{KeyID: "alice", Files: []string{"build.alice.link"}, Signatures: []uint64{1}}}},
+		{Name: "pack", Keys: []itv.CountedKey{{KeyID: "carol", Files: []string{"pack.carol.link"}, Signatures: []uint64{1}}}},
 	})
 	is(t, len(accepted.Evidence.Files), 1)
 	is(t, accepted.Evidence.Files[0].Line, uint64(1))

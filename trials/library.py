@@ -43,7 +43,7 @@ def sha256(name):
 
 def wanted_evidence():
     """What stands behind the delivery of the example."""
-    steps = [itv.StepEvidence(step, [itv.CountedKey(who, [f"{step}.{who}.link"])])
+    steps = [itv.StepEvidence(step, [itv.CountedKey(who, [f"{step}.{who}.link"], [1])])
              for step, who in [("build", "alice"), ("pack", "carol")]]
     file = itv.FileEvidence("hello.tar", {"sha256": sha256("hello.tar")}, 1,
                             "https://ci.example/pack", 2)

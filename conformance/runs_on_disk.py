@@ -86,6 +86,8 @@ def make_other(path, node):
         os.truncate(path, node["length"])
     elif node["kind"] == "dangling":
         path.symlink_to("nowhere")
+    elif node["kind"] == "looped":
+        path.symlink_to(".")
     elif node["kind"] == "device":
         os.mkfifo(path)
     elif node["fault"] == "IsADirectory":

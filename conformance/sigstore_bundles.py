@@ -253,6 +253,15 @@ def tbs_of(cert):
     return cert[h:h + h2 + n2]
 
 
+def change(parts, changes):
+    """Gives parts these values, and leaves out those that are to have none."""
+    for key, value in changes.items():
+        if value is None:
+            parts.pop(key, None)
+        else:
+            parts[key] = value
+
+
 class Made:
     """A bundle in the making. Options, all with a good default, are in `o`."""
 
@@ -309,11 +318,7 @@ class Made:
         if issuers in ("new", "both"):
             exts["new"] = extension(FULCIO + "8", o.get("new_issuer", der(0x0C, text)))
         exts["trigger"] = extension(FULCIO + "20", der(0x0C, b"push"))
-        for key, value in o.get("exts", {}).items():
-            if value is None:
-                exts.pop(key, None)
-            else:
-                exts[key] = value
+        change(exts, o.get("exts", {}))
         return exts
 
     def make_leaf(self):
@@ -391,11 +396,7 @@ class Made:
                  "inclusionProof": self.make_proof(log, body, **e.get("proof", {})), "canonicalizedBody": b64(body)}
         if self.version == 1 and rng.random() < 0.5 and not e.get("keep_proof") and "proof" not in e:
             entry[rng.choice(["inclusionProof"])] = None
-        for key, value in e.get("over", {}).items():
-            if value is None:
-                entry.pop(key, None)
-            else:
-                entry[key] = value
+        change(entry, e.get("over", {}))
         return entry
 
     def make_proof(self, log, body, **p):

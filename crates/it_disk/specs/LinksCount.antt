@@ -2,9 +2,9 @@
 use Rattle.std.specs.Prelude.{ℕ, ◌+◌, ◌≤◌, length}
 use Rattle.it_chain.specs.Contents.{Contents, contents_of, Folders, no_folders, folder}
 
--- a million
+-- a hundred thousand
 abbrev pub most_entries : ℕ
-most_entries = 1000000
+most_entries = 100000
 
 abbrev mutual
   -- how many files and folders there are, at every depth

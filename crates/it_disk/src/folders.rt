@@ -97,7 +97,7 @@ pub(crate) struct Entry {
 /// # Errors
 ///
 /// The fault of a folder, an entry or a file that cannot be read; `TooMany` where more than 1,000
-/// entries of a folder would be read; `TooManyInAll` where more than 1,000,000 files and folders
+/// entries of a folder would be read; `TooManyInAll` where more than 100,000 files and folders
 /// would be read in all; and `TooMuch` where the files have more than 2 GiB in all.
 pub fn read_links<T: Tree + AllocGlobal>(
     tree: &T,

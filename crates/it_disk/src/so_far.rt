@@ -10,7 +10,7 @@ use std::alloc::Global;
 const MOST_BYTES: u64 = 2_147_483_648;
 
 /// How many files and folders of links may be read in all.
-const MOST_ENTRIES: u64 = 1_000_000;
+const MOST_ENTRIES: u64 = 100_000;
 
 /// How much of a folder of links was read so far.
 #[derive(Clone, Copy)]

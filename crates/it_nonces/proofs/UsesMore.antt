@@ -1,6 +1,6 @@
 -- Signatures of a signer, one more.
-use Rattle.std.proofs.Common.{◌≡◌, ◌≢◌, ◌++◌, ◌∷◌, [], List, Option, Some, None, append-nil, codes}
-use Rattle.std.proofs.Common.{inl, inr, refl, sym}
+use Rattle.std.proofs.Common.{◌≡◌, ◌++◌, ◌∷◌, [], List, Option, Some, None, append-nil, codes}
+use Rattle.std.proofs.Common.{inl, refl, sym}
 use Rattle.std.specs.List.{cons_option}
 use Rattle.std.proofs.lemmas.Slice.Zip.{all_zipped_more}
 use Rattle.it_dsse.specs.Panel.{KeyNumber, Panel}
@@ -34,14 +34,6 @@ module _ (signer : Signer) (n : KeyNumber) where
 
 -- ---- whether an object describes a key of ECDSA over P-256
 module _ (panel : Panel) (envelope : Envelope) (signer : Signer) (object : KeyObject) where
-  pub no_curve_key : object.scheme ≢ codes "ecdsa-sha2-nistp256" → (uses : List NonceUse)
-      → uses ≡ [] → EnvelopeUses panel envelope signer object uses
-  no_curve_key other uses none = inr (λ n is. other is.scheme_is, none)
-
-  pub unknown_key : None ≡ panel.key_of signer.id object → (uses : List NonceUse)
-      → uses ≡ [] → EnvelopeUses panel envelope signer object uses
-  unknown_key unknown uses none = inr (λ n is. let known = is.key_is in cc (known, unknown), none)
-
   pub curve_uses : (n : KeyNumber) → object.scheme ≡ codes "ecdsa-sha2-nistp256"
       → Some n ≡ panel.key_of signer.id object → (uses : List NonceUse)
       → AreUses panel envelope signer n uses → EnvelopeUses panel envelope signer object uses

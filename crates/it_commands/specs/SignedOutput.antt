@@ -13,7 +13,13 @@ use Rattle.it_commands.specs.NoEnvelope.{RefusesBytes}
 
 -- the key object that checks are given
 abbrev pub ring_object : KeyObject
-ring_object = record { keytype = codes "hmac"; scheme = codes "hmac-sha256"; public = [] }
+ring_object = record {
+  keytype = codes "hmac";
+  scheme = codes "hmac-sha256";
+  public = [];
+  identity = [];
+  issuer = [];
+}
 
 -- names, one per line
 abbrev pub names_text : List (List ℕ) → List ℕ

@@ -144,6 +144,8 @@ fn ring_object(alloc: Global) -> Result<KeyObject, AllocError>
         keytype: Text::from(String::from_str(alloc, "hmac")?),
         scheme: Text::from(String::from_str(alloc, "hmac-sha256")?),
         public: Text::from(String::new(alloc)),
+        identity: Text::from(String::new(alloc)),
+        issuer: Text::from(String::new(alloc)),
     })
 }
 

@@ -107,7 +107,9 @@ key_object_same d x y h k =
     let a = h.keytype ∙ sym k.keytype in
     let b = h.scheme ∙ sym k.scheme in
     let c = h.public ∙ sym k.public in
-    λ i. record { keytype = a i; scheme = b i; public = c i }
+    let j = h.identity ∙ sym k.identity in
+    let s = h.issuer ∙ sym k.issuer in
+    λ i. record { keytype = a i; scheme = b i; public = c i; identity = j i; issuer = s i }
 
 artifacts_same : IsSingle (IsTable IsDigestSet)
 artifacts_same = table_same IsDigestSet digest_set_same

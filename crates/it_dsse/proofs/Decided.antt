@@ -47,9 +47,10 @@ key_object_of d =
     cond (is_some (as_object d))
     (Some (record {
       keytype = text_at (codes "keytype") (Some d);
-      scheme = text_at (codes "scheme")
-          (Some d);
+      scheme = text_at (codes "scheme") (Some d);
       public = text_at (codes "public") (member_at (codes "keyval") d);
+      identity = text_at (codes "identity") (member_at (codes "keyval") d);
+      issuer = text_at (codes "issuer") (member_at (codes "keyval") d);
     }))
     None
 
@@ -87,10 +88,17 @@ key_object_reads d = go (is_some (as_object d)) refl
         → Finds (IsKeyObject d)
         (cond b (Some (record {
           keytype = text_at (codes "keytype") (Some d);
-          scheme =
-              text_at (codes "scheme") (Some d);
-          public =
-              text_at (codes "public") (member_at (codes "keyval") d);
+          scheme = text_at (codes "scheme") (Some d);
+          public = text_at (codes "public") (member_at (codes "keyval") d);
+          identity = text_at (codes "identity") (member_at (codes "keyval") d);
+          issuer = text_at (codes "issuer") (member_at (codes "keyval") d);
         })) None)
-    go true e = record { is_object = e; keytype = refl; scheme = refl; public = refl }
+    go true e = record {
+      is_object = e;
+      keytype = refl;
+      scheme = refl;
+      public = refl;
+      identity = refl;
+      issuer = refl;
+    }
     go false e = λ object h. true≢false (sym h.is_object ∙ e)

@@ -1,4 +1,4 @@
--- Key objects (in-toto 1.0 section 4.2).
+-- Key objects (in-toto 1.0 section 4.2; identity and issuer, TAP 18).
 use Rattle.std.specs.Prelude.{◌≡◌, ℕ, List, [], IsTrue, is_some, Option, Some, codes}
 use Rattle.std.specs.Prelude.{option_and_then, unwrap_or}
 use Rattle.serde_json.specs.Data.{Data}
@@ -16,3 +16,5 @@ pub record IsKeyObject (d : Data) (object : KeyObject) : Type 0 where
   pub keytype : object.keytype ≡ text_at (codes "keytype") (Some d)
   pub scheme : object.scheme ≡ text_at (codes "scheme") (Some d)
   pub public : object.public ≡ text_at (codes "public") (member_at (codes "keyval") d)
+  pub identity : object.identity ≡ text_at (codes "identity") (member_at (codes "keyval") d)
+  pub issuer : object.issuer ≡ text_at (codes "issuer") (member_at (codes "keyval") d)

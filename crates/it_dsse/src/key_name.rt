@@ -1,5 +1,5 @@
 //! Names of keys.
-ghost use Rattle.std.specs.Prelude.{◌≡◌, ◌&&◌, nat_eq};
+ghost use Rattle.std.specs.Prelude.{◌≡◌, ◌&&◌, ◌≤◌, length, nat_eq};
 ghost use Rattle.std.proofs.Common.{rules};
 ghost use Rattle.std.specs.Cmp.{partial_order_from_own_ties};
 ghost use Rattle.std.specs.Cmp.Rules.{comparing};
@@ -9,13 +9,16 @@ ghost use Rattle.it_numbers.specs.Bytes.{big};
 use std::cmp::Ordering;
 use std::marker::Model;
 
-/// The name of a key: a place and a number of up to 560 bytes. To a contract it is the pair of the
+/// The most bytes of the number of a key.
+const MOST_BYTES: usize = 1029;
+
+/// The name of a key: a place and a number of up to 1,029 bytes. To a contract it is the pair of the
 /// two, so names with the same place and number are the same.
 #[derive(Drop)]
 pub struct KeyName {
     place: usize,
     /// The number, highest byte first.
-    number: [u8; 560],
+    number: [u8; MOST_BYTES],
 }
 
 impl Model for KeyName {
@@ -32,21 +35,19 @@ impl KeyName {
     pub fn numbered(place: usize, number: u32) -> KeyName
         ensures { result ≡ (place, number) }
     {
-        let mut bytes = [0; 560];
-        bytes[556..].copy_from_slice(&number.to_be_bytes());
-        KeyName {
-            place,
-            number: bytes,
-        }
+        KeyName::of(place, &number.to_be_bytes())
     }
 
     /// The name of a key whose number these bytes make, highest first.
-    pub fn of(place: usize, number: &[u8; 560]) -> KeyName
+    pub fn of(place: usize, number: &[u8]) -> KeyName
+        requires { length number.now ≤ 1029 }
         ensures { result ≡ (place, big number.now) }
     {
+        let mut bytes = [0; MOST_BYTES];
+        bytes[MOST_BYTES - number.len()..].copy_from_slice(number);
         KeyName {
             place,
-            number: *number,
+            number: bytes,
         }
     }
 
@@ -61,13 +62,13 @@ impl KeyName {
     }
 }
 
-fn is_same_number(one: &[u8; 560], other: &[u8; 560]) -> bool
+fn is_same_number(one: &[u8; MOST_BYTES], other: &[u8; MOST_BYTES]) -> bool
     ensures { result ≡ nat_eq (big one.now) (big other.now) }
 {
     one == other
 }
 
-fn compared(one: &[u8; 560], other: &[u8; 560]) -> Ordering
+fn compared(one: &[u8; MOST_BYTES], other: &[u8; MOST_BYTES]) -> Ordering
     ensures { result ≡ nat_cmp (big one.now) (big other.now) }
 {
     one.cmp(other)

@@ -20,6 +20,10 @@ pub struct KeyObject {
     pub scheme: Text,
     /// The public part of the key, in the scheme's own form.
     pub public: Text,
+    /// Who signs, where the key is that of an identity.
+    pub identity: Text,
+    /// Who says that it is they, where the key is that of an identity.
+    pub issuer: Text,
 }
 
 impl FromDocument for KeyObject {
@@ -30,10 +34,13 @@ impl FromDocument for KeyObject {
         if !value.is_object() {
             return Ok(None);
         }
+        let keyval = member(value, "keyval");
         Ok(Some(KeyObject {
             keytype: text_or_empty(alloc, Some(value), "keytype")?,
             scheme: text_or_empty(alloc, Some(value), "scheme")?,
-            public: text_or_empty(alloc, member(value, "keyval"), "public")?,
+            public: text_or_empty(alloc, keyval, "public")?,
+            identity: text_or_empty(alloc, keyval, "identity")?,
+            issuer: text_or_empty(alloc, keyval, "issuer")?,
         }))
     }
 }

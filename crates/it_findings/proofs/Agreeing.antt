@@ -8,7 +8,7 @@ use Rattle.serde_json.specs.Find.{as_str}
 use Rattle.it_base.specs.Document.{member_at}
 use Rattle.it_base.specs.Finds.{Finds}
 use Rattle.it_base.specs.Parts.{IsPart, IsPartOr}
-use Rattle.it_findings.specs.Laws.{AgreeOn, IsPublicPart, LooksOnlyAt, LooksOnlyThere}
+use Rattle.it_findings.specs.Laws.{AgreeOn, IsKeyValue, LooksOnlyAt, LooksOnlyThere}
 use Rattle.it_findings.specs.Laws.{NobodyLooksAtMore, link_names, provenance_names, statement_names}
 use Rattle.it_findings.specs.Laws.{subject_names}
 use Rattle.it_findings.specs.MemberNames.{read_names}
@@ -137,12 +137,18 @@ key k d e x agree h =
       keytype = h.keytype ∙ ap text (m 0 (omega arith));
       scheme = h.scheme ∙ ap text (m 1 (omega arith));
       public = h.public ∙ ap (text_at (codes "public")) (m 2 (omega arith));
+      identity = h.identity ∙ ap (text_at (codes "identity")) (m 2 (omega arith));
+      issuer = h.issuer ∙ ap (text_at (codes "issuer")) (m 2 (omega arith));
     }
 
-keyval : (key : KeyPlace) → LooksOnlyThere (places.KeyValue key) IsPublicPart
+keyval : (key : KeyPlace) → LooksOnlyThere (places.KeyValue key) IsKeyValue
 keyval k d e x agree h =
     let m = member (read_names (places.KeyValue k)) d e agree in
-    h ∙ ap text (m 0 (omega arith))
+    record {
+      public = h.public ∙ ap text (m 0 (omega arith));
+      identity = h.identity ∙ ap text (m 1 (omega arith));
+      issuer = h.issuer ∙ ap text (m 2 (omega arith));
+    }
 
 link : LooksOnlyAt link_names IsLink
 link d e x agree h =

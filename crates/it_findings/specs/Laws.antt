@@ -5,6 +5,7 @@ use Rattle.serde_json.specs.Data.{Data}
 use Rattle.serde_json.specs.Find.{as_object}
 use Rattle.it_base.specs.Document.{member_at}
 use Rattle.it_dsse.specs.KeyObject.{IsKeyObject, text_at}
+use Rattle.it_dsse.specs.declared.key_object.KeyObject.{KeyObject}
 use Rattle.it_docs.specs.Layout.{IsLayout}
 use Rattle.it_docs.specs.Link.{IsLink}
 use Rattle.it_docs.specs.Policy.{IsBuilderOf, IsExpectation, IsPolicy}
@@ -28,9 +29,11 @@ LooksOnlyAt {X = X} names Is = (d e : Data) (x : X) → AgreeOn names d e → Is
 abbrev pub LooksOnlyThere : {X : Type 0} → Place → (Data → X → Type 0) → Type 0
 LooksOnlyThere place Is = LooksOnlyAt (read_names place) Is
 
--- the public part of a key object, by its keyval
-abbrev pub IsPublicPart : Data → List ℕ → Type 0
-IsPublicPart keyval public = public ≡ text_at (codes "public") (Some keyval)
+-- what a key object has of its keyval
+pub record IsKeyValue (keyval : Data) (object : KeyObject) : Type 0 where
+  pub public : object.public ≡ text_at (codes "public") (Some keyval)
+  pub identity : object.identity ≡ text_at (codes "identity") (Some keyval)
+  pub issuer : object.issuer ≡ text_at (codes "issuer") (Some keyval)
 
 -- the names that are looked at in a link (in-toto 1.0 section 4.4), in a Statement and its subjects
 -- (in-toto Attestation Statement v1), and in provenance (SLSA Provenance v1)
@@ -57,7 +60,7 @@ pub record NobodyLooksAtMore : Type 0 where
   pub step : (n : ℕ) → LooksOnlyThere (places.Step n) IsStep
   pub inspection : (n : ℕ) → LooksOnlyThere (places.Inspection n) IsInspection
   pub key : (key : KeyPlace) → LooksOnlyThere (places.Key key) IsKeyObject
-  pub keyval : (key : KeyPlace) → LooksOnlyThere (places.KeyValue key) IsPublicPart
+  pub keyval : (key : KeyPlace) → LooksOnlyThere (places.KeyValue key) IsKeyValue
   pub link : LooksOnlyAt link_names IsLink
   pub statement : LooksOnlyAt statement_names IsStatement
   pub subject : LooksOnlyAt subject_names IsSubject

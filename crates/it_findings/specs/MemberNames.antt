@@ -21,7 +21,7 @@ read_names (Step n) =
 read_names (Inspection n) =
     codes "name" ∷ codes "expected_materials" ∷ codes "expected_products" ∷ []
 read_names (Key key) = codes "keytype" ∷ codes "scheme" ∷ codes "keyval" ∷ []
-read_names (KeyValue key) = codes "public" ∷ []
+read_names (KeyValue key) = codes "public" ∷ codes "identity" ∷ codes "issuer" ∷ []
 
 -- further members that in-toto 1.0 (sections 4.2 and 4.3) or its implementations know and that are
 -- not looked at

@@ -30,7 +30,7 @@ pub fn read_names(place: &Place) -> &'static [&'static str]
         ],
         Place::Inspection(_) => &["name", "expected_materials", "expected_products"],
         Place::Key(_) => &["keytype", "scheme", "keyval"],
-        Place::KeyValue(_) => &["public"],
+        Place::KeyValue(_) => &["public", "identity", "issuer"],
     }
 }
 

@@ -53,16 +53,22 @@ key_object text (Ed25519 key) = record {
   keytype = codes "ed25519";
   scheme = codes "ed25519";
   public = encode_lower key;
+  identity = [];
+  issuer = [];
 }
 key_object text (P256 key) = record {
   keytype = codes "ecdsa";
   scheme = codes "ecdsa-sha2-nistp256";
   public = text;
+  identity = [];
+  issuer = [];
 }
 key_object text (Rsa key) = record {
   keytype = codes "rsa";
   scheme = codes "rsassa-pss-sha256";
   public = text;
+  identity = [];
+  issuer = [];
 }
 
 -- the file is a public key, and the object is its key object, which describes it

@@ -151,12 +151,16 @@ fn text_object(
       keytype = keytype.now;
       scheme = scheme.now;
       public = text.now;
+      identity = [];
+      issuer = [];
     }) }
 {
     Ok(KeyObject {
         keytype: Text::copy(alloc, keytype)?,
         scheme: Text::copy(alloc, scheme)?,
         public: Text::copy(alloc, text)?,
+        identity: Text::copy(alloc, "")?,
+        issuer: Text::copy(alloc, "")?,
     })
 }
 
@@ -170,6 +174,8 @@ fn ed25519_object(alloc: Global, key: &it_ed25519::PublicKey) -> Result<KeyObjec
         keytype: Text::copy(alloc, "ed25519")?,
         scheme: Text::copy(alloc, "ed25519")?,
         public: digits_of(alloc, key.as_bytes().as_slice())?,
+        identity: Text::copy(alloc, "")?,
+        issuer: Text::copy(alloc, "")?,
     })
 }
 

@@ -27,6 +27,8 @@ fn is_same(one: &KeyObject, other: &KeyObject) -> bool
     one.keytype.as_str() == other.keytype.as_str()
         && one.scheme.as_str() == other.scheme.as_str()
         && one.public.as_str() == other.public.as_str()
+        && one.identity.as_str() == other.identity.as_str()
+        && one.issuer.as_str() == other.issuer.as_str()
 }
 
 /// A text to look the keys up by. The same keys have the same text, and seldom have others it too,
@@ -42,6 +44,8 @@ pub(crate) fn text_of(alloc: Global, keys: &Table<KeyObject>) -> Result<String, 
         text.push_str(object.keytype.as_str())?;
         text.push_str(object.scheme.as_str())?;
         text.push_str(object.public.as_str())?;
+        text.push_str(object.identity.as_str())?;
+        text.push_str(object.issuer.as_str())?;
     }
     Ok(text)
 }

@@ -20,5 +20,7 @@ pub(crate) fn object_of(alloc: Global, scheme: &str) -> Result<KeyObject, AllocE
         keytype: Text::copy(alloc, "hmac")?,
         scheme: Text::copy(alloc, scheme)?,
         public: Text::copy(alloc, "")?,
+        identity: Text::copy(alloc, "")?,
+        issuer: Text::copy(alloc, "")?,
     })
 }

@@ -12,8 +12,8 @@ use std::marker::Model;
 /// The most bytes of the number of a key.
 const MOST_BYTES: usize = 1029;
 
-/// The name of a key: a place and a number of up to 1,029 bytes. To a contract it is the pair of the
-/// two, so names with the same place and number are the same.
+/// The name of a key: a place and a number of up to 1,029 bytes. To a contract it is the pair of
+/// the two, so names with the same place and number are the same.
 #[derive(Drop)]
 pub struct KeyName {
     place: usize,

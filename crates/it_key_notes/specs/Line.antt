@@ -5,6 +5,7 @@ use Rattle.it_key_notes.specs.declared.reason.Reason.{Reason}
 use Rattle.it_key_notes.specs.declared.reason.Reason.TheVariants.{OtherScheme, NoSecret, PublicKey}
 use Rattle.it_key_notes.specs.declared.reason.Reason.TheVariants.{NoDigits, NoEd25519Key}
 use Rattle.it_key_notes.specs.declared.reason.Reason.TheVariants.{NoPemText, NoP256Key, NoRsaKey}
+use Rattle.it_key_notes.specs.declared.reason.Reason.TheVariants.{Identity, NoIdentity}
 use Rattle.it_key_notes.specs.declared.unknown_key.UnknownKey.{UnknownKey}
 
 -- what is said of the object
@@ -19,6 +20,8 @@ phrase_of NoP256Key =
     codes ": its PEM text is no P-256 key that is taken: an uncompressed point of the curve"
 phrase_of NoRsaKey =
     codes ": its PEM text is no RSA key that is taken: of 2,048 to 4,096 bits, in whole bytes"
+phrase_of Identity = codes ": an identity, which is checked with --trusted-root"
+phrase_of NoIdentity = codes ": its identity or its issuer is empty or has more than 512 bytes"
 
 -- the name that follows
 abbrev pub detail_of : Reason → List ℕ

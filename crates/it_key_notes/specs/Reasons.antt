@@ -5,6 +5,7 @@ use Rattle.std.specs.Result.{result_ok}
 use Rattle.hex.specs.Hex.{decode_sized}
 use Rattle.it_dsse.specs.declared.key_object.KeyObject.{KeyObject}
 use Rattle.it_ed25519.specs.PublicKey.{IsPublicKey}
+use Rattle.it_identity.specs.Identity.{IsShort}
 use Rattle.it_p256.specs.Key.{Key as P256Key, IsKey as IsP256Key, info_of as p256_info}
 use Rattle.it_pem.specs.PublicKeyText.{info_in}
 use Rattle.it_rsa.specs.Info.{info_of as rsa_info}
@@ -17,10 +18,12 @@ use Rattle.it_key_notes.specs.declared.reason.Reason.{Reason}
 use Rattle.it_key_notes.specs.declared.reason.Reason.TheVariants.{OtherScheme, NoSecret, PublicKey}
 use Rattle.it_key_notes.specs.declared.reason.Reason.TheVariants.{NoDigits, NoEd25519Key}
 use Rattle.it_key_notes.specs.declared.reason.Reason.TheVariants.{NoPemText, NoP256Key, NoRsaKey}
+use Rattle.it_key_notes.specs.declared.reason.Reason.TheVariants.{Identity, NoIdentity}
 
--- the scheme of a ring's keys, or one of those of public keys
+-- the scheme of a ring's keys, one of those of public keys, or that of identities
 abbrev pub IsCheckedScheme : List ℕ → Type 0
-IsCheckedScheme scheme = (scheme ≡ codes "hmac-sha256") ⊎ IsPublicScheme scheme
+IsCheckedScheme scheme =
+    (scheme ≡ codes "hmac-sha256") ⊎ IsPublicScheme scheme ⊎ (scheme ≡ codes "Fulcio")
 
 -- a scheme whose keys are PEM texts
 abbrev pub IsPemScheme : List ℕ → Type 0
@@ -70,6 +73,17 @@ module _ (object : KeyObject) where
     pub info_is : info_in object.public ≡ Some info
     pub no_key : (key : RsaKey) → IsRsaKey key → info ≡ rsa_info key → ⊥
 
+  -- it describes an identity (TAP 18)
+  pub record IsOfIdentity : Type 0 where
+    pub scheme_is : object.scheme ≡ codes "Fulcio"
+    pub name : IsShort object.identity
+    pub issuer : IsShort object.issuer
+
+  -- its scheme is that of identities, and it describes none
+  pub record HasNoIdentity : Type 0 where
+    pub scheme_is : object.scheme ≡ codes "Fulcio"
+    pub none : IsShort object.identity → IsShort object.issuer → ⊥
+
   -- the reason holds
   abbrev pub IsReason : Reason → Type 0
   IsReason (OtherScheme scheme) = IsOfOther scheme
@@ -80,3 +94,5 @@ module _ (object : KeyObject) where
   IsReason NoPemText = HasNoPemText
   IsReason NoP256Key = HasNoP256Key
   IsReason NoRsaKey = HasNoRsaKey
+  IsReason Identity = IsOfIdentity
+  IsReason NoIdentity = HasNoIdentity

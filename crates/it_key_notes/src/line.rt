@@ -43,6 +43,8 @@ fn phrase(reason: &Reason) -> &'static str
         Reason::NoRsaKey => {
             ": its PEM text is no RSA key that is taken: of 2,048 to 4,096 bits, in whole bytes"
         }
+        Reason::Identity => ": an identity, which is checked with --trusted-root",
+        Reason::NoIdentity => ": its identity or its issuer is empty or has more than 512 bytes",
     }
 }
 

@@ -20,4 +20,8 @@ pub enum Reason {
     NoP256Key,
     /// Its public part is a PEM text, of bytes that are no RSA key.
     NoRsaKey,
+    /// It describes an identity: those are checked only with a trusted root.
+    Identity,
+    /// Its scheme is that of identities, but its identity or its issuer is empty or too long.
+    NoIdentity,
 }

@@ -6,6 +6,7 @@ use crate::reason::Reason;
 use hex::FromHex;
 use it_base::text::Text;
 use it_dsse::key_object::KeyObject;
+use it_identity::Identity;
 use it_pem::public_key_info;
 use std::alloc::{AllocError, Global};
 
@@ -18,6 +19,7 @@ pub(crate) fn reason_of(alloc: Global, object: &KeyObject) -> Result<Reason, All
         "ed25519" => Ok(ed25519_reason(object)),
         "ecdsa-sha2-nistp256" => Ok(p256_reason(object)),
         "rsassa-pss-sha256" => Ok(rsa_reason(object)),
+        "Fulcio" => identity_reason(alloc, object),
         other => Ok(Reason::OtherScheme(Text::copy(alloc, other)?)),
     }
 }
@@ -58,5 +60,17 @@ fn rsa_reason(object: &KeyObject) -> Reason
     match it_rsa::PublicKey::from_info(info.as_bytes()) {
         Some(_) => Reason::PublicKey,
         None => Reason::NoRsaKey,
+    }
+}
+
+fn identity_reason(alloc: Global, object: &KeyObject) -> Result<Reason, AllocError>
+    requires { object.now.scheme ≡ codes "Fulcio" }
+    ensures { IfOk result (IsReason object.now) }
+{
+    let name = object.identity.as_str().as_bytes();
+    let issuer = object.issuer.as_str().as_bytes();
+    match Identity::of(alloc, name, issuer)? {
+        Some(_) => Ok(Reason::Identity),
+        None => Ok(Reason::NoIdentity),
     }
 }

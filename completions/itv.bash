@@ -7,11 +7,12 @@ _itv_values() {
         verify--links | verify--links=) compgen -d -- "$word" ;;
         verify--sums | verify--sums=) compgen -f -- "$word" ;;
         verify--ring | verify--ring=) compgen -f -- "$word" ;;
-        verify--public-keys) compgen -W '--policy --layout --links --sums --at --ring --public-keys --json --strict --summary --verifier --resource --provenance --records --depth --most-checks' -- "$word" ;;
+        verify--public-keys) compgen -W '--policy --layout --links --sums --at --ring --public-keys --trusted-root --json --strict --summary --verifier --resource --provenance --records --depth --most-checks' -- "$word" ;;
+        verify--trusted-root | verify--trusted-root=) compgen -f -- "$word" ;;
         verify--json=) compgen -W 2 -- "$word" ;;
-        verify--json) compgen -W '--policy --layout --links --sums --at --ring --public-keys --json --strict --summary --verifier --resource --provenance --records --depth --most-checks' -- "$word" ;;
-        verify--strict) compgen -W '--policy --layout --links --sums --at --ring --public-keys --json --strict --summary --verifier --resource --provenance --records --depth --most-checks' -- "$word" ;;
-        verify--summary) compgen -W '--policy --layout --links --sums --at --ring --public-keys --json --strict --summary --verifier --resource --provenance --records --depth --most-checks' -- "$word" ;;
+        verify--json) compgen -W '--policy --layout --links --sums --at --ring --public-keys --trusted-root --json --strict --summary --verifier --resource --provenance --records --depth --most-checks' -- "$word" ;;
+        verify--strict) compgen -W '--policy --layout --links --sums --at --ring --public-keys --trusted-root --json --strict --summary --verifier --resource --provenance --records --depth --most-checks' -- "$word" ;;
+        verify--summary) compgen -W '--policy --layout --links --sums --at --ring --public-keys --trusted-root --json --strict --summary --verifier --resource --provenance --records --depth --most-checks' -- "$word" ;;
         verify--provenance | verify--provenance=) compgen -f -- "$word" ;;
         verify--records | verify--records=) compgen -d -- "$word" ;;
         verify--depth | verify--depth=) compgen -W '0 1 2 3 4 5 6 7 8' -- "$word" ;;
@@ -48,7 +49,7 @@ _itv() {
         offered=$(_itv_values "$command$before")
     else
         case $command in
-            verify) offered=$(compgen -W '--policy --layout --links --sums --at --ring --public-keys --json --strict --summary --verifier --resource --provenance --records --depth --most-checks' -- "$word") ;;
+            verify) offered=$(compgen -W '--policy --layout --links --sums --at --ring --public-keys --trusted-root --json --strict --summary --verifier --resource --provenance --records --depth --most-checks' -- "$word") ;;
             check) offered=$(compgen -W '--policy --layout' -- "$word") ;;
             signed) offered=$(compgen -W '--ring --keys' -- "$word"; compgen -f -- "$word") ;;
             sign) offered=$(compgen -W '--ring --signature --keys --key --type --onto' -- "$word"; compgen -f -- "$word") ;;

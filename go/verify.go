@@ -16,8 +16,8 @@ import (
 // that it can say.
 const usualDepth, mostDepth = 4, 8
 
-// Delivery is what is verified, and by what. Policy, Layout, Sums and At are needed, and Rings or
-// PublicKeys.
+// Delivery is what is verified, and by what. Policy, Layout, Sums and At are needed, and Rings,
+// PublicKeys or TrustedRoot.
 type Delivery struct {
 	// Policy says who owns the layout, what may be delivered, and which provenance it needs.
 	Policy []byte
@@ -35,6 +35,9 @@ type Delivery struct {
 	Rings [][]byte
 	// PublicKeys says that signatures are checked by public keys too, after the rings.
 	PublicKeys bool
+	// TrustedRoot is the trusted root of Sigstore, by which lines of the provenance that are bundles
+	// are checked. Without it there is none.
+	TrustedRoot []byte
 	// Provenance has an envelope on each line. Without it there is none.
 	Provenance []byte
 	// Records has the records of inspections. Without it there are none.
@@ -168,6 +171,10 @@ func (delivery *Delivery) handOver() ([]string, map[string][]byte, error) {
 		name := fmt.Sprintf("ring-%d", number+1)
 		files[name] = ring
 		words = append(words, "--ring="+name)
+	}
+	if delivery.TrustedRoot != nil {
+		files["trusted-root"] = delivery.TrustedRoot
+		words = append(words, "--trusted-root=trusted-root")
 	}
 	if delivery.Provenance != nil {
 		files["provenance"] = delivery.Provenance

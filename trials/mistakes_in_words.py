@@ -84,7 +84,7 @@ def of_words():
     return [
         Mistake("--public-keys is forgotten",
                 lambda release: [word for word in release.verify() if word != "--public-keys"], 2,
-                ("--ring", "--public-keys")),
+                ("--ring", "--public-keys", "--trusted-root")),
         Mistake("--public-keys with a file", lambda release: release.verify("keys.json"), 2,
                 ("keys.json", "policy and layout")),
         Mistake("a ring that is a PEM", lambda release: release.verify("--ring", "keys/bob.pub"), 2,

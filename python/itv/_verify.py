@@ -101,8 +101,8 @@ def _moment(at):
 
 def verify(*, policy: Document, layout: Document, links: Folder, sums: Document,
            at: datetime.datetime, rings: Sequence[Document] = (), public_keys: bool = False,
-           provenance: Optional[Document] = None, records: Optional[Folder] = None,
-           strict: bool = False, depth: Optional[int] = None,
+           trusted_root: Optional[Document] = None, provenance: Optional[Document] = None,
+           records: Optional[Folder] = None, strict: bool = False, depth: Optional[int] = None,
            most_checks: Optional[int] = None) -> Verdict:
     """Whether the files of a digest list were made as the policy and the layout prescribe.
 
@@ -111,9 +111,10 @@ def verify(*, policy: Document, layout: Document, links: Folder, sums: Document,
     sublayouts. `sums` is the digest list of the delivered files, as `digest` makes it; `at` the moment
     at which no layout may have expired, a `datetime` with a zone, of which parts of a second are cut
     off. Signatures are checked by the `rings`, in their order, and then by `public_keys` where that is
-    true: one of both is needed. `provenance` has an envelope on each line, and `records` are those of
-    inspections. `depth` is how deep sublayouts may lie, 4 where it is not given; `most_checks` how many
-    signatures are checked by public keys at most, 20,000 where it is not.
+    true; lines of the provenance that are bundles by the `trusted_root` of Sigstore. One of the three
+    is needed. `provenance` has an envelope on each line, and `records` are those of inspections.
+    `depth` is how deep sublayouts may lie, 4 where it is not given; `most_checks` how many signatures
+    are checked by public keys at most, 20,000 where it is not.
 
     Raises `Stopped` where the command stops; with `strict` a `Found` where something is found in what
     would be accepted, with these `findings`.
@@ -126,6 +127,9 @@ def verify(*, policy: Document, layout: Document, links: Folder, sums: Document,
     for number, ring in enumerate(rings, 1):
         files[f"ring-{number}"] = bytes_of(ring, "a ring")
         words.append(f"--ring=ring-{number}")
+    if trusted_root is not None:
+        files["trusted-root"] = bytes_of(trusted_root, "trusted_root")
+        words.append("--trusted-root=trusted-root")
     if provenance is not None:
         files["provenance"] = bytes_of(provenance, "provenance")
         words.append("--provenance=provenance")

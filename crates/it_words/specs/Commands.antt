@@ -77,8 +77,8 @@ check_command =
     (plain_option (codes "layout"))
 
 -- verify --policy F --layout F --links DIR --sums F --at MOMENT, and what may be left out:
--- --ring F.. --public-keys --json[=N] --strict --summary --verifier ID --resource URI
--- --provenance F --records DIR --depth N --most-checks N
+-- --ring F.. --public-keys --trusted-root F --json[=N] --strict --summary --verifier ID
+-- --resource URI --provenance F --records DIR --depth N --most-checks N
 abbrev pub needed_of_verify : App
 needed_of_verify =
     with_rule (with_rule (with_rule (with_rule (with_rule (new_app (codes "verify"))
@@ -89,9 +89,9 @@ needed_of_verify =
 abbrev pub verify_command : App
 verify_command =
     with_rule (with_rule (with_rule (with_rule (with_rule (with_rule (with_rule (with_rule
-    (with_rule (with_rule (with_rule
+    (with_rule (with_rule (with_rule (with_rule
     needed_of_verify (plain_options (codes "ring"))) (bare_option (codes "public-keys")))
-    json_option) (bare_option (codes "strict")))
+    (plain_option (codes "trusted-root"))) json_option) (bare_option (codes "strict")))
     (bare_option (codes "summary"))) (plain_option (codes "verifier")))
     (plain_option (codes "resource")))
     (plain_option (codes "provenance"))) (plain_option (codes "records"))) depth_option)

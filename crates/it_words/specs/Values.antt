@@ -155,9 +155,9 @@ pub record AreRings (given : Option (List Text)) (rings : List Text) : Type 0 wh
   pub same : rings ≡ unwrap_or given []
   pub few : length rings ≤ 8
 
--- some check of signatures is named: a ring, or that of public keys
-abbrev pub HasCheck : List Text → Bool → Type 0
-HasCheck rings public_keys = IsTrue (nat_lt 0 (length rings) || public_keys)
+-- some check of signatures is named: a ring, that of public keys, or a trusted root
+abbrev pub HasCheck : List Text → Bool → Option Text → Type 0
+HasCheck rings public_keys root = IsTrue (nat_lt 0 (length rings) || public_keys || is_some root)
 
 -- the form in which the report is asked for: in lines where nothing is given, as JSON where 1 is
 -- given, and as JSON with what is found and noted where 2 is
@@ -196,9 +196,10 @@ pub record IsVerify (values : List Row) (words : VerifyWords) : Type 0 where
   pub at : first_of (codes "at") values ≡ Some words.at
   pub rings : AreRings (all_of (codes "ring") values) words.rings
   pub public_keys : words.public_keys ≡ nat_lt 0 (count_of (codes "public-keys") values)
+  pub trusted_root : first_of (codes "trusted-root") values ≡ words.trusted_root
   pub output : IsAsked values words.output
   pub strict : words.strict ≡ (nat_lt 0 (count_of (codes "strict") values) || asks_summary values)
-  pub has_check : HasCheck words.rings words.public_keys
+  pub has_check : HasCheck words.rings words.public_keys words.trusted_root
   pub provenance : first_of (codes "provenance") values ≡ words.provenance
   pub records : first_of (codes "records") values ≡ words.records
   pub depth : IsDepth (one_of (codes "depth") values) words.depth

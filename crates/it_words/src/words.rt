@@ -76,9 +76,9 @@ pub enum Words {
     /// one is given at least.
     Check(CheckWords),
     /// `itv verify --policy F --layout F --links DIR --sums F --at MOMENT [--ring F..]
-    /// [--public-keys] [--json[=2]] [--strict] [--summary --verifier ID --resource URI]
-    /// [--provenance F] [--records DIR] [--depth N] [--most-checks N]`: whether delivered files
-    /// were made as the owners prescribed.
+    /// [--public-keys] [--trusted-root F] [--json[=2]] [--strict] [--summary --verifier ID
+    /// --resource URI] [--provenance F] [--records DIR] [--depth N] [--most-checks N]`: whether
+    /// delivered files were made as the owners prescribed.
     Verify(VerifyWords),
 }
 
@@ -106,7 +106,7 @@ impl From<AllocError> for WordsFault {
 ///
 /// No command asks for help: `--help`, `-h`, `help` and `--version` do not parse, and the fault's
 /// text shows what does. The depth of a verification is at most 8, and it has at most 8 rings, and
-/// at least one where public keys are not checked.
+/// at least one where public keys are not checked and there is no trusted root.
 ///
 /// # Errors
 ///

@@ -45,7 +45,7 @@ fn misfit(command: &str, values: &[String]) -> &'static str {
         ("verify", has_ring) => match misfit_of_summary(values) {
             Some(misfit) => misfit,
             None if has_ring => "the option '--ring <F>' is given more than 8 times",
-            None => "neither '--ring <F>' nor '--public-keys' is given",
+            None => "none of '--ring <F>', '--public-keys' and '--trusted-root <F>' is given",
         },
         ("signed", true) => "the options '--ring <F>' and '--keys <F>' are both given",
         ("signed", false) => "neither '--ring <F>' nor '--keys <F>' is given",

@@ -150,6 +150,7 @@ const VERIFY: CommandRow = CommandRow {
         Argument::NeededOption("at", "MOMENT"),
         Argument::PlainOptions("ring", "F"),
         Argument::BareOption("public-keys"),
+        Argument::PlainOption("trusted-root", "F"),
         Argument::JsonForm,
         Argument::BareOption("strict"),
         Argument::BareOption("summary"),

@@ -17,44 +17,46 @@ pub(super) static USAGES: [Usage; 11] = [
 pub(super) const VERIFY: Usage = Usage {
     name: "verify",
     line: "itv verify --policy F --layout F --links DIR --sums F --at MOMENT [--ring F..]
-    [--public-keys] [--json[=2]] [--strict] [--summary --verifier ID
-    --resource URI] [--provenance F] [--records DIR] [--depth N]
+    [--public-keys] [--trusted-root F] [--json[=2]] [--strict] [--summary
+    --verifier ID --resource URI] [--provenance F] [--records DIR] [--depth N]
     [--most-checks N]",
     text: "    Writes the report of the verification: the line accepted with each step and
     each file, or the line refused with the first thing that does not hold.
-      --policy F       The policy: the owners of the layout, what may be
-                       delivered, and which provenance each file must have.
-      --layout F       The envelope of the layout.
-      --links DIR      The folder of the signed links, and of the folders of
-                       sublayouts.
-      --sums F         The digest list of the delivered files, as itv digest or
-                       sha256sum writes it.
-      --at MOMENT      The moment at which no layout may have expired, as
-                       2029-12-31T00:00:00Z.
-      --ring F         A ring of secrets, at most eight of them; the first ring
-                       that has an id decides what its key is. May be left out
-                       with --public-keys.
-      --public-keys    Checks signatures by the public keys in the policy and
-                       in the layouts too, after the rings.
-      --json[=2]       Writes the report as one JSON object; with =2 also what
-                       is found and noted.
-      --strict         Refuses what would be accepted, with status 2, where
-                       something is found in the policy, in the layout or in a
-                       sublayout, as itv check finds it, an expectation is
-                       unused, or a delivered file is tied to no step.
-      --summary        Writes the body of a SLSA verification summary in place
-                       of a report that accepts, for itv sign to sign; the
-                       report of a refusal goes to standard error. It implies
-                       --strict and excludes --json.
-      --verifier ID    With --summary, the id of who verifies, a URI.
-      --resource URI   With --summary, the URI of what is verified.
-      --provenance F   The provenance, one envelope a line.
-      --records DIR    The folder of the records of inspections, link bodies
-                       without envelopes.
-      --depth N        How deep sublayouts may lie, from 0 to 8; 4 where it is
-                       not given.
-      --most-checks N  With --public-keys, how many signatures are checked by
-                       such keys at most; 20000 where it is not given.",
+      --policy F        The policy: the owners of the layout, what may be
+                        delivered, and which provenance each file must have.
+      --layout F        The envelope of the layout.
+      --links DIR       The folder of the signed links, and of the folders of
+                        sublayouts.
+      --sums F          The digest list of the delivered files, as itv digest
+                        or sha256sum writes it.
+      --at MOMENT       The moment at which no layout may have expired, as
+                        2029-12-31T00:00:00Z.
+      --ring F          A ring of secrets, at most eight of them; the first
+                        ring that has an id decides what its key is. May be
+                        left out with --public-keys or --trusted-root.
+      --public-keys     Checks signatures by the public keys in the policy and
+                        in the layouts too, after the rings.
+      --trusted-root F  The trusted root of Sigstore, by which lines of the
+                        provenance that are bundles are checked.
+      --json[=2]        Writes the report as one JSON object; with =2 also what
+                        is found and noted.
+      --strict          Refuses what would be accepted, with status 2, where
+                        something is found in the policy, in the layout or in a
+                        sublayout, as itv check finds it, an expectation is
+                        unused, or a delivered file is tied to no step.
+      --summary         Writes the body of a SLSA verification summary in place
+                        of a report that accepts, for itv sign to sign; the
+                        report of a refusal goes to standard error. It implies
+                        --strict and excludes --json.
+      --verifier ID     With --summary, the id of who verifies, a URI.
+      --resource URI    With --summary, the URI of what is verified.
+      --provenance F    The provenance, one envelope a line.
+      --records DIR     The folder of the records of inspections, link bodies
+                        without envelopes.
+      --depth N         How deep sublayouts may lie, from 0 to 8; 4 where it is
+                        not given.
+      --most-checks N   With --public-keys, how many signatures are checked by
+                        such keys at most; 20000 where it is not given.",
 };
 
 /// The usage of `itv check`.

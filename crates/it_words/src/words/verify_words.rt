@@ -25,10 +25,12 @@ pub struct VerifyWords {
     /// The moment at which no layout may have expired.
     pub at: Text,
     /// The paths of the rings' files, in the order of the words; there are at most 8, and none only
-    /// where public keys are checked.
+    /// where public keys are checked or there is a trusted root.
     pub rings: Sequence<Text>,
     /// Whether signatures are checked by public keys too.
     pub public_keys: bool,
+    /// The path of the file of the trusted root, by which bundles are checked, where there is one.
+    pub trusted_root: Option<Text>,
     /// What is asked for on standard output.
     pub output: AskedOutput,
     /// Whether nothing is accepted against which findings stand, as it is where a summary is asked
@@ -45,14 +47,15 @@ pub struct VerifyWords {
 }
 
 /// The command's values, or `Unfit` where one is missing, there are more than 8 rings, there is no
-/// ring and no public keys, or the words of a summary do not fit together.
+/// ring, no public keys and no trusted root, or the words of a summary do not fit together.
 pub(super) fn read(values: &Values<'_, '_>) -> Result<VerifyWords, ValuesFault>
     ensures found { IfOk result (IsVerify values.now) }
     ensures unfit { IfErr result (FitsNone (IsVerify values.now)) }
 {
     let rings = values.any("ring")?;
     let public_keys = values.is_given("public-keys");
-    if !are_checks(rings.as_slice(), public_keys) {
+    let trusted_root = values.optional("trusted-root")?;
+    if !are_checks(rings.as_slice(), public_keys, &trusted_root) {
         return Err(ValuesFault::Unfit);
     }
     Ok(VerifyWords {
@@ -63,6 +66,7 @@ pub(super) fn read(values: &Values<'_, '_>) -> Result<VerifyWords, ValuesFault>
         at: values.needed("at")?,
         rings,
         public_keys,
+        trusted_root,
         output: asked(values)?,
         strict: values.is_given("strict") || values.is_given("summary"),
         provenance: values.optional("provenance")?,
@@ -72,11 +76,12 @@ pub(super) fn read(values: &Values<'_, '_>) -> Result<VerifyWords, ValuesFault>
     })
 }
 
-/// Whether there are at most 8 rings, and at least one where public keys are not checked.
-fn are_checks(rings: &[Text], public_keys: bool) -> bool
-    ensures { IsTrue result ↔ ((length rings.now ≤ 8) × HasCheck rings.now public_keys) }
+/// Whether there are at most 8 rings, and at least one where public keys are not checked and there
+/// is no trusted root.
+fn are_checks(rings: &[Text], public_keys: bool, root: &Option<Text>) -> bool
+    ensures { IsTrue result ↔ ((length rings.now ≤ 8) × HasCheck rings.now public_keys root.now) }
 {
-    rings.len() <= MOST_RINGS && (!rings.is_empty() || public_keys)
+    rings.len() <= MOST_RINGS && (!rings.is_empty() || public_keys || root.is_some())
 }
 
 /// What is asked for on standard output, or `Unfit` where a word of a summary is missing, or stands

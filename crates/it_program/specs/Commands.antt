@@ -2,6 +2,7 @@
 use Rattle.std.specs.Prelude.{◌≡◌, ℕ, List, Option, IsTrue}
 use Rattle.std.specs.Io.KnownBytes.{Appends}
 use Rattle.std.specs.List.{AllZip}
+use Rattle.it_dsse.specs.Check.{Check}
 use Rattle.it_dsse.specs.Panel.{panel_of}
 use Rattle.it_dsse.specs.declared.ring_entry.RingEntry.{RingEntry}
 use Rattle.it_commands.specs.MatchOutput.{IsMatchOutput}
@@ -11,8 +12,9 @@ use Rattle.it_verify_command.specs.declared.output_form.OutputForm.TheVariants.{
 use Rattle.it_verify_command.specs.declared.output_form.OutputForm.TheVariants.{Summary}
 use Rattle.it_verify_command.specs.Strictly.{HasFindings, StandsStrictly}
 use Rattle.it_verify_command.specs.VerifyOutputIn.{IsVerifyOutputIn}
-use Rattle.it_public_keys.specs.OwnChecks.{own_checks}
+use Rattle.it_command_checks.specs.CommandChecks.{command_checks}
 use Rattle.it_verify.specs.declared.inputs.Inputs.{Inputs}
+use Rattle.it_vouched.specs.declared.vouched.Vouched.{Vouched}
 use Rattle.it_outcome.specs.declared.outcome.Status.{Status}
 use Rattle.it_outcome.specs.declared.outcome.Status.TheVariants.{Good}
 use Rattle.it_words.specs.declared.words.Words.{Words}
@@ -42,19 +44,26 @@ form_asked (asked.Report form) = report_asked form
 form_asked (asked.Summary words) =
     Summary (record { verifier = words.verifier; resource = words.resource })
 
--- verify: the output of verifying the inputs, checked by the rings in the order of the words, and
--- then, where they are asked for, by public keys; with --strict, nothing is found in what is
--- accepted
+-- what a verification is given: its inputs, and the checks, which are those of the rings in the
+-- order of the words, then, where they are asked for, of public keys, and then, where a trusted root
+-- is given, of what the provenance vouches for
+pub record AreGiven (disk : Holdings) (words : VerifyWords) (inputs : Inputs) (checks : List Check)
+    : Type 0 where
+  pub vouched : Option (List Vouched)
+  pub are_inputs : AreInputs disk words inputs vouched
+  pub rings : List (List RingEntry)
+  pub holds_rings : AllZip (HoldsRing disk) words.rings rings
+  pub checks_are : checks ≡ command_checks rings words.public_keys vouched
+
+-- verify: the output of verifying the inputs by the checks; with --strict, nothing is found in what
+-- is accepted
 pub record Verifies (disk : Holdings) (words : VerifyWords) (text : List ℕ)
     (status : Status) : Type 0 where
   pub inputs : Inputs
-  pub are_inputs : AreInputs disk words inputs
-  pub rings : List (List RingEntry)
-  pub holds_rings : AllZip (HoldsRing disk) words.rings rings
-  pub is_output : IsVerifyOutputIn (form_asked words.output)
-      (panel_of (own_checks rings words.public_keys)) inputs text status
-  pub stands : IsTrue words.strict → status ≡ Good
-      → StandsStrictly (panel_of (own_checks rings words.public_keys)) inputs
+  pub checks : List Check
+  pub given : AreGiven disk words inputs checks
+  pub is_output : IsVerifyOutputIn (form_asked words.output) (panel_of checks) inputs text status
+  pub stands : IsTrue words.strict → status ≡ Good → StandsStrictly (panel_of checks) inputs
 
 -- verify --strict: all that was prescribed holds of the inputs, and something is found; with
 -- --json=2 that is what went out
@@ -62,12 +71,10 @@ pub record FindsAgainst (disk : Holdings) (words : VerifyWords) (old new : Optio
     : Type 0 where
   pub is_strict : IsTrue words.strict
   pub inputs : Inputs
-  pub are_inputs : AreInputs disk words inputs
-  pub rings : List (List RingEntry)
-  pub holds_rings : AllZip (HoldsRing disk) words.rings rings
+  pub checks : List Check
+  pub given : AreGiven disk words inputs checks
   pub text : List ℕ
-  pub has_findings : HasFindings (form_asked words.output)
-      (panel_of (own_checks rings words.public_keys)) inputs text
+  pub has_findings : HasFindings (form_asked words.output) (panel_of checks) inputs text
   pub goes_out : form_asked words.output ≡ Full → Appends old new text
 
 -- what a command writes and finds

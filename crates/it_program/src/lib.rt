@@ -13,6 +13,8 @@
 
 mod asked;
 mod command_line;
+mod given;
+mod provenance;
 mod running;
 mod size_note;
 mod status;

@@ -19,14 +19,11 @@ returns-clause-ok g c = elim c.told_spent.ensures [
   | inl same ↦ rw same (both _ _ _ c.verify_as_asked-outcome.result (λ status told stands. (
     told.0,
     record {
-      inputs = c.in_ok-inputs.inputs;
-      are_inputs = c.in_ok-inputs.ensures;
-      rings = c.in_ok-rings.rings.items;
-      holds_rings = search rules;
-      is_output = rw (c.in_ok-asked.ensures.form, c.new-checks.ensures.rings, c.new-checks.ensures.public_keys)
-          at told.1;
-      stands = rw (c.in_ok-asked.ensures.strict, c.new-checks.ensures.rings, c.new-checks.ensures.public_keys)
-          at stands;
+      inputs = c.in_ok-given.given.inputs;
+      checks = _;
+      given = c.in_ok-given.ensures;
+      is_output = rw c.in_ok-asked.ensures.form at told.1;
+      stands = rw c.in_ok-asked.ensures.strict at stands;
     },
     told.2,
   )) c.verify_as_asked-outcome.ensures.ok c.verify_as_asked-outcome.ensures.stands)
@@ -45,13 +42,11 @@ returns-clause-findings g c = λ is. elim c.told_spent.ensures [
   | inl same ↦ (let told = c.verify_as_asked-outcome.ensures.findings (sym same ∙ is) in
       record {
         is_strict = rw c.in_ok-asked.ensures.strict at told.0;
-        inputs = c.in_ok-inputs.inputs;
-        are_inputs = c.in_ok-inputs.ensures;
-        rings = c.in_ok-rings.rings.items;
-        holds_rings = search rules;
+        inputs = c.in_ok-given.given.inputs;
+        checks = _;
+        given = c.in_ok-given.ensures;
         text = told.1;
-        has_findings = rw (c.in_ok-asked.ensures.form, c.new-checks.ensures.rings, c.new-checks.ensures.public_keys)
-            at told.2;
+        has_findings = rw c.in_ok-asked.ensures.form at told.2;
         goes_out = rw c.in_ok-asked.ensures.form at told.3;
       })
   | inr spent ↦ cc (spent.1, is)

@@ -1,6 +1,6 @@
 use Rattle.std.proofs.Common.{IsNone, IsTrue, Option, refl, subst, ℕ}
 use Rattle.it_limits.specs.Limit.{IsWithinLimit}
-use Rattle.it_program.proofs.verify_command.refuse_too_many.Goals as goal
+use Rattle.it_program.proofs.given.refuse_too_many.Goals as goal
 
 pub returns-in-None : goal.returns-in-None
 returns-in-None c = λ limited.

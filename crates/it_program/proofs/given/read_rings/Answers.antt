@@ -2,7 +2,7 @@ use Rattle.std.proofs.Common.{◌≡◌, ◌∙◌, ◌+◌, ◌++◌, [], ◌�
 use Rattle.std.proofs.lemmas.List.{take_more}
 use Rattle.it_disk.specs.Reading.{HoldsRing}
 use Rattle.it_file_commands.proofs.Pairs.{with_last}
-use Rattle.it_program.proofs.verify_command.read_rings.Goals as goal
+use Rattle.it_program.proofs.given.read_rings.Goals as goal
 
 pub loop-path-preserved : goal.loop-path-preserved
 loop-path-preserved g c =

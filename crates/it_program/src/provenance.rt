@@ -1,0 +1,90 @@
+//! The provenance of a verification.
+ghost use Rattle.std.specs.Prelude.{◌≡◌, IfOk};
+ghost use Rattle.it_program.specs.Inputs.{AreEnvelopes, AreLookedAt, AreVouchedBy, IsProvenance};
+
+use it_base::sequence::Sequence;
+use it_base::text::Text;
+use it_disk::{Disk, Fault, LeftOut, bytes_if_given, read_trusted_root};
+use it_limits::lines_within_limit;
+use it_unwrapped::unwrapped_lines;
+use it_vouched::VouchedLines;
+use it_vouches::Trust;
+use it_words::words::verify_words::VerifyWords;
+use std::alloc::{AllocError, Global};
+
+/// The provenance as it is looked at, and what it vouches for.
+#[derive(Drop)]
+pub(crate) struct Provenance {
+    /// The lines that are looked at. With a trusted root each bundle is replaced by its envelope.
+    pub(crate) lines: Sequence<u8>,
+    /// What the lines that were read vouch for, where a trusted root is given.
+    pub(crate) vouched: Option<VouchedLines>,
+}
+
+/// The provenance that the words name, or none where they name no file. With public keys its lines
+/// that have too many signatures are added to what is left out.
+pub(crate) fn provenance<R: Disk + AllocGlobal>(
+    rt: &R,
+    words: &VerifyWords,
+    left_out: &mut Vec<LeftOut>,
+) -> Result<Provenance, Fault>
+    ensures { IfOk result (λ provenance. IsProvenance (R.holdings rt.now) words.now
+        provenance.lines provenance.vouched) }
+{
+    let read = bytes_if_given(rt, &words.provenance)?;
+    let vouched = vouched(rt, &words.trusted_root, read.as_slice())?;
+    let envelopes = envelopes(rt.alloc(), &words.trusted_root, read)?;
+    let lines = looked_at(rt.alloc(), words.public_keys, envelopes, left_out)?;
+    Ok(Provenance { lines, vouched })
+}
+
+/// What the lines vouch for by the trusted root at the path, where one is given.
+fn vouched<R: Disk + AllocGlobal>(
+    rt: &R,
+    path: &Option<Text>,
+    read: &[u8],
+) -> Result<Option<VouchedLines>, Fault>
+    ensures { IfOk result (AreVouchedBy (R.holdings rt.now) path.now read.now) }
+{
+    let Some(path) = path else {
+        return Ok(None);
+    };
+    let root = read_trusted_root(rt, path.as_str())?;
+    let trust = Trust::of(rt.alloc(), &root)?;
+    let vouched = VouchedLines::of(rt.alloc(), &trust, read)?;
+    Ok(Some(vouched))
+}
+
+/// The lines as envelopes: where a trusted root is given, that of each bundle in its place.
+fn envelopes(
+    alloc: Global,
+    trusted_root: &Option<Text>,
+    read: Sequence<u8>,
+) -> Result<Sequence<u8>, AllocError>
+    ensures { IfOk result (AreEnvelopes trusted_root.now read) }
+{
+    match trusted_root {
+        None => Ok(read),
+        Some(_) => unwrapped_lines(alloc, read.as_slice()),
+    }
+}
+
+/// The lines that are looked at. Where signatures are limited, those that have too many are added
+/// to what is left out.
+fn looked_at(
+    alloc: Global,
+    limited: bool,
+    envelopes: Sequence<u8>,
+    left_out: &mut Vec<LeftOut>,
+) -> Result<Sequence<u8>, AllocError>
+    ensures { IfOk result (AreLookedAt limited envelopes) }
+{
+    if !limited {
+        return Ok(envelopes);
+    }
+    let within = lines_within_limit(alloc, envelopes.as_slice())?;
+    for over in within.left_out.as_slice() {
+        left_out.push(LeftOut::Line(*over))?;
+    }
+    Ok(within.lines)
+}

@@ -48,7 +48,7 @@ impl Identity {
 }
 
 /// Whether a text has 1 to 512 bytes.
-pub(crate) fn is_short(text: &[u8]) -> bool
+pub fn is_short(text: &[u8]) -> bool
     ensures { IsTrue result ↔ IsShort text.now }
 {
     !text.is_empty() && text.len() <= MOST_BYTES

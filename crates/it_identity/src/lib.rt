@@ -7,5 +7,5 @@ mod key_object;
 pub mod laws;
 mod name;
 
-pub use identity::Identity;
-pub use name::{IdentityName, identity_name};
+pub use identity::{Identity, is_short};
+pub use name::{IdentityName, identity_name, name_of_texts};

@@ -1,6 +1,6 @@
 //! Names of identities, whose numbers are those of the identities.
 ghost use Rattle.std.specs.Prelude.{◌≡◌, ◌+◌, ◌++◌, ◌≤◌, length, take, drop};
-ghost use Rattle.it_identity.specs.Identity.{IsIdentity};
+ghost use Rattle.it_identity.specs.Identity.{IsIdentity, IsShort};
 ghost use Rattle.it_identity.specs.Name.{identity_name};
 
 use crate::identity::Identity;
@@ -14,8 +14,15 @@ pub fn identity_name(identity: &Identity) -> IdentityName
     requires { IsIdentity identity.now }
     ensures { result ≡ identity_name identity.now }
 {
-    let name = identity.name.as_slice();
-    let issuer = identity.issuer.as_slice();
+    name_of_texts(identity.name.as_slice(), identity.issuer.as_slice())
+}
+
+/// The name of the identity that has these two texts. Takes no memory.
+pub fn name_of_texts(name: &[u8], issuer: &[u8]) -> IdentityName
+    requires name { IsShort name.now }
+    requires issuer { IsShort issuer.now }
+    ensures { result ≡ identity_name (record { name = name.now; issuer = issuer.now }) }
+{
     let mut bytes = [0; 1029];
     bytes[0] = 4;
     bytes[1] = (name.len() / 256) as u8;

@@ -16,9 +16,9 @@ use Rattle.it_vouches.specs.Vouches.{Vouches}
 use Rattle.it_vouches.proofs.Found.{IsAmong, IsOf, found_of, of_found}
 use Rattle.it_vouches.proofs.Loops.{any_of_contains}
 use Rattle.it_vouches.proofs.Vouching.{vouches_same}
-use Rattle.it_vouched.specs.Check.{IsValid, Says}
 use Rattle.it_vouched.specs.Line.{AreVouched, IsVouched, LineVouches, VouchesForNone}
 use Rattle.it_vouched.specs.declared.vouched.Vouched.{Vouched}
+use Rattle.it_vouched.proofs.Saying.{IsValid, Says}
 
 -- a line vouches for one identity, with one message and one signature
 pub record IsSame (i j : Identity) (m n s t : List ℕ) : Type 0 where
@@ -75,9 +75,6 @@ pub as_found : (root : TrustedRoot) (line : List ℕ) (found : Option Vouched) �
     → MatchOption found (VouchesForNone root line) (λ v. IsVouched root line v)
 as_found root line None finds = finds
 as_found root line (Some v) finds = finds
-
-pub identity_same : (x y : Identity) → x.name ≡ y.name → x.issuer ≡ y.issuer → x ≡ y
-identity_same x y name issuer = λ i. record { name = name i; issuer = issuer i }
 
 -- ---- reading a line
 pub no_bundle : (root : TrustedRoot) (line : List ℕ) → ((b : SigstoreBundle) → BundleOf line b → ⊥) → VouchesForNone root line

@@ -1,3 +1,4 @@
 pub mod Check
 pub mod Laws
 pub mod Line
+pub mod ObjectIdentity

@@ -1,11 +1,25 @@
 //! Laws about what lines vouch for: functions that do nothing, and whose contracts say what was
 //! proved.
-ghost use Rattle.it_vouched.specs.Laws.{MoreLinesSignMore, OneKey, ValidMeansVouched};
+ghost use Rattle.std.specs.Prelude.{◌<◌, ℕ, slice_index};
+ghost use Rattle.it_vouched.specs.Laws.{IdentityIsDescribed, MoreLinesSignMore, OneKey};
+ghost use Rattle.it_vouched.specs.Laws.{ValidMeansVouched};
 
-/// A key object has at most one key.
-pub fn one_key()
-    ensures { OneKey }
+use it_dsse::key_object::KeyObject;
+
+/// The identity of a key object is the one that the document describes.
+pub fn identity_is_described()
+    ensures { IdentityIsDescribed }
 {}
+
+/// Two objects with keys of one number have one identity and one issuer.
+pub fn one_key(object: &KeyObject, other: &KeyObject)
+    ensures { OneKey object.now other.now }
+{
+    are_bytes(object.identity.as_str());
+    are_bytes(object.issuer.as_str());
+    are_bytes(other.identity.as_str());
+    are_bytes(other.issuer.as_str());
+}
 
 /// A signature of a message is valid for an identity exactly where a line with this message and
 /// this signature vouches for it.
@@ -17,3 +31,10 @@ pub fn valid_means_vouched()
 pub fn more_lines_sign_more()
     ensures { MoreLinesSignMore }
 {}
+
+/// A text is made of bytes.
+fn are_bytes(text: &str)
+    ensures { (k : ℕ) → slice_index text.now k < 256 }
+{
+    let _ = text.as_bytes();
+}

@@ -3,13 +3,19 @@
 //!
 //! ```
 //! let vouched = VouchedLines::of(alloc, &trust, provenance)?;
-//! let valid = vouched.is_valid(&identity, message, signature);
+//! if let Some(key) = IdentityKey::in_object(&object) {
+//!     let valid = vouched.is_valid(&key, &[message], signature);
+//! }
 //! ```
 #![tactic(auto)]
 
+mod asked;
+mod identity_key;
+mod joining;
 pub mod laws;
 mod vouched;
 mod vouched_lines;
 
+pub use identity_key::IdentityKey;
 pub use vouched::Vouched;
 pub use vouched_lines::VouchedLines;

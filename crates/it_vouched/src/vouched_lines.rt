@@ -1,15 +1,23 @@
 //! What lines vouch for.
-ghost use Rattle.std.specs.Prelude.{◌≡◌, ◌↔◌, All, IfOk, IsTrue};
+ghost use Rattle.std.specs.Prelude.{◌≡◌, ◌&&◌, All, IfOk};
+ghost use Rattle.std.specs.Str.{bytes_eq};
 ghost use Rattle.it_digest.specs.Sums.{lines_of};
+ghost use Rattle.it_dsse.specs.Joined.{joined};
+ghost use Rattle.it_dsse.specs.Meter.{raised};
+ghost use Rattle.it_dsse.specs.Vouched.{is_vouched_by, tries_by};
 ghost use Rattle.it_identity.specs.Identity.{IsIdentity};
-ghost use Rattle.it_identity.specs.Name.{number_of};
-ghost use Rattle.it_vouched.specs.Check.{IsValid, Says};
+ghost use Rattle.it_vouched.specs.Check.{says, vouched_check};
 ghost use Rattle.it_vouched.specs.Line.{AreVouched};
 
+use crate::asked::Asked;
+use crate::identity_key::IdentityKey;
+use crate::joining::is_joined;
 use crate::vouched::{Vouched, vouched_by};
 use it_base::optional::push_some;
 use it_digest::sums::split_line;
-use it_identity::Identity;
+use it_dsse::check::SignatureCheck;
+use it_dsse::envelope::Signature;
+use it_dsse::meter::Meter;
 use it_vouches::Trust;
 use std::alloc::{AllocError, Global};
 use std::marker::Model;
@@ -50,14 +58,34 @@ impl VouchedLines {
         Ok(VouchedLines { all })
     }
 
-    /// Whether a signature of a message is valid for an identity: whether some line with this
-    /// message and this signature vouches for it. Takes no memory, and checks no signature.
-    pub fn is_valid(&self, identity: &Identity, message: &[u8], signature: &[u8]) -> bool
-        requires { IsIdentity identity.now }
-        ensures { IsTrue result
-            ↔ IsValid self.now (number_of identity.now) message.now signature.now }
+    /// Whether a signature of the message that the parts make is valid for a key: whether some line
+    /// with this message and this signature vouches for the identity. Takes no memory, and checks
+    /// no signature.
+    pub fn is_valid(&self, key: &IdentityKey, message: &[&[u8]], signature: &[u8]) -> bool
+        ensures { result ≡ (vouched_check self.now).is_valid key.now (joined message.now)
+            signature.now }
     {
-        is_said(self.all.as_slice(), identity, message, signature)
+        is_said(self.all.as_slice(), key, message, signature)
+    }
+
+    /// Whether one of the signatures is admitted for `id` and is valid, for the key, of the message
+    /// that the parts make. The meter rises by the number of admitted signatures up to and
+    /// including the first valid one. Takes no memory.
+    pub fn any_valid(
+        &self,
+        key: &IdentityKey,
+        message: &[&[u8]],
+        signatures: &[Signature],
+        id: &str,
+        meter: &mut Meter,
+    ) -> bool
+        ensures answer { result ≡ is_vouched_by (vouched_check self.now) id.now key.now
+            (joined message.now) signatures.now }
+        ensures counted { meter.new ≡ raised meter.old (tries_by (vouched_check self.now) id.now
+            key.now (joined message.now) signatures.now) }
+    {
+        let asked = Asked { lines: self, key };
+        asked.any_valid(0, message, signatures, id, meter)
     }
 }
 
@@ -78,53 +106,30 @@ fn vouched_in(
     Ok(all)
 }
 
-fn is_said(vouched: &[Vouched], identity: &Identity, message: &[u8], signature: &[u8]) -> bool
-    requires identities { All (λ v. IsIdentity v.identity) vouched.now }
-    requires identity_is { IsIdentity identity.now }
-    ensures { IsTrue result
-        ↔ IsValid vouched.now (number_of identity.now) message.now signature.now }
+fn is_said(vouched: &[Vouched], key: &IdentityKey, message: &[&[u8]], signature: &[u8]) -> bool
+    requires { All (λ v. IsIdentity v.identity) vouched.now }
+    ensures { result ≡ (vouched_check vouched.now).is_valid key.now (joined message.now)
+        signature.now }
 {
     for one in vouched {
-        if is_saying(one, identity, message, signature) {
+        if is_saying(one, key, message, signature) {
             return true;
         }
     }
     false
 }
 
-fn is_saying(one: &Vouched, identity: &Identity, message: &[u8], signature: &[u8]) -> bool
-    requires one_is { IsIdentity one.now.identity }
-    requires identity_is { IsIdentity identity.now }
-    ensures { IsTrue result ↔ Says (number_of identity.now) message.now signature.now one.now }
+fn is_saying(one: &Vouched, key: &IdentityKey, message: &[&[u8]], signature: &[u8]) -> bool
+    requires { IsIdentity one.now.identity }
+    ensures { result ≡ says key.now (joined message.now) signature.now one.now }
 {
-    if !is_same(&one.identity, identity) {
-        return false;
-    }
-    is_with(one, message, signature)
+    is_signature(one, signature)
+        && is_joined(one.message.as_slice(), message)
+        && key.is_of(&one.identity)
 }
 
-/// Whether it is with this message and this signature that an identity is vouched for.
-fn is_with(one: &Vouched, message: &[u8], signature: &[u8]) -> bool
-    ensures { IsTrue result ↔ ((one.now.message ≡ message.now)
-        × (one.now.signature ≡ signature.now)) }
+fn is_signature(one: &Vouched, signature: &[u8]) -> bool
+    ensures { result ≡ bytes_eq one.now.signature signature.now }
 {
-    one.message.as_slice() == message && one.signature.as_slice() == signature
-}
-
-/// Whether two identities have one number.
-fn is_same(one: &Identity, other: &Identity) -> bool
-    requires one_is { IsIdentity one.now }
-    requires other_is { IsIdentity other.now }
-    ensures { IsTrue result ↔ (number_of one.now ≡ number_of other.now) }
-{
-    one.is_of_bytes();
-    other.is_of_bytes();
-    are_equal(one, other)
-}
-
-fn are_equal(one: &Identity, other: &Identity) -> bool
-    ensures { IsTrue result ↔ ((one.now.name ≡ other.now.name)
-        × (one.now.issuer ≡ other.now.issuer)) }
-{
-    one.name.as_slice() == other.name.as_slice() && one.issuer.as_slice() == other.issuer.as_slice()
+    one.signature.as_slice() == signature
 }

@@ -1,9 +1,11 @@
-use Rattle.std.proofs.Common.{take}
-use Rattle.it_identity.specs.Name.{number_of}
-use Rattle.it_vouches.proofs.Loops.{NoneIn}
-use Rattle.it_vouched.specs.Check.{Says}
+use Rattle.std.proofs.Common.{◌≡◌, drop}
+use Rattle.std.specs.List.{list_any}
+use Rattle.it_dsse.specs.Joined.{joined}
+use Rattle.it_vouched.specs.Check.{says}
 use Rattle.it_vouched.proofs.vouched_lines.is_said.Given as goal
 
--- none of the elements so far says so
+-- the answer is that of the elements that are left
 abbrev pub invariant-loop-one : goal.invariant-loop-one
-invariant-loop-one l = NoneIn (Says (number_of l.identity) l.message l.signature) (take l.one-index l.vouched)
+invariant-loop-one l =
+    list_any (says l.key (joined l.message) l.signature) (drop l.one-index l.vouched)
+    ≡ list_any (says l.key (joined l.message) l.signature) l.vouched

@@ -1,0 +1,4 @@
+pub mod Appended
+pub mod Finding
+pub mod Places
+pub mod Schemes

@@ -1,0 +1,3 @@
+pub mod CommandChecks
+pub mod CommandKeys
+pub mod Laws

@@ -12,7 +12,7 @@ use crate::provenance::provenance;
 use it_base::sequence::Sequence;
 use it_base::text::Text;
 use it_chain::bundle::Bundle;
-use it_command_checks::CommandChecks;
+use it_command_checks::command_checks::CommandChecks;
 use it_disk::{Disk, Fault, LeftOut, TooMany, bytes, read_ring, too_many};
 use it_dsse::ring::HmacRing;
 use it_outcome::RunFault;

@@ -9,7 +9,7 @@ ghost use Rattle.it_program.specs.inside.Spent.{IsToldSpent};
 use crate::asked::Asked;
 use crate::given::given;
 use crate::stop::Stop;
-use it_command_checks::CommandChecks;
+use it_command_checks::command_checks::CommandChecks;
 use it_disk::{Disk, Fault, note_left_out};
 use it_dsse::checks::Checks;
 use it_outcome::{RunFault, Status};

@@ -1,5 +1,5 @@
 -- The written form of an envelope is one line.
-use Rattle.std.proofs.Common.{◌≡◌, ◌∙◌, ℕ, List, [], ◌∷◌, ◌++◌, ◌==◌, Contains, refl, sym, ap}
+use Rattle.std.proofs.Common.{◌≡◌, ◌∙◌, ℕ, List, [], ◌∷◌, ◌==◌, Contains, refl, sym, ap}
 use Rattle.std.proofs.Common.{map, false, subst}
 use Rattle.std.proofs.lemmas.Bool.{ne_eqb}
 use Rattle.json.specs.Lex.{tokens}

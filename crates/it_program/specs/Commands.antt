@@ -45,8 +45,8 @@ form_asked (asked.Summary words) =
     Summary (record { verifier = words.verifier; resource = words.resource })
 
 -- what a verification is given: its inputs, and the checks, which are those of the rings in the
--- order of the words, then, where they are asked for, of public keys, and then, where a trusted root
--- is given, of what the provenance vouches for
+-- order of the words, then, where they are asked for, of public keys, and then, where a trusted
+-- root is given, of what the provenance vouches for
 pub record AreGiven (disk : Holdings) (words : VerifyWords) (inputs : Inputs) (checks : List Check)
     : Type 0 where
   pub vouched : Option (List Vouched)

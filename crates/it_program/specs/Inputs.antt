@@ -6,7 +6,7 @@ use Rattle.it_limits.specs.Limit.{IsWithinLimit}
 use Rattle.it_limits.specs.Lines.{AreWithin}
 use Rattle.it_limits.specs.declared.lines.LineOver.{LineOver}
 use Rattle.it_trust_root.specs.declared.root.TrustedRoot.{TrustedRoot}
-use Rattle.it_unwrapped.specs.Unwrapped.{AreUnwrapped}
+use Rattle.it_unwrapped.specs.Lines.{AreUnwrapped}
 use Rattle.it_verify.specs.declared.inputs.Inputs.{Inputs}
 use Rattle.it_vouched.specs.Line.{AreVouched}
 use Rattle.it_vouched.specs.declared.vouched.Vouched.{Vouched}

@@ -1,5 +1,5 @@
 //! Folders of links, read as far as they count and no further.
-ghost use Rattle.std.specs.Prelude.{◌≡◌, ◌+◌, ◌≤◌, IfOk, OnOk, length};
+ghost use Rattle.std.specs.Prelude.{◌≡◌, ◌+◌, ◌≤◌, IfOk, OnOk, vec_len};
 ghost use Rattle.it_limits.specs.Links.{AreFilesWithin};
 ghost use Rattle.it_disk.specs.LinksCount.{IsWithinCount, count_of};
 ghost use Rattle.it_disk.specs.LinksSize.{IsWithinSize, size_of};
@@ -31,28 +31,6 @@ pub enum Kind {
     File,
     /// The entries of a folder.
     Folder,
-}
-
-/// Which names in a folder are looked at.
-#[derive(Clone, Copy)]
-pub enum Wanted {
-    /// All of them.
-    All,
-    /// Those that files of links have, and those of folders too where `folders` are read.
-    OfLinks {
-        /// Whether folders are read.
-        folders: bool,
-    },
-}
-
-impl Wanted {
-    /// Whether a name is looked at.
-    pub fn has(self, name: &str) -> bool {
-        match self {
-            Wanted::All => true,
-            Wanted::OfLinks { folders } => name.ends_with(ENDING) || folders && name.contains('.'),
-        }
-    }
 }
 
 /// What is read of a folder of links.
@@ -98,7 +76,8 @@ pub(crate) struct Entry {
 ///
 /// The fault of a folder, an entry or a file that cannot be read; `TooMany` where more than 1,000
 /// entries of a folder would be read; `TooManyInAll` where more than 100,000 files and folders
-/// would be read in all; and `TooMuch` where the files have more than 2 GiB in all.
+/// would be read in all; `TooMuch` where the files have more than 2 GiB in all; and `Unreadable` of
+/// the folder with whose names, also of what is skipped, the folders have more than 1,000,000.
 pub fn read_links<T: Tree + AllocGlobal>(
     tree: &T,
     folder: &str,
@@ -112,6 +91,7 @@ pub fn read_links<T: Tree + AllocGlobal>(
     let nothing = SoFar {
         bytes: 0,
         entries: 0,
+        names: 0,
     };
     read_more(tree, folder, depth, limited, nothing)
 }
@@ -127,10 +107,14 @@ fn read_more<T: Tree + AllocGlobal>(
     requires { IsWithin read }
     ensures limited { IfOk result (λ links. AreLimited limited links.bundle) }
     ensures counted { IfOk result (λ links. IsCountedIn links.read read links.bundle) }
+    ensures listed { IfOk result
+        (λ links. read.names + count_of links.bundle ≤ links.read.names) }
     ensures within { IfOk result (λ links. IsWithin links.read) }
 {
-    let mut links = Links::after(tree.alloc(), read);
-    for entry in entries(tree, folder, depth)? {
+    let names = tree.names(folder)?;
+    let listed = read.with_names(tree.alloc(), folder, names.len())?;
+    let mut links = Links::after(tree.alloc(), listed);
+    for entry in entries(tree, folder, names, depth)? {
         match depth.checked_sub(1) {
             Some(below) if entry.kind == Kind::Folder => {
                 let path = entry.path.as_str();
@@ -156,7 +140,9 @@ fn add_file<T: Tree + AllocGlobal>(
     ensures counted { OnOk result ((before : SoFar)
         → IsCountedIn links.old.read before links.old.bundle
         → IsCountedIn links.new.read before links.new.bundle) }
-    ensures within { OnOk result (IsWithin links.new.read) }
+    ensures count { OnOk result (count_of links.new.bundle ≤ count_of links.old.bundle + 1) }
+    ensures names { OnOk result (links.new.read.names ≡ links.old.read.names) }
+    ensures within { OnOk result (IsWithin links.old.read → IsWithin links.new.read) }
 {
     let alloc = tree.alloc();
     let bytes = Sequence::from(tree.read_whole(entry.path.as_str())?);
@@ -202,16 +188,22 @@ fn add_folder(alloc: Global, links: &mut Links, entry: Entry, inner: Links) -> R
     }
 }
 
-/// What is read of a folder, in the order of the names' bytes. Folders are read where `depth` is
-/// not 0.
+/// What is read of a folder, which has these names, in their order. Folders are read where `depth`
+/// is not 0.
 pub(crate) fn entries<T: Tree + AllocGlobal>(
     tree: &T,
     folder: &str,
+    names: Vec<String>,
     depth: u8,
-) -> Result<Vec<Entry>, Fault> {
+) -> Result<Vec<Entry>, Fault>
+    ensures { IfOk result (λ entries. vec_len entries ≤ vec_len names) }
+{
     let alloc = tree.alloc();
     let mut entries = Vec::new(alloc);
-    for name in tree.names(folder, Wanted::OfLinks { folders: depth > 0 })? {
+    for name in names {
+        if !may_be_read(name.as_str(), depth) {
+            continue;
+        }
         let path = Path::new(folder).join(alloc, name.as_str())?;
         let Some(kind) = kind_of(tree, name.as_str(), path.as_str(), depth)? else {
             continue;
@@ -225,6 +217,12 @@ pub(crate) fn entries<T: Tree + AllocGlobal>(
         entries.push(Entry { name, path, kind })?;
     }
     Ok(entries)
+}
+
+/// Whether what has this name in a folder is looked at: files of links have such names, and folders
+/// where they are read.
+fn may_be_read(name: &str, depth: u8) -> bool {
+    name.ends_with(ENDING) || depth > 0 && name.contains('.')
 }
 
 /// What an entry is read as, or `None` where it is skipped: a folder too deep, a file with another

@@ -28,7 +28,7 @@ mod tree;
 pub use disk::Disk;
 pub use fault::Fault;
 pub use files::{MOST_BYTES, bytes, bytes_if_given, read_keys, read_limited, read_ring};
-pub use folders::{Kind, Links, Wanted, read_links};
+pub use folders::{Kind, Links, read_links};
 pub use left_out::{LeftOut, TooMany, note_left_out, too_many};
 pub use listing::{Listed, list};
 pub use records::read_records;

@@ -1,6 +1,6 @@
 //! Folders, listed whole.
 use crate::fault::Fault;
-use crate::folders::{Kind, Wanted};
+use crate::folders::Kind;
 use crate::tree::Tree;
 use it_base::text::Text;
 use std::path::Path;
@@ -24,7 +24,7 @@ pub struct Listed {
 pub fn list<T: Tree + AllocGlobal>(tree: &T, folder: &str) -> Result<Vec<Listed>, Fault> {
     let alloc = tree.alloc();
     let mut entries = Vec::new(alloc);
-    for name in tree.names(folder, Wanted::All)? {
+    for name in tree.names(folder)? {
         let path = Path::new(folder).join(alloc, name.as_str())?;
         let kind = kind_in(tree, path.as_str())?;
         let name = Text::from(name);

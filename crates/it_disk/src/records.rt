@@ -17,7 +17,7 @@ pub fn read_records<T: Tree + AllocGlobal>(
 ) -> Result<Vec<(Text, Sequence<u8>)>, Fault> {
     let alloc = tree.alloc();
     let mut records = Vec::new(alloc);
-    for entry in entries(tree, folder, 0)? {
+    for entry in entries(tree, folder, tree.names(folder)?, 0)? {
         let name = entry.name.as_str();
         let inspection = name.strip_suffix(ENDING).unwrap_or(name);
         let bytes = tree.read_whole(entry.path.as_str())?;

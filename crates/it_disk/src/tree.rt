@@ -4,7 +4,7 @@ ghost use Rattle.it_disk.specs.Faults.{IsFileFault, IsReadFault};
 
 use crate::fault::Fault;
 use crate::files::read_file;
-use crate::folders::{Kind, Wanted};
+use crate::folders::Kind;
 use std::alloc::AllocError;
 use std::rt::Files;
 use std::{fs, io};
@@ -19,12 +19,12 @@ pub trait Tree {
         ensures within { IfOk result (λ bytes. length bytes.items ≤ 8388608) }
         ensures faults { IfErr result (IsFileFault path.now) };
 
-    /// The names in a folder that are wanted, in the order of their bytes.
+    /// The names in a folder, in the order of their bytes.
     ///
     /// # Errors
     ///
-    /// Where the folder cannot be read, or a name in it is not UTF-8, wanted or not.
-    fn names(&self, folder: &str, wanted: Wanted) -> Result<Vec<String>, Fault>;
+    /// Where the folder cannot be read, or a name in it is not UTF-8.
+    fn names(&self, folder: &str) -> Result<Vec<String>, Fault>;
 
     /// What is at a path, or `None` where it is neither a file nor a folder. A symbolic link counts
     /// as what it leads to.
@@ -43,8 +43,8 @@ impl<R: Files + AllocGlobal> Tree for R {
         read_file(self, path)
     }
 
-    fn names(&self, folder: &str, wanted: Wanted) -> Result<Vec<String>, Fault> {
-        names_in(self, folder, wanted)
+    fn names(&self, folder: &str) -> Result<Vec<String>, Fault> {
+        names_in(self, folder)
     }
 
     fn look(&self, path: &str) -> Result<Option<Kind>, Fault> {
@@ -64,16 +64,12 @@ impl<R: Files + AllocGlobal> Tree for R {
     }
 }
 
-/// The names in a folder that are wanted, in the order of their bytes. The others are not kept.
+/// The names in a folder, in the order of their bytes.
 ///
 /// # Errors
 ///
-/// Where the folder cannot be read, or a name in it is not UTF-8, wanted or not.
-fn names_in<R: Files + AllocGlobal>(
-    rt: &R,
-    folder: &str,
-    wanted: Wanted,
-) -> Result<Vec<String>, Fault> {
+/// Where the folder cannot be read, or a name in it is not UTF-8.
+fn names_in<R: Files + AllocGlobal>(rt: &R, folder: &str) -> Result<Vec<String>, Fault> {
     let alloc = rt.alloc();
     let listing = match fs::read_dir(&rt, folder) {
         Ok(listing) => listing,
@@ -85,9 +81,7 @@ fn names_in<R: Files + AllocGlobal>(
             Ok(entry) => entry,
             Err(error) => return Err(Fault::of_listing(alloc, folder, &error)),
         };
-        if wanted.has(entry.file_name()) {
-            names.push(String::from_str(alloc, entry.file_name())?)?;
-        }
+        names.push(String::from_str(alloc, entry.file_name())?)?;
     }
     names.sort_unstable();
     Ok(names)

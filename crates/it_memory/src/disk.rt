@@ -5,8 +5,7 @@ use crate::memory::Memory;
 use it_base::sequence::Sequence;
 use it_base::text::Text;
 use it_disk::{
-    Disk, Fault, Kind, Links, Listed, MOST_BYTES, Shown, Tree, Wanted, list, read_links,
-    read_records,
+    Disk, Fault, Kind, Links, Listed, MOST_BYTES, Shown, Tree, list, read_links, read_records,
 };
 use std::alloc::{Alloc, Global};
 
@@ -23,8 +22,8 @@ impl<'a> Tree for Memory<'a> {
         self.file(path)
     }
 
-    fn names(&self, folder: &str, wanted: Wanted) -> Result<Vec<String>, Fault> {
-        self.names_at(folder, wanted)
+    fn names(&self, folder: &str) -> Result<Vec<String>, Fault> {
+        self.names_at(folder)
     }
 
     fn look(&self, path: &str) -> Result<Option<Kind>, Fault> {

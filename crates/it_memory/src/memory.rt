@@ -7,7 +7,7 @@ ghost use Rattle.it_memory.specs.Files.{AreApart, HasBelow, HasFile, HasKind, fi
 use crate::file::File;
 use crate::names::names_in;
 use crate::paths::{front_of, paths_of};
-use it_disk::{Fault, Kind, Wanted};
+use it_disk::{Fault, Kind};
 use it_rules::ranges::front_range;
 use it_sorted_paths::place_of;
 use std::alloc::{AllocError, Global};
@@ -123,19 +123,19 @@ impl<'a> Memory<'a> {
         Err(Fault::unread(self.alloc, path, NOTHING_THERE)?)
     }
 
-    /// The names that are wanted of what lies in a folder, in the order of their bytes.
+    /// The names of what lies in a folder, in the order of their bytes.
     ///
     /// # Errors
     ///
     /// The fault of the path where no folder is there.
-    pub(crate) fn names_at(&self, folder: &str, wanted: Wanted) -> Result<Vec<String>, Fault> {
+    pub(crate) fn names_at(&self, folder: &str) -> Result<Vec<String>, Fault> {
         if let Kind::File = self.kind_at(folder)? {
             return Err(Fault::unread(self.alloc, folder, "Not a directory")?);
         }
         let front = front_of(self.alloc, folder)?;
         let (start, end) = front_range(self.paths.as_slice(), front.as_str());
         let below = &self.paths[start..end];
-        Ok(names_in(self.alloc, below, front.as_str(), wanted)?)
+        Ok(names_in(self.alloc, below, front.as_str())?)
     }
 }
 

@@ -1,8 +1,7 @@
 //! The names of what lies in a folder.
-use it_disk::Wanted;
 use std::alloc::{AllocError, Global};
 
-/// The names that are wanted of what lies in a folder, in the order of their bytes.
+/// The names of what lies in a folder, in the order of their bytes.
 ///
 /// `front` is the folder's path and a slash, with which all of the `paths` begin.
 ///
@@ -13,14 +12,11 @@ pub(crate) fn names_in(
     alloc: Global,
     paths: &[&str],
     front: &str,
-    wanted: Wanted,
 ) -> Result<Vec<String>, AllocError> {
     let mut names = Vec::new(alloc);
     for path in paths {
         if let Some(name) = name_after(path, front) {
-            if wanted.has(name) {
-                names.push(String::from_str(alloc, name)?)?;
-            }
+            names.push(String::from_str(alloc, name)?)?;
         }
     }
     names.sort_unstable();

@@ -25,6 +25,14 @@ loop-entry-preserved-then-eq g t c =
             let z = before.counted.entries in
             omega (arith, v, w, x, y, z);
       };
+      listed =
+          let u = c.in-Some.ensures.steps.1 in
+          let v = added.count in
+          let w = ap (λ r. r.names) added.read in
+          let x = inner.listed in
+          let y = read.names in
+          let z = before.listed in
+          omega (arith, u, v, w, x, y, z);
       within = rw added.read inner.within;
     }
 
@@ -35,5 +43,11 @@ loop-entry-preserved g t c =
     record {
       limited = added.limited before.limited;
       counted = added.counted c.args.read before.counted;
-      within = added.within;
+      listed =
+          let u = c.in-Some.ensures.steps.1 in
+          let v = added.count in
+          let w = added.names in
+          let z = before.listed in
+          omega (arith, u, v, w, z);
+      within = added.within before.within;
     }

@@ -43,3 +43,12 @@ returns-clause-counted g c = λ start before.
             entries = omega (arith, count, one, more, few);
           })
     ]
+
+pub returns-clause-count : goal.returns-clause-count
+returns-clause-count g c = elim c.match-too_many_in.branch [
+  | in-Some+in_ok-path-in-Some+in_ok-push-in-Some w ↦
+      rw (ap (λ l. l.bundle) w.links-is) (omega arith)
+  | in-None+in_ok-add_read-in-None w ↦
+      let more = file_counted c.in_ok-file.file c.args.links.now.bundle in
+      rw (ap (λ l. l.bundle) w.links-is, w.in_ok-add_read-in-None.ensures.ok) (omega (arith, more))
+]

@@ -1,5 +1,5 @@
 -- What attests a leaf, step by step.
-use Rattle.std.proofs.Common.{◌≡◌, ℕ, ◌↔◌, Bool, true, false, true≢false, IsTrue, List, ◌∷◌, Any, map, drop, Some, None}
+use Rattle.std.proofs.Common.{◌≡◌, ℕ, ◌↔◌, Bool, false, true≢false, IsTrue, List, ◌∷◌, Any, map, drop, Some, None}
 use Rattle.std.proofs.Common.{slice_get, sym, subst, ◌∙◌}
 use Rattle.it_certificate.specs.Certificate.{Facts, facts_of}
 use Rattle.it_certificate.specs.declared.certificate.Certificate.{Certificate}

@@ -5,3 +5,4 @@ pub mod Attesting
 pub mod Claiming
 pub mod SameLogged
 pub mod Vouching
+pub mod Missing

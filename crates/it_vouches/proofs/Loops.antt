@@ -1,14 +1,17 @@
 -- Loops that look for an element.
-use Rattle.std.proofs.Common.{◌≡◌, ℕ, ◌+◌, ◌<◌, ◌≤◌, ◌↔◌, true, false, IsTrue, List, [], ◌∷◌, length, get_or, take, All, Any}
+use Rattle.std.proofs.Common.{◌≡◌, ℕ, ◌+◌, ◌<◌, ◌≤◌, ◌↔◌, Bool, true, false, true≢false, IsTrue, List, [], ◌∷◌, length, get_or, take, All, Any}
 use Rattle.std.proofs.Common.{refl, sym, subst, arith, ◌⊎◌, inl, inr, suc, zero}
 use Rattle.std.specs.List.{Contains}
 use Rattle.std.proofs.lemmas.List.{take_all}
 use Rattle.std.proofs.lemmas.List.Elements.{All-more}
 use Rattle.it_issued.proofs.Tests.{refused}
 
+pub any_at : {X : Type 0} (P : X → Type 0) (xs : List X) (i : ℕ) (x : X) → i < length xs → x ≡ get_or xs i x → P x → Any P xs
+any_at P xs i x below is p = (i, x, below, sym is, p)
+
 pub any_here : {X : Type 0} (P : X → Type 0) (xs : List X) (i : ℕ) (x : X) → i < length xs → x ≡ get_or xs i x → P x
     → IsTrue true ↔ Any P xs
-any_here P xs i x below is p = (λ t. (i, x, below, sym is, p), λ any. refl)
+any_here P xs i x below is p = (λ t. any_at P xs i x below is p, λ any. refl)
 
 abbrev pub NoneIn : {X : Type 0} → (X → Type 0) → List X → Type 0
 NoneIn P xs = All (λ x. ¬ P x) xs
@@ -23,6 +26,37 @@ pub none_left : {X : Type 0} (P : X → Type 0) (xs : List X) (i : ℕ) → leng
 none_left P xs i end none =
     let every : NoneIn P xs = subst (NoneIn P) (take_all i xs end) none in
     refused (Any P xs) (λ any. every any.0 any.1 any.2 (subst P (sym any.3) any.4))
+
+pub not_any : {X : Type 0} (P : X → Type 0) (xs : List X) (i : ℕ) → length xs ≤ i → NoneIn P (take i xs) → ¬ Any P xs
+not_any P xs i end none any = true≢false (sym ((none_left P xs i end none).1 any))
+
+-- whether P holds of an element, as far as the first i tell: where of one of these, then of one of all
+abbrev pub IsKnown : {X : Type 0} → (X → Type 0) → List X → ℕ → Bool → Type 0
+IsKnown P xs i false = NoneIn P (take i xs)
+IsKnown P xs i true = Any P xs
+
+pub known_more : {X : Type 0} (P : X → Type 0) (xs : List X) (i : ℕ) (x : X) (b : Bool) → i < length xs → x ≡ get_or xs i x → (P x → ⊥)
+    → IsKnown P xs i b → IsKnown P xs (i + 1) b
+known_more P xs i x false below is none before = none_more P xs i x below is none before
+known_more P xs i x true below is none before = before
+
+-- one more element, where P implies L: neither holds of it, or L alone
+pub none_next : {X : Type 0} (P L : X → Type 0) → ((x : X) → P x → L x) → (xs : List X) (i : ℕ) (x : X) (b : Bool) → i < length xs
+    → x ≡ get_or xs i x → ¬ L x → NoneIn P (take i xs) × IsKnown L xs i b → NoneIn P (take (i + 1) xs) × IsKnown L xs (i + 1) b
+none_next P L implies xs i x b below is none before = (
+  none_more P xs i x below is (λ p. none (implies x p)) before.0,
+  known_more L xs i x b below is none before.1,
+)
+
+pub one_next : {X : Type 0} (P L : X → Type 0) (xs : List X) (i : ℕ) (x : X) (b : Bool) → i < length xs → x ≡ get_or xs i x
+    → L x × ¬ P x → NoneIn P (take i xs) × IsKnown L xs i b → NoneIn P (take (i + 1) xs) × IsKnown L xs (i + 1) true
+one_next P L xs i x b below is found before = (none_more P xs i x below is found.1 before.0, any_at L xs i x below is found.0)
+
+pub known_any : {X : Type 0} (P : X → Type 0) (xs : List X) (i : ℕ) (b : Bool) → b ≡ true → IsKnown P xs i b → Any P xs
+known_any P xs i b e known = subst (IsKnown P xs i) e known
+
+pub known_none : {X : Type 0} (P : X → Type 0) (xs : List X) (i : ℕ) (b : Bool) → b ≡ false → length xs ≤ i → IsKnown P xs i b → ¬ Any P xs
+known_none P xs i b e end known = not_any P xs i end (subst (IsKnown P xs i) e known)
 
 -- elements of lists
 pub contains_cases : {X : Type 0} (x z : X) (xs : List X) → Contains (x ∷ xs) z → (x ≡ z) ⊎ Contains xs z

@@ -1,6 +1,9 @@
 pub mod Claim
 pub mod Found
+pub mod Judged
 pub mod Logged
 pub mod Laws
+pub mod Misses
+pub mod Phrases
 pub mod Vouches
 pub mod inside

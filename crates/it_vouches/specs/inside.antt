@@ -1,2 +1,4 @@
 pub mod Attested
+pub mod Brought
+pub mod Shows
 pub mod Usable

@@ -1,8 +1,10 @@
-//! Whether the entries of a bundle and the authorities of a trusted root attest a leaf.
-ghost use Rattle.std.specs.Prelude.{◌↔◌, Any, IfOk, IsTrue};
+//! How far the entries of a bundle and the authorities of a trusted root attest a leaf.
+ghost use Rattle.std.specs.Prelude.{Any, IfOk};
 ghost use Rattle.it_certificate.specs.Certificate.{facts_of};
 ghost use Rattle.it_certificate_log.specs.Bare.{WasRead};
-ghost use Rattle.it_vouches.specs.inside.Attested.{IsProved, IsProvedBy};
+ghost use Rattle.it_vouches.specs.Logged.{VouchesBy};
+ghost use Rattle.it_vouches.specs.inside.Attested.{IsLoggedBy, IsProved, IsProvedBy};
+ghost use Rattle.it_vouches.specs.inside.Shows.{Shows};
 
 use crate::entry_log::is_by_one;
 use crate::trust::Trust;
@@ -22,58 +24,80 @@ pub(crate) struct Question<'q> {
     pub(crate) leaf: &'q Certificate<'q>,
 }
 
-/// Whether, by one of the entries, a log vouches for what is logged, and the leaf was issued at
-/// that entry's time and promised to be logged.
+/// What is known of a leaf by entries.
+#[derive(Clone, Copy, Drop)]
+pub(crate) enum Attestation {
+    /// No log vouches by any.
+    NoLog,
+    /// A log vouches by one, but at no such entry's time the leaf was issued and promised to be
+    /// logged.
+    NoIssuer,
+    /// A log vouches by one, and at its time the leaf was issued and promised to be logged.
+    Attested,
+}
+
+/// How far a leaf is attested by the entries: whether, by one of them, a log vouches for what is
+/// logged, and whether the leaf was issued at such an entry's time and promised to be logged.
 ///
 /// # Errors
 ///
 /// `AllocError` where memory was refused.
-pub(crate) fn is_attested(
+pub(crate) fn attestation_by(
     alloc: Global,
     trust: &Trust<'_>,
     question: &Question<'_>,
     entries: &[ListedEntry],
-) -> Result<bool, AllocError>
+) -> Result<Attestation, AllocError>
     requires { WasRead question.now.leaf.now }
-    ensures { IfOk result (λ is. IsTrue is
-        ↔ Any (IsProvedBy trust.now question.now.needs_proof question.now.logged
-        (facts_of question.now.leaf.now)) entries.now) }
+    ensures { IfOk result (Shows
+        (Any (IsLoggedBy trust.now question.now.needs_proof question.now.logged) entries.now)
+        (Any (IsProvedBy trust.now question.now.needs_proof question.now.logged
+        (facts_of question.now.leaf.now)) entries.now)) }
 {
+    let mut by_log = false;
     for listed in entries {
-        if is_proved_by(alloc, trust, question, listed)? {
-            return Ok(true);
+        match attestation_by_listed(alloc, trust, question, listed)? {
+            Attestation::NoLog => {}
+            Attestation::NoIssuer => by_log = true,
+            Attestation::Attested => return Ok(Attestation::Attested),
         }
     }
-    Ok(false)
+    if by_log {
+        Ok(Attestation::NoIssuer)
+    } else {
+        Ok(Attestation::NoLog)
+    }
 }
 
-fn is_proved_by(
+fn attestation_by_listed(
     alloc: Global,
     trust: &Trust<'_>,
     question: &Question<'_>,
     listed: &ListedEntry,
-) -> Result<bool, AllocError>
+) -> Result<Attestation, AllocError>
     requires { WasRead question.now.leaf.now }
-    ensures { IfOk result (λ is. IsTrue is
-        ↔ IsProvedBy trust.now question.now.needs_proof question.now.logged
-        (facts_of question.now.leaf.now) listed.now) }
+    ensures { IfOk result (Shows
+        (IsLoggedBy trust.now question.now.needs_proof question.now.logged listed.now)
+        (IsProvedBy trust.now question.now.needs_proof question.now.logged
+        (facts_of question.now.leaf.now) listed.now)) }
 {
     match listed {
-        ListedEntry::Entry(entry) => is_proved(alloc, trust, question, entry),
-        ListedEntry::Unreadable => Ok(false),
+        ListedEntry::Entry(entry) => attestation_by_entry(alloc, trust, question, entry),
+        ListedEntry::Unreadable => Ok(Attestation::NoLog),
     }
 }
 
-fn is_proved(
+fn attestation_by_entry(
     alloc: Global,
     trust: &Trust<'_>,
     question: &Question<'_>,
     entry: &LogEntry,
-) -> Result<bool, AllocError>
+) -> Result<Attestation, AllocError>
     requires { WasRead question.now.leaf.now }
-    ensures { IfOk result (λ is. IsTrue is
-        ↔ IsProved trust.now question.now.needs_proof question.now.logged
-        (facts_of question.now.leaf.now) entry.now) }
+    ensures { IfOk result (Shows
+        (Any (VouchesBy question.now.needs_proof entry.now question.now.logged) trust.now.logs)
+        (IsProved trust.now question.now.needs_proof question.now.logged
+        (facts_of question.now.leaf.now) entry.now)) }
 {
     if !is_by_one(
         alloc,
@@ -82,7 +106,10 @@ fn is_proved(
         entry,
         &question.logged,
     )? {
-        return Ok(false);
+        return Ok(Attestation::NoLog);
     }
-    trust.attests(alloc, question.leaf, entry.time)
+    if !trust.attests(alloc, question.leaf, entry.time)? {
+        return Ok(Attestation::NoIssuer);
+    }
+    Ok(Attestation::Attested)
 }

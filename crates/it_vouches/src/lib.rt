@@ -1,19 +1,26 @@
-//! Whom a Sigstore bundle vouches for, by a trusted root: the identity that signed its envelope. No
-//! command uses it yet.
+//! Whom a Sigstore bundle vouches for, by a trusted root: the identity that signed its envelope, or
+//! why nobody. No command uses it yet.
 //!
 //! ```
 //! let trust = Trust::of(alloc, &root)?;
-//! let Some(identity) = vouched_identity(alloc, &trust, &bundle)? else { .. };
+//! match judged(alloc, &trust, &bundle)? {
+//!     Judged::For(identity) => ..,
+//!     Judged::Misses(shortfall) => shortfall.push_phrase(&mut text)?,
+//! }
 //! ```
 #![tactic(auto)]
 
 mod attested;
 mod claim;
 mod entry_log;
+mod judgement;
 pub mod laws;
 mod leaf_key;
+mod shortfall;
 mod trust;
 mod vouched;
 
+pub use judgement::Judged;
+pub use shortfall::Shortfall;
 pub use trust::Trust;
-pub use vouched::vouched_identity;
+pub use vouched::{judged, vouched_identity};

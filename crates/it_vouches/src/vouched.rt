@@ -1,17 +1,22 @@
-//! Whom a bundle vouches for.
+//! Whom a bundle vouches for, or why for nobody.
 ghost use Rattle.std.specs.Prelude.{◌↔◌, IfOk, IsTrue};
 ghost use Rattle.it_base.specs.Finds.{Finds};
 ghost use Rattle.it_certificate.specs.Certificate.{facts_of};
 ghost use Rattle.it_certificate_log.specs.Bare.{WasRead};
 ghost use Rattle.it_dsse.specs.Signed.{message_of};
 ghost use Rattle.it_issued.specs.Signature.{IsByP256, key_info};
+ghost use Rattle.it_vouches.specs.Judged.{IsJudged};
 ghost use Rattle.it_vouches.specs.Logged.{IsAbout};
+ghost use Rattle.it_vouches.specs.Misses.{HasIssuer, HasLog};
 ghost use Rattle.it_vouches.specs.Vouches.{Vouches};
-ghost use Rattle.it_vouches.specs.inside.Attested.{IsClaimProved};
+ghost use Rattle.it_vouches.specs.inside.Brought.{brought_of};
+ghost use Rattle.it_vouches.specs.inside.Shows.{Shows};
 
-use crate::attested::{Question, is_attested};
+use crate::attested::{Attestation, Question, attestation_by};
 use crate::claim::{Claim, claim_of, needs_proof};
+use crate::judgement::Judged;
 use crate::leaf_key::is_by_leaf;
+use crate::shortfall::Shortfall;
 use crate::trust::Trust;
 use it_bundle::SigstoreBundle;
 use it_certificate::{Certificate, read_leaf};
@@ -22,8 +27,6 @@ use it_log_entry::Logged;
 use std::alloc::{AllocError, Global};
 
 /// The identity that a bundle vouches for, by a trusted root; `None` where it vouches for none.
-/// What costs no signature is looked at first; then the entries, the leaf's issuer, its timestamps
-/// and last the signature of the envelope.
 ///
 /// # Errors
 ///
@@ -35,43 +38,65 @@ pub fn vouched_identity(
 ) -> Result<Option<Identity>, AllocError>
     ensures { IfOk result (Finds (Vouches trust.now bundle.now)) }
 {
-    let Some(claim) = claim_of(bundle) else {
-        return Ok(None);
-    };
-    let Some(leaf) = read_leaf(alloc, claim.certificate)? else {
-        return Ok(None);
-    };
-    let Some(identity) = Identity::of(alloc, leaf.identity.name, leaf.identity.issuer)? else {
-        return Ok(None);
-    };
-    if !is_claim_attested(alloc, trust, bundle, &claim, &leaf.certificate)? {
-        return Ok(None);
+    match judged(alloc, trust, bundle)? {
+        Judged::For(identity) => Ok(Some(identity)),
+        Judged::Misses(_) => Ok(None),
     }
-    if !is_envelope_signed(alloc, &bundle.envelope, &leaf.certificate, claim.signature)? {
-        return Ok(None);
-    }
-    Ok(Some(identity))
 }
 
-/// Whether the entries and the authorities attest what a bundle claims.
-fn is_claim_attested(
+/// Whom a bundle vouches for, by a trusted root, or the first condition that it misses. What costs
+/// no signature is looked at first; then the entries, the leaf's issuer, its timestamps and last
+/// the signature of the envelope.
+///
+/// # Errors
+///
+/// `AllocError` where memory was refused.
+pub fn judged(
+    alloc: Global,
+    trust: &Trust<'_>,
+    bundle: &SigstoreBundle,
+) -> Result<Judged, AllocError>
+    ensures { IfOk result (IsJudged trust.now bundle.now) }
+{
+    let claim = match claim_of(bundle) {
+        Ok(claim) => claim,
+        Err(missed) => return Ok(Judged::Misses(missed)),
+    };
+    let Some(leaf) = read_leaf(alloc, claim.certificate)? else {
+        return Ok(Judged::Misses(Shortfall::Leaf));
+    };
+    let Some(identity) = Identity::of(alloc, leaf.identity.name, leaf.identity.issuer)? else {
+        return Ok(Judged::Misses(Shortfall::Identity));
+    };
+    match attestation_of_claim(alloc, trust, bundle, &claim, &leaf.certificate)? {
+        Attestation::NoLog => return Ok(Judged::Misses(Shortfall::Log)),
+        Attestation::NoIssuer => return Ok(Judged::Misses(Shortfall::Issuer)),
+        Attestation::Attested => {}
+    }
+    if !is_envelope_signed(alloc, &bundle.envelope, &leaf.certificate, claim.signature)? {
+        return Ok(Judged::Misses(Shortfall::Signature));
+    }
+    Ok(Judged::For(identity))
+}
+
+/// How far the entries and the authorities attest what a bundle claims.
+fn attestation_of_claim(
     alloc: Global,
     trust: &Trust<'_>,
     bundle: &SigstoreBundle,
     claim: &Claim<'_>,
     leaf: &Certificate<'_>,
-) -> Result<bool, AllocError>
+) -> Result<Attestation, AllocError>
     requires { WasRead leaf.now }
-    ensures { IfOk result (λ is. IsTrue is
-        ↔ IsClaimProved trust.now bundle.now claim.now.signature.now claim.now.certificate.now
-        claim.now.entries.now (facts_of leaf.now)) }
+    ensures { IfOk result (Shows (HasLog trust.now bundle.now (brought_of claim.now))
+        (HasIssuer trust.now bundle.now (brought_of claim.now) (facts_of leaf.now))) }
 {
     let question = Question {
         logged: logged_of(&bundle.envelope, claim),
         needs_proof: needs_proof(bundle.version),
         leaf,
     };
-    is_attested(alloc, trust, &question, claim.entries)
+    attestation_by(alloc, trust, &question, claim.entries)
 }
 
 /// Whether a signature of an envelope is by the key of a leaf.

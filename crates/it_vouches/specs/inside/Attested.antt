@@ -8,11 +8,9 @@ use Rattle.it_issued.specs.Logged.{IsLogged}
 use Rattle.it_issued.specs.declared.authority.UsableAuthority.{UsableAuthority}
 use Rattle.it_log_entry.specs.declared.entry.LogEntry.{LogEntry}
 use Rattle.it_log_entry.specs.declared.logged.Logged.{Logged}
-use Rattle.it_bundle.specs.declared.bundle.SigstoreBundle.{SigstoreBundle}
 use Rattle.it_trust_root.specs.declared.root.TrustedRoot.{TrustedRoot}
 use Rattle.it_trust_root.specs.declared.root_log.RootLog.{RootLog}
-use Rattle.it_vouches.specs.Claim.{needs_proof}
-use Rattle.it_vouches.specs.Logged.{IsAbout, VouchesBy}
+use Rattle.it_vouches.specs.Logged.{VouchesBy}
 use Rattle.it_vouches.specs.Vouches.{IsAttested}
 
 -- an authority that can be used issued the leaf at the moment, and was promised that it is logged
@@ -30,13 +28,11 @@ pub record IsProved (root : TrustedRoot) (needs : Bool) (logged : Logged) (leaf 
   pub by_log : Any (VouchesBy needs entry logged) root.logs
   pub attested : IsAttested root leaf entry.time
 
+-- the same, of an element of a list of entries
+abbrev pub IsLoggedBy : TrustedRoot → Bool → Logged → ListedEntry → Type 0
+IsLoggedBy root needs logged (Entry entry) = Any (VouchesBy needs entry logged) root.logs
+IsLoggedBy root needs logged Unreadable = ⊥
+
 abbrev pub IsProvedBy : TrustedRoot → Bool → Logged → Facts → ListedEntry → Type 0
 IsProvedBy root needs logged leaf (Entry entry) = IsProved root needs logged leaf entry
 IsProvedBy root needs logged leaf Unreadable = ⊥
-
--- what a bundle claims of its signature is proved by one of the entries
-pub record IsClaimProved (root : TrustedRoot) (bundle : SigstoreBundle)
-    (signature certificate : List ℕ) (entries : List ListedEntry) (leaf : Facts) : Type 0 where
-  pub logged : Logged
-  pub about : IsAbout bundle.envelope signature certificate logged
-  pub proved : Any (IsProvedBy root (needs_proof bundle.version) logged leaf) entries

@@ -1,0 +1,130 @@
+-- Which condition a bundle misses that vouches for nobody: the first that it does not meet, in an
+-- order that is this profile's choice. It meets those before, and what is said of each says so.
+use Rattle.std.specs.Prelude.{◌≡◌, ◌≢◌, ℕ, List, None, MatchOption, Any, Contains, length}
+use Rattle.it_bundle.specs.declared.bundle.SigstoreBundle.{SigstoreBundle}
+use Rattle.it_bundle.specs.declared.certificate.BundleCertificate.TheVariants.{Bytes, Lacks}
+use Rattle.it_bundle.specs.declared.entries.BundleEntries.TheVariants.{Missing, TooMany}
+use Rattle.it_bundle.specs.declared.listed_entry.ListedEntry.{ListedEntry}
+use Rattle.it_bundle.specs.declared.listed_entry.ListedEntry.TheVariants.{Entry}
+use Rattle.it_bundle.specs.declared.material.Material.{Material}
+use Rattle.it_certificate.specs.Certificate.{Facts}
+use Rattle.it_certificate.specs.Leaf.{LeafOf}
+use Rattle.it_dsse.specs.Signed.{message_of}
+use Rattle.it_identity.specs.Identity.{IsIdentity, IsShort}
+use Rattle.it_identity.specs.declared.identity.Identity.{Identity}
+use Rattle.it_issued.specs.Signature.{IsByP256, key_info}
+use Rattle.it_log_entry.specs.declared.entry.LogEntry.{LogEntry}
+use Rattle.it_log_entry.specs.declared.logged.Logged.{Logged}
+use Rattle.it_trust_root.specs.declared.root.TrustedRoot.{TrustedRoot}
+use Rattle.it_vouches.specs.Claim.{Claims, needs_proof}
+use Rattle.it_vouches.specs.Logged.{IsAbout, VouchesBy}
+use Rattle.it_vouches.specs.Vouches.{IsAttested}
+use Rattle.it_vouches.specs.declared.shortfall.Shortfall.{Shortfall}
+use Rattle.it_vouches.specs.declared.shortfall.Shortfall.TheVariants as shortfalls
+
+-- its envelope has one signature
+abbrev pub HasOneSignature : SigstoreBundle → Type 0
+HasOneSignature bundle = length bundle.envelope.signatures ≡ 1
+
+-- its material has the bytes of a certificate
+abbrev pub HasCertificate : Material → Type 0
+HasCertificate material = (bytes : List ℕ) × (material.certificate ≡ Bytes bytes)
+
+-- it has material, of which this is so
+abbrev pub HasMaterial : SigstoreBundle → (Material → Type 0) → Type 0
+HasMaterial bundle IsSo = HasOneSignature bundle × MatchOption bundle.material ⊥ IsSo
+
+-- what a bundle brings: its one signature, its certificate and its entries
+pub record Brought : Type 0 where
+  pub signature : List ℕ
+  pub certificate : List ℕ
+  pub entries : List ListedEntry
+
+abbrev pub Brings : SigstoreBundle → Brought → Type 0
+Brings bundle brought = Claims bundle brought.signature brought.certificate brought.entries
+
+-- its certificate is no leaf
+pub record MissesLeaf (bundle : SigstoreBundle) : Type 0 where
+  pub brought : Brought
+  pub brings : Brings bundle brought
+  pub no_leaf : (leaf : Facts) (name issuer : List ℕ)
+      → ¬ LeafOf brought.certificate leaf name issuer
+
+-- its certificate is a leaf, but the name or the issuer in that is empty or long
+pub record MissesIdentity (bundle : SigstoreBundle) : Type 0 where
+  pub brought : Brought
+  pub leaf : Facts
+  pub name : List ℕ
+  pub issuer : List ℕ
+  pub brings : Brings bundle brought
+  pub leaf_is : LeafOf brought.certificate leaf name issuer
+  pub not_short : ¬ (IsShort name × IsShort issuer)
+
+-- its certificate is this leaf, which names this identity
+pub record Names (bundle : SigstoreBundle) (brought : Brought) (leaf : Facts) (identity : Identity)
+    : Type 0 where
+  pub brings : Brings bundle brought
+  pub leaf_is : LeafOf brought.certificate leaf identity.name identity.issuer
+  pub is_identity : IsIdentity identity
+
+-- an entry that it brings is about its signature, and a log of the root vouches by it
+pub record IsByLog (root : TrustedRoot) (bundle : SigstoreBundle) (brought : Brought)
+    (entry : LogEntry) : Type 0 where
+  pub logged : Logged
+  pub is_entry : Contains brought.entries (Entry entry)
+  pub about : IsAbout bundle.envelope brought.signature brought.certificate logged
+  pub by_log : Any (VouchesBy (needs_proof bundle.version) entry logged) root.logs
+
+abbrev pub HasLog : TrustedRoot → SigstoreBundle → Brought → Type 0
+HasLog root bundle brought = (entry : LogEntry) × IsByLog root bundle brought entry
+
+-- and at the time of one of these the leaf is attested
+pub record HasIssuer (root : TrustedRoot) (bundle : SigstoreBundle) (brought : Brought)
+    (leaf : Facts) : Type 0 where
+  pub entry : LogEntry
+  pub by_log : IsByLog root bundle brought entry
+  pub attested : IsAttested root leaf entry.time
+
+-- it names an identity, but no log vouches
+pub record MissesLog (root : TrustedRoot) (bundle : SigstoreBundle) : Type 0 where
+  pub brought : Brought
+  pub leaf : Facts
+  pub identity : Identity
+  pub names : Names bundle brought leaf identity
+  pub no_log : ¬ HasLog root bundle brought
+
+-- a log vouches, but the leaf is not attested
+pub record MissesIssuer (root : TrustedRoot) (bundle : SigstoreBundle) : Type 0 where
+  pub brought : Brought
+  pub leaf : Facts
+  pub identity : Identity
+  pub names : Names bundle brought leaf identity
+  pub has_log : HasLog root bundle brought
+  pub no_issuer : ¬ HasIssuer root bundle brought leaf
+
+-- the leaf is attested, but its key did not sign the envelope
+pub record MissesSignature (root : TrustedRoot) (bundle : SigstoreBundle) : Type 0 where
+  pub brought : Brought
+  pub leaf : Facts
+  pub identity : Identity
+  pub names : Names bundle brought leaf identity
+  pub has_issuer : HasIssuer root bundle brought leaf
+  pub not_signed : ¬ IsByP256 (key_info leaf.curve leaf.coordinates) (message_of bundle.envelope)
+      brought.signature
+
+-- a bundle misses this condition, by the trusted root, and none before
+abbrev pub Misses : TrustedRoot → SigstoreBundle → Shortfall → Type 0
+Misses root bundle (shortfalls.Signatures count) =
+    (count ≡ length bundle.envelope.signatures) × (count ≢ 1)
+Misses root bundle shortfalls.Material = HasOneSignature bundle × (bundle.material ≡ None)
+Misses root bundle (shortfalls.Certificate reason) =
+    HasMaterial bundle (λ material. material.certificate ≡ Lacks reason)
+Misses root bundle shortfalls.NoEntry =
+    HasMaterial bundle (λ material. HasCertificate material × (material.entries ≡ Missing))
+Misses root bundle shortfalls.ManyEntries =
+    HasMaterial bundle (λ material. HasCertificate material × (material.entries ≡ TooMany))
+Misses root bundle shortfalls.Leaf = MissesLeaf bundle
+Misses root bundle shortfalls.Identity = MissesIdentity bundle
+Misses root bundle shortfalls.Log = MissesLog root bundle
+Misses root bundle shortfalls.Issuer = MissesIssuer root bundle
+Misses root bundle shortfalls.Signature = MissesSignature root bundle

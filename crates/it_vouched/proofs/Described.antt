@@ -1,5 +1,5 @@
 -- The identities that JSON key objects describe.
-use Rattle.std.proofs.Common.{◌≡◌, ◌∙◌, ◌↔◌, ◌<◌, ◌≤◌, ◌&&◌, ℕ, List, [], ◌∷◌, Bool, true, false, Option, Some, None}
+use Rattle.std.proofs.Common.{◌≡◌, ◌∙◌, ◌↔◌, ◌≤◌, ◌&&◌, ℕ, List, [], Bool, true, false, Option, Some, None}
 use Rattle.std.proofs.Common.{if◌then◌else◌, MatchOption, option_and_then, unwrap_or, ap, arith, codes, length, nat_le, refl, subst, sym}
 use Rattle.std.specs.Str.{bytes_eq}
 use Rattle.std.proofs.lemmas.Bool.Decides.{nat_tests}

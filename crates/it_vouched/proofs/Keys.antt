@@ -1,6 +1,6 @@
 -- The keys of key objects.
-use Rattle.std.proofs.Common.{◌≡◌, ◌∙◌, ◌<◌, ◌≤◌, ◌&&◌, ℕ, List, Bool, true, false, Option, Some, None, option_map}
-use Rattle.std.proofs.Common.{if◌then◌else◌, ap, arith, codes, get_or, length, nat_le, refl, sym}
+use Rattle.std.proofs.Common.{◌≡◌, ◌∙◌, ◌≤◌, ◌&&◌, ℕ, List, Bool, true, false, Some, None, option_map}
+use Rattle.std.proofs.Common.{if◌then◌else◌, ap, arith, codes, length, nat_le, refl, sym}
 use Rattle.std.specs.Str.{bytes_eq}
 use Rattle.std.proofs.lemmas.Bool.Decides.{nat_tests}
 use Rattle.std.proofs.lemmas.Option.{same_Some}

@@ -69,8 +69,8 @@ fn identity_reason(alloc: Global, object: &KeyObject) -> Result<Reason, AllocErr
 {
     let name = object.identity.as_str().as_bytes();
     let issuer = object.issuer.as_str().as_bytes();
-    match Identity::of(alloc, name, issuer)? {
-        Some(_) => Ok(Reason::Identity),
-        None => Ok(Reason::NoIdentity),
-    }
+    let Some(_) = Identity::of(alloc, name, issuer)? else {
+        return Ok(Reason::NoIdentity);
+    };
+    Ok(Reason::Identity)
 }

@@ -1,3 +1,4 @@
+pub mod OneKey
 pub mod Stepped
 pub mod Taken
 pub mod Tying

@@ -1,8 +1,8 @@
 -- What is proved about deliveries that are accepted with nothing found (in-toto 1.0 sections 4.3.3
--- and 5.2).
+-- and 5.2; FIPS 186-5, section 6.4).
 use Rattle.std.specs.FinMap.{get}
 use Rattle.std.specs.List.{slice_get}
-use Rattle.std.specs.Prelude.{◌≡◌, ℕ, List, ◌++◌, Some}
+use Rattle.std.specs.Prelude.{◌≡◌, ℕ, Contains, List, ◌++◌, Some}
 use Rattle.it_digest.specs.Compare.{Agree}
 use Rattle.it_digest.specs.declared.compare.DigestSet.{DigestSet}
 use Rattle.it_dsse.specs.Panel.{Panel}
@@ -14,6 +14,8 @@ use Rattle.it_rules.specs.Rules.{IsFree, IsMatch}
 use Rattle.it_chain.specs.Chain.{holds_below}
 use Rattle.it_chain.specs.Level.{StepHolds}
 use Rattle.it_chain.specs.declared.chain.StepResult.{StepResult}
+use Rattle.it_nonces.specs.declared.nonce_use.NonceUse.{NonceUse}
+use Rattle.it_p256_limbs.specs.Numbers.{value_of}
 use Rattle.it_verify.specs.Delivered.{delivery}
 use Rattle.it_verify.specs.Documents.{setting_of}
 use Rattle.it_verify.specs.Evidence.{evidence_links}
@@ -22,6 +24,7 @@ use Rattle.it_verify.specs.declared.documents.Documents.{Documents}
 use Rattle.it_verify.specs.declared.evidence.Evidence.{Evidence}
 use Rattle.it_verify.specs.declared.inputs.Inputs.{Inputs}
 use Rattle.it_strict.specs.Found.{AreFound, Found, IsNothing}
+use Rattle.it_strict.specs.Nonces.{AreUsesIn}
 
 -- the step at a place of the layout, and its record: the step holds with it, so that all that
 -- counts for the step yields this record, and at least as many different keys as the step's
@@ -72,3 +75,18 @@ DeliveredAreProducts =
     → AreFound panel inputs documents evidence found → IsNothing found
     → get documents.delivered path ≡ Some digests
     → IsProduct panel inputs documents evidence path digests
+
+-- of the signatures by ECDSA over P-256 that count, those with the same number r are by one key
+pub record NoNonceIsShared (panel : Panel) (inputs : Inputs) (documents : Documents) : Type 0
+  where
+    pub uses : List NonceUse
+    pub are_uses : AreUsesIn panel inputs documents uses
+    pub by_one_key : (a b : NonceUse) → Contains uses a → Contains uses b
+        → value_of a.r ≡ value_of b.r → a.key ≡ b.key
+
+-- where nothing is found, no two different keys signed with one nonce
+abbrev pub NoncesAreOfOneKey : Type 0
+NoncesAreOfOneKey =
+    (panel : Panel) (inputs : Inputs) (documents : Documents) (evidence : Evidence) (found : Found)
+    → AreFound panel inputs documents evidence found → IsNothing found
+    → NoNonceIsShared panel inputs documents

@@ -1,7 +1,8 @@
 //! What is found in the sublayouts of a delivery that is accepted.
-ghost use Rattle.std.specs.Prelude.{◌≤◌, IfOk};
+ghost use Rattle.std.specs.Prelude.{◌≤◌, [], IfOk};
 ghost use Rattle.std.specs.List.{AllZip};
 ghost use Rattle.it_chain.specs.Chain.{Chain};
+ghost use Rattle.it_sublayouts.specs.Counted.{AreCounted};
 ghost use Rattle.it_strict.specs.Below.{AreFoundBelow, IsFoundBelow};
 ghost use Rattle.it_verify.specs.Documents.{setting_of};
 
@@ -44,6 +45,29 @@ pub fn found_below<C: Checks>(
     ensures { IfOk result (λ found.
         AreFoundBelow (C.panel checks.now) inputs.now documents.now found.items) }
 {
+    let sublayouts = counted_below(alloc, inputs, documents, checks)?;
+    found_in_each(alloc, sublayouts)
+}
+
+/// The sublayouts that count, where the layout of a delivery holds, in the same order. The `checks`
+/// check the signatures.
+///
+/// # Errors
+///
+/// `AllocError` where memory was refused, or where the checks refuse to check more signatures.
+pub(crate) fn counted_below<C: Checks>(
+    alloc: Global,
+    inputs: &Inputs,
+    documents: &Documents,
+    checks: &C,
+) -> Result<Vec<CountedSublayout>, AllocError>
+    requires shallow { inputs.now.depth ≤ 8 }
+    requires holds { (results : _) × Chain (setting_of (C.panel checks.now) documents.now)
+        inputs.now.depth documents.now.layout inputs.now.links results }
+    ensures { IfOk result (λ sublayouts. AreCounted (setting_of (C.panel checks.now)
+        documents.now) inputs.now.depth [] documents.now.layout inputs.now.links
+        sublayouts.items) }
+{
     let level = Level {
         at: &[],
         layout: &documents.layout,
@@ -51,12 +75,15 @@ pub fn found_below<C: Checks>(
         moment: documents.moment,
         depth: inputs.depth,
     };
-    let sublayouts = counted_sublayouts(alloc, &level, checks)?;
-    found_in_each(alloc, sublayouts)
+    counted_sublayouts(alloc, &level, checks)
 }
 
 /// What is found in each of some sublayouts.
-fn found_in_each(
+///
+/// # Errors
+///
+/// `AllocError` where memory was refused.
+pub(crate) fn found_in_each(
     alloc: Global,
     sublayouts: Vec<CountedSublayout>,
 ) -> Result<Vec<FoundBelow>, AllocError>

@@ -119,7 +119,7 @@ fn push_start_of(
 
 /// Appends how a sublayout is named as a document.
 #[tactic(auto, unfolding(crate::specs::BelowText::below_document))]
-fn push_document(text: &mut Vec<u8>, at: &[(Text, Text)]) -> Result<(), AllocError>
+pub(crate) fn push_document(text: &mut Vec<u8>, at: &[(Text, Text)]) -> Result<(), AllocError>
     ensures { OnOk result (text.new.items ≡ text.old.items ++ below_document at.now) }
 {
     push_text(text, "layout at ")?;

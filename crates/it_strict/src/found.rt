@@ -5,9 +5,11 @@ ghost use Rattle.it_strict.specs.Counting.{LayoutCounting};
 ghost use Rattle.it_strict.specs.Found.{AreFound, IsNothing, PolicyFound};
 ghost use Rattle.it_strict.specs.FoundText.{found_text};
 
-use crate::below::{FoundBelow, found_below};
+use crate::below::{FoundBelow, counted_below, found_in_each};
 use crate::below_lines::push_all_below;
 use crate::counting::counting_findings;
+use crate::nonce_lines::push_shared_nonces;
+use crate::nonces::nonces_shared;
 use crate::untied::untied_files;
 use crate::untied_lines::push_untied;
 use crate::unused::unused_findings;
@@ -17,6 +19,7 @@ use it_check::{findings_in_policy, push_findings};
 use it_dsse::checks::Checks;
 use it_findings::finding::Finding;
 use it_findings::{policy_members, policy_nulls};
+use it_nonces::SharedNonce;
 use it_verify::documents::Documents;
 use it_verify::evidence::Evidence;
 use it_verify::grounds::Grounds;
@@ -36,6 +39,10 @@ pub struct Found {
     pub of_sublayouts: Sequence<FoundBelow>,
     /// The paths of the delivered files that are tied to no step, in the order of their bytes.
     pub untied: Sequence<Text>,
+    /// The signatures by ECDSA over P-256 that count and whose number r is that of an earlier one
+    /// by a different key, each with the first of all that have this r: in the order of owners,
+    /// then of the layout's steps, of their key ids and of the files, then of the sublayouts.
+    pub shared_nonces: Sequence<SharedNonce>,
 }
 
 /// All that is found where a delivery of the `inputs` is accepted on these grounds by the `checks`.
@@ -59,13 +66,16 @@ pub fn found_in<C: Checks>(
     let evidence = &grounds.evidence;
     let of_policy = found_in_policy(alloc, inputs.policy.as_slice(), documents)?;
     let of_layout = found_in_layout(alloc, documents, evidence)?;
-    let of_sublayouts = found_below(alloc, inputs, documents, checks)?;
     let untied = untied_files(alloc, documents, evidence)?;
+    let sublayouts = counted_below(alloc, inputs, documents, checks)?;
+    let shared_nonces = nonces_shared(alloc, inputs, documents, sublayouts.as_slice(), checks)?;
+    let of_sublayouts = found_in_each(alloc, sublayouts)?;
     Ok(Found {
         of_policy: Sequence::from(of_policy),
         of_layout: Sequence::from(of_layout),
         of_sublayouts: Sequence::from(of_sublayouts),
         untied: Sequence::from(untied),
+        shared_nonces: Sequence::from(shared_nonces),
     })
 }
 
@@ -118,12 +128,13 @@ impl Found {
             && self.of_layout.as_slice().is_empty()
             && is_nothing_below(self.of_sublayouts.as_slice())
             && self.untied.as_slice().is_empty()
+            && self.shared_nonces.as_slice().is_empty()
     }
 
     /// Appends the lines of what is found, each of which ends with a line feed: those of the policy
     /// and those of the layout as `push_findings` writes them, those of each sublayout with its
-    /// place, and then those of the first 40 files that are tied to no step, and how many there are
-    /// where there are more.
+    /// place, then those of the first 40 files that are tied to no step, and how many there are
+    /// where there are more, and last the same of shared nonces.
     ///
     /// # Errors
     ///
@@ -135,7 +146,8 @@ impl Found {
         push_findings(text, "policy", self.of_policy.as_slice())?;
         push_findings(text, "layout", self.of_layout.as_slice())?;
         push_all_below(text, self.of_sublayouts.as_slice())?;
-        push_untied(text, self.untied.as_slice())
+        push_untied(text, self.untied.as_slice())?;
+        push_shared_nonces(text, self.shared_nonces.as_slice())
     }
 }
 

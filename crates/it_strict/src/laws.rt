@@ -1,9 +1,15 @@
-//! A law about deliveries that are accepted with nothing found: a function that does nothing and
-//! whose contract holds for all inputs and every panel of checks.
-ghost use Rattle.it_strict.specs.StrictLaws.{DeliveredAreProducts};
+//! Laws about deliveries that are accepted with nothing found: functions that do nothing and whose
+//! contracts hold for all inputs and every panel of checks.
+ghost use Rattle.it_strict.specs.StrictLaws.{DeliveredAreProducts, NoncesAreOfOneKey};
 
 /// Where delivered files were made as the owners prescribed, and nothing is found, each delivered
 /// file is a product of a step of the layout.
 pub fn delivered_are_products()
     ensures { DeliveredAreProducts }
+{}
+
+/// Where nothing is found, no two different keys signed with one nonce, among all signatures by
+/// ECDSA over P-256 that count.
+pub fn nonces_are_of_one_key()
+    ensures { NoncesAreOfOneKey }
 {}

@@ -1,6 +1,6 @@
 //! What is found where a delivery is accepted: what in its policy, its layout and its sublayouts
-//! may let through what their authors did not mean, and the delivered files that are tied to no
-//! step.
+//! may let through what their authors did not mean, the delivered files that are tied to no step,
+//! and the signatures of different keys that share a nonce.
 #![tactic(auto)]
 
 pub mod below;
@@ -8,9 +8,14 @@ mod below_lines;
 mod counting;
 pub mod found;
 pub mod laws;
+mod nonce_lines;
+mod nonces;
 mod untied;
 mod untied_lines;
 mod unused;
 
 pub use below_lines::push_placed_finding;
+pub use nonce_lines::{
+    SHARED_NONCE_NAME, keys_at, keys_document, keys_pointer, push_nonce_sentence,
+};
 pub use untied_lines::{UNTIED_NAME, UNTIED_POINTER, push_untied_sentence};

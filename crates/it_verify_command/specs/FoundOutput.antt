@@ -5,7 +5,9 @@ use Rattle.std.specs.List.{flat_map}
 use Rattle.it_base.specs.Writing.{AppendsBeginning}
 use Rattle.it_json_report.specs.FullReport.{findings_json_of}
 use Rattle.it_json_report.specs.declared.full.ReportFinding.{ReportFinding}
+use Rattle.it_nonces.specs.declared.shared.SharedNonce.{SharedNonce}
 use Rattle.it_strict.specs.FoundText.{found_text, untied_sentence}
+use Rattle.it_strict.specs.NonceText.{keys_at, keys_document, keys_pointer, nonce_sentence}
 use Rattle.it_strict.specs.declared.found.Found.{Found}
 use Rattle.it_verify_command.specs.FullOutput.{shown_below, shown_finding}
 use Rattle.it_verify_command.specs.declared.output_form.OutputForm.{OutputForm}
@@ -22,12 +24,23 @@ shown_untied path = record {
   sentence = untied_sentence path;
 }
 
--- all that is found, as it is written: in the policy, in the layout, in the sublayouts, and then
--- the files that are tied to no step
+-- two keys that signed with one nonce, as they are written: at the keys of the one that comes later
+abbrev pub shown_nonce : SharedNonce → ReportFinding
+shown_nonce shared = record {
+  document = keys_document shared.signer.role;
+  at = keys_at shared.signer.role;
+  name = codes "shared-nonce";
+  place = keys_pointer shared.signer.role;
+  sentence = nonce_sentence shared;
+}
+
+-- all that is found, as it is written: in the policy, in the layout, in the sublayouts, then the
+-- files that are tied to no step, and then the nonces that are shared
 abbrev pub found_shown : Found → List ReportFinding
 found_shown found =
     map (shown_finding []) found.of_policy ++ map (shown_finding []) found.of_layout
     ++ flat_map shown_below found.of_sublayouts ++ map shown_untied found.untied
+    ++ map shown_nonce found.shared_nonces
 
 -- all that is found, as a text: in the full form one JSON object, and otherwise lines
 abbrev pub found_in : OutputForm → Found → List ℕ

@@ -79,7 +79,10 @@ fn shown_finding(
 }
 
 /// A copy of the sublayouts down to a layout.
-fn copied(alloc: Global, at: &[(Text, Text)]) -> Result<Sequence<(Text, Text)>, AllocError>
+pub(crate) fn copied(
+    alloc: Global,
+    at: &[(Text, Text)],
+) -> Result<Sequence<(Text, Text)>, AllocError>
     ensures { IfOk result (λ copy. copy ≡ at.now) }
 {
     let mut copy = Vec::new(alloc);

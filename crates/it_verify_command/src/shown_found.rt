@@ -1,17 +1,21 @@
 //! What is found against a delivery, as it is written in JSON.
 ghost use Rattle.std.specs.Prelude.{◌≡◌, ◌++◌, IfOk, OnOk, map};
-ghost use Rattle.it_verify_command.specs.FoundOutput.{found_shown, shown_untied};
+ghost use Rattle.it_verify_command.specs.FoundOutput.{found_shown, shown_nonce, shown_untied};
 
-use crate::shown_findings::{push_below, push_shown};
+use crate::shown_findings::{copied, push_below, push_shown};
 use it_base::sequence::Sequence;
 use it_base::text::Text;
 use it_json_report::full::ReportFinding;
+use it_nonces::SharedNonce;
 use it_strict::found::Found;
-use it_strict::{UNTIED_NAME, UNTIED_POINTER, push_untied_sentence};
+use it_strict::{
+    SHARED_NONCE_NAME, UNTIED_NAME, UNTIED_POINTER, keys_at, keys_document, keys_pointer,
+    push_nonce_sentence, push_untied_sentence,
+};
 use std::alloc::{AllocError, Global};
 
-/// All that is found: in the policy, in the layout and in the sublayouts, and then the files that
-/// are tied to no step.
+/// All that is found: in the policy, in the layout and in the sublayouts, then the files that are
+/// tied to no step, and then the nonces that are shared.
 pub(crate) fn shown_found(alloc: Global, found: &Found) -> Result<Vec<ReportFinding>, AllocError>
     ensures { IfOk result (λ findings. findings.items ≡ found_shown found.now) }
 {
@@ -20,6 +24,7 @@ pub(crate) fn shown_found(alloc: Global, found: &Found) -> Result<Vec<ReportFind
     push_shown(alloc, &mut findings, &[], found.of_layout.as_slice())?;
     push_below(alloc, &mut findings, found.of_sublayouts.as_slice())?;
     push_untied(alloc, &mut findings, found.untied.as_slice())?;
+    push_nonces(alloc, &mut findings, found.shared_nonces.as_slice())?;
     Ok(findings)
 }
 
@@ -47,6 +52,36 @@ fn shown_untied(alloc: Global, path: &Text) -> Result<ReportFinding, AllocError>
         document: Text::copy(alloc, "policy")?,
         at: Sequence::from(Vec::new(alloc)),
         name: Text::copy(alloc, UNTIED_NAME)?,
+        place: Sequence::from(place),
+        sentence: Sequence::from(sentence),
+    })
+}
+
+/// Adds the nonces that are shared, as they are written.
+fn push_nonces(
+    alloc: Global,
+    findings: &mut Vec<ReportFinding>,
+    shared: &[SharedNonce],
+) -> Result<(), AllocError>
+    ensures { OnOk result (findings.new.items ≡ findings.old.items ++ map shown_nonce shared.now) }
+{
+    for nonce in shared {
+        findings.push(shown_nonce(alloc, nonce)?)?;
+    }
+    Ok(())
+}
+
+fn shown_nonce(alloc: Global, shared: &SharedNonce) -> Result<ReportFinding, AllocError>
+    ensures { IfOk result (λ shown. shown ≡ shown_nonce shared.now) }
+{
+    let role = &shared.signer.role;
+    let place = Vec::from_slice(alloc, keys_pointer(role).as_bytes())?;
+    let mut sentence = Vec::new(alloc);
+    push_nonce_sentence(&mut sentence, shared)?;
+    Ok(ReportFinding {
+        document: Text::copy(alloc, keys_document(role))?,
+        at: copied(alloc, keys_at(role))?,
+        name: Text::copy(alloc, SHARED_NONCE_NAME)?,
         place: Sequence::from(place),
         sentence: Sequence::from(sentence),
     })

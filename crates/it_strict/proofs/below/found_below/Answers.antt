@@ -1,13 +1,7 @@
-use Rattle.std.proofs.Common.{rules, w64}
 use Rattle.std.specs.List.{AllZip}
-use Rattle.std.proofs.lemmas.Int.{to_z-of_z}
 use Rattle.std.proofs.lemmas.Result.{IfOk-weaker}
 use Rattle.it_strict.specs.Below.{AreFoundBelow, IsFoundBelow}
 use Rattle.it_strict.proofs.below.found_below.Goals as goal
-
-pub counted_sublayouts-requires-clause-holds : goal.counted_sublayouts-requires-clause-holds
-counted_sublayouts-requires-clause-holds g c =
-    rw (to_z-of_z w64 c.args.documents.now.moment (search rules)) c.requires.holds
 
 pub returns : goal.returns
 returns g c =
@@ -17,8 +11,7 @@ returns g c =
     (λ found. AreFoundBelow panel c.args.inputs.now c.args.documents.now found.items)
     (λ found each. record {
       sublayouts = sublayouts;
-      are_counted = rw (to_z-of_z w64 c.args.documents.now.moment (search rules)) at
-          c.in_ok-sublayouts.ensures;
+      are_counted = c.in_ok-sublayouts.ensures;
       each = each;
     })
     c.found_in_each.ensures

@@ -1,0 +1,89 @@
+"""Signatures of ECDSA over P-256 with chosen nonces, as no signer should make them.
+
+The rules are those of FIPS 186-5 (section 6.4) and SP 800-186 (section 3.2.1). The secret of a key
+is made from its holder's name.
+"""
+
+import base64
+import hashlib
+
+from key_texts import X, Y, der, point
+
+P = 2 ** 256 - 2 ** 224 + 2 ** 192 + 2 ** 96 - 1
+ORDER = 0xFFFFFFFF00000000FFFFFFFFFFFFFFFFBCE6FAADA7179E84F3B9CAC2FC632551
+B = 0x5AC635D8AA3A93E7B3EBBD55769886BC651D06B0CC53B0F63BCE3C3E27D2604B
+BASE = (int(X, 16), int(Y, 16))
+
+
+def add(one, other):
+    """The sum of two points; None is infinity."""
+    if one is None or other is None:
+        return one or other
+    (x, y), (z, t) = one, other
+    if x == z and (y + t) % P == 0:
+        return None
+    slope = (3 * x * x - 3) * pow(2 * y, -1, P) if one == other else (t - y) * pow(z - x, -1, P)
+    third = (slope * slope - x - z) % P
+    return third, (slope * (x - third) - y) % P
+
+
+def times(number, base):
+    """A multiple of a point."""
+    total = None
+    for bit in bin(number % ORDER)[2:]:
+        total = add(total, total)
+        if bit == "1":
+            total = add(total, base)
+    return total
+
+
+def number_of(message):
+    """The number that is signed for a message."""
+    return int.from_bytes(hashlib.sha256(message).digest(), "big")
+
+
+def secret_of(who):
+    """The secret number of somebody's key."""
+    return int.from_bytes(hashlib.sha256(who.encode()).digest(), "big") % (ORDER - 1) + 1
+
+
+def public_of(who):
+    """The point of somebody's key."""
+    return times(secret_of(who), BASE)
+
+
+def numbers(who, nonce, message):
+    """The numbers r and s of somebody's signature of a message with this nonce."""
+    r = times(nonce, BASE)[0] % ORDER
+    return r, (number_of(message) + r * secret_of(who)) * pow(nonce, -1, ORDER) % ORDER
+
+
+def accepting(pair, message):
+    """The two keys that accept a signature of a message, of numbers r and s, whose r is below P.
+
+    Each follows from one of the two points whose first coordinate is r.
+    """
+    r, s = pair
+    y = pow(r * r * r - 3 * r + B, (P + 1) // 4, P)
+    back = pow(r, -1, ORDER)
+    hashed = times(-number_of(message) * back, BASE)
+    return [add(times(s * back, (r, one)), hashed) for one in (y, P - y)]
+
+
+def other_key(who, pair, message):
+    """The key besides somebody's own that accepts a signature of a message."""
+    own = public_of(who)
+    first, second = accepting(pair, message)
+    return second if first == own else first
+
+
+def key(public):
+    """The object of the key of a point."""
+    text = point("04" + "".join(f"{coordinate:064x}" for coordinate in public))
+    return {"keytype": "ecdsa", "scheme": "ecdsa-sha2-nistp256", "keyval": {"public": text}}
+
+
+def encoded(pair):
+    """A signature in DER and base64, as an envelope has it (RFC 3279, section 2.2.3)."""
+    parts = (der(2, one.to_bytes(one.bit_length() // 8 + 1, "big")) for one in pair)
+    return base64.b64encode(der(48, b"".join(parts))).decode()

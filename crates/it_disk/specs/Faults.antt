@@ -6,6 +6,7 @@ use Rattle.it_dsse.specs.declared.ring_entry.RingEntry.{RingEntry}
 use Rattle.it_base.specs.Table.{Named}
 use Rattle.it_key_commands.specs.KeysFile.{KeysOf}
 use Rattle.it_outcome.specs.declared.outcome.RunFault.TheVariants.{OutOfMemory}
+use Rattle.it_trust_root.specs.RootPart.{RootPartOf}
 use Rattle.it_words.specs.declared.words.WordsFault.{WordsFault}
 use Rattle.it_words.specs.declared.words.WordsFault.TheVariants.{Unread, OutOfMemory as no_memory}
 use Rattle.it_disk.specs.Reading.{Holdings}
@@ -16,6 +17,7 @@ use Rattle.it_disk.specs.declared.fault.Fault.TheVariants.{
   BadKeys,
   BadLine,
   BadRing,
+  BadRoot,
   Run,
   TooLarge,
   Unreadable,
@@ -86,3 +88,10 @@ abbrev pub IsNoKeys : Holdings → List ℕ → Fault → Type 0
 IsNoKeys disk path (BadKeys shown) = Shows shown path
     × (bytes : List ℕ) × disk.file path bytes × ((keys : Named KeyObject) → ¬ KeysOf bytes keys)
 IsNoKeys disk path other = ⊥
+
+-- the fault says that the file at the path is no trusted root, and which part of it is the first
+-- that fails
+abbrev pub IsNoRoot : Holdings → List ℕ → Fault → Type 0
+IsNoRoot disk path (BadRoot shown flaw) = Shows shown path
+    × (bytes : List ℕ) × disk.file path bytes × RootPartOf bytes flaw.part
+IsNoRoot disk path other = ⊥

@@ -7,6 +7,8 @@ use Rattle.it_dsse.specs.declared.key_object.KeyObject.{KeyObject}
 use Rattle.it_dsse.specs.declared.ring_entry.RingEntry.{RingEntry}
 use Rattle.it_key_commands.specs.KeysFile.{KeysOf}
 use Rattle.it_limits.specs.Links.{AreFilesWithin}
+use Rattle.it_trust_root.specs.Root.{RootOf}
+use Rattle.it_trust_root.specs.declared.root.TrustedRoot.{TrustedRoot}
 use Rattle.it_disk.specs.declared.folders.Kind.{Kind}
 use Rattle.it_disk.specs.declared.listing.Listed.{Listed}
 
@@ -63,3 +65,7 @@ HoldsKeys disk path objects =
 -- the file at the path is this ring
 abbrev pub HoldsRing : Holdings → List ℕ → List RingEntry → Type 0
 HoldsRing disk path ring = (bytes : List ℕ) × disk.file path bytes × RingOf bytes ring
+
+-- the file at the path is this trusted root
+abbrev pub HoldsRoot : Holdings → List ℕ → TrustedRoot → Type 0
+HoldsRoot disk path root = (bytes : List ℕ) × disk.file path bytes × RootOf bytes root

@@ -1,14 +1,11 @@
 //! Why the program stops, as its notes say it.
-ghost use Rattle.std.specs.Prelude.{◌≡◌, ◌≢◌, ◌⊎◌, [], IfOk, codes, unwrap_or};
-ghost use Rattle.std.specs.IoError.{error_kind};
+ghost use Rattle.std.specs.Prelude.{◌≡◌, [], IfOk, unwrap_or};
 ghost use Rattle.it_outcome.specs.declared.outcome.RunFault.TheVariants.{OutOfMemory};
-ghost use Rattle.it_disk.specs.Faults.{IsBadLine, IsReadFault, IsUnreadFor, IsUnreadable};
-ghost use Rattle.it_disk.specs.Faults.{IsUnwritable, IsWords, SaysOfWords, fault_of_words};
-ghost use Rattle.it_disk.specs.inside.Listing.{IsBadName};
+ghost use Rattle.it_disk.specs.Faults.{IsBadLine, IsUnreadFor, IsWords, fault_of_words};
 ghost use Rattle.it_disk.specs.declared.fault.Fault.TheVariants.{Run};
 
-use crate::reason::reason_of;
 use crate::ring_flaw::RingFlaw;
+use crate::root_flaw::RootFlaw;
 use crate::shown::Shown;
 use crate::signature_fault::SignatureFault;
 use it_base::text::Text;
@@ -16,7 +13,6 @@ use it_key_commands::{FileFault, KeyFault};
 use it_outcome::RunFault;
 use it_words::words::WordsFault;
 use std::alloc::{AllocError, AllocFailed, Global};
-use std::io::{self, ErrorKind};
 use thiserror::Error;
 
 /// Why the program stops.
@@ -61,6 +57,9 @@ pub enum Fault {
     /// A file is no ring, for this reason.
     #[error("{path} is no ring of secrets: {flaw}")]
     BadRing { path: Shown, flaw: RingFlaw },
+    /// A file is no trusted root, for this reason.
+    #[error("the trusted root {path} does not read: {flaw}")]
+    BadRoot { path: Shown, flaw: RootFlaw },
     /// A ring has no entry with this id.
     #[error("{path} has no key {id}")]
     UnknownKey { path: Shown, id: Shown },
@@ -138,66 +137,6 @@ impl From<WordsFault> for Fault {
 }
 
 impl Fault {
-    /// The fault of words that the system did not give.
-    pub fn of_words(alloc: Global, error: &io::Error) -> Fault
-        ensures memory { error_kind error.now ≡ ErrorKind.OutOfMemory → result ≡ Run OutOfMemory }
-        ensures other { SaysOfWords (codes "the words cannot be read") result
-            ⊎ (result ≡ Run OutOfMemory) }
-    {
-        if error.kind() == ErrorKind::OutOfMemory {
-            return Fault::from(AllocError);
-        }
-        match String::from_str(alloc, "the words cannot be read") {
-            Ok(reason) => Fault::Words(reason),
-            Err(error) => Fault::from(error),
-        }
-    }
-
-    /// The fault of a file that cannot be read.
-    pub(crate) fn of_file(alloc: Global, path: &str, error: &io::Error) -> Fault
-        ensures memory { error_kind error.now ≡ ErrorKind.OutOfMemory → result ≡ Run OutOfMemory }
-        ensures other { IsReadFault path.now result }
-    {
-        if error.kind() == ErrorKind::OutOfMemory {
-            return Fault::from(AllocError);
-        }
-        match Fault::unreadable(alloc, path, error) {
-            Ok(fault) => fault,
-            Err(error) => Fault::from(error),
-        }
-    }
-
-    /// The fault of a folder with an entry that cannot be read.
-    pub(crate) fn of_listing(alloc: Global, path: &str, error: &io::Error) -> Fault
-        ensures memory { error_kind error.now ≡ ErrorKind.OutOfMemory → result ≡ Run OutOfMemory }
-        ensures name { error_kind error.now ≡ ErrorKind.InvalidFilename
-            → IsBadName path.now result ⊎ (result ≡ Run OutOfMemory) }
-        ensures other { error_kind error.now ≢ ErrorKind.InvalidFilename
-            → IsReadFault path.now result }
-    {
-        if error.kind() != ErrorKind::InvalidFilename {
-            return Fault::of_file(alloc, path, error);
-        }
-        match Shown::of(alloc, path) {
-            Ok(path) => Fault::BadName { path },
-            Err(error) => Fault::from(error),
-        }
-    }
-
-    /// The fault of a file that cannot be read, for the system's reason.
-    ///
-    /// # Errors
-    ///
-    /// `AllocError` where memory was refused.
-    pub fn unreadable(alloc: Global, path: &str, error: &io::Error) -> Result<Fault, AllocError>
-        ensures { IfOk result (IsUnreadable path.now) }
-    {
-        Ok(Fault::Unreadable {
-            path: Shown::of(alloc, path)?,
-            reason: reason_of(alloc, error)?,
-        })
-    }
-
     /// The fault of a file that cannot be read, for a reason in the program's own words.
     ///
     /// # Errors
@@ -236,15 +175,5 @@ impl Fault {
         ensures { IfOk result IsWords }
     {
         Ok(Fault::Words(format!(in alloc; "{fault}")?))
-    }
-
-    /// The fault of an output that the system did not take.
-    pub fn of_output(alloc: Global, error: &io::Error) -> Fault
-        ensures { IsUnwritable result ⊎ (result ≡ Run OutOfMemory) }
-    {
-        match reason_of(alloc, error) {
-            Ok(reason) => Fault::Unwritable { reason },
-            Err(error) => Fault::from(error),
-        }
     }
 }

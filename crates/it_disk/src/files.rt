@@ -1,12 +1,13 @@
 //! Files, read up to a limit and no further.
 ghost use Rattle.std.specs.Prelude.{◌≡◌, ◌<◌, ◌≤◌, ◌-◌, ◌^◌, ◌⊎◌, length};
 ghost use Rattle.std.specs.Prelude.{IfErr, IfOk, IfSome, IsNone};
-ghost use Rattle.it_disk.specs.Faults.{IsFileFault, IsNoKeys, IsNoRing};
-ghost use Rattle.it_disk.specs.Reading.{HoldsIfGiven, HoldsKeys, HoldsRing};
+ghost use Rattle.it_disk.specs.Faults.{IsFileFault, IsNoKeys, IsNoRing, IsNoRoot};
+ghost use Rattle.it_disk.specs.Reading.{HoldsIfGiven, HoldsKeys, HoldsRing, HoldsRoot};
 
 use crate::disk::Disk;
 use crate::fault::Fault;
 use crate::ring_flaw::ring_flaw;
+use crate::root_flaw::RootFlaw;
 use crate::shown::Shown;
 use it_base::parts::from_bytes;
 use it_base::sequence::Sequence;
@@ -14,6 +15,7 @@ use it_base::table::Table;
 use it_base::text::Text;
 use it_dsse::key_object::KeyObject;
 use it_dsse::ring::{HmacRing, RingFault};
+use it_trust_root::{RootFault, TrustedRoot, root_or_fault};
 use std::alloc::{AllocError, Global};
 use std::fs::OpenFile;
 use std::io::Read;
@@ -124,6 +126,29 @@ pub fn read_keys<R: Disk + AllocGlobal>(rt: &R, path: &str) -> Result<Table<KeyO
         None => Err(Fault::BadKeys {
             path: Shown::of(alloc, path)?,
         }),
+    }
+}
+
+/// The trusted root in the file at a path.
+///
+/// # Errors
+///
+/// Those of `bytes`, and `BadRoot` with the first part that keeps the bytes from being a trusted
+/// root.
+pub fn read_trusted_root<R: Disk + AllocGlobal>(rt: &R, path: &str) -> Result<TrustedRoot, Fault>
+    ensures ok { IfOk result (HoldsRoot (R.holdings rt.now) path.now) }
+    ensures faults { IfErr result (λ fault. IsFileFault path.now fault
+        ⊎ IsNoRoot (R.holdings rt.now) path.now fault) }
+{
+    let alloc = rt.alloc();
+    let bytes = rt.file(path)?;
+    match root_or_fault(alloc, bytes.as_slice()) {
+        Ok(root) => Ok(root),
+        Err(RootFault::BadRoot(part)) => Err(Fault::BadRoot {
+            path: Shown::of(alloc, path)?,
+            flaw: RootFlaw { part },
+        }),
+        Err(RootFault::OutOfMemory) => Err(Fault::from(AllocError)),
     }
 }
 

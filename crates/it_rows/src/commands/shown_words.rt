@@ -37,13 +37,18 @@ fn shown_or_none(text: &Option<Text>) -> &str {
     }
 }
 
-/// The rings, with a star if public keys are checked too, a question mark if the report is to be
-/// JSON, two if it is also to have what is found and noted, the verifier and the resource between
-/// parentheses if it is to be a summary, and an exclamation mark if nothing may be found.
+/// The rings, with a star if public keys are checked too, the trusted root behind an at sign if
+/// there is one, a question mark if the report is to be JSON, two if it is also to have what is
+/// found and noted, the verifier and the resource between parentheses if it is to be a summary, and
+/// an exclamation mark if nothing may be found.
 fn shown_checks(alloc: Global, words: &VerifyWords) -> Result<String, AllocError> {
     let mut checks = joined(alloc, words.rings.as_slice())?;
     if words.public_keys {
         checks.push('*')?;
+    }
+    if let Some(root) = &words.trusted_root {
+        checks.push('@')?;
+        checks.push_str(root.as_str())?;
     }
     match &words.output {
         AskedOutput::Report(Form::Lines) => {}

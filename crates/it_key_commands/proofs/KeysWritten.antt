@@ -14,9 +14,7 @@ use Rattle.it_making.proofs.LineFeeds.{document_feed}
 use Rattle.it_making.proofs.TablesWritten.{Entry, no_float_in_entries, shallow_entries}
 use Rattle.it_making.proofs.TablesWritten.{table_reads_back}
 use Rattle.it_key_commands.specs.KeysFile.{KeysOf, key_document, keys_form}
-
-key_reads_back : (key : KeyObject) → IsKeyObject (key_document key) key
-key_reads_back key = record { is_object = refl; keytype = refl; scheme = refl; public = refl }
+use Rattle.it_key_commands.proofs.KeyvalsWritten.{key_has_no_float, key_is_shallow, key_reads_back}
 
 each_reads_back : (es : List (Entry KeyObject))
     → AllByRecursion (λ e. IsKeyObject (key_document e.1) e.1) es
@@ -28,11 +26,11 @@ table_is keys =
     table_reads_back IsKeyObject key_document (λ _. refl) keys (each_reads_back (entries keys))
 
 no_float : (keys : Named KeyObject) → has_float (table_document key_document keys) ≡ false
-no_float keys = no_float_in_entries key_document (λ _. refl) (entries keys)
+no_float keys = no_float_in_entries key_document key_has_no_float (entries keys)
 
 shallow : (keys : Named KeyObject) → depth (table_document key_document keys) ≤ max_depth
 shallow keys =
-    let inside = shallow_entries key_document 2 (λ key. omega arith) (entries keys) in
+    let inside = shallow_entries key_document 2 key_is_shallow (entries keys) in
     omega (arith, inside)
 
 -- the text of the document and a line feed are the written form

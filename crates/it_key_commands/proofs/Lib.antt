@@ -2,5 +2,6 @@ pub mod Checked
 pub mod FilesRead
 pub mod KeysRead
 pub mod KeysWritten
+pub mod KeyvalsWritten
 pub mod Naming
 pub mod RsaForms

@@ -1,4 +1,5 @@
 pub mod BodyFaults
 pub mod FilesFaults
+pub mod KeyValues
 pub mod ReadKeys
 pub mod SignerNames

@@ -1,7 +1,7 @@
 //! The ids of keys.
 ghost use Rattle.std.specs.Prelude.{◌≡◌, ◌++◌, IfOk, OnOk, string_bytes};
 ghost use Rattle.std.specs.List.{flat_map};
-ghost use Rattle.it_key_commands.specs.KeyId.{escaped, id_text, key_id, quoted};
+ghost use Rattle.it_key_commands.specs.KeyId.{escaped, id_text, key_id, keyval_text, quoted};
 
 use it_dsse::key_object::KeyObject;
 use sha2::{Digest, Sha256};
@@ -32,12 +32,27 @@ fn id_text(alloc: Global, object: &KeyObject) -> Result<Vec<u8>, AllocError>
         "{\"keyid_hash_algorithms\":[\"sha256\",\"sha512\"],\"keytype\":",
     )?;
     push_quoted(&mut text, object.keytype.as_str())?;
-    push_str(&mut text, ",\"keyval\":{\"public\":")?;
-    push_quoted(&mut text, object.public.as_str())?;
+    push_str(&mut text, ",\"keyval\":{")?;
+    push_keyval(&mut text, object)?;
     push_str(&mut text, "},\"scheme\":")?;
     push_quoted(&mut text, object.scheme.as_str())?;
     push_str(&mut text, "}")?;
     Ok(text)
+}
+
+/// Appends the members of the `keyval` of a key object: those of an identity, where there is one,
+/// or the public key.
+fn push_keyval(text: &mut Vec<u8>, object: &KeyObject) -> Result<(), AllocError>
+    ensures { OnOk result (text.new.items ≡ text.old.items ++ keyval_text object.now) }
+{
+    if object.identity.as_str().is_empty() {
+        push_str(text, "\"public\":")?;
+        return push_quoted(text, object.public.as_str());
+    }
+    push_str(text, "\"identity\":")?;
+    push_quoted(text, object.identity.as_str())?;
+    push_str(text, ",\"issuer\":")?;
+    push_quoted(text, object.issuer.as_str())
 }
 
 /// Appends the bytes of a text.

@@ -2,7 +2,8 @@
 ghost use Rattle.std.specs.Prelude.{◌≡◌, IfOk, OnOk};
 ghost use Rattle.serde_json.specs.Data.{put, string};
 ghost use Rattle.serde_json.specs.View.{members_view, view};
-ghost use Rattle.it_key_commands.specs.KeysFile.{KeysOf, key_document, keys_form};
+ghost use Rattle.it_key_commands.specs.KeysFile.{KeysOf, key_document, keys_form, keyval_document};
+ghost use Rattle.it_key_commands.specs.inside.KeyValues.{put_filled};
 ghost use Rattle.it_making.specs.ArtifactDocuments.{table_document};
 
 use it_base::table::Table;
@@ -37,11 +38,36 @@ fn key_value(alloc: Global, key: &KeyObject) -> Result<Value, AllocError>
 {
     let mut members = Map::new(alloc);
     put_text(alloc, &mut members, "keytype", key.keytype.as_str())?;
-    let mut keyval = Map::new(alloc);
-    put_text(alloc, &mut keyval, "public", key.public.as_str())?;
-    serde_json::put(&mut members, alloc, "keyval", Value::from(keyval))?;
+    let keyval = keyval_value(alloc, key)?;
+    serde_json::put(&mut members, alloc, "keyval", keyval)?;
     put_text(alloc, &mut members, "scheme", key.scheme.as_str())?;
     Ok(Value::from(members))
+}
+
+fn keyval_value(alloc: Global, key: &KeyObject) -> Result<Value, AllocError>
+    ensures { IfOk result (λ value. view value ≡ keyval_document key.now) }
+{
+    let mut members = Map::new(alloc);
+    put_filled(alloc, &mut members, "identity", key.identity.as_str())?;
+    put_filled(alloc, &mut members, "issuer", key.issuer.as_str())?;
+    put_filled(alloc, &mut members, "public", key.public.as_str())?;
+    Ok(Value::from(members))
+}
+
+/// Puts a text under a name, unless the text is empty.
+fn put_filled(
+    alloc: Global,
+    members: &mut Map<String, Value>,
+    name: &str,
+    text: &str,
+) -> Result<(), AllocError>
+    ensures { OnOk result (members_view members.new.entries
+        ≡ put_filled name.now text.now (members_view members.old.entries)) }
+{
+    if text.is_empty() {
+        return Ok(());
+    }
+    put_text(alloc, members, name, text)
 }
 
 /// Puts a text under a name.

@@ -116,7 +116,7 @@ fn key(alloc: Global, row: &Value) -> Result<String, RowFault> {
     }
 }
 
-/// The key type, the scheme and the public part of a key object.
+/// The key type, the scheme and the public part of a key object, and what it has of an identity.
 ///
 /// # Errors
 ///
@@ -125,5 +125,16 @@ pub(crate) fn object_told(alloc: Global, object: &KeyObject) -> Result<String, A
     let keytype = object.keytype.as_str();
     let scheme = object.scheme.as_str();
     let public = object.public.as_str();
-    format!(in alloc; "{keytype}/{scheme}/{public}")
+    let mut text = format!(in alloc; "{keytype}/{scheme}/{public}")?;
+    push_filled(&mut text, " of ", object.identity.as_str())?;
+    push_filled(&mut text, " by ", object.issuer.as_str())?;
+    Ok(text)
+}
+
+/// Appends a word and a text, unless the text is empty.
+fn push_filled(told: &mut String, word: &str, text: &str) -> Result<(), AllocError> {
+    if !text.is_empty() {
+        write!(told, "{word}{text}")?;
+    }
+    Ok(())
 }

@@ -7,11 +7,10 @@ unfolding id_text
 returns c =
     rw (
       c.in_ok-push_str-4.ensures,
-      c.in_ok-push_quoted-3.ensures,
-      c.as_str-3.ensures,
-      c.in_ok-push_str-3.ensures,
       c.in_ok-push_quoted-2.ensures,
       c.as_str-2.ensures,
+      c.in_ok-push_str-3.ensures,
+      c.in_ok-push_keyval.ensures,
       c.in_ok-push_str-2.ensures,
       c.in_ok-push_quoted.ensures,
       c.as_str.ensures,

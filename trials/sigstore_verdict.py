@@ -109,7 +109,10 @@ def layout_of(delivery, policy, checks):
     for owner in sorted(policy["owners"], key=str.encode):
         if not checks.signed(envelope, owner, policy["owners"][owner]):
             raise Refused("22 OwnerMissing", f"key {owner}")
-    layout = json.loads(envelope.payload)
+    try:
+        layout = of_type(document(envelope.payload), dict, "layout")
+    except Unfit:
+        raise Refused("23 BadLayout", "part json") from None
     if layout.get("_type") != "layout":
         raise Refused("23 BadLayout", "part type")
     return layout

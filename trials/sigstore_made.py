@@ -37,6 +37,9 @@ PARTS = [("mediaType",), ("dsseEnvelope",), ("dsseEnvelope", "payload"),
          *(("verificationMaterial", "tlogEntries", 0, name)
            for name in ("canonicalizedBody", "inclusionPromise", "inclusionProof",
                         "integratedTime", "logIndex", "logId", "kindVersion"))]
+TIMES = ["0000-02-29T00:00:00Z", "1969-12-31T23:59:59.999999999Z", "2010-01-01T00:00:00Z",
+         "2100-01-01T00:00:00.5Z", "9999-12-31T23:59:59Z", "2100-02-29T00:00:00Z",
+         "2010-01-01T00:00:00+00:00", None]
 SCHEMES = ["fulcio", "Fulcio ", "hmac-sha256", "ecdsa-sha2-nistp256", "", None]
 
 
@@ -118,6 +121,21 @@ class Spoiler:
         except (KeyError, IndexError, TypeError, ValueError):
             return bundle  # the other has no such part, or this one not of such a form
         return bundle
+
+    def changed_root(self, root):
+        """A trusted root with one change."""
+        root = copy.deepcopy(root)
+        try:
+            self.dice.choice([self.flip, self.replace, self.move])(root, None)
+        except ValueError:
+            return root  # what was to be flipped is not in base64
+        return root
+
+    def move(self, root, _):
+        """Puts another start or end in place of that of a window."""
+        windows = [path for path in paths(root) if path[-1] == "validFor"]
+        at(root, self.dice.choice(windows))[self.dice.choice(["start", "end"])] = \
+            self.dice.choice(TIMES)
 
     def exchange(self, bundle, other):
         """Takes a part of the other."""
@@ -228,7 +246,10 @@ class Delivery:
         plain = [root for root in roots if isinstance(root, dict)
                  and all(isinstance(root.get(name), list) for name in LISTS)]
         self.dice.shuffle(plain)
-        return line_of(merged(plain))
+        whole, spoiler = merged(plain), Spoiler(self.dice)
+        if self.is_wrong(0.3):
+            whole = spoiler.changed_root(whole)
+        return line_of(whole)
 
     # Keys and signatures.
 

@@ -8,37 +8,25 @@ otherwise because its owner did not sign it (22).
 
 import json
 
-import by_keys
 import sigstore_verdict
-from deliveries import MOMENT, compact, layout
-from keys_made import Bundle
 from sigstore_certificates import Leaf
 from sigstore_forms import Unfit, need
 from sigstore_logs import Root
-from sigstore_made import line_of, named
+from sigstore_made import Plain, line_of, named
 from sigstore_model import read_line, vouched
 
 NOBODY = named("nobody", "nobody")
 
 
-class Delivery:
-    """A delivery whose one line is a bundle, and whose policy lists one key object for it."""
-
-    moment, depth, ring, public_keys = MOMENT, 4, None, True
-
-    def __init__(self, line, root, key):
-        self.root, self.provenance, self.bundle = root, line + b"\n", Bundle()
-        owner, (envelope, bundle) = by_keys.p256("owner"), read_line(line)
-        self.layout = by_keys.signed_by(layout([], []), ("owner", owner))
-        owners, found = {"owner": by_keys.key(owner)}, attested_in(envelope)
-        if found is None and bundle is not None:
-            self.layout = line_of(json.loads(line)["dsseEnvelope"])
-            owners = {"owner": key}
-        digest, expectation = found or ("0" * 64, {"buildType": "", "builder": ""})
-        self.sums = f"{digest}  file\n"
-        builder = {"id": expectation.pop("builder"), "keys": {"signer": key}}
-        self.policy = compact({"owners": owners, "deliver": [["ALLOW", "*"]], "expectations": [
-            {"files": "*", "builders": [builder], **expectation}]}).decode()
+def delivery(line, root, key):
+    """The delivery whose one line of provenance is this, by a key object."""
+    envelope, bundle = read_line(line)
+    found = attested_in(envelope)
+    made = Plain(root, line + b"\n", key, **(found or {"digest_of_file": "0" * 64, "buildType": ""}))
+    if found is None and bundle is not None:
+        made.layout = line_of(json.loads(line)["dsseEnvelope"])
+        made.owned_by(key)
+    return made
 
 
 def attested_in(envelope):
@@ -49,8 +37,8 @@ def attested_in(envelope):
     except Unfit:
         return None
     digests = sorted(one for one in found.digests if isinstance(one, str))
-    return (digests[0].lower(), {"buildType": found.build_type, "builder": found.builder,
-                                 "ignore": list(found.parameters)}) if digests else None
+    return {"digest_of_file": digests[0].lower(), "builder": found.builder,
+            "buildType": found.build_type, "ignore": list(found.parameters)} if digests else None
 
 
 def named_by(bundle):
@@ -67,11 +55,10 @@ def judged(content, root):
         need(bundle, "no bundle")
         key = named_by(bundle)
     except (Unfit, UnicodeDecodeError) as fault:
-        return f"vouches for nobody ({fault})", Delivery(line, root, NOBODY)
-    delivery = Delivery(line, root, key)
+        return f"vouches for nobody ({fault})", delivery(line, root, NOBODY)
     try:
         found = vouched(bundle, Root(root))
         said = f"vouches for {found.name.decode()} by {found.issuer.decode()}"
     except Unfit as fault:
         said = f"vouches for nobody ({fault})"
-    return said, delivery
+    return said, delivery(line, root, key)

@@ -386,6 +386,33 @@ class Delivery:
         return by_keys.signed_by(json.loads(body), ("registry", by_keys.p256("registry"))).encode()
 
 
+class Plain:
+    """A delivery of one file, without steps, whose builder has one key object."""
+
+    moment, depth, ring, public_keys = MOMENT, 4, None, True
+
+    def __init__(self, root, provenance, key, digest_of_file, builder=BUILDER, **expected):
+        self.root, self.provenance, self.bundle = root, provenance, Bundle()
+        owner = by_keys.p256("owner")
+        self.layout = by_keys.signed_by(layout([], []), ("owner", owner))
+        self.sums = f"{digest_of_file}  app\n"
+        self.expectation = {"files": "*", "builders": [{"id": builder, "keys": {"signer": key}}],
+                            **expected}
+        self.owned_by(by_keys.key(owner))
+
+    def owned_by(self, key):
+        """Has the policy say that the layout is owned by a key."""
+        self.policy = compact({"owners": {"owner": key}, "deliver": [["ALLOW", "*"]],
+                               "expectations": [self.expectation]}).decode()
+
+
+def by_each(made):
+    """The provenance of a delivery, by the key object of each of its bundles alone."""
+    for part in made.parts:
+        yield Plain(made.root, made.provenance, part.key, digest(FILES["app"]),
+                    buildType=BUILD_TYPE, ignore=["workflow"])
+
+
 def delivery(dice, number):
     """A delivery from this source of random numbers, with the cases of this number."""
     return Delivery(dice, number)

@@ -4,6 +4,7 @@ Written from docs/sigstore.md, docs/formats.md and docs/keys.md. The rings, the 
 steps are those of keys_model.
 """
 
+import functools
 import json
 from typing import NamedTuple
 
@@ -16,14 +17,19 @@ from sigstore_model import Vouched, identity_of, read_line, vouched_lines
 STATEMENT, PROVENANCE = "https://in-toto.io/Statement/v1", "https://slsa.dev/provenance/v1"
 
 
+@functools.lru_cache(1)
+def vouched_in(provenance, root):
+    """What the lines of provenance vouch for by a trusted root."""
+    return set(vouched_lines(provenance.split(b"\n"), Root(root)))
+
+
 class Checks(keys_model.Checks):
     """The checks of a delivery: its ring, identities by its trusted root, and public keys."""
 
     def __init__(self, delivery):
         super().__init__(delivery, ring=True, public_keys=delivery.public_keys)
         self.has_root = delivery.root is not None
-        lines = delivery.provenance.split(b"\n") if self.has_root else []
-        self.vouched = set(vouched_lines(lines, Root(delivery.root))) if self.has_root else set()
+        self.vouched = vouched_in(delivery.provenance, delivery.root) if self.has_root else set()
 
     def key(self, name, made):
         """The key that an id and an object name, as its scheme and what identifies it, or None."""

@@ -87,9 +87,9 @@ def repeated(_):
 
 
 def falsely_witnessed(number):
-    """The public bundle with eight entries, on each of whose checkpoints eight signatures are wrong.
+    """The public bundle with eight entries, each with eight wrong signatures on its checkpoint.
 
-    Each of these has the log's hint, and the rest of the entry is good.
+    Each signature has the log's hint, and the rest of the entry is good.
     """
     bundle = copy.deepcopy(public().bundle)
     material, hint = bundle["verificationMaterial"], public().inst.rekor.id[:4]

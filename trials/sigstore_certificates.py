@@ -11,10 +11,11 @@ from sigstore_forms import Unfit, need, seconds_of
 # The element of each algorithm, and the curve of the keys that sign by it.
 ALGORITHMS = {bytes.fromhex("300a06082a8648ce3d040302"): P256,
               bytes.fromhex("300a06082a8648ce3d040303"): P384}
-USAGE, NAME, BASIC, PURPOSES, NAME_CONSTRAINTS, TIMESTAMPS, OTHER_NAME, OLD_ISSUER, NEW_ISSUER = map(
-    identifier, ["2.5.29.15", "2.5.29.17", "2.5.29.19", "2.5.29.37", "2.5.29.30",
-                 "1.3.6.1.4.1.11129.2.4.2", "1.3.6.1.4.1.57264.1.7", "1.3.6.1.4.1.57264.1.1",
-                 "1.3.6.1.4.1.57264.1.8"])
+USAGE, NAME, BASIC, PURPOSES, NAME_CONSTRAINTS = map(
+    identifier, ["2.5.29.15", "2.5.29.17", "2.5.29.19", "2.5.29.37", "2.5.29.30"])
+TIMESTAMPS = identifier("1.3.6.1.4.1.11129.2.4.2")
+OTHER_NAME, OLD_ISSUER, NEW_ISSUER = (
+    identifier(f"1.3.6.1.4.1.57264.1.{last}") for last in (7, 1, 8))
 CODE_SIGNING, ANY_PURPOSE = map(identifier, ["1.3.6.1.5.5.7.3.3", "2.5.29.37.0"])
 SIGNS, SIGNS_CERTIFICATES = 0x80, 0x04
 TRUE = bytes.fromhex("0101ff")

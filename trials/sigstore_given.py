@@ -12,8 +12,8 @@ import sigstore_verdict
 from sigstore_certificates import Leaf
 from sigstore_forms import Unfit, need
 from sigstore_logs import Root
-from sigstore_made import Plain, line_of, named
 from sigstore_model import read_line, vouched
+from sigstore_parts import Plain, line_of, named
 
 NOBODY = named("nobody", "nobody")
 
@@ -22,7 +22,8 @@ def delivery(line, root, key):
     """The delivery whose one line of provenance is this, by a key object."""
     envelope, bundle = read_line(line)
     found = attested_in(envelope)
-    made = Plain(root, line + b"\n", key, **(found or {"digest_of_file": "0" * 64, "buildType": ""}))
+    asked = found or {"digest_of_file": "0" * 64, "buildType": ""}
+    made = Plain(root, line + b"\n", key, **asked)
     if found is None and bundle is not None:
         made.layout = line_of(json.loads(line)["dsseEnvelope"])
         made.owned_by(key)

@@ -2,7 +2,6 @@
 
 import base64
 import hashlib
-import json
 import re
 from typing import NamedTuple
 

@@ -1,179 +1,24 @@
 """Random deliveries whose provenance has Sigstore bundles: good ones, and bad ones of every kind.
 
-The bundles are those of a private Sigstore (conformance/sigstore_bundles.py). Most of each delivery
-is right, so that deliveries get far before something fails.
+Most of each delivery is right, so that deliveries get far before something fails.
 """
 
-import base64
 import copy
-import hashlib
 import json
-import pathlib
-import sys
 
-sys.path[:0] = [str(pathlib.Path(__file__).resolve().parent.parent / name)
-                for name in ("bench", "conformance")]
 import by_keys
 import sigstore_bundles as private
 from deliveries import MOMENT, compact, envelope, key_object, layout, signature, signed, step
 from keys_made import Bundle
-from signing_keys import order_less
+from sigstore_parts import (BUILD_TYPE, BUILDER, FILES, WORKFLOW, Plain, digest, line_of, named,
+                            of_case, of_made)
+from sigstore_spoiled import Spoiler
 
-FILES = {"app": b"an artifact\n", "lib": b"lib\n"}
-# What the Statements of the bundles say.
-BUILDER = "https://github.com/actions/runner/github-hosted"
-BUILD_TYPE = "https://slsa-framework.github.io/github-actions-buildtypes/workflow/v1"
-WORKFLOW = {"ref": "refs/heads/main", "repository": "https://github.com/acme/tool",
-            "path": ".github/workflows/release.yml"}
 CASES = list(private.CASES)
 # How many cases each delivery has.
 EACH = 3
 LISTS = ["tlogs", "certificateAuthorities", "ctlogs"]
-# Parts that two bundles may exchange.
-PARTS = [("mediaType",), ("dsseEnvelope",), ("dsseEnvelope", "payload"),
-         ("dsseEnvelope", "payloadType"), ("dsseEnvelope", "signatures"),
-         ("verificationMaterial",), ("verificationMaterial", "certificate"),
-         ("verificationMaterial", "x509CertificateChain"), ("verificationMaterial", "tlogEntries"),
-         *(("verificationMaterial", "tlogEntries", 0, name)
-           for name in ("canonicalizedBody", "inclusionPromise", "inclusionProof",
-                        "integratedTime", "logIndex", "logId", "kindVersion"))]
-TIMES = ["0000-02-29T00:00:00Z", "1969-12-31T23:59:59.999999999Z", "2010-01-01T00:00:00Z",
-         "2100-01-01T00:00:00.5Z", "9999-12-31T23:59:59Z", "2100-02-29T00:00:00Z",
-         "2010-01-01T00:00:00+00:00", None]
 SCHEMES = ["fulcio", "Fulcio ", "hmac-sha256", "ecdsa-sha2-nistp256", "", None]
-
-
-def digest(content):
-    """The SHA-256 of bytes, in hexadecimal."""
-    return hashlib.sha256(content).hexdigest()
-
-
-def line_of(document):
-    """The bytes of a document, which may be given as its bytes."""
-    if isinstance(document, bytes):
-        return document
-    return json.dumps(document, ensure_ascii=False, separators=(",", ":")).encode()
-
-
-def paths(value, front=()):
-    """The paths of all members and elements of a document."""
-    held = value.items() if isinstance(value, dict) else \
-        enumerate(value) if isinstance(value, list) else ()
-    for name, inside in held:
-        yield (*front, name)
-        yield from paths(inside, (*front, name))
-
-
-def at(value, path):
-    """What is at a path."""
-    for name in path:
-        value = value[name]
-    return value
-
-
-def put(value, path, new):
-    """Puts something at a path."""
-    at(value, path[:-1])[path[-1]] = new
-
-
-class Part:
-    """A bundle with what there is to trust it by: its trusted root, and a key object."""
-
-    def __init__(self, bundle, root, key, condition=None):
-        self.bundle, self.root, self.key, self.condition = bundle, root, key, condition
-
-    def is_plain(self):
-        """Whether the bundle is a document, which can be changed."""
-        return isinstance(self.bundle, dict) and isinstance(self.bundle.get("dsseEnvelope"), dict)
-
-
-def named(identity, issuer):
-    """The key object of an identity."""
-    return {"keytype": "sigstore-oidc", "scheme": "Fulcio",
-            "keyval": {"identity": identity, "issuer": issuer}}
-
-
-def of_case(dice, name):
-    """The part of a case of the private Sigstore, with a root of its own."""
-    condition, build = private.CASES[name]
-    bundle, root, identity, issuer, *keys = build(dice)
-    return Part(bundle, root, keys[0] if keys else named(identity, issuer), condition)
-
-
-def of_made(made):
-    """The part of a bundle that was just made."""
-    return Part(made.bundle, made.inst.trusted_root(), named(made.identity, made.issuer))
-
-
-class Spoiler:
-    """Changes bundles at random."""
-
-    def __init__(self, dice):
-        self.dice = dice
-
-    def changed(self, bundle, other):
-        """A bundle with one change, for which a part of another may be taken."""
-        bundle = copy.deepcopy(bundle)
-        how = self.dice.choice([self.exchange, self.exchange, self.flip, self.flip, self.replace,
-                                self.join_entries, self.sign_again, self.hint])
-        try:
-            how(bundle, other)
-        except (KeyError, IndexError, TypeError, ValueError):
-            return bundle  # the other has no such part, or this one not of such a form
-        return bundle
-
-    def changed_root(self, root):
-        """A trusted root with one change."""
-        root = copy.deepcopy(root)
-        try:
-            self.dice.choice([self.flip, self.replace, self.move])(root, None)
-        except ValueError:
-            return root  # what was to be flipped is not in base64
-        return root
-
-    def move(self, root, _):
-        """Puts another start or end in place of that of a window."""
-        windows = [path for path in paths(root) if path[-1] == "validFor"]
-        at(root, self.dice.choice(windows))[self.dice.choice(["start", "end"])] = \
-            self.dice.choice(TIMES)
-
-    def exchange(self, bundle, other):
-        """Takes a part of the other."""
-        path = self.dice.choice(PARTS)
-        put(bundle, path, copy.deepcopy(at(other, path)))
-
-    def flip(self, bundle, _):
-        """Flips a bit of something in base64."""
-        path = self.dice.choice([one for one in paths(bundle) if isinstance(at(bundle, one), str)])
-        content = bytearray(base64.b64decode(at(bundle, path), validate=True))
-        content[self.dice.randrange(len(content))] ^= 1 << self.dice.randrange(8)
-        put(bundle, path, base64.b64encode(content).decode())
-
-    def replace(self, bundle, _):
-        """Puts something else in place of any member or element."""
-        path = self.dice.choice(list(paths(bundle)))
-        put(bundle, path, self.dice.choice([None, "", "*", "0", 1, [], {}, True]))
-
-    def join_entries(self, bundle, other):
-        """Puts the entries of the other beside those of the bundle."""
-        material = bundle["verificationMaterial"]
-        joined = material["tlogEntries"] + other["verificationMaterial"]["tlogEntries"]
-        self.dice.shuffle(joined)
-        material["tlogEntries"] = joined
-
-    def sign_again(self, bundle, _):
-        """Adds a signature, or puts the other form of the one in its place."""
-        envelope = bundle["dsseEnvelope"]
-        (one,) = envelope["signatures"]
-        form = order_less(base64.b64decode(one["sig"], validate=True))
-        second = {"sig": base64.b64encode(form).decode()}
-        secret = signature("builder", base64.b64decode(envelope["payload"]))
-        envelope["signatures"] = self.dice.choice([[second], [one, second], [one, secret],
-                                                   [secret] * 64 + [one]])
-
-    def hint(self, bundle, _):
-        """Changes the hint of the first signature."""
-        bundle["dsseEnvelope"]["signatures"][0]["keyid"] = self.dice.choice(["", "release", "a"])
 
 
 def merged(roots):
@@ -380,30 +225,11 @@ class Delivery:
                 if isinstance(one, dict) and self.dice.random() < 0.5:
                     one.pop("keyid", None)
             return line_of(held)
-        body = private.statement(self.dice, "", {"artifact": self.dice.choice(list(FILES.values()))})
+        artifact = self.dice.choice(list(FILES.values()))
+        body = private.statement(self.dice, "", {"artifact": artifact})
         if self.dice.random() < 0.5:
             return envelope(body, [signature("builder", body)]).encode()
         return by_keys.signed_by(json.loads(body), ("registry", by_keys.p256("registry"))).encode()
-
-
-class Plain:
-    """A delivery of one file, without steps, whose builder has one key object."""
-
-    moment, depth, ring, public_keys = MOMENT, 4, None, True
-
-    def __init__(self, root, provenance, key, digest_of_file, builder=BUILDER, **expected):
-        self.root, self.provenance, self.bundle = root, provenance, Bundle()
-        owner = by_keys.p256("owner")
-        self.layout = by_keys.signed_by(layout([], []), ("owner", owner))
-        self.sums = f"{digest_of_file}  app\n"
-        self.expectation = {"files": "*", "builders": [{"id": builder, "keys": {"signer": key}}],
-                            **expected}
-        self.owned_by(by_keys.key(owner))
-
-    def owned_by(self, key):
-        """Has the policy say that the layout is owned by a key."""
-        self.policy = compact({"owners": {"owner": key}, "deliver": [["ALLOW", "*"]],
-                               "expectations": [self.expectation]}).decode()
 
 
 def by_each(made):

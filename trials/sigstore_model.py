@@ -138,7 +138,7 @@ def moment_of(value, version, signed, root):
 
 
 def check_issued(leaf, moment, root):
-    """Raises Unfit where no authority issued a leaf at a moment, or it is not logged as that one's."""
+    """Raises Unfit where no authority issued a leaf at a moment, or it is not logged as its."""
     issued = [one for one in root.authorities if one.issued(leaf, moment)]
     need(issued, "no authority issued the leaf at the moment of the entry")
     need(any(is_logged(leaf, one.certificates[0].info, root.certificate_logs) for one in issued),

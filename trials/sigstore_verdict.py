@@ -95,7 +95,8 @@ def check_provenance(path, digest, policy, envelopes, checks):
     expectation = next(one for one in policy["expectations"] if one["files"] in (path, "*"))
     best = max(levels(envelopes, digest, expectation, checks), default=None)
     if best is None or best < expectation.get("level", 0):
-        raise Refused("61 NoProvenance", f"path {path}", *([] if best is None else [f"best {best}"]))
+        told = [] if best is None else [f"best {best}"]
+        raise Refused("61 NoProvenance", f"path {path}", *told)
 
 
 def counted_lines(delivery):

@@ -158,8 +158,7 @@ def many_authorities(count, length):
 # Lines by strangers, and what else is tried: beside a line that counts, all must be accepted.
 FLOODS = [
     ("8 MiB of bundles that nobody signed", flooded(unsigned)),
-    ("8 MiB of bundles of 8 entries with 8 wrong checkpoint signatures",
-     flooded(falsely_witnessed)),
+    ("8 MiB of bundles of 8 x 8 wrong log signatures", flooded(falsely_witnessed)),
 ]
 INPUTS = [
     *FLOODS,

@@ -5,6 +5,7 @@ Most of each delivery is right, so that deliveries get far before something fail
 
 import copy
 import json
+import random
 
 import by_keys
 import sigstore_bundles as private
@@ -14,9 +15,11 @@ from sigstore_parts import (BUILD_TYPE, BUILDER, FILES, WORKFLOW, Plain, digest,
                             of_case, of_made)
 from sigstore_spoiled import Spoiler
 
-CASES = list(private.CASES)
-# How many cases each delivery has.
+# The cases of the private Sigstore in a mixed order, and how many each delivery has.
+CASES = random.Random("cases").sample(list(private.CASES), len(private.CASES))
 EACH = 3
+# The shortest and the longest name of an identity, and the one that is too long.
+LENGTHS = [1, 512, 513]
 LISTS = ["tlogs", "certificateAuthorities", "ctlogs"]
 SCHEMES = ["fulcio", "Fulcio ", "hmac-sha256", "ecdsa-sha2-nistp256", "", None]
 
@@ -70,6 +73,8 @@ class Delivery:
         if self.dice.random() < 0.5:
             options |= {"names": self.home.names, "identity": self.home.identity,
                         "issuer": self.home.issuer}
+        elif self.dice.random() < 0.3:
+            options[self.dice.choice(["identity", "issuer"])] = "x" * self.dice.choice(LENGTHS)
         return of_made(private.Made(self.dice, self.home.inst, t0=self.home.t0, **options))
 
     def spoil(self):

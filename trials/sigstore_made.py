@@ -240,7 +240,7 @@ class Delivery:
 def by_each(made):
     """The provenance of a delivery, by the key object of each of its bundles alone."""
     for part in made.parts:
-        yield Plain(made.root, made.provenance, part.key, digest(FILES["app"]),
+        yield Plain(made.root, made.provenance, part.key, digest(part.artifact),
                     buildType=BUILD_TYPE, ignore=["workflow"])
 
 

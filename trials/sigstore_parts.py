@@ -32,10 +32,14 @@ def line_of(document):
 
 
 class Part:
-    """A bundle with what there is to trust it by: its trusted root, and a key object."""
+    """A bundle with what there is to trust it by: its trusted root, and a key object.
 
-    def __init__(self, bundle, root, key, condition=None):
-        self.bundle, self.root, self.key, self.condition = bundle, root, key, condition
+    `artifact` is what its Statement is about, and `condition` what the bundle does not meet.
+    """
+
+    def __init__(self, bundle, root, key, artifact=FILES["app"], condition=None):
+        self.bundle, self.root, self.key = bundle, root, key
+        self.artifact, self.condition = artifact, condition
 
     def is_plain(self):
         """Whether the bundle is a document, which can be changed."""
@@ -52,12 +56,14 @@ def of_case(dice, name):
     """The part of a case of the private Sigstore, with a root of its own."""
     condition, build = private.CASES[name]
     bundle, root, identity, issuer, *keys = build(dice)
-    return Part(bundle, root, keys[0] if keys else named(identity, issuer), condition)
+    key = keys[0] if keys else named(identity, issuer)
+    return Part(bundle, root, key, condition=condition)
 
 
 def of_made(made):
     """The part of a bundle that was just made."""
-    return Part(made.bundle, made.inst.trusted_root(), named(made.identity, made.issuer))
+    return Part(made.bundle, made.inst.trusted_root(), named(made.identity, made.issuer),
+                made.o["artifact"])
 
 
 class Plain:

@@ -47,6 +47,7 @@ class Delivery:
         self.parts = [of_made(self.home), *(of_case(dice, name) for name in cases),
                       *(self.part() for _ in range(dice.choice([0, 0, 1, 2])))]
         self.spoil()
+        # The lines of bundles of layouts and links, and the folder of links.
         self.others, self.bundle = [], Bundle()
         self.sums = "".join(f"{digest(FILES[name])}  {name}\n" for name in self.names())
         body = self.laid_out()
@@ -78,8 +79,8 @@ class Delivery:
         return of_made(private.Made(self.dice, self.home.inst, t0=self.home.t0, **options))
 
     def spoil(self):
-        """Changes some of the bundles."""
-        plain = [part for part in self.parts if part.is_plain()]
+        """Changes some of the bundles that miss no condition yet."""
+        plain = [part for part in self.parts if part.is_plain() and part.condition is None]
         spoiler, originals = Spoiler(self.dice), [part.bundle for part in plain]
         for part in plain:
             if self.is_wrong(1.5):
@@ -91,13 +92,13 @@ class Delivery:
             return None
         roots = [part.root for part in self.parts
                  if part.condition != "root" or self.dice.random() < 0.5]
-        if self.is_wrong(0.3):
+        if self.is_wrong(0.1):
             return line_of(self.dice.choice(roots))
         plain = [root for root in roots if isinstance(root, dict)
                  and all(isinstance(root.get(name), list) for name in LISTS)]
         self.dice.shuffle(plain)
         whole, spoiler = merged(plain), Spoiler(self.dice)
-        if self.is_wrong(0.3):
+        if self.is_wrong(0.2):
             whole = spoiler.changed_root(whole)
         return line_of(whole)
 

@@ -164,9 +164,10 @@ class Delivery:
         self.write("provenance", "".join(line + "\n" for line in lines) + own)
 
     def words(self, *further):
-        """The command that verifies the delivery."""
-        options = [["--" + name, self.path(name)] for name in
-                   ("policy", "layout", "links", "sums", "provenance", "ring")]
+        """The command that verifies the delivery, by its trusted root if it has one."""
+        names = ["policy", "layout", "links", "sums", "provenance", "ring", "trusted-root"]
+        options = [["--" + name, self.path(name)] for name in names
+                   if name != "trusted-root" or os.path.exists(self.path(name))]
         return [ITV, "verify", *sum(options, []), "--at", MOMENT, *further]
 
     def envelopes(self):

@@ -100,9 +100,12 @@ class Checks:
         """Whether the key that an id and an object name signed an envelope."""
         key = self.key(name, made) if made is not None else None
         return key is not None and any(
-            one.get("keyid", "") in ("", name)
-            and is_valid(key, envelope.message, base64.b64decode(one["sig"]))
-            for one in envelope.signatures)
+            hint in ("", name) and self.is_valid(key, envelope.message, sig)
+            for hint, sig in envelope.signatures)
+
+    def is_valid(self, key, message, sig):
+        """Whether a signature of a message is valid for a key."""
+        return is_valid(key, message, sig)
 
 
 def is_valid(key, message, sig):
@@ -128,8 +131,9 @@ class Envelope:
 
     def __init__(self, text):
         document = json.loads(text)
-        self.kind, self.signatures = document["payloadType"], document["signatures"]
-        self.payload = base64.b64decode(document["payload"])
+        self.kind, self.payload = document["payloadType"], base64.b64decode(document["payload"])
+        self.signatures = [(one.get("keyid", ""), base64.b64decode(one["sig"]))
+                           for one in document["signatures"]]
         front = f"DSSEv1 {len(self.kind)} {self.kind} {len(self.payload)} "
         self.message = front.encode() + self.payload
 
@@ -240,10 +244,13 @@ def verdict(delivery):
     return ["accepted", *steps, f"file {path}"]
 
 
-def verified(delivery):
-    """The status of `verify`, the lines of its report, and the same as JSON."""
+def verified(delivery, judged=verdict):
+    """The status of `verify`, the lines of its report, and the same as JSON.
+
+    `judged` gives the lines of an accepted delivery, and raises the refusal of any other.
+    """
     try:
-        lines = verdict(delivery)
+        lines = judged(delivery)
     except Refused as refused:
         return 1, refused.report(), json_of_refusal(refused)
     steps = [line.split()[1:] for line in lines if line.startswith("step ")]

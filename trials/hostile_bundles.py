@@ -1,0 +1,168 @@
+"""Sigstore bundles and trusted roots for trials/hostile, which make a verification slow or large.
+
+The bundles are those of a private Sigstore (conformance/sigstore_bundles.py) about the file of a
+small delivery; a stranger may copy a public one, and change what nobody signed.
+"""
+
+import copy
+import functools
+import json
+import os
+import random
+import sys
+
+sys.path.insert(0, os.path.join(os.path.dirname(os.path.abspath(__file__)), "..", "conformance"))
+import sigstore_bundles as private
+from deliveries import compact, envelope, statement
+from sigstore_bundles import b64
+
+LIMIT = 8 * 1024 * 1024
+# What is left for the other line of the provenance.
+SPARE = 4096
+
+
+@functools.cache
+def public():
+    """A good bundle that anybody may have, of version 3."""
+    return private.Made(random.Random("hostile"), payload=compact(statement(["app"])), version=3,
+                        kind="dsse", entry={"proof": {"size": 300}})
+
+
+def line_of(bundle):
+    """The line of a bundle."""
+    return json.dumps(bundle, separators=(",", ":"))
+
+
+def filling(line_at):
+    """As many lines as a file may have, which a function makes from their numbers."""
+    lines, room = [], LIMIT - SPARE
+    while True:
+        line = line_at(len(lines))
+        room -= len(line) + 1
+        if room < 0:
+            return lines
+        lines.append(line)
+
+
+def trusting(delivery, **listed):
+    """Has a delivery trust the private Sigstore, and a builder have these further keys."""
+    delivery.write("trusted-root", line_of(public().inst.trusted_root()))
+    with open(delivery.path("policy"), encoding="utf-8") as file:
+        policy = json.load(file)
+    policy["expectations"][0]["builders"][0]["keys"].update(listed)
+    delivery.write("policy", compact(policy))
+
+
+def signer():
+    """The key object of the identity that the public bundle vouches for."""
+    return {"keytype": "sigstore-oidc", "scheme": "Fulcio",
+            "keyval": {"identity": public().identity, "issuer": public().issuer}}
+
+
+def flooded(line_at):
+    """Fills the provenance with lines in front of its own."""
+    def change(delivery):
+        trusting(delivery, release=signer())
+        delivery.add_lines(filling(line_at))
+    return change
+
+
+def with_signature(bundle, sig):
+    """A bundle with another signature, and an entry about it that no log promised."""
+    entry, held = bundle["verificationMaterial"]["tlogEntries"][0], bundle["dsseEnvelope"]
+    held["signatures"] = [{"sig": b64(sig)}]
+    entry["canonicalizedBody"] = b64(public().make_body(sig=sig)[0])
+    return bundle
+
+
+def unsigned(number):
+    """A bundle that nobody signed, whose entry has the log's id and is about its signature."""
+    sig = public().sig[:-4] + number.to_bytes(4, "big")
+    return line_of(with_signature(copy.deepcopy(public().bundle), sig))
+
+
+def repeated(_):
+    """The public bundle."""
+    return line_of(public().bundle)
+
+
+def falsely_witnessed(number):
+    """The public bundle with eight entries, each with eight wrong signatures on its checkpoint.
+
+    Each signature has the log's hint, and the rest of the entry is good.
+    """
+    bundle = copy.deepcopy(public().bundle)
+    material, hint = bundle["verificationMaterial"], public().inst.rekor.id[:4]
+    (entry,) = material["tlogEntries"]
+    text = entry["inclusionProof"]["checkpoint"]["envelope"].partition("\n\n")[0]
+    material["tlogEntries"] = entries = [copy.deepcopy(entry) for _ in range(8)]
+    for place, one in enumerate(entries):
+        marks = [b64(hint + wrong_signature(number * 64 + place * 8 + line)) for line in range(8)]
+        one["inclusionProof"]["checkpoint"]["envelope"] = text + "\n\n" + "".join(
+            f"\u2014 log.example.test {mark}\n" for mark in marks)
+    return line_of(bundle)
+
+
+def wrong_signature(number):
+    """A signature by nobody, of the form that signatures of P-256 have."""
+    return private.sig_value(2**254 + number, 2**253 + number)
+
+
+def beside_bundles(signatures, bundles):
+    """An envelope with the payload of the public bundle and so many signatures, and that bundle.
+
+    The bundle stands there several times under a hint that nobody has, so that it counts for
+    nothing but as what it vouches for. The last signature of the envelope is the one that it
+    vouches for; the others differ from it in their last bytes.
+    """
+    def change(delivery):
+        trusting(delivery, release=signer())
+        sig, bundle = public().sig, copy.deepcopy(public().bundle)
+        bundle["dsseEnvelope"]["signatures"][0]["keyid"] = "another"
+        wrong = [{"sig": b64(sig[:-3] + number.to_bytes(3, "big"))}
+                 for number in range(signatures - 1)]
+        many = envelope(public().payload, [*wrong, {"sig": b64(sig)}])
+        delivery.write("provenance", "".join(
+            line + "\n" for line in [*[line_of(bundle)] * bundles, many]))
+    return change
+
+
+def chain(key, length, rest):
+    """The certificates of an authority with the issuing key, whose others have these keys."""
+    inst, keys = public().inst, [key, *rest[:length - 1]]
+    names = [inst.issuer_name, *(private.name(f"authority {n}") for n in range(1, length + 1))]
+    return [inst.ca_cert("hostile", names[n], names[n + 1], keys[n], keys[min(n + 1, length - 1)],
+                         None) for n in range(length)]
+
+
+def many_authorities(count, length):
+    """A trusted root of so many authorities of this length: the last one issued the leaf.
+
+    All have the name of that one, and the public bundle is the only line of provenance.
+    """
+    def change(delivery):
+        trusting(delivery, release=signer())
+        dice, root = random.Random("authorities"), public().inst.trusted_root()
+        rest = [private.Key(dice, "p384") for _ in range(length - 1)]
+        keys = [*(private.Key(dice, "p384") for _ in range(count - 1)), public().inst.issuer_key]
+        (one,) = root["certificateAuthorities"]
+        root["certificateAuthorities"] = [
+            {**one, "certChain": {"certificates": [{"rawBytes": b64(content)}
+                                                   for content in chain(key, length, rest)]}}
+            for key in keys]
+        delivery.write("trusted-root", line_of(root))
+        delivery.write("provenance", line_of(public().bundle) + "\n")
+    return change
+
+
+# Lines by strangers, and what else is tried: beside a line that counts, all must be accepted.
+FLOODS = [
+    ("8 MiB of bundles that nobody signed", flooded(unsigned)),
+    ("8 MiB of bundles of 8 x 8 wrong log signatures", flooded(falsely_witnessed)),
+]
+INPUTS = [
+    *FLOODS,
+    ("one good public bundle repeated to 8 MiB", flooded(repeated)),
+    ("an envelope of 50,000 signatures beside 400 bundles", beside_bundles(50_000, 400)),
+    ("a trusted root of 64 authorities of 8 certificates", many_authorities(64, 8)),
+]

@@ -1,0 +1,153 @@
+"""What `itv verify` has to answer for a delivery of sigstore_made, in plain Python.
+
+Written from docs/sigstore.md, docs/formats.md and docs/keys.md. The rings, the public keys and the
+steps are those of keys_model.
+"""
+
+import functools
+import json
+from typing import NamedTuple
+
+import keys_model
+from keys_model import MOST_SIGNATURES, TYPE, Refused
+from sigstore_forms import (Unfit, document, list_at, member, need, object_at, of_type, text_at)
+from sigstore_logs import Root
+from sigstore_model import Vouched, identity_of, read_line, vouched_lines
+
+STATEMENT, PROVENANCE = "https://in-toto.io/Statement/v1", "https://slsa.dev/provenance/v1"
+
+
+@functools.lru_cache(1)
+def vouched_in(provenance, root):
+    """What the lines of provenance vouch for by a trusted root."""
+    return set(vouched_lines(provenance.split(b"\n"), Root(root)))
+
+
+class Checks(keys_model.Checks):
+    """The checks of a delivery: its ring, identities by its trusted root, and public keys."""
+
+    def __init__(self, delivery):
+        super().__init__(delivery, ring=True, public_keys=delivery.public_keys)
+        self.has_root = delivery.root is not None
+        self.vouched = vouched_in(delivery.provenance, delivery.root) if self.has_root else set()
+
+    def key(self, name, made):
+        """The key that an id and an object name, as its scheme and what identifies it, or None."""
+        if made.get("scheme") != "Fulcio":
+            return super().key(name, made)
+        found = identity_of(made) if self.has_root else None
+        return None if found is None else ("Fulcio", found)
+
+    def is_valid(self, key, message, sig):
+        """Whether a signature of a message is valid for a key."""
+        if key[0] == "Fulcio":
+            return Vouched(key[1], message, sig) in self.vouched
+        return super().is_valid(key, message, sig)
+
+
+class Provenance(NamedTuple):
+    """What an envelope attests: SHA-256 digests, how they were built, and by whom."""
+
+    digests: set
+    build_type: str
+    parameters: dict
+    builder: str
+
+
+def provenance_in(envelope):
+    """The provenance in an envelope."""
+    need(envelope.kind == TYPE, "another payload type")
+    whole = of_type(document(envelope.payload), dict, "payload")
+    need((text_at(whole, "_type"), text_at(whole, "predicateType")) == (STATEMENT, PROVENANCE),
+         "no provenance")
+    digests = {member(member(one, "digest"), "sha256") for one in list_at(whole, "subject")}
+    predicate = object_at(whole, "predicate")
+    build, run = object_at(predicate, "buildDefinition"), object_at(predicate, "runDetails")
+    return Provenance(digests, text_at(build, "buildType"),
+                      member(build, "externalParameters") or {},
+                      text_at(object_at(run, "builder"), "id"))
+
+
+def meets(found, digest, expectation):
+    """Whether provenance meets an expectation for a file, but for its builder."""
+    wanted, given = expectation.get("parameters", {}), found.parameters
+    return (digest in found.digests and found.build_type == expectation["buildType"]
+            and all(name in given and given[name] == value for name, value in wanted.items())
+            and all(name in wanted or name in expectation.get("ignore", []) for name in given))
+
+
+def levels(envelopes, digest, expectation, checks):
+    """The levels of the builders with which envelopes meet an expectation for a file."""
+    for envelope in envelopes:
+        try:
+            found = provenance_in(envelope)
+        except Unfit:
+            continue
+        if meets(found, digest, expectation):
+            yield from (builder.get("level", 0) for builder in expectation["builders"]
+                        if builder["id"] == found.builder
+                        and any(checks.signed(envelope, who, made)
+                                for who, made in builder["keys"].items()))
+
+
+def check_provenance(path, digest, policy, envelopes, checks):
+    """Raises the refusal of a file without provenance."""
+    expectation = next(one for one in policy["expectations"] if one["files"] in (path, "*"))
+    best = max(levels(envelopes, digest, expectation, checks), default=None)
+    if best is None or best < expectation.get("level", 0):
+        told = [] if best is None else [f"best {best}"]
+        raise Refused("61 NoProvenance", f"path {path}", *told)
+
+
+def counted_lines(delivery):
+    """The envelopes of the provenance that are looked at."""
+    for line in delivery.provenance.split(b"\n"):
+        envelope, bundle = read_line(line)
+        if (envelope and (bundle is None or delivery.root is not None)
+                and not (delivery.public_keys and len(envelope.signatures) > MOST_SIGNATURES)):
+            yield envelope
+
+
+def layout_of(delivery, policy, checks):
+    """The layout, which every owner signed."""
+    envelope = keys_model.Envelope(delivery.layout)
+    if envelope.kind != TYPE:
+        raise Refused("21 WrongPayloadType")
+    for owner in sorted(policy["owners"], key=str.encode):
+        if not checks.signed(envelope, owner, policy["owners"][owner]):
+            raise Refused("22 OwnerMissing", f"key {owner}")
+    try:
+        layout = of_type(document(envelope.payload), dict, "layout")
+    except Unfit:
+        raise Refused("23 BadLayout", "part json") from None
+    if layout.get("_type") != "layout":
+        raise Refused("23 BadLayout", "part type")
+    return layout
+
+
+def verdict(delivery):
+    """The lines of an accepted delivery; raises its refusal, or Unfit where it is not read."""
+    checks, policy = Checks(delivery), json.loads(delivery.policy)
+    layout = layout_of(delivery, policy, checks)
+    records = keys_model.Level(checks, delivery.moment, layout, delivery.bundle,
+                               delivery.depth).records()
+    files = [line.split("  ", 1) for line in delivery.sums.splitlines()]
+    for digest, path in files if records else []:
+        if records[-1][0][1].get(path) != {"sha256": digest}:
+            raise Refused("40 RuleFailed", "item deliver", "side products", "rule 1",
+                          f"path {path}")
+    envelopes = list(counted_lines(delivery))
+    for digest, path in files:
+        check_provenance(path, digest, policy, envelopes, checks)
+    steps = [f"step {step['name']} {keys}" for step, (_, keys) in zip(layout["steps"], records)]
+    return ["accepted", *steps, *(f"file {path}" for _, path in files)]
+
+
+def answers(delivery):
+    """What `verify` and `verify --json` answer: for each, a status and a text."""
+    try:
+        status, lines, told = keys_model.verified(delivery, verdict)
+    except Unfit:
+        return [(2, ""), (2, "")]
+    return [(status, "".join(line + "\n" for line in lines)),
+            (status, keys_model.json_text(told))]

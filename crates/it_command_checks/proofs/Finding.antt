@@ -1,5 +1,5 @@
 -- What the checks of a command know, and where.
-use Rattle.std.proofs.Common.{◌≡◌, ◌∙◌, ℕ, List, [], ◌∷◌, ◌++◌, Bool, Option, Some, None, IsSome}
+use Rattle.std.proofs.Common.{◌≡◌, ◌∙◌, ℕ, List, [], Bool, Option, Some, None, IsSome, IsNone}
 use Rattle.std.proofs.Common.{ap, length, option_map, slice_get, sym}
 use Rattle.it_dsse.specs.Panel.{KeyNumber, panel_of}
 use Rattle.it_dsse.specs.declared.key_object.KeyObject.{KeyObject}
@@ -20,7 +20,7 @@ module _ (rings : List (List RingEntry)) (asked : Bool) where
     own_known vouched key e =
         sym (known_first id object (own_checks rings asked) (vouched_checks vouched) 0 key (sym e))
 
-    pub none_known : (vouched : Option (List Vouched)) → vouched ≡ None
+    pub none_known : (vouched : Option (List Vouched)) → IsNone vouched
         → None ≡ (panel_of (own_checks rings asked)).key_of id object
         → None ≡ (panel_of (command_checks rings asked vouched)).key_of id object
     none_known None is e = sym (known_later id object (own_checks rings asked) [] 0 (sym e))
@@ -31,7 +31,7 @@ module _ (rings : List (List RingEntry)) (asked : Bool) where
         → found ≡ option_map number_of (identity_in object)
         → option_map (λ n. (length (own_checks rings asked), n)) found
         ≡ (panel_of (command_checks rings asked vouched)).key_of id object
-    identity_known None found some e is = absurd some
+    identity_known None found some e is = cc
     identity_known (Some lines) found some e is =
         ap (option_map (λ n. (length (own_checks rings asked), n))) is
         ∙ sym (known_last id object (own_checks rings asked) (vouched_check lines) (sym e))

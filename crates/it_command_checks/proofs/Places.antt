@@ -1,10 +1,9 @@
 -- How many checks of rings and public keys there are, and where their keys are.
-use Rattle.std.proofs.Common.{◌≡◌, ◌∙◌, ℕ, ◌+◌, ◌<◌, List, [], ◌∷◌, ◌++◌, Bool, true, false, arith, cond, length, map, refl}
+use Rattle.std.proofs.Common.{◌≡◌, ℕ, ◌+◌, ◌<◌, List, Bool, true, false, arith, cond, length, map, refl}
+use Rattle.std.specs.Int.{from_bool}
 use Rattle.std.proofs.lemmas.List.{length-append, length-map}
-use Rattle.it_dsse.specs.Check.{Check}
 use Rattle.it_dsse.specs.Ring.{ring_check}
 use Rattle.it_dsse.specs.declared.ring_entry.RingEntry.{RingEntry}
-use Rattle.it_public_keys.specs.NamedKeys.{public_key_check}
 use Rattle.it_public_keys.specs.OwnChecks.{key_checks, own_checks}
 use Rattle.it_public_keys.specs.OwnKeys.{Stands, found_number}
 use Rattle.it_public_keys.specs.declared.own_checks.OwnChecks.{OwnChecks}
@@ -22,6 +21,13 @@ own_long rings asked =
     let first = length-map rings ring_check in
     let last = key_checks_long asked in
     omega arith
+
+-- and how many a command counts
+pub counted : (rings : List (List RingEntry)) (asked : Bool) (more count : ℕ)
+    → more ≡ from_bool asked → count ≡ length rings + more
+    → count ≡ length (own_checks rings asked)
+counted rings true more count one is = omega (arith, own_long rings true, one, is)
+counted rings false more count none is = omega (arith, own_long rings false, none, is)
 
 public_placed : (rings : List (List RingEntry)) (asked : Bool) → asked ≡ true
     → length rings < length (own_checks rings asked)

@@ -1,8 +1,7 @@
 -- No object has the scheme of identities and is known by a ring or as a public key.
-use Rattle.std.proofs.Common.{◌≡◌, ◌∙◌, ℕ, List, [], ◌∷◌, ◌++◌, suc, Bool, true, false, ◌&&◌, None, Some, codes, map, refl, sym}
+use Rattle.std.proofs.Common.{◌≡◌, ◌∙◌, ℕ, List, [], ◌∷◌, suc, Bool, true, false, ◌&&◌, None, Some, codes, map, refl}
 use Rattle.std.proofs.Common.{if◌then◌else◌, option_map}
 use Rattle.std.specs.Str.{bytes_eq}
-use Rattle.it_dsse.specs.Check.{Check}
 use Rattle.it_dsse.specs.Panel.{KeyNumber, key_from, panel_of}
 use Rattle.it_dsse.specs.Ring.{ring_check}
 use Rattle.it_dsse.specs.declared.key_object.KeyObject.{KeyObject}
@@ -12,7 +11,7 @@ use Rattle.it_identity.specs.declared.identity.Identity.{Identity}
 use Rattle.it_public_keys.specs.NamedKeys.{public_key_check}
 use Rattle.it_public_keys.specs.OwnChecks.{key_checks, own_checks}
 use Rattle.it_vouched.specs.Check.{vouched_check}
-use Rattle.it_vouched.specs.ObjectIdentity.{has_identity, identity_in, is_short}
+use Rattle.it_vouched.specs.ObjectIdentity.{has_identity, is_short}
 use Rattle.it_vouched.specs.declared.vouched.Vouched.{Vouched}
 use Rattle.it_vouched.proofs.Saying.{both, equal_bytes}
 use Rattle.it_command_checks.proofs.Appended.{known_later}

@@ -1,5 +1,6 @@
 pub mod Described
 pub mod Keys
+mod Judging
 pub mod Lines
 pub mod Parts
 pub mod Saying

@@ -2,3 +2,5 @@ pub mod Check
 pub mod Laws
 pub mod Line
 pub mod ObjectIdentity
+pub mod Silent
+pub mod SilentText

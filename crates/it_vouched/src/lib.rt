@@ -1,10 +1,10 @@
 //! What the lines of provenance vouch for, by a trusted root: the identities that signed their
-//! envelopes, and which signatures are so valid. No command uses it yet.
+//! envelopes, and which signatures are so valid.
 //!
 //! ```
-//! let vouched = VouchedLines::of(alloc, &trust, provenance)?;
+//! let judged = JudgedLines::of(alloc, &trust, provenance)?;
 //! if let Some(key) = IdentityKey::in_object(&object) {
-//!     let valid = vouched.is_valid(&key, &[message], signature);
+//!     let valid = judged.vouched.is_valid(&key, &[message], signature);
 //! }
 //! ```
 #![tactic(auto)]
@@ -12,10 +12,14 @@
 mod asked;
 mod identity_key;
 mod joining;
+mod judged_lines;
 pub mod laws;
+mod silent_line;
 mod vouched;
 mod vouched_lines;
 
 pub use identity_key::IdentityKey;
+pub use judged_lines::JudgedLines;
+pub use silent_line::SilentLine;
 pub use vouched::Vouched;
 pub use vouched_lines::VouchedLines;

@@ -1,15 +1,16 @@
 //! What a line vouches for.
-ghost use Rattle.std.specs.Prelude.{◌≡◌, [], ◌∷◌, IfOk, MatchOption, ℕ, List, map};
+ghost use Rattle.std.specs.Prelude.{◌≡◌, [], ◌∷◌, IfOk, IfSome, MatchOption, ℕ, List, map};
 ghost use Rattle.it_base.specs.Finds.{Finds};
 ghost use Rattle.it_dsse.specs.Signed.{message_of};
 ghost use Rattle.it_vouched.specs.Line.{IsVouched};
+ghost use Rattle.it_vouched.specs.Silent.{LineMisses};
 
 use it_base::sequence::Sequence;
-use it_bundle::read_bundle;
+use it_bundle::{SigstoreBundle, read_bundle};
 use it_dsse::envelope::{Envelope, Signature};
 use it_dsse::pae;
 use it_identity::Identity;
-use it_vouches::{Trust, vouched_identity};
+use it_vouches::{Judged, Shortfall, Trust, judged};
 use std::alloc::{AllocError, Global};
 
 /// An identity that is vouched for, and with what.
@@ -23,24 +24,59 @@ pub struct Vouched {
     pub signature: Sequence<u8>,
 }
 
-/// What a line vouches for; `None` where it is no bundle, or one that vouches for nobody.
+/// What is judged of a line.
+#[derive(Drop)]
+pub(crate) struct LineJudged {
+    /// What it vouches for; `None` where it is no bundle, or one that vouches for nobody.
+    pub(crate) vouched: Option<Vouched>,
+    /// The condition that it misses, where it is a bundle that vouches for nobody.
+    pub(crate) shortfall: Option<Shortfall>,
+}
+
+/// What is judged of a line, by a trusted root.
 ///
 /// # Errors
 ///
 /// `AllocError` where memory was refused.
-pub(crate) fn vouched_by(
+pub(crate) fn judged_line(
     alloc: Global,
     trust: &Trust<'_>,
     line: &[u8],
-) -> Result<Option<Vouched>, AllocError>
-    ensures { IfOk result (Finds (IsVouched trust.now line.now)) }
+) -> Result<LineJudged, AllocError>
+    ensures vouched { IfOk result
+        (λ judged. Finds (IsVouched trust.now line.now) judged.vouched) }
+    ensures misses { IfOk result
+        (λ judged. IfSome judged.shortfall (LineMisses trust.now line.now)) }
 {
     let Some(bundle) = read_bundle(alloc, line)? else {
-        return Ok(None);
+        return Ok(LineJudged {
+            vouched: None,
+            shortfall: None,
+        });
     };
-    let Some(identity) = vouched_identity(alloc, trust, &bundle)? else {
-        return Ok(None);
-    };
+    match judged(alloc, trust, &bundle)? {
+        Judged::For(identity) => Ok(LineJudged {
+            vouched: vouched_with(alloc, &bundle, identity)?,
+            shortfall: None,
+        }),
+        Judged::Misses(shortfall) => Ok(LineJudged {
+            vouched: None,
+            shortfall: Some(shortfall),
+        }),
+    }
+}
+
+/// The identity that a bundle vouches for, with the message and the signature of its envelope.
+fn vouched_with(
+    alloc: Global,
+    bundle: &SigstoreBundle,
+    identity: Identity,
+) -> Result<Option<Vouched>, AllocError>
+    ensures { IfOk result (λ found. MatchOption found
+        ((bytes : List ℕ) → map (λ s. s.sig) bundle.now.envelope.signatures ≡ bytes ∷ [] → ⊥)
+        (λ v. (v.identity ≡ identity) × (v.message ≡ message_of bundle.now.envelope)
+        × (map (λ s. s.sig) bundle.now.envelope.signatures ≡ v.signature ∷ []))) }
+{
     let Some(signature) = only_signature(alloc, bundle.envelope.signatures.as_slice())? else {
         return Ok(None);
     };

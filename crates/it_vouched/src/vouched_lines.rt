@@ -1,25 +1,19 @@
 //! What lines vouch for.
-ghost use Rattle.std.specs.Prelude.{◌≡◌, ◌&&◌, All, IfOk};
+ghost use Rattle.std.specs.Prelude.{◌≡◌, ◌&&◌, All};
 ghost use Rattle.std.specs.Str.{bytes_eq};
-ghost use Rattle.it_digest.specs.Sums.{lines_of};
 ghost use Rattle.it_dsse.specs.Joined.{joined};
 ghost use Rattle.it_dsse.specs.Meter.{raised};
 ghost use Rattle.it_dsse.specs.Vouched.{is_vouched_by, tries_by};
 ghost use Rattle.it_identity.specs.Identity.{IsIdentity};
 ghost use Rattle.it_vouched.specs.Check.{says, vouched_check};
-ghost use Rattle.it_vouched.specs.Line.{AreVouched};
 
 use crate::asked::Asked;
 use crate::identity_key::IdentityKey;
 use crate::joining::is_joined;
-use crate::vouched::{Vouched, vouched_by};
-use it_base::optional::push_some;
-use it_digest::sums::split_line;
+use crate::vouched::Vouched;
 use it_dsse::check::SignatureCheck;
 use it_dsse::envelope::Signature;
 use it_dsse::meter::Meter;
-use it_vouches::Trust;
-use std::alloc::{AllocError, Global};
 use std::marker::Model;
 
 /// What lines vouch for, in their order. To a contract it is this list.
@@ -41,21 +35,12 @@ impl Model for VouchedLines {
 }
 
 impl VouchedLines {
-    /// What the lines of provenance vouch for, by a trusted root. Each line is judged once; one
-    /// that is no bundle, or vouches for nobody, is passed over.
-    ///
-    /// # Errors
-    ///
-    /// `AllocError` where memory was refused.
-    pub fn of(
-        alloc: Global,
-        trust: &Trust<'_>,
-        provenance: &[u8],
-    ) -> Result<VouchedLines, AllocError>
-        ensures { IfOk result (AreVouched trust.now (lines_of provenance.now)) }
+    /// What lines vouch for, in their order.
+    pub(crate) fn new(all: Vec<Vouched>) -> VouchedLines
+        requires { All (λ v. IsIdentity v.identity) all.items }
+        ensures { result ≡ all.items }
     {
-        let all = vouched_in(alloc, trust, provenance)?;
-        Ok(VouchedLines { all })
+        VouchedLines { all }
     }
 
     /// Whether a signature of the message that the parts make is valid for a key: whether some line
@@ -87,23 +72,6 @@ impl VouchedLines {
         let asked = Asked { lines: self, key };
         asked.any_valid(0, message, signatures, id, meter)
     }
-}
-
-fn vouched_in(
-    alloc: Global,
-    trust: &Trust<'_>,
-    provenance: &[u8],
-) -> Result<Vec<Vouched>, AllocError>
-    ensures { IfOk result (λ all. AreVouched trust.now (lines_of provenance.now) all.items) }
-{
-    let mut all = Vec::new(alloc);
-    let mut rest = provenance;
-    while !rest.is_empty() {
-        let (line, after) = split_line(rest);
-        push_some(&mut all, vouched_by(alloc, trust, line)?)?;
-        rest = after;
-    }
-    Ok(all)
 }
 
 fn is_said(vouched: &[Vouched], key: &IdentityKey, message: &[&[u8]], signature: &[u8]) -> bool

@@ -1,0 +1,85 @@
+//! Lines of provenance, judged by a trusted root.
+ghost use Rattle.std.specs.Prelude.{◌≡◌, [], ◌∷◌, All, IfOk, MatchOption};
+ghost use Rattle.it_digest.specs.Sums.{lines_of};
+ghost use Rattle.it_vouched.specs.Line.{AreVouched};
+ghost use Rattle.it_vouched.specs.Silent.{IsSilent};
+
+use crate::silent_line::SilentLine;
+use crate::vouched::{Vouched, judged_line};
+use crate::vouched_lines::VouchedLines;
+use it_base::optional::push_some;
+use it_base::sequence::Sequence;
+use it_digest::sums::split_line;
+use it_vouches::{Shortfall, Trust};
+use std::alloc::{AllocError, Global};
+
+/// What lines of provenance are judged to be.
+#[derive(Drop)]
+pub struct JudgedLines {
+    /// What they vouch for.
+    pub vouched: VouchedLines,
+    /// Those that are bundles and vouch for nobody, in their order.
+    pub silent: Sequence<SilentLine>,
+}
+
+impl JudgedLines {
+    /// The lines of provenance, each judged once, by a trusted root. One that is no bundle is
+    /// passed over.
+    ///
+    /// # Errors
+    ///
+    /// `AllocError` where memory was refused.
+    pub fn of(
+        alloc: Global,
+        trust: &Trust<'_>,
+        provenance: &[u8],
+    ) -> Result<JudgedLines, AllocError>
+        ensures vouched { IfOk result
+            (λ judged. AreVouched trust.now (lines_of provenance.now) judged.vouched) }
+        ensures silent { IfOk result
+            (λ judged. All (IsSilent trust.now (lines_of provenance.now)) judged.silent) }
+    {
+        let Judging { all, silent } = judging_of(alloc, trust, provenance)?;
+        Ok(JudgedLines {
+            vouched: VouchedLines::new(all),
+            silent: Sequence::from(silent),
+        })
+    }
+}
+
+/// What is judged of the lines so far.
+#[derive(Drop)]
+struct Judging {
+    all: Vec<Vouched>,
+    silent: Vec<SilentLine>,
+}
+
+fn judging_of(alloc: Global, trust: &Trust<'_>, provenance: &[u8]) -> Result<Judging, AllocError>
+    ensures vouched { IfOk result
+        (λ judging. AreVouched trust.now (lines_of provenance.now) judging.all.items) }
+    ensures silent { IfOk result
+        (λ judging. All (IsSilent trust.now (lines_of provenance.now)) judging.silent.items) }
+{
+    let mut all = Vec::new(alloc);
+    let mut silent = Vec::new(alloc);
+    let mut number = 0;
+    let mut rest = provenance;
+    while !rest.is_empty() {
+        let (line, after) = split_line(rest);
+        number += 1;
+        let judged = judged_line(alloc, trust, line)?;
+        push_some(&mut all, judged.vouched)?;
+        push_some(&mut silent, silent_line(number, judged.shortfall))?;
+        rest = after;
+    }
+    Ok(Judging { all, silent })
+}
+
+/// The line of a number, where it misses a condition.
+fn silent_line(line: usize, shortfall: Option<Shortfall>) -> Option<SilentLine>
+    ensures { MatchOption shortfall (result ≡ None)
+        (λ missed. result ≡ Some (record { line = line; shortfall = missed })) }
+{
+    let shortfall = shortfall?;
+    Some(SilentLine { line, shortfall })
+}

@@ -1,5 +1,5 @@
 //! Sigstore bundles: which document is one, and what is read of it: an envelope, the certificate
-//! of who signed it, and entries of transparency logs. No command uses them yet.
+//! of who signed it, and entries of transparency logs.
 //!
 //! ```
 //! let Some(bundle) = read_bundle(alloc, line)? else { .. };

@@ -1,5 +1,5 @@
 //! X.509 certificates in DER (RFC 5280): their parts and extensions, what the parts hold, the
-//! leaves that name who signed, and the certificates of authorities. No command uses them yet.
+//! leaves that name who signed, and the certificates of authorities.
 //!
 //! ```
 //! let Some(leaf) = read_leaf(alloc, bytes)? else { .. };

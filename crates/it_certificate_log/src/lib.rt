@@ -1,5 +1,5 @@
 //! Signed certificate timestamps (RFC 6962): the list of them in a certificate, each of them, and
-//! the bytes that a certificate log signed. No command uses them yet.
+//! the bytes that a certificate log signed.
 //!
 //! ```
 //! let Some(items) = items_of(alloc, value)? else { .. };

@@ -1,5 +1,5 @@
 //! The checks of a command with a trusted root: its rings of secrets, public keys, and what lines
-//! of provenance vouch for. No command uses them yet.
+//! of provenance vouch for.
 #![tactic(auto)]
 
 pub mod command_checks;

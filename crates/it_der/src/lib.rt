@@ -1,5 +1,5 @@
 //! Elements in DER (X.690): reading the element at the front of some bytes, and bytes that are one
-//! element, or elements one after another; and writing an element. No command uses them yet.
+//! element, or elements one after another; and writing an element.
 //!
 //! ```
 //! let content = content_of(bytes, SEQUENCE)?;

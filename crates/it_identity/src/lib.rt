@@ -1,5 +1,5 @@
 //! Identities: who signed, as a certificate names it, and who says so; which of them a key object
-//! describes, and their numbers. No command uses them yet.
+//! describes, and their numbers.
 #![tactic(auto)]
 
 mod identity;

@@ -1,5 +1,5 @@
 //! Whether a leaf was issued by a trusted authority (RFC 5280, section 6.1) and logged by a trusted
-//! certificate log (RFC 6962). No command uses it yet.
+//! certificate log (RFC 6962).
 //!
 //! ```
 //! let Some(authority) = read_authority(alloc, listed)? else { .. };

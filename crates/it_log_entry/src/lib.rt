@@ -1,5 +1,5 @@
 //! Entries of a transparency log (Rekor), as Sigstore bundles hold them: reading them, and whether
-//! a log vouches by one for the signature of an envelope at a moment. No command uses them yet.
+//! a log vouches by one for the signature of an envelope at a moment.
 #![tactic(auto)]
 
 mod agreement;

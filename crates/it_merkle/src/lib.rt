@@ -1,5 +1,5 @@
 //! Merkle trees (RFC 6962, section 2.1): the hashes of entries, and whether an inclusion proof
-//! leads from one to the root of a tree. No command uses them yet.
+//! leads from one to the root of a tree.
 //!
 //! ```
 //! let included = leads(&leaf_hash(entry), index, size, &path, &root);

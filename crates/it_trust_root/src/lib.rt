@@ -1,5 +1,5 @@
 //! Sigstore's trusted root, from its JSON form: the logs and the authorities that are trusted, and
-//! when. No command uses it yet.
+//! when.
 //!
 //! ```
 //! let Some(root) = read_root(alloc, bytes)? else { .. };

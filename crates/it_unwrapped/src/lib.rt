@@ -1,5 +1,5 @@
 //! The lines of a provenance in which each Sigstore bundle is replaced by its envelope, for readers
-//! that know only envelopes. No command uses it yet.
+//! that know only envelopes.
 //!
 //! ```
 //! let lines = unwrapped_lines(alloc, provenance)?;

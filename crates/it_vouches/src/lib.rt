@@ -1,5 +1,5 @@
 //! Whom a Sigstore bundle vouches for, by a trusted root: the identity that signed its envelope, or
-//! why nobody. No command uses it yet.
+//! why nobody.
 //!
 //! ```
 //! let trust = Trust::of(alloc, &root)?;

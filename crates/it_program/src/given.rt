@@ -18,7 +18,7 @@ use it_dsse::ring::HmacRing;
 use it_outcome::RunFault;
 use it_public_keys::own_checks::OwnChecks;
 use it_verify::inputs::Inputs;
-use it_vouched::VouchedLines;
+use it_vouched::{SilentLine, VouchedLines};
 use it_words::words::verify_words::VerifyWords;
 use std::alloc::Global;
 
@@ -31,6 +31,8 @@ pub(crate) struct Given {
     pub(crate) checks: CommandChecks,
     /// The links and lines that are left out for their number of signatures.
     pub(crate) left_out: Vec<LeftOut>,
+    /// The lines of the provenance that are bundles and vouch for nobody.
+    pub(crate) silent: Sequence<SilentLine>,
 }
 
 /// What is at the paths of the words. An input without a path is empty. With public keys, links and
@@ -44,6 +46,7 @@ pub(crate) fn given<R: Disk + AllocGlobal>(rt: &R, words: &VerifyWords) -> Resul
         inputs,
         vouched,
         left_out,
+        silent,
     } = read(rt, words)?;
     let rings = read_rings(rt, words.rings.as_slice())?;
     let own = OwnChecks::new(rt.alloc(), rings, words.public_keys, words.most_checks);
@@ -51,6 +54,7 @@ pub(crate) fn given<R: Disk + AllocGlobal>(rt: &R, words: &VerifyWords) -> Resul
         inputs,
         checks: CommandChecks::new(own, vouched),
         left_out,
+        silent,
     })
 }
 
@@ -60,6 +64,7 @@ struct Read {
     inputs: Inputs,
     vouched: Option<VouchedLines>,
     left_out: Vec<LeftOut>,
+    silent: Sequence<SilentLine>,
 }
 
 /// Reads the inputs in their order.
@@ -88,6 +93,7 @@ fn read<R: Disk + AllocGlobal>(rt: &R, words: &VerifyWords) -> Result<Read, Faul
         inputs,
         vouched: provenance.vouched,
         left_out,
+        silent: provenance.silent,
     })
 }
 

@@ -16,6 +16,7 @@ mod command_line;
 mod given;
 mod provenance;
 mod running;
+mod silent_notes;
 mod size_note;
 mod status;
 mod stop;

@@ -7,7 +7,7 @@ use it_base::text::Text;
 use it_disk::{Disk, Fault, LeftOut, bytes_if_given, read_trusted_root};
 use it_limits::lines_within_limit;
 use it_unwrapped::unwrapped_lines;
-use it_vouched::VouchedLines;
+use it_vouched::{JudgedLines, SilentLine, VouchedLines};
 use it_vouches::Trust;
 use it_words::words::verify_words::VerifyWords;
 use std::alloc::{AllocError, Global};
@@ -19,6 +19,8 @@ pub(crate) struct Provenance {
     pub(crate) lines: Sequence<u8>,
     /// What the lines that were read vouch for, where a trusted root is given.
     pub(crate) vouched: Option<VouchedLines>,
+    /// The lines that are bundles and vouch for nobody.
+    pub(crate) silent: Sequence<SilentLine>,
 }
 
 /// The provenance that the words name, or none where they name no file. With public keys its lines
@@ -32,27 +34,41 @@ pub(crate) fn provenance<R: Disk + AllocGlobal>(
         provenance.lines provenance.vouched) }
 {
     let read = bytes_if_given(rt, &words.provenance)?;
-    let vouched = vouched(rt, &words.trusted_root, read.as_slice())?;
+    let Judged { vouched, silent } = judged(rt, &words.trusted_root, read.as_slice())?;
     let envelopes = envelopes(rt.alloc(), &words.trusted_root, read)?;
     let lines = looked_at(rt.alloc(), words.public_keys, envelopes, left_out)?;
-    Ok(Provenance { lines, vouched })
+    Ok(Provenance {
+        lines,
+        vouched,
+        silent,
+    })
 }
 
-/// What the lines vouch for by the trusted root at the path, where one is given.
-fn vouched<R: Disk + AllocGlobal>(
-    rt: &R,
-    path: &Option<Text>,
-    read: &[u8],
-) -> Result<Option<VouchedLines>, Fault>
-    ensures { IfOk result (AreVouchedBy (R.holdings rt.now) path.now read.now) }
+/// What is judged of the lines, where a trusted root is given.
+#[derive(Drop)]
+struct Judged {
+    vouched: Option<VouchedLines>,
+    silent: Sequence<SilentLine>,
+}
+
+/// Judges the lines by the trusted root at the path, where one is given.
+fn judged<R: Disk + AllocGlobal>(rt: &R, path: &Option<Text>, read: &[u8]) -> Result<Judged, Fault>
+    ensures { IfOk result
+        (λ judged. AreVouchedBy (R.holdings rt.now) path.now read.now judged.vouched) }
 {
     let Some(path) = path else {
-        return Ok(None);
+        return Ok(Judged {
+            vouched: None,
+            silent: Sequence::from(Vec::new(rt.alloc())),
+        });
     };
     let root = read_trusted_root(rt, path.as_str())?;
     let trust = Trust::of(rt.alloc(), &root)?;
-    let vouched = VouchedLines::of(rt.alloc(), &trust, read)?;
-    Ok(Some(vouched))
+    let JudgedLines { vouched, silent } = JudgedLines::of(rt.alloc(), &trust, read)?;
+    Ok(Judged {
+        vouched: Some(vouched),
+        silent,
+    })
 }
 
 /// The lines as envelopes: where a trusted root is given, that of each bundle in its place.

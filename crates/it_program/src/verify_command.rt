@@ -8,6 +8,7 @@ ghost use Rattle.it_program.specs.inside.Spent.{IsToldSpent};
 
 use crate::asked::Asked;
 use crate::given::given;
+use crate::silent_notes::note_silent;
 use crate::stop::Stop;
 use it_command_checks::command_checks::CommandChecks;
 use it_disk::{Disk, Fault, note_left_out};
@@ -48,7 +49,15 @@ pub(crate) fn run<R: Disk + AllocGlobal, W: Write, N: Write>(
     let given = given(rt, words)?;
     note_left_out(alloc, given.left_out.as_slice(), notes);
     let outcome = verify_as_asked(alloc, &asked, &given.inputs, &given.checks, out, notes);
+    if is_refused(&outcome) {
+        note_silent(alloc, given.silent.as_slice(), notes);
+    }
     told_spent(outcome, &given.checks, words.most_checks)
+}
+
+/// Whether the delivery was refused.
+fn is_refused(outcome: &Result<Status, Stop>) -> bool {
+    matches!(outcome, Ok(Status::Refused))
 }
 
 /// The outcome of a verification, where that of lack of memory is told as it is: that more

@@ -8,7 +8,7 @@ ghost use Rattle.it_limits.specs.Limit.{IsWithinLimit};
 ghost use Rattle.it_program.specs.Commands.{AreGiven};
 ghost use Rattle.it_program.specs.Inputs.{AreInputs};
 
-use crate::provenance::provenance;
+use crate::provenance::read_provenance;
 use it_base::sequence::Sequence;
 use it_base::text::Text;
 use it_chain::bundle::Bundle;
@@ -37,7 +37,7 @@ pub(crate) struct Given {
 
 /// What is at the paths of the words. An input without a path is empty. With public keys, links and
 /// lines of the provenance that have too many signatures are left out.
-pub(crate) fn given<R: Disk + AllocGlobal>(rt: &R, words: &VerifyWords) -> Result<Given, Fault>
+pub(crate) fn read_given<R: Disk + AllocGlobal>(rt: &R, words: &VerifyWords) -> Result<Given, Fault>
     ensures { IfOk result (λ given. AreGiven (R.holdings rt.now) words.now given.inputs
         (command_checks given.checks.own.rings.items given.checks.own.public_keys
         given.checks.vouched)) }
@@ -47,7 +47,7 @@ pub(crate) fn given<R: Disk + AllocGlobal>(rt: &R, words: &VerifyWords) -> Resul
         vouched,
         left_out,
         silent,
-    } = read(rt, words)?;
+    } = read_inputs(rt, words)?;
     let rings = read_rings(rt, words.rings.as_slice())?;
     let own = OwnChecks::new(rt.alloc(), rings, words.public_keys, words.most_checks);
     Ok(Given {
@@ -68,7 +68,7 @@ struct Read {
 }
 
 /// Reads the inputs in their order.
-fn read<R: Disk + AllocGlobal>(rt: &R, words: &VerifyWords) -> Result<Read, Fault>
+fn read_inputs<R: Disk + AllocGlobal>(rt: &R, words: &VerifyWords) -> Result<Read, Fault>
     ensures { IfOk result
         (λ read. AreInputs (R.holdings rt.now) words.now read.inputs read.vouched) }
 {
@@ -78,7 +78,7 @@ fn read<R: Disk + AllocGlobal>(rt: &R, words: &VerifyWords) -> Result<Read, Faul
     let layout = layout(rt, words)?;
     let links = links(rt, words, &mut left_out)?;
     let records = records(rt, &words.records)?;
-    let provenance = provenance(rt, words, &mut left_out)?;
+    let provenance = read_provenance(rt, words, &mut left_out)?;
     let inputs = Inputs {
         policy,
         layout,

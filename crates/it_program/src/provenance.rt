@@ -25,7 +25,7 @@ pub(crate) struct Provenance {
 
 /// The provenance that the words name, or none where they name no file. With public keys its lines
 /// that have too many signatures are added to what is left out.
-pub(crate) fn provenance<R: Disk + AllocGlobal>(
+pub(crate) fn read_provenance<R: Disk + AllocGlobal>(
     rt: &R,
     words: &VerifyWords,
     left_out: &mut Vec<LeftOut>,
@@ -34,7 +34,7 @@ pub(crate) fn provenance<R: Disk + AllocGlobal>(
         provenance.lines provenance.vouched) }
 {
     let read = bytes_if_given(rt, &words.provenance)?;
-    let Judged { vouched, silent } = judged(rt, &words.trusted_root, read.as_slice())?;
+    let Judged { vouched, silent } = judge(rt, &words.trusted_root, read.as_slice())?;
     let envelopes = envelopes(rt.alloc(), &words.trusted_root, read)?;
     let lines = looked_at(rt.alloc(), words.public_keys, envelopes, left_out)?;
     Ok(Provenance {
@@ -52,7 +52,7 @@ struct Judged {
 }
 
 /// Judges the lines by the trusted root at the path, where one is given.
-fn judged<R: Disk + AllocGlobal>(rt: &R, path: &Option<Text>, read: &[u8]) -> Result<Judged, Fault>
+fn judge<R: Disk + AllocGlobal>(rt: &R, path: &Option<Text>, read: &[u8]) -> Result<Judged, Fault>
     ensures { IfOk result
         (λ judged. AreVouchedBy (R.holdings rt.now) path.now read.now judged.vouched) }
 {

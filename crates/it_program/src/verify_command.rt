@@ -7,7 +7,7 @@ ghost use Rattle.it_program.specs.Commands.{FindsAgainst, Verifies, form_asked};
 ghost use Rattle.it_program.specs.inside.Spent.{IsToldSpent};
 
 use crate::asked::Asked;
-use crate::given::given;
+use crate::given::read_given;
 use crate::silent_notes::note_silent;
 use crate::stop::Stop;
 use it_command_checks::command_checks::CommandChecks;
@@ -46,7 +46,7 @@ pub(crate) fn run<R: Disk + AllocGlobal, W: Write, N: Write>(
 {
     let alloc = rt.alloc();
     let asked = Asked::by(alloc, words)?;
-    let given = given(rt, words)?;
+    let given = read_given(rt, words)?;
     note_left_out(alloc, given.left_out.as_slice(), notes);
     let outcome = verify_as_asked(alloc, &asked, &given.inputs, &given.checks, out, notes);
     if is_refused(&outcome) {

@@ -10,7 +10,7 @@ returns-in-Ok-clause-ok g c =
       search rules,
       record {
         objects = c.in_ok-keys.keys;
-        holds_keys = search rules;
+        holds_keys = rw c.as_str.ensures at c.in_ok-keys.ensures.ok;
         made = c.in_ok-signature.signature.items;
         holds_made = search rules;
         is_output = search rules;

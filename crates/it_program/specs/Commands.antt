@@ -2,7 +2,7 @@
 use Rattle.std.specs.Prelude.{◌≡◌, ℕ, List, Option, IsTrue}
 use Rattle.std.specs.Io.KnownBytes.{Appends}
 use Rattle.std.specs.List.{AllZip}
-use Rattle.it_dsse.specs.Check.{Check}
+use Rattle.it_dsse.specs.Check.{Check as SignatureCheck}
 use Rattle.it_dsse.specs.Panel.{panel_of}
 use Rattle.it_dsse.specs.declared.ring_entry.RingEntry.{RingEntry}
 use Rattle.it_commands.specs.MatchOutput.{IsMatchOutput}
@@ -47,8 +47,8 @@ form_asked (asked.Summary words) =
 -- what a verification is given: its inputs, and the checks, which are those of the rings in the
 -- order of the words, then, where they are asked for, of public keys, and then, where a trusted
 -- root is given, of what the provenance vouches for
-pub record AreGiven (disk : Holdings) (words : VerifyWords) (inputs : Inputs) (checks : List Check)
-    : Type 0 where
+pub record AreGiven (disk : Holdings) (words : VerifyWords) (inputs : Inputs)
+    (checks : List SignatureCheck) : Type 0 where
   pub vouched : Option (List Vouched)
   pub are_inputs : AreInputs disk words inputs vouched
   pub rings : List (List RingEntry)
@@ -60,7 +60,7 @@ pub record AreGiven (disk : Holdings) (words : VerifyWords) (inputs : Inputs) (c
 pub record Verifies (disk : Holdings) (words : VerifyWords) (text : List ℕ)
     (status : Status) : Type 0 where
   pub inputs : Inputs
-  pub checks : List Check
+  pub checks : List SignatureCheck
   pub given : AreGiven disk words inputs checks
   pub is_output : IsVerifyOutputIn (form_asked words.output) (panel_of checks) inputs text status
   pub stands : IsTrue words.strict → status ≡ Good → StandsStrictly (panel_of checks) inputs
@@ -71,7 +71,7 @@ pub record FindsAgainst (disk : Holdings) (words : VerifyWords) (old new : Optio
     : Type 0 where
   pub is_strict : IsTrue words.strict
   pub inputs : Inputs
-  pub checks : List Check
+  pub checks : List SignatureCheck
   pub given : AreGiven disk words inputs checks
   pub text : List ℕ
   pub has_findings : HasFindings (form_asked words.output) (panel_of checks) inputs text

@@ -7,6 +7,7 @@ is made from its holder's name.
 import base64
 import hashlib
 
+import curve_points
 from key_texts import X, Y, der, point
 
 P = 2 ** 256 - 2 ** 224 + 2 ** 192 + 2 ** 96 - 1
@@ -15,26 +16,9 @@ B = 0x5AC635D8AA3A93E7B3EBBD55769886BC651D06B0CC53B0F63BCE3C3E27D2604B
 BASE = (int(X, 16), int(Y, 16))
 
 
-def add(one, other):
-    """The sum of two points; None is infinity."""
-    if one is None or other is None:
-        return one or other
-    (x, y), (z, t) = one, other
-    if x == z and (y + t) % P == 0:
-        return None
-    slope = (3 * x * x - 3) * pow(2 * y, -1, P) if one == other else (t - y) * pow(z - x, -1, P)
-    third = (slope * slope - x - z) % P
-    return third, (slope * (x - third) - y) % P
-
-
 def times(number, base):
-    """A multiple of a point."""
-    total = None
-    for bit in bin(number % ORDER)[2:]:
-        total = add(total, total)
-        if bit == "1":
-            total = add(total, base)
-    return total
+    """A multiple of a point of the curve."""
+    return curve_points.times(P, number % ORDER, base)
 
 
 def number_of(message):
@@ -67,7 +51,7 @@ def accepting(pair, message):
     y = pow(r * r * r - 3 * r + B, (P + 1) // 4, P)
     back = pow(r, -1, ORDER)
     hashed = times(-number_of(message) * back, BASE)
-    return [add(times(s * back, (r, one)), hashed) for one in (y, P - y)]
+    return [curve_points.add(P, times(s * back, (r, one)), hashed) for one in (y, P - y)]
 
 
 def other_key(who, pair, message):

@@ -17,6 +17,7 @@ sys.dont_write_bytecode = True
 from cryptography.exceptions import InvalidSignature
 from cryptography.hazmat.primitives import hashes, serialization
 from cryptography.hazmat.primitives.asymmetric import ec, ed25519, rsa, utils
+import curve_points
 from vectors import of_key, of_signature, write
 
 
@@ -110,28 +111,14 @@ def is_on_curve(point):
     return (y * y - x * x * x + 3 * x - B) % P == 0
 
 
-def add(a, b):
-    if a is None:
-        return b
-    if b is None:
-        return a
-    if a[0] == b[0]:
-        if (a[1] + b[1]) % P == 0:
-            return None
-        slope = (3 * a[0] * a[0] - 3) * pow(2 * a[1], -1, P) % P
-    else:
-        slope = (b[1] - a[1]) * pow(b[0] - a[0], -1, P) % P
-    x = (slope * slope - a[0] - b[0]) % P
-    return x, (slope * (a[0] - x) - a[1]) % P
+def add(one, other):
+    """The sum of two points of the curve; None is infinity."""
+    return curve_points.add(P, one, other)
 
 
 def times(number, point):
-    total = None
-    for bit in bin(number % N)[2:]:
-        total = add(total, total)
-        if bit == "1":
-            total = add(total, point)
-    return total
+    """A multiple of a point of the curve."""
+    return curve_points.times(P, number % N, point)
 
 
 def root(number):

@@ -16,14 +16,18 @@ use Rattle.it_ed25519.specs.PublicKey.{IsPublicKey, is_small_order}
 use Rattle.it_p256_field.specs.Prime.{prime, times_mod}
 use Rattle.it_p256_point.specs.Curve.{right_side, is_on_curve}
 use Rattle.it_p256.specs.Key.{Key as P256Key, IsKey as IsP256Key, info_of as p256_info}
+use Rattle.it_p384_field.specs.Prime.{prime as p384_prime, times_mod as p384_times}
+use Rattle.it_p384_point.specs.Curve.{right_side as p384_side, is_on_curve as is_on_p384}
+use Rattle.it_p384.specs.Key.{Key as P384Key, IsKey as IsP384Key, info_of as p384_info}
 use Rattle.it_rsa.specs.Info.{exponent_bytes, info_of as rsa_info}
 use Rattle.it_rsa.specs.Key.{Key as RsaKey, IsKey as IsRsaKey}
 use Rattle.it_rsa.proofs.Infos.{read_of}
 use Rattle.it_rsa.proofs.Keys.{exponent_read, key_is, parts_of_key}
 use Rattle.it_public_keys.specs.DecodedKeys.{coordinates_in, ed25519_key, is_ed25519_key, is_p256_key}
+use Rattle.it_public_keys.specs.DecodedKeys.{is_p384_key, p384_coordinates_in, p384_key}
 use Rattle.it_public_keys.specs.DecodedKeys.{is_rsa_key, key_if, numbers_in, p256_key, rsa_key}
 use Rattle.it_public_keys.specs.declared.key.Key.{Key}
-use Rattle.it_public_keys.specs.declared.key.Key.TheVariants.{Ed25519, P256, Rsa}
+use Rattle.it_public_keys.specs.declared.key.Key.TheVariants.{Ed25519, P256, P384, Rsa}
 
 both : (a b : Bool) → (a && b) ≡ true → (a ≡ true) × (b ≡ true)
 both true true e = (refl, refl)
@@ -115,6 +119,47 @@ p256_read info key is e =
     let made : ℕ → ℕ → P256Key = λ x y. record { x = x; y = y } in
     rw e (ap (λ x. made x (big (drop 59 (p256_info key)))) x_read ∙ ap (made key.x) y_read)
 
+-- P-384
+p384_sound : (info : List ℕ) (key : P384Key) → is_p384_key info key ≡ true
+    → IsP384Key key × (info ≡ p384_info key)
+unfolding is_p384_key
+p384_sound info key e =
+    let first = both (bytes_eq info (p384_info key)) _ e in
+    let second = both (nat_lt key.x p384_prime) _ first.1 in
+    let third = both (nat_lt key.y p384_prime) (is_on_p384 key.x key.y) second.1 in (
+      record {
+        x_below = ltb-true _ _ second.0;
+        y_below = ltb-true _ _ third.0;
+        on_curve = (Decides-eqb (p384_times key.y key.y) (p384_side key.x)).0 third.1;
+      },
+      (bytes_eq-Decides info (p384_info key)).0 first.0,
+    )
+
+p384_all : (info : List ℕ) (key : P384Key) → IsP384Key key → info ≡ p384_info key
+    → is_p384_key info key ≡ true
+unfolding is_p384_key
+p384_all info key is e =
+    joint (bytes_eq info (p384_info key)) _ ((bytes_eq-Decides info (p384_info key)).1 e)
+    (joint (nat_lt key.x p384_prime) _ (lt_is key.x p384_prime is.x_below)
+    (joint (nat_lt key.y p384_prime) (is_on_p384 key.x key.y) (lt_is key.y p384_prime is.y_below)
+    ((Decides-eqb (p384_times key.y key.y) (p384_side key.x)).1 is.on_curve)))
+
+p384_coordinate : (x : ℕ) → x < p384_prime → big (big_bytes 48 x) ≡ x
+p384_coordinate x below = let fits : x < 2 ^ (8 * 48) = omega arith in big-bytes 48 x fits
+
+p384_read : (info : List ℕ) (key : P384Key) → IsP384Key key → info ≡ p384_info key
+    → p384_coordinates_in info ≡ key
+unfolding p384_coordinates_in
+p384_read info key is e =
+    let xs = big_bytes 48 key.x in
+    let ys = big_bytes 48 key.y in
+    let x_read : big (take 48 (drop 24 (p384_info key))) ≡ key.x =
+    ap big (front xs ys 48 (length-big_bytes 48 key.x)) ∙ p384_coordinate key.x is.x_below in
+    let y_read : big (drop 72 (p384_info key)) ≡ key.y =
+    ap big (rest xs ys 48 (length-big_bytes 48 key.x)) ∙ p384_coordinate key.y is.y_below in
+    let made : ℕ → ℕ → P384Key = λ x y. record { x = x; y = y } in
+    rw e (ap (λ x. made x (big (drop 72 (p384_info key)))) x_read ∙ ap (made key.x) y_read)
+
 -- RSA
 rsa_sound : (info : List ℕ) (key : RsaKey) → is_rsa_key info key ≡ true
     → IsRsaKey key × (info ≡ rsa_info key)
@@ -200,6 +245,13 @@ p256_there info key is same =
     key_if_so (is_p256_key info (coordinates_in info)) (P256 (coordinates_in info)) (P256 key)
     (rw read (p256_all info key is same)) (ap (λ k. P256 k) read)
 
+pub p384_there : (info : List ℕ) (key : P384Key) → IsP384Key key → info ≡ p384_info key
+    → p384_key info ≡ Some (P384 key)
+p384_there info key is same =
+    let read : p384_coordinates_in info ≡ key = p384_read info key is same in
+    key_if_so (is_p384_key info (p384_coordinates_in info)) (P384 (p384_coordinates_in info)) (P384 key)
+    (rw read (p384_all info key is same)) (ap (λ k. P384 k) read)
+
 pub rsa_there : (info : List ℕ) (key : RsaKey) → IsRsaKey key → info ≡ rsa_info key
     → rsa_key info ≡ Some (Rsa key)
 rsa_there info key is same =
@@ -218,6 +270,12 @@ p256_missing info none =
     key_if_not (is_p256_key info (coordinates_in info)) (P256 (coordinates_in info))
     (λ e. (let is = p256_sound info (coordinates_in info) e in none (coordinates_in info) is.0 is.1))
 
+pub p384_missing : (info : List ℕ)
+    → ((key : P384Key) → IsP384Key key → info ≡ p384_info key → ⊥) → None ≡ p384_key info
+p384_missing info none =
+    key_if_not (is_p384_key info (p384_coordinates_in info)) (P384 (p384_coordinates_in info))
+    (λ e. (let is = p384_sound info (p384_coordinates_in info) e in none (p384_coordinates_in info) is.0 is.1))
+
 pub rsa_missing : (info : List ℕ)
     → ((key : RsaKey) → IsRsaKey key → info ≡ rsa_info key → ⊥) → None ≡ rsa_key info
 rsa_missing info none =
@@ -234,6 +292,12 @@ pub record IsP256 (info : List ℕ) (key : Key) : Type 0 where
   pub is : IsP256Key numbers
   pub info_is : info ≡ p256_info numbers
   pub key_is : P256 numbers ≡ key
+
+pub record IsP384 (info : List ℕ) (key : Key) : Type 0 where
+  pub numbers : P384Key
+  pub is : IsP384Key numbers
+  pub info_is : info ≡ p384_info numbers
+  pub key_is : P384 numbers ≡ key
 
 pub record IsRsa (info : List ℕ) (key : Key) : Type 0 where
   pub numbers : RsaKey
@@ -252,6 +316,12 @@ p256_decoded info key e =
     let is = key_if_is (is_p256_key info (coordinates_in info)) (P256 (coordinates_in info)) key e in
     let good = p256_sound info (coordinates_in info) is.0 in
     record { numbers = coordinates_in info; is = good.0; info_is = good.1; key_is = is.1 }
+
+pub p384_decoded : (info : List ℕ) (key : Key) → p384_key info ≡ Some key → IsP384 info key
+p384_decoded info key e =
+    let is = key_if_is (is_p384_key info (p384_coordinates_in info)) (P384 (p384_coordinates_in info)) key e in
+    let good = p384_sound info (p384_coordinates_in info) is.0 in
+    record { numbers = p384_coordinates_in info; is = good.0; info_is = good.1; key_is = is.1 }
 
 pub rsa_decoded : (info : List ℕ) (key : Key) → rsa_key info ≡ Some key → IsRsa info key
 rsa_decoded info key e =

@@ -1,13 +1,15 @@
 -- What lacks the form of a signature is none.
 use Rattle.std.proofs.Common.{◌≡◌, ◌<◌, ◌^◌, ◌↔◌, ℕ, List, Bool, true, false, IsTrue, arith, refl}
 use Rattle.std.proofs.lemmas.Bool.Decides.{not_from_Decides}
+use Rattle.sha2.specs.Sha512.{sha384}
 use Rattle.it_p256_order.specs.Order.{group_order}
 use Rattle.it_public_keys.specs.Form.{HasForm}
 use Rattle.it_public_keys.specs.Validity.{is_signature_with}
 use Rattle.it_public_keys.specs.declared.key.Key.{Key}
-use Rattle.it_public_keys.specs.declared.key.Key.TheVariants.{Ed25519, P256, Rsa}
+use Rattle.it_public_keys.specs.declared.key.Key.TheVariants.{Ed25519, P256, P384, Rsa}
 use Rattle.it_public_keys.proofs.Ed25519Tests.{ed25519_decides}
 use Rattle.it_public_keys.proofs.P256Tests.{p256_decides}
+use Rattle.it_public_keys.proofs.P384Tests.{p384_decides}
 use Rattle.it_public_keys.proofs.RsaTests.{rsa_decides}
 
 -- a number below the order has at most 256 bits
@@ -28,6 +30,9 @@ signed_has_form (P256 key) digest message sig passes =
       s_small = order_fits signed.s signed.good.s_good.below;
       encoded = signed.encoded;
     }
+signed_has_form (P384 key) digest message sig passes =
+    let signed = (p384_decides key (sha384 message) sig).0 passes in
+    record { r = signed.r; s = signed.s; encoded = signed.encoded }
 signed_has_form (Rsa key) digest message sig passes = ((rsa_decides key digest sig).0 passes).long
 
 none_passes : (passes : Bool) → (passes ≡ true → ⊥) → false ≡ passes

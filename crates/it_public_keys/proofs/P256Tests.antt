@@ -75,10 +75,10 @@ integer_decides bytes start end =
     (Decides-ltb (slice_index bytes (start + 3)) 128))))))))))
 
 -- the numbers of a signature
-abbrev first_of : List ℕ → ℕ
+abbrev pub first_of : List ℕ → ℕ
 first_of bytes = integer_at bytes 2 (middle_of bytes)
 
-abbrev second_of : List ℕ → ℕ
+abbrev pub second_of : List ℕ → ℕ
 second_of bytes = integer_at bytes (middle_of bytes) (length bytes)
 
 -- where the first integer of any reading ends
@@ -107,18 +107,18 @@ number_is : (bytes : List ℕ) (start end to until n : ℕ) → start ≡ to →
 number_is bytes start end to until n from e is =
     sym is.value ∙ ap (λ x. integer_at bytes x end) from ∙ ap (integer_at bytes to) e
 
-record AreRead (bytes : List ℕ) (r s : ℕ) : Type 0 where
-  first : r ≡ first_of bytes
-  second : s ≡ second_of bytes
+pub record AreRead (bytes : List ℕ) (r s : ℕ) : Type 0 where
+  pub first : r ≡ first_of bytes
+  pub second : s ≡ second_of bytes
 
-are_read : (bytes : List ℕ) (r s : ℕ) → IsSignatureValue bytes r s → AreRead bytes r s
+pub are_read : (bytes : List ℕ) (r s : ℕ) → IsSignatureValue bytes r s → AreRead bytes r s
 are_read bytes r s is = record {
   first = number_is bytes 2 is.middle 2 (middle_of bytes) r refl (middle_is bytes r s is) is.first;
   second = number_is bytes is.middle (length bytes) (middle_of bytes) (length bytes) s
       (middle_is bytes r s is) refl is.second;
 }
 
-sequence_decides : (bytes : List ℕ)
+pub sequence_decides : (bytes : List ℕ)
     → Decides (is_sequence bytes) (IsSignatureValue bytes (first_of bytes) (second_of bytes))
 unfolding is_sequence
 sequence_decides bytes =

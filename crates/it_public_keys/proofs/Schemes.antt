@@ -10,7 +10,8 @@ pub no_ring_knows : (ring : List RingEntry) (id : List ℕ) (object : KeyObject)
     → IsPublicScheme object.scheme → (ring_check ring).key_of id object ≡ None
 no_ring_knows ring id object (inl is) = rw is refl
 no_ring_knows ring id object (inr (inl is)) = rw is refl
-no_ring_knows ring id object (inr (inr is)) = rw is refl
+no_ring_knows ring id object (inr (inr (inl is))) = rw is refl
+no_ring_knows ring id object (inr (inr (inr is))) = rw is refl
 
 pub no_secret_known : (id : List ℕ) (object : KeyObject) → object.scheme ≡ codes "hmac-sha256"
     → public_key_check.key_of id object ≡ None

@@ -13,11 +13,14 @@ use Rattle.it_ed25519.specs.PublicKey.{is_small_order}
 use Rattle.it_p256_field.specs.Prime.{prime}
 use Rattle.it_p256_point.specs.Curve.{is_on_curve}
 use Rattle.it_p256.specs.Key.{Key as P256Key, info_of as p256_info}
+use Rattle.it_p384_field.specs.Prime.{prime as p384_prime}
+use Rattle.it_p384_point.specs.Curve.{is_on_curve as is_on_p384}
+use Rattle.it_p384.specs.Key.{Key as P384Key, info_of as p384_info}
 use Rattle.it_pem.specs.PublicKeyText.{info_in}
 use Rattle.it_rsa.specs.Info.{info_of as rsa_info}
 use Rattle.it_rsa.specs.Key.{Key as RsaKey}
 use Rattle.it_public_keys.specs.declared.key.Key.{Key}
-use Rattle.it_public_keys.specs.declared.key.Key.TheVariants.{Ed25519, P256, Rsa}
+use Rattle.it_public_keys.specs.declared.key.Key.TheVariants.{Ed25519, P256, P384, Rsa}
 
 -- the key, if a test holds
 abbrev pub key_if : Bool → Key → Option Key
@@ -43,6 +46,18 @@ is_p256_key info key = bytes_eq info (p256_info key)
 
 abbrev pub p256_key : List ℕ → Option Key
 p256_key info = key_if (is_p256_key info (coordinates_in info)) (P256 (coordinates_in info))
+
+-- the same for P-384, whose curve has a shorter identifier
+unfoldable pub p384_coordinates_in : List ℕ → P384Key
+p384_coordinates_in info = record { x = big (take 48 (drop 24 info)); y = big (drop 72 info) }
+
+unfoldable pub is_p384_key : List ℕ → P384Key → Bool
+is_p384_key info key = bytes_eq info (p384_info key)
+    && (nat_lt key.x p384_prime && (nat_lt key.y p384_prime && is_on_p384 key.x key.y))
+
+abbrev pub p384_key : List ℕ → Option Key
+p384_key info =
+    key_if (is_p384_key info (p384_coordinates_in info)) (P384 (p384_coordinates_in info))
 
 -- how many bytes the modulus has in the SubjectPublicKeyInfo of an RSA key (RFC 3279, section
 -- 2.3.1): the length that stands there counts a 0 before it
@@ -72,8 +87,10 @@ key_described scheme public = if bytes_eq scheme (codes "ed25519")
     then option_and_then ed25519_key (result_ok (decode_sized public 32))
     else (if bytes_eq scheme (codes "ecdsa-sha2-nistp256")
     then option_and_then p256_key (info_in public)
+    else (if bytes_eq scheme (codes "ecdsa-sha2-nistp384")
+    then option_and_then p384_key (info_in public)
     else (if bytes_eq scheme (codes "rsassa-pss-sha256")
-    then option_and_then rsa_key (info_in public) else None))
+    then option_and_then rsa_key (info_in public) else None)))
 
 -- the key that an object describes
 abbrev pub key_in : KeyObject → Option Key

@@ -2,9 +2,10 @@
 use Rattle.std.specs.Prelude.{ℕ, ◌/◌, ◌%◌, ◌<◌, List, ◌∷◌, ◌++◌, length, drop, replicate}
 use Rattle.std.specs.Prelude.{slice_index}
 use Rattle.it_p256.specs.Key.{info_of as p256_info}
+use Rattle.it_p384.specs.Key.{info_of as p384_info}
 use Rattle.it_rsa.specs.Info.{info_of as rsa_info}
 use Rattle.it_public_keys.specs.declared.key.Key.{Key}
-use Rattle.it_public_keys.specs.declared.key.Key.TheVariants.{Ed25519, P256, Rsa}
+use Rattle.it_public_keys.specs.declared.key.Key.TheVariants.{Ed25519, P256, P384, Rsa}
 
 -- what follows the bytes, as far as there is room
 unfoldable pub zeros : List ℕ
@@ -20,6 +21,7 @@ abbrev pub key_name : Key → List ℕ
 key_name (Ed25519 bytes) = name 1 bytes
 key_name (P256 key) = name 2 (p256_info key)
 key_name (Rsa key) = name 3 (rsa_info key)
+key_name (P384 key) = name 4 (p384_info key)
 
 -- the key is made of bytes, and so is its name
 abbrev pub IsOfBytes : Key → Type 0

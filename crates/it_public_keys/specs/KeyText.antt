@@ -6,10 +6,11 @@ use Rattle.std.specs.Str.{bytes_eq}
 use Rattle.hex.specs.Hex.{decode_sized}
 use Rattle.it_dsse.specs.declared.key_object.KeyObject.{KeyObject}
 use Rattle.it_p256.specs.Key.{info_of as p256_info}
+use Rattle.it_p384.specs.Key.{info_of as p384_info}
 use Rattle.it_pem.specs.PublicKeyText.{info_in}
 use Rattle.it_rsa.specs.Info.{info_of as rsa_info}
 use Rattle.it_public_keys.specs.declared.key.Key.{Key}
-use Rattle.it_public_keys.specs.declared.key.Key.TheVariants.{Ed25519, P256, Rsa}
+use Rattle.it_public_keys.specs.declared.key.Key.TheVariants.{Ed25519, P256, P384, Rsa}
 
 -- the bytes that were found are these
 abbrev pub are_bytes : Option (List ℕ) → List ℕ → Bool
@@ -23,5 +24,7 @@ describes object (Ed25519 bytes) = bytes_eq object.scheme (codes "ed25519")
     && are_bytes (result_ok (decode_sized object.public 32)) bytes
 describes object (P256 key) = bytes_eq object.scheme (codes "ecdsa-sha2-nistp256")
     && are_bytes (info_in object.public) (p256_info key)
+describes object (P384 key) = bytes_eq object.scheme (codes "ecdsa-sha2-nistp384")
+    && are_bytes (info_in object.public) (p384_info key)
 describes object (Rsa key) = bytes_eq object.scheme (codes "rsassa-pss-sha256")
     && are_bytes (info_in object.public) (rsa_info key)

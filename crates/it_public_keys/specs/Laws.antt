@@ -17,7 +17,7 @@ TestIsSignature =
 -- one of the schemes of public keys
 abbrev pub IsPublicScheme : List ℕ → Type 0
 IsPublicScheme scheme = (scheme ≡ codes "ed25519") ⊎ (scheme ≡ codes "ecdsa-sha2-nistp256")
-    ⊎ (scheme ≡ codes "rsassa-pss-sha256")
+    ⊎ (scheme ≡ codes "ecdsa-sha2-nistp384") ⊎ (scheme ≡ codes "rsassa-pss-sha256")
 
 -- no ring knows an object of a scheme of public keys
 abbrev pub NoRingKnowsPublicKeys : Type 0

@@ -1,4 +1,4 @@
-//! Public keys of three kinds.
+//! Public keys of four kinds.
 ghost use Rattle.std.specs.Prelude.{◌≡◌, ℕ, IfOk, List};
 ghost use Rattle.it_dsse.specs.Joined.{joined};
 ghost use Rattle.it_public_keys.specs.Validity.{is_signature_of, is_signature_with};
@@ -13,6 +13,8 @@ pub enum Key {
     Ed25519(it_ed25519::PublicKey),
     /// An ECDSA key over P-256 (FIPS 186-5). To a contract, it is its coordinates.
     P256(it_p256::PublicKey),
+    /// An ECDSA key over P-384 (FIPS 186-5). To a contract, it is its coordinates.
+    P384(it_p384::PublicKey),
     /// An RSASSA-PSS key (RFC 8017). To a contract, it is its modulus and its exponent.
     Rsa(it_rsa::PublicKey),
 }
@@ -26,33 +28,34 @@ impl Key {
             ≡ is_signature_of self.now (joined message.now) signature }
     {
         match self {
-            Key::Ed25519(_) => [0; 32],
+            Key::Ed25519(_) | Key::P384(_) => [0; 32],
             Key::P256(_) => it_p256::message_digest(message),
             Key::Rsa(_) => it_rsa::message_digest(message),
         }
     }
 
-    /// What a check looks at of the message that the parts make, beside its digest: the message
-    /// itself if the key's kind signs that, otherwise nothing.
+    /// What a check looks at of the message that the parts make, beside its SHA-256: the message
+    /// itself if the key's kind signs that or another digest, otherwise nothing.
     pub(crate) fn looked_at(&self, alloc: Global, message: &[&[u8]]) -> Result<Vec<u8>, AllocError>
         ensures { IfOk result (λ part. (digest signature : List ℕ)
             → is_signature_with self.now digest part.items signature
             ≡ is_signature_with self.now digest (joined message.now) signature) }
     {
         match self {
-            Key::Ed25519(_) => joined(alloc, message),
+            Key::Ed25519(_) | Key::P384(_) => joined(alloc, message),
             Key::P256(_) | Key::Rsa(_) => Ok(Vec::new(alloc)),
         }
     }
 
-    /// Whether `sig` is the key's signature of the joined message or, for some kinds, of what has
-    /// the digest.
+    /// Whether `sig` is the key's signature of the joined message or, for the kinds that sign a
+    /// SHA-256, of what has this one.
     pub(crate) fn is_signature_with(&self, digest: &[u8; 32], message: &[&[u8]], sig: &[u8]) -> bool
         ensures { result ≡ is_signature_with self.now digest.now (joined message.now) sig.now }
     {
         match self {
             Key::Ed25519(key) => it_ed25519::is_signature(key, message, sig),
             Key::P256(key) => it_p256::is_signature_of_digest(key, digest, sig),
+            Key::P384(key) => it_p384::is_signature(key, message, sig),
             Key::Rsa(key) => it_rsa::is_signature_of_digest(key, digest, sig),
         }
     }

@@ -12,9 +12,9 @@ use std::rc::Rc;
 pub(crate) struct Question {
     /// The key.
     pub(crate) key: Rc<NamedKey>,
-    /// The message's digest, if the key's kind signs that, otherwise zeros.
+    /// The message's SHA-256, if the key's kind signs that, otherwise zeros.
     pub(crate) digest: [u8; 32],
-    /// The message, if the key's kind signs that, otherwise nothing.
+    /// The message, if the key's kind signs that or another digest, otherwise nothing.
     pub(crate) message: Rc<Vec<u8>>,
     /// The number of that message among those that are remembered, if it is one of them.
     pub(crate) number: Option<usize>,

@@ -50,7 +50,9 @@ complete -c itv -n '__fish_seen_subcommand_from statement' -l build-type -x -d '
 complete -c itv -n '__fish_seen_subcommand_from statement' -l parameters -r -F -d 'The external parameters, a JSON object.'
 complete -c itv -n __fish_use_subcommand -a payload -d 'Writes the payload of the envelope. It looks at no signature.'
 complete -c itv -n '__fish_seen_subcommand_from payload' -F
-complete -c itv -n __fish_use_subcommand -a key -d 'Writes the public keys in PEM files as one JSON object from id to key object, and a line feed, as layouts, policies and --keys take it.'
-complete -c itv -n '__fish_seen_subcommand_from key' -l name -x -d 'The id of the key, with one file; else it is made from the key as securesystemslib makes it.'
+complete -c itv -n __fish_use_subcommand -a key -d 'Writes the public keys in PEM files, or an identity by which Sigstore bundles are checked, as one JSON object from id to key object, and a line feed, as layouts, policies and --keys take it.'
+complete -c itv -n '__fish_seen_subcommand_from key' -l identity -x -d 'In place of files, the name of an identity as the certificates of its Sigstore bundles have it, a URI or an address of mail, in 512 bytes at most.'
+complete -c itv -n '__fish_seen_subcommand_from key' -l issuer -x -d 'With --identity, the issuer of the identity as those certificates have it, in 512 bytes at most.'
+complete -c itv -n '__fish_seen_subcommand_from key' -l name -x -d 'The id of the key, with one file or an identity; else it is made from the key as securesystemslib makes it.'
 complete -c itv -n '__fish_seen_subcommand_from key' -F
 complete -c itv -n __fish_use_subcommand -a match -d 'Writes whether the pattern of an artifact rule matches the whole path: yes or no, and a line feed.'

@@ -156,11 +156,17 @@ pub(super) const PAYLOAD: Usage = Usage {
 /// The usage of `itv key`.
 pub(super) const KEY: Usage = Usage {
     name: "key",
-    line: "itv key FILE.. [--name ID]",
-    text: "    Writes the public keys in PEM files as one JSON object from id to key
-    object, and a line feed, as layouts, policies and --keys take it.
-      --name ID  The id of the key, with one file; else it is made from the key
-                 as securesystemslib makes it.",
+    line: "itv key (FILE.. | --identity I --issuer S) [--name ID]",
+    text: "    Writes the public keys in PEM files, or an identity by which Sigstore
+    bundles are checked, as one JSON object from id to key object, and a line
+    feed, as layouts, policies and --keys take it.
+      --identity I  In place of files, the name of an identity as the
+                    certificates of its Sigstore bundles have it, a URI or an
+                    address of mail, in 512 bytes at most.
+      --issuer S    With --identity, the issuer of the identity as those
+                    certificates have it, in 512 bytes at most.
+      --name ID     The id of the key, with one file or an identity; else it is
+                    made from the key as securesystemslib makes it.",
 };
 
 /// The usage of `itv match`.

@@ -88,7 +88,8 @@ fn push_rule(
 ) -> Result<(), AllocError>
     ensures { OnOk result (json.new.items
         ≡ json.old.items
-        ++ further member (fault_members (RuleFailed item.now side place.0 place.1.now))) }
+        ++ further member
+        (fault_members (RuleFailed item.now side place.entry.0 place.entry.1.now))) }
 {
     let (index, path) = place;
     push_text_member(json, "item", item_text(alloc, item)?.as_str())?;

@@ -117,7 +117,8 @@ fn push_rule(
     place: (usize, &Text),
 ) -> Result<(), AllocError>
     ensures { OnOk result (text.new.items
-        ≡ text.old.items ++ fault_lines (Fault.RuleFailed item.now side place.0 place.1.now)) }
+        ≡ text.old.items
+        ++ fault_lines (Fault.RuleFailed item.now side place.entry.0 place.entry.1.now)) }
 {
     let (index, path) = place;
     push_item(text, item)?;

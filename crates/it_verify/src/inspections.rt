@@ -130,9 +130,10 @@ fn run_side(
 ) -> Result<(), Failure>
     requires { NamesDiffer (links_of links.now) }
     ensures rules { MatchResult result
-        (λ _. RulesHold rules_of.1.now rules_of.0 (recorded_in link.now) (links_of links.now))
+        (λ _. RulesHold rules_of.entry.1.now rules_of.entry.0
+        (recorded_in link.now) (links_of links.now))
         (RefusedAs (SideFails (links_of links.now)
-        name.now rules_of.0 rules_of.1.now link.now)) }
+        name.now rules_of.entry.0 rules_of.entry.1.now link.now)) }
 {
     let (side, rules) = rules_of;
     let item = Item {

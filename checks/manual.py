@@ -86,9 +86,12 @@ def option_of(option):
     return f"{text_of(name)} \\fI{value}\\fR" if value else text_of(name)
 
 
-def choice_of(options):
-    """Options of which those of one choice must be given; a bar separates the choices."""
+def choice_of(arguments, options):
+    """Arguments and options of which those of one choice must be given; a bar separates the
+    choices."""
     choices = {}
+    for argument in arguments:
+        choices.setdefault(argument["choice"], []).append(argument["value"])
     for option in options:
         choices.setdefault(option["choice"], []).append(with_value(option))
     return "(" + " | ".join(" ".join(words) for words in choices.values()) + ")"
@@ -97,10 +100,11 @@ def choice_of(options):
 def words_of(command):
     """The arguments of a command, as a synopsis shows them."""
     forms = {"needed": "{}", "any": "[{}..]"}
-    words = [argument["value"] for argument in command["arguments"]]
+    chosen = [argument for argument in command["arguments"] if "choice" in argument]
+    words = [argument["value"] for argument in command["arguments"] if argument not in chosen]
     for use, options in itertools.groupby(command["options"], key=lambda option: option["use"]):
         if use == "one":
-            words.append(choice_of(options))
+            words.append(choice_of(chosen, options))
         elif use == "together":
             words.append("[" + " ".join(with_value(option) for option in options) + "]")
         else:

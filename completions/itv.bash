@@ -58,7 +58,7 @@ _itv() {
             link) offered=$(compgen -W '--name --materials --products' -- "$word") ;;
             statement) offered=$(compgen -W '--sums --builder --build-type --parameters' -- "$word") ;;
             payload) offered=$(compgen -f -- "$word") ;;
-            key) offered=$(compgen -W '--name' -- "$word"; compgen -f -- "$word") ;;
+            key) offered=$(compgen -W '--identity --issuer --name' -- "$word"; compgen -f -- "$word") ;;
         esac
     fi
     mapfile -t COMPREPLY < <(printf '%s' "${offered:+$offered$'\n'}")

@@ -190,6 +190,11 @@ func KeyNamed(name string, file []byte) (map[string]json.RawMessage, error) {
 	return keysOf([]string{"--name=" + name}, [][]byte{file})
 }
 
+// KeyOfIdentity is the key object of an identity, by which Sigstore bundles are checked, by its id.
+func KeyOfIdentity(identity, issuer string) (map[string]json.RawMessage, error) {
+	return keysOf([]string{"--identity=" + identity, "--issuer=" + issuer}, nil)
+}
+
 func keysOf(options []string, given [][]byte) (map[string]json.RawMessage, error) {
 	words, files := append(append([]string{"key"}, options...), "--"), map[string][]byte{}
 	for number, file := range given {

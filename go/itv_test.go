@@ -208,6 +208,12 @@ func TestCommands(t *testing.T) {
 	is(t, must(itv.SignedByKeys(envelope, must(json.Marshal(keys)))), []string(nil))
 	_, err := itv.Key(must(os.ReadFile("../examples/public/keys/alice.pem")))
 	is(t, strings.Contains(sentenceOf(t, err), "it is a private key"), true)
+	const anna = `{"keytype":"sigstore-oidc","keyval":{"identity":"i","issuer":"s"},"scheme":"Fulcio"}`
+	for _, object := range must(itv.KeyOfIdentity("i", "s")) {
+		is(t, string(object), anna)
+	}
+	_, err = itv.KeyOfIdentity("", "s")
+	is(t, strings.Contains(sentenceOf(t, err), "the value of '--identity <I>' is empty"), true)
 
 	is(t, must(itv.Check(public().Policy, public().Layout)).Good, true)
 	bad := must(itv.Check([]byte(`{"owners":{"a":null}}`), nil))

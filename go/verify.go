@@ -74,7 +74,7 @@ type Verdict struct {
 }
 
 // Finding is something in the policy, in the layout or in a sublayout that may not do what its
-// author meant, or a file that is tied to no step.
+// author meant, a file that is tied to no step, or a nonce with which two keys signed.
 type Finding struct {
 	// Document is "policy" or "layout".
 	Document string `json:"document"`

@@ -173,6 +173,11 @@ def commands():
     assert [one["keyval"]["public"] for one in itv.key(PEM).values()] == [PUBLIC]
     told = raises(itv.Stopped, itv.key, EXAMPLE / "keys" / "alice.pem")
     assert "it is a private key" in str(told), told
+    of_anna = {"identity": "anna@example.org", "issuer": "https://accounts.example.org"}
+    identity = {"keytype": "sigstore-oidc", "keyval": of_anna, "scheme": "Fulcio"}
+    assert itv.key(**of_anna, name="anna") == {"anna": identity}
+    assert list(itv.key(**of_anna).values()) == [identity]
+    assert "without '--issuer <S>'" in str(raises(itv.Stopped, itv.key, identity="i"))
     assert itv.check(policy=EXAMPLE / "policy.json").notes == []
 
 

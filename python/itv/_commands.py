@@ -122,8 +122,11 @@ def statement(*, sums: Document, builder: str, build_type: str,
     return run(words, files).output
 
 
-def key(*files: Document, name: Optional[str] = None) -> Dict[str, Any]:
-    """The public keys of PEM files as key objects under their ids, or of one under a given name."""
+def key(*files: Document, identity: Optional[str] = None, issuer: Optional[str] = None,
+        name: Optional[str] = None) -> Dict[str, Any]:
+    """The public keys of PEM files, or an identity with its issuer, as key objects under their ids,
+    or one of them under a given name."""
     named = {f"key-{number}": bytes_of(one, "a key") for number, one in enumerate(files, 1)}
-    words = [] if name is None else [f"--name={name}"]
+    given = {"identity": identity, "issuer": issuer, "name": name}
+    words = [f"--{option}={value}" for option, value in given.items() if value is not None]
     return json.loads(run(["key", *words, "--", *named], named).output)

@@ -37,8 +37,9 @@ class Refusal:
 @dataclasses.dataclass(frozen=True)
 class Finding:
     """Something in the policy, in the layout or in a sublayout that may not do what its author
-    meant, or a file that is tied to no step: in which document, and `at` which sublayout, as the
-    `at` of a refusal; the name of docs/formats.md, the place as a JSON pointer, and a sentence.
+    meant, a file that is tied to no step, or a nonce with which two keys signed: in which document,
+    and `at` which sublayout, as the `at` of a refusal; the name of docs/formats.md, the place as a
+    JSON pointer, and a sentence.
     """
 
     document: str

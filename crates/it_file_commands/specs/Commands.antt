@@ -17,6 +17,7 @@ use Rattle.it_commands.specs.PayloadOutput.{IsPayloadOutput}
 use Rattle.it_commands.specs.SignedOutput.{IsSignedOutput}
 use Rattle.it_commands.specs.SignOntoOutput.{IsSignOntoOutput}
 use Rattle.it_commands.specs.SignOutput.{IsSignOutput}
+use Rattle.it_key_commands.specs.IdentityOutput.{IsIdentityOutput}
 use Rattle.it_key_commands.specs.KeyOutput.{IsKeyOutput}
 use Rattle.it_key_commands.specs.SignMadeOntoOutput.{IsSignMadeOntoOutput}
 use Rattle.it_key_commands.specs.SignMadeOutput.{IsSignMadeOutput}
@@ -27,6 +28,9 @@ use Rattle.it_outcome.specs.declared.outcome.Status.{Status}
 use Rattle.it_outcome.specs.declared.outcome.Status.TheVariants.{Good}
 use Rattle.it_words.specs.declared.words.check_words.CheckWords.{CheckWords}
 use Rattle.it_words.specs.declared.words.digest_words.DigestWords.{DigestWords}
+use Rattle.it_words.specs.declared.words.key_words.IdentityWords.{IdentityWords}
+use Rattle.it_words.specs.declared.words.key_words.KeySource.{KeySource}
+use Rattle.it_words.specs.declared.words.key_words.KeySource.TheVariants.{Files, Identity}
 use Rattle.it_words.specs.declared.words.key_words.KeyWords.{KeyWords}
 use Rattle.it_words.specs.declared.words.link_words.LinkWords.{LinkWords}
 use Rattle.it_words.specs.declared.words.pae_words.PaeWords.{PaeWords}
@@ -170,13 +174,28 @@ pub record Checks (disk : Holdings) (words : CheckWords) (text : List ℕ) (stat
   pub holds_layout : IsGiven disk.file words.layout layout
   pub is_output : IsCheckOutput policy layout text status
 
--- key: the key objects of the files of public keys, under their ids
-pub record MakesKeys (disk : Holdings) (words : KeyWords) (text : List ℕ)
-    (status : Status) : Type 0 where
+-- key: the key objects of the files of public keys, under their ids, or one under the given name
+pub record MakesFileKeys (disk : Holdings) (paths : List (List ℕ)) (name : Option (List ℕ))
+    (text : List ℕ) (status : Status) : Type 0 where
   pub files : List (List ℕ)
-  pub holds_files : AllZip disk.file words.files files
-  pub is_output : IsKeyOutput files words.name text
+  pub holds_files : AllZip disk.file paths files
+  pub is_output : IsKeyOutput files name text
   pub status_is : status ≡ Good
+
+-- key: the key object of an identity, under its id or the given name
+pub record MakesIdentityKey (identity : IdentityWords) (name : Option (List ℕ)) (text : List ℕ)
+    (status : Status) : Type 0 where
+  pub is_output : IsIdentityOutput identity.name identity.issuer name text
+  pub status_is : status ≡ Good
+
+-- key: of files, or of an identity
+abbrev pub MakesKeysOf : Holdings → KeySource → Option (List ℕ) → List ℕ → Status → Type 0
+MakesKeysOf disk (Files paths) name text status = MakesFileKeys disk paths name text status
+MakesKeysOf disk (Identity identity) name text status = MakesIdentityKey identity name text status
+
+-- key: the key objects of what the words name
+abbrev pub MakesKeys : Holdings → KeyWords → List ℕ → Status → Type 0
+MakesKeys disk words text status = MakesKeysOf disk words.source words.name text status
 
 -- pae: what is signed for the body
 pub record Encodes (disk : Holdings) (words : PaeWords) (text : List ℕ)

@@ -1,5 +1,6 @@
 pub mod Checked
 pub mod FilesRead
+pub mod IdentityWritten
 pub mod KeysRead
 pub mod KeysWritten
 pub mod KeyvalsWritten

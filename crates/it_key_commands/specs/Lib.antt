@@ -1,3 +1,4 @@
+pub mod IdentityOutput
 pub mod KeyFile
 pub mod KeyId
 pub mod KeyInfo

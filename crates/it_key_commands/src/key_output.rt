@@ -100,7 +100,7 @@ fn push_object(
 }
 
 /// The key objects under their ids.
-fn keys_of(
+pub(crate) fn keys_of(
     alloc: Global,
     objects: Vec<KeyObject>,
     name: Option<&str>,

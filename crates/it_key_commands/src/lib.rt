@@ -4,6 +4,7 @@
 
 mod canonical_id;
 mod fault;
+mod identity_output;
 mod key_file;
 mod key_info;
 mod key_output;
@@ -20,6 +21,7 @@ mod two_numbers;
 
 pub use canonical_id::key_id;
 pub use fault::{FileFault, KeyFault, OtherText, SignatureFlaw};
+pub use identity_output::run_identity;
 pub use key_output::run_key;
 pub use made_signature::MadeSignature;
 pub use sign_made_onto_output::run_sign_made_onto;

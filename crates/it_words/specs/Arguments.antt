@@ -12,6 +12,10 @@ needed_word name = record (new_rule name) { value_names = 1; required = true }
 abbrev pub needed_words : Text → Rule
 needed_words name = record (needed_word name) { action = Some Append }
 
+-- words that may be left out, in their place
+abbrev pub free_words : Text → Rule
+free_words name = record (new_rule name) { value_names = 1; action = Some Append }
+
 -- an option that may be left out, with one value
 abbrev pub plain_option : Text → Rule
 plain_option name = record (new_rule name) { long = Some name; value_names = 1 }

@@ -4,6 +4,7 @@ use Rattle.clap.specs.Words.{App, new_app, with_rule, with_subcommand}
 use Rattle.it_words.specs.Arguments.{
   bare_option,
   depth_option,
+  free_words,
   json_option,
   most_checks_option,
   needed_option,
@@ -46,11 +47,12 @@ digest_command =
     with_rule (with_rule (new_app (codes "digest")) (needed_words (codes "path")))
     (bare_option (codes "recursive"))
 
--- key FILE.., and what may be left out: --name ID
+-- key, either FILE.. or --identity I --issuer S, and what may be left out: --name ID
 abbrev pub key_command : App
 key_command =
-    with_rule (with_rule (new_app (codes "key")) (needed_words (codes "file")))
-    (plain_option (codes "name"))
+    with_rule (with_rule (with_rule (with_rule
+    (new_app (codes "key")) (free_words (codes "file"))) (plain_option (codes "identity")))
+    (plain_option (codes "issuer"))) (plain_option (codes "name"))
 
 -- link --name NAME, and what may be left out: --materials SUMS --products SUMS
 abbrev pub link_command : App

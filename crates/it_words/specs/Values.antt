@@ -25,6 +25,7 @@ use Rattle.std.specs.Prelude.{
 use Rattle.std.specs.Str.Parse.{IsNumeral, digits_value, without_leading_plus}
 use Rattle.clap.specs.Walk.{all_of, count_of}
 use Rattle.clap.specs.Words.{Row, Text, first_of, one_of}
+use Rattle.it_identity.specs.Identity.{IsShort}
 use Rattle.it_words.specs.declared.words.check_words.CheckWords.{CheckWords}
 use Rattle.it_words.specs.declared.words.digest_words.DigestWords.{DigestWords}
 use Rattle.it_words.specs.declared.words.form.AskedOutput.{AskedOutput}
@@ -32,6 +33,9 @@ use Rattle.it_words.specs.declared.words.form.AskedOutput.TheVariants.{Report, S
 use Rattle.it_words.specs.declared.words.form.Form.{Form}
 use Rattle.it_words.specs.declared.words.form.Form.TheVariants.{Lines, Json, Full}
 use Rattle.it_words.specs.declared.words.form.SummaryWords.{SummaryWords}
+use Rattle.it_words.specs.declared.words.key_words.IdentityWords.{IdentityWords}
+use Rattle.it_words.specs.declared.words.key_words.KeySource.{KeySource}
+use Rattle.it_words.specs.declared.words.key_words.KeySource.TheVariants.{Files, Identity}
 use Rattle.it_words.specs.declared.words.key_words.KeyWords.{KeyWords}
 use Rattle.it_words.specs.declared.words.link_words.LinkWords.{LinkWords}
 use Rattle.it_words.specs.declared.words.match_words.MatchWords.{MatchWords}
@@ -129,15 +133,37 @@ pub record WritesNumber (text : Text) (number : ℕ) : Type 0 where
 abbrev pub GivesNumber : Option Text → ℕ → Type 0
 GivesNumber given number = MatchOption given ⊥ (λ text. WritesNumber text number)
 
+-- the value of the argument of this name, of 1 to 512 bytes
+pub record IsShortValue (values : List Row) (name value : Text) : Type 0 where
+  pub value_is : first_of name values ≡ Some value
+  pub short : IsShort value
+
+-- the texts of an identity
+pub record IsIdentity (values : List Row) (words : IdentityWords) : Type 0 where
+  pub name : IsShortValue values (codes "identity") words.name
+  pub issuer : IsShortValue values (codes "issuer") words.issuer
+
+-- what keys are made of: files, or an identity, and not one beside the other
+abbrev pub IsKeySource : List Row → KeySource → Type 0
+IsKeySource values (Files paths) = (all_of (codes "file") values ≡ Some paths)
+    × (first_of (codes "identity") values ≡ None) × (first_of (codes "issuer") values ≡ None)
+IsKeySource values (Identity words) =
+    (all_of (codes "file") values ≡ None) × IsIdentity values words
+
 -- an id is given for one file alone
-abbrev pub MayBeNamed : List Text → Option Text → Type 0
-MayBeNamed files name = MatchOption name (Unit {0}) (λ id. length files ≡ 1)
+abbrev pub IsOneOrUnnamed : List Text → Option Text → Type 0
+IsOneOrUnnamed files name = MatchOption name (Unit {0}) (λ id. length files ≡ 1)
+
+-- an id is given for one key alone
+abbrev pub MayBeNamed : KeySource → Option Text → Type 0
+MayBeNamed (Files paths) name = IsOneOrUnnamed paths name
+MayBeNamed (Identity words) name = Unit {0}
 
 -- the values of the command key
 pub record IsKey (values : List Row) (words : KeyWords) : Type 0 where
-  pub files : all_of (codes "file") values ≡ Some words.files
+  pub source : IsKeySource values words.source
   pub name : first_of (codes "name") values ≡ words.name
-  pub may_be_named : MayBeNamed words.files words.name
+  pub may_be_named : MayBeNamed words.source words.name
 
 -- some document is given: a policy, or a layout
 abbrev pub HasDocument : Option Text → Option Text → Type 0

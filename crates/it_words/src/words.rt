@@ -70,7 +70,8 @@ pub enum Words {
     Statement(StatementWords),
     /// `itv payload ENVELOPE`: the payload of an envelope.
     Payload(PayloadWords),
-    /// `itv key FILE.. [--name ID]`: public keys as an object from id to key object.
+    /// `itv key (FILE.. | --identity I --issuer S) [--name ID]`: public keys, or an identity, as an
+    /// object from id to key object.
     Key(KeyWords),
     /// `itv check [--policy F] [--layout F]`: what is found in a policy and in a layout, of which
     /// one is given at least.
@@ -120,7 +121,7 @@ pub fn read_words(alloc: Global, words: &[String]) -> Result<Words, WordsFault>
     let matches = parsed(alloc, words)?;
     match named::named(alloc, &matches) {
         Ok(command) => Ok(command),
-        Err(ValuesFault::Unfit) => Err(note::unfit(alloc, words)),
+        Err(ValuesFault::Unfit) => Err(note::unfit(alloc, words, &matches)),
         Err(ValuesFault::OutOfMemory) => Err(WordsFault::OutOfMemory),
     }
 }

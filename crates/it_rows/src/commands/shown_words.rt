@@ -4,7 +4,7 @@ use it_words::words::Words;
 use it_words::words::checking::CheckWords;
 use it_words::words::digesting::DigestWords;
 use it_words::words::form::{AskedOutput, Form};
-use it_words::words::keys::KeyWords;
+use it_words::words::keys::{KeySource, KeyWords};
 use it_words::words::linking::LinkWords;
 use it_words::words::signed::{SignedBy, SignedWords};
 use it_words::words::signing::{SignBy, SignWords};
@@ -159,14 +159,22 @@ fn shown_check(alloc: Global, words: &CheckWords) -> Result<String, AllocError> 
     spaced(alloc, &all)
 }
 
+/// The files, or the name and the issuer of an identity.
+fn shown_source(alloc: Global, source: &KeySource) -> Result<String, AllocError> {
+    match source {
+        KeySource::Files(files) => joined(alloc, files.as_slice()),
+        KeySource::Identity(of) => spaced(alloc, &[of.name.as_str(), "by", of.issuer.as_str()]),
+    }
+}
+
 fn shown_key(alloc: Global, words: &KeyWords) -> Result<String, AllocError> {
-    let files = joined(alloc, words.files.as_slice())?;
-    spaced(alloc, &["key", files.as_str(), shown_or_none(&words.name)])
+    let source = shown_source(alloc, &words.source)?;
+    spaced(alloc, &["key", source.as_str(), shown_or_none(&words.name)])
 }
 
 /// The name of a command and its values in the order of its type's fields, separated by spaces.
 /// Plus signs separate several paths, and a value that is missing is `none`. Keys come after `by`,
-/// and `digest --recursive` is `below`.
+/// as the issuer of an identity does, and `digest --recursive` is `below`.
 ///
 /// # Errors
 ///

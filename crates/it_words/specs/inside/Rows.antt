@@ -4,6 +4,7 @@ use Rattle.clap.specs.Words.{App, Rule, new_app, with_rule}
 use Rattle.it_words.specs.Arguments.{
   bare_option,
   depth_option,
+  free_words,
   json_option,
   most_checks_option,
   needed_option,
@@ -20,6 +21,7 @@ use Rattle.it_words.specs.declared.words.table.CommandRow.{CommandRow}
 abbrev pub rule_of_argument : Argument → Rule
 rule_of_argument (kinds.NeededWord name shown) = needed_word name.now
 rule_of_argument (kinds.NeededWords name shown) = needed_words name.now
+rule_of_argument (kinds.FreeWords name shown) = free_words name.now
 rule_of_argument (kinds.NeededOption name shown) = needed_option name.now
 rule_of_argument (kinds.PlainOption name shown) = plain_option name.now
 rule_of_argument (kinds.PlainOptions name shown) = plain_options name.now

@@ -4,6 +4,7 @@ ghost use Rattle.clap.specs.Walk.{rule_of};
 ghost use Rattle.it_words.specs.Arguments.{
   bare_option,
   depth_option,
+  free_words,
   json_option,
   most_checks_option,
   needed_option,
@@ -26,6 +27,7 @@ pub(super) fn argument_of<'a>(alloc: Global, argument: &Argument) -> Arg<'a>
     match *argument {
         Argument::NeededWord(name, shown) => needed_word(alloc, name, shown),
         Argument::NeededWords(name, shown) => needed_words(alloc, name, shown),
+        Argument::FreeWords(name, shown) => free_words(alloc, name, shown),
         Argument::NeededOption(name, shown) => needed_option(alloc, name, shown),
         Argument::PlainOption(name, shown) => plain_option(alloc, name, shown),
         Argument::PlainOptions(name, shown) => plain_options(alloc, name, shown),
@@ -52,6 +54,16 @@ fn needed_words<'a>(alloc: Global, name: &'a str, shown: &'a str) -> Arg<'a>
     Arg::new(alloc, name)
         .value_name(shown)
         .required(true)
+        .action(ArgAction::Append)
+}
+
+/// Words that may be left out, in their place.
+fn free_words<'a>(alloc: Global, name: &'a str, shown: &'a str) -> Arg<'a>
+    ensures rule { rule_of result ≡ free_words name.entry.now }
+    ensures local { result.global ≡ false }
+{
+    Arg::new(alloc, name)
+        .value_name(shown)
         .action(ArgAction::Append)
 }
 

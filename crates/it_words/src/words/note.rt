@@ -2,11 +2,11 @@
 ghost use Rattle.std.specs.Prelude.{◌≡◌};
 ghost use Rattle.clap.specs.Words.{kind_of};
 
-use super::WordsFault;
 use super::dashes::{asks_help, gives, gives_value, has_dashed_value};
 use super::usage::{Usage, nearest_to, of_all, of_one, usage_of};
-use clap::Error;
+use super::{WordsFault, key_words};
 use clap::error::ErrorKind;
+use clap::{ArgMatches, Error};
 use std::alloc::{AllocError, Global};
 
 /// What is said where a value begins with a dash.
@@ -28,18 +28,18 @@ pub(super) fn fault_of(alloc: Global, words: &[String], error: &Error) -> WordsF
 }
 
 /// The fault of words that parse and do not fit together.
-pub(super) fn unfit(alloc: Global, words: &[String]) -> WordsFault {
-    let [_, command, values @ ..] = words else {
+pub(super) fn unfit(alloc: Global, words: &[String], matches: &ArgMatches<'_>) -> WordsFault {
+    let ([_, _, values @ ..], Some((command, found))) = (words, matches.subcommand()) else {
         return unread(of_all(alloc, "no command is given"));
     };
-    match usage_of(command.as_str()) {
-        Some(usage) => unread(of_one(alloc, misfit(usage.name, values), usage)),
-        None => unread(note_on_command(alloc, command.as_str())),
+    match usage_of(command) {
+        Some(usage) => unread(of_one(alloc, misfit(usage.name, values, found), usage)),
+        None => unread(note_on_command(alloc, command)),
     }
 }
 
-/// What does not fit together in the values of a command.
-fn misfit(command: &str, values: &[String]) -> &'static str {
+/// What does not fit together in the values of a command, as words and as the parser found them.
+fn misfit(command: &str, values: &[String], found: &ArgMatches<'_>) -> &'static str {
     match (command, gives(values, "--ring")) {
         ("check", _) => "neither '--policy <F>' nor '--layout <F>' is given",
         ("verify", has_ring) => match misfit_of_summary(values) {
@@ -53,7 +53,7 @@ fn misfit(command: &str, values: &[String]) -> &'static str {
             "the option '--ring <F>' is given beside '--signature <SIG>' or '--keys <F>'",
         ("sign", false) =>
             "neither '--ring <F>' nor '--signature <SIG>' with '--keys <F>' is given",
-        _ => "the option '--name <ID>' is given with more than one file",
+        _ => key_words::misfit(found),
     }
 }
 

@@ -9,6 +9,8 @@ pub(crate) enum Argument {
     NeededWord(&'static str, &'static str),
     /// Words of which at least one has to be given, in their place.
     NeededWords(&'static str, &'static str),
+    /// Words that may be left out, in their place.
+    FreeWords(&'static str, &'static str),
     /// An option that has to be given, with one value.
     NeededOption(&'static str, &'static str),
     /// An option that may be left out, with one value.
@@ -81,7 +83,9 @@ const PAYLOAD: CommandRow = CommandRow {
 const KEY: CommandRow = CommandRow {
     name: "key",
     arguments: &[
-        Argument::NeededWords("file", "FILE"),
+        Argument::FreeWords("file", "FILE"),
+        Argument::PlainOption("identity", "I"),
+        Argument::PlainOption("issuer", "S"),
         Argument::PlainOption("name", "ID"),
     ],
 };

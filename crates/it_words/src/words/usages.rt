@@ -43,7 +43,8 @@ pub(super) const VERIFY: Usage = Usage {
       --strict          Refuses what would be accepted, with status 2, where
                         something is found in the policy, in the layout or in a
                         sublayout, as itv check finds it, an expectation is
-                        unused, or a delivered file is tied to no step.
+                        unused, a delivered file is tied to no step, or two
+                        keys signed with one nonce.
       --summary         Writes the body of a SLSA verification summary in place
                         of a report that accepts, for itv sign to sign; the
                         report of a refusal goes to standard error. It implies
@@ -155,11 +156,17 @@ pub(super) const PAYLOAD: Usage = Usage {
 /// The usage of `itv key`.
 pub(super) const KEY: Usage = Usage {
     name: "key",
-    line: "itv key FILE.. [--name ID]",
-    text: "    Writes the public keys in PEM files as one JSON object from id to key
-    object, and a line feed, as layouts, policies and --keys take it.
-      --name ID  The id of the key, with one file; else it is made from the key
-                 as securesystemslib makes it.",
+    line: "itv key (FILE.. | --identity I --issuer S) [--name ID]",
+    text: "    Writes the public keys in PEM files, or an identity by which Sigstore
+    bundles are checked, as one JSON object from id to key object, and a line
+    feed, as layouts, policies and --keys take it.
+      --identity I  In place of files, the name of an identity as the
+                    certificates of its Sigstore bundles have it, a URI or an
+                    address of mail, in 512 bytes at most.
+      --issuer S    With --identity, the issuer of the identity as those
+                    certificates have it, in 512 bytes at most.
+      --name ID     The id of the key, with one file or an identity; else it is
+                    made from the key as securesystemslib makes it.",
 };
 
 /// The usage of `itv match`.

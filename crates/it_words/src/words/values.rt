@@ -1,6 +1,6 @@
 //! The values of a command, as the parser found them.
 ghost use Rattle.std.specs.Prelude.{◌≡◌, ◌≢◌, List, Some, None, IfErr, IfOk, codes, map, nat_lt};
-ghost use Rattle.std.specs.Prelude.{option_map, unwrap_or, []};
+ghost use Rattle.std.specs.Prelude.{is_some, option_map, unwrap_or, []};
 ghost use Rattle.clap.specs.Words.{Row, found_of, one_of};
 ghost use Rattle.clap.specs.Walk.{all_of, count_of, first_of, rows_of};
 ghost use Rattle.it_words.specs.Values.{GivesNumber, IsDepth, IsForm};
@@ -90,6 +90,13 @@ impl<'v, 'a> Values<'v, 'a> {
         ensures { result ≡ nat_lt 0 (count_of name.now self.now) }
     {
         0 < self.found.get_count(name)
+    }
+
+    /// Whether words were given in a place.
+    pub(super) fn has_words(&self, name: &str) -> bool
+        ensures { result ≡ is_some (all_of name.now self.now) }
+    {
+        self.given(name).is_some()
     }
 
     /// All values of an argument in the order of the words, or `Unfit` where it was not given.

@@ -1,5 +1,5 @@
 use Rattle.std.proofs.Common.{rules}
-use Rattle.it_file_commands.proofs.key_command.run.Goals as goal
+use Rattle.it_file_commands.proofs.key_command.run_of_files.Goals as goal
 
 pub returns-in-Ok-clause-ok : goal.returns-in-Ok-clause-ok
 returns-in-Ok-clause-ok g c =

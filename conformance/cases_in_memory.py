@@ -93,6 +93,8 @@ class PythonPackage:
     def verified(self, case, moment):
         """The report of the verdict on a case, and what the verdict says by its own members."""
         more = {"records": records_of(case)} if case["records"] else {}
+        if "trusted_root" in case:
+            more["trusted_root"] = bytes_of(case["trusted_root"])
         verdict = self.itv.verify(
             **documents(case), **more, links=folder_of(case["links"]), at=moment,
             rings=[bytes_of(ring) for ring in case["rings"]], depth=case["depth"],
@@ -147,6 +149,8 @@ class GoPackage:
             "publicKeys": bool(case.get("public_keys"))}
         if case["records"]:
             delivery["records"] = texts_of(records_of(case))
+        if "trusted_root" in case:
+            delivery["trustedRoot"] = text_of(bytes_of(case["trusted_root"]))
         verdict = self.asked(delivery=delivery)
         report = {name: one for name, one in verdict["Report"].items()
                   if name not in ("findings", "evidence", "notes", "notesComplete")}

@@ -21,11 +21,11 @@ use crate::refusal::{ChainError, ChainFault};
 use crate::signers::signers;
 use crate::step_rules::first_failed;
 use crate::threshold::judged;
+use crate::walk::Walk;
 use it_base::sequence::Sequence;
 use it_docs::layout::Layout;
 use it_docs::step::Step;
 use it_dsse::meter::Meter;
-use std::alloc::Global;
 
 /// A layout over a bundle.
 #[derive(Drop)]
@@ -41,43 +41,38 @@ pub(crate) struct Level<'a> {
 /// The records with which a layout holds for a bundle.
 #[cycle(level)]
 pub(crate) fn verify_level<C: Checking>(
-    alloc: Global,
-    checking: &C,
-    level: &Level,
+    walk: &Walk<C>,
     meter: &mut Meter,
 ) -> Result<Chain, ChainError>
-    requires shallow { level.now.depth ≤ 8 }
-    ensures answer { LevelAnswers (scope_of (C.setting checking.now) level.now) result }
-    ensures asked { LevelAsks (scope_of (C.setting checking.now) level.now)
-        meter.old meter.new result }
-    ensures fewest { IfOk result (λ _. LevelTakes (scope_of (C.setting checking.now) level.now)
+    requires shallow { walk.now.level.depth ≤ 8 }
+    ensures answer { LevelAnswers (scope_of C.setting walk.now) result }
+    ensures asked { LevelAsks (scope_of C.setting walk.now) meter.old meter.new result }
+    ensures fewest { IfOk result (λ _. LevelTakes (scope_of C.setting walk.now)
         meter.old meter.new) }
 {
-    judge_level(alloc, checking, level, meter)?.settled()
+    judge_level(walk, meter)?.settled()
 }
 
 /// The records with which a layout's steps hold for a bundle, and whether its rules hold over them.
 #[cycle(level)]
 pub(crate) fn judge_level<C: Checking>(
-    alloc: Global,
-    checking: &C,
-    level: &Level,
+    walk: &Walk<C>,
     meter: &mut Meter,
 ) -> Result<JudgedChain, ChainError>
-    requires shallow { level.now.depth ≤ 8 }
-    ensures answer { LevelAnswers (scope_of (C.setting checking.now) level.now) (settles result) }
-    ensures records { IfOk result (HoldsSteps (scope_of (C.setting checking.now) level.now)) }
-    ensures asked { LevelAsks (scope_of (C.setting checking.now) level.now)
-        meter.old meter.new (settles result) }
-    ensures fewest { IfOk result (λ _. LevelTakes (scope_of (C.setting checking.now) level.now)
+    requires shallow { walk.now.level.depth ≤ 8 }
+    ensures answer { LevelAnswers (scope_of C.setting walk.now) (settles result) }
+    ensures records { IfOk result (HoldsSteps (scope_of C.setting walk.now)) }
+    ensures asked { LevelAsks (scope_of C.setting walk.now) meter.old meter.new (settles result) }
+    ensures fewest { IfOk result (λ _. LevelTakes (scope_of C.setting walk.now)
         meter.old meter.new) }
 {
-    if is_expired(checking, level.layout) {
+    let alloc = walk.alloc;
+    if is_expired(walk.checking, walk.level.layout) {
         return Err(refused(alloc, ChainFault::Expired));
     }
-    let claims = Claims::of(alloc, level.links.files())?;
-    let steps = verify_steps(alloc, checking, level, &claims, meter)?;
-    let failed = first_failed(alloc, level.layout.steps.as_slice(), steps.as_slice())?;
+    let claims = Claims::of(alloc, walk.level.links.files())?;
+    let steps = verify_steps(walk, &claims, meter)?;
+    let failed = first_failed(alloc, walk.level.layout.steps.as_slice(), steps.as_slice())?;
     let steps = Sequence::from(steps);
     Ok(JudgedChain {
         chain: Chain { steps },
@@ -88,23 +83,20 @@ pub(crate) fn judge_level<C: Checking>(
 /// The records of a layout's steps.
 #[cycle(level)]
 fn verify_steps<C: Checking>(
-    alloc: Global,
-    checking: &C,
-    level: &Level,
+    walk: &Walk<C>,
     claims: &Claims,
     meter: &mut Meter,
 ) -> Result<Vec<StepResult>, ChainError>
-    requires shallow { level.now.depth ≤ 8 }
-    requires claims { ClaimsIn (files_of level.now.links.now) claims.now }
-    ensures answer { StepsAnswer (scope_of (C.setting checking.now) level.now) result }
-    ensures asked { StepsAsk (scope_of (C.setting checking.now) level.now)
-        meter.old meter.new result }
-    ensures fewest { IfOk result (λ _. LevelTakes (scope_of (C.setting checking.now) level.now)
+    requires shallow { walk.now.level.depth ≤ 8 }
+    requires claims { ClaimsIn (files_of walk.now.level.links.now) claims.now }
+    ensures answer { StepsAnswer (scope_of C.setting walk.now) result }
+    ensures asked { StepsAsk (scope_of C.setting walk.now) meter.old meter.new result }
+    ensures fewest { IfOk result (λ _. LevelTakes (scope_of C.setting walk.now)
         meter.old meter.new) }
 {
-    let mut results = Vec::new(alloc);
-    for step in level.layout.steps.as_slice() {
-        results.push(verify_step(alloc, checking, level, claims, step, meter)?)?;
+    let mut results = Vec::new(walk.alloc);
+    for step in walk.level.layout.steps.as_slice() {
+        results.push(verify_step(walk, claims, step, meter)?)?;
     }
     Ok(results)
 }
@@ -112,25 +104,23 @@ fn verify_steps<C: Checking>(
 /// The record of a step.
 #[cycle(level)]
 fn verify_step<C: Checking>(
-    alloc: Global,
-    checking: &C,
-    level: &Level,
+    walk: &Walk<C>,
     claims: &Claims,
     step: &Step,
     meter: &mut Meter,
 ) -> Result<StepResult, ChainError>
-    requires shallow { level.now.depth ≤ 8 }
-    requires claims { ClaimsIn (files_of level.now.links.now) claims.now }
-    ensures answer { StepAnswers (scope_of (C.setting checking.now) level.now) step.now result }
-    ensures asked { StepAsks (scope_of (C.setting checking.now) level.now) step.now
-        meter.old meter.new result }
-    ensures fewest { IfOk result (λ _. StepTakes (scope_of (C.setting checking.now) level.now)
-        step.now meter.old meter.new) }
+    requires shallow { walk.now.level.depth ≤ 8 }
+    requires claims { ClaimsIn (files_of walk.now.level.links.now) claims.now }
+    ensures answer { StepAnswers (scope_of C.setting walk.now) step.now result }
+    ensures asked { StepAsks (scope_of C.setting walk.now) step.now meter.old meter.new result }
+    ensures fewest { IfOk result (λ _. StepTakes (scope_of C.setting walk.now) step.now
+        meter.old meter.new) }
 {
+    let alloc = walk.alloc;
     let name = step.name.as_str();
-    let found = Candidates::at(alloc, level.links.files(), claims.places(name))?;
-    let signers = signers(alloc, level.layout, step)?;
+    let found = Candidates::at(alloc, walk.level.links.files(), claims.places(name))?;
+    let signers = signers(alloc, walk.level.layout, step)?;
     let signers = signers.as_slice();
-    let records = verify_ids(alloc, checking, level, step, signers, &found, meter)?;
+    let records = verify_ids(walk, step, signers, &found, meter)?;
     judged(alloc, step, records)
 }

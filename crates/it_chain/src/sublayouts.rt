@@ -14,6 +14,7 @@ use crate::level::{Level, verify_level};
 use crate::record::Recorded;
 use crate::refusal::{ChainError, ChainFault};
 use crate::summary::summary_of;
+use crate::walk::Walk;
 use it_docs::layout::Layout;
 use it_dsse::meter::Meter;
 use std::alloc::{AllocError, Global};
@@ -21,21 +22,18 @@ use std::alloc::{AllocError, Global};
 /// The artifacts that the body of a key id records.
 #[cycle(level)]
 pub(crate) fn verify_body<C: Checking>(
-    alloc: Global,
-    checking: &C,
-    level: &Level,
+    walk: &Walk<C>,
     step: &str,
     id: &str,
     body: Body,
     meter: &mut Meter,
 ) -> Result<Recorded, ChainError>
-    requires shallow { level.now.depth ≤ 8 }
-    ensures answer { BodyAnswers (scope_of (C.setting checking.now) level.now)
-        step.now id.now body result }
-    ensures asked { Asks (λ _. 0) (BodyCost (scope_of (C.setting checking.now) level.now)
-        step.now id.now body) meter.old meter.new result }
-    ensures fewest { IfOk result (λ _. BodyTakes (scope_of (C.setting checking.now) level.now)
-        step.now id.now body meter.old meter.new) }
+    requires shallow { walk.now.level.depth ≤ 8 }
+    ensures answer { BodyAnswers (scope_of C.setting walk.now) step.now id.now body result }
+    ensures asked { Asks (λ _. 0) (BodyCost (scope_of C.setting walk.now) step.now id.now body)
+        meter.old meter.new result }
+    ensures fewest { IfOk result (λ _. BodyTakes (scope_of C.setting walk.now) step.now id.now body
+        meter.old meter.new) }
 {
     match body {
         Body::Link(link) => Ok(Recorded {
@@ -43,7 +41,8 @@ pub(crate) fn verify_body<C: Checking>(
             products: link.products,
         }),
         Body::Layout(sublayout) => {
-            match verify_sublayout(alloc, checking, level, step, id, &sublayout, meter) {
+            let alloc = walk.alloc;
+            match verify_sublayout(walk, step, id, &sublayout, meter) {
                 Ok(chain) => Ok(summary_of(alloc, chain.steps.into_vec())),
                 Err(error) => Err(under(alloc, step, id, error)),
             }
@@ -54,24 +53,22 @@ pub(crate) fn verify_body<C: Checking>(
 /// The records of a sublayout over its own folder.
 #[cycle(level)]
 fn verify_sublayout<C: Checking>(
-    alloc: Global,
-    checking: &C,
-    level: &Level,
+    walk: &Walk<C>,
     step: &str,
     id: &str,
     sublayout: &Layout,
     meter: &mut Meter,
 ) -> Result<Chain, ChainError>
-    requires shallow { level.now.depth ≤ 8 }
-    ensures answer { SublayoutAnswers (scope_of (C.setting checking.now) level.now)
-        step.now id.now sublayout.now result }
-    ensures asked { Asks (λ _. 0) (SublayoutCost (scope_of (C.setting checking.now) level.now)
-        step.now id.now sublayout.now) meter.old meter.new result }
-    ensures fewest { IfOk result (λ _. SublayoutTakes
-        (scope_of (C.setting checking.now) level.now) step.now id.now sublayout.now
-        meter.old meter.new) }
+    requires shallow { walk.now.level.depth ≤ 8 }
+    ensures answer { SublayoutAnswers (scope_of C.setting walk.now) step.now id.now sublayout.now
+        result }
+    ensures asked { Asks (λ _. 0) (SublayoutCost (scope_of C.setting walk.now) step.now id.now
+        sublayout.now) meter.old meter.new result }
+    ensures fewest { IfOk result (λ _. SublayoutTakes (scope_of C.setting walk.now) step.now id.now
+        sublayout.now meter.old meter.new) }
 {
-    if level.is_deepest() {
+    let alloc = walk.alloc;
+    if walk.level.is_deepest() {
         return Err(refused(alloc, ChainFault::TooDeep));
     }
     if !sublayout.inspections.as_slice().is_empty() {
@@ -81,10 +78,15 @@ fn verify_sublayout<C: Checking>(
     let none = Bundle::new(alloc);
     let below = Level {
         layout: sublayout,
-        links: level.links.dir(name.as_str()).unwrap_or(&none),
-        depth: level.depth - 1,
+        links: walk.level.links.dir(name.as_str()).unwrap_or(&none),
+        depth: walk.level.depth - 1,
     };
-    verify_level(alloc, checking, &below, meter)
+    let deeper = Walk {
+        alloc,
+        checking: walk.checking,
+        level: below,
+    };
+    verify_level(&deeper, meter)
 }
 
 impl<'a> Level<'a> {

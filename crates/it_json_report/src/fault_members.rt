@@ -40,7 +40,7 @@ pub(super) fn push_fault(alloc: Global, json: &mut Vec<u8>, fault: &Fault) -> Re
             side,
             index,
             path,
-        } => push_rule(alloc, json, item, *side, *index, path),
+        } => push_rule(alloc, json, item, *side, (*index, path)),
         Fault::RecordMissing(name) => push_inspection(json, name),
         Fault::BadRecord(name) => push_inspection(json, name),
         Fault::NoExpectation(path) => push_text_member(json, "path", path.as_str()),
@@ -78,18 +78,20 @@ fn push_threshold(
     push_number_member(alloc, json, "needed", needed)
 }
 
+/// Says which rule failed: whose, on which side, and at which place for which path.
 fn push_rule(
     alloc: Global,
     json: &mut Vec<u8>,
     item: &RuleItem,
     side: Side,
-    index: usize,
-    path: &Text,
+    place: (usize, &Text),
 ) -> Result<(), AllocError>
     ensures { OnOk result (json.new.items
         ≡ json.old.items
-        ++ further member (fault_members (RuleFailed item.now side index path.now))) }
+        ++ further member
+        (fault_members (RuleFailed item.now side place.entry.0 place.entry.1.now))) }
 {
+    let (index, path) = place;
     push_text_member(json, "item", item_text(alloc, item)?.as_str())?;
     push_text_member(json, "side", side_text(side))?;
     push_number_member(alloc, json, "rule", index as u64)?;

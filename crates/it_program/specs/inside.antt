@@ -1,1 +1,2 @@
+pub mod SilentNotes
 pub mod Spent

@@ -7,6 +7,7 @@ ghost use Rattle.it_disk.specs.Reading.{AreLimited, HoldsIfGiven, HoldsRing};
 ghost use Rattle.it_limits.specs.Limit.{IsWithinLimit};
 ghost use Rattle.it_program.specs.Commands.{AreGiven};
 ghost use Rattle.it_program.specs.Inputs.{AreInputs};
+ghost use Rattle.it_program.specs.inside.SilentNotes.{AreSilentIn};
 
 use crate::provenance::read_provenance;
 use it_base::sequence::Sequence;
@@ -38,9 +39,11 @@ pub(crate) struct Given {
 /// What is at the paths of the words. An input without a path is empty. With public keys, links and
 /// lines of the provenance that have too many signatures are left out.
 pub(crate) fn read_given<R: Disk + AllocGlobal>(rt: &R, words: &VerifyWords) -> Result<Given, Fault>
-    ensures { IfOk result (λ given. AreGiven (R.holdings rt.now) words.now given.inputs
+    ensures given { IfOk result (λ given. AreGiven (R.holdings rt.now) words.now given.inputs
         (command_checks given.checks.own.rings.items given.checks.own.public_keys
         given.checks.vouched)) }
+    ensures silent { IfOk result
+        (λ given. AreSilentIn (R.holdings rt.now) words.now given.silent) }
 {
     let Read {
         inputs,
@@ -69,8 +72,9 @@ struct Read {
 
 /// Reads the inputs in their order.
 fn read_inputs<R: Disk + AllocGlobal>(rt: &R, words: &VerifyWords) -> Result<Read, Fault>
-    ensures { IfOk result
+    ensures inputs { IfOk result
         (λ read. AreInputs (R.holdings rt.now) words.now read.inputs read.vouched) }
+    ensures silent { IfOk result (λ read. AreSilentIn (R.holdings rt.now) words.now read.silent) }
 {
     let mut left_out = Vec::new(rt.alloc());
     let moment = String::from_str(rt.alloc(), words.at.as_str())?;

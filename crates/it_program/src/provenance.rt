@@ -1,6 +1,7 @@
 //! The provenance of a verification.
 ghost use Rattle.std.specs.Prelude.{◌≡◌, IfOk};
 ghost use Rattle.it_program.specs.Inputs.{AreEnvelopes, AreLookedAt, AreVouchedBy, IsProvenance};
+ghost use Rattle.it_program.specs.inside.SilentNotes.{AreSilentBy, AreSilentIn};
 
 use it_base::sequence::Sequence;
 use it_base::text::Text;
@@ -30,8 +31,10 @@ pub(crate) fn read_provenance<R: Disk + AllocGlobal>(
     words: &VerifyWords,
     left_out: &mut Vec<LeftOut>,
 ) -> Result<Provenance, Fault>
-    ensures { IfOk result (λ provenance. IsProvenance (R.holdings rt.now) words.now
+    ensures provenance { IfOk result (λ provenance. IsProvenance (R.holdings rt.now) words.now
         provenance.lines provenance.vouched) }
+    ensures silent { IfOk result
+        (λ provenance. AreSilentIn (R.holdings rt.now) words.now provenance.silent) }
 {
     let read = bytes_if_given(rt, &words.provenance)?;
     let Judged { vouched, silent } = judge(rt, &words.trusted_root, read.as_slice())?;
@@ -53,8 +56,10 @@ struct Judged {
 
 /// Judges the lines by the trusted root at the path, where one is given.
 fn judge<R: Disk + AllocGlobal>(rt: &R, path: &Option<Text>, read: &[u8]) -> Result<Judged, Fault>
-    ensures { IfOk result
+    ensures vouched { IfOk result
         (λ judged. AreVouchedBy (R.holdings rt.now) path.now read.now judged.vouched) }
+    ensures silent { IfOk result
+        (λ judged. AreSilentBy (R.holdings rt.now) path.now read.now judged.silent) }
 {
     let Some(path) = path else {
         return Ok(Judged {

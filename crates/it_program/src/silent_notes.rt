@@ -1,33 +1,41 @@
 //! Notes on the lines of a provenance that are bundles and vouch for nobody.
-use it_vouched::SilentLine;
-use std::alloc::{AllocError, Global};
+ghost use Rattle.it_base.specs.Writing.{AppendsBeginning};
+ghost use Rattle.it_vouched.specs.SilentText.{silent_notes};
+ghost use Rattle.it_program.specs.inside.SilentNotes.{notes_after};
+
+use crate::stop::Stop;
+use it_base::writing::write_all_of;
+use it_outcome::Status;
+use it_vouched::{SilentLine, notes_on_silent};
+use std::alloc::Global;
 use std::io::Write;
 
-/// How many lines of these notes are written at most.
-const MOST_LINES: usize = 40;
-
-/// Writes the notes, as far as memory suffices and they can be written.
-pub(crate) fn note_silent<N: Write>(alloc: Global, silent: &[SilentLine], notes: &mut N) {
-    if let Ok(text) = text_of(alloc, silent) {
-        let _ = notes.write_all(text.as_slice());
+/// Writes the notes on these lines, where the delivery was refused, as far as memory suffices and
+/// they can be written.
+#[tactic(auto, using(crate::proofs::Noting::nothing_more))]
+pub(crate) fn note_silent<N: Write>(
+    alloc: Global,
+    outcome: &Result<Status, Stop>,
+    silent: &[SilentLine],
+    notes: &mut N,
+)
+    ensures { AppendsBeginning (N.contents notes.old) (N.contents notes.new)
+        (notes_after outcome.now silent.now) }
+{
+    match outcome {
+        Ok(Status::Refused) => write_notes(alloc, silent, notes),
+        Ok(Status::Good) => {}
+        Err(_) => {}
     }
 }
 
-/// A line for each; where there are more than 40, the last line says how many more there are.
-fn text_of(alloc: Global, silent: &[SilentLine]) -> Result<Vec<u8>, AllocError> {
-    let mut text = Vec::new(alloc);
-    let shown = if silent.len() > MOST_LINES {
-        MOST_LINES - 1
-    } else {
-        silent.len()
-    };
-    for line in &silent[..shown] {
-        line.push_line(&mut text)?;
+/// Writes the notes on these lines, as far as memory suffices and they can be written.
+#[tactic(auto, using(crate::proofs::Noting::nothing_more))]
+fn write_notes<N: Write>(alloc: Global, silent: &[SilentLine], notes: &mut N)
+    ensures { AppendsBeginning (N.contents notes.old) (N.contents notes.new)
+        (silent_notes silent.now) }
+{
+    if let Ok(text) = notes_on_silent(alloc, silent) {
+        let _ = write_all_of(notes, text.as_slice());
     }
-    let further = silent.len() - shown;
-    if further > 0 {
-        let line = format!(in alloc; "{further} further bundles vouch for nobody\n")?;
-        text.extend_from_slice(line.as_bytes())?;
-    }
-    Ok(text)
 }

@@ -49,15 +49,8 @@ pub(crate) fn run<R: Disk + AllocGlobal, W: Write, N: Write>(
     let given = read_given(rt, words)?;
     note_left_out(alloc, given.left_out.as_slice(), notes);
     let outcome = verify_as_asked(alloc, &asked, &given.inputs, &given.checks, out, notes);
-    if is_refused(&outcome) {
-        note_silent(alloc, given.silent.as_slice(), notes);
-    }
+    note_silent(alloc, &outcome, given.silent.as_slice(), notes);
     told_spent(outcome, &given.checks, words.most_checks)
-}
-
-/// Whether the delivery was refused.
-fn is_refused(outcome: &Result<Status, Stop>) -> bool {
-    matches!(outcome, Ok(Status::Refused))
 }
 
 /// The outcome of a verification, where that of lack of memory is told as it is: that more

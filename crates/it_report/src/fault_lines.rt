@@ -40,7 +40,7 @@ pub(super) fn push_fault(alloc: Global, text: &mut Vec<u8>, fault: &Fault) -> Re
             side,
             index,
             path,
-        } => push_rule(alloc, text, item, *side, *index, path),
+        } => push_rule(alloc, text, item, *side, (*index, path)),
         Fault::RecordMissing(name) => push_name_line(text, "name", name),
         Fault::BadRecord(name) => push_name_line(text, "name", name),
         Fault::NoExpectation(path) => push_name_line(text, "path", path),
@@ -108,17 +108,19 @@ fn push_threshold(
     push_number_line(alloc, text, "needed", needed)
 }
 
+/// Says which rule failed: whose, on which side, and at which place for which path.
 fn push_rule(
     alloc: Global,
     text: &mut Vec<u8>,
     item: &RuleItem,
     side: Side,
-    index: usize,
-    path: &Text,
+    place: (usize, &Text),
 ) -> Result<(), AllocError>
     ensures { OnOk result (text.new.items
-        ≡ text.old.items ++ fault_lines (Fault.RuleFailed item.now side index path.now)) }
+        ≡ text.old.items
+        ++ fault_lines (Fault.RuleFailed item.now side place.entry.0 place.entry.1.now)) }
 {
+    let (index, path) = place;
     push_item(text, item)?;
     push_side(text, side)?;
     push_number_line(alloc, text, "rule", index as u64)?;

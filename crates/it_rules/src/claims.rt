@@ -16,6 +16,17 @@ use it_docs::rule::{Rule, Side};
 use it_glob::Pattern;
 use std::alloc::{AllocError, Global};
 
+/// Which paths a `MATCH` rule may claim.
+#[derive(Drop)]
+struct Source<'a> {
+    /// Its pattern.
+    pattern: &'a Pattern,
+    /// The prefix that a path has there, before what the pattern matches.
+    prefix: &'a str,
+    /// The artifacts on the side that the rule is judged on.
+    artifacts: &'a Artifacts,
+}
+
 /// Where a `MATCH` rule looks for the artifact of a path.
 #[derive(Drop)]
 struct Target<'a> {
@@ -54,14 +65,17 @@ pub fn claims(
             target_prefix,
             from,
         } => {
-            let artifacts = item.artifacts_on(side);
+            let source = Source {
+                pattern,
+                prefix: source_prefix.as_str(),
+                artifacts: item.artifacts_on(side),
+            };
             let target = Target {
                 from: from.as_str(),
                 side: *linked_side,
                 prefix: target_prefix.as_str(),
             };
-            let source = source_prefix.as_str();
-            match_claims(alloc, pattern, source, &target, artifacts, links, path)
+            match_claims(alloc, &source, &target, links, path)
         }
         Rule::Create(pattern) => Ok(create_claims(pattern, item, path)),
         Rule::Delete(pattern) => Ok(delete_claims(pattern, item, path)),
@@ -73,28 +87,27 @@ pub fn claims(
 
 fn match_claims(
     alloc: Global,
-    pattern: &Pattern,
-    source_prefix: &str,
+    source: &Source,
     target: &Target,
-    artifacts: &Artifacts,
     links: &[Named],
     path: &str,
 ) -> Result<bool, AllocError>
     requires { NamesDiffer (links_of links.now) }
     ensures { IfOk result (λ claimed. IsTrue claimed
-        ↔ MatchClaims pattern.now source_prefix.now target.now.side target.now.prefix.now
-        target.now.from.now artifacts.now (links_of links.now) path.now) }
+        ↔ MatchClaims source.now.pattern.now source.now.prefix.now target.now.side
+        target.now.prefix.now target.now.from.now source.now.artifacts.now (links_of links.now)
+        path.now) }
 {
-    let Some(rest) = strip_folder(path, source_prefix) else {
+    let Some(rest) = strip_folder(path, source.prefix) else {
         return Ok(false);
     };
-    if !pattern.matches(rest) {
+    if !source.pattern.matches(rest) {
         return Ok(false);
     }
     let Some(link) = find_link(links, target.from) else {
         return Ok(false);
     };
-    let here = artifacts.get(path);
+    let here = source.artifacts.get(path);
     let recorded = link.item.artifacts_on(target.side);
     let there = digests_under(alloc, recorded, target.prefix, rest)?;
     Ok(agree(here, there))

@@ -3,7 +3,7 @@ ghost use Rattle.std.specs.Prelude.{length, map, IfOk};
 ghost use Rattle.it_rules.specs.Item.{links_of, recorded_of};
 ghost use Rattle.it_rules.specs.Rules.{AreFree, NamesDiffer};
 
-use crate::item::{Item, Named};
+use crate::item::{Item, Named, Subject};
 use crate::marks::{consume, paths_of, unmarked};
 use it_docs::rule::{Rule, Side};
 use std::alloc::{AllocError, Global};
@@ -27,10 +27,11 @@ pub fn free_paths<'a>(
     ensures { IfOk result (λ paths. AreFree rules.now side (recorded_of item.now)
         (links_of links.now) (length rules.now) (map (λ path. path.now) paths.items)) }
 {
+    let subject = Subject { side, item, links };
     let paths = paths_of(alloc, item.artifacts_on(side))?;
     let mut marks = vec![in alloc; false; paths.len()]?;
     for rule in rules {
-        consume(alloc, &paths, &mut marks, rule, side, item, links)?;
+        consume(alloc, &paths, &mut marks, rule, &subject)?;
     }
     let left = unmarked(alloc, &paths, &marks)?;
     Ok(left)

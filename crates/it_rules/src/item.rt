@@ -22,6 +22,17 @@ pub struct Named<'a> {
     pub item: Item<'a>,
 }
 
+/// What a list of rules is judged on.
+#[derive(Drop)]
+pub(crate) struct Subject<'i, 'a, 'l, 'n> {
+    /// The side of the item.
+    pub side: Side,
+    /// The item.
+    pub item: &'i Item<'a>,
+    /// The items that `MATCH` rules may name.
+    pub links: &'l [Named<'n>],
+}
+
 impl<'a> Item<'a> {
     ghost use Rattle.it_rules.specs.Item.{artifacts_on, recorded_of};
 

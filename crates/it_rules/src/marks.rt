@@ -6,11 +6,11 @@ ghost use Rattle.it_rules.specs.inside.Marks.{AreLeft, ArePaths, ArePathsOf, IsL
 ghost use Rattle.it_rules.specs.Rules.{Claims, IsLeastMatch, IsMatch, NamesDiffer};
 
 use crate::claims::claims;
-use crate::item::{Item, Named};
+use crate::item::Subject;
 use crate::looked::looked_at;
 use crate::reach::{claimed_range, pattern_range};
 use it_digest::artifacts::Artifacts;
-use it_docs::rule::{Rule, Side};
+use it_docs::rule::Rule;
 use it_glob::Pattern;
 use std::alloc::{AllocError, Global};
 
@@ -25,27 +25,27 @@ pub(crate) fn paths_of(alloc: Global, artifacts: &Artifacts) -> Result<Vec<&str>
     Ok(paths)
 }
 
-/// Marks each unmarked path that a rule claims.
+/// Marks each unmarked path that a rule claims on what it is judged on.
 pub(crate) fn consume(
     alloc: Global,
     paths: &[&str],
     marks: &mut [bool],
     rule: &Rule,
-    side: Side,
-    item: &Item,
-    links: &[Named],
+    subject: &Subject,
 ) -> Result<(), AllocError>
     requires paths { ArePaths paths.now }
     requires marks { length marks.old ≡ length paths.now }
-    requires names { NamesDiffer (links_of links.now) }
+    requires names { NamesDiffer (links_of subject.now.links.now) }
     ensures { OnOk result ((path : List ℕ) → IsLeft paths.now marks.new path
         ↔ (IsLeft paths.now marks.old path
-        × ¬ Claims rule.now side (recorded_of item.now) (links_of links.now) path)) }
+        × ¬ Claims rule.now subject.now.side (recorded_of subject.now.item.now)
+        (links_of subject.now.links.now) path)) }
 {
     let (start, end) = claimed_range(alloc, rule, paths)?;
-    let looked = looked_at(rule, links);
+    let looked = looked_at(rule, subject.links);
     for place in start..end {
-        if !marks[place] && claims(alloc, rule, side, item, looked, paths[place])? {
+        let path = paths[place];
+        if !marks[place] && claims(alloc, rule, subject.side, subject.item, looked, path)? {
             marks[place] = true;
         }
     }

@@ -4,7 +4,7 @@ ghost use Rattle.it_rules.specs.Item.{links_of, recorded_of};
 ghost use Rattle.it_rules.specs.inside.Marks.{ArePaths, IsLeft};
 ghost use Rattle.it_rules.specs.Rules.{FailsWith, HoldsOver, IsFirstFault, NamesDiffer, RulesHold};
 
-use crate::item::{Item, Named};
+use crate::item::{Item, Named, Subject};
 use crate::marks::{consume, is_left, least_match, paths_of};
 use it_base::text::Text;
 use it_docs::rule::{Rule, Side};
@@ -45,6 +45,7 @@ pub fn run_rules(
         IsFirstFault rules.now side (recorded_of item.now) (links_of links.now)
         fault.index fault.path)) }
 {
+    let subject = Subject { side, item, links };
     let paths = paths_of(alloc, item.artifacts_on(side))?;
     let mut marks = vec![in alloc; false; paths.len()]?;
     for (index, rule) in rules.iter().enumerate() {
@@ -52,7 +53,7 @@ pub fn run_rules(
             let path = Text::copy(alloc, path)?;
             return Ok(Some(RuleFault { index, path }));
         }
-        consume(alloc, &paths, &mut marks, rule, side, item, links)?;
+        consume(alloc, &paths, &mut marks, rule, &subject)?;
     }
     Ok(None)
 }

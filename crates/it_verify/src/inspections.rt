@@ -113,27 +113,29 @@ pub(crate) fn run_inspection_rules(
     for (inspection, link) in inspections.iter().zip(recorded) {
         let name = inspection.name.as_str();
         let materials = inspection.expected_materials.as_slice();
-        run_side(alloc, name, Side::Materials, materials, link, links)?;
+        run_side(alloc, name, (Side::Materials, materials), link, links)?;
         let products = inspection.expected_products.as_slice();
-        run_side(alloc, name, Side::Products, products, link, links)?;
+        run_side(alloc, name, (Side::Products, products), link, links)?;
     }
     Ok(())
 }
 
-/// Judges rules on one side of what the inspection with this name recorded.
+/// Judges the rules of a side over what the inspection with this name recorded.
 fn run_side(
     alloc: Global,
     name: &str,
-    side: Side,
-    rules: &[Rule],
+    rules_of: (Side, &[Rule]),
     link: &Link,
     links: &[Named],
 ) -> Result<(), Failure>
     requires { NamesDiffer (links_of links.now) }
     ensures rules { MatchResult result
-        (λ _. RulesHold rules.now side (recorded_in link.now) (links_of links.now))
-        (RefusedAs (SideFails (links_of links.now) name.now side rules.now link.now)) }
+        (λ _. RulesHold rules_of.entry.1.now rules_of.entry.0
+        (recorded_in link.now) (links_of links.now))
+        (RefusedAs (SideFails (links_of links.now)
+        name.now rules_of.entry.0 rules_of.entry.1.now link.now)) }
 {
+    let (side, rules) = rules_of;
     let item = Item {
         materials: &link.materials,
         products: &link.products,

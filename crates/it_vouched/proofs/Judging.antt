@@ -1,25 +1,25 @@
 -- Lines that are judged one after another.
-use Rattle.std.proofs.Common.{◌≡◌, ◌∙◌, ℕ, ◌+◌, ◌<◌, ◌≤◌, List, [], ◌∷◌, ◌++◌, length, All, Option, Some, None}
-use Rattle.std.proofs.Common.{IfSome, MatchOption, append_assoc, arith, ap, sym, subst}
+use Rattle.std.proofs.Common.{◌≡◌, ◌∙◌, ℕ, ◌+◌, ◌<◌, ◌≤◌, List, [], ◌∷◌, ◌++◌, length, map}
+use Rattle.std.proofs.Common.{Option, Some, None, MatchOption, append_assoc, arith, ap, sym, subst}
 use Rattle.std.specs.List.{cons_option}
 use Rattle.std.proofs.lemmas.List.{length-append}
 use Rattle.it_base.specs.Finds.{Finds}
-use Rattle.it_base.proofs.Elements.{kept_all}
 use Rattle.it_bundle.specs.Bundle.{BundleOf}
 use Rattle.it_bundle.specs.declared.bundle.SigstoreBundle.{SigstoreBundle}
+use Rattle.it_bundle.proofs.Same.{bundle_same}
 use Rattle.it_digest.specs.Sums.{lines_of}
 use Rattle.it_dsse.specs.Signed.{message_of}
 use Rattle.it_identity.specs.declared.identity.Identity.{Identity}
 use Rattle.it_trust_root.specs.declared.root.TrustedRoot.{TrustedRoot}
+use Rattle.it_vouches.specs.Found.{AreFound}
 use Rattle.it_vouches.specs.Vouches.{Vouches}
 use Rattle.it_vouches.specs.declared.shortfall.Shortfall.{Shortfall}
 use Rattle.it_vouches.proofs.Found.{found_more}
 use Rattle.it_vouched.specs.Line.{AreVouched, IsVouched, VouchesForNone}
-use Rattle.it_vouched.specs.Silent.{IsSilent, LineMisses}
+use Rattle.it_vouched.specs.Silent.{AreSilent, IsSilent, LineMisses, MissesNothing, Numbered, numbered_from}
 use Rattle.it_vouched.specs.declared.silent_line.SilentLine.{SilentLine}
 use Rattle.it_vouched.specs.declared.vouched.Vouched.{Vouched}
 use Rattle.it_vouched.proofs.Lines.{as_found, no_signature}
-use Rattle.std.proofs.Common.{map}
 
 -- a bundle that vouches for an identity, and the message and the one signature of its envelope
 pub found_with : (root : TrustedRoot) (line : List ℕ) (bundle : SigstoreBundle) (identity : Identity) → BundleOf line bundle
@@ -38,6 +38,13 @@ found_with root line bundle identity is vouches (Some v) parts = record {
   one_signature = parts.2;
 }
 
+-- a bundle that vouches for somebody misses nothing
+pub vouches_for_one : (root : TrustedRoot) (line : List ℕ) (bundle : SigstoreBundle) (identity : Identity) → BundleOf line bundle
+    → Vouches root bundle identity → MissesNothing root line
+vouches_for_one root line bundle identity is vouches other other_is none =
+    none identity (subst (λ (b : SigstoreBundle). Vouches root b identity)
+    (bundle_same line bundle other is other_is) vouches)
+
 -- the lines so far, whose number is this, were judged, and the rest follows
 pub record HasJudged (root : TrustedRoot) (provenance rest : List ℕ) (number : ℕ) (all : List Vouched) (silent : List SilentLine)
     : Type 0 where
@@ -45,47 +52,59 @@ pub record HasJudged (root : TrustedRoot) (provenance rest : List ℕ) (number :
   pub lines_are : lines_of provenance ≡ done ++ lines_of rest
   pub vouched : AreVouched root done all
   pub number_is : number ≡ length done
-  pub each : All (IsSilent root (lines_of provenance)) silent
+  pub are_silent : AreSilent root done silent
   pub in_range : number + length rest ≤ length provenance
 
--- the line of a number, where it misses a condition
-silent_where : (P : SilentLine → Type 0) (number : ℕ) (shortfall : Option Shortfall) (found : Option SilentLine)
-    → MatchOption shortfall (found ≡ None) (λ missed. found ≡ Some (record { line = number; shortfall = missed }))
-    → IfSome shortfall (λ missed. P (record { line = number; shortfall = missed })) → IfSome found P
-silent_where P number None found is each = subst (λ (o : Option SilentLine). IfSome o P) (sym is) tt
-silent_where P number (Some missed) found is each = subst (λ (o : Option SilentLine). IfSome o P) (sym is) each
+-- the number of one line more
+numbered_more : (n : ℕ) (done : List (List ℕ)) (line : List ℕ)
+    → numbered_from n (done ++ line ∷ []) ≡ numbered_from n done ++ record { number = n + length done; line = line } ∷ []
+numbered_more n [] line =
+    let here : n ≡ n + 0 = omega arith in
+    ap (λ (k : ℕ). record { number = k; line = line } ∷ []) here
+numbered_more n (first ∷ done) line =
+    let later : (n + 1) + length done ≡ n + length (first ∷ done) = omega arith in
+    ap (λ (ls : List Numbered). record { number = n; line = first } ∷ ls) (numbered_more (n + 1) done line
+    ∙ ap (λ (k : ℕ). numbered_from (n + 1) done ++ record { number = k; line = line } ∷ []) later)
 
-some_with : {X : Type 0} (P Q : X → Type 0) (found : Option X) → IfSome found P → ((x : X) → P x → Q x) → IfSome found Q
-some_with P Q None p f = tt
-some_with P Q (Some x) p f = f x p
+-- the line of a number, where it misses a condition
+silent_where : (root : TrustedRoot) (line : List ℕ) (n : ℕ) (shortfall : Option Shortfall) (found : Option SilentLine)
+    → MatchOption shortfall (found ≡ None) (λ missed. found ≡ Some (record { line = n; shortfall = missed }))
+    → MatchOption shortfall (MissesNothing root line) (λ missed. LineMisses root line missed)
+    → MatchOption found (MissesNothing root line) (λ s. IsSilent root (record { number = n; line = line }) s)
+silent_where root line n None found is misses =
+    subst (λ (o : Option SilentLine). MatchOption o (MissesNothing root line)
+    (λ s. IsSilent root (record { number = n; line = line }) s)) (sym is) misses
+silent_where root line n (Some missed) found is misses =
+    subst (λ (o : Option SilentLine). MatchOption o (MissesNothing root line)
+    (λ s. IsSilent root (record { number = n; line = line }) s)) (sym is)
+    (record { number_is = λ i. n; misses = misses })
 
 module _ (root : TrustedRoot) (provenance rest : List ℕ) (number : ℕ) (all : List Vouched) (silent : List SilentLine)
     (h : HasJudged root provenance rest number all silent) (line after : List ℕ)
     (split : lines_of rest ≡ line ∷ lines_of after) (shorter : length after < length rest) where
-  lines_here : lines_of provenance ≡ h.done ++ line ∷ lines_of after
-  lines_here = h.lines_are ∙ ap (λ ls. h.done ++ ls) split
+  -- its number counts from 1
+  here_numbered : numbered_from 1 h.done ++ record { number = number + 1; line = line } ∷ []
+      ≡ numbered_from 1 (h.done ++ line ∷ [])
+  here_numbered =
+      let count : number + 1 ≡ 1 + length h.done = omega (arith, h.number_is) in
+      ap (λ (k : ℕ). numbered_from 1 h.done ++ record { number = k; line = line } ∷ []) count
+      ∙ sym (numbered_more 1 h.done line)
 
   -- one line more
   pub judged_more : (found : Option Vouched) → Finds (IsVouched root line) found
-      → (shortfall : Option Shortfall) → IfSome shortfall (LineMisses root line) → (here : Option SilentLine)
+      → (shortfall : Option Shortfall)
+      → MatchOption shortfall (MissesNothing root line) (λ missed. LineMisses root line missed) → (here : Option SilentLine)
       → MatchOption shortfall (here ≡ None) (λ missed. here ≡ Some (record { line = number + 1; shortfall = missed }))
       → HasJudged root provenance after (number + 1) (all ++ cons_option found []) (silent ++ cons_option here [])
   judged_more found finds shortfall misses here is = record {
     done = h.done ++ line ∷ [];
-    lines_are = lines_here ∙ sym (append_assoc h.done (line ∷ []) (lines_of after));
+    lines_are = h.lines_are ∙ ap (λ ls. h.done ++ ls) split ∙ sym (append_assoc h.done (line ∷ []) (lines_of after));
     vouched = found_more (VouchesForNone root) (IsVouched root) h.done line all found h.vouched (as_found root line found finds);
     number_is = ap (λ n. n + 1) h.number_is ∙ sym (length-append h.done (line ∷ []));
-    each = kept_all (IsSilent root (lines_of provenance)) silent here h.each
-        (silent_where (IsSilent root (lines_of provenance)) (number + 1) shortfall here is
-        (some_with (LineMisses root line)
-        (λ missed. IsSilent root (lines_of provenance) (record { line = number + 1; shortfall = missed })) shortfall misses
-        (λ missed miss. record {
-          before = h.done;
-          line = line;
-          after = lines_of after;
-          lines_are = lines_here;
-          number_is = ap (λ n. n + 1) h.number_is;
-          misses = miss;
-        })));
+    are_silent =
+        subst (λ (ls : List Numbered). AreFound (λ n. MissesNothing root n.line) (IsSilent root) ls (silent ++ cons_option here []))
+        here_numbered (found_more (λ n. MissesNothing root n.line) (IsSilent root) (numbered_from 1 h.done)
+        (record { number = number + 1; line = line }) silent here h.are_silent
+        (silent_where root line (number + 1) shortfall here is misses));
     in_range = (let range = h.in_range in omega (arith, range, shorter));
   }

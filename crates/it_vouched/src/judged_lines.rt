@@ -1,8 +1,8 @@
 //! Lines of provenance, judged by a trusted root.
-ghost use Rattle.std.specs.Prelude.{◌≡◌, [], ◌∷◌, All, IfOk, MatchOption};
+ghost use Rattle.std.specs.Prelude.{◌≡◌, [], ◌∷◌, IfOk, MatchOption};
 ghost use Rattle.it_digest.specs.Sums.{lines_of};
 ghost use Rattle.it_vouched.specs.Line.{AreVouched};
-ghost use Rattle.it_vouched.specs.Silent.{IsSilent};
+ghost use Rattle.it_vouched.specs.Silent.{AreSilent};
 
 use crate::silent_line::SilentLine;
 use crate::vouched::{Vouched, judged_line};
@@ -37,7 +37,7 @@ impl JudgedLines {
         ensures vouched { IfOk result
             (λ judged. AreVouched trust.now (lines_of provenance.now) judged.vouched) }
         ensures silent { IfOk result
-            (λ judged. All (IsSilent trust.now (lines_of provenance.now)) judged.silent) }
+            (λ judged. AreSilent trust.now (lines_of provenance.now) judged.silent) }
     {
         let Judging { all, silent } = judging_of(alloc, trust, provenance)?;
         Ok(JudgedLines {
@@ -58,7 +58,7 @@ fn judging_of(alloc: Global, trust: &Trust<'_>, provenance: &[u8]) -> Result<Jud
     ensures vouched { IfOk result
         (λ judging. AreVouched trust.now (lines_of provenance.now) judging.all.items) }
     ensures silent { IfOk result
-        (λ judging. All (IsSilent trust.now (lines_of provenance.now)) judging.silent.items) }
+        (λ judging. AreSilent trust.now (lines_of provenance.now) judging.silent.items) }
 {
     let mut all = Vec::new(alloc);
     let mut silent = Vec::new(alloc);

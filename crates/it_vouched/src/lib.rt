@@ -15,11 +15,13 @@ mod joining;
 mod judged_lines;
 pub mod laws;
 mod silent_line;
+mod silent_notes;
 mod vouched;
 mod vouched_lines;
 
 pub use identity_key::IdentityKey;
 pub use judged_lines::JudgedLines;
 pub use silent_line::SilentLine;
+pub use silent_notes::notes_on_silent;
 pub use vouched::Vouched;
 pub use vouched_lines::VouchedLines;

@@ -1,9 +1,9 @@
 //! What a line vouches for.
-ghost use Rattle.std.specs.Prelude.{◌≡◌, [], ◌∷◌, IfOk, IfSome, MatchOption, ℕ, List, map};
+ghost use Rattle.std.specs.Prelude.{◌≡◌, [], ◌∷◌, IfOk, MatchOption, ℕ, List, map};
 ghost use Rattle.it_base.specs.Finds.{Finds};
 ghost use Rattle.it_dsse.specs.Signed.{message_of};
 ghost use Rattle.it_vouched.specs.Line.{IsVouched};
-ghost use Rattle.it_vouched.specs.Silent.{LineMisses};
+ghost use Rattle.it_vouched.specs.Silent.{LineMisses, MissesNothing};
 
 use it_base::sequence::Sequence;
 use it_bundle::{SigstoreBundle, read_bundle};
@@ -45,8 +45,8 @@ pub(crate) fn judged_line(
 ) -> Result<LineJudged, AllocError>
     ensures vouched { IfOk result
         (λ judged. Finds (IsVouched trust.now line.now) judged.vouched) }
-    ensures misses { IfOk result
-        (λ judged. IfSome judged.shortfall (LineMisses trust.now line.now)) }
+    ensures misses { IfOk result (λ judged. MatchOption judged.shortfall
+        (MissesNothing trust.now line.now) (LineMisses trust.now line.now)) }
 {
     let Some(bundle) = read_bundle(alloc, line)? else {
         return Ok(LineJudged {

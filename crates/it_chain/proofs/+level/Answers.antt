@@ -49,8 +49,8 @@ pushed_record (Some r) = refl
 
 pub id_records::verify_id-returns-in-One-clause-answer : goal.id_records::verify_id-returns-in-One-clause-answer
 id_records::verify_id-returns-in-One-clause-answer g t c =
-    let s = g.C.Checking.setting c.args.checking.now in
-    let l = c.args.level.now in
+    let s = g.C.Checking.setting c.args.walk.now.checking.now in
+    let l = c.args.walk.now.level in
     let one = one_counts (holds_below s l.depth) (fails_below s l.depth) s l.layout.now l.links.now
     c.args.step.now c.args.signer.now.id.now c.args.signer.now.object.now c.args.found.now
     c.requires.candidates c.requires.listed c.requires.known
@@ -63,8 +63,8 @@ id_records::verify_id-returns-in-One-clause-answer g t c =
 
 pub id_records::verify_id-returns-in-Nothing-clause-answer : goal.id_records::verify_id-returns-in-Nothing-clause-answer
 id_records::verify_id-returns-in-Nothing-clause-answer g t c =
-    let s = g.C.Checking.setting c.args.checking.now in
-    let l = c.args.level.now in
+    let s = g.C.Checking.setting c.args.walk.now.checking.now in
+    let l = c.args.walk.now.level in
     walks_given s l.depth l.layout.now l.links.now c.args.step.now c.args.signer.now.id.now None
     (none_counts (holds_below s l.depth) (fails_below s l.depth) s l.layout.now l.links.now
     c.args.step.now c.args.signer.now.id.now c.args.signer.now.object.now c.args.found.now
@@ -73,8 +73,8 @@ id_records::verify_id-returns-in-Nothing-clause-answer g t c =
 
 pub id_records::verify_id-returns-in_ok-copy-in-Several-2-clause-answer : goal.id_records::verify_id-returns-in_ok-copy-in-Several-2-clause-answer
 id_records::verify_id-returns-in_ok-copy-in-Several-2-clause-answer g t c =
-    let s = g.C.Checking.setting c.args.checking.now in
-    let l = c.args.level.now in
+    let s = g.C.Checking.setting c.args.walk.now.checking.now in
+    let l = c.args.walk.now.level in
     let name : c.in_ok-copy-in-Several.field-0 ≡ c.args.step.now.name =
     c.in_ok-copy-in-Several.ensures ∙ c.as_str-name.ensures in
     let id : c.in_ok-copy-in-Several-2.field-0 ≡ c.args.signer.now.id.now =
@@ -89,8 +89,8 @@ id_records::verify_id-returns-in_ok-copy-in-Several-2-clause-answer g t c =
 
 pub id_records::verify_ids-returns-in_err-record-clause-answer : goal.id_records::verify_ids-returns-in_err-record-clause-answer
 id_records::verify_ids-returns-in_err-record-clause-answer g t c =
-    let s = g.C.Checking.setting c.args.checking.now in
-    let v = c.args.level.now in
+    let s = g.C.Checking.setting c.args.walk.now.checking.now in
+    let v = c.args.walk.now.level in
     let p = err_from_is_err_and c.from_residual.result c.from_residual.ensures.1 in
     rw (p.1, p.2) (walked_fail s v.depth v.layout.now v.links.now c.args.step.now c.args.signers.now
     c.loop-signer.signer-index c.signer-item.result c.loop-signer.records.items
@@ -99,8 +99,8 @@ id_records::verify_ids-returns-in_err-record-clause-answer g t c =
 
 pub id_records::verify_ids-loop-signer-init : goal.id_records::verify_ids-loop-signer-init
 id_records::verify_ids-loop-signer-init g t c =
-    let v = c.args.level.now in
-    let s = g.C.Checking.setting c.args.checking.now in
+    let v = c.args.walk.now.level in
+    let s = g.C.Checking.setting c.args.walk.now.checking.now in
     rw c.new-records.ensures.items
     (record {
       walked = walked_none s v.depth v.layout.now v.links.now c.args.step.now;
@@ -124,10 +124,10 @@ id_records::verify_ids-verify_id-requires g t c κs within =
           (
             c.requires.candidates,
             (
-              signer_listed c.args.level.now.layout.now c.args.step.now all c.requires.signers
+              signer_listed c.args.walk.now.level.layout.now c.args.step.now all c.requires.signers
                   signer
                   stands,
-              signer_known c.args.level.now.layout.now c.args.step.now all c.requires.signers
+              signer_known c.args.walk.now.level.layout.now c.args.step.now all c.requires.signers
                   signer stands,
             ),
           ),
@@ -137,8 +137,8 @@ id_records::verify_ids-verify_id-requires g t c κs within =
 
 pub id_records::verify_ids-loop-signer-preserved : goal.id_records::verify_ids-loop-signer-preserved
 id_records::verify_ids-loop-signer-preserved g t c =
-    let s = g.C.Checking.setting c.args.checking.now in
-    let v = c.args.level.now in
+    let s = g.C.Checking.setting c.args.walk.now.checking.now in
+    let v = c.args.walk.now.level in
     let step = c.args.step.now in
     let found = c.args.signers.now in
     let i = c.loop-signer.signer-index in
@@ -161,8 +161,8 @@ id_records::verify_ids-loop-signer-preserved g t c =
 
 pub id_records::verify_ids-returns-in_err-record-clause-asked : goal.id_records::verify_ids-returns-in_err-record-clause-asked
 id_records::verify_ids-returns-in_err-record-clause-asked g t c =
-    let s = g.C.Checking.setting c.args.checking.now in
-    let v = c.args.level.now in
+    let s = g.C.Checking.setting c.args.walk.now.checking.now in
+    let v = c.args.walk.now.level in
     let p = err_from_is_err_and c.from_residual.result c.from_residual.ensures.1 in
     rw p.1 (signer_fails s v.depth v.layout.now v.links.now c.args.meter.now c.loop-signer.meter
     c.verify_id.new.meter c.loop-signer.signer-index c.args.step.now c.args.found.now
@@ -172,8 +172,8 @@ id_records::verify_ids-returns-in_err-record-clause-asked g t c =
 
 pub id_records::verify_ids-returns-in_err-push_some-clause-asked : goal.id_records::verify_ids-returns-in_err-push_some-clause-asked
 id_records::verify_ids-returns-in_err-push_some-clause-asked g t c =
-    let s = g.C.Checking.setting c.args.checking.now in
-    let v = c.args.level.now in
+    let s = g.C.Checking.setting c.args.walk.now.checking.now in
+    let v = c.args.walk.now.level in
     let p = err_from_is_err_and c.from_residual-in_err-push_some.result
     c.from_residual-in_err-push_some.ensures.1 in
     rw p.1 (signer_fails s v.depth v.layout.now v.links.now c.args.meter.now c.loop-signer.meter
@@ -184,8 +184,8 @@ id_records::verify_ids-returns-in_err-push_some-clause-asked g t c =
 
 pub id_records::verify_ids-returns-clause-asked : goal.id_records::verify_ids-returns-clause-asked
 id_records::verify_ids-returns-clause-asked g t c =
-    let s = g.C.Checking.setting c.args.checking.now in
-    let v = c.args.level.now in
+    let s = g.C.Checking.setting c.args.walk.now.checking.now in
+    let v = c.args.walk.now.level in
     let found = c.args.signers.now in
     let all : take c.loop-signer.signer-index found ≡ found =
     take_all c.loop-signer.signer-index found (omega arith) in
@@ -195,8 +195,8 @@ id_records::verify_ids-returns-clause-asked g t c =
 
 pub id_records::verify_ids-returns-clause-answer : goal.id_records::verify_ids-returns-clause-answer
 id_records::verify_ids-returns-clause-answer g t c =
-    let s = g.C.Checking.setting c.args.checking.now in
-    let v = c.args.level.now in
+    let s = g.C.Checking.setting c.args.walk.now.checking.now in
+    let v = c.args.walk.now.level in
     let found = c.args.signers.now in
     let all : take c.loop-signer.signer-index found ≡ found =
     take_all c.loop-signer.signer-index found (omega arith) in
@@ -207,8 +207,8 @@ id_records::verify_ids-returns-clause-answer g t c =
 
 pub level::judge_level-returns-in_err-steps-clause-answer : goal.level::judge_level-returns-in_err-steps-clause-answer
 level::judge_level-returns-in_err-steps-clause-answer g t c =
-    let s = g.C.Checking.setting c.args.checking.now in
-    let v = c.args.level.now in
+    let s = g.C.Checking.setting c.args.walk.now.checking.now in
+    let v = c.args.walk.now.level in
     let in_time : ¬ (v.layout.now.expires <ℤ s.moment) =
     not_when c.is_expired.result (v.layout.now.expires <ℤ s.moment) c.is_expired.ensures
     c.if-is_expired.false in
@@ -220,16 +220,16 @@ level::judge_level-returns-in_err-steps-clause-answer g t c =
 
 pub level::judge_level-first_failed-requires : goal.level::judge_level-first_failed-requires
 level::judge_level-first_failed-requires g t c =
-    let s = g.C.Checking.setting c.args.checking.now in
-    let v = c.args.level.now in
+    let s = g.C.Checking.setting c.args.walk.now.checking.now in
+    let v = c.args.walk.now.level in
     rw c.as_slice-2.ensures.value (links_differ (holds_below s v.depth) (fails_below s v.depth)
     (one_below s v.depth) s v.layout.now v.links.now c.in_ok-steps.steps.items
     c.in_ok-steps.ensures.answer.1)
 
 pub level::judge_level-returns-clause-answer : goal.level::judge_level-returns-clause-answer
 level::judge_level-returns-clause-answer g t c =
-    let s = g.C.Checking.setting c.args.checking.now in
-    let v = c.args.level.now in
+    let s = g.C.Checking.setting c.args.walk.now.checking.now in
+    let v = c.args.walk.now.level in
     let in_time : ¬ (v.layout.now.expires <ℤ s.moment) =
     not_when c.is_expired.result (v.layout.now.expires <ℤ s.moment) c.is_expired.ensures
     c.if-is_expired.false in
@@ -245,8 +245,8 @@ level::verify_level-returns-clause-answer g t c = rw c.settled.ensures
 
 pub level::verify_step-returns-in_err-records-clause-answer : goal.level::verify_step-returns-in_err-records-clause-answer
 level::verify_step-returns-in_err-records-clause-answer g t c =
-    let s = g.C.Checking.setting c.args.checking.now in
-    let l = c.args.level.now in
+    let s = g.C.Checking.setting c.args.walk.now.checking.now in
+    let l = c.args.walk.now.level in
     let step = c.args.step.now in
     let p = err_from_is_err_and c.from_residual-in_err-records.result
     c.from_residual-in_err-records.ensures.1 in
@@ -256,8 +256,8 @@ level::verify_step-returns-in_err-records-clause-answer g t c =
 
 pub level::verify_step-returns-clause-answer : goal.level::verify_step-returns-clause-answer
 level::verify_step-returns-clause-answer g t c =
-    let s = g.C.Checking.setting c.args.checking.now in
-    let v = c.args.level.now in
+    let s = g.C.Checking.setting c.args.walk.now.checking.now in
+    let v = c.args.walk.now.level in
     let step = c.args.step.now in
     walks_behind (StandsAt s v.depth v.layout.now v.links.now)
     (map (at_id step) (keys v.layout.now.keys)) (at_threshold step ∷ at_records step ∷ [])
@@ -269,8 +269,8 @@ level::verify_step-returns-clause-answer g t c =
 
 pub level::verify_steps-returns-in_err-verify_step-clause-answer : goal.level::verify_steps-returns-in_err-verify_step-clause-answer
 level::verify_steps-returns-in_err-verify_step-clause-answer g t c =
-    let s = g.C.Checking.setting c.args.checking.now in
-    let v = c.args.level.now in
+    let s = g.C.Checking.setting c.args.walk.now.checking.now in
+    let v = c.args.walk.now.level in
     let p = err_from_is_err_and c.from_residual.result c.from_residual.ensures.1 in
     rw (p.1, p.2) (subst (λ xs. FailsAt (StandsAt s v.depth v.layout.now v.links.now)
     (flat_map (step_places v.layout.now) xs) c.in_err-verify_step.field-0.0)
@@ -281,8 +281,8 @@ level::verify_steps-returns-in_err-verify_step-clause-answer g t c =
 
 pub level::verify_steps-loop-step-preserved : goal.level::verify_steps-loop-step-preserved
 level::verify_steps-loop-step-preserved g t c =
-    let s = g.C.Checking.setting c.args.checking.now in
-    let v = c.args.level.now in
+    let s = g.C.Checking.setting c.args.walk.now.checking.now in
+    let v = c.args.walk.now.level in
     let steps = c.as_slice-step-items.result.now in
     let i = c.loop-step.step-index in
     let step = c.step-item.result in
@@ -308,8 +308,8 @@ level::verify_steps-loop-step-preserved g t c =
 
 pub sublayouts::verify_sublayout-returns-clause-answer : goal.sublayouts::verify_sublayout-returns-clause-answer
 sublayouts::verify_sublayout-returns-clause-answer g t c =
-    let s = g.C.Checking.setting c.args.checking.now in
-    let v = c.args.level.now in
+    let s = g.C.Checking.setting c.args.walk.now.checking.now in
+    let v = c.args.walk.now.level in
     let links = v.links.now in
     let name : c.as_str.result.now ≡ folder_name c.args.step.now c.args.id.now =
     c.as_str.ensures.value ∙ c.in_ok-name.ensures in
@@ -335,8 +335,8 @@ sublayouts::verify_sublayout-returns-clause-answer g t c =
 
 pub level::verify_steps-loop-step-init : goal.level::verify_steps-loop-step-init
 level::verify_steps-loop-step-init g t c =
-    let s = g.C.Checking.setting c.args.checking.now in
-    let v = c.args.level.now in
+    let s = g.C.Checking.setting c.args.walk.now.checking.now in
+    let v = c.args.walk.now.level in
     rw c.new-results.ensures.items (record {
       none = tt;
       hold = tt;
@@ -349,8 +349,8 @@ level::verify_steps-loop-step-init g t c =
 
 pub level::verify_steps-returns-in_err-verify_step-clause-asked : goal.level::verify_steps-returns-in_err-verify_step-clause-asked
 level::verify_steps-returns-in_err-verify_step-clause-asked g t c =
-    let s = g.C.Checking.setting c.args.checking.now in
-    let v = c.args.level.now in
+    let s = g.C.Checking.setting c.args.walk.now.checking.now in
+    let v = c.args.walk.now.level in
     let p = err_from_is_err_and c.from_residual.result c.from_residual.ensures.1 in
     rw p.1 (subst (λ ss. RaisedWithin 0 (LevelSum s v.depth v.layout.now v.links.now ss)
     c.args.meter.now c.verify_step.new.meter) c.as_slice-step-items.ensures
@@ -362,8 +362,8 @@ level::verify_steps-returns-in_err-verify_step-clause-asked g t c =
 
 pub level::verify_steps-returns-in_err-push-clause-asked : goal.level::verify_steps-returns-in_err-push-clause-asked
 level::verify_steps-returns-in_err-push-clause-asked g t c =
-    let s = g.C.Checking.setting c.args.checking.now in
-    let v = c.args.level.now in
+    let s = g.C.Checking.setting c.args.walk.now.checking.now in
+    let v = c.args.walk.now.level in
     let p = err_from_is_err_and c.from_residual-in_err-push.result
     c.from_residual-in_err-push.ensures.1 in
     rw p.1 (subst (λ ss. RaisedWithin 0 (LevelSum s v.depth v.layout.now v.links.now ss)
@@ -376,8 +376,8 @@ level::verify_steps-returns-in_err-push-clause-asked g t c =
 
 pub level::verify_steps-returns-clause-asked : goal.level::verify_steps-returns-clause-asked
 level::verify_steps-returns-clause-asked g t c =
-    let s = g.C.Checking.setting c.args.checking.now in
-    let v = c.args.level.now in
+    let s = g.C.Checking.setting c.args.walk.now.checking.now in
+    let v = c.args.walk.now.level in
     let steps = c.as_slice-step-items.result.now in
     let all : take c.loop-step.step-index steps ≡ v.layout.now.steps =
     take_all c.loop-step.step-index steps (omega arith) ∙ c.as_slice-step-items.ensures in
@@ -387,15 +387,15 @@ level::verify_steps-returns-clause-asked g t c =
 
 pub level::judge_level-returns-then-is_expired-clause-asked : goal.level::judge_level-returns-then-is_expired-clause-asked
 level::judge_level-returns-then-is_expired-clause-asked g t c =
-    let s = g.C.Checking.setting c.args.checking.now in
-    let v = c.args.level.now in
+    let s = g.C.Checking.setting c.args.walk.now.checking.now in
+    let v = c.args.walk.now.level in
     within_none (LevelSum s v.depth v.layout.now v.links.now v.layout.now.steps) c.args.meter.now
     c.args.meter.now refl
 
 pub level::judge_level-returns-in_err-claims-clause-asked : goal.level::judge_level-returns-in_err-claims-clause-asked
 level::judge_level-returns-in_err-claims-clause-asked g t c =
-    let s = g.C.Checking.setting c.args.checking.now in
-    let v = c.args.level.now in
+    let s = g.C.Checking.setting c.args.walk.now.checking.now in
+    let v = c.args.walk.now.level in
     let p = err_from_is_err_and c.from_residual.result c.from_residual.ensures.1 in
     rw p.1 (within_none (LevelSum s v.depth v.layout.now v.links.now v.layout.now.steps)
     c.args.meter.now c.args.meter.now refl)
@@ -408,8 +408,8 @@ level::judge_level-returns-in_err-steps-clause-asked g t c =
 
 pub level::judge_level-returns-in_err-failed-clause-asked : goal.level::judge_level-returns-in_err-failed-clause-asked
 level::judge_level-returns-in_err-failed-clause-asked g t c =
-    let s = g.C.Checking.setting c.args.checking.now in
-    let v = c.args.level.now in
+    let s = g.C.Checking.setting c.args.walk.now.checking.now in
+    let v = c.args.walk.now.level in
     let p = err_from_is_err_and c.from_residual-in_err-failed.result
     c.from_residual-in_err-failed.ensures.1 in
     rw p.1 (within_least 0 (key_total c.in_ok-steps.steps.items)
@@ -418,8 +418,8 @@ level::judge_level-returns-in_err-failed-clause-asked g t c =
 
 pub level::judge_level-returns-clause-asked : goal.level::judge_level-returns-clause-asked
 level::judge_level-returns-clause-asked g t c =
-    let s = g.C.Checking.setting c.args.checking.now in
-    let v = c.args.level.now in
+    let s = g.C.Checking.setting c.args.walk.now.checking.now in
+    let v = c.args.walk.now.level in
     rw c.from-steps.ensures (settled_asks s v.depth v.layout.now v.links.now c.args.meter.now
     c.verify_steps.new.meter (record { steps = c.in_ok-steps.steps.items })
     c.in_ok-failed.failed c.in_ok-steps.ensures.asked)
@@ -430,16 +430,16 @@ level::verify_level-returns-clause-asked g t c = rw c.settled.ensures
 
 pub level::verify_step-returns-in_err-found-clause-asked : goal.level::verify_step-returns-in_err-found-clause-asked
 level::verify_step-returns-in_err-found-clause-asked g t c =
-    let s = g.C.Checking.setting c.args.checking.now in
-    let v = c.args.level.now in
+    let s = g.C.Checking.setting c.args.walk.now.checking.now in
+    let v = c.args.walk.now.level in
     let p = err_from_is_err_and c.from_residual.result c.from_residual.ensures.1 in
     rw p.1 (within_none (StepCosts (cost_below s v.depth) s v.layout.now v.links.now
     c.args.step.now) c.args.meter.now c.args.meter.now refl)
 
 pub level::verify_step-returns-in_err-signers-clause-asked : goal.level::verify_step-returns-in_err-signers-clause-asked
 level::verify_step-returns-in_err-signers-clause-asked g t c =
-    let s = g.C.Checking.setting c.args.checking.now in
-    let v = c.args.level.now in
+    let s = g.C.Checking.setting c.args.walk.now.checking.now in
+    let v = c.args.walk.now.level in
     let p = err_from_is_err_and c.from_residual-in_err-signers.result
     c.from_residual-in_err-signers.ensures.1 in
     rw p.1 (within_none (StepCosts (cost_below s v.depth) s v.layout.now v.links.now
@@ -447,8 +447,8 @@ level::verify_step-returns-in_err-signers-clause-asked g t c =
 
 pub level::verify_step-returns-in_err-records-clause-asked : goal.level::verify_step-returns-in_err-records-clause-asked
 level::verify_step-returns-in_err-records-clause-asked g t c =
-    let s = g.C.Checking.setting c.args.checking.now in
-    let v = c.args.level.now in
+    let s = g.C.Checking.setting c.args.walk.now.checking.now in
+    let v = c.args.walk.now.level in
     let p = err_from_is_err_and c.from_residual-in_err-records.result
     c.from_residual-in_err-records.ensures.1 in
     let are : AreCandidates c.args.step.now.name (files_of v.links.now) c.in_ok-found.found =
@@ -461,8 +461,8 @@ level::verify_step-returns-in_err-records-clause-asked g t c =
 
 pub level::verify_step-returns-clause-asked : goal.level::verify_step-returns-clause-asked
 level::verify_step-returns-clause-asked g t c =
-    let s = g.C.Checking.setting c.args.checking.now in
-    let v = c.args.level.now in
+    let s = g.C.Checking.setting c.args.walk.now.checking.now in
+    let v = c.args.walk.now.level in
     let are : AreCandidates c.args.step.now.name (files_of v.links.now) c.in_ok-found.found =
     search rules in
     let same : map entry_of c.as_slice-signers.result.now ≡ signers_of v.layout.now
@@ -474,24 +474,24 @@ level::verify_step-returns-clause-asked g t c =
 
 pub sublayouts::verify_sublayout-returns-then-is_deepest-clause-asked : goal.sublayouts::verify_sublayout-returns-then-is_deepest-clause-asked
 sublayouts::verify_sublayout-returns-then-is_deepest-clause-asked g t c =
-    let s = g.C.Checking.setting c.args.checking.now in
-    let v = c.args.level.now in
+    let s = g.C.Checking.setting c.args.walk.now.checking.now in
+    let v = c.args.walk.now.level in
     within_none (cost_below s v.depth c.args.sublayout.now
     (folder_of c.args.step.now c.args.id.now v.links.now)) c.args.meter.now c.args.meter.now
     refl
 
 pub sublayouts::verify_sublayout-returns-then-not-is_empty-clause-asked : goal.sublayouts::verify_sublayout-returns-then-not-is_empty-clause-asked
 sublayouts::verify_sublayout-returns-then-not-is_empty-clause-asked g t c =
-    let s = g.C.Checking.setting c.args.checking.now in
-    let v = c.args.level.now in
+    let s = g.C.Checking.setting c.args.walk.now.checking.now in
+    let v = c.args.walk.now.level in
     within_none (cost_below s v.depth c.args.sublayout.now
     (folder_of c.args.step.now c.args.id.now v.links.now)) c.args.meter.now c.args.meter.now
     refl
 
 pub sublayouts::verify_sublayout-returns-in_err-name-clause-asked : goal.sublayouts::verify_sublayout-returns-in_err-name-clause-asked
 sublayouts::verify_sublayout-returns-in_err-name-clause-asked g t c =
-    let s = g.C.Checking.setting c.args.checking.now in
-    let v = c.args.level.now in
+    let s = g.C.Checking.setting c.args.walk.now.checking.now in
+    let v = c.args.walk.now.level in
     let p = err_from_is_err_and c.from_residual.result c.from_residual.ensures.1 in
     rw p.1 (within_none (cost_below s v.depth c.args.sublayout.now
     (folder_of c.args.step.now c.args.id.now v.links.now)) c.args.meter.now c.args.meter.now
@@ -499,8 +499,8 @@ sublayouts::verify_sublayout-returns-in_err-name-clause-asked g t c =
 
 pub sublayouts::verify_sublayout-returns-clause-asked : goal.sublayouts::verify_sublayout-returns-clause-asked
 sublayouts::verify_sublayout-returns-clause-asked g t c =
-    let s = g.C.Checking.setting c.args.checking.now in
-    let v = c.args.level.now in
+    let s = g.C.Checking.setting c.args.walk.now.checking.now in
+    let v = c.args.walk.now.level in
     let links = v.links.now in
     let name : c.as_str.result.now ≡ folder_name c.args.step.now c.args.id.now =
     c.as_str.ensures.value ∙ c.in_ok-name.ensures in
@@ -526,16 +526,16 @@ sublayouts::verify_sublayout-returns-clause-asked g t c =
 
 pub id_records::verify_id-returns-in_err-counted-clause-asked : goal.id_records::verify_id-returns-in_err-counted-clause-asked
 id_records::verify_id-returns-in_err-counted-clause-asked g t c =
-    let s = g.C.Checking.setting c.args.checking.now in
-    let l = c.args.level.now in
+    let s = g.C.Checking.setting c.args.walk.now.checking.now in
+    let l = c.args.walk.now.level in
     let p = err_from_is_err_and c.from_residual.result c.from_residual.ensures.1 in
     rw p.1 (candidates_raise s l.depth l.layout.now l.links.now c.args.step.now c.args.found.now
     c.args.signer.now.id.now 0 c.args.meter.now c.counted.new.meter c.in_err-counted.ensures.asked)
 
 pub id_records::verify_id-returns-in_err-copy-in-Several-clause-asked : goal.id_records::verify_id-returns-in_err-copy-in-Several-clause-asked
 id_records::verify_id-returns-in_err-copy-in-Several-clause-asked g t c =
-    let s = g.C.Checking.setting c.args.checking.now in
-    let l = c.args.level.now in
+    let s = g.C.Checking.setting c.args.walk.now.checking.now in
+    let l = c.args.walk.now.level in
     let p = err_from_is_err_and c.from_residual-in_err-copy-in-Several.result
     c.from_residual-in_err-copy-in-Several.ensures.1 in
     rw p.1 (candidates_raise s l.depth l.layout.now l.links.now c.args.step.now c.args.found.now
@@ -544,8 +544,8 @@ id_records::verify_id-returns-in_err-copy-in-Several-clause-asked g t c =
 
 pub id_records::verify_id-returns-in_err-copy-in-Several-2-clause-asked : goal.id_records::verify_id-returns-in_err-copy-in-Several-2-clause-asked
 id_records::verify_id-returns-in_err-copy-in-Several-2-clause-asked g t c =
-    let s = g.C.Checking.setting c.args.checking.now in
-    let l = c.args.level.now in
+    let s = g.C.Checking.setting c.args.walk.now.checking.now in
+    let l = c.args.walk.now.level in
     let p = err_from_is_err_and c.from_residual-in_err-copy-in-Several-2.result
     c.from_residual-in_err-copy-in-Several-2.ensures.1 in
     rw p.1 (candidates_raise s l.depth l.layout.now l.links.now c.args.step.now c.args.found.now
@@ -554,24 +554,24 @@ id_records::verify_id-returns-in_err-copy-in-Several-2-clause-asked g t c =
 
 pub id_records::verify_id-returns-in_ok-copy-in-Several-2-clause-asked : goal.id_records::verify_id-returns-in_ok-copy-in-Several-2-clause-asked
 id_records::verify_id-returns-in_ok-copy-in-Several-2-clause-asked g t c =
-    let s = g.C.Checking.setting c.args.checking.now in
-    let l = c.args.level.now in
+    let s = g.C.Checking.setting c.args.walk.now.checking.now in
+    let l = c.args.walk.now.level in
     candidates_raise s l.depth l.layout.now l.links.now c.args.step.now c.args.found.now
     c.args.signer.now.id.now 0 c.args.meter.now c.counted.new.meter
     (rw c.in-Several.is at c.in_ok-counted.ensures.asked)
 
 pub id_records::verify_id-returns-in-Nothing-clause-asked : goal.id_records::verify_id-returns-in-Nothing-clause-asked
 id_records::verify_id-returns-in-Nothing-clause-asked g t c =
-    let s = g.C.Checking.setting c.args.checking.now in
-    let l = c.args.level.now in
+    let s = g.C.Checking.setting c.args.walk.now.checking.now in
+    let l = c.args.walk.now.level in
     candidates_raise s l.depth l.layout.now l.links.now c.args.step.now c.args.found.now
     c.args.signer.now.id.now 0 c.args.meter.now c.counted.new.meter
     (rw c.in-Nothing.is at c.in_ok-counted.ensures.asked)
 
 pub id_records::verify_id-returns-in-One-clause-asked : goal.id_records::verify_id-returns-in-One-clause-asked
 id_records::verify_id-returns-in-One-clause-asked g t c =
-    let s = g.C.Checking.setting c.args.checking.now in
-    let l = c.args.level.now in
+    let s = g.C.Checking.setting c.args.walk.now.checking.now in
+    let l = c.args.walk.now.level in
     let one = one_counts (holds_below s l.depth) (fails_below s l.depth) s l.layout.now l.links.now
     c.args.step.now c.args.signer.now.id.now c.args.signer.now.object.now c.args.found.now
     c.requires.candidates c.requires.listed c.requires.known
@@ -587,8 +587,8 @@ id_records::verify_id-returns-in-One-clause-asked g t c =
 -- ---- the least that is asked
 pub level::verify_steps-returns-clause-fewest : goal.level::verify_steps-returns-clause-fewest
 level::verify_steps-returns-clause-fewest g t c =
-    let s = g.C.Checking.setting c.args.checking.now in
-    let v = c.args.level.now in
+    let s = g.C.Checking.setting c.args.walk.now.checking.now in
+    let v = c.args.walk.now.level in
     let steps = c.as_slice-step-items.result.now in
     let all : take c.loop-step.step-index steps ≡ v.layout.now.steps =
     take_all c.loop-step.step-index steps (omega arith) ∙ c.as_slice-step-items.ensures in
@@ -604,8 +604,8 @@ level::judge_level-returns-clause-records g t c = rw c.from-steps.ensures
 
 pub level::verify_step-returns-clause-fewest : goal.level::verify_step-returns-clause-fewest
 level::verify_step-returns-clause-fewest g t c =
-    let s = g.C.Checking.setting c.args.checking.now in
-    let v = c.args.level.now in
+    let s = g.C.Checking.setting c.args.walk.now.checking.now in
+    let v = c.args.walk.now.level in
     step_takes (fewest_below s v.depth) (one_fewest_below s v.depth) (some_fewest_below s v.depth)
     (holds_below s v.depth) s v.layout.now v.links.now c.args.step.now
     c.in_ok-records.records.items c.in_ok-records.ensures.answer.1
@@ -614,8 +614,8 @@ level::verify_step-returns-clause-fewest g t c =
 
 pub sublayouts::verify_sublayout-returns-clause-fewest : goal.sublayouts::verify_sublayout-returns-clause-fewest
 sublayouts::verify_sublayout-returns-clause-fewest g t c =
-    let s = g.C.Checking.setting c.args.checking.now in
-    let v = c.args.level.now in
+    let s = g.C.Checking.setting c.args.walk.now.checking.now in
+    let v = c.args.walk.now.level in
     let links = v.links.now in
     let name : c.as_str.result.now ≡ folder_name c.args.step.now c.args.id.now =
     c.as_str.ensures.value ∙ c.in_ok-name.ensures in
@@ -645,8 +645,8 @@ id_records::verify_id-returns-in-Nothing-clause-fewest g t c =
 
 pub id_records::verify_id-returns-in-One-clause-fewest : goal.id_records::verify_id-returns-in-One-clause-fewest
 id_records::verify_id-returns-in-One-clause-fewest g t c =
-    let s = g.C.Checking.setting c.args.checking.now in
-    let l = c.args.level.now in
+    let s = g.C.Checking.setting c.args.walk.now.checking.now in
+    let l = c.args.walk.now.level in
     let one = one_counts (holds_below s l.depth) (fails_below s l.depth) s l.layout.now l.links.now
     c.args.step.now c.args.signer.now.id.now c.args.signer.now.object.now c.args.found.now
     c.requires.candidates c.requires.listed c.requires.known

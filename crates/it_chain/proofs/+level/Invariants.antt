@@ -13,44 +13,44 @@ use Rattle.it_chain.proofs.SignerWalks.{AreWalked}
 use Rattle.it_chain.proofs.+level.Given as goal
 
 abbrev pub decreases-sublayouts::verify_sublayout : goal.decreases-sublayouts::verify_sublayout
-decreases-sublayouts::verify_sublayout g l = 8 * l.level.now.depth
+decreases-sublayouts::verify_sublayout g l = 8 * l.walk.now.level.depth
 
 abbrev pub decreases-sublayouts::verify_body : goal.decreases-sublayouts::verify_body
-decreases-sublayouts::verify_body g l = 8 * l.level.now.depth + 1
+decreases-sublayouts::verify_body g l = 8 * l.walk.now.level.depth + 1
 
 abbrev pub decreases-id_records::verify_id : goal.decreases-id_records::verify_id
-decreases-id_records::verify_id g l = 8 * l.level.now.depth + 2
+decreases-id_records::verify_id g l = 8 * l.walk.now.level.depth + 2
 
 abbrev pub decreases-id_records::verify_ids : goal.decreases-id_records::verify_ids
-decreases-id_records::verify_ids g l = 8 * l.level.now.depth + 3
+decreases-id_records::verify_ids g l = 8 * l.walk.now.level.depth + 3
 
 abbrev pub decreases-level::verify_step : goal.decreases-level::verify_step
-decreases-level::verify_step g l = 8 * l.level.now.depth + 4
+decreases-level::verify_step g l = 8 * l.walk.now.level.depth + 4
 
 abbrev pub decreases-level::verify_steps : goal.decreases-level::verify_steps
-decreases-level::verify_steps g l = 8 * l.level.now.depth + 5
+decreases-level::verify_steps g l = 8 * l.walk.now.level.depth + 5
 
 abbrev pub decreases-level::judge_level : goal.decreases-level::judge_level
-decreases-level::judge_level g l = 8 * l.level.now.depth + 6
+decreases-level::judge_level g l = 8 * l.walk.now.level.depth + 6
 
 abbrev pub decreases-level::verify_level : goal.decreases-level::verify_level
-decreases-level::verify_level g l = 8 * l.level.now.depth + 7
+decreases-level::verify_level g l = 8 * l.walk.now.level.depth + 7
 
 -- nothing stands at the steps so far, which hold with the results, no more was asked than
 -- they cost, and no less than they take
 abbrev pub invariant-level::verify_steps-loop-step : goal.invariant-level::verify_steps-loop-step
 invariant-level::verify_steps-loop-step g l =
-    let setting = g.C.Checking.setting l.checking in
-    let layout = l.level.layout.now in
-    let bundle = l.level.links.now in
+    let setting = g.C.Checking.setting l.walk.checking.now in
+    let layout = l.walk.level.layout.now in
+    let bundle = l.walk.level.links.now in
     record {
-      none : NoneAt (StandsAt setting l.level.depth layout bundle)
+      none : NoneAt (StandsAt setting l.walk.level.depth layout bundle)
           (flat_map (step_places layout) (take l.step-index l.step-items));
-      hold : AllZip (StepHolds (holds_below setting l.level.depth) setting layout bundle)
+      hold : AllZip (StepHolds (holds_below setting l.walk.level.depth) setting layout bundle)
           (take l.step-index l.step-items) l.results.items;
-      asked : RaisedWithin (key_total l.results.items) (LevelSum setting l.level.depth layout bundle
+      asked : RaisedWithin (key_total l.results.items) (LevelSum setting l.walk.level.depth layout bundle
           (take l.step-index l.step-items)) l.fn.meter l.meter;
-      fewest : RaisedAtLeast (FewestSum setting l.level.depth layout bundle
+      fewest : RaisedAtLeast (FewestSum setting l.walk.level.depth layout bundle
           (take l.step-index l.step-items)) l.fn.meter l.meter;
     }
 
@@ -58,15 +58,15 @@ invariant-level::verify_steps-loop-step g l =
 -- asked than they cost, and no less than the records take
 abbrev pub invariant-id_records::verify_ids-loop-signer : goal.invariant-id_records::verify_ids-loop-signer
 invariant-id_records::verify_ids-loop-signer g l =
-    let setting = g.C.Checking.setting l.checking in
-    let layout = l.level.layout.now in
-    let bundle = l.level.links.now in
+    let setting = g.C.Checking.setting l.walk.checking.now in
+    let layout = l.walk.level.layout.now in
+    let bundle = l.walk.level.links.now in
     record {
-      walked : AreWalked setting l.level.depth layout bundle l.step (take l.signer-index l.signers)
+      walked : AreWalked setting l.walk.level.depth layout bundle l.step (take l.signer-index l.signers)
           l.records.items;
       asked : RaisedWithin (length l.records.items)
-          (SignersSum setting l.level.depth layout bundle l.step l.found
+          (SignersSum setting l.walk.level.depth layout bundle l.step l.found
           (take l.signer-index l.signers)) l.fn.meter l.meter;
-      fewest : RaisedAtLeast (RecordsFewest (fewest_below setting l.level.depth) setting layout
+      fewest : RaisedAtLeast (RecordsFewest (fewest_below setting l.walk.level.depth) setting layout
           bundle l.step l.records.items) l.fn.meter l.meter;
     }

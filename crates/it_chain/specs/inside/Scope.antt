@@ -31,10 +31,10 @@ use Rattle.it_chain.specs.declared.body.Body.{Body as Held}
 use Rattle.it_chain.specs.declared.chain.Chain.{Chain as ChainOf}
 use Rattle.it_chain.specs.declared.chain.StepResult.{StepResult}
 use Rattle.it_chain.specs.declared.judged.JudgedChain.{JudgedChain}
-use Rattle.it_chain.specs.declared.level.Level.{Level}
 use Rattle.it_chain.specs.declared.record.IdRecord.{IdRecord}
 use Rattle.it_chain.specs.declared.refusal.ChainError.{ChainError}
 use Rattle.it_chain.specs.declared.refusal.ChainRefusal.{ChainRefusal}
+use Rattle.it_chain.specs.declared.walk.Walk.{Walk}
 
 -- what a level is checked with: setting, how deep sublayouts may be nested, layout and bundle
 pub record Scope : Type 0 where
@@ -43,13 +43,13 @@ pub record Scope : Type 0 where
   pub layout : Layout
   pub bundle : Contents
 
-abbrev pub scope_of : Setting → Level → Scope
-scope_of setting level =
+abbrev pub scope_of : {C : Type 0} → (C → Setting) → Walk C → Scope
+scope_of setting walk =
     record {
-      setting = setting;
-      depth = level.depth;
-      layout = level.layout.now;
-      bundle = level.links.now;
+      setting = setting walk.checking.now;
+      depth = walk.level.depth;
+      layout = walk.level.layout.now;
+      bundle = walk.level.links.now;
     }
 
 module _ (scope : Scope) where

@@ -25,7 +25,7 @@ returns-in_err-signed-clause-asked g c =
     let here = lent_item c.as_slice-envelope-items.result.now c.args.envelopes.now
     c.as_slice-envelope-items.ensures c.loop-envelope.envelope-index c.envelope-item.result
     c.loop-envelope-test.true c.envelope-item.is in
-    let panel = (g.C.Checking.setting c.args.checking.now).panel in
+    let panel = (g.C.Checking.setting c.args.walk.now.checking.now).panel in
     let p = err_from_is_err_and c.from_residual.result c.from_residual.ensures.1 in
     rw p.1 (asked_stopped panel c.args.signer.now.id.now c.args.signer.now.object.now
     c.args.envelopes.now c.loop-envelope.envelope-index c.envelope-item.result.now
@@ -38,7 +38,7 @@ returns-then-not-is_same_payload-clause-answer g c =
     let here = lent_item c.as_slice-envelope-items.result.now c.args.envelopes.now
     c.as_slice-envelope-items.ensures c.loop-envelope.envelope-index c.envelope-item.result
     c.loop-envelope-test.true c.envelope-item.is in
-    let panel = (g.C.Checking.setting c.args.checking.now).panel in
+    let panel = (g.C.Checking.setting c.args.walk.now.checking.now).panel in
     let i = c.loop-envelope.envelope-index in
     let all = c.args.envelopes.now in
     let new = c.envelope-item.result.now in
@@ -61,7 +61,7 @@ loop-envelope-preserved g c =
     let here = lent_item c.as_slice-envelope-items.result.now c.args.envelopes.now
     c.as_slice-envelope-items.ensures c.loop-envelope.envelope-index c.envelope-item.result
     c.loop-envelope-test.true c.envelope-item.is in
-    let panel = (g.C.Checking.setting c.args.checking.now).panel in
+    let panel = (g.C.Checking.setting c.args.walk.now.checking.now).panel in
     let step = c.args.step.now in
     let id = c.args.signer.now.id.now in
     let object = c.args.signer.now.object.now in
@@ -126,13 +126,13 @@ returns-in-Some-first-2-clause-answer g c =
     c.as_slice-envelope-items.ensures in
     let all : take c.loop-envelope.envelope-index c.args.envelopes.now ≡ c.args.envelopes.now =
     take_all c.loop-envelope.envelope-index c.args.envelopes.now (omega (arith, long, c.loop-envelope-test.false)) in
-    one_of (g.C.Checking.setting c.args.checking.now).panel c.args.step.now
+    one_of (g.C.Checking.setting c.args.walk.now.checking.now).panel c.args.step.now
     c.args.signer.now.id.now c.args.signer.now.object.now c.args.envelopes.now
     c.in-Some-first-2.found (rw (c.in-Some-first-2.is, all) at c.loop-envelope.invariant.so_far)
 
 pub loop-envelope-init : goal.loop-envelope-init
 loop-envelope-init g c = record {
-  so_far = none_so_far (g.C.Checking.setting c.args.checking.now).panel c.args.step.now
+  so_far = none_so_far (g.C.Checking.setting c.args.walk.now.checking.now).panel c.args.step.now
       c.args.signer.now.id.now c.args.signer.now.object.now;
   asked = within_none (SignaturesIn []) c.args.meter.now c.args.meter.now refl;
 }
@@ -142,7 +142,7 @@ returns-then-not-is_same_payload-clause-asked g c =
     let here = lent_item c.as_slice-envelope-items.result.now c.args.envelopes.now
     c.as_slice-envelope-items.ensures c.loop-envelope.envelope-index c.envelope-item.result
     c.loop-envelope-test.true c.envelope-item.is in
-    let panel = (g.C.Checking.setting c.args.checking.now).panel in
+    let panel = (g.C.Checking.setting c.args.walk.now.checking.now).panel in
     asked_last panel c.args.signer.now.id.now c.args.signer.now.object.now c.args.envelopes.now
     c.loop-envelope.envelope-index c.envelope-item.result.now here.0 here.1 c.args.meter.now c.loop-envelope.meter c.signed_body.new.meter
     (least_first c.loop-envelope.first) c.loop-envelope.invariant.asked

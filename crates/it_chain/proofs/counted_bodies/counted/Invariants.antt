@@ -6,7 +6,7 @@ use Rattle.it_chain.proofs.counted_bodies.counted.Given as goal
 -- what counts among the candidates so far, and how much was asked
 abbrev pub invariant-loop-envelope : goal.invariant-loop-envelope
 invariant-loop-envelope g l = record {
-  so_far : SoFar (g.C.Checking.setting l.checking).panel l.step
+  so_far : SoFar (g.C.Checking.setting l.walk.checking.now).panel l.step
       l.signer.id.now l.signer.object.now (take l.envelope-index l.envelopes) l.first;
   asked : RaisedWithin (least_first l.first) (SignaturesIn (take l.envelope-index l.envelopes))
       l.fn.meter l.meter;

@@ -21,7 +21,7 @@ returns-clause-ok g c = elim c.told_spent.ensures [
     record {
       inputs = c.in_ok-given.given.inputs;
       checks = _;
-      given = c.in_ok-given.ensures;
+      given = c.in_ok-given.ensures.given;
       is_output = rw c.in_ok-asked.ensures.form at told.1;
       stands = rw c.in_ok-asked.ensures.strict at stands;
     },
@@ -44,7 +44,7 @@ returns-clause-findings g c = λ is. elim c.told_spent.ensures [
         is_strict = rw c.in_ok-asked.ensures.strict at told.0;
         inputs = c.in_ok-given.given.inputs;
         checks = _;
-        given = c.in_ok-given.ensures;
+        given = c.in_ok-given.ensures.given;
         text = told.1;
         has_findings = rw c.in_ok-asked.ensures.form at told.2;
         goes_out = rw c.in_ok-asked.ensures.form at told.3;

@@ -3,8 +3,8 @@ use Rattle.it_rules.proofs.claims.claims.Goals as goal
 pub returns-in-Match : goal.returns-in-Match
 returns-in-Match c = rw c.in-Match.is
     (rw (
-      c.as_str-source.ensures,
+      c.as_str-in-Match-2.ensures,
       c.as_str-in-Match.ensures,
       c.as_str.ensures,
-      c.artifacts_on-artifacts.ensures,
+      c.artifacts_on.ensures,
     ) at c.match_claims.ensures)

@@ -8,7 +8,7 @@ use Rattle.it_rules.proofs.claims.match_claims.Goals as goal
 
 pub returns-then-not-matches : goal.returns-then-not-matches
 returns-then-not-matches c =
-    let none : ¬ IsMatch c.args.pattern.now c.in-Some.rest.now =
+    let none : ¬ IsMatch c.args.source.now.pattern.now c.in-Some.rest.now =
     λ m. (let t = c.matches.ensures.1 m in cc (t, c.if-not-matches.true)) in (
       λ h. absurd (cc h),
       λ m. absurd (no_match _ _ _ _ _ _ _ _ c.in-Some.rest.now c.in-Some.ensures none m),

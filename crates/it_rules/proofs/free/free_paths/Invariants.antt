@@ -8,6 +8,6 @@ use Rattle.it_rules.proofs.free.free_paths.Given as goal
 abbrev pub invariant-loop-rule : goal.invariant-loop-rule
 invariant-loop-rule l = record {
   free : (path : List ℕ) → IsLeft l.paths.items l.marks.items path
-      ↔ IsFree l.rules l.side (recorded_of l.item) (links_of l.links) l.rule-index path;
+      ↔ IsFree l.rules l.fn.side (recorded_of l.item) (links_of l.links) l.rule-index path;
   lengths : length l.marks.items ≡ length l.paths.items;
 }

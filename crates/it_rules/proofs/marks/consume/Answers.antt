@@ -13,24 +13,24 @@ use Rattle.it_rules.proofs.marks.consume.Goals.{else-not-marks-place-via-else-no
 
 pub loop-place-init : goal.loop-place-init
 loop-place-init c =
-    let range = c.in_ok-start.ensures c.args.side (recorded_of c.args.item.now)
-    (links_of c.args.links.now) in
+    let range = c.in_ok-start.ensures c.args.subject.now.side (recorded_of c.args.subject.now.item.now)
+    (links_of c.args.subject.now.links.now) in
     record {
       within = range.within;
-      marking = begins (Claims c.args.rule.now c.args.side (recorded_of c.args.item.now)
-          (links_of c.args.links.now)) c.args.paths.now c.args.marks.now _ _ range;
+      marking = begins (Claims c.args.rule.now c.args.subject.now.side (recorded_of c.args.subject.now.item.now)
+          (links_of c.args.subject.now.links.now)) c.args.paths.now c.args.marks.now _ _ range;
     }
 
 pub loop-place-preserved : goal.loop-place-preserved
 loop-place-preserved c =
-    let IsClaimed = Claims c.args.rule.now c.args.side (recorded_of c.args.item.now)
-    (links_of c.args.links.now) in
+    let IsClaimed = Claims c.args.rule.now c.args.subject.now.side (recorded_of c.args.subject.now.item.now)
+    (links_of c.args.subject.now.links.now) in
     let paths = c.args.paths.now in
     let place = c.loop-place.place in
     let within : place < length paths = omega arith in
     let path = get_or paths place (record { ref_ptr = (0, 0); now = [] }) in
     let here = slice_get-get_or paths place (record { ref_ptr = (0, 0); now = [] }) within in
-    let same = c.looked_at-looked.ensures.same c.args.side (recorded_of c.args.item.now) in
+    let same = c.looked_at-looked.ensures.same c.args.subject.now.side (recorded_of c.args.subject.now.item.now) in
     record {
       within = c.loop-place.invariant.within;
       marking = elim c.if-not-marks-place.branch [
@@ -54,9 +54,9 @@ loop-place-preserved c =
 
 pub returns : goal.returns
 returns c =
-    let range = c.in_ok-start.ensures c.args.side (recorded_of c.args.item.now)
-    (links_of c.args.links.now) in
-    all_marked (Claims c.args.rule.now c.args.side (recorded_of c.args.item.now)
-    (links_of c.args.links.now)) c.args.paths.now c.args.marks.now c.loop-place.marks
+    let range = c.in_ok-start.ensures c.args.subject.now.side (recorded_of c.args.subject.now.item.now)
+    (links_of c.args.subject.now.links.now) in
+    all_marked (Claims c.args.rule.now c.args.subject.now.side (recorded_of c.args.subject.now.item.now)
+    (links_of c.args.subject.now.links.now)) c.args.paths.now c.args.marks.now c.loop-place.marks
     c.loop-place.place c.in_ok-start.start c.in_ok-start.end range
     (omega arith) c.loop-place.invariant.marking

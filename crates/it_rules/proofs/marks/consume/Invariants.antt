@@ -7,6 +7,7 @@ use Rattle.it_rules.proofs.marks.consume.Given as goal
 abbrev pub invariant-loop-place : goal.invariant-loop-place
 invariant-loop-place l = record {
   within : l.end ≤ length l.paths;
-  marking : Marking (Claims l.rule l.side (recorded_of l.item) (links_of l.links)) l.paths
+  marking : Marking (Claims l.rule l.subject.side (recorded_of l.subject.item.now)
+      (links_of l.subject.links.now)) l.paths
       l.initial.marks l.marks l.place;
 }

@@ -1,5 +1,4 @@
 use Rattle.std.proofs.Common.{[], arith, refl}
-use Rattle.std.proofs.lemmas.List.Elements.{All-nil}
 use Rattle.it_vouched.proofs.Judging.{judged_more}
 use Rattle.it_vouched.proofs.judged_lines.judging_of.Goals as goal
 
@@ -9,7 +8,7 @@ loop-rest-init c = record {
   lines_are = refl;
   vouched = c.new-all.ensures.items;
   number_is = refl;
-  each = rw c.new-silent.ensures.items (All-nil _);
+  are_silent = c.new-silent.ensures.items;
   in_range = omega arith;
 }
 

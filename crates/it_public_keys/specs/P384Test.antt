@@ -1,5 +1,5 @@
--- Whether an ECDSA signature over P-384 is valid, as a test (FIPS 186-5, section 6.4.2). Its encoding
--- is the same as for P-256.
+-- Whether an ECDSA signature over P-384 is valid, as a test (FIPS 186-5, section 6.4.2). Its
+-- encoding is that of P256Test.
 use Rattle.std.specs.Prelude.{ℕ, ◌%◌, List, Bool, ◌&&◌, not, nat_eq, nat_lt, length}
 use Rattle.it_numbers.specs.Bytes.{big}
 use Rattle.it_p384_order.specs.Order.{group_order}

@@ -12,7 +12,7 @@ use Rattle.it_ed25519.specs.PublicKey.{IsPublicKey}
 use Rattle.it_pem.specs.Label.{HasLabel}
 use Rattle.it_pem.specs.PublicKeyText.{info_in}
 use Rattle.it_public_keys.specs.declared.key.Key.{Key}
-use Rattle.it_public_keys.specs.declared.key.Key.TheVariants.{Ed25519, P256, Rsa}
+use Rattle.it_public_keys.specs.declared.key.Key.TheVariants.{Ed25519, P256, P384, Rsa}
 use Rattle.it_key_commands.specs.KeyInfo.{IsNoEd25519Info, IsNoKeyInfo, ed25519_info}
 use Rattle.it_key_commands.specs.KeyInfo.{key_info, names_curves, names_p256, names_p384}
 use Rattle.it_key_commands.specs.KeyInfo.{names_p521, names_rsa, names_secp256k1}
@@ -59,6 +59,13 @@ key_object text (Ed25519 key) = record {
 key_object text (P256 key) = record {
   keytype = codes "ecdsa";
   scheme = codes "ecdsa-sha2-nistp256";
+  public = text;
+  identity = [];
+  issuer = [];
+}
+key_object text (P384 key) = record {
+  keytype = codes "ecdsa";
+  scheme = codes "ecdsa-sha2-nistp384";
   public = text;
   identity = [];
   issuer = [];
@@ -146,10 +153,10 @@ IsOfCurve info curves.P256 = IsTrue (names_p256 info)
 IsOfCurve info curves.P384 = IsTrue (names_p384 info)
 IsOfCurve info curves.P521 = IsTrue (names_p521 info)
 IsOfCurve info curves.Secp256k1 = IsTrue (names_secp256k1 info)
-IsOfCurve info curves.Other = IsFalse (names_p256 info)
+IsOfCurve info curves.Other = IsFalse (names_p256 info) × IsFalse (names_p384 info)
 
--- the info names elliptic curves, but is not that of a key: its curve is not P-256, or its point is
--- not on the curve or not written uncompressed
+-- the info names elliptic curves, but is not that of a key: its curve is neither P-256 nor P-384,
+-- or its point is not on the curve or not written uncompressed
 pub record IsBadCurveKey (info : List ℕ) (curve : Curve) : Type 0 where
   pub no_key : IsNoKeyInfo info
   pub curves : IsTrue (names_curves info)

@@ -3,10 +3,11 @@ use Rattle.std.specs.Prelude.{◌≡◌, ◌≢◌, ◌==◌, ℕ, List, [], ◌
 use Rattle.std.specs.Prelude.{length, nat_eq, slice_index}
 use Rattle.std.specs.List.{starts_with}
 use Rattle.it_p256.specs.Key.{info_of as p256_info, key_identifier}
+use Rattle.it_p384.specs.Key.{info_of as p384_info}
 use Rattle.it_rsa.specs.Info.{info_of as rsa_info}
 use Rattle.it_public_keys.specs.Keys.{IsKey}
 use Rattle.it_public_keys.specs.declared.key.Key.{Key}
-use Rattle.it_public_keys.specs.declared.key.Key.TheVariants.{Ed25519, P256, Rsa}
+use Rattle.it_public_keys.specs.declared.key.Key.TheVariants.{Ed25519, P256, P384, Rsa}
 
 -- the SubjectPublicKeyInfo of an Ed25519 key (RFC 8410, section 4): two lengths, the algorithm
 -- 1.3.101.112, and the 32 bytes of the key
@@ -18,6 +19,7 @@ ed25519_info key =
 abbrev pub key_info : Key → List ℕ
 key_info (Ed25519 key) = ed25519_info key
 key_info (P256 key) = p256_info key
+key_info (P384 key) = p384_info key
 key_info (Rsa key) = rsa_info key
 
 -- it is not a key's info

@@ -1,7 +1,7 @@
 -- What a signature is that was made elsewhere and is not valid for its key, as far as it is tried
 -- (what is tried is this profile's choice).
-use Rattle.std.specs.Prelude.{◌≡◌, ◌≢◌, ◌==◌, ℕ, List, [], ◌∷◌, ◌++◌, Some, Ok, codes, drop, length}
-use Rattle.std.specs.Prelude.{if◌then◌else◌, nat_lt, take}
+use Rattle.std.specs.Prelude.{◌≡◌, ◌≢◌, ◌⊎◌, ◌==◌, ◌+◌, ℕ, List, [], ◌∷◌, ◌++◌, Some, Ok, codes}
+use Rattle.std.specs.Prelude.{drop, if◌then◌else◌, length, nat_lt, take}
 use Rattle.std.specs.List.{filter}
 use Rattle.base64.specs.Engines.{standard}
 use Rattle.base64.specs.GeneralPurpose.{decoded_of}
@@ -52,6 +52,12 @@ unfoldable pub signature_form : (r s : List ℕ) → List ℕ
 signature_form r s =
     let both = integer_form r ++ integer_form s in 48 ∷ length both ∷ both
 
+-- bytes are as long as two numbers of that many bytes each: 32, as the order of P-256 has, or 48,
+-- as that of P-384 has
+pub record AreHalves (numbers : List ℕ) (half : ℕ) : Type 0 where
+  pub of_curve : (half ≡ 32) ⊎ (half ≡ 48)
+  pub long : length numbers ≡ half + half
+
 -- a valid signature of the message in another form: its base64 text (RFC 4648, section 4) or its
 -- hexadecimal text (section 8), each without white space, or the two numbers of one by ECDSA
 module _ (object : KeyObject) (message signature : List ℕ) where
@@ -66,8 +72,10 @@ module _ (object : KeyObject) (message signature : List ℕ) where
     pub valid : IsValidFor object message bytes
 
   pub record AreNumbers : Type 0 where
-    pub long : length signature ≡ 64
-    pub valid : IsValidFor object message (signature_form (take 32 signature) (drop 32 signature))
+    pub half : ℕ
+    pub halves : AreHalves signature half
+    pub valid : IsValidFor object message
+        (signature_form (take half signature) (drop half signature))
 
 -- a signature of the message by the RSA key that the object describes, in a form that is not taken:
 -- by RSASSA-PKCS1-v1_5 (RFC 8017, section 8.2), or by RSASSA-PSS with a salt of another length than

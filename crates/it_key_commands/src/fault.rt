@@ -39,8 +39,8 @@ pub enum SignatureFlaw {
     /// The hexadecimal text (RFC 4648, section 8) of a valid signature.
     #[error("it is the hexadecimal text of one (xxd -r -p writes its bytes)")]
     Hexadecimal,
-    /// The two numbers of a valid ECDSA signature in 32 bytes each.
-    #[error("it is the two numbers of one in 64 bytes, and not their DER encoding")]
+    /// The two numbers of a valid ECDSA signature, in 32 bytes each for P-256 and 48 for P-384.
+    #[error("it is the two numbers of one in 64 or 96 bytes, and not their DER encoding")]
     TwoNumbers,
     /// A signature of the body itself.
     #[error("it is one of the body itself, and not of what itv pae writes of it")]
@@ -72,15 +72,15 @@ pub enum FileFault {
     /// It is a PEM text of another label.
     #[error("{0}")]
     Other(OtherText),
-    /// It is a public key of another kind than Ed25519, ECDSA over P-256 and RSA.
-    #[error("a public key of another kind (use Ed25519, ECDSA over P-256 or RSA)")]
+    /// It is a public key of another kind than Ed25519, ECDSA over P-256 or P-384, and RSA.
+    #[error("a public key of another kind (use Ed25519, ECDSA over P-256 or P-384, or RSA)")]
     OtherKind,
     /// It has the form of an Ed25519 key, but its point is not a key: undecodable (RFC 8032,
     /// section 5.1.3), or of small order.
     #[error("an Ed25519 key whose point is not on the curve, or of small order (make a new one)")]
     BadPoint,
-    /// It is an elliptic-curve key, but not a P-256 key whose point is on the curve and written
-    /// uncompressed (RFC 5480, section 2.2).
+    /// It is an elliptic-curve key, but not a key of P-256 or P-384 whose point is on the curve and
+    /// written uncompressed (RFC 5480, section 2.2).
     #[error("{0}")]
     BadCurveKey(Curve),
     /// It is an RSA key, but its modulus does not have 2,048 to 4,096 bits in whole bytes, or its
@@ -97,7 +97,8 @@ pub enum OtherFile {
     #[error("empty")]
     Empty,
     /// A public key as OpenSSH writes it (RFC 4253, section 6.6).
-    #[error("a public key of OpenSSH (ssh-keygen -e -m PKCS8 writes one of RSA or P-256 in PEM)")]
+    #[error("a public key of OpenSSH \
+         (ssh-keygen -e -m PKCS8 writes one of RSA, P-256 or P-384 in PEM)")]
     OpenSsh,
     /// A JSON object, as a JWK (RFC 7517) or a file of keys.
     #[error("a JSON object, such as a JWK or a file of keys, and not a public key in PEM")]
@@ -121,17 +122,21 @@ pub enum Curve {
     #[error("a key of P-256 that is not an uncompressed point on the curve \
          (openssl pkey -pubin -pubout -ec_conv_form uncompressed writes a compressed one so)")]
     P256,
-    /// P-384.
-    #[error("a key of the curve P-384 (make a new one: of elliptic curves only P-256 is taken)")]
+    /// P-384, of which the same holds.
+    #[error("a key of P-384 that is not an uncompressed point on the curve \
+         (openssl pkey -pubin -pubout -ec_conv_form uncompressed writes a compressed one so)")]
     P384,
     /// P-521.
-    #[error("a key of the curve P-521 (make a new one: of elliptic curves only P-256 is taken)")]
+    #[error("a key of the curve P-521 \
+         (make a new one: of elliptic curves only P-256 and P-384 are taken)")]
     P521,
     /// The curve secp256k1.
-    #[error("a key of secp256k1 (make a new one: of elliptic curves only P-256 is taken)")]
+    #[error("a key of secp256k1 \
+         (make a new one: of elliptic curves only P-256 and P-384 are taken)")]
     Secp256k1,
     /// Any other.
-    #[error("a key of another elliptic curve than P-256 (make a new one: only P-256 is taken)")]
+    #[error("a key of another elliptic curve than P-256 and P-384 \
+         (make a new one: only these two are taken)")]
     Other,
 }
 

@@ -135,6 +135,7 @@ impl FileKey<'_> {
         match &self.key {
             Key::Ed25519(key) => ed25519_object(alloc, key),
             Key::P256(_) => text_object(alloc, "ecdsa", "ecdsa-sha2-nistp256", self.text),
+            Key::P384(_) => text_object(alloc, "ecdsa", "ecdsa-sha2-nistp384", self.text),
             Key::Rsa(_) => text_object(alloc, "rsa", "rsassa-pss-sha256", self.text),
         }
     }

@@ -43,6 +43,9 @@ pub(crate) fn key_of(info: &[u8]) -> Result<Key, FileFault>
     if let Some(key) = it_p256::PublicKey::from_info(info) {
         return Ok(Key::P256(key));
     }
+    if let Some(key) = it_p384::PublicKey::from_info(info) {
+        return Ok(Key::P384(key));
+    }
     match it_rsa::PublicKey::from_info(info) {
         Some(key) => Ok(Key::Rsa(key)),
         None => Err(other_fault(info)),

@@ -4,7 +4,8 @@ ghost use Rattle.base64.specs.Engines.{standard};
 ghost use Rattle.base64.specs.GeneralPurpose.{decoded_of};
 ghost use Rattle.hex.specs.Hex.{decode_of};
 ghost use Rattle.it_dsse.specs.Pae.{pae_of};
-ghost use Rattle.it_key_commands.specs.SignatureFlaw.{AreNumbers, IsBase64, IsHexadecimal};
+ghost use Rattle.it_key_commands.specs.SignatureFlaw.{AreHalves, AreNumbers, IsBase64};
+ghost use Rattle.it_key_commands.specs.SignatureFlaw.{IsHexadecimal};
 ghost use Rattle.it_key_commands.specs.SignatureFlaw.{IsSignatureFlaw, without_space};
 ghost use Rattle.it_key_commands.specs.Signers.{IsValidFor};
 
@@ -92,11 +93,22 @@ fn are_numbers(
 ) -> Result<bool, AllocError>
     ensures { IfOk result (λ are. IsTrue are → AreNumbers object.now message.now numbers.now) }
 {
-    if numbers.len() != 64 {
+    let Some(half) = half_of(numbers) else {
         return Ok(false);
-    }
-    let form = signature_form(alloc, numbers)?;
+    };
+    let form = signature_form(alloc, numbers, half)?;
     Ok(is_valid_for(object, message, form.as_slice()))
+}
+
+/// In how many bytes each of the two numbers of an ECDSA signature is, where these may be the two.
+fn half_of(numbers: &[u8]) -> Option<usize>
+    ensures { IfSome result (AreHalves numbers.now) }
+{
+    match numbers.len() {
+        64 => Some(32),
+        96 => Some(48),
+        _ => None,
+    }
 }
 
 /// A type under which the signature is valid for the body.

@@ -5,14 +5,19 @@ ghost use Rattle.it_key_commands.specs.SignatureFlaw.{signature_form};
 
 use std::alloc::{AllocError, Global};
 
-/// The ECDSA-Sig-Value (RFC 3279, section 2.2.3) of two numbers of 32 bytes each, in DER.
+/// The ECDSA-Sig-Value (RFC 3279, section 2.2.3) of two numbers of `half` bytes each, in DER.
 #[tactic(auto, unfolding(crate::specs::SignatureFlaw::signature_form))]
-pub(crate) fn signature_form(alloc: Global, numbers: &[u8]) -> Result<Vec<u8>, AllocError>
-    requires { length numbers.now ≡ 64 }
+pub(crate) fn signature_form(
+    alloc: Global,
+    numbers: &[u8],
+    half: usize,
+) -> Result<Vec<u8>, AllocError>
+    requires few { half ≤ 48 }
+    requires two { length numbers.now ≡ half + half }
     ensures { IfOk result
-        (λ form. form.items ≡ signature_form (take 32 numbers.now) (drop 32 numbers.now)) }
+        (λ form. form.items ≡ signature_form (take half numbers.now) (drop half numbers.now)) }
 {
-    let (r, s) = numbers.split_at(32);
+    let (r, s) = numbers.split_at(half);
     let mut both = Vec::new(alloc);
     push_integer(&mut both, r)?;
     push_integer(&mut both, s)?;
@@ -26,9 +31,9 @@ pub(crate) fn signature_form(alloc: Global, numbers: &[u8]) -> Result<Vec<u8>, A
 /// Appends a number as an INTEGER in DER (X.690, section 8.3).
 #[tactic(auto, unfolding(crate::specs::SignatureFlaw::integer_form))]
 fn push_integer(form: &mut Vec<u8>, number: &[u8]) -> Result<(), AllocError>
-    requires { length number.now ≤ 32 }
+    requires { length number.now ≤ 48 }
     ensures form { OnOk result (form.new.items ≡ form.old.items ++ integer_form number.now) }
-    ensures few { OnOk result (length form.new.items ≤ length form.old.items + 35) }
+    ensures few { OnOk result (length form.new.items ≤ length form.old.items + 51) }
 {
     let digits = shortest(number);
     let padding = padding_of(digits);

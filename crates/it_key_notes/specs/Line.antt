@@ -4,8 +4,8 @@ use Rattle.it_report.specs.Name.{cut_form}
 use Rattle.it_key_notes.specs.declared.reason.Reason.{Reason}
 use Rattle.it_key_notes.specs.declared.reason.Reason.TheVariants.{OtherScheme, NoSecret, PublicKey}
 use Rattle.it_key_notes.specs.declared.reason.Reason.TheVariants.{NoDigits, NoEd25519Key}
-use Rattle.it_key_notes.specs.declared.reason.Reason.TheVariants.{NoPemText, NoP256Key, NoRsaKey}
-use Rattle.it_key_notes.specs.declared.reason.Reason.TheVariants.{Identity, NoIdentity}
+use Rattle.it_key_notes.specs.declared.reason.Reason.TheVariants.{NoPemText, NoP256Key, NoP384Key}
+use Rattle.it_key_notes.specs.declared.reason.Reason.TheVariants.{NoRsaKey, Identity, NoIdentity}
 use Rattle.it_key_notes.specs.declared.unknown_key.UnknownKey.{UnknownKey}
 
 -- what is said of the object
@@ -18,6 +18,8 @@ phrase_of NoEd25519Key = codes ": its public is no Ed25519 key: no point, or one
 phrase_of NoPemText = codes ": its public does not read as a PEM text of a public key"
 phrase_of NoP256Key =
     codes ": its PEM text is no P-256 key that is taken: an uncompressed point of the curve"
+phrase_of NoP384Key =
+    codes ": its PEM text is no P-384 key that is taken: an uncompressed point of the curve"
 phrase_of NoRsaKey =
     codes ": its PEM text is no RSA key that is taken: of 2,048 to 4,096 bits, in whole bytes"
 phrase_of Identity = codes ": an identity, which is checked with --trusted-root"

@@ -7,6 +7,7 @@ use Rattle.it_dsse.specs.declared.key_object.KeyObject.{KeyObject}
 use Rattle.it_ed25519.specs.PublicKey.{IsPublicKey}
 use Rattle.it_identity.specs.Identity.{IsShort}
 use Rattle.it_p256.specs.Key.{Key as P256Key, IsKey as IsP256Key, info_of as p256_info}
+use Rattle.it_p384.specs.Key.{Key as P384Key, IsKey as IsP384Key, info_of as p384_info}
 use Rattle.it_pem.specs.PublicKeyText.{info_in}
 use Rattle.it_rsa.specs.Info.{info_of as rsa_info}
 use Rattle.it_rsa.specs.Key.{Key as RsaKey, IsKey as IsRsaKey}
@@ -17,8 +18,8 @@ use Rattle.it_public_keys.specs.declared.key.Key.{Key}
 use Rattle.it_key_notes.specs.declared.reason.Reason.{Reason}
 use Rattle.it_key_notes.specs.declared.reason.Reason.TheVariants.{OtherScheme, NoSecret, PublicKey}
 use Rattle.it_key_notes.specs.declared.reason.Reason.TheVariants.{NoDigits, NoEd25519Key}
-use Rattle.it_key_notes.specs.declared.reason.Reason.TheVariants.{NoPemText, NoP256Key, NoRsaKey}
-use Rattle.it_key_notes.specs.declared.reason.Reason.TheVariants.{Identity, NoIdentity}
+use Rattle.it_key_notes.specs.declared.reason.Reason.TheVariants.{NoPemText, NoP256Key, NoP384Key}
+use Rattle.it_key_notes.specs.declared.reason.Reason.TheVariants.{NoRsaKey, Identity, NoIdentity}
 
 -- the scheme of a ring's keys, one of those of public keys, or that of identities
 abbrev pub IsCheckedScheme : List ℕ → Type 0
@@ -28,7 +29,8 @@ IsCheckedScheme scheme =
 -- a scheme whose keys are PEM texts
 abbrev pub IsPemScheme : List ℕ → Type 0
 IsPemScheme scheme =
-    (scheme ≡ codes "ecdsa-sha2-nistp256") ⊎ (scheme ≡ codes "rsassa-pss-sha256")
+    (scheme ≡ codes "ecdsa-sha2-nistp256") ⊎ (scheme ≡ codes "ecdsa-sha2-nistp384")
+    ⊎ (scheme ≡ codes "rsassa-pss-sha256")
 
 module _ (object : KeyObject) where
   -- the object has this scheme, which no check knows
@@ -66,6 +68,13 @@ module _ (object : KeyObject) where
     pub info_is : info_in object.public ≡ Some info
     pub no_key : (key : P256Key) → IsP256Key key → info ≡ p256_info key → ⊥
 
+  -- its PEM text is no P-384 key (RFC 5480, section 2)
+  pub record HasNoP384Key : Type 0 where
+    pub info : List ℕ
+    pub scheme_is : object.scheme ≡ codes "ecdsa-sha2-nistp384"
+    pub info_is : info_in object.public ≡ Some info
+    pub no_key : (key : P384Key) → IsP384Key key → info ≡ p384_info key → ⊥
+
   -- its PEM text is no RSA key that is accepted (RFC 3279, section 2.3.1)
   pub record HasNoRsaKey : Type 0 where
     pub info : List ℕ
@@ -93,6 +102,7 @@ module _ (object : KeyObject) where
   IsReason NoEd25519Key = HasNoEd25519Key
   IsReason NoPemText = HasNoPemText
   IsReason NoP256Key = HasNoP256Key
+  IsReason NoP384Key = HasNoP384Key
   IsReason NoRsaKey = HasNoRsaKey
   IsReason Identity = IsOfIdentity
   IsReason NoIdentity = HasNoIdentity

@@ -40,6 +40,9 @@ fn phrase(reason: &Reason) -> &'static str
         Reason::NoP256Key => {
             ": its PEM text is no P-256 key that is taken: an uncompressed point of the curve"
         }
+        Reason::NoP384Key => {
+            ": its PEM text is no P-384 key that is taken: an uncompressed point of the curve"
+        }
         Reason::NoRsaKey => {
             ": its PEM text is no RSA key that is taken: of 2,048 to 4,096 bits, in whole bytes"
         }

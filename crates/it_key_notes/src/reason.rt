@@ -18,6 +18,8 @@ pub enum Reason {
     NoPemText,
     /// Its public part is a PEM text, of bytes that are no P-256 key.
     NoP256Key,
+    /// Its public part is a PEM text, of bytes that are no P-384 key.
+    NoP384Key,
     /// Its public part is a PEM text, of bytes that are no RSA key.
     NoRsaKey,
     /// It describes an identity: those are checked only with a trusted root.

@@ -18,6 +18,7 @@ pub(crate) fn reason_of(alloc: Global, object: &KeyObject) -> Result<Reason, All
         "hmac-sha256" => Ok(Reason::NoSecret),
         "ed25519" => Ok(ed25519_reason(object)),
         "ecdsa-sha2-nistp256" => Ok(p256_reason(object)),
+        "ecdsa-sha2-nistp384" => Ok(p384_reason(object)),
         "rsassa-pss-sha256" => Ok(rsa_reason(object)),
         "Fulcio" => identity_reason(alloc, object),
         other => Ok(Reason::OtherScheme(Text::copy(alloc, other)?)),
@@ -47,6 +48,19 @@ fn p256_reason(object: &KeyObject) -> Reason
     match it_p256::PublicKey::from_info(info.as_bytes()) {
         Some(_) => Reason::PublicKey,
         None => Reason::NoP256Key,
+    }
+}
+
+fn p384_reason(object: &KeyObject) -> Reason
+    requires { object.now.scheme ≡ codes "ecdsa-sha2-nistp384" }
+    ensures { IsReason object.now result }
+{
+    let Some(info) = public_key_info(object.public.as_str()) else {
+        return Reason::NoPemText;
+    };
+    match it_p384::PublicKey::from_info(info.as_bytes()) {
+        Some(_) => Reason::PublicKey,
+        None => Reason::NoP384Key,
     }
 }
 

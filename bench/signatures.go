@@ -13,6 +13,7 @@ import (
 	"crypto/ed25519"
 	"crypto/rsa"
 	"crypto/sha256"
+	"crypto/sha512"
 	"crypto/x509"
 	"encoding/hex"
 	"encoding/json"
@@ -43,6 +44,11 @@ func (v vector) holds() bool {
 	read, err := x509.ParsePKIXPublicKey(key)
 	if err != nil {
 		log.Fatal(err)
+	}
+	if v.Kind == "p384" {
+		digest := sha512.Sum384(message)
+		public, isCurve := read.(*ecdsa.PublicKey)
+		return isCurve && ecdsa.VerifyASN1(public, digest[:], signature)
 	}
 	digest := sha256.Sum256(message)
 	switch public := read.(type) {

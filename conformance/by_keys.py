@@ -9,23 +9,24 @@ import json
 
 from cases import DELIVER, case, good
 from deliveries import TYPE, compact, envelope, layout, policy, statement, step
-from signing_keys import Ed25519Key, P256Key, RsaKey, pem
+from signing_keys import Ed25519Key, P256Key, P384Key, RsaKey, pem
 
 PRODUCTS = [["CREATE", "app"], ["DISALLOW", "*"]]
 ACCEPTED = ["accepted", "step build 1", "file app"]
 KINDS = {Ed25519Key: ("ed25519", "ed25519"), P256Key: ("ecdsa", "ecdsa-sha2-nistp256"),
-         RsaKey: ("rsa", "rsassa-pss-sha256")}
+         P384Key: ("ecdsa", "ecdsa-sha2-nistp384"), RsaKey: ("rsa", "rsassa-pss-sha256")}
 
 NO_DIGITS = "its public is not 64 hexadecimal digits"
 NO_ED25519 = "its public is no Ed25519 key: no point, or one of small order"
 NO_PEM = "its public does not read as a PEM text of a public key"
 NO_P256 = "its PEM text is no P-256 key that is taken: an uncompressed point of the curve"
+NO_P384 = "its PEM text is no P-384 key that is taken: an uncompressed point of the curve"
 NO_RSA = "its PEM text is no RSA key that is taken: of 2,048 to 4,096 bits, in whole bytes"
 NO_SECRET = "no ring has the secret of it"
 NOT_ASKED = "a public key, which is checked with --public-keys"
 NO_BUILDER = "provenance line 1: none of the expected builders signed it"
 
-ed25519, p256, rsa = (functools.cache(kind) for kind in KINDS)
+ed25519, p256, p384, rsa = (functools.cache(kind) for kind in KINDS)
 
 
 def public_text(made):

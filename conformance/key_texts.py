@@ -2,11 +2,16 @@
 
 import base64
 
-# The public key of RFC 8032, section 7.1, test 1, and the base point of P-256 (SP 800-186, section
-# 3.2.1.3), which is a key like any other point.
+# The public key of RFC 8032, section 7.1, test 1, and the base points of P-256 and P-384 (SP 800-186,
+# sections 3.2.1.3 and 3.2.1.4), which are keys like any other points.
 DIGITS = "d75a980182b10ab7d54bfed3c964073a0ee172f3daa62325af021a68f707511a"
 X = "6b17d1f2e12c4247f8bce6e563a440f277037d812deb33a0f4a13945d898c296"
 Y = "4fe342e2fe1a7f9b8ee7eb4a7c0f9e162bce33576b315ececbb6406837bf51f5"
+
+X384 = ("aa87ca22be8b05378eb1c71ef320ad746e1d3b628ba79b98"
+        "59f741e082542a385502f25dbf55296c3a545e3872760ab7")
+Y384 = ("3617de4a96262c6f5d9e98bf9292dc29f8f41dbd289a147c"
+        "e9da3113b5f0b8c00a60b1ce1d7e819d7a431d7c90ea0e5f")
 
 # The identifiers of keys in DER: of P-256, P-384 and P-521 (RFC 5480), of secp256k1 (SEC 2), of
 # brainpoolP256r1 (RFC 5639), of RSA (RFC 3279), and of Ed25519 and X25519 (RFC 8410).
@@ -38,6 +43,11 @@ def pem(algorithm, bits, label="PUBLIC KEY"):
 def point(coordinates):
     """The PEM text of a key of P-256."""
     return pem(P256, bytes.fromhex(coordinates))
+
+
+def point384(coordinates):
+    """The PEM text of a key of P-384."""
+    return pem(P384, bytes.fromhex(coordinates))
 
 
 def modulus(bits, exponent=65537):

@@ -16,12 +16,12 @@ from cryptography.hazmat.primitives.asymmetric import ec, padding
 import by_keys
 from on_disk import bytes_of
 from peer_documents import Inexpressible, canonical, document_of
-from signing_keys import Ed25519Key, P256Key, RsaKey
+from signing_keys import Ed25519Key, P256Key, P384Key, RsaKey
 
 # Whose public keys of each kind the cases have.
 MANY = ["owner", "builder", "worker", "other"]
 HOLDERS = {by_keys.ed25519: [*MANY, "alice", "bob", "dave"], by_keys.p256: [*MANY, "bob", "inner"],
-           by_keys.rsa: [*MANY, "carol"]}
+           by_keys.p384: [*MANY, "erin"], by_keys.rsa: [*MANY, "carol"]}
 ALGORITHMS = ["sha256", "sha512"]
 
 ed25519 = functools.cache(Ed25519Key)
@@ -52,6 +52,8 @@ def has_signed(key, sig, message):
             key.private.public_key().verify(sig, message)
         elif isinstance(key, P256Key):
             key.public.verify(sig, message, ec.ECDSA(hashes.SHA256()))
+        elif isinstance(key, P384Key):
+            key.public.verify(sig, message, ec.ECDSA(hashes.SHA384()))
         else:
             form = padding.PSS(padding.MGF1(hashes.SHA256()), 32)
             key.public.verify(sig, message, form, hashes.SHA256())

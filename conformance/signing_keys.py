@@ -1,6 +1,6 @@
-"""Keys of three kinds from fixed seeds, whose signatures are the same each time.
+"""Keys of four kinds from fixed seeds, whose signatures are the same each time.
 
-The kinds are Ed25519, ECDSA over P-256 and RSASSA-PSS. The seed of a key is its holder's name.
+The kinds are Ed25519, ECDSA over P-256 with SHA-256 and over P-384 with SHA-384, and RSASSA-PSS. The seed of a key is its holder's name.
 Needs the package `cryptography`, which signs by Ed25519 and by ECDSA (RFC 6979), and checks each
 signature that is made here by RFC 8017.
 """
@@ -11,7 +11,10 @@ from cryptography.hazmat.primitives import hashes, serialization
 from cryptography.hazmat.primitives.asymmetric import ec, padding, rsa, utils
 from cryptography.hazmat.primitives.asymmetric.ed25519 import Ed25519PrivateKey
 
-ORDER = 0xFFFFFFFF00000000FFFFFFFFFFFFFFFFBCE6FAADA7179E84F3B9CAC2FC632551
+# The orders of the base points (SP 800-186, sections 3.2.1.3 and 3.2.1.4).
+P256_ORDER = 0xFFFFFFFF00000000FFFFFFFFFFFFFFFFBCE6FAADA7179E84F3B9CAC2FC632551
+P384_ORDER = int("FFFFFFFFFFFFFFFFFFFFFFFFFFFFFFFFFFFFFFFFFFFFFFFF"
+                 "C7634D81F4372DDF581A0DB248B0A77AECEC196ACCC52973", 16)
 
 
 def stream(seed, size):
@@ -52,10 +55,10 @@ def pem(key):
     return key.public.public_bytes(serialization.Encoding.PEM, form).decode()
 
 
-def order_less(sig):
+def order_less(sig, order=P256_ORDER):
     """The ECDSA signature with the order less its second number, which is valid too."""
     first, second = utils.decode_dss_signature(sig)
-    return utils.encode_dss_signature(first, ORDER - second)
+    return utils.encode_dss_signature(first, order - second)
 
 
 class Ed25519Key:
@@ -76,13 +79,26 @@ class P256Key:
     """A key of ECDSA over P-256."""
 
     def __init__(self, who):
-        number = int.from_bytes(hashlib.sha256(who.encode()).digest(), "big") % (ORDER - 1) + 1
+        number = int.from_bytes(hashlib.sha256(who.encode()).digest(), "big") % (P256_ORDER - 1) + 1
         self.private = ec.derive_private_key(number, ec.SECP256R1())
         self.public = self.private.public_key()
 
     def sign(self, body):
         """The signature of a body by RFC 6979."""
         return self.private.sign(body, ec.ECDSA(hashes.SHA256(), deterministic_signing=True))
+
+
+class P384Key:
+    """A key of ECDSA over P-384."""
+
+    def __init__(self, who):
+        number = int.from_bytes(hashlib.sha384(who.encode()).digest(), "big") % (P384_ORDER - 1) + 1
+        self.private = ec.derive_private_key(number, ec.SECP384R1())
+        self.public = self.private.public_key()
+
+    def sign(self, body, digest=hashes.SHA384):
+        """The signature of a body by RFC 6979, with SHA-384, or with another digest."""
+        return self.private.sign(body, ec.ECDSA(digest(), deterministic_signing=True))
 
 
 class RsaKey:

@@ -14,9 +14,12 @@ import sys
 sys.path[:0] = [str(pathlib.Path(__file__).resolve().parent.parent / name)
                 for name in ("bench", "conformance")]
 from deliveries import MOMENT, TYPE, compact, digest, link, statement, step
-from signing_keys import Ed25519Key, P256Key, RsaKey, order_less, pem
+from signing_keys import (P256_ORDER, P384_ORDER, Ed25519Key, P256Key, P384Key, RsaKey,
+                          order_less, pem)
 
-SCHEMES = ["hmac-sha256", "ed25519", "ecdsa-sha2-nistp256", "rsassa-pss-sha256"]
+SCHEMES = ["hmac-sha256", "ed25519", "ecdsa-sha2-nistp256", "rsassa-pss-sha256",
+           "ecdsa-sha2-nistp384"]
+ORDERS = {SCHEMES[2]: P256_ORDER, SCHEMES[4]: P384_ORDER}
 SECRETS = {"h0": b"h0", "h1": b"one secret", "h2": b"one secret\0"}
 IDS = ["a", "b", "c", "d", "h0", "h1", "h2", "longer-than-eight", "longer-than-seven"]
 
@@ -79,14 +82,15 @@ def holders():
     digits = [InDigits(Ed25519Key(who)) for who in ("e0", "e1", "e2")]
     ecdsa = [InPem(P256Key(who), SCHEMES[2]) for who in ("p0", "p1", "p2")]
     pss = [InPem(RsaKey(*of), SCHEMES[3]) for of in [("r0",), ("r0", 3), ("r1",)]]
-    return [*map(Secret, SECRETS), *digits, *ecdsa, *pss]
+    longer = [InPem(P384Key(who), SCHEMES[4]) for who in ("q0", "q1", "q2")]
+    return [*map(Secret, SECRETS), *digits, *ecdsa, *pss, *longer]
 
 
 def damaged(dice, made):
     """A key object with another scheme, another text or other damage."""
     text = made["keyval"]["public"]
     return {**made, **dice.choice([
-        {"scheme": dice.choice(SCHEMES + ["ecdsa-sha2-nistp384"])}, {"keytype": "unknown"},
+        {"scheme": dice.choice(SCHEMES + ["ecdsa-sha2-nistp521"])}, {"keytype": "unknown"},
         {"keyval": {"public": text[:-1]}}, {"keyval": {"public": text + " "}},
         {"keyval": {}}, {"keyval": {"public": "01" + "00" * 31}},
         {"keyval": {"public": text.replace("A", "B", 1)}}, {"keyid": "a"}])}
@@ -122,8 +126,8 @@ class Dice:
         if self.is_wrong():
             holder = self.dice.choice(holders())
         sig = holder.sign(message)
-        if holder.scheme == SCHEMES[2] and self.dice.random() < 0.3:
-            sig = order_less(sig)
+        if holder.scheme in ORDERS and self.dice.random() < 0.3:
+            sig = order_less(sig, ORDERS[holder.scheme])
         if self.is_wrong():
             place = self.dice.randrange(len(sig))
             flipped = bytes([sig[place] ^ 1 << self.dice.randrange(8)])

@@ -50,10 +50,15 @@ def info_in(text):
         return None
 
 
+# The curve of each scheme of ECDSA, and the digest that is signed.
+CURVES = {"ecdsa-sha2-nistp256": (ec.SECP256R1, hashes.SHA256),
+          "ecdsa-sha2-nistp384": (ec.SECP384R1, hashes.SHA384)}
+
+
 def is_taken(key, scheme):
     """Whether a key is one that is checked under a scheme."""
-    if scheme == "ecdsa-sha2-nistp256":
-        return isinstance(key, ec.EllipticCurvePublicKey) and isinstance(key.curve, ec.SECP256R1)
+    if scheme in CURVES:
+        return isinstance(key, ec.EllipticCurvePublicKey) and isinstance(key.curve, CURVES[scheme][0])
     if scheme != "rsassa-pss-sha256" or not isinstance(key, rsa.RSAPublicKey):
         return False
     numbers = key.public_numbers()
@@ -116,8 +121,8 @@ def is_valid(key, message, sig):
     try:
         if scheme == "ed25519":
             Ed25519PublicKey.from_public_bytes(number).verify(sig, message)
-        elif scheme == "ecdsa-sha2-nistp256":
-            load_der_public_key(number).verify(sig, message, ec.ECDSA(hashes.SHA256()))
+        elif scheme in CURVES:
+            load_der_public_key(number).verify(sig, message, ec.ECDSA(CURVES[scheme][1]()))
         else:
             form = padding.PSS(padding.MGF1(hashes.SHA256()), 32)
             load_der_public_key(number).verify(sig, message, form, hashes.SHA256())

@@ -257,8 +257,10 @@ def refused():
                 ("21 WrongPayloadType", "application/json")),
         Mistake("a signature of the layout names another id", other_keyid, 1,
                 ("22 OwnerMissing", "243bb4e7c890")),
-        layout(put("keys", "bob", "scheme", "ecdsa-sha2-nistp384"), 1, "bob",
-               "ecdsa-sha2-nistp384", name="a key of another curve in the layout"),
+        layout(put("keys", "bob", "scheme", "ecdsa-sha2-nistp521"), 1, "bob",
+               "ecdsa-sha2-nistp521", name="a key of another curve in the layout"),
+        layout(put("keys", "bob", "scheme", "ecdsa-sha2-nistp384"), 1, "bob", "P-384",
+               name="a key under the scheme of another curve in the layout"),
     ]
 
 

@@ -111,7 +111,7 @@ def of_keys():
     """Mistakes in keys."""
     return [
         key("a private key", lambda release: release.text("keys/bob.pem"), "private key"),
-        key("a key of P-384", curve("P-384"), "P-384"),
+        key("a key of P-521", curve("P-521"), "P-521"),
         key("a key of secp256k1", curve("secp256k1"), "secp256k1"),
         key("a key of OpenSSH", lambda release: "ssh-ed25519 AAAAC3NzaC1lZDI1NTE5AAAA me@here\n",
             "OpenSSH"),

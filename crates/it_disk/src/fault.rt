@@ -45,9 +45,6 @@ pub enum Fault {
     /// With what is at this path, links have more files and folders in all than this.
     #[error("with {path} the links have more than {limit} files and folders in all")]
     TooManyInAll { path: Shown, limit: u64 },
-    /// With this folder, those of links have more names in all than this.
-    #[error("with {path} the folders of links have more than {limit} names in all")]
-    TooManyNames { path: Shown, limit: u64 },
     /// With this file, links have more bytes in all than this.
     #[error("with {path} the links have more than {limit} bytes in all")]
     TooMuch { path: Shown, limit: u64 },

@@ -76,8 +76,8 @@ pub(crate) struct Entry {
 ///
 /// The fault of a folder, an entry or a file that cannot be read; `TooMany` where more than 1,000
 /// entries of a folder would be read; `TooManyInAll` where more than 100,000 files and folders
-/// would be read in all; `TooMuch` where the files have more than 2 GiB in all; and `TooManyNames`
-/// where the folders have more than 1,000,000 names in all, also of what is skipped.
+/// would be read in all; `TooMuch` where the files have more than 2 GiB in all; and `Unreadable` of
+/// the folder with whose names, also of what is skipped, the folders have more than 1,000,000.
 pub fn read_links<T: Tree + AllocGlobal>(
     tree: &T,
     folder: &str,

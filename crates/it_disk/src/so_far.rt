@@ -65,7 +65,7 @@ impl SoFar {
     ///
     /// # Errors
     ///
-    /// `TooManyNames` where these are too many.
+    /// `Unreadable` where these are too many names.
     pub(crate) fn with_names(self, alloc: Global, path: &str, count: usize) -> Result<SoFar, Fault>
         ensures bytes { IfOk result (λ read. read.bytes ≡ self.bytes) }
         ensures entries { IfOk result (λ read. read.entries ≡ self.entries) }
@@ -75,10 +75,8 @@ impl SoFar {
     {
         let names = self.names.saturating_add(count as u64);
         if names > MOST_NAMES {
-            return Err(Fault::TooManyNames {
-                path: Shown::of(alloc, path)?,
-                limit: MOST_NAMES,
-            });
+            let reason = "with it the folders of links have more than 1000000 names in all";
+            return Err(Fault::unread(alloc, path, reason)?);
         }
         Ok(SoFar { names, ..self })
     }

@@ -1,13 +1,13 @@
 -- How much of a folder of links was read so far.
-use Rattle.std.specs.Prelude.{◌≡◌, ◌+◌, ◌<◌, ◌≤◌, ℕ, List}
+use Rattle.std.specs.Prelude.{◌≡◌, ◌+◌, ◌<◌, ◌≤◌, ℕ, List, codes}
 use Rattle.it_outcome.specs.declared.outcome.RunFault.TheVariants.{OutOfMemory}
 use Rattle.it_chain.specs.Contents.{Contents}
-use Rattle.it_disk.specs.Faults.{Shows}
+use Rattle.it_disk.specs.Faults.{IsUnreadFor, Shows}
 use Rattle.it_disk.specs.LinksCount.{count_of, most_entries}
 use Rattle.it_disk.specs.LinksSize.{most_bytes, size_of}
 use Rattle.it_disk.specs.declared.fault.Fault.{Fault}
 use Rattle.it_disk.specs.declared.fault.Fault.TheVariants.{Run, TooManyInAll, TooMuch}
-use Rattle.it_disk.specs.declared.fault.Fault.TheVariants.{TooManyNames}
+use Rattle.it_disk.specs.declared.fault.Fault.TheVariants.{Unreadable}
 use Rattle.it_disk.specs.declared.so_far.SoFar.{SoFar}
 
 -- how many names the folders of links may have in all: a million
@@ -38,7 +38,8 @@ IsOver read path size other = ⊥
 -- the fault of a folder at the path, of so many names, after so much was read: they are too many,
 -- or memory was refused
 abbrev pub IsOverNames : SoFar → List ℕ → ℕ → Fault → Type 0
-IsOverNames read path count (TooManyNames shown limit) = Shows shown path
-    × (limit ≡ most_names) × (most_names < read.names + count)
+IsOverNames read path count (Unreadable shown reason) = (most_names < read.names + count)
+    × IsUnreadFor path (codes "with it the folders of links have more than 1000000 names in all")
+    (Unreadable shown reason)
 IsOverNames read path count (Run fault) = fault ≡ OutOfMemory
 IsOverNames read path count other = ⊥

@@ -1,5 +1,5 @@
-//! Logs that are trusted: their ids, their keys of P-256, and when they are trusted. No command
-//! uses them yet.
+//! Logs that are trusted: their ids, their keys of P-256, and when they are trusted. A trusted
+//! root lists them.
 #![tactic(auto)]
 
 mod key;

@@ -9,10 +9,9 @@ returns-in-Ok-clause-ok g c =
         files = c.in_ok-files.files.items;
         holds_files = search rules;
         is_output = rw (
-          c.as_slice-3.ensures.value,
-          c.in_ok-slices.ensures,
           c.as_slice-2.ensures.value,
-          c.name_of.ensures,
+          c.in_ok-slices.ensures,
+          c.as_slice.ensures.value,
         ) at written.2;
         status_is = written.0;
       },

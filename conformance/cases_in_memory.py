@@ -87,7 +87,7 @@ class PythonPackage:
             given = self.itv.run(words, files)
         except self.itv.Stopped as stop:
             status = 3 if isinstance(stop, self.itv.NoMemory) else 2
-            return answer_of(status, b"", [*stop.notes, f"itv: {stop}"])
+            return answer_of(status, stop.output, [*stop.notes, f"itv: {stop}"])
         return answer_of(given.status, given.output, given.notes)
 
     def verified(self, case, moment):

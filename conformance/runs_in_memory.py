@@ -21,15 +21,17 @@ FLAGS = {"--public-keys", "--strict", "--json"}
 
 def files_of(row):
     """The files of a row by their paths. One more keeps a folder without names."""
+    nodes = {node["path"]: node for node in nodes_of(row)}
     found = {}
-    for node in nodes_of(row):
+    for path, node in nodes.items():
         if node["kind"] == "file":
-            found[node["path"]] = bytes_of(node["bytes"])
+            found[path] = bytes_of(node["bytes"])
         elif node["kind"] == "repeated":
-            found[node["path"]] = (node["begin"] + node["each"] * node["times"] + node["end"]).encode()
+            found[path] = (node["begin"] + node["each"] * node["times"] + node["end"]).encode()
         else:
             names = [name.decode() for name in names_in(node)] or [".empty"]
-            found.update({f"{node['path']}/{name}": b"" for name in names})
+            inside = [f"{path}/{name}" for name in names]
+            found.update({one: b"" for one in inside if one not in nodes})
     return found
 
 

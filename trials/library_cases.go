@@ -47,7 +47,8 @@ func ran(words []string, files map[string][]byte) (*itv.Result, error) {
 	result, err := itv.Run(words, files)
 	var stop *itv.StopError
 	if errors.As(err, &stop) {
-		return &itv.Result{Status: stop.Status, Notes: append(stop.Notes, stop.Error())}, nil
+		notes := append(stop.Notes, stop.Error())
+		return &itv.Result{Status: stop.Status, Output: stop.Output, Notes: notes}, nil
 	}
 	return result, err
 }

@@ -13,8 +13,8 @@ from report_forms import json_of_lines
 from runs_on_disk import can_run, names_in, nodes_of, text_of, words_of
 
 # What the packages' own functions are tried with: words that say how a verdict is written stay out.
-OPTIONS = {"--policy", "--layout", "--links", "--sums", "--sums512", "--provenance", "--records", "--ring", "--at",
-           "--depth", "--public-keys", "--trusted-root"}
+OPTIONS = {"--policy", "--layout", "--links", "--sums", "--sums512", "--provenance", "--records",
+           "--ring", "--at", "--depth", "--public-keys", "--trusted-root"}
 # The options without a value.
 FLAGS = {"--public-keys", "--strict", "--json"}
 

@@ -20,6 +20,7 @@ _itv_values() {
         check--layout | check--layout=) compgen -f -- "$word" ;;
         signed--ring | signed--ring=) compgen -f -- "$word" ;;
         signed--keys | signed--keys=) compgen -f -- "$word" ;;
+        signed--trusted-root | signed--trusted-root=) compgen -f -- "$word" ;;
         sign--ring | sign--ring=) compgen -f -- "$word" ;;
         sign--signature | sign--signature=) compgen -f -- "$word" ;;
         sign--keys | sign--keys=) compgen -f -- "$word" ;;
@@ -51,7 +52,7 @@ _itv() {
         case $command in
             verify) offered=$(compgen -W '--policy --layout --links --sums --at --ring --public-keys --trusted-root --json --strict --summary --verifier --resource --provenance --records --depth --most-checks' -- "$word") ;;
             check) offered=$(compgen -W '--policy --layout' -- "$word") ;;
-            signed) offered=$(compgen -W '--ring --keys' -- "$word"; compgen -f -- "$word") ;;
+            signed) offered=$(compgen -W '--ring --keys --trusted-root' -- "$word"; compgen -f -- "$word") ;;
             sign) offered=$(compgen -W '--ring --signature --keys --key --type --onto' -- "$word"; compgen -f -- "$word") ;;
             pae) offered=$(compgen -W '--type' -- "$word"; compgen -f -- "$word") ;;
             digest) offered=$(compgen -W '--recursive' -- "$word"; compgen -f -- "$word") ;;

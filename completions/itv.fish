@@ -21,9 +21,10 @@ complete -c itv -n '__fish_seen_subcommand_from verify' -l most-checks -x -d 'Wi
 complete -c itv -n __fish_use_subcommand -a check -d 'Writes what is found in a policy and in a layout that may not do what their author meant, one finding a line; of a document that does not read, why it is refused.'
 complete -c itv -n '__fish_seen_subcommand_from check' -l policy -r -F -d 'The policy. It or a layout is given, or both.'
 complete -c itv -n '__fish_seen_subcommand_from check' -l layout -r -F -d 'The layout, in its envelope or as the body that is signed. No signature is looked at.'
-complete -c itv -n __fish_use_subcommand -a signed -d 'Writes the ids of the ring, or of the public keys, that signed the envelope, one a line, in byte order.'
+complete -c itv -n __fish_use_subcommand -a signed -d 'Writes the ids of the ring, or of the public keys and identities, that signed the envelope, one a line, in byte order.'
 complete -c itv -n '__fish_seen_subcommand_from signed' -l ring -r -F -d 'The ring of secrets that signatures are checked by.'
-complete -c itv -n '__fish_seen_subcommand_from signed' -l keys -r -F -d 'The public keys that signatures are checked by, in place of a ring: an object from id to key object, as itv key writes it.'
+complete -c itv -n '__fish_seen_subcommand_from signed' -l keys -r -F -d 'The public keys that signatures are checked by, in place of a ring: an object from id to key object, as itv key writes it; with --trusted-root identities too.'
+complete -c itv -n '__fish_seen_subcommand_from signed' -l trusted-root -r -F -d 'With --keys, the trusted root of Sigstore. The file may then be a bundle: its envelope is looked at, and an identity signed it where the bundle vouches for that identity.'
 complete -c itv -n '__fish_seen_subcommand_from signed' -F
 complete -c itv -n __fish_use_subcommand -a sign -d 'Writes the envelope of the body, signed under the id\'s secret or with the given signature, and a line feed.'
 complete -c itv -n '__fish_seen_subcommand_from sign' -l ring -r -F -d 'The ring of secrets.'

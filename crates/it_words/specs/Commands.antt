@@ -14,11 +14,13 @@ use Rattle.it_words.specs.Arguments.{
   plain_options,
 }
 
--- signed ENVELOPE, and one of --ring F and --keys F
+-- signed ENVELOPE, one of --ring F and --keys F, and with the latter what may be left out:
+-- --trusted-root F
 abbrev pub signed_command : App
 signed_command =
-    with_rule (with_rule (with_rule (new_app (codes "signed")) (needed_word (codes "envelope")))
-    (plain_option (codes "ring"))) (plain_option (codes "keys"))
+    with_rule (with_rule (with_rule (with_rule
+    (new_app (codes "signed")) (needed_word (codes "envelope"))) (plain_option (codes "ring")))
+    (plain_option (codes "keys"))) (plain_option (codes "trusted-root"))
 
 -- match PATTERN PATH
 abbrev pub match_command : App

@@ -47,16 +47,23 @@ use Rattle.it_words.specs.declared.words.sign_words.SignWords.{SignWords}
 use Rattle.it_words.specs.declared.words.signed_words.SignedBy.{SignedBy}
 use Rattle.it_words.specs.declared.words.signed_words.SignedBy.TheVariants.{Ring as of_ring}
 use Rattle.it_words.specs.declared.words.signed_words.SignedBy.TheVariants.{Keys as of_keys}
+use Rattle.it_words.specs.declared.words.signed_words.SignedBy.TheVariants.{Trusted as of_trusted}
 use Rattle.it_words.specs.declared.words.signed_words.SignedWords.{SignedWords}
 use Rattle.it_words.specs.declared.words.statement_words.StatementWords.{StatementWords}
 use Rattle.it_words.specs.declared.words.verify_words.VerifyWords.{VerifyWords}
 
--- what checks signatures: a ring, or keys, and not both
+-- what checks signatures: a ring alone, or keys, and these with a trusted root or without one
 abbrev pub IsSignedBy : List Row → SignedBy → Type 0
 IsSignedBy values (of_ring path) =
     (first_of (codes "ring") values ≡ Some path) × (first_of (codes "keys") values ≡ None)
+    × (first_of (codes "trusted-root") values ≡ None)
 IsSignedBy values (of_keys path) =
     (first_of (codes "ring") values ≡ None) × (first_of (codes "keys") values ≡ Some path)
+    × (first_of (codes "trusted-root") values ≡ None)
+IsSignedBy values (of_trusted paths) =
+    (first_of (codes "ring") values ≡ None)
+    × (first_of (codes "keys") values ≡ Some paths.keys)
+    × (first_of (codes "trusted-root") values ≡ Some paths.root)
 
 -- the values of the command signed
 pub record IsSigned (values : List Row) (words : SignedWords) : Type 0 where

@@ -52,7 +52,8 @@ use verify_words::VerifyWords;
 /// A command with its values.
 #[derive(Drop)]
 pub enum Words {
-    /// `itv signed ENVELOPE (--ring F | --keys F)`: who signed an envelope.
+    /// `itv signed ENVELOPE (--ring F | --keys F) [--trusted-root F]`: who signed an envelope, or
+    /// the one of a bundle.
     Signed(SignedWords),
     /// `itv match PATTERN PATH`: whether a pattern matches a path.
     Match(MatchWords),

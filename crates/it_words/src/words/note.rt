@@ -4,7 +4,7 @@ ghost use Rattle.clap.specs.Words.{kind_of};
 
 use super::dashes::{asks_help, gives, gives_value, has_dashed_value};
 use super::usage::{Usage, nearest_to, of_all, of_one, usage_of};
-use super::{WordsFault, key_words};
+use super::{WordsFault, key_words, signed_words};
 use clap::error::ErrorKind;
 use clap::{ArgMatches, Error};
 use std::alloc::{AllocError, Global};
@@ -47,8 +47,7 @@ fn misfit(command: &str, values: &[String], found: &ArgMatches<'_>) -> &'static 
             None if has_ring => "the option '--ring <F>' is given more than 8 times",
             None => "none of '--ring <F>', '--public-keys' and '--trusted-root <F>' is given",
         },
-        ("signed", true) => "the options '--ring <F>' and '--keys <F>' are both given",
-        ("signed", false) => "neither '--ring <F>' nor '--keys <F>' is given",
+        ("signed", _) => signed_words::misfit(found),
         ("sign", true) =>
             "the option '--ring <F>' is given beside '--signature <SIG>' or '--keys <F>'",
         ("sign", false) =>

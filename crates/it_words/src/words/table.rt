@@ -52,6 +52,7 @@ const SIGNED: CommandRow = CommandRow {
         Argument::NeededWord("envelope", "ENVELOPE"),
         Argument::PlainOption("ring", "F"),
         Argument::PlainOption("keys", "F"),
+        Argument::PlainOption("trusted-root", "F"),
     ],
 };
 

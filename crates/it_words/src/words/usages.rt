@@ -75,12 +75,17 @@ pub(super) const CHECK: Usage = Usage {
 /// The usage of `itv signed`.
 pub(super) const SIGNED: Usage = Usage {
     name: "signed",
-    line: "itv signed ENVELOPE (--ring F | --keys F)",
-    text: "    Writes the ids of the ring, or of the public keys, that signed the
-    envelope, one a line, in byte order.
-      --ring F  The ring of secrets that signatures are checked by.
-      --keys F  The public keys that signatures are checked by, in place of a
-                ring: an object from id to key object, as itv key writes it.",
+    line: "itv signed ENVELOPE (--ring F | --keys F) [--trusted-root F]",
+    text: "    Writes the ids of the ring, or of the public keys and identities, that
+    signed the envelope, one a line, in byte order.
+      --ring F          The ring of secrets that signatures are checked by.
+      --keys F          The public keys that signatures are checked by, in
+                        place of a ring: an object from id to key object, as
+                        itv key writes it; with --trusted-root identities too.
+      --trusted-root F  With --keys, the trusted root of Sigstore. The file may
+                        then be a bundle: its envelope is looked at, and an
+                        identity signed it where the bundle vouches for that
+                        identity.",
 };
 
 /// The usage of `itv sign`.

@@ -40,7 +40,8 @@ above_all : (k : String Global) (done : List Entry) (e : Entry) (left : List Ent
 above_all k [] e left h = h.0
 above_all k (d ∷ done) e left h = above_all k done e left h.1
 
-find_before : (done : List Entry) (e : Entry) (left : List Entry) → IsStrictlySortedBy string_cmp
+pub find_before : (done : List Entry) (e : Entry) (left : List Entry)
+    → IsStrictlySortedBy string_cmp
     (keys_of (done ++ e ∷ left)) → find path_cmp (string_bytes e.0) (path_entries done) ≡ None
 unfolding IsStrictlySortedBy
 find_before [] e left h = refl

@@ -17,10 +17,10 @@ use Rattle.std.specs.FinMap.{insert, nat_cmp-IsAntisymmetric, slice_cmp-IsAntisy
 use Rattle.it_base.specs.HexadecimalText.{hexadecimal_decoded}
 use Rattle.it_digest.specs.declared.compare.DigestSet.{DigestSet}
 use Rattle.it_digest.specs.Artifacts.{ArtifactMap}
-use Rattle.it_digest.specs.DigestSet.{only_sha256}
-use Rattle.it_digest.specs.Sums.{AreSums, IsFirstBadLine, IsMarkedPath, IsSum}
+use Rattle.it_digest.specs.DigestSet.{Algorithm, only}
+use Rattle.it_digest.specs.Sums.{AreSums, IsCut, IsFirstBadLine, IsMarkedPath, IsSum}
 use Rattle.it_digest.specs.inside.SumLines.{AddsNothing, AddsSum}
-use Rattle.it_digest.specs.Sums.{SumsOf, lines_of}
+use Rattle.it_digest.specs.Sums.{SumsOf, digit_count, lines_of}
 use Rattle.it_digest.proofs.ArtifactsLemmas.{path_cmp}
 
 abbrev pub Entry : Type 0
@@ -85,71 +85,102 @@ lines_of-none (byte ∷ rest) some none =
 
 -- ---- one line
 
-pub digits_of : (line : List ℕ) (e : Entry) (h : IsSum line e) → take 64 line ≡ h.digits
-digits_of line e h = ap (take 64) h.written ∙ ap (λ n. take n (h.digits ++ h.text))
-    (sym h.digits_many) ∙ take-append_seam h.digits h.text
+abbrev pub Cut : Type 0
+Cut = DigestSet × List ℕ
 
-pub text_of : (line : List ℕ) (e : Entry) (h : IsSum line e) → drop 64 line ≡ h.text
-text_of line e h = ap (drop 64) h.written ∙ drop_at h.digits h.text 64 h.digits_many
+digits_of : (algorithm : Algorithm) (line : List ℕ) (cut : Cut) (h : IsCut algorithm line cut)
+    → take (digit_count algorithm) line ≡ h.digits
+digits_of algorithm line cut h =
+    ap (take (digit_count algorithm)) h.written ∙ ap (λ n. take n (h.digits ++ cut.1))
+    (sym h.digits_many) ∙ take-append_seam h.digits cut.1
+
+text_of : (algorithm : Algorithm) (line : List ℕ) (cut : Cut) → IsCut algorithm line cut
+    → drop (digit_count algorithm) line ≡ cut.1
+text_of algorithm line cut h = ap (drop (digit_count algorithm)) h.written
+    ∙ drop_at h.digits cut.1 (digit_count algorithm) h.digits_many
+
+-- a line is cut in one way at most
+same_cut : (algorithm : Algorithm) (line : List ℕ) (a b : Cut) → IsCut algorithm line a
+    → IsCut algorithm line b → a ≡ b
+same_cut algorithm line a b h k =
+    let digests : Some h.digest ≡ Some k.digest = sym h.digest_is ∙ ap hexadecimal_decoded
+    (sym (digits_of algorithm line a h) ∙ digits_of algorithm line b k) ∙ k.digest_is in
+    let same : h.digest ≡ k.digest = cc digests in
+    let sets : a.0 ≡ b.0 = h.digests_are ∙ ap (only algorithm) same ∙ sym k.digests_are in
+    let texts : a.1 ≡ b.1 = sym (text_of algorithm line a h) ∙ text_of algorithm line b k in
+    λ i. (sets i, texts i)
+
+pub cut_read : (algorithm : Algorithm) (line digits text digest : List ℕ)
+    → digits ≡ take (digit_count algorithm) line → text ≡ drop (digit_count algorithm) line
+    → digit_count algorithm ≤ length line → Some digest ≡ hexadecimal_decoded digits
+    → IsCut algorithm line (only algorithm digest, text)
+cut_read algorithm line digits text digest front back long digest_is =
+    record {
+      digits = digits;
+      digest = digest;
+      written = sym (take-append-drop (digit_count algorithm) line)
+          ∙ (λ i. sym front i ++ sym back i);
+      digits_many = ap length front ∙ length-take-le (digit_count algorithm) line long;
+      digest_is = sym digest_is;
+      digests_are = refl;
+    }
+
+pub long_enough : (algorithm : Algorithm) (line : List ℕ) (cut : Cut) → IsCut algorithm line cut
+    → digit_count algorithm ≤ length line
+long_enough algorithm line cut h =
+    omega (arith, ap length h.written, length-append h.digits cut.1, h.digits_many)
+
+pub no_digest : (algorithm : Algorithm) (line digits : List ℕ)
+    → digits ≡ take (digit_count algorithm) line → None ≡ hexadecimal_decoded digits
+    → (cut : Cut) → ¬ IsCut algorithm line cut
+no_digest algorithm line digits front none cut h =
+    let found : None ≡ Some h.digest = none
+    ∙ ap hexadecimal_decoded (front ∙ digits_of algorithm line cut h) ∙ h.digest_is in
+    cc found
 
 pub path_of : (text path : List ℕ) → IsMarkedPath text path → drop 2 text ≡ path
 path_of text path h = elim h.written [ inl e ↦ ap (drop 2) e | inr e ↦ ap (drop 2) e ]
 
 -- a line gives one entry at most
-pub same_sum : (line : List ℕ) (e f : Entry) → IsSum line e → IsSum line f → e ≡ f
-same_sum line e f h k =
-    let paths : e.0 ≡ f.0 = sym (path_of h.text e.0 h.path_is)
-    ∙ ap (drop 2) (sym (text_of line e h) ∙ text_of line f k) ∙ path_of k.text f.0 k.path_is in
-    let digests : Some h.digest ≡ Some k.digest = sym h.digest_is
-    ∙ ap hexadecimal_decoded (sym (digits_of line e h) ∙ digits_of line f k) ∙ k.digest_is in
-    let same : h.digest ≡ k.digest = cc digests in
-    let sets : e.1 ≡ f.1 = h.digests_are ∙ ap only_sha256 same ∙ sym k.digests_are in
+pub same_sum : (algorithm : Algorithm) (line : List ℕ) (e f : Entry) → IsSum algorithm line e
+    → IsSum algorithm line f → e ≡ f
+same_sum algorithm line e f h k =
+    let cuts = same_cut algorithm line (e.1, h.text) (f.1, k.text) h.cut k.cut in
+    let paths : e.0 ≡ f.0 = sym (path_of h.text e.0 h.path_is) ∙ ap (λ (c : Cut). drop 2 c.1) cuts
+    ∙ path_of k.text f.0 k.path_is in
+    let sets : e.1 ≡ f.1 = ap (λ (c : Cut). c.0) cuts in
     λ i. (paths i, sets i)
 
-pub IsSum-read : (line digits text digest path : List ℕ) → digits ≡ take 64 line
-    → text ≡ drop 64 line → 64 ≤ length line → Some digest ≡ hexadecimal_decoded digits
-    → IsMarkedPath text path → IsSum line (path, only_sha256 digest)
-IsSum-read line digits text digest path front back long digest_is path_is =
-    record {
-      digits = digits;
-      text = text;
-      digest = digest;
-      written = sym (take-append-drop 64 line) ∙ (λ i. sym front i ++ sym back i);
-      digits_many = ap length front ∙ length-take-le 64 line long;
-      digest_is = sym digest_is;
-      digests_are = refl;
-      path_is = path_is;
-    }
+pub no_sum : (algorithm : Algorithm) (line : List ℕ) → ((cut : Cut) → ¬ IsCut algorithm line cut)
+    → (e : Entry) → ¬ IsSum algorithm line e
+no_sum algorithm line none e h = none (e.1, h.text) h.cut
 
-pub no_digest : (line digits : List ℕ) → digits ≡ take 64 line → None ≡ hexadecimal_decoded digits
-    → (e : Entry) → ¬ IsSum line e
-no_digest line digits front none e h =
-    let found : None ≡ Some h.digest = none ∙ ap hexadecimal_decoded (front ∙ digits_of line e h)
-    ∙ h.digest_is in
-    cc found
-
-pub no_path : (line text : List ℕ) → text ≡ drop 64 line
-    → ((path : List ℕ) → ¬ IsMarkedPath text path) → (e : Entry) → ¬ IsSum line e
-no_path line text back none e h =
-    none e.0 (subst (λ t. IsMarkedPath t e.0) (sym (back ∙ text_of line e h)) h.path_is)
+pub no_path : (algorithm : Algorithm) (line : List ℕ) (cut : Cut) → IsCut algorithm line cut
+    → ((path : List ℕ) → ¬ IsMarkedPath cut.1 path) → (e : Entry) → ¬ IsSum algorithm line e
+no_path algorithm line cut is none e h = none e.0 (subst (λ (c : Cut). IsMarkedPath c.1 e.0)
+    (same_cut algorithm line (e.1, h.text) cut h.cut is) h.path_is)
 
 -- ---- a line and the map before it
 
-pub AddsSum-or_nothing : (line path : List ℕ) (digests : DigestSet) (old new : ArtifactMap)
-    (before : Option DigestSet) (r : Bool) → IsSum line (path, digests) → before ≡ get old path
+pub AddsSum-or_nothing : (algorithm : Algorithm) (line path : List ℕ) (digests : DigestSet)
+    (old new : ArtifactMap)
+    (before : Option DigestSet) (r : Bool) → IsSum algorithm line (path, digests)
+    → before ≡ get old path
     → new ≡ insert old path digests → is_some before ≡ not r
-    → MatchBool r (AddsSum line old new) (AddsNothing line old)
-AddsSum-or_nothing line path digests old new None true is looked put variant = record {
+    → MatchBool r (AddsSum algorithm line old new) (AddsNothing algorithm line old)
+AddsSum-or_nothing algorithm line path digests old new None true is looked put variant = record {
   entry = (path, digests);
   is_sum = is;
   is_new = sym looked;
   added = put;
 }
-AddsSum-or_nothing line path digests old new None false is looked put variant = cc variant
-AddsSum-or_nothing line path digests old new (Some v) true is looked put variant = cc variant
-AddsSum-or_nothing line path digests old new (Some v) false is looked put variant = λ e other none.
+AddsSum-or_nothing algorithm line path digests old new None false is looked put variant = cc variant
+AddsSum-or_nothing algorithm line path digests old new
+    (Some v) true is looked put variant = cc variant
+AddsSum-or_nothing algorithm line path digests old new
+    (Some v) false is looked put variant = λ e other none.
     let found : Some v ≡ None = looked ∙ ap (λ (f : Entry). get old f.0)
-    (same_sum line (path, digests) e is other) ∙ none in
+    (same_sum algorithm line (path, digests) e is other) ∙ none in
     cc found
 
 -- ---- lines and entries, one each
@@ -197,7 +228,7 @@ AllPairs-front es fs h i j d below within =
     let first : i < length es = omega arith in
     rw (get_or-append es fs d i first, get_or-append es fs d j within) at (h i j d below longer)
 
-same_path : (p q : List ℕ) → eq_by_cmp path_cmp p q ≡ true → p ≡ q
+pub same_path : (p q : List ℕ) → eq_by_cmp path_cmp p q ≡ true → p ≡ q
 same_path p q e = slice_cmp-IsAntisymmetric nat_cmp-IsAntisymmetric p q
     ((Equal-is (path_cmp p q)).0 e)
 
@@ -230,27 +261,32 @@ none_from_differing q (e ∷ es) differs =
 
 -- ---- one more line
 
-AreSums-more : (lines : List (List ℕ)) (es : List Entry) (line : List ℕ) (e : Entry)
-    → AreSums lines es → IsSum line e → get (from_entries {R = path_cmp} es) e.0 ≡ None
-    → AreSums (lines ++ line ∷ []) (es ++ e ∷ [])
-AreSums-more lines es line e h is none =
+AreSums-more : (algorithm : Algorithm) (lines : List (List ℕ)) (es : List Entry) (line : List ℕ)
+    (e : Entry)
+    → AreSums algorithm lines es → IsSum algorithm line e → get
+    (from_entries {R = path_cmp} es) e.0 ≡ None
+    → AreSums algorithm (lines ++ line ∷ []) (es ++ e ∷ [])
+AreSums-more algorithm lines es line e h is none =
     record {
-      each_gives = AllZip-one_more IsSum lines es line e h.each_gives is;
+      each_gives = AllZip-one_more (IsSum algorithm) lines es line e h.each_gives is;
       paths_differ = all_pairs_push PathsDiffer es e h.paths_differ
           (differs_from_each e.0 es (sym (get-from_entries nat_list_cmp_total es e.0) ∙ none));
     }
 
-AreSums-front : (lines more : List (List ℕ)) (es : List Entry) → AreSums (lines ++ more) es
-    → (front : List Entry) × AreSums lines front
-AreSums-front lines more es h =
-    let p = AllZip_parts IsSum lines more es h.each_gives in
+AreSums-front : (algorithm : Algorithm) (lines more : List (List ℕ)) (es : List Entry)
+    → AreSums algorithm (lines ++ more) es
+    → (front : List Entry) × AreSums algorithm lines front
+AreSums-front algorithm lines more es h =
+    let p = AllZip_parts (IsSum algorithm) lines more es h.each_gives in
     let pairs : AllPairs PathsDiffer (p.0 ++ p.1) =
     subst (AllPairs PathsDiffer) p.2 h.paths_differ in
     (p.0, record { each_gives = p.3; paths_differ = AllPairs-front p.0 p.1 pairs })
 
-AreSums_same : (lines : List (List ℕ)) (es fs : List Entry) → AreSums lines es → AreSums lines fs
+AreSums_same : (algorithm : Algorithm) (lines : List (List ℕ)) (es fs : List Entry)
+    → AreSums algorithm lines es → AreSums algorithm lines fs
     → es ≡ fs
-AreSums_same lines es fs h k = AllZip_same IsSum same_sum lines es fs h.each_gives k.each_gives
+AreSums_same algorithm lines es fs h k = AllZip_same (IsSum algorithm)
+    (same_sum algorithm) lines es fs h.each_gives k.each_gives
 
 AllPairs-last : (es : List Entry) (f : Entry) → AllPairs PathsDiffer (es ++ f ∷ [])
     → (k : ℕ) (d : Entry) → k < length es → (get_or es k d).0 ≢ f.0
@@ -260,12 +296,15 @@ AllPairs-last es f h k d below =
     (h k (length es) d below within)
 
 -- a line that adds nothing is bad
-not_AreSums : (lines : List (List ℕ)) (es : List Entry) (line : List ℕ) → AreSums lines es
-    → AddsNothing line (from_entries es) → (more : List Entry) → ¬ AreSums (lines ++ line ∷ []) more
-not_AreSums lines es line h nothing more k =
-    let p = AllZip_parts IsSum lines (line ∷ []) more k.each_gives in
-    let last = AllZip_one IsSum line p.1 p.4 in
-    let same : p.0 ≡ es = AllZip_same IsSum same_sum lines p.0 es p.3 h.each_gives in
+not_AreSums : (algorithm : Algorithm) (lines : List (List ℕ)) (es : List Entry) (line : List ℕ)
+    → AreSums algorithm lines es
+    → AddsNothing algorithm line (from_entries es) → (more : List Entry)
+    → ¬ AreSums algorithm (lines ++ line ∷ []) more
+not_AreSums algorithm lines es line h nothing more k =
+    let p = AllZip_parts (IsSum algorithm) lines (line ∷ []) more k.each_gives in
+    let last = AllZip_one (IsSum algorithm) line p.1 p.4 in
+    let same : p.0 ≡ es = AllZip_same (IsSum algorithm)
+    (same_sum algorithm) lines p.0 es p.3 h.each_gives in
     let pairs : AllPairs PathsDiffer (es ++ last.0 ∷ []) =
     subst (AllPairs PathsDiffer) (p.2 ∙ ap (λ l. l ++ p.1) same ∙ ap (λ l. es ++ l) last.1)
     k.paths_differ in
@@ -275,17 +314,19 @@ not_AreSums lines es line h nothing more k =
 -- ---- the lines read so far
 
 -- some lines were read, and these are left
-pub record HasRead (bytes : List ℕ) (left : List (List ℕ)) (sums : ArtifactMap)
+pub record HasRead (algorithm : Algorithm) (bytes : List ℕ) (left : List (List ℕ))
+    (sums : ArtifactMap)
     (number : ℕ) : Type 0 where
   pub lines : List (List ℕ)
   pub entries : List Entry
   pub lines_are : lines_of bytes ≡ lines ++ left
   pub number_is : number ≡ length lines
-  pub are_sums : AreSums lines entries
+  pub are_sums : AreSums algorithm lines entries
   pub sums_are : sums ≡ from_entries entries
 
-pub HasRead-none : (bytes : List ℕ) → HasRead bytes (lines_of bytes) empty 0
-HasRead-none bytes = record {
+pub HasRead-none : (algorithm : Algorithm) (bytes : List ℕ) → HasRead algorithm bytes
+    (lines_of bytes) empty 0
+HasRead-none algorithm bytes = record {
   lines = [];
   entries = [];
   lines_are = refl;
@@ -297,10 +338,12 @@ HasRead-none bytes = record {
   sums_are = refl;
 }
 
-pub HasRead-more : (bytes line : List ℕ) (left after : List (List ℕ)) (sums new : ArtifactMap)
-    (number : ℕ) → HasRead bytes left sums number → left ≡ line ∷ after → AddsSum line sums new
-    → HasRead bytes after new (number + 1)
-HasRead-more bytes line left after sums new number h split adds =
+pub HasRead-more : (algorithm : Algorithm) (bytes line : List ℕ) (left after : List (List ℕ))
+    (sums new : ArtifactMap)
+    (number : ℕ) → HasRead algorithm bytes left sums number → left ≡ line ∷ after
+    → AddsSum algorithm line sums new
+    → HasRead algorithm bytes after new (number + 1)
+HasRead-more algorithm bytes line left after sums new number h split adds =
     let e = adds.entry in
     let none : get (from_entries {R = path_cmp} h.entries) e.0 ≡ None =
     ap (λ m. get m e.0) (sym h.sums_are) ∙ adds.is_new in
@@ -310,26 +353,29 @@ HasRead-more bytes line left after sums new number h split adds =
       lines_are = h.lines_are ∙ ap (λ l. h.lines ++ l) split
           ∙ sym (append_assoc h.lines (line ∷ []) after);
       number_is = simp length-append (omega (arith, h.number_is));
-      are_sums = AreSums-more h.lines h.entries line e h.are_sums adds.is_sum none;
+      are_sums = AreSums-more algorithm h.lines h.entries line e h.are_sums adds.is_sum none;
       sums_are = adds.added ∙ ap (λ m. insert m e.0 e.1) h.sums_are
           ∙ sym (from_entries_push nat_list_cmp_total
           (slice_cmp-IsAntisymmetric nat_cmp-IsAntisymmetric) h.entries e.0 e.1
           (sym (get-from_entries nat_list_cmp_total h.entries e.0) ∙ none));
     }
 
-pub HasRead-all : (bytes : List ℕ) (sums : ArtifactMap) (number : ℕ) → HasRead bytes [] sums number
-    → SumsOf bytes sums
-HasRead-all bytes sums number h = record {
+pub HasRead-all : (algorithm : Algorithm) (bytes : List ℕ) (sums : ArtifactMap) (number : ℕ)
+    → HasRead algorithm bytes [] sums number
+    → SumsOf algorithm bytes sums
+HasRead-all algorithm bytes sums number h = record {
   entries = h.entries;
-  are_sums = subst (λ lines. AreSums lines h.entries)
+  are_sums = subst (λ lines. AreSums algorithm lines h.entries)
       (sym (h.lines_are ∙ append-nil h.lines)) h.are_sums;
   map_is = h.sums_are;
 }
 
-pub HasRead-bad : (bytes line : List ℕ) (left after : List (List ℕ)) (sums : ArtifactMap)
-    (number : ℕ) → HasRead bytes left sums number → left ≡ line ∷ after → AddsNothing line sums
-    → IsFirstBadLine bytes (number + 1)
-HasRead-bad bytes line left after sums number h split nothing =
+pub HasRead-bad : (algorithm : Algorithm) (bytes line : List ℕ) (left after : List (List ℕ))
+    (sums : ArtifactMap)
+    (number : ℕ) → HasRead algorithm bytes left sums number → left ≡ line ∷ after
+    → AddsNothing algorithm line sums
+    → IsFirstBadLine algorithm bytes (number + 1)
+HasRead-bad algorithm bytes line left after sums number h split nothing =
     let whole : lines_of bytes ≡ h.lines ++ line ∷ after = h.lines_are
     ∙ ap (λ l. h.lines ++ l) split in
     let fewer : number + 1 - 1 ≡ length h.lines = omega (arith, h.number_is) in
@@ -340,42 +386,48 @@ HasRead-bad bytes line left after sums number h split nothing =
     rw (more_by_one, whole) (take-append-add h.lines (line ∷ after) 1) in
     record {
       entries = h.entries;
-      good_before = subst (λ lines. AreSums lines h.entries) (sym before) h.are_sums;
-      bad = λ more k. not_AreSums h.lines h.entries line h.are_sums
-          (subst (AddsNothing line) h.sums_are nothing) more
-          (subst (λ lines. AreSums lines more) with_it k);
+      good_before = subst (λ lines. AreSums algorithm lines h.entries) (sym before) h.are_sums;
+      bad = λ more k. not_AreSums algorithm h.lines h.entries line h.are_sums
+          (subst (AddsNothing algorithm line) h.sums_are nothing) more
+          (subst (λ lines. AreSums algorithm lines more) with_it k);
     }
 
 -- ---- what a digest list stands for
 
-pub SumsOf_same : (bytes : List ℕ) (sums other : ArtifactMap) → SumsOf bytes sums
-    → SumsOf bytes other → other ≡ sums
-SumsOf_same bytes sums other h k = k.map_is ∙ ap (λ es. from_entries {R = path_cmp} es)
-    (AreSums_same (lines_of bytes) k.entries h.entries k.are_sums h.are_sums) ∙ sym h.map_is
+pub SumsOf_same : (algorithm : Algorithm) (bytes : List ℕ) (sums other : ArtifactMap)
+    → SumsOf algorithm bytes sums
+    → SumsOf algorithm bytes other → other ≡ sums
+SumsOf_same algorithm bytes sums other h k = k.map_is ∙ ap (λ es. from_entries {R = path_cmp} es)
+    (AreSums_same algorithm (lines_of bytes) k.entries h.entries k.are_sums h.are_sums)
+    ∙ sym h.map_is
 
-pub IsFirstBadLine-none : (bytes : List ℕ) (number : ℕ) → IsFirstBadLine bytes number
-    → (sums : ArtifactMap) → ¬ SumsOf bytes sums
-IsFirstBadLine-none bytes number h sums k =
-    let front = AreSums-front (take number (lines_of bytes)) (drop number (lines_of bytes))
+pub IsFirstBadLine-none : (algorithm : Algorithm) (bytes : List ℕ) (number : ℕ)
+    → IsFirstBadLine algorithm bytes number
+    → (sums : ArtifactMap) → ¬ SumsOf algorithm bytes sums
+IsFirstBadLine-none algorithm bytes number h sums k =
+    let front = AreSums-front algorithm (take number (lines_of bytes)) (drop number
+    (lines_of bytes))
     k.entries (rw take-append-drop k.are_sums) in
     h.bad front.0 front.1
 
 -- a line before the first bad one is not the first bad one
-no_earlier : (bytes : List ℕ) (m n : ℕ) → IsFirstBadLine bytes m → IsFirstBadLine bytes n
+no_earlier : (algorithm : Algorithm) (bytes : List ℕ) (m n : ℕ)
+    → IsFirstBadLine algorithm bytes m → IsFirstBadLine algorithm bytes n
     → ¬ (m < n)
-no_earlier bytes m n h k less =
+no_earlier algorithm bytes m n h k less =
     let front = take (n - 1) (lines_of bytes) in
     let parts : take m (lines_of bytes) ++ drop m front ≡ front =
     ap (λ xs. xs ++ drop m front)
     (sym (take-take m (n - 1) (lines_of bytes) (omega (arith, less))))
     ∙ take-append-drop m front in
-    let good = AreSums-front (take m (lines_of bytes)) (drop m front) k.entries
-    (subst (λ xs. AreSums xs k.entries) (sym parts) k.good_before) in
+    let good = AreSums-front algorithm (take m (lines_of bytes)) (drop m front) k.entries
+    (subst (λ xs. AreSums algorithm xs k.entries) (sym parts) k.good_before) in
     h.bad good.0 good.1
 
-pub bad_line_one : (bytes : List ℕ) (m n : ℕ) → IsFirstBadLine bytes m → IsFirstBadLine bytes n
+pub bad_line_one : (algorithm : Algorithm) (bytes : List ℕ) (m n : ℕ)
+    → IsFirstBadLine algorithm bytes m → IsFirstBadLine algorithm bytes n
     → m ≡ n
-bad_line_one bytes m n h k =
-    let up : ¬ (m < n) = no_earlier bytes m n h k in
-    let down : ¬ (n < m) = no_earlier bytes n m k h in
+bad_line_one algorithm bytes m n h k =
+    let up : ¬ (m < n) = no_earlier algorithm bytes m n h k in
+    let down : ¬ (n < m) = no_earlier algorithm bytes n m k h in
     omega arith

@@ -42,9 +42,11 @@ digest_set_code =
     (λ set. (set.sha256, (set.sha384, set.sha512)))
     (λ p. record { sha256 = p.0; sha384 = p.1.0; sha512 = p.1.1 }) (λ _. refl)
 
--- the set with this SHA-256 and no other digest
-abbrev pub only_sha256 : List ℕ → DigestSet
-only_sha256 digest = record { sha256 = Some digest; sha384 = None; sha512 = None }
+-- the set with this digest under an algorithm, and no other
+abbrev pub only : Algorithm → List ℕ → DigestSet
+only in_sha256 digest = record { sha256 = Some digest; sha384 = None; sha512 = None }
+only in_sha384 digest = record { sha256 = None; sha384 = Some digest; sha512 = None }
+only in_sha512 digest = record { sha256 = None; sha384 = None; sha512 = Some digest }
 
 -- the set without a digest
 abbrev pub no_digests : DigestSet

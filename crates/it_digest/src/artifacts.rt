@@ -8,6 +8,7 @@ ghost use Rattle.std.specs.FinMap as finite;
 ghost use Rattle.it_base.specs.Table.{IsTable};
 ghost use Rattle.it_digest.specs.Artifacts.{path_entries};
 ghost use Rattle.it_digest.specs.Digest.{IsDigestSet};
+ghost use Rattle.it_digest.specs.Listed.{AreTogether};
 
 use crate::compare::DigestSet;
 use it_base::parts::FromDocument;
@@ -97,6 +98,19 @@ impl Artifacts {
         map_of(alloc, self.by_path.as_map())
     }
 
+    /// This map of a digest list by SHA-256 together with that of one by SHA-512: the paths of
+    /// both, each with the digests of the list that has it, or of both lists. New paths are in
+    /// memory from `alloc`.
+    ///
+    /// # Errors
+    ///
+    /// `AllocError` where memory is refused.
+    pub(crate) fn together(self, alloc: Global, other: &Artifacts) -> Result<Artifacts, AllocError>
+        ensures { IfOk result (AreTogether self other.now) }
+    {
+        with_listed(alloc, self, other.by_path.as_map())
+    }
+
     /// Whether the map is empty.
     pub fn is_empty(&self) -> bool
         ensures { IsTrue result ↔ (self.now ≡ finite.empty) }
@@ -135,4 +149,27 @@ fn map_of(alloc: Global, by_path: &BTreeMap<String, DigestSet>) -> Result<Artifa
         map.insert(String::from_str(alloc, path)?, *digests)?;
     }
     Ok(map)
+}
+
+/// The map with the SHA-512 of these entries, each under its path.
+fn with_listed(
+    alloc: Global,
+    files: Artifacts,
+    by_path: &BTreeMap<String, DigestSet>,
+) -> Result<Artifacts, AllocError>
+    ensures { IfOk result
+        (AreTogether files (finite.from_entries (path_entries by_path.now.entries))) }
+{
+    let mut together = files;
+    for (path, listed) in by_path.iter() {
+        let digests = match together.get(path) {
+            Some(digests) => DigestSet {
+                sha512: listed.sha512,
+                ..digests
+            },
+            None => *listed,
+        };
+        together.insert(String::from_str(alloc, path)?, digests)?;
+    }
+    Ok(together)
 }

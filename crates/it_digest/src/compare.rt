@@ -1,7 +1,7 @@
 //! Digest sets and their comparison.
 
 ghost use Rattle.std.specs.Prelude.{◌≡◌, ◌↔◌};
-ghost use Rattle.it_digest.specs.DigestSet.{only_sha256};
+ghost use Rattle.it_digest.specs.DigestSet.{in_sha256, in_sha512, only};
 ghost use Rattle.it_digest.specs.Compare.{Agree, Apart, Differ, compared, compared_values, joined};
 
 /// The digests of one artifact, each under its algorithm; an algorithm may be missing.
@@ -42,12 +42,23 @@ impl Compare {
 impl DigestSet {
     /// The set with this SHA-256 and no other digest.
     pub(crate) fn of_sha256(digest: [u8; 32]) -> DigestSet
-        ensures { result ≡ only_sha256 digest }
+        ensures { result ≡ only in_sha256 digest }
     {
         DigestSet {
             sha256: Some(digest),
             sha384: None,
             sha512: None,
+        }
+    }
+
+    /// The set with this SHA-512 and no other digest.
+    pub(crate) fn of_sha512(digest: [u8; 64]) -> DigestSet
+        ensures { result ≡ only in_sha512 digest }
+    {
+        DigestSet {
+            sha256: None,
+            sha384: None,
+            sha512: Some(digest),
         }
     }
 

@@ -1,11 +1,14 @@
-//! The SHA-256 of what a reader gives.
+//! The digest of what a reader gives.
 
 ghost use Rattle.std.specs.Prelude.{◌≡◌, IfOk, IfSome};
 ghost use Rattle.sha2.specs.Sha256.{sha256};
+ghost use Rattle.sha2.specs.Sha512.{sha512};
+ghost use Rattle.it_digest.specs.DigestSet.{in_sha256, in_sha512};
 ghost use Rattle.it_digest.specs.Reader.{GaveAtMost, GaveMoreThan, IsDigestOfRest};
+ghost use Rattle.it_digest.specs.inside.Rest.{IsOfRest};
 ghost use Rattle.it_digest.specs.declared.reader.DigestFault.TheVariants as fault;
 
-use sha2::{Digest, Sha256};
+use sha2::{Digest, Sha256, Sha512};
 use std::io::{self, Read};
 
 /// How many bytes are asked for at once.
@@ -41,7 +44,7 @@ impl From<io::Error> for DigestFault {
 /// After either, the reader is where its last read left it.
 pub fn sha256_of_reader<R: Read>(reader: &mut R, limit: u64) -> Result<[u8; 32], DigestFault>
     ensures ok { IfOk result
-        (IsDigestOfRest (R.remaining reader.old) (R.remaining reader.new) limit) }
+        (IsDigestOfRest in_sha256 (R.remaining reader.old) (R.remaining reader.new) limit) }
     ensures whole { IfOk result
         (λ digest. IfSome (R.remaining reader.old) (λ bytes. digest ≡ sha256 bytes)) }
     ensures too_large { result ≡ Err DigestFault.TooLarge
@@ -49,7 +52,38 @@ pub fn sha256_of_reader<R: Read>(reader: &mut R, limit: u64) -> Result<[u8; 32],
     ensures read { result ≡ Err DigestFault.Read
         → GaveAtMost (R.remaining reader.old) (R.remaining reader.new) limit }
 {
-    let mut hasher = Sha256::new();
+    digest_of_rest::<Sha256, R>(reader, limit)
+}
+
+/// The SHA-512 (FIPS 180-4) of the bytes that the reader gives up to its end, as
+/// [`sha256_of_reader`] computes their SHA-256.
+///
+/// # Errors
+///
+/// Those of [`sha256_of_reader`].
+pub fn sha512_of_reader<R: Read>(reader: &mut R, limit: u64) -> Result<[u8; 64], DigestFault>
+    ensures ok { IfOk result
+        (IsDigestOfRest in_sha512 (R.remaining reader.old) (R.remaining reader.new) limit) }
+    ensures whole { IfOk result
+        (λ digest. IfSome (R.remaining reader.old) (λ bytes. digest ≡ sha512 bytes)) }
+    ensures too_large { result ≡ Err DigestFault.TooLarge
+        → GaveMoreThan (R.remaining reader.old) (R.remaining reader.new) limit }
+    ensures read { result ≡ Err DigestFault.Read
+        → GaveAtMost (R.remaining reader.old) (R.remaining reader.new) limit }
+{
+    digest_of_rest::<Sha512, R>(reader, limit)
+}
+
+/// The digest that hashers of this kind make of all that the reader gives.
+fn digest_of_rest<D: Digest, R: Read>(reader: &mut R, limit: u64) -> Result<D::Output, DigestFault>
+    ensures ok { IfOk result
+        (IsOfRest D.digest_of (R.remaining reader.old) (R.remaining reader.new) limit) }
+    ensures too_large { result ≡ Err DigestFault.TooLarge
+        → GaveMoreThan (R.remaining reader.old) (R.remaining reader.new) limit }
+    ensures read { result ≡ Err DigestFault.Read
+        → GaveAtMost (R.remaining reader.old) (R.remaining reader.new) limit }
+{
+    let mut hasher = D::new();
     let mut buffer = [0; BLOCK_SIZE];
     let mut room = limit;
     loop {

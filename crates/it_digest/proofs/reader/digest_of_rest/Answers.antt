@@ -1,10 +1,10 @@
 use Rattle.std.proofs.Common.{◌++◌, take, arith, length-append, length-take}
 use Rattle.std.proofs.KnownBytes.{Consumes-trans}
-use Rattle.it_digest.proofs.reader.sha256_of_reader.Goals as goal
+use Rattle.it_digest.proofs.reader.digest_of_rest.Goals as goal
 
 pub returns-then-count-room-clause-too_large : goal.returns-then-count-room-clause-too_large
 returns-then-count-room-clause-too_large g c _ =
-    let came = c.loop-count.invariant in
+    let came = c.loop-hasher.invariant in
     let block = take c.in_ok-count.count c.read.new.buf in
     let fits = c.in_ok-count.ensures.bound in
     record {
@@ -13,9 +13,9 @@ returns-then-count-room-clause-too_large g c _ =
       beyond_limit = simp (length-append, length-take) (omega arith);
     }
 
-pub loop-count-preserved : goal.loop-count-preserved
-loop-count-preserved g c =
-    let came = c.loop-count.invariant in
+pub loop-hasher-preserved : goal.loop-hasher-preserved
+loop-hasher-preserved g c =
+    let came = c.loop-hasher.invariant in
     let block = take c.in_ok-count.count c.read.new.buf in
     let fits = c.in_ok-count.ensures.bound in (
       came.0 ++ block,

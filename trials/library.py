@@ -14,6 +14,7 @@ import tempfile
 import itv
 
 EXAMPLE = pathlib.Path("examples/public")
+SIGSTORE = pathlib.Path("examples/sigstore")
 AT = datetime.datetime(2026, 1, 1, tzinfo=datetime.timezone.utc)
 # SHA-256 of no bytes (FIPS 180-4).
 EMPTY = "e3b0c44298fc1c149afbf4c8996fb92427ae41e4649b934ca495991b7852b855"

@@ -42,7 +42,7 @@ loop-id-preserved g c =
     ap named_entries c.in-Some.ensures.steps in
     let names = map string_bytes at.names.items in
     let refuses : ¬ HasSigned panel c.args.envelope.now entry =
-    λ signed. (let is : c.in_ok-signed.field-0 ≡ true = c.in_ok-signed.ensures.answer.1
+    λ signed. (let is : c.in_ok-signed.signed ≡ true = c.in_ok-signed.ensures.answer.1
     (rw c.as_str-text.ensures.value signed) in cc (is, c.if-signed.false)) in
     pass_more panel c.args.objects.now c.args.envelope.now entry left names
     (subst (λ rest. AreNamesSoFar panel c.args.objects.now c.args.envelope.now rest names) steps

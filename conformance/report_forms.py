@@ -9,7 +9,7 @@ import re
 
 # The number of each fault, and the members of its details.
 FAULTS = {
-    "BadPolicy": (10, ["part"]), "BadSums": (12, ["line"]), "BadMoment": (13, []),
+    "BadPolicy": (10, ["part"]), "BadSums": (12, ["list", "line"]), "BadMoment": (13, []),
     "NoFiles": (14, []), "BadEnvelope": (20, []), "WrongPayloadType": (21, []),
     "OwnerMissing": (22, ["key"]), "BadLayout": (23, ["part"]), "Expired": (30, []),
     "TwoPayloads": (31, ["step", "key"]), "TooDeep": (32, []),

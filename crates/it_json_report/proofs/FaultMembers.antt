@@ -1,6 +1,6 @@
 -- What the members of a refusal tell of its fault.
 use Rattle.std.proofs.Common.{◌≡◌, ◌<◌, ◌^◌, ℕ, List, [], ◌∷◌, Option, Some, None, IfSome}
-use Rattle.std.proofs.Common.{codes, refl, ap, arith}
+use Rattle.std.proofs.Common.{codes, get_or, refl, ap, arith}
 use Rattle.std.specs.Prelude.{decimal}
 use Rattle.std.proofs.lemmas.List.{append_cancel_left}
 use Rattle.it_chain.specs.declared.refusal.RuleItem.{RuleItem}
@@ -14,7 +14,7 @@ use Rattle.it_report.specs.Fault.{number_of}
 use Rattle.it_report.specs.Report.{layout_part_form, line, policy_part_form, side_form}
 use Rattle.it_report.specs.ReportLaws.{FaultFits, LayoutPartFits, PolicyPartFits}
 use Rattle.it_report.specs.declared.refusal.Fault.{Fault}
-use Rattle.it_report.specs.declared.refusal.Fault.TheVariants.{BadPolicy, BadSums, BadMoment}
+use Rattle.it_report.specs.declared.refusal.Fault.TheVariants.{BadPolicy, BadSums, BadSums512, BadMoment}
 use Rattle.it_report.specs.declared.refusal.Fault.TheVariants.{NoFiles, BadEnvelope}
 use Rattle.it_report.specs.declared.refusal.Fault.TheVariants.{WrongPayloadType, OwnerMissing}
 use Rattle.it_report.specs.declared.refusal.Fault.TheVariants.{BadLayout, Expired, TwoPayloads}
@@ -141,6 +141,14 @@ module _ (ps qs : List ℕ) where
       same)
   members_tell (BadSums m) (BadSums n) h k number same =
       ap BadSums (number_member (codes "line") m n [] [] ps qs h k same).0
+  members_tell (BadSums512 m) (BadSums512 n) h k number same =
+      let lists = text_member (codes "list") (codes "sha512") (codes "sha512")
+      ((codes "line", decimal m) ∷ []) ((codes "line", decimal n) ∷ []) ps qs same in
+      ap BadSums512 (number_member (codes "line") m n [] [] ps qs h k lists.1).0
+  members_tell (BadSums m) (BadSums512 n) h k number same =
+      absurd (omega (arith, ap (λ text. get_or text 4 0) same))
+  members_tell (BadSums512 m) (BadSums n) h k number same =
+      absurd (omega (arith, ap (λ text. get_or text 4 0) same))
   members_tell BadMoment BadMoment h k number same = refl
   members_tell NoFiles NoFiles h k number same = refl
   members_tell BadEnvelope BadEnvelope h k number same = refl

@@ -7,7 +7,7 @@ use Rattle.it_report.specs.Fault.{name_of, number_of}
 use Rattle.it_report.specs.Report.{policy_part_form, side_form}
 use Rattle.it_report.specs.ReportLaws.{FaultFits, NumbersFit, StepFits}
 use Rattle.it_report.specs.declared.refusal.Fault.{Fault}
-use Rattle.it_report.specs.declared.refusal.Fault.TheVariants.{BadPolicy, BadSums, BadMoment}
+use Rattle.it_report.specs.declared.refusal.Fault.TheVariants.{BadPolicy, BadSums, BadSums512, BadMoment}
 use Rattle.it_report.specs.declared.refusal.Fault.TheVariants.{NoFiles, BadEnvelope}
 use Rattle.it_report.specs.declared.refusal.Fault.TheVariants.{WrongPayloadType, OwnerMissing}
 use Rattle.it_report.specs.declared.refusal.Fault.TheVariants.{BadLayout, Expired, TwoPayloads}
@@ -34,6 +34,7 @@ best-shown (Some level) h = ((refl, number-shown level h), tt)
 fault-shown : (fault : Fault) → FaultFits fault → AreShown (fault_members fault)
 fault-shown (BadPolicy part) h = ((refl, text-shown (policy_part_form part)), tt)
 fault-shown (BadSums n) h = ((refl, number-shown n h), tt)
+fault-shown (BadSums512 n) h = ((refl, text-shown (codes "sha512")), ((refl, number-shown n h), tt))
 fault-shown BadMoment h = tt
 fault-shown NoFiles h = tt
 fault-shown BadEnvelope h = tt

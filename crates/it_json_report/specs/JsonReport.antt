@@ -8,7 +8,7 @@ use Rattle.it_docs.specs.declared.layout_fault.LayoutPart.TheVariants.{Duplicate
 use Rattle.it_report.specs.Fault.{name_of, number_of}
 use Rattle.it_report.specs.Report.{layout_part_form, policy_part_form, side_form}
 use Rattle.it_report.specs.declared.refusal.Fault.{Fault}
-use Rattle.it_report.specs.declared.refusal.Fault.TheVariants.{BadPolicy, BadSums, BadMoment}
+use Rattle.it_report.specs.declared.refusal.Fault.TheVariants.{BadPolicy, BadSums, BadSums512, BadMoment}
 use Rattle.it_report.specs.declared.refusal.Fault.TheVariants.{NoFiles, BadEnvelope}
 use Rattle.it_report.specs.declared.refusal.Fault.TheVariants.{WrongPayloadType, OwnerMissing}
 use Rattle.it_report.specs.declared.refusal.Fault.TheVariants.{BadLayout, Expired, TwoPayloads}
@@ -51,6 +51,8 @@ best_members (Some level) = (codes "best", decimal level) ∷ []
 abbrev pub fault_members : Fault → List (List ℕ × List ℕ)
 fault_members (BadPolicy part) = (codes "part", json_text (policy_part_form part)) ∷ []
 fault_members (BadSums n) = (codes "line", decimal n) ∷ []
+fault_members (BadSums512 n) =
+    (codes "list", json_text (codes "sha512")) ∷ (codes "line", decimal n) ∷ []
 fault_members BadMoment = []
 fault_members NoFiles = []
 fault_members BadEnvelope = []

@@ -1,6 +1,6 @@
 //! What a report says about a fault, member by member.
 ghost use Rattle.std.specs.Prelude.{◌≡◌, ◌++◌, OnOk};
-ghost use Rattle.it_report.specs.declared.refusal.Fault.TheVariants.{NoProvenance};
+ghost use Rattle.it_report.specs.declared.refusal.Fault.TheVariants.{BadSums512, NoProvenance};
 ghost use Rattle.it_report.specs.declared.refusal.Fault.TheVariants.{RecordMissing, RuleFailed};
 ghost use Rattle.it_report.specs.declared.refusal.Fault.TheVariants.{Threshold, TwoPayloads};
 ghost use Rattle.it_json_report.specs.Json.{further, member};
@@ -24,6 +24,7 @@ pub(super) fn push_fault(alloc: Global, json: &mut Vec<u8>, fault: &Fault) -> Re
             push_text_member(json, "part", policy_part_text(alloc, *part)?.as_str())
         }
         Fault::BadSums(number) => push_number_member(alloc, json, "line", *number),
+        Fault::BadSums512(number) => push_line_by_sha512(alloc, json, *number),
         Fault::OwnerMissing(id) => push_text_member(json, "key", id.as_str()),
         Fault::BadLayout(part) => {
             push_text_member(json, "part", layout_part_text(alloc, part)?.as_str())
@@ -53,6 +54,14 @@ pub(super) fn push_fault(alloc: Global, json: &mut Vec<u8>, fault: &Fault) -> Re
         | Fault::TooDeep
         | Fault::InspectionInSublayout => Ok(()),
     }
+}
+
+fn push_line_by_sha512(alloc: Global, json: &mut Vec<u8>, number: u64) -> Result<(), AllocError>
+    ensures { OnOk result (json.new.items
+        ≡ json.old.items ++ further member (fault_members (BadSums512 number))) }
+{
+    push_text_member(json, "list", "sha512")?;
+    push_number_member(alloc, json, "line", number)
 }
 
 fn push_step_and_key(json: &mut Vec<u8>, step: &Text, id: &Text) -> Result<(), AllocError>

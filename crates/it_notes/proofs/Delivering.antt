@@ -4,7 +4,7 @@ use Rattle.it_chain.specs.Judged.{AreStepRecords}
 use Rattle.it_chain.specs.declared.chain.StepResult.{StepResult}
 use Rattle.it_chain.specs.declared.refusal.RuleItem.TheVariants.{Deliver}
 use Rattle.it_digest.specs.Artifacts.{ArtifactMap}
-use Rattle.it_digest.specs.Sums.{SumsOf}
+use Rattle.it_digest.specs.Listed.{AreListed}
 use Rattle.it_docs.specs.Policy.{PolicyOf}
 use Rattle.it_docs.specs.declared.policy.Policy.{Policy}
 use Rattle.it_docs.specs.declared.rule.Side.TheVariants.{Products}
@@ -19,7 +19,8 @@ use Rattle.it_notes.specs.declared.fault_level.FaultLevel.{FaultLevel}
 
 module _ (panel : Panel) (inputs : Inputs) (level : FaultLevel) (place : RulePlace)
     (policy : Policy) (delivered : ArtifactMap) (results : List StepResult)
-    (is_policy : PolicyOf inputs.policy policy) (reads : SumsOf inputs.sums delivered)
+    (is_policy : PolicyOf inputs.policy policy)
+    (reads : AreListed inputs.sums inputs.sums512 delivered)
     (records : AreStepRecords (setting_of panel level.moment) inputs.depth level.signed.layout
     level.links.now results)
     (same : place ≡ record { item = Deliver; side = Products; index = place.index }) where

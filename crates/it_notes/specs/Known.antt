@@ -1,6 +1,6 @@
 -- What the verification read and found, from which the notes are made.
 use Rattle.std.specs.Prelude.{◌≡◌, IfSome}
-use Rattle.it_digest.specs.Sums.{SumsOf}
+use Rattle.it_digest.specs.Listed.{AreListed}
 use Rattle.it_docs.specs.Policy.{PolicyOf}
 use Rattle.it_dsse.specs.Panel.{Panel}
 use Rattle.it_verify.specs.Verdict.{IsVerdict}
@@ -14,7 +14,7 @@ use Rattle.it_notes.specs.declared.known.Told.{Told}
 pub record IsKnown (panel : Panel) (inputs : Inputs) (known : Known) : Type 0 where
   pub inputs_are : known.inputs.now ≡ inputs
   pub policy : PolicyOf inputs.policy known.policy
-  pub delivered : SumsOf inputs.sums known.delivered
+  pub delivered : AreListed inputs.sums inputs.sums512 known.delivered
   pub top : IsTop inputs known.top
   pub steps : StepsStand panel inputs.depth known.top
 

@@ -1,11 +1,12 @@
 -- What the notes on a refusal say (words of this project). Each is about the fault that is
 -- reported, and what the verification was given.
 use Rattle.std.specs.Prelude.{◌≡◌, ◌≢◌, ◌⊎◌, ℕ, List, [], Option, Some, All, Contains, IfSome}
-use Rattle.std.specs.Bool.{OnTrue}
 use Rattle.std.specs.FinMap.{get}
 use Rattle.it_digest.specs.Artifacts.{ArtifactMap}
-use Rattle.it_digest.specs.Sums.{SumsOf}
+use Rattle.it_digest.specs.Listed.{AreListed}
 use Rattle.it_digest.specs.declared.compare.DigestSet.{DigestSet}
+use Rattle.it_digest.specs.declared.sums.ListAlgorithm.{ListAlgorithm}
+use Rattle.it_digest.specs.declared.sums.ListAlgorithm.TheVariants.{Sha256, Sha512}
 use Rattle.it_chain.specs.Judged.{AreStepRecords}
 use Rattle.it_chain.specs.declared.chain.StepResult.{StepResult}
 use Rattle.it_dsse.specs.Envelope.{EnvelopeOf}
@@ -59,11 +60,21 @@ use Rattle.it_notes.specs.declared.notes.RefusalNotes.{RefusalNotes}
 use Rattle.it_notes.specs.declared.notes.RefusalNotes.TheVariants as notes
 use Rattle.it_notes.specs.declared.notes.RuleNotes.{RuleNotes}
 
--- a digest list has these digests for a path
-pub record IsDelivered (sums path : List ℕ) (digests : DigestSet) : Type 0 where
+-- the digest lists have these digests for a path
+pub record IsDelivered (inputs : Inputs) (path : List ℕ) (digests : DigestSet) : Type 0 where
   pub delivered : ArtifactMap
-  pub reads : SumsOf sums delivered
+  pub reads : AreListed inputs.sums inputs.sums512 delivered
   pub stands : get delivered path ≡ Some digests
+
+-- the digest list by an algorithm
+abbrev pub list_in : ListAlgorithm → Inputs → List ℕ
+list_in Sha256 inputs = inputs.sums
+list_in Sha512 inputs = inputs.sums512
+
+-- that a line of it is bad
+abbrev pub bad_line : ListAlgorithm → ℕ → Fault
+bad_line Sha256 number = faults.BadSums number
+bad_line Sha512 number = faults.BadSums512 number
 
 -- what the rule at a place of a layout met
 pub record TellsMetAt (panel : Panel) (depth : ℕ) (level : FaultLevel) (place : RulePlace)
@@ -80,7 +91,7 @@ pub record TellsDeliveryAt (panel : Panel) (inputs : Inputs) (level : FaultLevel
   pub delivered : ArtifactMap
   pub results : List StepResult
   pub is_policy : PolicyOf inputs.policy policy
-  pub reads : SumsOf inputs.sums delivered
+  pub reads : AreListed inputs.sums inputs.sums512 delivered
   pub are_records : AreStepRecords (setting_of panel level.moment) inputs.depth
       level.signed.layout level.links.now results
   pub place_is : note.met.place ≡ place
@@ -131,7 +142,8 @@ module _ (panel : Panel) (inputs : Inputs) (level : FaultLevel) (fault : Fault) 
     pub rule : TellsRule level.signed.layout policy.deliver notes.rule
     pub met : IfSome notes.met (TellsMetAt panel inputs.depth level notes.rule.place)
     pub delivery : IfSome notes.delivery (TellsDeliveryAt panel inputs level notes.rule.place)
-    pub returns : OnTrue notes.returns (FirstLineReturns inputs.sums)
+    pub returns : IfSome notes.returns
+        (λ algorithm. FirstLineReturns (list_in algorithm inputs))
 
   -- the notes are true of the layout, and about the fault
   abbrev pub TellsAt : RefusalNotes → Type 0
@@ -177,10 +189,10 @@ module _ (panel : Panel) (inputs : Inputs) (fault : Fault) where
   abbrev pub TellsBadMoment : MomentNote → Type 0
   TellsBadMoment note = (fault ≡ faults.BadMoment) × TellsMoment inputs.moment note
 
-  -- what is wrong with the line of the digest list
+  -- what is wrong with the line of a digest list
   pub record TellsBadLine (note : SumLineNote) : Type 0 where
-    pub fault_is : fault ≡ faults.BadSums note.number
-    pub is_true : TellsSumLine inputs.sums note
+    pub fault_is : fault ≡ bad_line note.algorithm note.number
+    pub is_true : TellsSumLine (list_in note.algorithm inputs) note
 
   -- where an owner is missing, which of the owners signed the layout
   pub record TellsOwners (notes : List OwnerNote) : Type 0 where
@@ -202,7 +214,7 @@ module _ (panel : Panel) (inputs : Inputs) (fault : Fault) where
     pub fault_is : fault ≡ faults.NoProvenance path best
     pub is_policy : PolicyOf inputs.policy policy
     pub fits : Fits policy.expectations path expectation
-    pub is_delivered : IsDelivered inputs.sums path digests
+    pub is_delivered : IsDelivered inputs path digests
     pub are_true : All (TellsLine panel expectation digests inputs.provenance) notes
 
   -- where a file has no provenance, that the provenance is one envelope over several lines
@@ -219,7 +231,8 @@ module _ (panel : Panel) (inputs : Inputs) (fault : Fault) where
   TellsInputs (notes.Envelope told) = TellsNoEnvelope told
   TellsInputs (notes.Line told) = TellsBadLine told
   TellsInputs (notes.Moment told) = TellsBadMoment told
-  TellsInputs notes.NoLine = (fault ≡ faults.NoFiles) × (inputs.sums ≡ [])
+  TellsInputs notes.NoLine =
+      (fault ≡ faults.NoFiles) × (inputs.sums ≡ []) × (inputs.sums512 ≡ [])
   TellsInputs (notes.Owners told) = TellsOwners told.items
   TellsInputs (notes.Provenance told) = TellsMissing told.items
   TellsInputs notes.LaidOut = TellsLaidOut

@@ -1,13 +1,14 @@
 //! What is wrong with a document that does not read.
-ghost use Rattle.std.specs.Prelude.{IfOk};
+ghost use Rattle.std.specs.Prelude.{◌≡◌, IfOk};
 ghost use Rattle.it_dsse.specs.Panel.{Panel};
 ghost use Rattle.it_report.specs.declared.refusal.Fault.TheVariants.{BadLayout, BadMoment};
-ghost use Rattle.it_report.specs.declared.refusal.Fault.TheVariants.{BadPolicy, BadSums, NoFiles};
-ghost use Rattle.it_notes.specs.RefusalNotes.{TellsInputs};
+ghost use Rattle.it_report.specs.declared.refusal.Fault.TheVariants.{BadPolicy, NoFiles};
+ghost use Rattle.it_notes.specs.RefusalNotes.{TellsInputs, bad_line, list_in};
 
 use crate::lines::Line;
 use crate::notes::RefusalNotes;
 use it_chain::envelope_in;
+use it_digest::sums::ListAlgorithm;
 use it_docs::layout_fault::LayoutPart;
 use it_docs::policy_fault::PolicyPart;
 use it_part_notes::layout_part_note::layout_part_note;
@@ -33,18 +34,29 @@ pub(crate) fn policy_told(
     }
 }
 
-/// What is wrong with the first bad line of the digest list.
+/// What is wrong with the first bad line of the digest list by an algorithm.
 pub(crate) fn line_told(
     alloc: Global,
     inputs: &Inputs,
+    algorithm: ListAlgorithm,
     number: u64,
 ) -> Result<RefusalNotes, AllocError>
     ensures { IfOk result
-        (λ told. (panel : Panel) → TellsInputs panel inputs.now (BadSums number) told) }
+        (λ told. (panel : Panel) → TellsInputs panel inputs.now (bad_line algorithm number) told) }
 {
-    match sum_line_note(alloc, inputs.sums.as_slice(), number)? {
+    match sum_line_note(alloc, algorithm, list_by(inputs, algorithm), number)? {
         Some(note) => Ok(RefusalNotes::Line(note)),
         None => Ok(RefusalNotes::Nothing),
+    }
+}
+
+/// The digest list by an algorithm.
+pub(crate) fn list_by(inputs: &Inputs, algorithm: ListAlgorithm) -> &[u8]
+    ensures { result.now ≡ list_in algorithm inputs.now }
+{
+    match algorithm {
+        ListAlgorithm::Sha256 => inputs.sums.as_slice(),
+        ListAlgorithm::Sha512 => inputs.sums512.as_slice(),
     }
 }
 
@@ -59,11 +71,11 @@ pub(crate) fn moment_told(alloc: Global, inputs: &Inputs) -> Result<RefusalNotes
     }
 }
 
-/// That the digest list is empty.
+/// That the digest lists are empty.
 pub(crate) fn no_line_told(inputs: &Inputs) -> RefusalNotes
     ensures { (panel : Panel) → TellsInputs panel inputs.now NoFiles result }
 {
-    if inputs.sums.as_slice().is_empty() {
+    if inputs.sums.as_slice().is_empty() && inputs.sums512.as_slice().is_empty() {
         RefusalNotes::NoLine
     } else {
         RefusalNotes::Nothing
@@ -106,7 +118,7 @@ impl Line for MomentNote {
     }
 }
 
-/// That the digest list is empty.
+/// That the digest lists are empty.
 #[derive(Drop)]
 pub(crate) struct NoLine;
 
@@ -116,13 +128,19 @@ impl Line for NoLine {
     }
 }
 
-/// That the first line of the digest list ends with a carriage return.
+/// That the first line of the digest list by an algorithm ends with a carriage return.
 #[derive(Drop)]
-pub(crate) struct ReturnedLine;
+pub(crate) struct ReturnedLine {
+    pub(crate) algorithm: ListAlgorithm,
+}
 
 impl Line for ReturnedLine {
     fn push_line(&self, text: &mut Vec<u8>) -> Result<(), AllocError> {
-        text.extend_from_slice(b"digest list: line 1 ends with a carriage return, ")?;
+        text.extend_from_slice(match self.algorithm {
+            ListAlgorithm::Sha256 => b"digest list".as_slice(),
+            ListAlgorithm::Sha512 => b"digest list by SHA-512".as_slice(),
+        })?;
+        text.extend_from_slice(b": line 1 ends with a carriage return, ")?;
         text.extend_from_slice(b"which belongs to its path\n")
     }
 }

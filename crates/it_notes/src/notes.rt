@@ -14,6 +14,7 @@ use crate::layout_notes::LayoutNotes;
 use crate::place_notes::{PlaceNotes, place_notes};
 use crate::record_note::RecordNote;
 use crate::refusal_notes::refusal_notes;
+use it_digest::sums::ListAlgorithm;
 use it_dsse::checks::Checks;
 use it_key_notes::unknown_key::UnknownKey;
 use it_member_notes::member_notes::MemberNotes;
@@ -60,11 +61,11 @@ pub enum RefusalNotes {
     Part(PartNote),
     /// On what was given as the envelope of the layout.
     Envelope(EnvelopeNote),
-    /// On the line of the digest list that is bad.
+    /// On the line of a digest list that is bad.
     Line(SumLineNote),
     /// On the moment that is none.
     Moment(MomentNote),
-    /// The digest list is empty.
+    /// The digest lists are empty.
     NoLine,
     /// On the step for which too few keys signed, and on its files.
     Step(Vec<DetailedNote>),
@@ -99,9 +100,9 @@ pub struct RuleNotes {
     pub met: Option<MetNote>,
     /// What a rule on what is delivered met, and why.
     pub delivery: Option<JudgedNote>,
-    /// Whether the first line of the digest list ends with a carriage return; said only of a rule
+    /// The digest list, if any, whose first line ends with a carriage return; said only of a rule
     /// on what is delivered.
-    pub returns: bool,
+    pub returns: Option<ListAlgorithm>,
 }
 
 impl Notes {

@@ -12,6 +12,7 @@ use crate::notes::RefusalNotes;
 use crate::owners::owners_told;
 use crate::patterns::patterns_told;
 use crate::provenance::provenance_told;
+use it_digest::sums::ListAlgorithm;
 use it_dsse::checks::Checks;
 use it_report::refusal::{Fault, Refusal};
 use it_verify::inputs::Inputs;
@@ -64,7 +65,8 @@ fn input_notes<C: Checks>(
 {
     match fault {
         Fault::BadPolicy(part) => policy_told(alloc, inputs, *part),
-        Fault::BadSums(line) => line_told(alloc, inputs, *line),
+        Fault::BadSums(line) => line_told(alloc, inputs, ListAlgorithm::Sha256, *line),
+        Fault::BadSums512(line) => line_told(alloc, inputs, ListAlgorithm::Sha512, *line),
         Fault::BadMoment => moment_told(alloc, inputs),
         Fault::NoFiles => Ok(no_line_told(inputs)),
         Fault::BadEnvelope => envelope_told(alloc, inputs),

@@ -1,17 +1,17 @@
 //! Which artifact rule failed, and what it met.
 ghost use Rattle.std.specs.Prelude.{IfOk, IfSome, List, ℕ};
-ghost use Rattle.std.specs.Bool.{OnTrue};
 ghost use Rattle.it_part_notes.specs.SumLine.{FirstLineReturns};
 ghost use Rattle.it_report.specs.declared.refusal.Fault.TheVariants.{RuleFailed};
 ghost use Rattle.it_notes.specs.Known.{IsKnown};
 ghost use Rattle.it_notes.specs.Level.{StepsStand};
-ghost use Rattle.it_notes.specs.RefusalNotes.{TellsAt, TellsMetAt};
+ghost use Rattle.it_notes.specs.RefusalNotes.{TellsAt, TellsMetAt, list_in};
 
 use crate::delivered::delivery_told;
 use crate::fault_level::FaultLevel;
 use crate::known::Known;
 use crate::notes::{RefusalNotes, RuleNotes};
 use it_chain::refusal::RuleItem;
+use it_digest::sums::ListAlgorithm;
 use it_docs::rule::Side;
 use it_dsse::checks::Checks;
 use it_part_notes::sum_lines::first_line_returns;
@@ -68,15 +68,21 @@ pub(crate) fn rule_told<C: Checks>(
     }))
 }
 
-/// Whether the first line of the digest list ends with a carriage return, where it is a rule on
-/// what is delivered that failed.
-fn list_returns(inputs: &Inputs, item: &RuleItem) -> bool
-    ensures { OnTrue result (FirstLineReturns inputs.now.sums) }
+/// The digest list whose first line ends with a carriage return, if any, where it is a rule on what
+/// is delivered that failed.
+fn list_returns(inputs: &Inputs, item: &RuleItem) -> Option<ListAlgorithm>
+    ensures { IfSome result (λ algorithm. FirstLineReturns (list_in algorithm inputs.now)) }
 {
-    match item {
-        RuleItem::Deliver => first_line_returns(inputs.sums.as_slice()),
-        RuleItem::Step(_) | RuleItem::Inspection(_) => false,
+    let RuleItem::Deliver = item else {
+        return None;
+    };
+    if first_line_returns(inputs.sums.as_slice()) {
+        return Some(ListAlgorithm::Sha256);
     }
+    if first_line_returns(inputs.sums512.as_slice()) {
+        return Some(ListAlgorithm::Sha512);
+    }
+    None
 }
 
 /// What the rule at a place of a layout met.

@@ -104,8 +104,8 @@ impl RuleNotes {
             lines.add(&note.met)?;
             lines.add_all(note.causes.as_slice())?;
         }
-        if self.returns {
-            lines.add(&ReturnedLine)?;
+        if let Some(algorithm) = self.returns {
+            lines.add(&ReturnedLine { algorithm })?;
         }
         Ok(())
     }

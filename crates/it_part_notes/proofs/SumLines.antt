@@ -8,7 +8,7 @@ use Rattle.std.specs.List.{slice_get}
 use Rattle.std.specs.Str.{IsUtf8}
 use Rattle.it_base.proofs.Elements.{at_length}
 use Rattle.it_base.specs.HexadecimalText.{hexadecimal_decoded}
-use Rattle.it_digest.specs.DigestSet.{only_sha256}
+use Rattle.it_digest.specs.DigestSet.{Algorithm}
 use Rattle.it_digest.specs.Sums.{lines_of}
 use Rattle.it_part_notes.specs.SumLine.{FollowsDigits, GivesPath, IsLine, IsMarked}
 
@@ -45,46 +45,18 @@ module _ (bytes rest line after : List ℕ) (number : ℕ) (so_far : Begins byte
   }
 
 -- ---- one line
-pub follows_read : (line digits text digest : List ℕ) → digits ≡ take 64 line
-    → text ≡ drop 64 line → 64 ≤ length line → Some digest ≡ hexadecimal_decoded digits
-    → FollowsDigits line text
-follows_read line digits text digest front back long digest_is =
-    record {
-      digits = digits;
-      digest = digest;
-      written = sym (take-append-drop 64 line) ∙ (λ i. sym front i ++ sym back i);
-      digits_many = ap length front ∙ length-take-le 64 line long;
-      are_digits = sym digest_is;
-    }
-
--- the digits of a line are its first 64 bytes
-digits_of : (line text : List ℕ) (h : FollowsDigits line text) → take 64 line ≡ h.digits
-digits_of line text h = ap (take 64) h.written ∙ ap (λ n. take n (h.digits ++ text))
-    (sym h.digits_many) ∙ take-append_seam h.digits text
-
-pub none_follows : (line digits : List ℕ) → digits ≡ take 64 line
-    → None ≡ hexadecimal_decoded digits → (text : List ℕ) → ¬ FollowsDigits line text
-none_follows line digits front none text h =
-    let found : None ≡ Some h.digest = none
-    ∙ ap hexadecimal_decoded (front ∙ digits_of line text h) ∙ h.are_digits in
-    cc found
-
 pub is_named : (path : List ℕ) → false ≡ (length path == 0) → path ≢ []
 is_named [] none same = let no : false ≡ true = none in cc
 is_named (byte ∷ path) some none = cc none
 
-pub gives_read : (line text path : List ℕ) → FollowsDigits line text → IsMarked text path
-    → path ≢ [] → IsUtf8 path → GivesPath line path
-gives_read line text path follows marked named in_utf8 = (
-  only_sha256 follows.digest,
+pub gives_read : (algorithm : Algorithm) (line text path : List ℕ)
+    → FollowsDigits algorithm line text → IsMarked text path → path ≢ [] → IsUtf8 path
+    → GivesPath algorithm line path
+gives_read algorithm line text path follows marked named in_utf8 = (
+  follows.0,
   record {
-    digits = follows.digits;
     text = text;
-    digest = follows.digest;
-    written = follows.written;
-    digits_many = follows.digits_many;
-    digest_is = follows.are_digits;
-    digests_are = refl;
+    cut = follows.1;
     path_is = record { written = marked; named = named; in_utf8 = in_utf8 };
   },
 )

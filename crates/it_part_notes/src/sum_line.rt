@@ -4,23 +4,24 @@ ghost use Rattle.std.specs.Bool.{OnTrue};
 ghost use Rattle.std.specs.Char.{is_ascii_hexdigit};
 ghost use Rattle.std.specs.List.{position};
 ghost use Rattle.it_base.specs.Finds.{FindsAs};
-ghost use Rattle.it_base.specs.HexadecimalText.{hexadecimal_decoded};
+ghost use Rattle.it_digest.specs.Sums.{algorithm_of, digit_count};
 ghost use Rattle.it_part_notes.specs.SumLine.{FollowsDigits, GivesPath, HasDigits};
 ghost use Rattle.it_part_notes.specs.SumLine.{IsFault, IsMarked};
 
 use crate::sum_line_note::LineFault;
-use hex::FromHex;
+use it_digest::sums::{ListAlgorithm, split_digest};
 use std::str;
 
 /// The path that a line gives, or what is wrong with the line.
-pub(crate) fn path_in(line: &[u8]) -> Result<&str, LineFault>
-    ensures { MatchResult result (λ path. GivesPath line.now path.now) (λ fault.
-        (bytes : List ℕ) (number : ℕ) → IsFault bytes number line.now fault) }
+pub(crate) fn path_in(algorithm: ListAlgorithm, line: &[u8]) -> Result<&str, LineFault>
+    ensures { MatchResult result (λ path. GivesPath (algorithm_of algorithm) line.now path.now)
+        (λ fault. (bytes : List ℕ) (number : ℕ)
+        → IsFault (algorithm_of algorithm) bytes number line.now fault) }
 {
-    if let Some(fault) = front_fault(line) {
+    if let Some(fault) = front_fault(algorithm, line) {
         return Err(fault);
     }
-    let Some(text) = after_digits(line) else {
+    let Some(text) = after_digits(algorithm, line) else {
         return Err(LineFault::NoDigits);
     };
     let Some(path) = after_mark(text) else {
@@ -36,28 +37,38 @@ pub(crate) fn path_in(line: &[u8]) -> Result<&str, LineFault>
 }
 
 /// Whether a line gives this path.
-pub(crate) fn gives_path(line: &[u8], path: &str) -> bool
-    ensures { OnTrue result (GivesPath line.now path.now) }
+pub(crate) fn gives_path(algorithm: ListAlgorithm, line: &[u8], path: &str) -> bool
+    ensures { OnTrue result (GivesPath (algorithm_of algorithm) line.now path.now) }
 {
-    match path_in(line) {
+    match path_in(algorithm, line) {
         Ok(found) => found == path,
         Err(_) => false,
     }
 }
 
 /// What is wrong with the beginning of a line.
-fn front_fault(line: &[u8]) -> Option<LineFault>
-    ensures { IfSome result (λ fault.
-        (bytes : List ℕ) (number : ℕ) → IsFault bytes number line.now fault) }
+fn front_fault(algorithm: ListAlgorithm, line: &[u8]) -> Option<LineFault>
+    ensures { IfSome result (λ fault. (bytes : List ℕ) (number : ℕ)
+        → IsFault (algorithm_of algorithm) bytes number line.now fault) }
 {
     if line.starts_with(b"\xef\xbb\xbf") {
         return Some(LineFault::ByteOrderMark);
     }
     let many = digits_in(line);
-    if many == 0 || many == 64 {
+    if many == 0 || many == digits_of(algorithm) {
         return None;
     }
     Some(LineFault::Digits(many as u64))
+}
+
+/// How many hexadecimal digits a digest has.
+fn digits_of(algorithm: ListAlgorithm) -> usize
+    ensures { result ≡ digit_count (algorithm_of algorithm) }
+{
+    match algorithm {
+        ListAlgorithm::Sha256 => 64,
+        ListAlgorithm::Sha512 => 128,
+    }
 }
 
 /// With how many hexadecimal digits a line begins.
@@ -77,21 +88,12 @@ fn first_other(line: &[u8]) -> Option<usize>
     line.iter().position(|byte| !byte.is_ascii_hexdigit())
 }
 
-/// What follows the 64 hexadecimal digits with which a line begins.
-fn after_digits(line: &[u8]) -> Option<&[u8]>
-    ensures { FindsAs (λ text. text.now) (FollowsDigits line.now) result }
+/// What follows the digits of a digest with which a line begins.
+fn after_digits(algorithm: ListAlgorithm, line: &[u8]) -> Option<&[u8]>
+    ensures { FindsAs (λ text. text.now) (FollowsDigits (algorithm_of algorithm) line.now) result }
 {
-    let (digits, text) = line.split_first_chunk::<64>()?;
-    read_digits(digits)?;
+    let (_, text) = split_digest(algorithm, line)?;
     Some(text)
-}
-
-/// The bytes that 64 hexadecimal digits encode.
-#[tactic(auto, unfolding(it_base::specs::HexadecimalText::hexadecimal_decoded))]
-fn read_digits(digits: &[u8; 64]) -> Option<[u8; 32]>
-    ensures { result ≡ hexadecimal_decoded digits.now }
-{
-    <[u8; 32] as FromHex>::from_hex(digits.as_slice()).ok()
 }
 
 /// What follows the two spaces, or the space and the star.

@@ -1,10 +1,11 @@
 //! The text of a note on a line of a digest list.
 ghost use Rattle.std.specs.Prelude.{◌≡◌, ◌++◌, OnOk};
-ghost use Rattle.it_part_notes.specs.SumLine.{fault_form, numbered_form, repeated_form, sum_line};
-ghost use Rattle.it_part_notes.specs.SumLine.{told_form};
+ghost use Rattle.it_part_notes.specs.SumLine.{digits_form, fault_form, list_form, numbered_form};
+ghost use Rattle.it_part_notes.specs.SumLine.{repeated_form, sum_line, told_form};
 
 use crate::sum_line_note::{LineFault, SumLineNote};
 use it_base::text::Text;
+use it_digest::sums::ListAlgorithm;
 use it_report::name::push_cut_name;
 use std::alloc::AllocError;
 
@@ -17,26 +18,49 @@ impl SumLineNote {
     pub fn push_line(&self, text: &mut Vec<u8>) -> Result<(), AllocError>
         ensures { OnOk result (text.new.items ≡ text.old.items ++ sum_line self.now) }
     {
-        push_numbered(text, "digest list: line ", self.number, "")?;
-        push_fault(text, &self.fault)?;
+        push_numbered(text, list_words(self.algorithm), self.number, "")?;
+        push_fault(text, self.algorithm, &self.fault)?;
         push_text(text, "\n")
     }
 }
 
-fn push_fault(text: &mut Vec<u8>, fault: &LineFault) -> Result<(), AllocError>
-    ensures { OnOk result (text.new.items ≡ text.old.items ++ fault_form fault.now) }
+/// Which list it is, up to the number of the line.
+fn list_words(algorithm: ListAlgorithm) -> &'static str
+    ensures { result.now ≡ list_form algorithm }
+{
+    match algorithm {
+        ListAlgorithm::Sha256 => "digest list: line ",
+        ListAlgorithm::Sha512 => "digest list by SHA-512: line ",
+    }
+}
+
+/// How many digits a line of a list has.
+fn digits_words(algorithm: ListAlgorithm) -> &'static str
+    ensures { result.now ≡ digits_form algorithm }
+{
+    match algorithm {
+        ListAlgorithm::Sha256 => "64 hexadecimal digits",
+        ListAlgorithm::Sha512 => "128 hexadecimal digits",
+    }
+}
+
+fn push_fault(
+    text: &mut Vec<u8>,
+    algorithm: ListAlgorithm,
+    fault: &LineFault,
+) -> Result<(), AllocError>
+    ensures { OnOk result (text.new.items ≡ text.old.items ++ fault_form algorithm fault.now) }
 {
     match fault {
         LineFault::ByteOrderMark => push_text(text, " begins with a byte order mark"),
         LineFault::Digits(many) => {
-            push_numbered(
-                text,
-                " begins with ",
-                *many,
-                " in place of 64 hexadecimal digits",
-            )
+            push_numbered(text, " begins with ", *many, " in place of ")?;
+            push_text(text, digits_words(algorithm))
         }
-        LineFault::NoDigits => push_text(text, " does not begin with 64 hexadecimal digits"),
+        LineFault::NoDigits => {
+            push_text(text, " does not begin with ")?;
+            push_text(text, digits_words(algorithm))
+        }
         LineFault::NoMark => {
             push_text(
                 text,

@@ -1,10 +1,11 @@
 //! The lines of a digest list by their numbers.
 ghost use Rattle.std.specs.Prelude.{◌<◌, IfSome};
 ghost use Rattle.std.specs.Bool.{OnTrue};
+ghost use Rattle.it_digest.specs.Sums.{algorithm_of};
 ghost use Rattle.it_part_notes.specs.SumLine.{FirstLineReturns, IsLine, LineGives};
 
 use crate::sum_line::gives_path;
-use it_digest::sums::split_line;
+use it_digest::sums::{ListAlgorithm, split_line};
 
 /// The line of this number, from 1.
 pub(crate) fn line_at(bytes: &[u8], number: u64) -> Option<&[u8]>
@@ -35,9 +36,14 @@ pub fn first_line_returns(bytes: &[u8]) -> bool
 }
 
 /// The number of the first line that gives a path, if it comes before the line with this number.
-pub(crate) fn earlier_line(bytes: &[u8], number: u64, path: &str) -> Option<u64>
+pub(crate) fn earlier_line(
+    algorithm: ListAlgorithm,
+    bytes: &[u8],
+    number: u64,
+    path: &str,
+) -> Option<u64>
     ensures { IfSome result (λ earlier. (earlier < number)
-        × LineGives bytes.now earlier path.now) }
+        × LineGives (algorithm_of algorithm) bytes.now earlier path.now) }
 {
     let mut rest = bytes;
     for earlier in 1..number {
@@ -45,7 +51,7 @@ pub(crate) fn earlier_line(bytes: &[u8], number: u64, path: &str) -> Option<u64>
             return None;
         }
         let (line, after) = split_line(rest);
-        if gives_path(line, path) {
+        if gives_path(algorithm, line, path) {
             return Some(earlier);
         }
         rest = after;

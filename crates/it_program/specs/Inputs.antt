@@ -56,6 +56,7 @@ pub record AreInputs (disk : Holdings) (words : VerifyWords) (inputs : Inputs)
   pub links_limited : AreLimited words.public_keys inputs.links
   pub records : HoldsIfGiven disk.records words.records inputs.records
   pub provenance : IsProvenance disk words inputs.provenance vouched
-  pub sums : disk.file words.sums inputs.sums
+  pub sums : HoldsIfGiven disk.file words.sums inputs.sums
+  pub sums512 : HoldsIfGiven disk.file words.sums512 inputs.sums512
   pub moment : inputs.moment ≡ words.at
   pub depth : inputs.depth ≡ words.depth

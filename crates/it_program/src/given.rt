@@ -14,7 +14,7 @@ use it_base::sequence::Sequence;
 use it_base::text::Text;
 use it_chain::bundle::Bundle;
 use it_command_checks::command_checks::CommandChecks;
-use it_disk::{Disk, Fault, LeftOut, TooMany, bytes, read_ring, too_many};
+use it_disk::{Disk, Fault, LeftOut, TooMany, bytes, bytes_if_given, read_ring, too_many};
 use it_dsse::ring::HmacRing;
 use it_outcome::RunFault;
 use it_public_keys::own_checks::OwnChecks;
@@ -89,7 +89,8 @@ fn read_inputs<R: Disk + AllocGlobal>(rt: &R, words: &VerifyWords) -> Result<Rea
         links,
         records,
         provenance: provenance.lines,
-        sums: bytes(rt, &words.sums)?,
+        sums: bytes_if_given(rt, &words.sums)?,
+        sums512: bytes_if_given(rt, &words.sums512)?,
         moment: Text::from(moment),
         depth: words.depth,
     };

@@ -8,7 +8,7 @@ use Rattle.std.specs.Option.{option_map_or}
 use Rattle.std.proofs.lemmas.Option.{get_or_from_slice_get, slice_get-get_or}
 use Rattle.std.proofs.lemmas.Option.{same_Some, slice_get_read, slice_get_within}
 use Rattle.std.proofs.lemmas.List.Elements.{Contains-get_or}
-use Rattle.it_digest.specs.DigestSet.{only_sha256}
+use Rattle.it_digest.specs.DigestSet.{in_sha256, only}
 use Rattle.it_dsse.specs.Panel.{Panel}
 use Rattle.it_dsse.specs.declared.envelope.Envelope.{Envelope}
 use Rattle.it_docs.specs.declared.policy.Expectation.{Expectation}
@@ -47,14 +47,14 @@ pub record Reaches (panel : Panel) (expectation : Expectation) (digest : List �
     (envelopes : List Envelope) (place : ℕ) (n : ℕ) : Type 0 where
   pub envelope : Envelope
   pub stands : slice_get envelopes place ≡ Some envelope
-  pub meets : MeetsAtLevel panel expectation (only_sha256 digest) envelope n
+  pub meets : MeetsAtLevel panel expectation (only in_sha256 digest) envelope n
 
 module _ (panel : Panel) (expectations : List Expectation) (expectation : Expectation)
     (is_expectation : Contains expectations expectation) (digest : List ℕ)
     (envelopes : List Envelope) (held : List (Option Attestation))
     (are : AreHeld panel expectations envelopes held) where
   abbrev MeetsAt : Envelope → ℕ → Type 0
-  MeetsAt = MeetsAtLevel panel expectation (only_sha256 digest)
+  MeetsAt = MeetsAtLevel panel expectation (only in_sha256 digest)
 
   abbrev ReachesAt : ℕ → ℕ → Type 0
   ReachesAt = Reaches panel expectation digest envelopes
@@ -63,7 +63,7 @@ module _ (panel : Panel) (expectations : List Expectation) (expectation : Expect
   names_it : (e : Envelope) (h : Option Attestation) → HoldsOrNone panel expectations e h → (n : ℕ)
       → MeetsAt e n → names_sha256 digest h ≡ true
   names_it e None none n m = absurd (none m.besides_level.attests.statement
-      (held_of panel expectations expectation is_expectation (only_sha256 digest) e n m))
+      (held_of panel expectations expectation is_expectation (only in_sha256 digest) e n m))
   names_it e (Some a) attested n m =
       let at = m.besides_level.attests in
       some_agree a.statement.subjects at.subject digest
@@ -90,9 +90,9 @@ module _ (panel : Panel) (expectations : List Expectation) (expectation : Expect
   place_in : (es : List Envelope) (e : Envelope) (c : Contains es e) → slice_get es c.0 ≡ Some e
   place_in es e c = slice_get_read es (length es) c.0 e refl c.1 (sym c.2)
 
-  met_in : (e : Envelope) (m : Meets panel expectation (only_sha256 digest) e)
+  met_in : (e : Envelope) (m : Meets panel expectation (only in_sha256 digest) e)
       → MeetsAt e m.builder.level
-  met_in = level_of panel expectation (only_sha256 digest)
+  met_in = level_of panel expectation (only in_sha256 digest)
 
   -- what a place before one of the index has is looked at before it
   module _ (j : ℕ) (best : Option ℕ)
@@ -100,7 +100,7 @@ module _ (panel : Panel) (expectations : List Expectation) (expectation : Expect
       (take j (places_where (names_sha256 digest) 0 held)) best) where
     -- no envelope before the place that comes next is enough
     pub none_earlier : (p : ℕ) → slice_get (places_where (names_sha256 digest) 0 held) j ≡ Some p
-        → NoneMeets panel expectation (only_sha256 digest) (take p envelopes)
+        → NoneMeets panel expectation (only in_sha256 digest) (take p envelopes)
     none_earlier p at = λ e c m.
         let places = places_where (names_sha256 digest) 0 held in
         let q = c.0 in
@@ -121,7 +121,7 @@ module _ (panel : Panel) (expectations : List Expectation) (expectation : Expect
           (places_where (names_sha256 digest) 0 held) j best past so_far
 
       -- nor is any, where none comes next
-      pub none_at_all : NoneMeets panel expectation (only_sha256 digest) envelopes
+      pub none_at_all : NoneMeets panel expectation (only in_sha256 digest) envelopes
       none_at_all = λ e c m.
           let stands = place_in envelopes e c in
           let met = met_in e m in
@@ -129,7 +129,7 @@ module _ (panel : Panel) (expectations : List Expectation) (expectation : Expect
           all_looked_at c.0 (listed c.0 e m.builder.level stands met) m.builder.level
           (record { envelope = e; stands = stands; meets = met }) m.level_is_enough
 
-      pub best_of_all : IsBest panel expectation (only_sha256 digest) (Contains envelopes) best
+      pub best_of_all : IsBest panel expectation (only in_sha256 digest) (Contains envelopes) best
       best_of_all = greatest_alike
           (OfSome ReachesAt (places_where (names_sha256 digest) 0 held))
           (λ n. (e : Envelope) × Contains envelopes e × MeetsAt e n)
@@ -182,7 +182,7 @@ listed_within digest held places j are below =
 pub listed_has : (digest : List ℕ) (held : List (Option Attestation)) (places : List ℕ) (j : ℕ)
     → places ≡ places_where (names_sha256 digest) 0 held → j < length places
     → (h : Option Attestation) → h ≡ get_or held (get_or places j 0) h
-    → IfSome h (HasSubject (only_sha256 digest))
+    → IfSome h (HasSubject (only in_sha256 digest))
 listed_has digest held places j are below h here =
     let p = get_or places j 0 in
     let at = where_at (names_sha256 digest) 0 held p
@@ -194,13 +194,13 @@ listed_has digest held places j are below h here =
 -- the greatest level of the envelope at a place is that of the place
 pub reaches_greatest : (panel : Panel) (expectation : Expectation) (digest : List ℕ)
     (envelopes : List Envelope) (place : ℕ) (e : Envelope) → slice_get envelopes place ≡ Some e
-    → (best : Option ℕ) → IsGreatest (MeetsAtLevel panel expectation (only_sha256 digest) e) best
+    → (best : Option ℕ) → IsGreatest (MeetsAtLevel panel expectation (only in_sha256 digest) e) best
     → IsGreatest (Reaches panel expectation digest envelopes place) best
 reaches_greatest panel expectation digest envelopes place e stands best =
-    greatest_alike (MeetsAtLevel panel expectation (only_sha256 digest) e)
+    greatest_alike (MeetsAtLevel panel expectation (only in_sha256 digest) e)
     (Reaches panel expectation digest envelopes place)
     (λ n m. record { envelope = e; stands = stands; meets = m })
-    (λ n r. subst (λ (d : Envelope). MeetsAtLevel panel expectation (only_sha256 digest) d n)
+    (λ n r. subst (λ (d : Envelope). MeetsAtLevel panel expectation (only in_sha256 digest) d n)
     (same_Some r.envelope e (sym r.stands ∙ stands)) r.meets) best
 
 pub read_there : (places : List ℕ) (j : ℕ) → j < length places

@@ -8,7 +8,7 @@ use Rattle.std.proofs.lemmas.Option.{same_Some}
 use Rattle.std.proofs.lemmas.Slice.Eq.{bytes_eq-Decides}
 use Rattle.it_base.proofs.Settled.{settled_by}
 use Rattle.it_digest.specs.Compare.{Agree, Differ}
-use Rattle.it_digest.specs.DigestSet.{Algorithm, in_sha256, in_sha384, in_sha512, only_sha256}
+use Rattle.it_digest.specs.DigestSet.{Algorithm, in_sha256, in_sha384, in_sha512, only}
 use Rattle.it_digest.specs.DigestSet.{value_in}
 use Rattle.it_digest.specs.declared.compare.DigestSet.{DigestSet}
 use Rattle.it_prov.specs.Index.{has_sha256, names_sha256}
@@ -16,7 +16,7 @@ use Rattle.it_prov.specs.inside.Judged.{HasSubject}
 use Rattle.it_prov.specs.declared.attestations.Attestation.{Attestation}
 
 same_value : (subject : DigestSet) (digest a b : List ℕ) → subject.sha256 ≡ Some a
-    → Some digest ≡ Some b → ¬ Differ subject (only_sha256 digest) → a ≡ digest
+    → Some digest ≡ Some b → ¬ Differ subject (only in_sha256 digest) → a ≡ digest
 same_value subject digest a b first second alike =
     elim (settled_by (bytes_eq a digest) (bytes_eq-Decides a digest)) [
       | inl same ↦ same
@@ -30,8 +30,8 @@ same_value subject digest a b first second alike =
     ]
 
 agree_by : (subject : DigestSet) (digest : List ℕ) (algorithm : Algorithm) (a b : List ℕ)
-    → value_in algorithm subject ≡ Some a → value_in algorithm (only_sha256 digest) ≡ Some b
-    → ¬ Differ subject (only_sha256 digest) → has_sha256 digest subject ≡ true
+    → value_in algorithm subject ≡ Some a → value_in algorithm (only in_sha256 digest) ≡ Some b
+    → ¬ Differ subject (only in_sha256 digest) → has_sha256 digest subject ≡ true
 agree_by subject digest in_sha256 a b first second alike =
     ap (λ o. option_map_or (bytes_eq digest) o false) first
     ∙ (bytes_eq-Decides digest a).1 (sym (same_value subject digest a b first second alike))
@@ -39,13 +39,13 @@ agree_by subject digest in_sha384 a b first second alike = cc
 agree_by subject digest in_sha512 a b first second alike = cc
 
 -- a subject that agrees with a SHA-256 alone has it
-agree_sha256 : (subject : DigestSet) (digest : List ℕ) → Agree subject (only_sha256 digest)
+agree_sha256 : (subject : DigestSet) (digest : List ℕ) → Agree subject (only in_sha256 digest)
     → has_sha256 digest subject ≡ true
 agree_sha256 subject digest h = agree_by subject digest h.algorithm h.in_a h.in_b h.in_both.first
     h.in_both.second h.no_difference
 
 pub some_agree : (subjects : List DigestSet) (subject : DigestSet) (digest : List ℕ)
-    → Contains subjects subject → Agree subject (only_sha256 digest)
+    → Contains subjects subject → Agree subject (only in_sha256 digest)
     → list_any (has_sha256 digest) subjects ≡ true
 some_agree subjects subject digest c h = list_any-from_Any (has_sha256 digest) subjects
     (c.0, subject, c.1, c.2, agree_sha256 subject digest h)
@@ -57,7 +57,7 @@ is_value digest (Some a) h = ap Some (sym ((bytes_eq-Decides digest a).0 h))
 
 alike_under : (subject : DigestSet) (digest : List ℕ) (algorithm : Algorithm) (a b : List ℕ)
     → subject.sha256 ≡ Some digest → value_in algorithm subject ≡ Some a
-    → value_in algorithm (only_sha256 digest) ≡ Some b → a ≡ b
+    → value_in algorithm (only in_sha256 digest) ≡ Some b → a ≡ b
 alike_under subject digest in_sha256 a b has first second =
     same_Some a b (sym first ∙ has ∙ second)
 alike_under subject digest in_sha384 a b has first second = cc
@@ -65,7 +65,7 @@ alike_under subject digest in_sha512 a b has first second = cc
 
 -- one that has it agrees with it alone
 sha256_agrees : (subject : DigestSet) (digest : List ℕ) → has_sha256 digest subject ≡ true
-    → Agree subject (only_sha256 digest)
+    → Agree subject (only in_sha256 digest)
 sha256_agrees subject digest h =
     let has = is_value digest subject.sha256 h in
     record {
@@ -79,7 +79,7 @@ sha256_agrees subject digest h =
 
 -- what the index gives has such a subject
 pub named_has : (digest : List ℕ) (held : Option Attestation) → names_sha256 digest held ≡ true
-    → IfSome held (HasSubject (only_sha256 digest))
+    → IfSome held (HasSubject (only in_sha256 digest))
 named_has digest None h = tt
 named_has digest (Some a) h =
     let s = Any-from_list_any (has_sha256 digest) a.statement.subjects h in

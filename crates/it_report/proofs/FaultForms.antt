@@ -26,7 +26,7 @@ use Rattle.it_report.specs.Report.{best_lines, fault_lines, item_form, layout_pa
 use Rattle.it_report.specs.Report.{policy_part_form, side_form}
 use Rattle.it_report.specs.ReportLaws.{FaultFits, LayoutPartFits, PolicyPartFits}
 use Rattle.it_report.specs.declared.refusal.Fault.{Fault}
-use Rattle.it_report.specs.declared.refusal.Fault.TheVariants.{BadPolicy, BadSums, BadMoment}
+use Rattle.it_report.specs.declared.refusal.Fault.TheVariants.{BadPolicy, BadSums, BadSums512, BadMoment}
 use Rattle.it_report.specs.declared.refusal.Fault.TheVariants.{NoFiles, BadEnvelope}
 use Rattle.it_report.specs.declared.refusal.Fault.TheVariants.{WrongPayloadType, OwnerMissing}
 use Rattle.it_report.specs.declared.refusal.Fault.TheVariants.{BadLayout, Expired, TwoPayloads}
@@ -168,6 +168,14 @@ faults_tell (BadPolicy p) (BadPolicy q) h k number same =
     (policy_part_form q) same))
 faults_tell (BadSums m) (BadSums n) h k number same =
     ap BadSums (last_number (codes "line") m n h k same)
+faults_tell (BadSums512 m) (BadSums512 n) h k number same =
+    ap BadSums512 (last_number (codes "line") m n h k (append_cancel_left
+    (line (codes "list") (codes "sha512")) (line (codes "line") (decimal m))
+    (line (codes "line") (decimal n)) same))
+faults_tell (BadSums m) (BadSums512 n) h k number same =
+    absurd (omega (arith, ap (λ text. get_or text 2 0) same))
+faults_tell (BadSums512 m) (BadSums n) h k number same =
+    absurd (omega (arith, ap (λ text. get_or text 2 0) same))
 faults_tell BadMoment BadMoment h k number same = refl
 faults_tell NoFiles NoFiles h k number same = refl
 faults_tell BadEnvelope BadEnvelope h k number same = refl

@@ -8,7 +8,7 @@ use Rattle.it_report.specs.Fault.{name_of, number_of}
 use Rattle.it_report.specs.ReportLaws.{FirstLinesTell}
 use Rattle.it_report.specs.Report.{first_line, further_lines, report_of}
 use Rattle.it_report.specs.declared.refusal.Fault.{Fault}
-use Rattle.it_report.specs.declared.refusal.Fault.TheVariants.{BadPolicy, BadSums, BadMoment}
+use Rattle.it_report.specs.declared.refusal.Fault.TheVariants.{BadPolicy, BadSums, BadSums512, BadMoment}
 use Rattle.it_report.specs.declared.refusal.Fault.TheVariants.{NoFiles, BadEnvelope}
 use Rattle.it_report.specs.declared.refusal.Fault.TheVariants.{WrongPayloadType, OwnerMissing}
 use Rattle.it_report.specs.declared.refusal.Fault.TheVariants.{BadLayout, Expired, TwoPayloads}
@@ -23,6 +23,7 @@ use Rattle.it_report.specs.declared.verdict.Verdict.TheVariants.{Accepted, Refus
 number_is_small : (fault : Fault) → number_of fault < 2 ^ 64
 number_is_small (BadPolicy part) = lit< tt
 number_is_small (BadSums n) = lit< tt
+number_is_small (BadSums512 n) = lit< tt
 number_is_small BadMoment = lit< tt
 number_is_small NoFiles = lit< tt
 number_is_small BadEnvelope = lit< tt
@@ -44,6 +45,7 @@ number_is_small (NoProvenance path best) = lit< tt
 name_is_line : (fault : Fault) → Lacks 10 (name_of fault)
 name_is_line (BadPolicy part) = Lacks-test 10 (codes "BadPolicy") refl
 name_is_line (BadSums n) = Lacks-test 10 (codes "BadSums") refl
+name_is_line (BadSums512 n) = Lacks-test 10 (codes "BadSums") refl
 name_is_line BadMoment = Lacks-test 10 (codes "BadMoment") refl
 name_is_line NoFiles = Lacks-test 10 (codes "NoFiles") refl
 name_is_line BadEnvelope = Lacks-test 10 (codes "BadEnvelope") refl

@@ -1,7 +1,7 @@
 -- The number and the name of each fault (this profile's choice).
 use Rattle.std.specs.Prelude.{ℕ, List, codes}
 use Rattle.it_report.specs.declared.refusal.Fault.{Fault}
-use Rattle.it_report.specs.declared.refusal.Fault.TheVariants.{BadPolicy, BadSums, BadMoment}
+use Rattle.it_report.specs.declared.refusal.Fault.TheVariants.{BadPolicy, BadSums, BadSums512, BadMoment}
 use Rattle.it_report.specs.declared.refusal.Fault.TheVariants.{NoFiles, BadEnvelope}
 use Rattle.it_report.specs.declared.refusal.Fault.TheVariants.{WrongPayloadType, OwnerMissing}
 use Rattle.it_report.specs.declared.refusal.Fault.TheVariants.{BadLayout, Expired, TwoPayloads}
@@ -13,6 +13,7 @@ use Rattle.it_report.specs.declared.refusal.Fault.TheVariants.{NoExpectation, No
 abbrev pub number_of : Fault → ℕ
 number_of (BadPolicy part) = 10
 number_of (BadSums line) = 12
+number_of (BadSums512 line) = 12
 number_of BadMoment = 13
 number_of NoFiles = 14
 number_of BadEnvelope = 20
@@ -34,6 +35,7 @@ number_of (NoProvenance path best) = 61
 abbrev pub name_of : Fault → List ℕ
 name_of (BadPolicy part) = codes "BadPolicy"
 name_of (BadSums line) = codes "BadSums"
+name_of (BadSums512 line) = codes "BadSums"
 name_of BadMoment = codes "BadMoment"
 name_of NoFiles = codes "NoFiles"
 name_of BadEnvelope = codes "BadEnvelope"

@@ -19,7 +19,7 @@ use Rattle.it_docs.specs.declared.rule.Side.TheVariants.{Materials, Products}
 use Rattle.it_report.specs.Fault.{name_of, number_of}
 use Rattle.it_report.specs.Name.{inner_form, name_form}
 use Rattle.it_report.specs.declared.refusal.Fault.{Fault}
-use Rattle.it_report.specs.declared.refusal.Fault.TheVariants.{BadPolicy, BadSums, BadMoment}
+use Rattle.it_report.specs.declared.refusal.Fault.TheVariants.{BadPolicy, BadSums, BadSums512, BadMoment}
 use Rattle.it_report.specs.declared.refusal.Fault.TheVariants.{NoFiles, BadEnvelope}
 use Rattle.it_report.specs.declared.refusal.Fault.TheVariants.{WrongPayloadType, OwnerMissing}
 use Rattle.it_report.specs.declared.refusal.Fault.TheVariants.{BadLayout, Expired, TwoPayloads}
@@ -88,6 +88,8 @@ best_lines (Some level) = line (codes "best") (decimal level)
 abbrev pub fault_lines : Fault → List ℕ
 fault_lines (BadPolicy part) = line (codes "part") (policy_part_form part)
 fault_lines (BadSums n) = line (codes "line") (decimal n)
+fault_lines (BadSums512 n) =
+    line (codes "list") (codes "sha512") ++ line (codes "line") (decimal n)
 fault_lines BadMoment = []
 fault_lines NoFiles = []
 fault_lines BadEnvelope = []

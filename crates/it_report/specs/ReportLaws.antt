@@ -7,7 +7,7 @@ use Rattle.it_docs.specs.declared.policy_fault.PolicyPart.TheVariants.{Expectati
 use Rattle.it_report.specs.Name.{name_form}
 use Rattle.it_report.specs.Report.{first_line, report_of}
 use Rattle.it_report.specs.declared.refusal.Fault.{Fault}
-use Rattle.it_report.specs.declared.refusal.Fault.TheVariants.{BadPolicy, BadSums, BadLayout}
+use Rattle.it_report.specs.declared.refusal.Fault.TheVariants.{BadPolicy, BadSums, BadSums512, BadLayout}
 use Rattle.it_report.specs.declared.refusal.Fault.TheVariants.{Threshold, RuleFailed, NoProvenance}
 use Rattle.it_report.specs.declared.verdict.Verdict.{Verdict}
 use Rattle.it_report.specs.declared.verdict.Verdict.TheVariants.{Accepted, Refused}
@@ -32,6 +32,7 @@ LayoutPartFits part = Unit {0}
 abbrev pub FaultFits : Fault → Type 0
 FaultFits (BadPolicy part) = PolicyPartFits part
 FaultFits (BadSums n) = n < 2 ^ 64
+FaultFits (BadSums512 n) = n < 2 ^ 64
 FaultFits (BadLayout part) = LayoutPartFits part
 FaultFits (Threshold step found needed) = (found < 2 ^ 64) × (needed < 2 ^ 64)
 FaultFits (RuleFailed item side index path) = index < 2 ^ 64

@@ -26,6 +26,7 @@ pub(super) fn push_fault(alloc: Global, text: &mut Vec<u8>, fault: &Fault) -> Re
     match fault {
         Fault::BadPolicy(part) => push_policy_part(alloc, text, *part),
         Fault::BadSums(number) => push_number_line(alloc, text, "line", *number),
+        Fault::BadSums512(number) => push_line_by_sha512(alloc, text, *number),
         Fault::OwnerMissing(id) => push_name_line(text, "key", id),
         Fault::BadLayout(part) => push_layout_part(alloc, text, part),
         Fault::TwoPayloads { step, id } => push_step_and_key(text, step, id),
@@ -66,6 +67,14 @@ fn push_policy_part(alloc: Global, text: &mut Vec<u8>, part: PolicyPart) -> Resu
         PolicyPart::Expectations => push_line(text, "part", "expectations"),
         PolicyPart::Expectation(n) => push_number_line(alloc, text, "part expectation", n as u64),
     }
+}
+
+fn push_line_by_sha512(alloc: Global, text: &mut Vec<u8>, number: u64) -> Result<(), AllocError>
+    ensures { OnOk result (text.new.items
+        ≡ text.old.items ++ fault_lines (Fault.BadSums512 number)) }
+{
+    push_line(text, "list", "sha512")?;
+    push_number_line(alloc, text, "line", number)
 }
 
 fn push_layout_part(alloc: Global, text: &mut Vec<u8>, part: &LayoutPart) -> Result<(), AllocError>

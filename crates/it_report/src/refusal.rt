@@ -14,11 +14,14 @@ use it_docs::rule::Side;
 pub enum Fault {
     /// The policy does not read. This is the first part that fails.
     BadPolicy(PolicyPart),
-    /// The digest list does not read. This is the first bad line, counted from 1.
+    /// The digest list by SHA-256 does not read. This is the first bad line, counted from 1.
     BadSums(u64),
+    /// The digest list by SHA-512 does not read, and the one by SHA-256 does. This is the first bad
+    /// line, counted from 1.
+    BadSums512(u64),
     /// The moment does not read.
     BadMoment,
-    /// The digest list names no file.
+    /// No digest list names a file.
     NoFiles,
     /// The layout's bytes are not an envelope (DSSE v1.0).
     BadEnvelope,
@@ -98,7 +101,7 @@ impl Fault {
     {
         match self {
             Fault::BadPolicy(_) => 10,
-            Fault::BadSums(_) => 12,
+            Fault::BadSums(_) | Fault::BadSums512(_) => 12,
             Fault::BadMoment => 13,
             Fault::NoFiles => 14,
             Fault::BadEnvelope => 20,
@@ -119,13 +122,14 @@ impl Fault {
         }
     }
 
-    /// The name that a report gives for this fault: that of its variant. Takes no memory.
+    /// The name that a report gives for this fault: that of its variant, but `BadSums` for either
+    /// digest list. Takes no memory.
     pub fn name(&self) -> &'static str
         ensures { result.now ≡ name_of self.now }
     {
         match self {
             Fault::BadPolicy(_) => "BadPolicy",
-            Fault::BadSums(_) => "BadSums",
+            Fault::BadSums(_) | Fault::BadSums512(_) => "BadSums",
             Fault::BadMoment => "BadMoment",
             Fault::NoFiles => "NoFiles",
             Fault::BadEnvelope => "BadEnvelope",

@@ -48,6 +48,7 @@ alike_back panel a b h =
     record {
       policy = share.policy;
       sums = share.sums;
+      sums512 = share.sums512;
       moment = share.moment;
       depth = share.depth;
       layout = share.layout;

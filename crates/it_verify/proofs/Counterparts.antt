@@ -5,7 +5,9 @@ use Rattle.std.proofs.Common.{◌∙◌, ⊎_elim}
 use Rattle.std.specs.Prelude.{⊤}
 use Rattle.std.specs.FinMap.{empty, entries, get}
 use Rattle.it_base.proofs.Firsts.{first_alike}
-use Rattle.it_digest.specs.Sums.{IsFirstBadLine, SumsOf}
+use Rattle.it_digest.specs.Artifacts.{ArtifactMap}
+use Rattle.it_digest.specs.Listed.{AreListed, IsFirstBadIn}
+use Rattle.it_digest.specs.declared.listed.BadLine.{BadLine}
 use Rattle.it_dsse.specs.Panel.{Panel}
 use Rattle.it_dsse.specs.Envelope.{EnvelopeOf}
 use Rattle.it_dsse.specs.Signed.{IsSigner}
@@ -43,6 +45,7 @@ pub share_of : (Bundles : Setting → ℕ → Comparing) (Compares : Type 0 → 
 share_of Bundles Compares panel a b h = record {
   policy = h.policy;
   sums = h.sums;
+  sums512 = h.sums512;
   moment = h.moment;
   depth = h.depth;
   layout = h.layout;
@@ -69,6 +72,7 @@ pub share_back : (panel : Panel) (a b : Inputs) → Share panel a b → Share pa
 share_back panel a b h = record {
   policy = sym h.policy;
   sums = sym h.sums;
+  sums512 = sym h.sums512;
   moment = sym h.moment;
   depth = sym h.depth;
   layout = ⊎_elim (λ same. inl (sym same)) (λ s. inr (signed_back panel a b h.policy s)) h.layout;
@@ -124,6 +128,16 @@ pub record Reread (panel : Panel) (inputs : Inputs) (documents : Documents) : Ty
       → IsSigner panel documents.envelope object id ↔ IsSigner panel other object id
 
 module _ (panel : Panel) (a b : Inputs) (h : Share panel a b) where
+  listed_there : (files : ArtifactMap) → AreListed a.sums a.sums512 files
+      → AreListed b.sums b.sums512 files
+  listed_there files is = subst (λ bytes. AreListed b.sums bytes files) h.sums512
+      (subst (λ bytes. AreListed bytes a.sums512 files) h.sums is)
+
+  bad_there : (bad : BadLine) → IsFirstBadIn a.sums a.sums512 bad
+      → IsFirstBadIn b.sums b.sums512 bad
+  bad_there bad is = subst (λ bytes. IsFirstBadIn b.sums bytes bad) h.sums512
+      (subst (λ bytes. IsFirstBadIn bytes a.sums512 bad) h.sums is)
+
   counterpart : (envelope : Envelope) → EnvelopeOf a.layout envelope
       → Counterpart panel a b envelope
   counterpart envelope is = ⊎_elim (same_counterpart panel a b envelope is)
@@ -136,7 +150,7 @@ module _ (panel : Panel) (a b : Inputs) (h : Share panel a b) where
         other = part.other;
         read = record {
           policy = subst (λ bytes. PolicyOf bytes documents.policy) h.policy read.policy;
-          delivered = subst (λ bytes. SumsOf bytes documents.delivered) h.sums read.delivered;
+          delivered = listed_there documents.delivered read.delivered;
           moment = subst (λ text. MomentOf text documents.moment) h.moment read.moment;
           envelope = part.reads;
           payload_type = sym part.payload_type ∙ read.payload_type;
@@ -232,7 +246,7 @@ module _ (panel : Panel) (a b : Inputs) (h : Share panel a b) where
     at_each links inspections deliver provenance at_sums =
         carried at_sums (λ refusal x. (
           x.0,
-          subst (λ bytes. IsFirstBadLine bytes x.0) h.sums x.1,
+          bad_there x.0 x.1,
           x.2,
         ))
     at_each links inspections deliver provenance at_moment =
@@ -243,7 +257,7 @@ module _ (panel : Panel) (a b : Inputs) (h : Share panel a b) where
           x.1,
         ))
     at_each links inspections deliver provenance at_files =
-        carried at_files (λ refusal x. (subst (λ bytes. SumsOf bytes empty) h.sums x.0, x.1))
+        carried at_files (λ refusal x. (listed_there empty x.0, x.1))
     at_each links inspections deliver provenance at_envelope = carried at_envelope no_envelope_there
     at_each links inspections deliver provenance at_payload_type =
         carried at_payload_type type_there

@@ -8,9 +8,10 @@ use Rattle.it_base.specs.Finds.{Finds}
 use Rattle.it_base.proofs.Settled.{settled_by}
 use Rattle.it_base.proofs.Firsts.{first_or_all}
 use Rattle.it_digest.specs.Artifacts.{ArtifactMap}
-use Rattle.it_digest.specs.Sums.{IsFirstBadLine, SumsOf}
+use Rattle.it_digest.specs.Listed.{AreListed, IsFirstBadIn}
+use Rattle.it_digest.specs.declared.listed.BadLine.{BadLine}
 use Rattle.it_digest.proofs.Decided.{is_same_map, is_same_map-Decides}
-use Rattle.it_digest.proofs.SumsDecided.{sums_of, sums_of-is}
+use Rattle.it_digest.proofs.ListedDecided.{lists_of, lists_of-is}
 use Rattle.it_dsse.specs.Panel.{Panel}
 use Rattle.it_dsse.specs.Envelope.{EnvelopeOf}
 use Rattle.it_dsse.specs.declared.envelope.Envelope.{Envelope}
@@ -34,9 +35,10 @@ use Rattle.it_verify.specs.Owners.{OwnerLacks}
 use Rattle.it_verify.specs.Refusals.{whole}
 use Rattle.it_verify.specs.RefusedFor.{Stage, at_policy, at_sums, at_moment, at_files, at_envelope}
 use Rattle.it_verify.specs.RefusedFor.{at_payload_type, at_owners, at_layout, FailsAt}
+use Rattle.it_verify.specs.RefusedFor.{line_fault}
 use Rattle.it_verify.specs.Owners.{OwnersSign}
 use Rattle.it_verify.specs.declared.inputs.Inputs.{Inputs}
-use Rattle.it_report.specs.declared.refusal.Fault.TheVariants.{BadPolicy, BadSums, BadMoment}
+use Rattle.it_report.specs.declared.refusal.Fault.TheVariants.{BadPolicy, BadMoment}
 use Rattle.it_report.specs.declared.refusal.Fault.TheVariants.{NoFiles, BadEnvelope}
 use Rattle.it_report.specs.declared.refusal.Fault.TheVariants.{WrongPayloadType, OwnerMissing}
 use Rattle.it_report.specs.declared.refusal.Fault.TheVariants.{BadLayout}
@@ -60,14 +62,16 @@ module _ (panel : Panel) (inputs : Inputs) where
       go (Ok policy) h = inr ((policy, h), clear_policy panel inputs policy h)
       go (Err part) h = inl (whole (BadPolicy part), (part, h, refl))
 
-  pub sums_or : StandsOr at_sums ((delivered : ArtifactMap) × SumsOf inputs.sums delivered)
-  sums_or = go (sums_of inputs.sums) (sums_of-is inputs.sums)
+  pub sums_or : StandsOr at_sums ((delivered : ArtifactMap)
+      × AreListed inputs.sums inputs.sums512 delivered)
+  sums_or = go (lists_of inputs.sums inputs.sums512) (lists_of-is inputs.sums inputs.sums512)
     where
-      go : (r : Result ArtifactMap ℕ) → MatchResult r (SumsOf inputs.sums)
-          (IsFirstBadLine inputs.sums) → StandsOr at_sums ((delivered : ArtifactMap)
-          × SumsOf inputs.sums delivered)
+      go : (r : Result ArtifactMap BadLine)
+          → MatchResult r (AreListed inputs.sums inputs.sums512)
+          (IsFirstBadIn inputs.sums inputs.sums512) → StandsOr at_sums ((delivered : ArtifactMap)
+          × AreListed inputs.sums inputs.sums512 delivered)
       go (Ok delivered) h = inr ((delivered, h), clear_sums panel inputs delivered h)
-      go (Err line) h = inl (whole (BadSums line), (line, h, refl))
+      go (Err line) h = inl (whole (line_fault line), (line, h, refl))
 
   pub moment_or : StandsOr at_moment ((moment : ℤ) × MomentOf inputs.moment moment)
   moment_or = go (moment_of inputs.moment) (moment_of-finds inputs.moment)
@@ -77,11 +81,18 @@ module _ (panel : Panel) (inputs : Inputs) where
       go (Some moment) h = inr ((moment, h), clear_moment panel inputs moment h)
       go None h = inl (whole BadMoment, (h, refl))
 
-  pub files_or : (delivered : ArtifactMap) → SumsOf inputs.sums delivered
+  pub files_or : (delivered : ArtifactMap) → AreListed inputs.sums inputs.sums512 delivered
       → StandsOr at_files (delivered ≢ empty)
   files_or delivered h =
       elim (settled_by (is_same_map delivered empty) (is_same_map-Decides delivered empty)) [
-        | inl same ↦ inl (whole NoFiles, (subst (SumsOf inputs.sums) same h, refl))
+        | inl same ↦ inl (
+          whole NoFiles,
+          (
+            subst (AreListed inputs.sums inputs.sums512) same
+                h,
+            refl,
+          ),
+        )
         | inr some ↦ inr (some, clear_files panel inputs delivered h some)
       ]
 

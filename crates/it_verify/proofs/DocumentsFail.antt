@@ -4,7 +4,7 @@ use Rattle.std.specs.FinMap.{empty, entries}
 use Rattle.it_base.specs.Places.{IsFirst, NoneAt}
 use Rattle.it_base.proofs.Firsts.{none_append}
 use Rattle.it_digest.specs.Artifacts.{ArtifactMap}
-use Rattle.it_digest.specs.Sums.{IsFirstBadLine, SumsOf}
+use Rattle.it_digest.specs.Listed.{AreListed}
 use Rattle.it_dsse.specs.Panel.{Panel}
 use Rattle.it_dsse.specs.Envelope.{EnvelopeOf}
 use Rattle.it_dsse.specs.declared.envelope.Envelope.{Envelope}
@@ -23,7 +23,7 @@ use Rattle.it_verify.specs.Owners.{OwnersSign}
 use Rattle.it_verify.specs.inside.Failures.{RefusedAs}
 use Rattle.it_verify.specs.declared.failure.Failure.{Failure}
 use Rattle.it_verify.specs.declared.inputs.Inputs.{Inputs}
-use Rattle.it_report.specs.declared.refusal.Fault.TheVariants.{BadSums, BadMoment, NoFiles}
+use Rattle.it_report.specs.declared.refusal.Fault.TheVariants.{BadMoment, NoFiles}
 use Rattle.it_report.specs.declared.refusal.Fault.TheVariants.{BadEnvelope, WrongPayloadType}
 use Rattle.it_report.specs.declared.refusal.Fault.TheVariants.{BadLayout}
 use Rattle.it_report.specs.declared.refusal.Refusal.{Refusal}
@@ -46,15 +46,11 @@ module _ (panel : Panel) (inputs : Inputs) where
     none_to_policy : NoneAt At (take 1 stages)
     none_to_policy = (clear_policy panel inputs policy is_policy, tt)
 
-    pub sums_fail : (bytes : List ℕ) (e : Failure) → bytes ≡ inputs.sums
-        → RefusedAs (λ refusal. (line : ℕ) × IsFirstBadLine bytes line
-        × (refusal ≡ whole (BadSums line))) e → FailsFirst e
-    sums_fail bytes e same h =
-        fails_at At (take 1 stages) at_sums (drop 2 stages) e none_to_policy
-        (subst (λ b. RefusedAs (λ refusal. (line : ℕ) × IsFirstBadLine b line
-        × (refusal ≡ whole (BadSums line))) e) same h)
+    pub sums_fail : (e : Failure) → RefusedAs (At at_sums) e → FailsFirst e
+    sums_fail e h = fails_at At (take 1 stages) at_sums (drop 2 stages) e none_to_policy h
 
-    module _ (delivered : ArtifactMap) (is_delivered : SumsOf inputs.sums delivered) where
+    module _ (delivered : ArtifactMap)
+        (is_delivered : AreListed inputs.sums inputs.sums512 delivered) where
       none_to_sums : NoneAt At (take 2 stages)
       none_to_sums = and_at (take 1 stages) at_sums none_to_policy
           (clear_sums panel inputs delivered is_delivered)
@@ -78,7 +74,10 @@ module _ (panel : Panel) (inputs : Inputs) where
         no_files_fail e h =
             fails_at At (take 3 stages) at_files (drop 4 stages) e none_to_moment
             (refused_weaker (λ refusal. (delivered ≡ empty) × (refusal ≡ whole NoFiles))
-            (At at_files) e (λ r x. (subst (SumsOf inputs.sums) x.0 is_delivered, x.1)) h)
+            (At at_files) e (λ r x. (
+              subst (AreListed inputs.sums inputs.sums512) x.0 is_delivered,
+              x.1,
+            )) h)
 
         module _ (some_file : delivered ≢ empty) where
           none_to_files : NoneAt At (take 4 stages)

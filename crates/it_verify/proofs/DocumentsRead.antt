@@ -6,8 +6,8 @@ use Rattle.it_base.proofs.Members.{in_head, in_tail}
 use Rattle.it_base.specs.Places.{IsFirst, NoneAt}
 use Rattle.it_base.proofs.Firsts.{none_first}
 use Rattle.it_digest.specs.Artifacts.{ArtifactMap}
-use Rattle.it_digest.specs.Sums.{SumsOf}
-use Rattle.it_digest.proofs.SumsLemmas.{IsFirstBadLine-none, SumsOf_same}
+use Rattle.it_digest.specs.Listed.{AreListed}
+use Rattle.it_digest.proofs.ListedLemmas.{AreListed_same, IsFirstBadIn-none}
 use Rattle.it_dsse.specs.Panel.{Panel}
 use Rattle.it_dsse.specs.Envelope.{EnvelopeOf}
 use Rattle.it_dsse.specs.Signed.{IsSigner}
@@ -50,15 +50,19 @@ module _ (panel : Panel) (inputs : Inputs) where
   pub clear_policy : (policy : Policy) → PolicyOf inputs.policy policy → Clear at_policy
   clear_policy policy h refusal x = no_policy inputs.policy x.0 x.1 policy h
 
-  pub clear_sums : (delivered : ArtifactMap) → SumsOf inputs.sums delivered → Clear at_sums
-  clear_sums delivered h refusal x = IsFirstBadLine-none inputs.sums x.0 x.1 delivered h
+  pub clear_sums : (delivered : ArtifactMap) → AreListed inputs.sums inputs.sums512 delivered
+      → Clear at_sums
+  clear_sums delivered h refusal x =
+      IsFirstBadIn-none inputs.sums inputs.sums512 x.0 x.1 delivered h
 
   pub clear_moment : (moment : ℤ) → MomentOf inputs.moment moment → Clear at_moment
   clear_moment moment h refusal x = x.0 moment h
 
-  pub clear_files : (delivered : ArtifactMap) → SumsOf inputs.sums delivered → delivered ≢ empty
+  pub clear_files : (delivered : ArtifactMap) → AreListed inputs.sums inputs.sums512 delivered
+      → delivered ≢ empty
       → Clear at_files
-  clear_files delivered h some refusal x = some (SumsOf_same inputs.sums empty delivered x.0 h)
+  clear_files delivered h some refusal x = some (AreListed_same inputs.sums
+      inputs.sums512 empty delivered x.0 h)
 
   module _ (envelope : Envelope) (is_envelope : EnvelopeOf inputs.layout envelope) where
     same_envelope : (other : Envelope) → EnvelopeOf inputs.layout other → envelope ≡ other

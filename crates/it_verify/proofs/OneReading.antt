@@ -2,7 +2,7 @@
 use Rattle.std.proofs.Common.{◌≡◌, List, [], ◌∷◌, refl, sym, subst, ◌∙◌}
 use Rattle.std.proofs.lemmas.Option.{same_Some}
 use Rattle.std.specs.List.{AllZip}
-use Rattle.it_digest.proofs.SumsLemmas.{SumsOf_same}
+use Rattle.it_digest.proofs.ListedLemmas.{AreListed_same}
 use Rattle.it_dsse.specs.Panel.{Panel}
 use Rattle.it_docs.specs.Layout.{LayoutOf}
 use Rattle.it_docs.specs.Link.{LinkOf}
@@ -20,7 +20,7 @@ use Rattle.it_verify.specs.declared.inputs.Inputs.{Inputs}
 pub read_one : (inputs : Inputs) (a b : Documents) → ReadAs inputs a → ReadAs inputs b → a ≡ b
 read_one inputs a b h k =
     let policy = policy_same inputs.policy a.policy b.policy h.policy k.policy in
-    let delivered = sym (SumsOf_same inputs.sums a.delivered b.delivered h.delivered k.delivered) in
+    let delivered = sym (AreListed_same inputs.sums inputs.sums512 a.delivered b.delivered h.delivered k.delivered) in
     let moment = same_moment inputs.moment a.moment b.moment h.moment k.moment in
     let envelope = envelope_same inputs.layout a.envelope b.envelope h.envelope k.envelope in
     let layout = layout_same a.envelope.payload a.layout b.layout h.layout

@@ -5,7 +5,7 @@ use Rattle.std.specs.FinMap.{entries}
 use Rattle.it_base.specs.Places.{IsFirst}
 use Rattle.it_base.proofs.Firsts.{OneAt, OneFirst, one_more, one_none}
 use Rattle.it_digest.specs.declared.compare.DigestSet.{DigestSet}
-use Rattle.it_digest.proofs.SumsLemmas.{bad_line_one}
+use Rattle.it_digest.proofs.ListedLemmas.{one_bad_line}
 use Rattle.it_dsse.specs.Panel.{Panel}
 use Rattle.it_docs.specs.LayoutPart.{LayoutPartOf}
 use Rattle.it_docs.specs.declared.link.Link.{Link}
@@ -33,13 +33,13 @@ use Rattle.it_verify.specs.Refusals.{refusal_of, whole}
 use Rattle.it_verify.specs.RefusedFor.{Stage, at_policy, at_sums, at_moment, at_files, at_envelope}
 use Rattle.it_verify.specs.RefusedFor.{at_payload_type, at_owners, at_layout, at_links, at_records}
 use Rattle.it_verify.specs.RefusedFor.{at_inspections, at_deliver, at_provenance, RefusedFor}
-use Rattle.it_verify.specs.RefusedFor.{FailsAt, stages}
+use Rattle.it_verify.specs.RefusedFor.{FailsAt, line_fault, stages}
 use Rattle.it_verify.specs.Delivered.{DeliverFails, delivery}
 use Rattle.it_verify.specs.Evidence.{Evidence, evidence_links}
 use Rattle.it_verify.specs.Inspections.{recorded_in, inspection_rules_on}
 use Rattle.it_verify.specs.Made.{IsMadeBy, verdict_of}
 use Rattle.it_verify.specs.declared.inputs.Inputs.{Inputs}
-use Rattle.it_report.specs.declared.refusal.Fault.TheVariants.{BadPolicy, BadSums, BadLayout}
+use Rattle.it_report.specs.declared.refusal.Fault.TheVariants.{BadPolicy, BadLayout}
 use Rattle.it_report.specs.declared.refusal.Fault.TheVariants.{RuleFailed, NoProvenance}
 use Rattle.it_report.specs.declared.refusal.Refusal.{Refusal}
 use Rattle.it_verify.proofs.OneReading.{read_alike, evident_alike}
@@ -135,8 +135,8 @@ module _ (panel : Panel) (inputs : Inputs) where
   one_stands : (place : Stage) → OneStands place
   one_stands at_policy a b h k = h.2 ∙ ap (λ part. whole (BadPolicy part))
       (policy_part_one inputs.policy h.0 k.0 h.1 k.1) ∙ sym k.2
-  one_stands at_sums a b h k = h.2 ∙ ap (λ line. whole (BadSums line))
-      (bad_line_one inputs.sums h.0 k.0 h.1 k.1) ∙ sym k.2
+  one_stands at_sums a b h k = h.2 ∙ ap (λ bad. whole (line_fault bad))
+      (one_bad_line inputs.sums inputs.sums512 h.0 k.0 h.1 k.1) ∙ sym k.2
   one_stands at_moment a b h k = h.1 ∙ sym k.1
   one_stands at_files a b h k = h.1 ∙ sym k.1
   one_stands at_envelope a b h k = h.1 ∙ sym k.1

@@ -1,6 +1,6 @@
 -- What the inputs of a verification read as.
 use Rattle.std.specs.Prelude.{◌≡◌}
-use Rattle.it_digest.specs.Sums.{SumsOf}
+use Rattle.it_digest.specs.Listed.{AreListed}
 use Rattle.it_dsse.specs.Envelope.{EnvelopeOf}
 use Rattle.it_dsse.specs.Panel.{Panel}
 use Rattle.it_docs.specs.Layout.{LayoutOf}
@@ -15,7 +15,7 @@ pub use Rattle.it_verify.specs.declared.documents.Documents.{Documents}
 -- the in-toto type (DSSE v1.0) whose payload is a layout (in-toto 1.0 section 4.3)
 pub record ReadAs (inputs : Inputs) (documents : Documents) : Type 0 where
   pub policy : PolicyOf inputs.policy documents.policy
-  pub delivered : SumsOf inputs.sums documents.delivered
+  pub delivered : AreListed inputs.sums inputs.sums512 documents.delivered
   pub moment : MomentOf inputs.moment documents.moment
   pub envelope : EnvelopeOf inputs.layout documents.envelope
   pub payload_type : documents.envelope.payload_type ≡ in_toto_type

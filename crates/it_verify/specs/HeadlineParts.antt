@@ -47,8 +47,8 @@ pub use Rattle.it_digest.specs.DigestSet.{value_in}
 pub use Rattle.it_digest.specs.DigestSet.{name_of}
 -- how many bytes its value has
 pub use Rattle.it_digest.specs.DigestSet.{size_of}
--- the set with this SHA-256 and no other digest
-pub use Rattle.it_digest.specs.DigestSet.{only_sha256}
+-- the set with this digest under an algorithm, and no other
+pub use Rattle.it_digest.specs.DigestSet.{only}
 -- the set without a digest
 pub use Rattle.it_digest.specs.DigestSet.{no_digests}
 -- paths are compared by their bytes
@@ -186,12 +186,22 @@ pub use Rattle.it_docs.specs.Policy.{IsBuilderOf}
 pub use Rattle.it_docs.specs.Level.{IsLevelPart}
 -- a level: a whole number from 0 to 3
 pub use Rattle.it_docs.specs.Level.{IsLevel}
+-- the files that two digest lists describe together
+pub use Rattle.it_digest.specs.Listed.{AreListed}
+-- a path is in the map that two maps make together where it is in either of them
+pub use Rattle.it_digest.specs.Listed.{AreTogether}
+-- what two lists say of one path: the digests of the list that has it, or those of both
+pub use Rattle.it_digest.specs.Listed.{listed_digests}
 -- the map that a digest list describes
 pub use Rattle.it_digest.specs.Sums.{SumsOf}
 -- the lines give these entries, one each, and no path occurs twice
 pub use Rattle.it_digest.specs.Sums.{AreSums}
--- a line gives this path the SHA-256 that its 64 digits encode
+-- a line gives this path the digest that its digits encode
 pub use Rattle.it_digest.specs.Sums.{IsSum}
+-- a line is cut in two: the digits of a digest, which is all that this set has, and this text
+pub use Rattle.it_digest.specs.Sums.{IsCut}
+-- how many digits a digest has
+pub use Rattle.it_digest.specs.Sums.{digit_count}
 -- what follows the digits: two spaces, or a space and a star, and then a path, which is not empty
 pub use Rattle.it_digest.specs.Sums.{IsMarkedPath}
 -- the lines of a file: each ends with a line feed, which the last one may lack

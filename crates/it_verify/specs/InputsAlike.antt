@@ -47,13 +47,14 @@ pub record IsAttested (panel : Panel) (inputs : Inputs) (id : List ℕ) (object 
   pub payload_is : envelope.payload ≡ payload
   pub signed : IsSigner panel envelope object id
 
--- policy, digest list, moment and depth are equal, and layouts and records say the same; where
+-- policy, digest lists, moment and depth are equal, and layouts and records say the same; where
 -- everything reads, the bundles compare as given, and so do the payloads that each builder's key
 -- signed
 pub record Compare (Bundles : Setting → ℕ → Comparing) (Compares : Type 0 → Type 0 → Type 0)
     (panel : Panel) (inputs other : Inputs) : Type 0 where
   pub policy : inputs.policy ≡ other.policy
   pub sums : inputs.sums ≡ other.sums
+  pub sums512 : inputs.sums512 ≡ other.sums512
   pub moment : inputs.moment ≡ other.moment
   pub depth : inputs.depth ≡ other.depth
   pub layout : (inputs.layout ≡ other.layout) ⊎ SameSigned panel inputs other

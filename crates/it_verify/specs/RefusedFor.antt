@@ -1,9 +1,11 @@
 -- Why delivered files are refused: the refusal of the first stage of a verification that fails (the
 -- order of the stages is this profile's choice).
 use Rattle.std.specs.FinMap.{empty, entries}
-use Rattle.std.specs.Prelude.{◌≡◌, ◌≢◌, ℕ, ℤ, List, [], ◌∷◌, flat_map, zip}
+use Rattle.std.specs.Prelude.{◌≡◌, ◌≢◌, ℤ, List, [], ◌∷◌, flat_map, zip}
 use Rattle.it_base.specs.Places.{IsFirst}
-use Rattle.it_digest.specs.Sums.{IsFirstBadLine, SumsOf}
+use Rattle.it_digest.specs.Listed.{AreListed, IsFirstBadIn}
+use Rattle.it_digest.specs.declared.listed.BadLine.{BadLine}
+use Rattle.it_digest.specs.declared.listed.BadLine.TheVariants.{InSha256, InSha512}
 use Rattle.it_dsse.specs.Envelope.{EnvelopeOf}
 use Rattle.it_dsse.specs.Panel.{Panel}
 use Rattle.it_dsse.specs.declared.envelope.Envelope.{Envelope}
@@ -17,7 +19,8 @@ use Rattle.it_docs.specs.declared.policy.Policy.{Policy}
 use Rattle.it_docs.specs.declared.policy_fault.PolicyPart.{PolicyPart}
 use Rattle.it_chain.specs.First.{FirstChainFailure as ChainFirst}
 use Rattle.it_chain.specs.declared.refusal.ChainRefusal.{ChainRefusal}
-use Rattle.it_report.specs.declared.refusal.Fault.TheVariants.{BadPolicy, BadSums, BadMoment}
+use Rattle.it_report.specs.declared.refusal.Fault.{Fault}
+use Rattle.it_report.specs.declared.refusal.Fault.TheVariants.{BadPolicy, BadSums, BadSums512, BadMoment}
 use Rattle.it_report.specs.declared.refusal.Fault.TheVariants.{NoFiles, BadEnvelope}
 use Rattle.it_report.specs.declared.refusal.Fault.TheVariants.{WrongPayloadType, BadLayout}
 use Rattle.it_report.specs.declared.refusal.Refusal.{Refusal}
@@ -52,6 +55,11 @@ stages =
     at_policy ∷ at_sums ∷ at_moment ∷ at_files ∷ at_envelope ∷ at_payload_type ∷ at_owners
     ∷ at_layout ∷ at_links ∷ at_records ∷ at_inspections ∷ at_deliver ∷ at_provenance ∷ []
 
+-- what a bad line of the digest lists is called
+abbrev pub line_fault : BadLine → Fault
+line_fault (InSha256 line) = BadSums line
+line_fault (InSha512 line) = BadSums512 line
+
 module _ (panel : Panel) (inputs : Inputs) where
   -- a stage fails with a refusal. A stage about something that does not read, or about missing
   -- evidence, does not fail: an earlier stage does
@@ -59,10 +67,12 @@ module _ (panel : Panel) (inputs : Inputs) where
   FailsAt at_policy refusal =
       (part : PolicyPart) × PolicyPartOf inputs.policy part × (refusal ≡ whole (BadPolicy part))
   FailsAt at_sums refusal =
-      (line : ℕ) × IsFirstBadLine inputs.sums line × (refusal ≡ whole (BadSums line))
+      (bad : BadLine) × IsFirstBadIn inputs.sums inputs.sums512 bad
+      × (refusal ≡ whole (line_fault bad))
   FailsAt at_moment refusal =
       ((moment : ℤ) → ¬ MomentOf inputs.moment moment) × (refusal ≡ whole BadMoment)
-  FailsAt at_files refusal = SumsOf inputs.sums empty × (refusal ≡ whole NoFiles)
+  FailsAt at_files refusal =
+      AreListed inputs.sums inputs.sums512 empty × (refusal ≡ whole NoFiles)
   FailsAt at_envelope refusal =
       ((envelope : Envelope) → ¬ EnvelopeOf inputs.layout envelope) × (refusal ≡ whole BadEnvelope)
   FailsAt at_payload_type refusal =

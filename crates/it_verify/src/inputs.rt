@@ -17,8 +17,12 @@ pub struct Inputs {
     pub records: Sequence<(Text, Sequence<u8>)>,
     /// The bytes of the provenance: one envelope per line.
     pub provenance: Sequence<u8>,
-    /// The bytes of the digest list, which names the delivered files.
+    /// The bytes of the digest list by SHA-256, which names delivered files. Empty where there is
+    /// none.
     pub sums: Sequence<u8>,
+    /// The bytes of the digest list by SHA-512, which names delivered files too. Empty where there
+    /// is none.
+    pub sums512: Sequence<u8>,
     /// The moment at which no layout may have expired, as `YYYY-MM-DDThh:mm:ssZ`.
     pub moment: Text,
     /// How deep sublayouts may be nested: 0 for none.

@@ -16,6 +16,7 @@ pub record InputsOf (d : Data) (inputs : Inputs) : Type 0 where
   pub records : IsPart (IsList IsNamed) (codes "records") d inputs.records
   pub provenance : IsPartOr IsBytes [] (codes "provenance") d inputs.provenance
   pub sums : IsPart IsBytes (codes "sums") d inputs.sums
+  pub sums512 : IsPartOr IsBytes [] (codes "sums512") d inputs.sums512
   pub moment : IsPart IsText (codes "at") d inputs.moment
   pub depth : IsPart IsNumber (codes "depth") d inputs.depth
 

@@ -23,9 +23,19 @@ pub(crate) fn fault_in(alloc: Global, row: &Value) -> Result<Fault, RowFault> {
         "TooDeep" => Ok(Fault::TooDeep),
         "InspectionInSublayout" => Ok(Fault::InspectionInSublayout),
         "BadPolicy" => Ok(Fault::BadPolicy(policy_part_in(row)?)),
-        "BadSums" => Ok(Fault::BadSums(number_in(row, "line")?)),
+        "BadSums" => bad_sums(row),
         "BadLayout" => Ok(Fault::BadLayout(layout_part_in(alloc, row)?)),
         name => detailed(alloc, name, row),
+    }
+}
+
+/// The bad line of the digest list by SHA-256, or by the algorithm that the row names.
+fn bad_sums(row: &Value) -> Result<Fault, RowFault> {
+    let line = number_in(row, "line")?;
+    match member(row, "list") {
+        None => Ok(Fault::BadSums(line)),
+        Some(list) if list.as_str() == Some("sha512") => Ok(Fault::BadSums512(line)),
+        Some(_) => Err(RowFault::BadMember("list")),
     }
 }
 

@@ -118,8 +118,9 @@ pub(crate) fn inputs_in(alloc: Global, case: &Value) -> Result<Inputs, RowFault>
         layout: bytes_part(alloc, case, "layout")?,
         links: read_links(alloc, member_in(case, "links")?)?,
         records: records(alloc, case)?,
-        provenance: provenance(alloc, case)?,
+        provenance: bytes_if_given(alloc, case, "provenance")?,
         sums: bytes_part(alloc, case, "sums")?,
+        sums512: bytes_if_given(alloc, case, "sums512")?,
         moment: text_part(alloc, case, "at")?,
         depth,
     })
@@ -141,12 +142,12 @@ pub(crate) fn depth_in(case: &Value) -> Result<u8, RowFault>
     Ok(depth)
 }
 
-/// The bytes of the provenance, or no bytes where none was given.
-fn provenance(alloc: Global, case: &Value) -> Result<Sequence<u8>, RowFault>
-    ensures { IfOk result (IsPartOr IsBytes [] (codes "provenance") (view case.now)) }
+/// The bytes in a member, or no bytes where it is missing.
+fn bytes_if_given(alloc: Global, case: &Value, name: &'static str) -> Result<Sequence<u8>, RowFault>
+    ensures { IfOk result (IsPartOr IsBytes [] name.now (view case.now)) }
 {
-    match member(case, "provenance") {
-        Some(_) => bytes_part(alloc, case, "provenance"),
+    match member(case, name) {
+        Some(_) => bytes_part(alloc, case, name),
         None => Ok(Sequence::from(Vec::new(alloc))),
     }
 }

@@ -71,6 +71,7 @@ fn cut(
         "link" => inputs.links = cut_links(alloc, row, kept)?,
         "provenance" => inputs.provenance = beginning(alloc, &inputs.provenance, kept)?,
         "sums" => inputs.sums = beginning(alloc, &inputs.sums, kept)?,
+        "sums512" => inputs.sums512 = beginning(alloc, &inputs.sums512, kept)?,
         "at" => inputs.moment = beginning_of_text(alloc, &inputs.moment, kept)?,
         _ => return Err(RowFault::BadMember("cut")),
     }

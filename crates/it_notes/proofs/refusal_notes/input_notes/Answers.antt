@@ -11,6 +11,11 @@ returns-in-BadSums g c =
     IfOk-weaker c.line_told.result _ _ (λ told each. rw c.in-BadSums.is (each _))
     c.line_told.ensures
 
+pub returns-in-BadSums512 : goal.returns-in-BadSums512
+returns-in-BadSums512 g c =
+    IfOk-weaker c.line_told-in-BadSums512.result _ _ (λ told each. rw c.in-BadSums512.is (each _))
+    c.line_told-in-BadSums512.ensures
+
 pub returns-in-BadMoment : goal.returns-in-BadMoment
 returns-in-BadMoment g c =
     IfOk-weaker c.moment_told.result _ _ (λ told each. rw c.in-BadMoment.is (each _))

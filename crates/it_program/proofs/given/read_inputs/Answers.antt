@@ -16,6 +16,7 @@ returns-clause-inputs g c = record {
   records = search rules;
   provenance = c.in_ok-provenance.ensures.provenance;
   sums = search rules;
+  sums512 = search rules;
   moment = search rules;
   depth = search rules;
 }

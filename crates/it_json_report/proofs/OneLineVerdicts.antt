@@ -7,7 +7,8 @@ use Rattle.it_report.specs.Fault.{name_of, number_of}
 use Rattle.it_report.specs.Report.{policy_part_form, side_form}
 use Rattle.it_report.specs.ReportLaws.{FaultFits, NumbersFit, StepFits}
 use Rattle.it_report.specs.declared.refusal.Fault.{Fault}
-use Rattle.it_report.specs.declared.refusal.Fault.TheVariants.{BadPolicy, BadSums, BadSums512, BadMoment}
+use Rattle.it_report.specs.declared.refusal.Fault.TheVariants.{BadPolicy, BadSums, BadSums512}
+use Rattle.it_report.specs.declared.refusal.Fault.TheVariants.{BadMoment}
 use Rattle.it_report.specs.declared.refusal.Fault.TheVariants.{NoFiles, BadEnvelope}
 use Rattle.it_report.specs.declared.refusal.Fault.TheVariants.{WrongPayloadType, OwnerMissing}
 use Rattle.it_report.specs.declared.refusal.Fault.TheVariants.{BadLayout, Expired, TwoPayloads}

@@ -1,3 +1,4 @@
+pub mod DigestLists
 pub mod FileDetails
 pub mod FoundInDocuments
 pub mod KeyNotes

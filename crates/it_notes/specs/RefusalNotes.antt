@@ -5,8 +5,6 @@ use Rattle.std.specs.FinMap.{get}
 use Rattle.it_digest.specs.Artifacts.{ArtifactMap}
 use Rattle.it_digest.specs.Listed.{AreListed}
 use Rattle.it_digest.specs.declared.compare.DigestSet.{DigestSet}
-use Rattle.it_digest.specs.declared.sums.ListAlgorithm.{ListAlgorithm}
-use Rattle.it_digest.specs.declared.sums.ListAlgorithm.TheVariants.{Sha256, Sha512}
 use Rattle.it_chain.specs.Judged.{AreStepRecords}
 use Rattle.it_chain.specs.declared.chain.StepResult.{StepResult}
 use Rattle.it_dsse.specs.Envelope.{EnvelopeOf}
@@ -49,6 +47,7 @@ use Rattle.it_rule_notes.specs.declared.payloads_note.PayloadsNote.{PayloadsNote
 use Rattle.it_rule_notes.specs.declared.rule_place.RulePlace.{RulePlace}
 use Rattle.it_step_notes.specs.StepNotes.{Holds as TellsStep}
 use Rattle.it_verify.specs.declared.inputs.Inputs.{Inputs}
+use Rattle.it_notes.specs.DigestLists.{bad_line, list_in}
 use Rattle.it_notes.specs.FileDetails.{TellsDetail}
 use Rattle.it_notes.specs.Level.{IsLevel, Place}
 use Rattle.it_notes.specs.NotGiven.{TellsEmpty, TellsFlaw, TellsPatterns}
@@ -65,16 +64,6 @@ pub record IsDelivered (inputs : Inputs) (path : List ℕ) (digests : DigestSet)
   pub delivered : ArtifactMap
   pub reads : AreListed inputs.sums inputs.sums512 delivered
   pub stands : get delivered path ≡ Some digests
-
--- the digest list by an algorithm
-abbrev pub list_in : ListAlgorithm → Inputs → List ℕ
-list_in Sha256 inputs = inputs.sums
-list_in Sha512 inputs = inputs.sums512
-
--- that a line of it is bad
-abbrev pub bad_line : ListAlgorithm → ℕ → Fault
-bad_line Sha256 number = faults.BadSums number
-bad_line Sha512 number = faults.BadSums512 number
 
 -- what the rule at a place of a layout met
 pub record TellsMetAt (panel : Panel) (depth : ℕ) (level : FaultLevel) (place : RulePlace)

@@ -3,7 +3,8 @@ ghost use Rattle.std.specs.Prelude.{◌≡◌, IfOk};
 ghost use Rattle.it_dsse.specs.Panel.{Panel};
 ghost use Rattle.it_report.specs.declared.refusal.Fault.TheVariants.{BadLayout, BadMoment};
 ghost use Rattle.it_report.specs.declared.refusal.Fault.TheVariants.{BadPolicy, NoFiles};
-ghost use Rattle.it_notes.specs.RefusalNotes.{TellsInputs, bad_line, list_in};
+ghost use Rattle.it_notes.specs.DigestLists.{bad_line, list_in};
+ghost use Rattle.it_notes.specs.RefusalNotes.{TellsInputs};
 
 use crate::lines::Line;
 use crate::notes::RefusalNotes;

@@ -2,9 +2,10 @@
 ghost use Rattle.std.specs.Prelude.{IfOk, IfSome, List, ℕ};
 ghost use Rattle.it_part_notes.specs.SumLine.{FirstLineReturns};
 ghost use Rattle.it_report.specs.declared.refusal.Fault.TheVariants.{RuleFailed};
+ghost use Rattle.it_notes.specs.DigestLists.{list_in};
 ghost use Rattle.it_notes.specs.Known.{IsKnown};
 ghost use Rattle.it_notes.specs.Level.{StepsStand};
-ghost use Rattle.it_notes.specs.RefusalNotes.{TellsAt, TellsMetAt, list_in};
+ghost use Rattle.it_notes.specs.RefusalNotes.{TellsAt, TellsMetAt};
 
 use crate::delivered::delivery_told;
 use crate::fault_level::FaultLevel;

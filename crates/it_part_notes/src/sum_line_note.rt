@@ -46,8 +46,8 @@ pub enum LineFault {
 
 /// Says what is wrong with a line of a digest list in the form of `sha256sum` or `sha512sum`.
 ///
-/// `bytes` are the digest list by the `algorithm`, and `number` is that of the line, from 1. The answer is `None`
-/// where there is no such line, or nothing is wrong with it.
+/// `bytes` are the digest list by the `algorithm`, and `number` is that of the line, from 1. The
+/// answer is `None` where there is no such line, or nothing is wrong with it.
 ///
 /// # Errors
 ///

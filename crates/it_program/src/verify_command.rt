@@ -14,8 +14,8 @@ use it_command_checks::command_checks::CommandChecks;
 use it_disk::{Disk, Fault, note_left_out};
 use it_dsse::checks::Checks;
 use it_outcome::{RunFault, Status};
-use it_verify::inputs::Inputs;
 use it_verify_command::output_form::OutputForm;
+use it_verify_command::verification::Verification;
 use it_verify_command::verify_strictly::verify_strictly;
 use it_verify_command::verify_with_notes::verify_with_notes;
 use it_words::words::verify_words::VerifyWords;
@@ -48,7 +48,12 @@ pub(crate) fn run<R: Disk + AllocGlobal, W: Write, N: Write>(
     let asked = Asked::by(alloc, words)?;
     let given = read_given(rt, words)?;
     note_left_out(alloc, given.left_out.as_slice(), notes);
-    let outcome = verify_as_asked(alloc, &asked, &given.inputs, &given.checks, out, notes);
+    let verification = Verification {
+        inputs: &given.inputs,
+        checks: &given.checks,
+        form: &asked.form,
+    };
+    let outcome = verify_as_asked(alloc, &verification, asked.strict, out, notes);
     note_silent(alloc, &outcome, given.silent.as_slice(), notes);
     told_spent(outcome, &given.checks, words.most_checks)
 }
@@ -70,34 +75,35 @@ fn told_spent(
     }
 }
 
-/// Verifies the inputs by the checks, in the form and as strictly as is asked.
+/// Verifies the inputs by the checks, in the form that is asked for and, where that is asked,
+/// strictly.
 fn verify_as_asked<C: Checks, W: Write, N: Write>(
     alloc: Global,
-    asked: &Asked,
-    inputs: &Inputs,
-    checks: &C,
+    asked: &Verification<C>,
+    strict: bool,
     out: &mut W,
     notes: &mut N,
 ) -> Result<Status, Stop>
-    requires { inputs.now.depth ≤ 8 }
+    requires { asked.now.inputs.now.depth ≤ 8 }
     ensures ok { IfOk result (λ status. (text : _)
-        × IsVerifyOutputIn asked.now.form (C.panel checks.now) inputs.now text status
+        × IsVerifyOutputIn asked.now.form.now (C.panel asked.now.checks.now) asked.now.inputs.now
+        text status
         × Appends (W.contents out.old) (W.contents out.new) text) }
-    ensures stands { IfOk result (λ status. IsTrue asked.now.strict → status ≡ Status.Good
-        → StandsStrictly (C.panel checks.now) inputs.now) }
+    ensures stands { IfOk result (λ status. IsTrue strict → status ≡ Status.Good
+        → StandsStrictly (C.panel asked.now.checks.now) asked.now.inputs.now) }
     ensures nothing { IfErr result (λ stop. stop ≢ Stop.OfFault (Fault.Run RunFault.Write)
         → stop ≢ Stop.Findings → out.new ≡ out.old) }
-    ensures findings { IsErrOf result Stop.Findings → IsTrue asked.now.strict
-        × (text : _) × HasFindings asked.now.form (C.panel checks.now) inputs.now text
-        × (asked.now.form ≡ OutputForm.Full
+    ensures findings { IsErrOf result Stop.Findings → IsTrue strict
+        × (text : _) × HasFindings asked.now.form.now (C.panel asked.now.checks.now)
+        asked.now.inputs.now text
+        × (asked.now.form.now ≡ OutputForm.Full
         → Appends (W.contents out.old) (W.contents out.new) text) }
-    ensures lines { IsErrOf result Stop.Findings → asked.now.form ≢ OutputForm.Full
+    ensures lines { IsErrOf result Stop.Findings → asked.now.form.now ≢ OutputForm.Full
         → out.new ≡ out.old }
 {
-    let form = &asked.form;
-    if asked.strict {
-        Ok(verify_strictly(alloc, inputs, checks, form, out, notes)?)
+    if strict {
+        Ok(verify_strictly(alloc, asked, out, notes)?)
     } else {
-        Ok(verify_with_notes(alloc, inputs, checks, form, out, notes)?)
+        Ok(verify_with_notes(alloc, asked, out, notes)?)
     }
 }

@@ -19,28 +19,39 @@ use it_docs::statement::{Provenance, Statement};
 use it_dsse::meter::Meter;
 use std::collections::BTreeSet;
 
-/// The level of a builder with which an envelope meets the expectation at a place in all but the
-/// level, by what it attests: one that is high enough, otherwise the greatest.
+/// The expectation that envelopes are to meet.
+#[derive(Drop)]
+pub(crate) struct Sought<'a, 'n> {
+    /// The expectation.
+    pub(crate) expectation: &'a Expectation,
+    /// Its place among the expectations whose builders were asked about.
+    pub(crate) place: usize,
+    /// The parameter names that it allows to be ignored.
+    pub(crate) ignored: &'a BTreeSet<&'n str>,
+}
+
+/// The level of a builder with which an envelope meets the expectation in all but the level, by
+/// what it attests: one that is high enough, otherwise the greatest.
 pub(crate) fn level_reached(
-    expectation: &Expectation,
-    place: usize,
-    ignored: &BTreeSet<&str>,
+    sought: &Sought,
     digests: &DigestSet,
     held: &Option<Attestation>,
     meter: &mut Meter,
 ) -> Option<u8>
-    requires names { HasNames expectation.now.ignore ignored.now }
-    requires answers { IfSome held.now (HasAnswers place expectation.now.builders) }
+    requires names { HasNames sought.now.expectation.now.ignore sought.now.ignored.now }
+    requires answers { IfSome held.now
+        (HasAnswers sought.now.place sought.now.expectation.now.builders) }
     ensures { (panel : Panel) (expectations : List Expectation) (envelope : Envelope)
-        → slice_get expectations place ≡ Some expectation.now
+        → slice_get expectations sought.now.place ≡ Some sought.now.expectation.now
         → HoldsOrNone panel expectations envelope held.now
-        → IsReached panel expectation.now digests.now envelope meter.old meter.new result }
+        → IsReached panel sought.now.expectation.now digests.now envelope meter.old meter.new
+        result }
 {
     let Some(attestation) = held else {
         return None;
     };
     if some_agrees(attestation.statement.subjects.as_slice(), digests) {
-        level_of_statement(expectation, place, ignored, attestation, meter)
+        level_of_statement(sought, attestation, meter)
     } else {
         None
     }
@@ -49,69 +60,59 @@ pub(crate) fn level_reached(
 /// `level_reached` for an envelope that the index gives: a subject is known to have the digests, so
 /// none is looked at.
 pub(crate) fn level_listed(
-    expectation: &Expectation,
-    place: usize,
-    ignored: &BTreeSet<&str>,
+    sought: &Sought,
     held: &Option<Attestation>,
     meter: &mut Meter,
 ) -> Option<u8>
-    requires names { HasNames expectation.now.ignore ignored.now }
-    requires answers { IfSome held.now (HasAnswers place expectation.now.builders) }
+    requires names { HasNames sought.now.expectation.now.ignore sought.now.ignored.now }
+    requires answers { IfSome held.now
+        (HasAnswers sought.now.place sought.now.expectation.now.builders) }
     ensures { (panel : Panel) (expectations : List Expectation) (envelope : Envelope)
-        → slice_get expectations place ≡ Some expectation.now
+        → slice_get expectations sought.now.place ≡ Some sought.now.expectation.now
         → HoldsOrNone panel expectations envelope held.now
         → (digests : DigestSet) → IfSome held.now (HasSubject digests)
-        → IsReached panel expectation.now digests envelope meter.old meter.new result }
+        → IsReached panel sought.now.expectation.now digests envelope meter.old meter.new result }
 {
     match held {
-        Some(attestation) => level_of_statement(expectation, place, ignored, attestation, meter),
+        Some(attestation) => level_of_statement(sought, attestation, meter),
         None => None,
     }
 }
 
 /// `level_reached` for a Statement with a subject that has the digests.
-fn level_of_statement(
-    expectation: &Expectation,
-    place: usize,
-    ignored: &BTreeSet<&str>,
-    attestation: &Attestation,
-    meter: &mut Meter,
-) -> Option<u8>
-    requires names { HasNames expectation.now.ignore ignored.now }
-    requires answers { HasAnswers place expectation.now.builders attestation.now }
+fn level_of_statement(sought: &Sought, attestation: &Attestation, meter: &mut Meter) -> Option<u8>
+    requires names { HasNames sought.now.expectation.now.ignore sought.now.ignored.now }
+    requires answers { HasAnswers sought.now.place sought.now.expectation.now.builders
+        attestation.now }
     ensures { (panel : Panel) (expectations : List Expectation) (envelope : Envelope)
-        → slice_get expectations place ≡ Some expectation.now
+        → slice_get expectations sought.now.place ≡ Some sought.now.expectation.now
         → IsAttested panel expectations envelope attestation.now
         → (digests : DigestSet) → HasSubject digests attestation.now
-        → IsReached panel expectation.now digests envelope meter.old meter.new result }
+        → IsReached panel sought.now.expectation.now digests envelope meter.old meter.new result }
 {
-    let Some(provenance) = expected_in(expectation, ignored, &attestation.statement) else {
+    let Some(provenance) = expected_in(sought, &attestation.statement) else {
         return None;
     };
     level_of_builders(
-        expectation.builders.as_slice(),
-        &attestation.answers.for_builders(place),
+        sought.expectation.builders.as_slice(),
+        &attestation.answers.for_builders(sought.place),
         provenance.builder.as_str(),
-        expectation.level,
+        sought.expectation.level,
         meter,
     )
 }
 
 /// The provenance in a Statement, if it is as expected.
-fn expected_in<'a>(
-    expectation: &Expectation,
-    ignored: &BTreeSet<&str>,
-    statement: &'a Statement,
-) -> Option<&'a Provenance>
-    requires { HasNames expectation.now.ignore ignored.now }
+fn expected_in<'a>(sought: &Sought, statement: &'a Statement) -> Option<&'a Provenance>
+    requires { HasNames sought.now.expectation.now.ignore sought.now.ignored.now }
     ensures { MatchOption result
-        ((provenance : _) → ¬ SaysExpected expectation.now statement.now provenance)
-        (λ provenance. SaysExpected expectation.now statement.now provenance.now) }
+        ((provenance : _) → ¬ SaysExpected sought.now.expectation.now statement.now provenance)
+        (λ provenance. SaysExpected sought.now.expectation.now statement.now provenance.now) }
 {
     let Some(provenance) = &statement.provenance else {
         return None;
     };
-    if is_expected(expectation, ignored, provenance) {
+    if is_expected(sought, provenance) {
         Some(provenance)
     } else {
         None
@@ -128,10 +129,10 @@ pub fn some_agrees(subjects: &[DigestSet], digests: &DigestSet) -> bool
 }
 
 /// Whether a build is of the expected type and has the expected parameters.
-fn is_expected(expectation: &Expectation, ignored: &BTreeSet<&str>, provenance: &Provenance) -> bool
-    requires { HasNames expectation.now.ignore ignored.now }
-    ensures { IsTrue result ↔ IsExpected expectation.now provenance.now }
+fn is_expected(sought: &Sought, provenance: &Provenance) -> bool
+    requires { HasNames sought.now.expectation.now.ignore sought.now.ignored.now }
+    ensures { IsTrue result ↔ IsExpected sought.now.expectation.now provenance.now }
 {
-    provenance.build_type.as_str() == expectation.build_type.as_str()
-        && parameters_meet(expectation, ignored, &provenance.parameters)
+    provenance.build_type.as_str() == sought.expectation.build_type.as_str()
+        && parameters_meet(sought.expectation, sought.ignored, &provenance.parameters)
 }

@@ -26,7 +26,8 @@ use Rattle.it_report.specs.Report.{best_lines, fault_lines, item_form, layout_pa
 use Rattle.it_report.specs.Report.{policy_part_form, side_form}
 use Rattle.it_report.specs.ReportLaws.{FaultFits, LayoutPartFits, PolicyPartFits}
 use Rattle.it_report.specs.declared.refusal.Fault.{Fault}
-use Rattle.it_report.specs.declared.refusal.Fault.TheVariants.{BadPolicy, BadSums, BadSums512, BadMoment}
+use Rattle.it_report.specs.declared.refusal.Fault.TheVariants.{BadPolicy, BadSums, BadSums512}
+use Rattle.it_report.specs.declared.refusal.Fault.TheVariants.{BadMoment}
 use Rattle.it_report.specs.declared.refusal.Fault.TheVariants.{NoFiles, BadEnvelope}
 use Rattle.it_report.specs.declared.refusal.Fault.TheVariants.{WrongPayloadType, OwnerMissing}
 use Rattle.it_report.specs.declared.refusal.Fault.TheVariants.{BadLayout, Expired, TwoPayloads}

@@ -7,7 +7,8 @@ use Rattle.it_docs.specs.declared.policy_fault.PolicyPart.TheVariants.{Expectati
 use Rattle.it_report.specs.Name.{name_form}
 use Rattle.it_report.specs.Report.{first_line, report_of}
 use Rattle.it_report.specs.declared.refusal.Fault.{Fault}
-use Rattle.it_report.specs.declared.refusal.Fault.TheVariants.{BadPolicy, BadSums, BadSums512, BadLayout}
+use Rattle.it_report.specs.declared.refusal.Fault.TheVariants.{BadPolicy, BadSums, BadSums512}
+use Rattle.it_report.specs.declared.refusal.Fault.TheVariants.{BadLayout}
 use Rattle.it_report.specs.declared.refusal.Fault.TheVariants.{Threshold, RuleFailed, NoProvenance}
 use Rattle.it_report.specs.declared.verdict.Verdict.{Verdict}
 use Rattle.it_report.specs.declared.verdict.Verdict.TheVariants.{Accepted, Refused}

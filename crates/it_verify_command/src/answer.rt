@@ -11,8 +11,8 @@ ghost use Rattle.it_verify_command.specs.inside.Answer.{IsAnswer, IsBehindIn};
 
 use crate::before_notes::text_before_notes;
 use crate::behind::behind_in;
-use crate::output_form::OutputForm;
 use crate::output_text::{status_of, text_in};
+use crate::verification::Verification;
 use it_dsse::checks::Checks;
 use it_json_report::evidence::Evidence;
 use it_notes::found_in_documents::{FoundInDocuments, found_in_documents};
@@ -21,7 +21,6 @@ use it_outcome::output::Output;
 use it_report::refusal::Refusal;
 use it_report::verdict::Verdict;
 use it_verify::grounds::{Found, Grounds, Outcome};
-use it_verify::inputs::Inputs;
 use it_verify::verify_grounds;
 use std::alloc::{AllocError, Global};
 
@@ -38,24 +37,21 @@ pub(crate) struct Answer<'a> {
     pub(crate) before_notes: Vec<u8>,
 }
 
-/// The answer to delivered files, in this form.
+/// The answer to delivered files, as is asked.
 pub(crate) fn answer_to<'a, C: Checks>(
     alloc: Global,
-    inputs: &'a Inputs,
-    checks: &C,
-    form: &OutputForm,
+    asked: &Verification<'a, C>,
 ) -> Result<Answer<'a>, AllocError>
-    requires { inputs.now.depth ≤ 8 }
-    ensures { IfOk result (IsAnswer form.now (C.panel checks.now) inputs.now) }
+    requires { asked.now.inputs.now.depth ≤ 8 }
+    ensures { IfOk result
+        (IsAnswer asked.now.form.now (C.panel asked.now.checks.now) asked.now.inputs.now) }
 {
-    match verify_grounds(alloc, inputs, checks)? {
+    match verify_grounds(alloc, asked.inputs, asked.checks)? {
         Outcome::Made(grounds) => {
-            let found = found_in_documents(alloc, inputs, &grounds, checks).ok();
-            made_answer(alloc, inputs, grounds, found, checks, form)
+            let found = found_in_documents(alloc, asked.inputs, &grounds, asked.checks).ok();
+            made_answer(alloc, asked, grounds, found)
         }
-        Outcome::Refused { refusal, found } => {
-            refused_answer(alloc, inputs, refusal, found, checks, form)
-        }
+        Outcome::Refused { refusal, found } => refused_answer(alloc, asked, refusal, found),
     }
 }
 
@@ -63,65 +59,64 @@ pub(crate) fn answer_to<'a, C: Checks>(
 /// refused for that.
 pub(crate) fn made_answer<'a, C: Checks>(
     alloc: Global,
-    inputs: &'a Inputs,
+    asked: &Verification<'a, C>,
     grounds: Grounds,
     found: Option<FoundInDocuments>,
-    checks: &C,
-    form: &OutputForm,
 ) -> Result<Answer<'a>, AllocError>
-    requires made { IsMadeBy (C.panel checks.now) inputs.now grounds.documents grounds.evidence }
-    requires found { IfSome found (AreFoundInDocuments (C.panel checks.now) inputs.now) }
-    ensures { IfOk result (IsAnswer form.now (C.panel checks.now) inputs.now) }
+    requires made { IsMadeBy (C.panel asked.now.checks.now) asked.now.inputs.now grounds.documents
+        grounds.evidence }
+    requires found { IfSome found
+        (AreFoundInDocuments (C.panel asked.now.checks.now) asked.now.inputs.now) }
+    ensures { IfOk result
+        (IsAnswer asked.now.form.now (C.panel asked.now.checks.now) asked.now.inputs.now) }
 {
-    let behind = behind_in(alloc, inputs, &grounds, checks, form)?;
-    let told = made_told(alloc, inputs, grounds, found)?;
-    answer_on(alloc, inputs, told, behind, checks, form)
+    let behind = behind_in(alloc, asked, &grounds)?;
+    let told = made_told(alloc, asked.inputs, grounds, found)?;
+    answer_on(alloc, asked, told, behind)
 }
 
 /// The answer that refuses, for the first thing that does not hold and after what was found.
 pub(crate) fn refused_answer<'a, C: Checks>(
     alloc: Global,
-    inputs: &'a Inputs,
+    asked: &Verification<'a, C>,
     refusal: Refusal,
     found: Option<Found>,
-    checks: &C,
-    form: &OutputForm,
 ) -> Result<Answer<'a>, AllocError>
-    requires refused { RefusedFor (C.panel checks.now) inputs.now refusal }
-    requires found { IfSome found (IsFound (C.panel checks.now) inputs.now) }
-    ensures answer { IfOk result (IsAnswer form.now (C.panel checks.now) inputs.now) }
+    requires refused { RefusedFor (C.panel asked.now.checks.now) asked.now.inputs.now refusal }
+    requires found { IfSome found (IsFound (C.panel asked.now.checks.now) asked.now.inputs.now) }
+    ensures answer { IfOk result
+        (IsAnswer asked.now.form.now (C.panel asked.now.checks.now) asked.now.inputs.now) }
     ensures refuses { IfOk result (λ answer. answer.told.verdict ≡ Refused refusal) }
 {
     let told = Told {
         verdict: Verdict::Refused(refusal),
-        known: known_of(inputs, found),
+        known: known_of(asked.inputs, found),
         found: None,
     };
-    answer_on(alloc, inputs, told, None, checks, form)
+    answer_on(alloc, asked, told, None)
 }
 
-/// The answer on what was told, in this form, with what stands behind it.
+/// The answer on what was told, with what stands behind it.
 fn answer_on<'a, C: Checks>(
     alloc: Global,
-    inputs: &Inputs,
+    asked: &Verification<C>,
     told: Told<'a>,
     behind: Option<Evidence>,
-    checks: &C,
-    form: &OutputForm,
 ) -> Result<Answer<'a>, AllocError>
-    requires told { IsTold (C.panel checks.now) inputs.now told }
-    requires behind { OnAccepted told.verdict
-        (IsBehindIn form.now (C.panel checks.now) inputs.now behind) }
-    ensures answer { IfOk result (IsAnswer form.now (C.panel checks.now) inputs.now) }
+    requires told { IsTold (C.panel asked.now.checks.now) asked.now.inputs.now told }
+    requires behind { OnAccepted told.verdict (IsBehindIn asked.now.form.now
+        (C.panel asked.now.checks.now) asked.now.inputs.now behind) }
+    ensures answer { IfOk result
+        (IsAnswer asked.now.form.now (C.panel asked.now.checks.now) asked.now.inputs.now) }
     ensures verdict { IfOk result (λ answer. answer.told.verdict ≡ told.entry.verdict) }
 {
-    let text = text_in(alloc, inputs, &told, behind, checks, form)?;
-    let before_notes = text_before_notes(alloc, &told.verdict, form)?;
+    let text = text_in(alloc, asked, &told, behind)?;
+    let before_notes = text_before_notes(alloc, &told.verdict, asked.form)?;
     let status = status_of(&told.verdict);
     Ok(Answer {
         told,
         output: Output { text, status },
-        noted: form.is_noted(),
+        noted: asked.form.is_noted(),
         before_notes,
     })
 }

@@ -4,27 +4,32 @@ ghost use Rattle.it_verify.specs.Made.{IsMadeBy};
 ghost use Rattle.it_verify_command.specs.inside.Answer.{IsBehindIn};
 
 use crate::output_form::OutputForm;
+use crate::verification::Verification;
 use it_dsse::checks::Checks;
 use it_evidence::evidence_of;
 use it_json_report::evidence::Evidence;
 use it_verify::grounds::Grounds;
-use it_verify::inputs::Inputs;
 use std::alloc::{AllocError, Global};
 
 /// What stands behind a delivery that is accepted on these grounds, where the form has it.
 pub(crate) fn behind_in<C: Checks>(
     alloc: Global,
-    inputs: &Inputs,
+    asked: &Verification<C>,
     grounds: &Grounds,
-    checks: &C,
-    form: &OutputForm,
 ) -> Result<Option<Evidence>, AllocError>
-    requires { IsMadeBy (C.panel checks.now) inputs.now grounds.now.documents grounds.now.evidence }
-    ensures { IfOk result (IsBehindIn form.now (C.panel checks.now) inputs.now) }
+    requires { IsMadeBy (C.panel asked.now.checks.now) asked.now.inputs.now grounds.now.documents
+        grounds.now.evidence }
+    ensures { IfOk result
+        (IsBehindIn asked.now.form.now (C.panel asked.now.checks.now) asked.now.inputs.now) }
 {
-    match form {
+    match asked.form {
         OutputForm::Report(_) => Ok(None),
-        OutputForm::Full => Ok(Some(evidence_of(alloc, inputs, grounds, checks)?)),
-        OutputForm::Summary(_) => Ok(Some(evidence_of(alloc, inputs, grounds, checks)?)),
+        OutputForm::Full => Ok(Some(evidence_of(alloc, asked.inputs, grounds, asked.checks)?)),
+        OutputForm::Summary(_) => Ok(Some(evidence_of(
+            alloc,
+            asked.inputs,
+            grounds,
+            asked.checks,
+        )?)),
     }
 }

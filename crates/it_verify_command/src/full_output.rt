@@ -6,6 +6,7 @@ ghost use Rattle.it_verify_command.specs.FullOutput.{AreFindings, IsFullText};
 ghost use Rattle.it_notes.specs.Known.{IsTold};
 
 use crate::shown_findings::shown_in_documents;
+use crate::verification::Verification;
 use it_base::sequence::Sequence;
 use it_dsse::checks::Checks;
 use it_json_report::evidence::Evidence;
@@ -13,43 +14,40 @@ use it_json_report::full::{Beside, ReportFinding, full_json_report};
 use it_notes::known::Told;
 use it_notes::notes::Notes;
 use it_report::verdict::Verdict;
-use it_verify::inputs::Inputs;
 use std::alloc::{AllocError, Global};
 
 /// The report of the verdict as JSON, with what is found in the documents of an accepted delivery
 /// and what stands behind it, and with the notes, or with none where memory was refused for them.
 pub(crate) fn full_text<C: Checks>(
     alloc: Global,
-    inputs: &Inputs,
+    asked: &Verification<C>,
     told: &Told,
     behind: Option<Evidence>,
-    checks: &C,
 ) -> Result<Vec<u8>, AllocError>
-    requires told { IsTold (C.panel checks.now) inputs.now told.now }
-    requires behind { OnAccepted told.now.verdict
-        (MatchOption behind ⊥ (IsBehind (C.panel checks.now) inputs.now)) }
-    ensures { IfOk result
-        (λ text. IsFullText (C.panel checks.now) inputs.now told.now.verdict text.items) }
+    requires told { IsTold (C.panel asked.now.checks.now) asked.now.inputs.now told.now }
+    requires behind { OnAccepted told.now.verdict (MatchOption behind ⊥
+        (IsBehind (C.panel asked.now.checks.now) asked.now.inputs.now)) }
+    ensures { IfOk result (λ text. IsFullText (C.panel asked.now.checks.now) asked.now.inputs.now
+        told.now.verdict text.items) }
 {
-    let beside = beside(alloc, inputs, told, behind, checks)?;
+    let beside = beside(alloc, asked, told, behind)?;
     full_json_report(alloc, &told.verdict, &beside)
 }
 
 /// What stands beside the verdict.
 fn beside<C: Checks>(
     alloc: Global,
-    inputs: &Inputs,
+    asked: &Verification<C>,
     told: &Told,
     behind: Option<Evidence>,
-    checks: &C,
 ) -> Result<Beside, AllocError>
-    requires { IsTold (C.panel checks.now) inputs.now told.now }
+    requires { IsTold (C.panel asked.now.checks.now) asked.now.inputs.now told.now }
     ensures findings { IfOk result (λ beside. OnAccepted told.now.verdict
-        (AreFindings (C.panel checks.now) inputs.now beside.findings)) }
+        (AreFindings (C.panel asked.now.checks.now) asked.now.inputs.now beside.findings)) }
     ensures evidence { IfOk result (λ beside. beside.evidence ≡ behind) }
 {
     let findings = findings(alloc, told)?;
-    let (notes, complete) = match notes(alloc, inputs, told, checks) {
+    let (notes, complete) = match notes(alloc, asked, told) {
         Ok(notes) => (notes, true),
         Err(_) => (Vec::new(alloc), false),
     };
@@ -64,13 +62,12 @@ fn beside<C: Checks>(
 /// The lines of the notes, without their line feeds.
 fn notes<C: Checks>(
     alloc: Global,
-    inputs: &Inputs,
+    asked: &Verification<C>,
     told: &Told,
-    checks: &C,
 ) -> Result<Vec<Sequence<u8>>, AllocError>
-    requires { IsTold (C.panel checks.now) inputs.now told.now }
+    requires { IsTold (C.panel asked.now.checks.now) asked.now.inputs.now told.now }
 {
-    let lines = Notes::of(alloc, inputs, told, checks)?.lines(alloc)?;
+    let lines = Notes::of(alloc, asked.inputs, told, asked.checks)?.lines(alloc)?;
     let mut notes = Vec::new(alloc);
     for mut line in lines.into_lines()? {
         line.pop();

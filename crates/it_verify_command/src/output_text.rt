@@ -9,33 +9,31 @@ ghost use Rattle.it_notes.specs.Known.{IsTold};
 use crate::full_output::full_text;
 use crate::output_form::OutputForm;
 use crate::summary_text::summary_text;
+use crate::verification::Verification;
 use it_dsse::checks::Checks;
 use it_json_report::evidence::Evidence;
 use it_json_report::form::report_in;
 use it_notes::known::Told;
 use it_outcome::Status;
 use it_report::verdict::Verdict;
-use it_verify::inputs::Inputs;
 use std::alloc::{AllocError, Global};
 
-/// The output on what was told, in this form, with what stands behind it.
+/// The output on what was told, with what stands behind it.
 pub(crate) fn text_in<C: Checks>(
     alloc: Global,
-    inputs: &Inputs,
+    asked: &Verification<C>,
     told: &Told,
     behind: Option<Evidence>,
-    checks: &C,
-    form: &OutputForm,
 ) -> Result<Vec<u8>, AllocError>
-    requires told { IsTold (C.panel checks.now) inputs.now told.now }
-    requires behind { OnAccepted told.now.verdict
-        (IsBehindIn form.now (C.panel checks.now) inputs.now behind) }
-    ensures { IfOk result
-        (λ text. IsTextIn form.now (C.panel checks.now) inputs.now told.now.verdict text.items) }
+    requires told { IsTold (C.panel asked.now.checks.now) asked.now.inputs.now told.now }
+    requires behind { OnAccepted told.now.verdict (IsBehindIn asked.now.form.now
+        (C.panel asked.now.checks.now) asked.now.inputs.now behind) }
+    ensures { IfOk result (λ text. IsTextIn asked.now.form.now (C.panel asked.now.checks.now)
+        asked.now.inputs.now told.now.verdict text.items) }
 {
-    match form {
+    match asked.form {
         OutputForm::Report(form) => report_in(alloc, *form, &told.verdict),
-        OutputForm::Full => full_text(alloc, inputs, told, behind, checks),
+        OutputForm::Full => full_text(alloc, asked, told, behind),
         OutputForm::Summary(names) => summary_text(alloc, &told.verdict, &behind, names),
     }
 }

@@ -6,12 +6,11 @@ ghost use Rattle.it_verify_command.specs.Strictly.{IsFoundIn};
 ghost use Rattle.it_verify_command.specs.inside.Answer.{IsStrictAnswer};
 
 use crate::answer::{Answer, made_answer, refused_answer};
-use crate::output_form::OutputForm;
+use crate::verification::Verification;
 use it_dsse::checks::Checks;
 use it_notes::found_in_documents::FoundInDocuments;
 use it_strict::found::{Found, found_in};
 use it_verify::grounds::{Grounds, Outcome};
-use it_verify::inputs::Inputs;
 use it_verify::verify_grounds;
 use std::alloc::{AllocError, Global};
 
@@ -24,20 +23,19 @@ pub(crate) enum StrictAnswer<'a> {
     Against(Found),
 }
 
-/// The answer to delivered files, in this form, or what is found in what would be accepted.
+/// The answer to delivered files, as is asked, or what is found in what would be accepted.
 pub(crate) fn strict_answer<'a, C: Checks>(
     alloc: Global,
-    inputs: &'a Inputs,
-    checks: &C,
-    form: &OutputForm,
+    asked: &Verification<'a, C>,
 ) -> Result<StrictAnswer<'a>, AllocError>
-    requires { inputs.now.depth ≤ 8 }
-    ensures { IfOk result (IsStrictAnswer form.now (C.panel checks.now) inputs.now) }
+    requires { asked.now.inputs.now.depth ≤ 8 }
+    ensures { IfOk result
+        (IsStrictAnswer asked.now.form.now (C.panel asked.now.checks.now) asked.now.inputs.now) }
 {
-    match verify_grounds(alloc, inputs, checks)? {
-        Outcome::Made(grounds) => strict_made(alloc, inputs, grounds, checks, form),
+    match verify_grounds(alloc, asked.inputs, asked.checks)? {
+        Outcome::Made(grounds) => strict_made(alloc, asked, grounds),
         Outcome::Refused { refusal, found } => {
-            let answer = refused_answer(alloc, inputs, refusal, found, checks, form)?;
+            let answer = refused_answer(alloc, asked, refusal, found)?;
             Ok(StrictAnswer::Stands(answer))
         }
     }
@@ -46,32 +44,32 @@ pub(crate) fn strict_answer<'a, C: Checks>(
 /// The same of delivered files that were made as the owners prescribed.
 fn strict_made<'a, C: Checks>(
     alloc: Global,
-    inputs: &'a Inputs,
+    asked: &Verification<'a, C>,
     grounds: Grounds,
-    checks: &C,
-    form: &OutputForm,
 ) -> Result<StrictAnswer<'a>, AllocError>
-    requires shallow { inputs.now.depth ≤ 8 }
-    requires made { IsMadeBy (C.panel checks.now) inputs.now grounds.documents grounds.evidence }
-    ensures { IfOk result (IsStrictAnswer form.now (C.panel checks.now) inputs.now) }
+    requires shallow { asked.now.inputs.now.depth ≤ 8 }
+    requires made { IsMadeBy (C.panel asked.now.checks.now) asked.now.inputs.now grounds.documents
+        grounds.evidence }
+    ensures { IfOk result
+        (IsStrictAnswer asked.now.form.now (C.panel asked.now.checks.now) asked.now.inputs.now) }
 {
-    let found = found_in(alloc, inputs, &grounds, checks)?;
-    judged(alloc, inputs, grounds, found, checks, form)
+    let found = found_in(alloc, asked.inputs, &grounds, asked.checks)?;
+    judged(alloc, asked, grounds, found)
 }
 
 /// The same, where this is found.
 fn judged<'a, C: Checks>(
     alloc: Global,
-    inputs: &'a Inputs,
+    asked: &Verification<'a, C>,
     grounds: Grounds,
     found: Found,
-    checks: &C,
-    form: &OutputForm,
 ) -> Result<StrictAnswer<'a>, AllocError>
-    requires made { IsMadeBy (C.panel checks.now) inputs.now grounds.documents grounds.evidence }
-    requires found { AreFound (C.panel checks.now) inputs.now grounds.documents grounds.evidence
-        found }
-    ensures { IfOk result (IsStrictAnswer form.now (C.panel checks.now) inputs.now) }
+    requires made { IsMadeBy (C.panel asked.now.checks.now) asked.now.inputs.now grounds.documents
+        grounds.evidence }
+    requires found { AreFound (C.panel asked.now.checks.now) asked.now.inputs.now grounds.documents
+        grounds.evidence found }
+    ensures { IfOk result
+        (IsStrictAnswer asked.now.form.now (C.panel asked.now.checks.now) asked.now.inputs.now) }
 {
     if !found.is_nothing() {
         return Ok(StrictAnswer::Against(found));
@@ -80,6 +78,6 @@ fn judged<'a, C: Checks>(
         of_documents: Vec::new(alloc),
         below: found.of_sublayouts.into_vec(),
     };
-    let answer = made_answer(alloc, inputs, grounds, Some(nothing), checks, form)?;
+    let answer = made_answer(alloc, asked, grounds, Some(nothing))?;
     Ok(StrictAnswer::Stands(answer))
 }

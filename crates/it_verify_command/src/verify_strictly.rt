@@ -10,17 +10,17 @@ use crate::output_form::OutputForm;
 use crate::strict_answer::{StrictAnswer, strict_answer};
 use crate::strict_fault::StrictFault;
 use crate::telling::tell_found;
+use crate::verification::Verification;
 use crate::writing::write_answer;
 use it_dsse::checks::Checks;
 use it_outcome::{RunFault, Status};
-use it_verify::inputs::Inputs;
 use std::alloc::Global;
 use std::io::Write;
 
-/// Verifies delivered files as `verify_with_notes` does, and writes the same to `out` and `notes`,
-/// but where the verdict accepts and something is found, only that is told: in the full form it is
-/// the output, as one JSON object, and otherwise its lines go to `notes`, as far as they can be
-/// written.
+/// Verifies delivered files, as is `asked` and as `verify_with_notes` does, and writes the same to
+/// `out` and `notes`, but where the verdict accepts and something is found, only that is told: in
+/// the full form it is the output, as one JSON object, and otherwise its lines go to `notes`, as
+/// far as they can be written.
 ///
 /// # Errors
 ///
@@ -30,36 +30,34 @@ use std::io::Write;
 /// the checks refused to check more signatures for these; nothing went out.
 pub fn verify_strictly<C: Checks, W: Write, N: Write>(
     alloc: Global,
-    inputs: &Inputs,
-    checks: &C,
-    form: &OutputForm,
+    asked: &Verification<C>,
     out: &mut W,
     notes: &mut N,
 ) -> Result<Status, StrictFault>
-    requires { inputs.now.depth ≤ 8 }
+    requires { asked.now.inputs.now.depth ≤ 8 }
     ensures ok { IfOk result (λ status. (text : _)
-        × IsVerifyOutputIn form.now (C.panel checks.now) inputs.now text status
+        × IsVerifyOutputIn asked.now.form.now (C.panel asked.now.checks.now) asked.now.inputs.now
+        text status
         × Appends (W.contents out.old) (W.contents out.new) text) }
     ensures stands { IfOk result (λ status. status ≡ Status.Good
-        → StandsStrictly (C.panel checks.now) inputs.now) }
+        → StandsStrictly (C.panel asked.now.checks.now) asked.now.inputs.now) }
     ensures findings { IsErrOf result StrictFault.Findings → (text : _)
-        × HasFindings form.now (C.panel checks.now) inputs.now text
-        × AreTold form.now (W.contents out.old) (W.contents out.new) (N.contents notes.old)
-        (N.contents notes.new) text }
+        × HasFindings asked.now.form.now (C.panel asked.now.checks.now) asked.now.inputs.now text
+        × AreTold asked.now.form.now (W.contents out.old) (W.contents out.new)
+        (N.contents notes.old) (N.contents notes.new) text }
     ensures write { IsErrOf result (StrictFault.Run RunFault.Write) → (text : _)
-        × IsStrictOutput form.now (C.panel checks.now) inputs.now text
+        × IsStrictOutput asked.now.form.now (C.panel asked.now.checks.now) asked.now.inputs.now
+        text
         × AppendsBeginning (W.contents out.old) (W.contents out.new) text }
     ensures kept { IfErr result (λ fault. fault ≢ StrictFault.Run RunFault.Write
         → fault ≢ StrictFault.Findings → out.new ≡ out.old) }
-    ensures lines { IsErrOf result StrictFault.Findings → form.now ≢ OutputForm.Full
+    ensures lines { IsErrOf result StrictFault.Findings → asked.now.form.now ≢ OutputForm.Full
         → out.new ≡ out.old }
 {
-    match strict_answer(alloc, inputs, checks, form)? {
-        StrictAnswer::Stands(answer) => {
-            Ok(write_answer(alloc, inputs, answer, checks, out, notes)?)
-        }
+    match strict_answer(alloc, asked)? {
+        StrictAnswer::Stands(answer) => Ok(write_answer(alloc, asked, answer, out, notes)?),
         StrictAnswer::Against(found) => {
-            tell_found(alloc, &found, form, out, notes)?;
+            tell_found(alloc, &found, asked.form, out, notes)?;
             Err(StrictFault::Findings)
         }
     }

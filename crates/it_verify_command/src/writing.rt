@@ -5,6 +5,7 @@ ghost use Rattle.it_base.specs.Writing.{AppendsBeginning};
 ghost use Rattle.it_notes.specs.Known.{IsTold};
 
 use crate::answer::Answer;
+use crate::verification::Verification;
 use it_base::writing::write_all_of;
 use it_dsse::checks::Checks;
 use it_notes::found_in_documents::add_found;
@@ -12,7 +13,6 @@ use it_notes::known::Told;
 use it_notes::notes::Notes;
 use it_outcome::output::put;
 use it_outcome::{RunFault, Status};
-use it_verify::inputs::Inputs;
 use std::alloc::{AllocError, Global};
 use std::io::Write;
 
@@ -20,13 +20,12 @@ use std::io::Write;
 /// what goes before them.
 pub(crate) fn write_answer<C: Checks, W: Write, N: Write>(
     alloc: Global,
-    inputs: &Inputs,
+    asked: &Verification<C>,
     answer: Answer,
-    checks: &C,
     out: &mut W,
     notes: &mut N,
 ) -> Result<Status, RunFault>
-    requires { IsTold (C.panel checks.now) inputs.now answer.told }
+    requires { IsTold (C.panel asked.now.checks.now) asked.now.inputs.now answer.told }
     ensures ok { IfOk result (λ status. (status ≡ answer.entry.output.status)
         × Appends (W.contents out.old) (W.contents out.new) answer.entry.output.text.items) }
     ensures err { IfErr result (λ fault. (fault ≡ RunFault.Write) × AppendsBeginning
@@ -35,16 +34,16 @@ pub(crate) fn write_answer<C: Checks, W: Write, N: Write>(
     let outcome = put(out, &answer.output);
     if outcome.is_ok() && answer.noted {
         let _ = write_all_of(notes, answer.before_notes.as_slice());
-        note(alloc, inputs, &answer.told, checks, notes);
+        note(alloc, asked, &answer.told, notes);
     }
     outcome
 }
 
 /// Writes the notes on what was told, as far as memory suffices and they can be written.
-fn note<C: Checks, N: Write>(alloc: Global, inputs: &Inputs, told: &Told, checks: &C, notes: &mut N)
-    requires { IsTold (C.panel checks.now) inputs.now told.now }
+fn note<C: Checks, N: Write>(alloc: Global, asked: &Verification<C>, told: &Told, notes: &mut N)
+    requires { IsTold (C.panel asked.now.checks.now) asked.now.inputs.now told.now }
 {
-    if let Ok(text) = notes_text(alloc, inputs, told, checks) {
+    if let Ok(text) = notes_text(alloc, asked, told) {
         let _ = notes.write_all(text.as_slice());
     }
 }
@@ -52,13 +51,12 @@ fn note<C: Checks, N: Write>(alloc: Global, inputs: &Inputs, told: &Told, checks
 /// The lines of the notes on what was told.
 fn notes_text<C: Checks>(
     alloc: Global,
-    inputs: &Inputs,
+    asked: &Verification<C>,
     told: &Told,
-    checks: &C,
 ) -> Result<Vec<u8>, AllocError>
-    requires { IsTold (C.panel checks.now) inputs.now told.now }
+    requires { IsTold (C.panel asked.now.checks.now) asked.now.inputs.now told.now }
 {
-    let mut lines = Notes::of(alloc, inputs, told, checks)?.lines(alloc)?;
+    let mut lines = Notes::of(alloc, asked.inputs, told, asked.checks)?.lines(alloc)?;
     add_found(&mut lines, told)?;
     lines.into_text()
 }

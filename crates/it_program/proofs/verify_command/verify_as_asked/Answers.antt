@@ -7,10 +7,10 @@ returns-in_err-verify_strictly-clause-findings g c = λ is.
     let fault = c.in_err-verify_strictly.field-0.0 in
     let told = c.in_err-verify_strictly.ensures.findings
     (ap Err (found_by c.from_residual.result fault c.from_residual.ensures.1 is)) in (
-      c.if-asked.true,
+      c.if-strict.true,
       told.0,
       told.1,
-      told_out c.args.asked.now.form (g.W.Write.contents c.args.out.now)
+      told_out c.args.asked.now.form.now (g.W.Write.contents c.args.out.now)
           (g.W.Write.contents c.verify_strictly.new.out) (g.N.Write.contents c.args.notes.now)
           (g.N.Write.contents c.verify_strictly.new.notes) told.0 told.2,
     )

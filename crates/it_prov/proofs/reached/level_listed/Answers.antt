@@ -9,7 +9,7 @@ returns-in-Some c = λ panel expectations envelope stands holds digests has.
 
 pub returns-in-None : goal.returns-in-None
 returns-in-None c = λ panel expectations envelope stands holds digests has.
-    let expectation = c.args.expectation.now in
+    let expectation = c.args.sought.now.expectation.now in
     unread_reached panel expectations expectation
-    (stands_in expectations c.args.place expectation stands) digests envelope c.args.meter.now
-    (rw c.in-None.is at holds)
+    (stands_in expectations c.args.sought.now.place expectation stands) digests envelope
+    c.args.meter.now (rw c.in-None.is at holds)

@@ -59,21 +59,21 @@ returns-in-Err-judge-clause-at_most g c =
     c.read_documents.ensures.at_most c.in-Ok.documents c.in-Ok.ensures.documents.read
     c.gather.new.meter c.gather.ensures.at_most c.judge.new.meter c.judge.ensures.at_most
 
-pub returns-clause-outcome : goal.returns-clause-outcome
-returns-clause-outcome g c = c.in_default.ensures.made
+pub returns-in-Ok-judge-clause-outcome : goal.returns-in-Ok-judge-clause-outcome
+returns-in-Ok-judge-clause-outcome g c = c.in-Ok-judge.ensures.made
 
-pub returns-clause-at_most : goal.returns-clause-at_most
-returns-clause-at_most g c =
+pub returns-in-Ok-judge-clause-at_most : goal.returns-in-Ok-judge-clause-at_most
+returns-in-Ok-judge-clause-at_most g c =
     let panel = g.C.Checks.panel c.args.checks.now in
     files_most panel c.args.inputs.now c.args.meter.now c.read_documents.new.meter
     c.read_documents.ensures.at_most c.in-Ok.documents c.in-Ok.ensures.documents.read
     c.gather.new.meter c.gather.ensures.at_most c.judge.new.meter c.judge.ensures.at_most
 
-pub returns-clause-at_least : goal.returns-clause-at_least
-returns-clause-at_least g c =
+pub returns-in-Ok-judge-clause-at_least : goal.returns-in-Ok-judge-clause-at_least
+returns-in-Ok-judge-clause-at_least g c =
     let panel = g.C.Checks.panel c.args.checks.now in
     takes_enough panel c.args.inputs.now c.in-Ok.documents c.in-Ok.ensures.documents
     c.in-Ok-gather.evidence c.args.meter.now c.read_documents.new.meter c.gather.new.meter
-    c.judge.new.meter c.in-Ok.ensures.counted c.in_default.ensures.at_least
+    c.judge.new.meter c.in-Ok.ensures.counted c.in-Ok-judge.ensures.at_least
     (verdict_of c.in-Ok.documents c.in-Ok-gather.evidence) refl
     c.in-Ok-gather.ensures.at_least c.in-Ok-gather.ensures.at_least_keys

@@ -6,8 +6,8 @@ use Rattle.it_verify_command.proofs.strict_answer.strict_answer.Goals as goal
 
 pub strict_made-requires-clause-made : goal.strict_made-requires-clause-made
 strict_made-requires-clause-made g c =
-    let panel = g.C.Checks.panel c.args.checks.now in
-    subst (IsOutcome panel c.args.inputs.now) c.in-Made.is c.in_ok-grounds.ensures
+    let panel = g.C.Checks.panel c.args.asked.now.checks.now in
+    subst (IsOutcome panel c.args.asked.now.inputs.now) c.in-Made.is c.in_ok-grounds.ensures
 
 pub returns-in_ok-answer-in-Refused : goal.returns-in_ok-answer-in-Refused
 returns-in_ok-answer-in-Refused g c =

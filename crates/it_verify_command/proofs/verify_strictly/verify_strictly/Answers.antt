@@ -7,8 +7,9 @@ use Rattle.it_verify_command.proofs.verify_strictly.verify_strictly.Goals as goa
 pub returns-in_err-write_answer-in-Stands-clause-write :
     goal.returns-in_err-write_answer-in-Stands-clause-write
 returns-in_err-write_answer-in-Stands-clause-write g c = λ failed.
-    let panel = g.C.Checks.panel c.args.checks.now in
-    let stands = subst (IsStrictAnswer c.args.form.now panel c.args.inputs.now) c.in-Stands.is
+    let asked = c.args.asked.now in
+    let panel = g.C.Checks.panel asked.checks.now in
+    let stands = subst (IsStrictAnswer asked.form.now panel asked.inputs.now) c.in-Stands.is
     c.in_ok-answer.ensures in
     let given = stands.is_answer in
     let answer = c.in-Stands.answer in (
@@ -28,14 +29,15 @@ returns-in_err-write_answer-in-Stands-clause-write g c = λ failed.
 pub returns-in_err-tell_found-in-Against-clause-write :
     goal.returns-in_err-tell_found-in-Against-clause-write
 returns-in_err-tell_found-in-Against-clause-write g c = λ failed.
-    let panel = g.C.Checks.panel c.args.checks.now in
-    let given = subst (IsStrictAnswer c.args.form.now panel c.args.inputs.now) c.in-Against.is
+    let asked = c.args.asked.now in
+    let panel = g.C.Checks.panel asked.checks.now in
+    let given = subst (IsStrictAnswer asked.form.now panel asked.inputs.now) c.in-Against.is
     c.in_ok-answer.ensures in
     let residual = c.from_residual-in_err-tell_found-in-Against in
     let fault = c.in_err-tell_found-in-Against.field-0.0 in
     let told = c.in_err-tell_found-in-Against.ensures.write
     (ap Err (write_by residual.result fault residual.ensures.1 failed)) in (
-      found_in c.args.form.now c.in-Against.found,
+      found_in asked.form.now c.in-Against.found,
       inr (
         told.0,
         record {
@@ -51,10 +53,11 @@ returns-in_err-tell_found-in-Against-clause-write g c = λ failed.
 pub returns-in_ok-tell_found-in-Against-clause-findings :
     goal.returns-in_ok-tell_found-in-Against-clause-findings
 returns-in_ok-tell_found-in-Against-clause-findings g c = λ is.
-    let panel = g.C.Checks.panel c.args.checks.now in
-    let given = subst (IsStrictAnswer c.args.form.now panel c.args.inputs.now) c.in-Against.is
+    let asked = c.args.asked.now in
+    let panel = g.C.Checks.panel asked.checks.now in
+    let given = subst (IsStrictAnswer asked.form.now panel asked.inputs.now) c.in-Against.is
     c.in_ok-answer.ensures in (
-      found_in c.args.form.now c.in-Against.found,
+      found_in asked.form.now c.in-Against.found,
       record {
         found = c.in-Against.found;
         is_found = given.0;

@@ -59,9 +59,23 @@ func SignedByKeys(envelope, keys []byte) ([]string, error) {
 	return signedBy(envelope, "keys", keys)
 }
 
+// SignedByIdentities is the same of a file of public keys and identities, where the envelope may be a
+// Sigstore bundle that holds it, by a trusted root of Sigstore.
+func SignedByIdentities(envelope, keys, trustedRoot []byte) ([]string, error) {
+	files := map[string][]byte{"keys": keys, "trusted-root": trustedRoot}
+	return signed([]string{"--keys=keys", "--trusted-root=trusted-root"}, envelope, files)
+}
+
 func signedBy(envelope []byte, kind string, by []byte) ([]string, error) {
-	words := []string{"signed", fmt.Sprintf("--%s=%s", kind, kind), "--", "envelope"}
-	ran, err := Run(words, map[string][]byte{"envelope": envelope, kind: by})
+	option := fmt.Sprintf("--%s=%s", kind, kind)
+	return signed([]string{option}, envelope, map[string][]byte{kind: by})
+}
+
+// signed is the ids that signed an envelope by the files that options name.
+func signed(options []string, envelope []byte, files map[string][]byte) ([]string, error) {
+	files["envelope"] = envelope
+	words := append(append([]string{"signed"}, options...), "--", "envelope")
+	ran, err := Run(words, files)
 	if err != nil || ran.Status != good {
 		return nil, err
 	}

@@ -233,6 +233,15 @@ func TestCommands(t *testing.T) {
 	keys := must(itv.KeyNamed("alice", []byte(pem)))
 	is(t, strings.Contains(string(keys["alice"]), `"public":"`+rawKey+`"`), true)
 	is(t, must(itv.SignedByKeys(envelope, must(json.Marshal(keys)))), []string(nil))
+	const sigstore = "../examples/sigstore/"
+	bundle := must(os.ReadFile(sigstore + "provenance.jsonl"))
+	root := must(os.ReadFile(sigstore + "trusted_root.json"))
+	tag := "https://github.com/acme/hello/.github/workflows/release.yml@refs/tags/v1.0"
+	for id, object := range must(itv.KeyOfIdentity(tag, "https://token.actions.githubusercontent.com")) {
+		release := must(json.Marshal(map[string]json.RawMessage{"release": object, id: object}))
+		is(t, must(itv.SignedByIdentities(bundle, release, root)), []string{id, "release"})
+		is(t, must(itv.SignedByKeys(bundle, release)), []string(nil))
+	}
 	_, err := itv.Key(must(os.ReadFile("../examples/public/keys/alice.pem")))
 	is(t, strings.Contains(sentenceOf(t, err), "it is a private key"), true)
 	const anna = `{"keytype":"sigstore-oidc","keyval":{"identity":"i","issuer":"s"},"scheme":"Fulcio"}`

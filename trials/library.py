@@ -14,6 +14,7 @@ import tempfile
 import itv
 
 EXAMPLE = pathlib.Path("examples/public")
+SIGSTORE = pathlib.Path("examples/sigstore")
 AT = datetime.datetime(2026, 1, 1, tzinfo=datetime.timezone.utc)
 # SHA-256 of no bytes (FIPS 180-4).
 EMPTY = "e3b0c44298fc1c149afbf4c8996fb92427ae41e4649b934ca495991b7852b855"
@@ -187,6 +188,12 @@ def commands():
     assert itv.signed(envelope, ring=b'[{"id": "k", "secret": "01"}]') == []
     assert itv.payload(b"nothing") is None
     raises(TypeError, itv.signed, envelope)
+    raises(TypeError, itv.signed, envelope, ring=ring, trusted_root=b"{}")
+    bundle, root = (SIGSTORE / name for name in ("provenance.jsonl", "trusted_root.json"))
+    (expected,) = json.loads((SIGSTORE / "policy.json").read_bytes())["expectations"]
+    keys = json.dumps(expected["builders"][0]["keys"]).encode()
+    assert itv.signed(bundle, keys=keys, trusted_root=root) == ["release"]
+    assert itv.signed(bundle, keys=keys) == []
     made = json.loads(itv.link("build", products=itv.digest(of={"a": b""})))
     assert made["products"] == {"a": {"sha256": EMPTY}} and made["materials"] == {}
     stated = json.loads(itv.statement(sums=itv.digest(of={"a": b""}), builder="b", build_type="t"))

@@ -29,12 +29,19 @@ def check(*, policy: Optional[Document] = None, layout: Optional[Document] = Non
 
 
 def signed(envelope: Document, *, ring: Optional[Document] = None,
-           keys: Optional[Document] = None) -> List[str]:
+           keys: Optional[Document] = None,
+           trusted_root: Optional[Document] = None) -> List[str]:
     """The ids, of a ring or of a file of public keys, that signed an envelope, as reports write
-    them, in the order of their bytes. Nobody signed bytes that are no envelope."""
+    them, in the order of their bytes. With `keys` and a `trusted_root` of Sigstore the envelope may
+    be a bundle that holds it, and identities are among the keys. Nobody signed bytes that are no
+    envelope."""
     name, by = _by(ring=ring, keys=keys)
-    found = run(["signed", f"--{name}={name}", "--", "envelope"],
-                {"envelope": bytes_of(envelope, "envelope"), name: bytes_of(by, name)})
+    if trusted_root is not None and keys is None:
+        raise TypeError("trusted_root is given beside keys")
+    given = {"envelope": envelope, name: by, "trusted-root": trusted_root}
+    files = {kind: bytes_of(one, kind) for kind, one in given.items() if one is not None}
+    options = [f"--{kind}={kind}" for kind in files if kind != "envelope"]
+    found = run(["signed", *options, "--", "envelope"], files)
     return lines_of(found.output.decode()) if found.status == 0 else []
 
 

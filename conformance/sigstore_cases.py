@@ -8,15 +8,10 @@ import random
 from typing import NamedTuple
 
 import sigstore_bundles as private
+from bundle_runs import named
 
 # How many random good bundles a seed gives.
 MANY = 200
-
-
-def named(identity, issuer):
-    """The key object of an identity."""
-    return {"keytype": "sigstore-oidc", "scheme": "Fulcio",
-            "keyval": {"identity": identity, "issuer": issuer}}
 
 
 class Case(NamedTuple):

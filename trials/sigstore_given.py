@@ -9,7 +9,8 @@ otherwise because its owner did not sign it (22).
 import json
 
 import sigstore_verdict
-from sigstore_cases import line_of, named
+from bundle_runs import named
+from sigstore_cases import line_of
 from sigstore_certificates import Leaf
 from sigstore_forms import Unfit, need
 from sigstore_logs import Root

@@ -9,9 +9,10 @@ import random
 
 import by_keys
 import sigstore_bundles as private
+from bundle_runs import named
 from deliveries import MOMENT, compact, envelope, key_object, layout, signature, signed, step
 from keys_made import Bundle
-from sigstore_cases import line_of, named
+from sigstore_cases import line_of
 from sigstore_parts import (BUILD_TYPE, BUILDER, FILES, WORKFLOW, Plain, digest, of_case, of_made)
 from sigstore_spoiled import Spoiler
 

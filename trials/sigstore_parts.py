@@ -7,9 +7,9 @@ import hashlib
 
 import by_keys
 import sigstore_bundles as private
+from bundle_runs import named
 from deliveries import MOMENT, compact, layout
 from keys_made import Bundle
-from sigstore_cases import named
 
 FILES = {"app": b"an artifact\n", "lib": b"lib\n"}
 # What the Statements of the bundles say.

@@ -52,6 +52,7 @@ const SIGNED: CommandRow = CommandRow {
         Argument::NeededWord("envelope", "ENVELOPE"),
         Argument::PlainOption("ring", "F"),
         Argument::PlainOption("keys", "F"),
+        Argument::PlainOption("trusted-root", "F"),
     ],
 };
 
@@ -110,6 +111,7 @@ const DIGEST: CommandRow = CommandRow {
     arguments: &[
         Argument::NeededWords("path", "PATH"),
         Argument::BareOption("recursive"),
+        Argument::BareOption("sha512"),
     ],
 };
 
@@ -150,8 +152,9 @@ const VERIFY: CommandRow = CommandRow {
         Argument::NeededOption("policy", "F"),
         Argument::NeededOption("layout", "F"),
         Argument::NeededOption("links", "DIR"),
-        Argument::NeededOption("sums", "F"),
         Argument::NeededOption("at", "MOMENT"),
+        Argument::PlainOption("sums", "F"),
+        Argument::PlainOption("sums512", "F"),
         Argument::PlainOptions("ring", "F"),
         Argument::BareOption("public-keys"),
         Argument::PlainOption("trusted-root", "F"),

@@ -4,8 +4,9 @@ complete -c itv -n __fish_use_subcommand -a verify -d 'Writes the report of the 
 complete -c itv -n '__fish_seen_subcommand_from verify' -l policy -r -F -d 'The policy: the owners of the layout, what may be delivered, and which provenance each file must have.'
 complete -c itv -n '__fish_seen_subcommand_from verify' -l layout -r -F -d 'The envelope of the layout.'
 complete -c itv -n '__fish_seen_subcommand_from verify' -l links -x -a '(__fish_complete_directories)' -d 'The folder of the signed links, and of the folders of sublayouts.'
-complete -c itv -n '__fish_seen_subcommand_from verify' -l sums -r -F -d 'The digest list of the delivered files, as itv digest or sha256sum writes it.'
 complete -c itv -n '__fish_seen_subcommand_from verify' -l at -x -d 'The moment at which no layout may have expired, as 2029-12-31T00:00:00Z.'
+complete -c itv -n '__fish_seen_subcommand_from verify' -l sums -r -F -d 'The digest list of the delivered files by SHA-256, as itv digest or sha256sum writes it. May be left out with --sums512.'
+complete -c itv -n '__fish_seen_subcommand_from verify' -l sums512 -r -F -d 'The digest list of the delivered files by SHA-512, as itv digest --sha512 or sha512sum writes it; a path that is in both lists has both digests. May be left out with --sums.'
 complete -c itv -n '__fish_seen_subcommand_from verify' -l ring -r -F -d 'A ring of secrets, at most eight of them; the first ring that has an id decides what its key is. May be left out with --public-keys or --trusted-root.'
 complete -c itv -n '__fish_seen_subcommand_from verify' -l public-keys -d 'Checks signatures by the public keys in the policy and in the layouts too, after the rings.'
 complete -c itv -n '__fish_seen_subcommand_from verify' -l trusted-root -r -F -d 'The trusted root of Sigstore, by which lines of the provenance that are bundles are checked.'
@@ -39,6 +40,7 @@ complete -c itv -n '__fish_seen_subcommand_from pae' -l type -x -a application/v
 complete -c itv -n '__fish_seen_subcommand_from pae' -F
 complete -c itv -n __fish_use_subcommand -a digest -d 'Writes a digest list: for each file the SHA-256 in hexadecimal, two spaces, the name, a line feed. Where a file cannot be read the lines before it stand, and the list is not whole.'
 complete -c itv -n '__fish_seen_subcommand_from digest' -l recursive -d 'Takes a folder for the files below it, in byte order of their paths.'
+complete -c itv -n '__fish_seen_subcommand_from digest' -l sha512 -d 'Writes the SHA-512 of each file, in place of the SHA-256.'
 complete -c itv -n '__fish_seen_subcommand_from digest' -F
 complete -c itv -n __fish_use_subcommand -a link -d 'Writes the body of the step\'s link, which itv sign signs. A digest list that is not given is empty.'
 complete -c itv -n '__fish_seen_subcommand_from link' -l name -x -d 'The name of the step.'

@@ -43,11 +43,11 @@ sign_command =
     (plain_option (codes "signature"))) (plain_option (codes "keys")))
     (needed_option (codes "key"))) (needed_option (codes "type"))) (plain_option (codes "onto"))
 
--- digest PATH.., and what may be left out: --recursive
+-- digest PATH.., and what may be left out: --recursive --sha512
 abbrev pub digest_command : App
 digest_command =
-    with_rule (with_rule (new_app (codes "digest")) (needed_words (codes "path")))
-    (bare_option (codes "recursive"))
+    with_rule (with_rule (with_rule (new_app (codes "digest")) (needed_words (codes "path")))
+    (bare_option (codes "recursive"))) (bare_option (codes "sha512"))
 
 -- key, either FILE.. or --identity I --issuer S, and what may be left out: --name ID
 abbrev pub key_command : App
@@ -80,21 +80,21 @@ check_command =
     with_rule (with_rule (new_app (codes "check")) (plain_option (codes "policy")))
     (plain_option (codes "layout"))
 
--- verify --policy F --layout F --links DIR --sums F --at MOMENT, and what may be left out:
--- --ring F.. --public-keys --trusted-root F --json[=N] --strict --summary --verifier ID
+-- verify --policy F --layout F --links DIR --at MOMENT, and what may be left out: --sums F
+-- --sums512 F --ring F.. --public-keys --trusted-root F --json[=N] --strict --summary --verifier ID
 -- --resource URI --provenance F --records DIR --depth N --most-checks N
 abbrev pub needed_of_verify : App
 needed_of_verify =
-    with_rule (with_rule (with_rule (with_rule (with_rule (new_app (codes "verify"))
+    with_rule (with_rule (with_rule (with_rule (new_app (codes "verify"))
     (needed_option (codes "policy"))) (needed_option (codes "layout")))
-    (needed_option (codes "links"))) (needed_option (codes "sums")))
-    (needed_option (codes "at"))
+    (needed_option (codes "links"))) (needed_option (codes "at"))
 
 abbrev pub verify_command : App
 verify_command =
     with_rule (with_rule (with_rule (with_rule (with_rule (with_rule (with_rule (with_rule
-    (with_rule (with_rule (with_rule (with_rule
-    needed_of_verify (plain_options (codes "ring"))) (bare_option (codes "public-keys")))
+    (with_rule (with_rule (with_rule (with_rule (with_rule (with_rule
+    needed_of_verify (plain_option (codes "sums"))) (plain_option (codes "sums512")))
+    (plain_options (codes "ring"))) (bare_option (codes "public-keys")))
     (plain_option (codes "trusted-root"))) json_option) (bare_option (codes "strict")))
     (bare_option (codes "summary"))) (plain_option (codes "verifier")))
     (plain_option (codes "resource")))

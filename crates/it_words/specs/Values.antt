@@ -102,6 +102,7 @@ pub record IsSign (values : List Row) (words : SignWords) : Type 0 where
 pub record IsDigest (values : List Row) (words : DigestWords) : Type 0 where
   pub paths : all_of (codes "path") values ≡ Some words.paths
   pub recursive : words.recursive ≡ nat_lt 0 (count_of (codes "recursive") values)
+  pub sha512 : words.sha512 ≡ nat_lt 0 (count_of (codes "sha512") values)
 
 -- the values of the command link
 pub record IsLink (values : List Row) (words : LinkWords) : Type 0 where
@@ -172,15 +173,15 @@ pub record IsKey (values : List Row) (words : KeyWords) : Type 0 where
   pub name : first_of (codes "name") values ≡ words.name
   pub may_be_named : MayBeNamed words.source words.name
 
--- some document is given: a policy, or a layout
-abbrev pub HasDocument : Option Text → Option Text → Type 0
-HasDocument policy layout = IsTrue (is_some policy || is_some layout)
+-- at least one of two values is given
+abbrev pub HasEither : Option Text → Option Text → Type 0
+HasEither first second = IsTrue (is_some first || is_some second)
 
 -- the values of the command check
 pub record IsCheck (values : List Row) (words : CheckWords) : Type 0 where
   pub policy : first_of (codes "policy") values ≡ words.policy
   pub layout : first_of (codes "layout") values ≡ words.layout
-  pub has_document : HasDocument words.policy words.layout
+  pub has_document : HasEither words.policy words.layout
 
 -- these are the rings of the words, in their order: none where the option is not given, and 8 at
 -- most
@@ -225,7 +226,9 @@ pub record IsVerify (values : List Row) (words : VerifyWords) : Type 0 where
   pub policy : first_of (codes "policy") values ≡ Some words.policy
   pub layout : first_of (codes "layout") values ≡ Some words.layout
   pub links : first_of (codes "links") values ≡ Some words.links
-  pub sums : first_of (codes "sums") values ≡ Some words.sums
+  pub sums : first_of (codes "sums") values ≡ words.sums
+  pub sums512 : first_of (codes "sums512") values ≡ words.sums512
+  pub has_list : HasEither words.sums words.sums512
   pub at : first_of (codes "at") values ≡ Some words.at
   pub rings : AreRings (all_of (codes "ring") values) words.rings
   pub public_keys : words.public_keys ≡ nat_lt 0 (count_of (codes "public-keys") values)

@@ -62,7 +62,7 @@ pub enum Words {
     /// `itv sign BODY (--ring F | --signature SIG --keys F) --key ID --type TYPE [--onto
     /// ENVELOPE]`: the envelope of a body, signed, or an envelope with one more signature.
     Sign(SignWords),
-    /// `itv digest [--recursive] PATH..`: the SHA-256 of each file.
+    /// `itv digest [--recursive] [--sha512] PATH..`: the SHA-256 of each file, or its SHA-512.
     Digest(DigestWords),
     /// `itv link --name NAME [--materials SUMS] [--products SUMS]`: the body of a step's link.
     Link(LinkWords),
@@ -77,10 +77,10 @@ pub enum Words {
     /// `itv check [--policy F] [--layout F]`: what is found in a policy and in a layout, of which
     /// one is given at least.
     Check(CheckWords),
-    /// `itv verify --policy F --layout F --links DIR --sums F --at MOMENT [--ring F..]
-    /// [--public-keys] [--trusted-root F] [--json[=2]] [--strict] [--summary --verifier ID
-    /// --resource URI] [--provenance F] [--records DIR] [--depth N] [--most-checks N]`: whether
-    /// delivered files were made as the owners prescribed.
+    /// `itv verify --policy F --layout F --links DIR --at MOMENT [--sums F] [--sums512 F]
+    /// [--ring F..] [--public-keys] [--trusted-root F] [--json[=2]] [--strict] [--summary
+    /// --verifier ID --resource URI] [--provenance F] [--records DIR] [--depth N]
+    /// [--most-checks N]`: whether delivered files were made as the owners prescribed.
     Verify(VerifyWords),
 }
 
@@ -107,8 +107,9 @@ impl From<AllocError> for WordsFault {
 /// The command that the words name, with its values. The first word is the program's name.
 ///
 /// No command asks for help: `--help`, `-h`, `help` and `--version` do not parse, and the fault's
-/// text shows what does. The depth of a verification is at most 8, and it has at most 8 rings, and
-/// at least one where public keys are not checked and there is no trusted root.
+/// text shows what does. The depth of a verification is at most 8; it has at least one digest list,
+/// and at most 8 rings, at least one of them where public keys are not checked and there is no
+/// trusted root.
 ///
 /// # Errors
 ///

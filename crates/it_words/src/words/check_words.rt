@@ -1,9 +1,9 @@
 //! The words of `itv check`.
-ghost use Rattle.std.specs.Prelude.{◌↔◌, IfErr, IfOk, IsTrue};
-ghost use Rattle.it_words.specs.Values.{HasDocument, IsCheck};
+ghost use Rattle.std.specs.Prelude.{IfErr, IfOk};
+ghost use Rattle.it_words.specs.Values.{IsCheck};
 ghost use Rattle.it_words.specs.inside.Unfit.{FitsNone};
 
-use super::values::{Values, ValuesFault};
+use super::values::{Values, ValuesFault, has_either};
 use it_base::text::Text;
 
 /// The values of `itv check`: at least one of them is given.
@@ -22,15 +22,8 @@ pub(super) fn read(values: &Values<'_, '_>) -> Result<CheckWords, ValuesFault>
 {
     let policy = values.optional("policy")?;
     let layout = values.optional("layout")?;
-    if !has_document(&policy, &layout) {
+    if !has_either(&policy, &layout) {
         return Err(ValuesFault::Unfit);
     }
     Ok(CheckWords { policy, layout })
-}
-
-/// Whether a policy or a layout is given.
-fn has_document(policy: &Option<Text>, layout: &Option<Text>) -> bool
-    ensures { IsTrue result ↔ HasDocument policy.now layout.now }
-{
-    policy.is_some() || layout.is_some()
 }

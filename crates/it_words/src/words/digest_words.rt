@@ -14,6 +14,8 @@ pub struct DigestWords {
     pub paths: Sequence<Text>,
     /// Whether a folder is taken for the files below it.
     pub recursive: bool,
+    /// Whether the list is by SHA-512, in place of SHA-256.
+    pub sha512: bool,
 }
 
 /// The command's values, or `Unfit` where there is no path.
@@ -24,5 +26,6 @@ pub(super) fn read(values: &Values<'_, '_>) -> Result<DigestWords, ValuesFault>
     Ok(DigestWords {
         paths: values.all("path")?,
         recursive: values.is_given("recursive"),
+        sha512: values.is_given("sha512"),
     })
 }

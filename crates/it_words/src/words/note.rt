@@ -4,7 +4,7 @@ ghost use Rattle.clap.specs.Words.{kind_of};
 
 use super::dashes::{asks_help, gives, gives_value, has_dashed_value};
 use super::usage::{Usage, nearest_to, of_all, of_one, usage_of};
-use super::{WordsFault, key_words, signed_words};
+use super::{WordsFault, key_words, signed_words, verify_words};
 use clap::error::ErrorKind;
 use clap::{ArgMatches, Error};
 use std::alloc::{AllocError, Global};
@@ -42,6 +42,9 @@ pub(super) fn unfit(alloc: Global, words: &[String], matches: &ArgMatches<'_>) -
 fn misfit(command: &str, values: &[String], found: &ArgMatches<'_>) -> &'static str {
     match (command, gives(values, "--ring")) {
         ("check", _) => "neither '--policy <F>' nor '--layout <F>' is given",
+        ("verify", _) if !verify_words::has_list(found) => {
+            "neither '--sums <F>' nor '--sums512 <F>' is given"
+        }
         ("verify", has_ring) => match misfit_of_summary(values) {
             Some(misfit) => misfit,
             None if has_ring => "the option '--ring <F>' is given more than 8 times",

@@ -111,6 +111,7 @@ const DIGEST: CommandRow = CommandRow {
     arguments: &[
         Argument::NeededWords("path", "PATH"),
         Argument::BareOption("recursive"),
+        Argument::BareOption("sha512"),
     ],
 };
 
@@ -151,8 +152,9 @@ const VERIFY: CommandRow = CommandRow {
         Argument::NeededOption("policy", "F"),
         Argument::NeededOption("layout", "F"),
         Argument::NeededOption("links", "DIR"),
-        Argument::NeededOption("sums", "F"),
         Argument::NeededOption("at", "MOMENT"),
+        Argument::PlainOption("sums", "F"),
+        Argument::PlainOption("sums512", "F"),
         Argument::PlainOptions("ring", "F"),
         Argument::BareOption("public-keys"),
         Argument::PlainOption("trusted-root", "F"),

@@ -16,10 +16,10 @@ pub(super) static USAGES: [Usage; 11] = [
 /// The usage of `itv verify`.
 pub(super) const VERIFY: Usage = Usage {
     name: "verify",
-    line: "itv verify --policy F --layout F --links DIR --sums F --at MOMENT [--ring F..]
-    [--public-keys] [--trusted-root F] [--json[=2]] [--strict] [--summary
-    --verifier ID --resource URI] [--provenance F] [--records DIR] [--depth N]
-    [--most-checks N]",
+    line: "itv verify --policy F --layout F --links DIR --at MOMENT [--sums F]
+    [--sums512 F] [--ring F..] [--public-keys] [--trusted-root F] [--json[=2]]
+    [--strict] [--summary --verifier ID --resource URI] [--provenance F]
+    [--records DIR] [--depth N] [--most-checks N]",
     text: "    Writes the report of the verification: the line accepted with each step and
     each file, or the line refused with the first thing that does not hold.
       --policy F        The policy: the owners of the layout, what may be
@@ -27,10 +27,15 @@ pub(super) const VERIFY: Usage = Usage {
       --layout F        The envelope of the layout.
       --links DIR       The folder of the signed links, and of the folders of
                         sublayouts.
-      --sums F          The digest list of the delivered files, as itv digest
-                        or sha256sum writes it.
       --at MOMENT       The moment at which no layout may have expired, as
                         2029-12-31T00:00:00Z.
+      --sums F          The digest list of the delivered files by SHA-256, as
+                        itv digest or sha256sum writes it. May be left out with
+                        --sums512.
+      --sums512 F       The digest list of the delivered files by SHA-512, as
+                        itv digest --sha512 or sha512sum writes it; a path that
+                        is in both lists has both digests. May be left out with
+                        --sums.
       --ring F          A ring of secrets, at most eight of them; the first
                         ring that has an id decides what its key is. May be
                         left out with --public-keys or --trusted-root.
@@ -119,12 +124,13 @@ pub(super) const PAE: Usage = Usage {
 /// The usage of `itv digest`.
 pub(super) const DIGEST: Usage = Usage {
     name: "digest",
-    line: "itv digest PATH.. [--recursive]",
+    line: "itv digest PATH.. [--recursive] [--sha512]",
     text: "    Writes a digest list: for each file the SHA-256 in hexadecimal, two spaces,
     the name, a line feed. Where a file cannot be read the lines before it
     stand, and the list is not whole.
       --recursive  Takes a folder for the files below it, in byte order of
-                   their paths.",
+                   their paths.
+      --sha512     Writes the SHA-512 of each file, in place of the SHA-256.",
 };
 
 /// The usage of `itv link`.

@@ -1,9 +1,9 @@
 //! The values of a command, as the parser found them.
 ghost use Rattle.std.specs.Prelude.{◌≡◌, ◌≢◌, List, Some, None, IfErr, IfOk, codes, map, nat_lt};
-ghost use Rattle.std.specs.Prelude.{is_some, option_map, unwrap_or, []};
+ghost use Rattle.std.specs.Prelude.{◌↔◌, IsTrue, is_some, option_map, unwrap_or, []};
 ghost use Rattle.clap.specs.Words.{Row, found_of, one_of};
 ghost use Rattle.clap.specs.Walk.{all_of, count_of, first_of, rows_of};
-ghost use Rattle.it_words.specs.Values.{GivesNumber, IsDepth, IsForm};
+ghost use Rattle.it_words.specs.Values.{GivesNumber, HasEither, IsDepth, IsForm};
 ghost use Rattle.it_words.specs.inside.Unfit.{FitsNone};
 ghost use Rattle.it_words.specs.declared.words.values.ValuesFault.TheVariants.{OutOfMemory};
 
@@ -182,6 +182,13 @@ impl<'v, 'a> Values<'v, 'a> {
             None => Err(ValuesFault::Unfit),
         }
     }
+}
+
+/// Whether at least one of two values is given.
+pub(super) fn has_either(first: &Option<Text>, second: &Option<Text>) -> bool
+    ensures { IsTrue result ↔ HasEither first.now second.now }
+{
+    first.is_some() || second.is_some()
 }
 
 /// The words, owned and in their order.

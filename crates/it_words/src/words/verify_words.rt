@@ -4,7 +4,8 @@ ghost use Rattle.it_words.specs.Values.{HasCheck, IsAsked, IsReport, IsSummary, 
 ghost use Rattle.it_words.specs.inside.Unfit.{FitsNone};
 
 use super::form::{AskedOutput, Form, SummaryWords};
-use super::values::{Values, ValuesFault};
+use super::values::{Values, ValuesFault, has_either};
+use clap::ArgMatches;
 use it_base::sequence::Sequence;
 use it_base::text::Text;
 
@@ -20,8 +21,11 @@ pub struct VerifyWords {
     pub layout: Text,
     /// The path of the folder that the links are in.
     pub links: Text,
-    /// The path of the digest list's file.
-    pub sums: Text,
+    /// The path of the file of the digest list by SHA-256, where there is one.
+    pub sums: Option<Text>,
+    /// The path of the file of the digest list by SHA-512, where there is one; at least one of the
+    /// two lists is there.
+    pub sums512: Option<Text>,
     /// The moment at which no layout may have expired.
     pub at: Text,
     /// The paths of the rings' files, in the order of the words; there are at most 8, and none only
@@ -46,23 +50,27 @@ pub struct VerifyWords {
     pub most_checks: u64,
 }
 
-/// The command's values, or `Unfit` where one is missing, there are more than 8 rings, there is no
-/// ring, no public keys and no trusted root, or the words of a summary do not fit together.
+/// The command's values, or `Unfit` where one is missing, there is no digest list, there are more
+/// than 8 rings, there is no ring, no public keys and no trusted root, or the words of a summary do
+/// not fit together.
 pub(super) fn read(values: &Values<'_, '_>) -> Result<VerifyWords, ValuesFault>
     ensures found { IfOk result (IsVerify values.now) }
     ensures unfit { IfErr result (FitsNone (IsVerify values.now)) }
 {
+    let sums = values.optional("sums")?;
+    let sums512 = values.optional("sums512")?;
     let rings = values.any("ring")?;
     let public_keys = values.is_given("public-keys");
     let trusted_root = values.optional("trusted-root")?;
-    if !are_checks(rings.as_slice(), public_keys, &trusted_root) {
+    if !has_either(&sums, &sums512) || !are_checks(rings.as_slice(), public_keys, &trusted_root) {
         return Err(ValuesFault::Unfit);
     }
     Ok(VerifyWords {
         policy: values.needed("policy")?,
         layout: values.needed("layout")?,
         links: values.needed("links")?,
-        sums: values.needed("sums")?,
+        sums,
+        sums512,
         at: values.needed("at")?,
         rings,
         public_keys,
@@ -74,6 +82,11 @@ pub(super) fn read(values: &Values<'_, '_>) -> Result<VerifyWords, ValuesFault>
         depth: values.depth()?,
         most_checks: values.most_checks()?,
     })
+}
+
+/// Whether a digest list is among the values that the parser found.
+pub(super) fn has_list(found: &ArgMatches<'_>) -> bool {
+    found.get_str("sums").is_some() || found.get_str("sums512").is_some()
 }
 
 /// Whether there are at most 8 rings, and at least one where public keys are not checked and there

@@ -19,13 +19,8 @@ returns-in_err-needed-3-clause-unfit c =
 
 pub returns-in_err-needed-4-clause-unfit : goal.returns-in_err-needed-4-clause-unfit
 returns-in_err-needed-4-clause-unfit c =
-    missing (IsVerify _) _ _ c.from_residual-in_err-needed-4.ensures.1 _ (λ words. words.sums)
-    (λ words is. is.sums) c.in_err-needed-4.ensures.unfit
-
-pub returns-in_err-needed-5-clause-unfit : goal.returns-in_err-needed-5-clause-unfit
-returns-in_err-needed-5-clause-unfit c =
-    missing (IsVerify _) _ _ c.from_residual-in_err-needed-5.ensures.1 _ (λ words. words.at)
-    (λ words is. is.at) c.in_err-needed-5.ensures.unfit
+    missing (IsVerify _) _ _ c.from_residual-in_err-needed-4.ensures.1 _ (λ words. words.at)
+    (λ words is. is.at) c.in_err-needed-4.ensures.unfit
 
 pub returns-in_err-asked-clause-unfit : goal.returns-in_err-asked-clause-unfit
 returns-in_err-asked-clause-unfit c =

@@ -33,7 +33,7 @@ def laid_out(case):
     """The words that verify a case, and its files by their paths."""
     words = ["verify", f"--at={case['at']}", f"--depth={case['depth']}", "--links=links"]
     files = files_below(folder_of(case["links"]), "links")
-    for name in ("policy", "layout", "sums", "provenance"):
+    for name in ("policy", "layout", "sums", "sums512", "provenance"):
         if case.get(name) is not None:
             files[name] = bytes_of(case[name])
             words.append(f"--{name}={name}")
@@ -57,10 +57,8 @@ def moment_of(case):
 
 def documents(case):
     """The documents of a case that are not folders, as both packages take them."""
-    given = {name: bytes_of(case[name]) for name in ("policy", "layout", "sums")}
-    if case.get("provenance") is not None:
-        given["provenance"] = bytes_of(case["provenance"])
-    return given
+    given = {name: case.get(name) for name in ("policy", "layout", "sums", "sums512", "provenance")}
+    return {name: bytes_of(one) for name, one in given.items() if one is not None}
 
 
 def records_of(case):

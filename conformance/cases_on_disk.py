@@ -46,7 +46,7 @@ def write_links(folder, links):
 def lay_out(case, folder):
     """Writes a case out, and returns the words that verify it."""
     words = ["itv", "verify", f"--at={case['at']}", f"--depth={case['depth']}", "--links=links"]
-    for name in ("policy", "layout", "sums", "provenance"):
+    for name in ("policy", "layout", "sums", "sums512", "provenance"):
         if case.get(name) is not None:
             (folder / name).write_bytes(bytes_of(case[name]))
             words.append(f"--{name}={name}")

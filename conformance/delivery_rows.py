@@ -11,6 +11,7 @@ from deliveries import compact, layout, policy, signed, step
 
 COMMAND = ("itv verify --policy policy --layout layout --links links --sums sums "
            "--provenance provenance --at 2029-12-31T00:00:00Z --ring ring")
+PARTS = ("policy", "layout", "sums", "sums512", "provenance")
 TIES = ["MATCH", "*", "WITH", "PRODUCTS", "FROM", "build"]
 CLOSES = ["DISALLOW", "*"]
 NONE = [CLOSES]
@@ -52,10 +53,16 @@ def delivery(**changed):
 
 
 def row(name, gives, *words, call="run with notes", command=COMMAND, **changed):
-    """A run on that delivery; what it gives begins with its notes."""
+    """A run on that delivery; what it gives begins with its notes. A digest list that is `None` is
+    not given."""
     given = delivery(**changed)
-    nodes = [*(text_node(path, given[path]) for path in ("policy", "layout", "sums", "provenance")),
+    parts = [path for path in PARTS if given.get(path) is not None]
+    nodes = [*(text_node(path, given[path]) for path in parts),
              text_node("ring", ring(PEOPLE)), *folder_nodes("links", given["links"])]
+    if "sums" not in parts:
+        command = command.replace(" --sums sums", "")
+    if "sums512" in parts:
+        words = (*words, "--sums512 sums512")
     if given["records"]:
         nodes += folder_nodes("records", folder(given["records"]))
         words = (*words, "--records records")

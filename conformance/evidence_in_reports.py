@@ -7,6 +7,7 @@ import base64
 import hashlib
 import json
 
+from digest_lists import LISTS, agree, listed
 from on_disk import bytes_of
 
 
@@ -63,19 +64,13 @@ def faults_of_step(step, told, shown, files):
         yield from faults_of_key(key, files)
 
 
-def digests_of(case):
-    """The digests of the delivered files, by their paths."""
-    lines = bytes_of(case["sums"]).split(b"\n")
-    return {line[66:].decode(): line[:64].decode().lower() for line in lines if line}
-
-
 def faults_of_file(case, told, digests):
     """What is told of a delivered file, and does not fit its digests and its provenance."""
     line = bytes_of(case["provenance"]).split(b"\n")[told["line"] - 1]
     statement = payload_of(line)
-    named = [subject["digest"].get("sha256", "").lower() for subject in statement["subject"]
-             if subject.get("digest")]
-    if told["digests"] != {"sha256": digests[told["path"]]} or digests[told["path"]] not in named:
+    named = [subject["digest"] for subject in statement["subject"] if subject.get("digest")]
+    wanted = digests[told["path"]]
+    if told["digests"] != wanted or not any(agree(wanted, one) for one in named):
         yield f"digests of {told['path']}"
     if statement["predicate"]["runDetails"]["builder"]["id"] != told["builder"]:
         yield f"builder of {told['path']}"
@@ -88,7 +83,7 @@ def faults(case, report):
     files = files_of(case)
     for told in zip(steps, evidence["steps"], report["steps"], strict=True):
         found += faults_of_step(*told, files)
-    digests = digests_of(case)
+    digests = listed({name: bytes_of(case[name]) for name in LISTS if case.get(name) is not None})
     for told, path in zip(evidence["files"], report["files"], strict=True):
         found += [] if told["path"] == path else ["path of a file"]
         found += faults_of_file(case, told, digests)

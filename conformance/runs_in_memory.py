@@ -13,8 +13,8 @@ from report_forms import json_of_lines
 from runs_on_disk import can_run, names_in, nodes_of, text_of, words_of
 
 # What the packages' own functions are tried with: words that say how a verdict is written stay out.
-OPTIONS = {"--policy", "--layout", "--links", "--sums", "--provenance", "--records", "--ring", "--at",
-           "--depth", "--public-keys", "--trusted-root"}
+OPTIONS = {"--policy", "--layout", "--links", "--sums", "--sums512", "--provenance", "--records",
+           "--ring", "--at", "--depth", "--public-keys", "--trusted-root"}
 # The options without a value.
 FLAGS = {"--public-keys", "--strict", "--json"}
 
@@ -59,8 +59,8 @@ def case_of(row):
     files, options = files_of(row), options_of(row)
     given, part = dict(options), lambda path: {"hex": files[path].hex()}
     records = below(files, given["--records"])["files"] if "--records" in given else []
-    case = {name: part(given[f"--{name}"]) for name in ("policy", "layout", "sums", "provenance")
-            if f"--{name}" in given}
+    parts = ("policy", "layout", "sums", "sums512", "provenance")
+    case = {name: part(given[f"--{name}"]) for name in parts if f"--{name}" in given}
     return {**case, "links": below(files, given["--links"]), "at": given["--at"],
             "records": [[name.removesuffix(".link"), one] for name, one in records],
             "rings": [part(path) for name, path in options if name == "--ring"],

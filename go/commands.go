@@ -2,9 +2,11 @@ package itv
 
 import (
 	"crypto/sha256"
+	"crypto/sha512"
 	"encoding/json"
 	"errors"
 	"fmt"
+	"hash"
 	"io"
 	"io/fs"
 	"sort"
@@ -57,9 +59,23 @@ func SignedByKeys(envelope, keys []byte) ([]string, error) {
 	return signedBy(envelope, "keys", keys)
 }
 
+// SignedByIdentities is the same of a file of public keys and identities, where the envelope may be a
+// Sigstore bundle that holds it, by a trusted root of Sigstore.
+func SignedByIdentities(envelope, keys, trustedRoot []byte) ([]string, error) {
+	files := map[string][]byte{"keys": keys, "trusted-root": trustedRoot}
+	return signed([]string{"--keys=keys", "--trusted-root=trusted-root"}, envelope, files)
+}
+
 func signedBy(envelope []byte, kind string, by []byte) ([]string, error) {
-	words := []string{"signed", fmt.Sprintf("--%s=%s", kind, kind), "--", "envelope"}
-	ran, err := Run(words, map[string][]byte{"envelope": envelope, kind: by})
+	option := fmt.Sprintf("--%s=%s", kind, kind)
+	return signed([]string{option}, envelope, map[string][]byte{kind: by})
+}
+
+// signed is the ids that signed an envelope by the files that options name.
+func signed(options []string, envelope []byte, files map[string][]byte) ([]string, error) {
+	files["envelope"] = envelope
+	words := append(append([]string{"signed"}, options...), "--", "envelope")
+	ran, err := Run(words, files)
 	if err != nil || ran.Status != good {
 		return nil, err
 	}
@@ -72,28 +88,48 @@ func Match(pattern, path string) (bool, error) {
 	return err == nil && ran.Status == good, err
 }
 
-// Digest is the digest list of files by their names, in the order of these, as itv digest writes it.
+// Digest is the digest list by SHA-256 of files by their names, in the order of these, as itv digest
+// writes it.
 func Digest(files map[string][]byte) ([]byte, error) {
-	if len(files) == 0 {
-		return nil, nil
-	}
-	words := []string{"digest", "--"}
-	for name := range files {
-		words = append(words, name)
-	}
-	sort.Strings(words[2:])
-	return outputOf(words, files)
+	return listOf(files)
 }
 
-// DigestFS is the digest list of files of a file system, in the order in which they are named. They
-// are digested here, by crypto/sha256, so that they need no room in memory.
+// Digest512 is the same by SHA-512.
+func Digest512(files map[string][]byte) ([]byte, error) {
+	return listOf(files, "--sha512")
+}
+
+func listOf(files map[string][]byte, options ...string) ([]byte, error) {
+	if len(files) == 0 {
+		return []byte{}, nil
+	}
+	names := make([]string, 0, len(files))
+	for name := range files {
+		names = append(names, name)
+	}
+	sort.Strings(names)
+	words := append(append([]string{"digest"}, options...), "--")
+	return outputOf(append(words, names...), files)
+}
+
+// DigestFS is the digest list by SHA-256 of files of a file system, in the order in which they are
+// named. They are digested here, by crypto/sha256, so that they need no room in memory.
 func DigestFS(from fs.FS, names ...string) ([]byte, error) {
-	var list []byte
+	return listFS(sha256.New, from, names)
+}
+
+// DigestFS512 is the same by SHA-512, by crypto/sha512.
+func DigestFS512(from fs.FS, names ...string) ([]byte, error) {
+	return listFS(sha512.New, from, names)
+}
+
+func listFS(newHash func() hash.Hash, from fs.FS, names []string) ([]byte, error) {
+	list := []byte{}
 	for _, name := range names {
 		if strings.Contains(name, "\n") || !utf8.ValidString(name) {
 			return nil, fmt.Errorf("itv: a digest list cannot hold the name %q", name)
 		}
-		digest, err := digestOf(from, name)
+		digest, err := digestOf(newHash(), from, name)
 		if err != nil {
 			return nil, err
 		}
@@ -102,13 +138,12 @@ func DigestFS(from fs.FS, names ...string) ([]byte, error) {
 	return list, nil
 }
 
-func digestOf(from fs.FS, name string) ([]byte, error) {
+func digestOf(digest hash.Hash, from fs.FS, name string) ([]byte, error) {
 	file, err := from.Open(name)
 	if err != nil {
 		return nil, err
 	}
 	defer file.Close()
-	digest := sha256.New()
 	if _, err := io.Copy(digest, file); err != nil {
 		return nil, err
 	}

@@ -19,6 +19,10 @@ import (
 // empty is SHA-256 of no bytes (FIPS 180-4).
 const empty = "e3b0c44298fc1c149afbf4c8996fb92427ae41e4649b934ca495991b7852b855"
 
+// empty512 is SHA-512 of no bytes (FIPS 180-4).
+const empty512 = "cf83e1357eefb8bdf1542850d66d8007d620e4050b5715dc83f4a921d36ce9ce" +
+	"47d0d13c5d85f2b0ff8318d2877eec2f63b931bd47417a81a538327af927da3e"
+
 // pem and rawKey are the public key of RFC 8410, section 10.1.
 const pem = `-----BEGIN PUBLIC KEY-----
 MCowBQYDK2VwAyEAGb9ECWmEzf6FQbrBZ9w7lshQhqowtrbLDFw4rXAxZuE=
@@ -89,6 +93,26 @@ func TestVerdicts(t *testing.T) {
 	refusal := refusalOf(t, shallow)
 	is(t, refusal.Name, "TooDeep")
 	is(t, refusal.At, []itv.Place{{Step: "pack", Key: "carol"}})
+}
+
+func TestLists(t *testing.T) {
+	folder := os.DirFS("../examples/public")
+	both := public()
+	both.Sums512 = must(itv.DigestFS512(folder, "hello.tar"))
+	evidence := must(itv.Verify(both)).Evidence
+	is(t, len(evidence.Files[0].Digests["sha256"]), 64)
+	is(t, evidence.Files[0].Digests["sha512"]+"  hello.tar\n", string(both.Sums512))
+
+	// The links of the example have SHA-256 alone.
+	alone := both
+	alone.Sums = nil
+	is(t, refusalOf(t, alone).Name, "RuleFailed")
+	alone.Sums512 = []byte{}
+	is(t, refusalOf(t, alone).Name, "NoFiles")
+	alone.Sums512 = nil
+	is(t, refusalOf(t, alone).Name, "NoFiles")
+	both.Sums512 = both.Sums
+	is(t, refusalOf(t, both).Details, map[string]any{"list": "sha512", "line": uint64(1)})
 }
 
 func TestFolders(t *testing.T) {
@@ -179,6 +203,9 @@ func TestCommands(t *testing.T) {
 	one := must(itv.Digest(map[string][]byte{"a": nil}))
 	is(t, string(one), empty+"  a\n")
 	is(t, must(itv.DigestFS(fstest.MapFS{"a": {}}, "a")), one)
+	longer := must(itv.Digest512(map[string][]byte{"a": nil}))
+	is(t, string(longer), empty512+"  a\n")
+	is(t, must(itv.DigestFS512(fstest.MapFS{"a": {}}, "a")), longer)
 	if _, err := itv.DigestFS(fstest.MapFS{"a\nb": {}}, "a\nb"); err == nil {
 		t.Fatal("a name with a line feed is listed")
 	}
@@ -206,6 +233,15 @@ func TestCommands(t *testing.T) {
 	keys := must(itv.KeyNamed("alice", []byte(pem)))
 	is(t, strings.Contains(string(keys["alice"]), `"public":"`+rawKey+`"`), true)
 	is(t, must(itv.SignedByKeys(envelope, must(json.Marshal(keys)))), []string(nil))
+	const sigstore = "../examples/sigstore/"
+	bundle := must(os.ReadFile(sigstore + "provenance.jsonl"))
+	root := must(os.ReadFile(sigstore + "trusted_root.json"))
+	tag := "https://github.com/acme/hello/.github/workflows/release.yml@refs/tags/v1.0"
+	for id, object := range must(itv.KeyOfIdentity(tag, "https://token.actions.githubusercontent.com")) {
+		release := must(json.Marshal(map[string]json.RawMessage{"release": object, id: object}))
+		is(t, must(itv.SignedByIdentities(bundle, release, root)), []string{id, "release"})
+		is(t, must(itv.SignedByKeys(bundle, release)), []string(nil))
+	}
 	_, err := itv.Key(must(os.ReadFile("../examples/public/keys/alice.pem")))
 	is(t, strings.Contains(sentenceOf(t, err), "it is a private key"), true)
 	const anna = `{"keytype":"sigstore-oidc","keyval":{"identity":"i","issuer":"s"},"scheme":"Fulcio"}`

@@ -16,8 +16,8 @@ import (
 // that it can say.
 const usualDepth, mostDepth = 4, 8
 
-// Delivery is what is verified, and by what. Policy, Layout, Sums and At are needed, and Rings,
-// PublicKeys or TrustedRoot.
+// Delivery is what is verified, and by what. Policy, Layout and At are needed, Sums or Sums512, and
+// Rings, PublicKeys or TrustedRoot.
 type Delivery struct {
 	// Policy says who owns the layout, what may be delivered, and which provenance it needs.
 	Policy []byte
@@ -27,8 +27,11 @@ type Delivery struct {
 	// embedded in the program (embed.FS, with fs.Sub), or files in memory (testing/fstest.MapFS).
 	// Without it there are none.
 	Links fs.FS
-	// Sums is the digest list of the delivered files, as [Digest] makes it.
+	// Sums is the digest list of the delivered files by SHA-256, as [Digest] makes it.
 	Sums []byte
+	// Sums512 is the digest list of the delivered files by SHA-512, as [Digest512] makes it. A path
+	// that is in both lists has both digests.
+	Sums512 []byte
 	// At is the moment at which no layout may have expired. Parts of a second are cut off.
 	At time.Time
 	// Rings are rings of secrets. The first that has an id decides what its key is.
@@ -125,7 +128,7 @@ func (refusal *Refusal) String() string {
 	return text.String()
 }
 
-// Verify says whether the files of a digest list were made as the policy and the layout prescribe.
+// Verify says whether the files of digest lists were made as the policy and the layout prescribe.
 //
 // A refusal is a verdict. The error is a [*StopError] where the command stops, also where a strict
 // verification finds something in what would be accepted, which are then its Findings; otherwise it
@@ -164,9 +167,13 @@ func (delivery *Delivery) handOver() ([]string, map[string][]byte, error) {
 		return nil, nil, errors.New("itv: the moment At of the delivery is not set")
 	}
 	words := []string{"verify", "--json=2", "--policy=policy", "--layout=layout", "--links=links",
-		"--sums=sums", "--at=" + delivery.At.UTC().Format("2006-01-02T15:04:05Z")}
-	files := map[string][]byte{"policy": delivery.Policy, "layout": delivery.Layout,
-		"sums": delivery.Sums}
+		"--at=" + delivery.At.UTC().Format("2006-01-02T15:04:05Z")}
+	files := map[string][]byte{"policy": delivery.Policy, "layout": delivery.Layout}
+	if delivery.Sums != nil || delivery.Sums512 == nil {
+		files["sums"] = delivery.Sums
+		words = append(words, "--sums=sums")
+	}
+	words = withFile(words, files, "sums512", delivery.Sums512)
 	for number, ring := range delivery.Rings {
 		name := fmt.Sprintf("ring-%d", number+1)
 		files[name] = ring

@@ -14,9 +14,13 @@ import tempfile
 import itv
 
 EXAMPLE = pathlib.Path("examples/public")
+SIGSTORE = pathlib.Path("examples/sigstore")
 AT = datetime.datetime(2026, 1, 1, tzinfo=datetime.timezone.utc)
 # SHA-256 of no bytes (FIPS 180-4).
 EMPTY = "e3b0c44298fc1c149afbf4c8996fb92427ae41e4649b934ca495991b7852b855"
+# SHA-512 of no bytes (FIPS 180-4).
+EMPTY_512 = ("cf83e1357eefb8bdf1542850d66d8007d620e4050b5715dc83f4a921d36ce9ce"
+             "47d0d13c5d85f2b0ff8318d2877eec2f63b931bd47417a81a538327af927da3e")
 # The public key of RFC 8410, section 10.1, in PEM and as its bytes.
 PEM = b"""-----BEGIN PUBLIC KEY-----
 MCowBQYDK2VwAyEAGb9ECWmEzf6FQbrBZ9w7lshQhqowtrbLDFw4rXAxZuE=
@@ -91,6 +95,23 @@ def verifications():
     assert str(told).startswith("more than 1 signatures would have to be checked"), told
 
 
+def lists():
+    """Digest lists by SHA-512, beside one by SHA-256 and alone."""
+    tar = (EXAMPLE / "hello.tar").read_bytes()
+    sums, sums512 = (itv.digest(of={"hello.tar": tar}, sha512=longer) for longer in (False, True))
+    assert sums512 == f"{hashlib.sha512(tar).hexdigest()}  hello.tar\n".encode()
+    verdict = itv.verify(**given(sums512=sums512))
+    assert verdict.evidence.files[0].digests == {
+        "sha256": sha256("hello.tar"), "sha512": hashlib.sha512(tar).hexdigest()}
+    # The links of the example have SHA-256 alone.
+    assert itv.verify(**given(sums=None, sums512=sums512)).refusal.name == "RuleFailed"
+    assert itv.verify(**given(sums=None, sums512=b"")).refusal.name == "NoFiles"
+    bad = itv.verify(**given(sums512=sums)).refusal
+    assert (bad.number, bad.details) == (12, {"list": "sha512", "line": 1}), bad
+    told = raises(itv.Stopped, itv.verify, **given(sums=None))
+    assert "--sums512" in str(told), told
+
+
 def strictly():
     """A strict verification, of a delivery whose file is tied to no step."""
     assert itv.verify(**given(strict=True)).accepted
@@ -151,10 +172,12 @@ def commands():
     assert itv.match("dist/*", "dist/app.tar") and not itv.match("dist/*", "src/app.tar")
     assert itv.pae(b"hello", type="text/plain") == b"DSSEv1 10 text/plain 5 hello"
     assert itv.digest(of={"a": b""}) == f"{EMPTY}  a\n".encode()
+    assert itv.digest(of={"a": b""}, sha512=True) == f"{EMPTY_512}  a\n".encode()
     with tempfile.TemporaryDirectory() as name:
         path = pathlib.Path(name, "empty")
         path.write_bytes(b"")
         assert itv.digest(path) == f"{EMPTY}  {path}\n".encode()
+        assert itv.digest(path, sha512=True) == f"{EMPTY_512}  {path}\n".encode()
         for odd in ("line\nfeed", "\udcff"):
             other = pathlib.Path(name, odd)
             other.write_bytes(b"")
@@ -165,6 +188,12 @@ def commands():
     assert itv.signed(envelope, ring=b'[{"id": "k", "secret": "01"}]') == []
     assert itv.payload(b"nothing") is None
     raises(TypeError, itv.signed, envelope)
+    raises(TypeError, itv.signed, envelope, ring=ring, trusted_root=b"{}")
+    bundle, root = (SIGSTORE / name for name in ("provenance.jsonl", "trusted_root.json"))
+    (expected,) = json.loads((SIGSTORE / "policy.json").read_bytes())["expectations"]
+    keys = json.dumps(expected["builders"][0]["keys"]).encode()
+    assert itv.signed(bundle, keys=keys, trusted_root=root) == ["release"]
+    assert itv.signed(bundle, keys=keys) == []
     made = json.loads(itv.link("build", products=itv.digest(of={"a": b""})))
     assert made["products"] == {"a": {"sha256": EMPTY}} and made["materials"] == {}
     stated = json.loads(itv.statement(sums=itv.digest(of={"a": b""}), builder="b", build_type="t"))
@@ -210,7 +239,7 @@ def at_once():
 
 
 if __name__ == "__main__":
-    for trial in (verifications, strictly, folders, misuse, commands):
+    for trial in (verifications, lists, strictly, folders, misuse, commands):
         trial()
     print("Python: verdicts, folders, misuse and commands give what they should")
     at_once()

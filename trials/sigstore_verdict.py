@@ -1,4 +1,4 @@
-"""What `itv verify` has to answer for a delivery of sigstore_made, in plain Python.
+"""What `itv verify` and `itv signed` have to answer for a delivery of sigstore_made, in plain Python.
 
 Written from docs/sigstore.md, docs/formats.md and docs/keys.md. The rings, the public keys and the
 steps are those of keys_model.
@@ -151,3 +151,32 @@ def answers(delivery):
         return [(2, ""), (2, "")]
     return [(status, "".join(line + "\n" for line in lines)),
             (status, keys_model.json_text(told))]
+
+
+class File(NamedTuple):
+    """A file that may be a bundle, as the only line of a provenance."""
+
+    provenance: bytes
+    root: bytes
+    ring: None = None
+    public_keys: bool = True
+
+
+def listed_keys(policy):
+    """The key objects of all builders in a policy, under their ids."""
+    return {who: made for expectation in json.loads(policy)["expectations"]
+            for builder in expectation["builders"] for who, made in builder["keys"].items()}
+
+
+def signers(line, keys, root):
+    """What `signed --keys --trusted-root` answers for a line: a status and a text."""
+    try:
+        checks = Checks(File(line, root))
+    except Unfit:
+        return 2, ""
+    envelope, _ = read_line(line)
+    if envelope is None:
+        return 1, "refused 20 BadEnvelope\nat -\n"
+    found = [who for who in sorted(keys, key=str.encode)
+             if checks.signed(envelope, who, keys[who])]
+    return 0 if found else 1, "".join(f"{who}\n" for who in found)

@@ -29,12 +29,19 @@ def check(*, policy: Optional[Document] = None, layout: Optional[Document] = Non
 
 
 def signed(envelope: Document, *, ring: Optional[Document] = None,
-           keys: Optional[Document] = None) -> List[str]:
+           keys: Optional[Document] = None,
+           trusted_root: Optional[Document] = None) -> List[str]:
     """The ids, of a ring or of a file of public keys, that signed an envelope, as reports write
-    them, in the order of their bytes. Nobody signed bytes that are no envelope."""
+    them, in the order of their bytes. With `keys` and a `trusted_root` of Sigstore the envelope may
+    be a bundle that holds it, and identities are among the keys. Nobody signed bytes that are no
+    envelope."""
     name, by = _by(ring=ring, keys=keys)
-    found = run(["signed", f"--{name}={name}", "--", "envelope"],
-                {"envelope": bytes_of(envelope, "envelope"), name: bytes_of(by, name)})
+    if trusted_root is not None and keys is None:
+        raise TypeError("trusted_root is given beside keys")
+    given = {"envelope": envelope, name: by, "trusted-root": trusted_root}
+    files = {kind: bytes_of(one, kind) for kind, one in given.items() if one is not None}
+    options = [f"--{kind}={kind}" for kind in files if kind != "envelope"]
+    found = run(["signed", *options, "--", "envelope"], files)
     return lines_of(found.output.decode()) if found.status == 0 else []
 
 
@@ -51,9 +58,10 @@ def match(pattern: str, path: str) -> bool:
     return run(["match", "--", pattern, path], {}).status == 0
 
 
-def digest(*paths: pathlib.Path, of: Optional[Mapping[str, bytes]] = None) -> bytes:
+def digest(*paths: pathlib.Path, of: Optional[Mapping[str, bytes]] = None,
+           sha512: bool = False) -> bytes:
     """The digest list of files, as `itv digest` writes it: of files by their paths, or of bytes by
-    their names.
+    their names. It is by SHA-256, or by SHA-512 where `sha512` is true.
 
     The files at paths are digested here, by Python's `hashlib`, so that they need no room in
     memory; the names in the list are the paths as `pathlib` writes them. A name with a line feed or
@@ -62,16 +70,17 @@ def digest(*paths: pathlib.Path, of: Optional[Mapping[str, bytes]] = None) -> by
     if of is not None:
         if paths:
             raise TypeError("paths or bytes by names, and not both")
-        return run(["digest", "--", *of], dict(of)).output if of else b""
-    return b"".join(_line(path) for path in paths)
+        words = ["digest", *["--sha512"] * bool(sha512), "--"]
+        return run([*words, *of], dict(of)).output if of else b""
+    return b"".join(_line(path, "sha512" if sha512 else "sha256") for path in paths)
 
 
-def _line(path):
-    """The line of a file."""
+def _line(path, algorithm):
+    """The line of a file in a list by an algorithm."""
     name = str(path)
     if "\n" in name:
         raise ValueError(f"{name!r} has a line feed in its name, which a digest list cannot hold")
-    hashed = hashlib.sha256()
+    hashed = hashlib.new(algorithm)
     with open(path, "rb") as file:
         for block in iter(lambda: file.read(1 << 20), b""):
             hashed.update(block)

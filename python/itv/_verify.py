@@ -100,18 +100,20 @@ def _moment(at):
     return f"{moment.isoformat()}Z"
 
 
-def verify(*, policy: Document, layout: Document, links: Folder, sums: Document,
-           at: datetime.datetime, rings: Sequence[Document] = (), public_keys: bool = False,
+def verify(*, policy: Document, layout: Document, links: Folder, at: datetime.datetime,
+           sums: Optional[Document] = None, sums512: Optional[Document] = None,
+           rings: Sequence[Document] = (), public_keys: bool = False,
            trusted_root: Optional[Document] = None, provenance: Optional[Document] = None,
            records: Optional[Folder] = None, strict: bool = False, depth: Optional[int] = None,
            most_checks: Optional[int] = None) -> Verdict:
-    """Whether the files of a digest list were made as the policy and the layout prescribe.
+    """Whether the files of digest lists were made as the policy and the layout prescribe.
 
     `policy` says who owns the layout, what may be delivered, and which provenance it needs; `layout`
     is the layout in its envelope, and `links` are the signed links of its steps, with the folders of
-    sublayouts. `sums` is the digest list of the delivered files, as `digest` makes it; `at` the moment
-    at which no layout may have expired, a `datetime` with a zone, of which parts of a second are cut
-    off. Signatures are checked by the `rings`, in their order, and then by `public_keys` where that is
+    sublayouts. `sums` is the digest list of the delivered files by SHA-256, as `digest` makes it, and
+    `sums512` the one by SHA-512, which it makes with `sha512`: one of them is needed, and a path that
+    is in both has both digests. `at` is the moment at which no layout may have expired, a `datetime`
+    with a zone, of which parts of a second are cut off. Signatures are checked by the `rings`, in their order, and then by `public_keys` where that is
     true; lines of the provenance that are bundles by the `trusted_root` of Sigstore. One of the three
     is needed. `provenance` has an envelope on each line, and `records` are those of inspections.
     `depth` is how deep sublayouts may lie, 4 where it is not given; `most_checks` how many signatures
@@ -121,10 +123,13 @@ def verify(*, policy: Document, layout: Document, links: Folder, sums: Document,
     would be accepted, with these `findings`.
     """
     files = {"policy": bytes_of(policy, "policy"), "layout": bytes_of(layout, "layout"),
-             "sums": bytes_of(sums, "sums"),
              **files_of(links, "links", DEPTH if depth is None else min(depth, MOST_DEPTH))}
-    words = ["verify", FORM, "--policy=policy", "--layout=layout", "--links=links", "--sums=sums",
+    words = ["verify", FORM, "--policy=policy", "--layout=layout", "--links=links",
              f"--at={_moment(at)}"]
+    for name, one in {"sums": sums, "sums512": sums512}.items():
+        if one is not None:
+            files[name] = bytes_of(one, name)
+            words.append(f"--{name}={name}")
     for number, ring in enumerate(rings, 1):
         files[f"ring-{number}"] = bytes_of(ring, "a ring")
         words.append(f"--ring=ring-{number}")

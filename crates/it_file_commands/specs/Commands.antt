@@ -41,6 +41,7 @@ use Rattle.it_words.specs.declared.words.statement_words.StatementWords.{Stateme
 use Rattle.it_words.specs.declared.words.signed_words.SignedBy.{SignedBy}
 use Rattle.it_words.specs.declared.words.signed_words.SignedBy.TheVariants.{Ring as of_ring}
 use Rattle.it_words.specs.declared.words.signed_words.SignedBy.TheVariants.{Keys as of_keys}
+use Rattle.it_words.specs.declared.words.signed_words.SignedBy.TheVariants.{Trusted as of_trusted}
 use Rattle.it_words.specs.declared.words.signed_words.SignedWords.{SignedWords}
 use Rattle.it_words.specs.declared.words.sign_words.MadePaths.{MadePaths}
 use Rattle.it_words.specs.declared.words.sign_words.SignBy.{SignBy}
@@ -48,6 +49,7 @@ use Rattle.it_words.specs.declared.words.sign_words.SignBy.TheVariants.{Ring as 
 use Rattle.it_words.specs.declared.words.sign_words.SignWords.{SignWords}
 use Rattle.it_disk.specs.Reading.{Holdings, HoldsIfGiven, HoldsKeys, HoldsRing, IsGiven}
 use Rattle.it_files_below.specs.FilesBelow.{AreFilesAtEach}
+use Rattle.it_file_commands.specs.TrustedSigners.{ShowsTrustedSigners}
 
 -- signed: which ids of the ring, in the order of their bytes, signed the envelope
 pub record ShowsRingSigners (disk : Holdings) (path envelope text : List ℕ)
@@ -66,12 +68,14 @@ pub record ShowsKeySigners (disk : Holdings) (path envelope text : List ℕ)
   pub holds_keys : HoldsKeys disk path objects
   pub is_output : IsSignedByKeysOutput objects envelope text status
 
--- signed: by a ring, or by public keys
+-- signed: by a ring, by public keys, or by these and identities
 abbrev pub ShowsSignersBy : Holdings → SignedBy → (envelope text : List ℕ) → Status → Type 0
 ShowsSignersBy disk (of_ring path) envelope text status =
     ShowsRingSigners disk path envelope text status
 ShowsSignersBy disk (of_keys path) envelope text status =
     ShowsKeySigners disk path envelope text status
+ShowsSignersBy disk (of_trusted paths) envelope text status =
+    ShowsTrustedSigners disk paths envelope text status
 
 -- signed: who signed the envelope
 pub record ShowsSigners (disk : Holdings) (words : SignedWords) (text : List ℕ)

@@ -1,2 +1,4 @@
 pub mod Commands
 pub mod Stopped
+pub mod TrustedSigners
+pub mod inside

@@ -22,6 +22,7 @@ pub mod sign_command;
 mod sign_fault;
 mod sign_onto_command;
 pub mod signed_command;
+mod signed_trusted;
 pub mod statement_command;
 
 pub use remembering::Remembering;

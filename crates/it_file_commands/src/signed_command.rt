@@ -1,4 +1,4 @@
-//! `itv signed ENVELOPE (--ring F | --keys F)`.
+//! `itv signed ENVELOPE (--ring F | --keys F) [--trusted-root F]`.
 ghost use Rattle.std.specs.Prelude.{◌≡◌, ◌≢◌, [], ◌∷◌, IfErr, IfOk, map, string_bytes};
 ghost use Rattle.std.specs.Io.KnownBytes.{Appends};
 ghost use Rattle.it_dsse.specs.Panel.{panel_of};
@@ -6,6 +6,7 @@ ghost use Rattle.it_dsse.specs.Ring.{ring_check};
 ghost use Rattle.it_commands.specs.SignedOutput.{IsSignedOutput};
 ghost use Rattle.it_file_commands.specs.Commands.{ShowsKeySigners, ShowsRingSigners, ShowsSigners};
 
+use crate::signed_trusted;
 use it_commands::run_signed_by;
 use it_disk::{Disk, Fault, read_keys, read_ring};
 use it_dsse::ring::HmacRing;
@@ -17,15 +18,18 @@ use std::alloc::Global;
 use std::io::Write;
 
 /// Reads the envelope and the ring or the public keys, and writes the ids that signed the envelope.
+/// With a trusted root the file may be a bundle; why it vouches for nobody goes to `notes`, where
+/// no id signed its envelope.
 ///
 /// # Errors
 ///
 /// The fault of a file that cannot be read, or is not what its option asks for, and `Fault::Run`
 /// where the output could not be written, or memory was refused.
-pub fn run<R: Disk + AllocGlobal, W: Write>(
+pub fn run<R: Disk + AllocGlobal, W: Write, N: Write>(
     rt: &R,
     words: &SignedWords,
     out: &mut W,
+    notes: &mut N,
 ) -> Result<Status, Fault>
     ensures ok { IfOk result (λ status. (text : _)
         × ShowsSigners (R.holdings rt.now) words.now text status
@@ -37,6 +41,7 @@ pub fn run<R: Disk + AllocGlobal, W: Write>(
     match &words.by {
         SignedBy::Ring(path) => show_by_ring(rt, path.as_str(), envelope, out),
         SignedBy::Keys(path) => show_by_keys(rt, path.as_str(), envelope, out),
+        SignedBy::Trusted(paths) => signed_trusted::run(rt, paths, envelope, out, notes),
     }
 }
 

@@ -106,7 +106,7 @@ fn run_command<R: Disk + AllocGlobal, W: Write, N: Write>(
         (W.contents out.new) }
 {
     match command {
-        Words::Signed(words) => Ok(signed_command::run(rt, words, out)?),
+        Words::Signed(words) => Ok(signed_command::run(rt, words, out, notes)?),
         Words::Match(words) => Ok(match_command::run(rt.alloc(), words, out)?),
         Words::Pae(words) => Ok(pae_command::run(rt, words, out)?),
         Words::Sign(words) => Ok(sign_command::run(rt, words, out, notes)?),

@@ -12,7 +12,7 @@ use std::io::Write;
 
 /// Writes the notes on these lines, where the delivery was refused, as far as memory suffices and
 /// they can be written.
-#[tactic(auto, using(crate::proofs::Noting::nothing_more))]
+#[tactic(auto, using(it_file_commands::proofs::Noting::nothing_more))]
 pub(crate) fn note_silent<N: Write>(
     alloc: Global,
     outcome: &Result<Status, Stop>,
@@ -30,7 +30,7 @@ pub(crate) fn note_silent<N: Write>(
 }
 
 /// Writes the notes on these lines, as far as memory suffices and they can be written.
-#[tactic(auto, using(crate::proofs::Noting::nothing_more))]
+#[tactic(auto, using(it_file_commands::proofs::Noting::nothing_more))]
 fn write_notes<N: Write>(alloc: Global, silent: &[SilentLine], notes: &mut N)
     ensures { AppendsBeginning (N.contents notes.old) (N.contents notes.new)
         (silent_notes silent.now) }

@@ -246,7 +246,7 @@ module _ (panel : Panel) (a b : Inputs) (h : Share panel a b) where
     at_each links inspections deliver provenance at_sums =
         carried at_sums (λ refusal x. (
           x.0,
-          bad_there x.0 x.1,
+          bad_there panel a b h x.0 x.1,
           x.2,
         ))
     at_each links inspections deliver provenance at_moment =
@@ -257,7 +257,7 @@ module _ (panel : Panel) (a b : Inputs) (h : Share panel a b) where
           x.1,
         ))
     at_each links inspections deliver provenance at_files =
-        carried at_files (λ refusal x. (listed_there empty x.0, x.1))
+        carried at_files (λ refusal x. (listed_there panel a b h empty x.0, x.1))
     at_each links inspections deliver provenance at_envelope = carried at_envelope no_envelope_there
     at_each links inspections deliver provenance at_payload_type =
         carried at_payload_type type_there

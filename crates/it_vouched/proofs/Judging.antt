@@ -1,6 +1,6 @@
 -- Lines that are judged one after another.
 use Rattle.std.proofs.Common.{◌≡◌, ◌∙◌, ℕ, ◌+◌, ◌<◌, ◌≤◌, List, [], ◌∷◌, ◌++◌, length, map}
-use Rattle.std.proofs.Common.{Option, Some, None, MatchOption, append_assoc, arith, ap, sym, subst}
+use Rattle.std.proofs.Common.{Option, Some, None, MatchOption, append_assoc, arith, ap, refl, sym, subst}
 use Rattle.std.specs.List.{cons_option}
 use Rattle.std.proofs.lemmas.List.{length-append}
 use Rattle.it_base.specs.Finds.{Finds}
@@ -108,3 +108,17 @@ module _ (root : TrustedRoot) (provenance rest : List ℕ) (number : ℕ) (all :
         (silent_where root line (number + 1) shortfall here is misses));
     in_range = (let range = h.in_range in omega (arith, range, shorter));
   }
+
+-- bytes that were judged as one line
+pub one_vouched : (root : TrustedRoot) (line : List ℕ) (found : Option Vouched) → Finds (IsVouched root line) found
+    → AreVouched root (line ∷ []) (cons_option found [])
+one_vouched root line found finds =
+    found_more (VouchesForNone root) (IsVouched root) [] line [] found refl (as_found root line found finds)
+
+pub one_silent : (root : TrustedRoot) (line : List ℕ) (shortfall : Option Shortfall)
+    → MatchOption shortfall (MissesNothing root line) (λ missed. LineMisses root line missed) → (here : Option SilentLine)
+    → MatchOption shortfall (here ≡ None) (λ missed. here ≡ Some (record { line = 1; shortfall = missed }))
+    → AreSilent root (line ∷ []) (cons_option here [])
+one_silent root line shortfall misses here is =
+    found_more (λ n. MissesNothing root n.line) (IsSilent root) [] (record { number = 1; line = line }) [] here refl
+    (silent_where root line 1 shortfall here is misses)

@@ -45,6 +45,29 @@ impl JudgedLines {
             silent: Sequence::from(silent),
         })
     }
+
+    /// Bytes, such as those of a file, judged as one line, by a trusted root: line feeds in them
+    /// are bytes like any other.
+    ///
+    /// # Errors
+    ///
+    /// `AllocError` where memory was refused.
+    pub fn of_one(alloc: Global, trust: &Trust<'_>, bytes: &[u8]) -> Result<JudgedLines, AllocError>
+        ensures vouched { IfOk result
+            (λ judged. AreVouched trust.now (bytes.now ∷ []) judged.vouched) }
+        ensures silent { IfOk result
+            (λ judged. AreSilent trust.now (bytes.now ∷ []) judged.silent) }
+    {
+        let mut all = Vec::new(alloc);
+        let mut silent = Vec::new(alloc);
+        let judged = judged_line(alloc, trust, bytes)?;
+        push_some(&mut all, judged.vouched)?;
+        push_some(&mut silent, silent_line(1, judged.shortfall))?;
+        Ok(JudgedLines {
+            vouched: VouchedLines::new(all),
+            silent: Sequence::from(silent),
+        })
+    }
 }
 
 /// What is judged of the lines so far.

@@ -110,6 +110,10 @@ fn shown_signed(alloc: Global, words: &SignedWords) -> Result<String, AllocError
     match &words.by {
         SignedBy::Ring(ring) => spaced(alloc, &["signed", envelope, ring.as_str()]),
         SignedBy::Keys(keys) => spaced(alloc, &["signed", envelope, "by", keys.as_str()]),
+        SignedBy::Trusted(paths) => {
+            let (keys, root) = (paths.keys.as_str(), paths.root.as_str());
+            spaced(alloc, &["signed", envelope, "by", keys, "and", root])
+        }
     }
 }
 

@@ -1,0 +1,112 @@
+"""What the scripts for runs on Sigstore bundles share: which of the bundles of sigstore_bundles.py
+are tried and what is said of each, key objects of identities, bundles of a file, and files that are
+no trusted root. Needs the package `cryptography`.
+"""
+
+import random
+
+from sigstore_bundles import Made
+
+# What bundles are made of that attest the file of `good` in cases.py.
+APP = {"artifact": b"app"}
+# Good bundles: of each version and kind of name, and with parts besides that count for nothing.
+GOOD = """uri email other-name v1-promise-only v1-with-proof v2-chain v3 v3-old-form intoto
+    issuer-both chain-of-three at-last-second-of-leaf entry-with-wrong-promise-besides
+    authority-that-does-not-read-besides object-with-more-members""".split()
+# Bad bundles, at least one for each condition: but for it, each would vouch for who is listed.
+BAD = """media-type-parameter-space message-signature sig-not-base64 line-a-list
+    second-signature-of-stranger material-is-a-list public-key-besides-certificate empty-chain
+    certificate-and-chain chain-in-0.3 certificate-in-pem extension-twice leaf-key-p384
+    critical-policies usage-of-authority purpose-any leaf-is-authority-path-0 email-and-uri
+    issuers-differ-in-case identity-other-ref object-with-identity-outside-keyval only-rfc3161
+    nine-entries time-as-number promise-empty kind-hashedrekord body-two-signatures
+    root-log-of-p384-details after-log-window body-of-other-payload body-of-other-type
+    body-of-malleated-signature body-of-other-certificate promise-of-other-time proof-missing-0.3
+    proof-without-checkpoint-0.1 proof-leaf-as-node checkpoint-other-size
+    checkpoint-two-empty-lines checkpoint-of-other-key-and-hint after-leaf root-path-too-short
+    before-authority-window intermediate-ended authority-of-stranger-in-the-bundle no-timestamp
+    timestamps-byte-after no-ct-log after-ct-window timestamp-of-another-certificate
+    signed-payload-alone line-not-utf8 line-is-envelope-and-bundle""".split()
+# What the note says of a bundle that misses one of these conditions.
+MISSES = [
+    ("material", "it has no verificationMaterial"),
+    ("public-key", "it is signed by a public key, not by a certificate"),
+    ("no-certificate", "it has no certificate"),
+    ("two-forms", "it has both a certificate and a chain"),
+    ("chain-in-0.3", "bundles of version 0.3 have one certificate, not a chain"),
+    ("certificate-base64", "its certificate has no bytes, or not in base64"),
+    ("no-entry", "it has no entry of a transparency log"),
+    ("many-entries", "it has more than 8 entries"),
+    ("certificate-form certificate-critical leaf-key leaf-usage leaf-purpose leaf-authority "
+     "leaf-name leaf-issuer",
+     "its certificate is not that of a signer: not read, or not of the form that is taken"),
+    ("entry-form entry-promise entry-kind entry-log entry-log-window entry-timestamp body-form "
+     "body-payload body-type body-signature body-certificate proof-missing proof-form proof-root "
+     "checkpoint-form checkpoint-root checkpoint-signature",
+     "no log of the trusted root vouches for an entry of it"),
+    ("leaf-time authority-name authority-window authority-time authority-signature sct-missing "
+     "sct-form sct-log sct-window sct-signature",
+     "no authority of the trusted root issued its certificate at the time of its entry, or no "
+     "certificate log promised to log it"),
+    ("envelope-signature", "the certificate's key did not sign the envelope"),
+]
+# What it says of two cases: a list has no members, and a chain of none has no first certificate.
+SAID = {"material-is-a-list": "it has no certificate",
+        "empty-chain": "its certificate has no bytes, or not in base64"}
+# The type of a trusted root, and files that are none, with what is said of each.
+TYPE = {"mediaType": "application/vnd.dev.sigstore.trustedroot+json;version=0.1"}
+LOG = {"hashAlgorithm": "x", "logId": {"keyId": ""},
+       "publicKey": {"keyDetails": "", "rawBytes": "",
+                     "validFor": {"start": "1970-01-01T00:00:00Z"}}}
+FORM = "a member is missing or of another form"
+NO_ROOTS = [
+    ([], "it is no JSON object"),
+    ({}, "its mediaType is not that of a trusted root"),
+    ({**TYPE, "tlogs": {}}, "the member tlogs is not a list"),
+    ({**TYPE, "ctlogs": "x"}, "the member ctlogs is not a list"),
+    ({**TYPE, "certificateAuthorities": 1}, "the member certificateAuthorities is not a list"),
+    ({**TYPE, "tlogs": [LOG, {}]}, f"item 1 of tlogs is no log: {FORM}"),
+    ({**TYPE, "ctlogs": [{}]}, f"item 0 of ctlogs is no log: {FORM}"),
+    ({**TYPE, "certificateAuthorities": [{}]},
+     f"item 0 of certificateAuthorities is no authority: {FORM}"),
+    ({**TYPE, "tlogs": 65 * [LOG]}, "the member tlogs has more than 64 items"),
+]
+
+
+def misses(name, condition, bundle):
+    """What the note says of the bundle of a case; `None` where it is no bundle, or vouches for
+    another identity."""
+    if name in SAID:
+        return SAID[name]
+    if condition == "one-signature":
+        count = len(bundle["dsseEnvelope"]["signatures"])
+        return f"its envelope has {count} signatures, and a bundle's must have one"
+    return next((said for conditions, said in MISSES if condition in conditions.split()), None)
+
+
+def named(identity, issuer):
+    """The key object of an identity."""
+    return {"keytype": "sigstore-oidc", "scheme": "Fulcio",
+            "keyval": {"identity": identity, "issuer": issuer}}
+
+
+def who(made):
+    """The key object of the identity that a bundle vouches for."""
+    return named(made.identity, made.issuer)
+
+
+def made_of(seed, beside=None, **options):
+    """A bundle that attests `app`, of its own private Sigstore or of that of another bundle."""
+    shared = {} if beside is None else {"inst": beside.inst, "t0": beside.t0}
+    return Made(random.Random(f"run {seed}"), **shared, **{**APP, **options})
+
+
+def plain(bundle, *signatures):
+    """The envelope of a bundle with these signatures in place of its own."""
+    return {**bundle["dsseEnvelope"], "signatures": list(signatures)}
+
+
+def hinted(bundle, hint):
+    """A bundle with this hint in its signature."""
+    (one,) = bundle["dsseEnvelope"]["signatures"]
+    return {**bundle, "dsseEnvelope": plain(bundle, {**one, "keyid": hint})}

@@ -1,0 +1,18 @@
+use Rattle.std.proofs.Common.{rules}
+use Rattle.it_file_commands.proofs.signed_trusted.run.Goals as goal
+
+pub returns-clause-ok : goal.returns-clause-ok
+returns-clause-ok g c =
+    let shown = c.in_ok-status.ensures.ok in (
+      shown.0,
+      record {
+        objects = c.in_ok-keys.keys;
+        holds_keys = search rules;
+        root = c.in_ok-root.root;
+        holds_root = search rules;
+        vouched = c.in_ok-of_one.vouched;
+        are_vouched = search rules;
+        is_output = rw c.checks_with-checks.ensures at shown.1;
+      },
+      shown.2,
+    )

@@ -1,0 +1,3 @@
+pub mod FileEnvelope
+pub mod SignersOutput
+pub mod inside

@@ -1,5 +1,5 @@
 //! `itv digest`: the line of a file in a digest list.
-ghost use Rattle.std.specs.Prelude.{◌≡◌, ◌≢◌, ◌↔◌, IfErr, IfOk, IsErrAnd, IsErrOf, IsOkAnd};
+ghost use Rattle.std.specs.Prelude.{◌≡◌, ◌≢◌, ◌↔◌, IfErr, IfOk, IsErrOf, IsOkAnd};
 ghost use Rattle.std.specs.Io.KnownBytes.{Appends};
 ghost use Rattle.it_base.specs.Writing.{AppendsBeginning};
 ghost use Rattle.it_digest.specs.DigestSet.{in_sha256, in_sha512};
@@ -133,8 +133,9 @@ fn line<const N: usize>(
 ) -> Result<Vec<u8>, RunFault>
     ensures ok { IfOk result (λ text. IsOkAnd digest
         (λ bytes. text.items ≡ digest_line bytes name.now)) }
-    ensures err { IfErr result (λ fault. fault ≢ RunFault.OutOfMemory
-        → IsErrAnd digest (λ why. fault ≡ RunFault.Digest why)) }
+    ensures why { (why : _) → result ≡ Err (RunFault.Digest why) → digest ≡ Err why }
+    ensures faults { IfErr result (λ fault. (fault ≢ RunFault.Write) × (fault ≢ RunFault.BadName)
+        × IsDigestFault fault) }
 {
     match digest {
         Ok(digest) => Ok(line_text(alloc, digest.as_slice(), name)?),

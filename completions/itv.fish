@@ -11,7 +11,7 @@ complete -c itv -n '__fish_seen_subcommand_from verify' -l ring -r -F -d 'A ring
 complete -c itv -n '__fish_seen_subcommand_from verify' -l public-keys -d 'Checks signatures by the public keys in the policy and in the layouts too, after the rings.'
 complete -c itv -n '__fish_seen_subcommand_from verify' -l trusted-root -r -F -d 'The trusted root of Sigstore, by which lines of the provenance that are bundles are checked.'
 complete -c itv -n '__fish_seen_subcommand_from verify' -l json -f -a 2 -d 'Writes the report as one JSON object; with =2 also what is found and noted.'
-complete -c itv -n '__fish_seen_subcommand_from verify' -l strict -d 'Refuses what would be accepted, with status 2, where something is found in the policy, in the layout or in a sublayout, as itv check finds it, an expectation is unused, a delivered file is tied to no step, or two keys signed with one nonce.'
+complete -c itv -n '__fish_seen_subcommand_from verify' -l strict -d 'Refuses what would be accepted, with status 2, where something is found in the policy, in the layout or in a sublayout, as itv check finds it, an expectation is unused, a delivered file is tied to no step, one of two digest lists alone names a path, or two keys signed with one nonce.'
 complete -c itv -n '__fish_seen_subcommand_from verify' -l summary -d 'Writes the body of a SLSA verification summary in place of a report that accepts, for itv sign to sign; the report of a refusal goes to standard error. It implies --strict and excludes --json.'
 complete -c itv -n '__fish_seen_subcommand_from verify' -l verifier -x -d 'With --summary, the id of who verifies, a URI.'
 complete -c itv -n '__fish_seen_subcommand_from verify' -l resource -x -d 'With --summary, the URI of what is verified.'

@@ -77,15 +77,16 @@ type Verdict struct {
 }
 
 // Finding is something in the policy, in the layout or in a sublayout that may not do what its
-// author meant, a file that is tied to no step, or a nonce with which two keys signed.
+// author meant, a file that is tied to no step, a path that one of two digest lists alone names, or
+// a nonce with which two keys signed.
 type Finding struct {
-	// Document is "policy" or "layout".
+	// Document is "policy" or "layout", or for a digest list "sums" or "sums512".
 	Document string `json:"document"`
 	// At is the sublayout in which it lies, from the outermost one; none for the owners' layout.
 	At []Place `json:"at"`
 	// Name is the name of the finding.
 	Name string `json:"name"`
-	// Place is a JSON pointer.
+	// Place is a JSON pointer, which is empty for a digest list.
 	Place string `json:"place"`
 	// Sentence says what is found.
 	Sentence string `json:"sentence"`

@@ -37,9 +37,10 @@ class Refusal:
 @dataclasses.dataclass(frozen=True)
 class Finding:
     """Something in the policy, in the layout or in a sublayout that may not do what its author
-    meant, a file that is tied to no step, or a nonce with which two keys signed: in which document,
-    and `at` which sublayout, as the `at` of a refusal; the name of docs/formats.md, the place as a
-    JSON pointer, and a sentence.
+    meant, a file that is tied to no step, a path that one of two digest lists alone names, or a
+    nonce with which two keys signed: in which document, and `at` which sublayout, as the `at` of a
+    refusal; the name of docs/formats.md, the place as a JSON pointer, which is empty for a digest
+    list, and a sentence.
     """
 
     document: str
@@ -49,7 +50,8 @@ class Finding:
     sentence: str
 
     def __str__(self):
-        return f"{self.document} {self.name} {self.place}: {self.sentence}"
+        place = f" {self.place}" if self.place else ""
+        return f"{self.document} {self.name}{place}: {self.sentence}"
 
 
 @dataclasses.dataclass(frozen=True)

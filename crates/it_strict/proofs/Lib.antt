@@ -1,4 +1,6 @@
+pub mod Alone
 pub mod OneKey
+pub mod SameLists
 pub mod Stepped
 pub mod Taken
 pub mod Tying

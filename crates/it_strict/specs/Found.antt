@@ -18,6 +18,7 @@ use Rattle.it_verify.specs.declared.evidence.Evidence.{Evidence}
 use Rattle.it_verify.specs.declared.inputs.Inputs.{Inputs}
 use Rattle.it_strict.specs.Below.{AreFoundBelow}
 use Rattle.it_strict.specs.Counting.{LayoutCounting}
+use Rattle.it_strict.specs.ListedOnce.{AreListedOnce}
 use Rattle.it_strict.specs.Nonces.{AreSharedIn}
 pub use Rattle.it_strict.specs.declared.found.Found.{Found}
 
@@ -43,8 +44,8 @@ pub record PolicyFound (bytes : List ℕ) (documents : Documents) (found : List 
   pub are_all : found ≡ always ++ unused
 
 -- what is found: in the policy; in the layout and in the sublayouts that count, as far as it
--- counts; the delivered files that are tied to no step; and the signatures of different keys that
--- share a nonce
+-- counts; the delivered files that are tied to no step; the paths that one of two digest lists
+-- alone names; and the signatures of different keys that share a nonce
 pub record AreFound (panel : Panel) (inputs : Inputs) (documents : Documents) (evidence : Evidence)
     (found : Found) : Type 0 where
   pub policy : PolicyFound inputs.policy documents found.of_policy
@@ -53,6 +54,7 @@ pub record AreFound (panel : Panel) (inputs : Inputs) (documents : Documents) (e
   pub sublayouts : AreFoundBelow panel inputs documents found.of_sublayouts
   pub untied : AreUntied documents.layout.steps documents.policy.deliver
       (delivery documents.delivered) (evidence_links evidence) found.untied
+  pub listed_once : AreListedOnce inputs.sums inputs.sums512 found.listed_once
   pub shared_nonces : AreSharedIn panel inputs documents found.shared_nonces
 
 -- nothing is found
@@ -61,4 +63,5 @@ pub record IsNothing (found : Found) : Type 0 where
   pub of_layout : found.of_layout ≡ []
   pub of_sublayouts : All (λ below. below.findings ≡ []) found.of_sublayouts
   pub untied : found.untied ≡ []
+  pub listed_once : found.listed_once ≡ []
   pub shared_nonces : found.shared_nonces ≡ []

@@ -5,6 +5,7 @@ use Rattle.it_check.specs.FindingLine.{findings_text, line_form, more_form}
 use Rattle.it_check.specs.Pieces.{told_form}
 use Rattle.it_strict.specs.BelowText.{all_below_text}
 use Rattle.it_strict.specs.Found.{Found}
+use Rattle.it_strict.specs.ListedOnceText.{once_text}
 use Rattle.it_strict.specs.NonceText.{nonces_text}
 
 -- what is said of a delivered file that is tied to no step
@@ -23,9 +24,9 @@ untied_text untied =
     flat_map untied_line (take 40 untied) ++ more_form (codes "untied files") (length untied)
 
 -- the lines of all that is found: in the policy, in the layout, in the sublayouts, of the untied
--- files, and of the shared nonces
+-- files, of the paths that one digest list alone names, and of the shared nonces
 unfoldable pub found_text : Found → List ℕ
 found_text found =
     findings_text (codes "policy") found.of_policy
     ++ findings_text (codes "layout") found.of_layout ++ all_below_text found.of_sublayouts
-    ++ untied_text found.untied ++ nonces_text found.shared_nonces
+    ++ untied_text found.untied ++ once_text found.listed_once ++ nonces_text found.shared_nonces

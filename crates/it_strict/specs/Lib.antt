@@ -3,6 +3,9 @@ pub mod BelowText
 pub mod Counting
 pub mod Found
 pub mod FoundText
+pub mod ListedOnce
+pub mod ListedOnceText
 pub mod NonceText
 pub mod Nonces
 pub mod StrictLaws
+pub mod inside

@@ -2,15 +2,18 @@
 -- and 5.2; FIPS 186-5, section 6.4).
 use Rattle.std.specs.FinMap.{get}
 use Rattle.std.specs.List.{slice_get}
-use Rattle.std.specs.Prelude.{◌≡◌, ℕ, Contains, List, ◌++◌, Some}
+use Rattle.std.specs.Prelude.{◌≡◌, ◌≢◌, ◌↔◌, ℕ, Contains, List, [], ◌++◌, Some}
+use Rattle.it_digest.specs.Artifacts.{ArtifactMap}
 use Rattle.it_digest.specs.Compare.{Agree}
+use Rattle.it_digest.specs.DigestSet.{in_sha256, in_sha512}
+use Rattle.it_digest.specs.Sums.{SumsOf}
 use Rattle.it_digest.specs.declared.compare.DigestSet.{DigestSet}
 use Rattle.it_dsse.specs.Panel.{Panel}
 use Rattle.it_docs.specs.declared.rule.Rule.TheVariants.{Match}
 use Rattle.it_docs.specs.declared.rule.Side.TheVariants.{Products}
 use Rattle.it_docs.specs.declared.step.Step.{Step}
 use Rattle.it_rules.specs.FolderPrefix.{folder_prefix}
-use Rattle.it_rules.specs.Rules.{IsFree, IsMatch}
+use Rattle.it_rules.specs.Rules.{IsFree, IsMatch, Stands}
 use Rattle.it_chain.specs.Chain.{holds_below}
 use Rattle.it_chain.specs.Level.{StepHolds}
 use Rattle.it_chain.specs.declared.chain.StepResult.{StepResult}
@@ -75,6 +78,15 @@ DeliveredAreProducts =
     → AreFound panel inputs documents evidence found → IsNothing found
     → get documents.delivered path ≡ Some digests
     → IsProduct panel inputs documents evidence path digests
+
+-- where nothing is found, and neither of the two digest lists is empty, both name the same paths
+abbrev pub ListsNameTheSame : Type 0
+ListsNameTheSame =
+    (panel : Panel) (inputs : Inputs) (documents : Documents) (evidence : Evidence) (found : Found)
+    (by_sha256 by_sha512 : ArtifactMap) (path : List ℕ)
+    → AreFound panel inputs documents evidence found → IsNothing found
+    → inputs.sums ≢ [] → inputs.sums512 ≢ [] → SumsOf in_sha256 inputs.sums by_sha256
+    → SumsOf in_sha512 inputs.sums512 by_sha512 → Stands by_sha256 path ↔ Stands by_sha512 path
 
 -- of the signatures by ECDSA over P-256 that count, those with the same number r are by one key
 pub record NoNonceIsShared (panel : Panel) (inputs : Inputs) (documents : Documents) : Type 0

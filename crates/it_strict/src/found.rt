@@ -8,6 +8,8 @@ ghost use Rattle.it_strict.specs.FoundText.{found_text};
 use crate::below::{FoundBelow, counted_below, found_in_each};
 use crate::below_lines::push_all_below;
 use crate::counting::counting_findings;
+use crate::listed_once::{ListedOnce, files_listed_once};
+use crate::listed_once_lines::push_listed_once;
 use crate::nonce_lines::push_shared_nonces;
 use crate::nonces::nonces_shared;
 use crate::untied::untied_files;
@@ -39,6 +41,9 @@ pub struct Found {
     pub of_sublayouts: Sequence<FoundBelow>,
     /// The paths of the delivered files that are tied to no step, in the order of their bytes.
     pub untied: Sequence<Text>,
+    /// The paths that one of two digest lists alone names, each with that list, in the order of
+    /// their bytes; none where a list is empty.
+    pub listed_once: Sequence<ListedOnce>,
     /// The signatures by ECDSA over P-256 that count and whose number r is that of an earlier one
     /// by a different key, each with the first of all that have this r: in the order of owners,
     /// then of the layout's steps, of their key ids and of the files, then of the sublayouts.
@@ -67,6 +72,7 @@ pub fn found_in<C: Checks>(
     let of_policy = found_in_policy(alloc, inputs.policy.as_slice(), documents)?;
     let of_layout = found_in_layout(alloc, documents, evidence)?;
     let untied = untied_files(alloc, documents, evidence)?;
+    let listed_once = files_listed_once(alloc, inputs, documents)?;
     let sublayouts = counted_below(alloc, inputs, documents, checks)?;
     let shared_nonces = nonces_shared(alloc, inputs, documents, sublayouts.as_slice(), checks)?;
     let of_sublayouts = found_in_each(alloc, sublayouts)?;
@@ -75,6 +81,7 @@ pub fn found_in<C: Checks>(
         of_layout: Sequence::from(of_layout),
         of_sublayouts: Sequence::from(of_sublayouts),
         untied: Sequence::from(untied),
+        listed_once: Sequence::from(listed_once),
         shared_nonces: Sequence::from(shared_nonces),
     })
 }
@@ -128,13 +135,15 @@ impl Found {
             && self.of_layout.as_slice().is_empty()
             && is_nothing_below(self.of_sublayouts.as_slice())
             && self.untied.as_slice().is_empty()
+            && self.listed_once.as_slice().is_empty()
             && self.shared_nonces.as_slice().is_empty()
     }
 
     /// Appends the lines of what is found, each of which ends with a line feed: those of the policy
     /// and those of the layout as `push_findings` writes them, those of each sublayout with its
     /// place, then those of the first 40 files that are tied to no step, and how many there are
-    /// where there are more, and last the same of shared nonces.
+    /// where there are more, then the same of paths that one digest list alone names, and last of
+    /// shared nonces.
     ///
     /// # Errors
     ///
@@ -147,6 +156,7 @@ impl Found {
         push_findings(text, "layout", self.of_layout.as_slice())?;
         push_all_below(text, self.of_sublayouts.as_slice())?;
         push_untied(text, self.untied.as_slice())?;
+        push_listed_once(text, self.listed_once.as_slice())?;
         push_shared_nonces(text, self.shared_nonces.as_slice())
     }
 }

@@ -7,8 +7,10 @@ use Rattle.it_json_report.specs.FullReport.{findings_json_of}
 use Rattle.it_json_report.specs.declared.full.ReportFinding.{ReportFinding}
 use Rattle.it_nonces.specs.declared.shared.SharedNonce.{SharedNonce}
 use Rattle.it_strict.specs.FoundText.{found_text, untied_sentence}
+use Rattle.it_strict.specs.ListedOnceText.{list_document, once_sentence}
 use Rattle.it_strict.specs.NonceText.{keys_at, keys_document, keys_pointer, nonce_sentence}
 use Rattle.it_strict.specs.declared.found.Found.{Found}
+use Rattle.it_strict.specs.declared.listed_once.ListedOnce.{ListedOnce}
 use Rattle.it_verify_command.specs.FullOutput.{shown_below, shown_finding}
 use Rattle.it_verify_command.specs.declared.output_form.OutputForm.{OutputForm}
 use Rattle.it_verify_command.specs.declared.output_form.OutputForm.TheVariants.{Full, Report}
@@ -24,6 +26,17 @@ shown_untied path = record {
   sentence = untied_sentence path;
 }
 
+-- a path that one digest list alone names, as it is written: a list has no places, and the empty
+-- JSON pointer is for the whole of it
+abbrev pub shown_once : ListedOnce → ReportFinding
+shown_once once = record {
+  document = list_document once.list;
+  at = [];
+  name = codes "listed-once";
+  place = [];
+  sentence = once_sentence once;
+}
+
 -- two keys that signed with one nonce, as they are written: at the keys of the one that comes later
 abbrev pub shown_nonce : SharedNonce → ReportFinding
 shown_nonce shared = record {
@@ -35,12 +48,13 @@ shown_nonce shared = record {
 }
 
 -- all that is found, as it is written: in the policy, in the layout, in the sublayouts, then the
--- files that are tied to no step, and then the nonces that are shared
+-- files that are tied to no step, the paths that one digest list alone names, and then the nonces
+-- that are shared
 abbrev pub found_shown : Found → List ReportFinding
 found_shown found =
     map (shown_finding []) found.of_policy ++ map (shown_finding []) found.of_layout
     ++ flat_map shown_below found.of_sublayouts ++ map shown_untied found.untied
-    ++ map shown_nonce found.shared_nonces
+    ++ map shown_once found.listed_once ++ map shown_nonce found.shared_nonces
 
 -- all that is found, as a text: in the full form one JSON object, and otherwise lines
 abbrev pub found_in : OutputForm → Found → List ℕ

@@ -1,6 +1,7 @@
 //! What is found against a delivery, as it is written in JSON.
 ghost use Rattle.std.specs.Prelude.{◌≡◌, ◌++◌, IfOk, OnOk, map};
-ghost use Rattle.it_verify_command.specs.FoundOutput.{found_shown, shown_nonce, shown_untied};
+ghost use Rattle.it_verify_command.specs.FoundOutput.{found_shown, shown_nonce, shown_once};
+ghost use Rattle.it_verify_command.specs.FoundOutput.{shown_untied};
 
 use crate::shown_findings::{copied, push_below, push_shown};
 use it_base::sequence::Sequence;
@@ -8,14 +9,16 @@ use it_base::text::Text;
 use it_json_report::full::ReportFinding;
 use it_nonces::SharedNonce;
 use it_strict::found::Found;
+use it_strict::listed_once::ListedOnce;
 use it_strict::{
-    SHARED_NONCE_NAME, UNTIED_NAME, UNTIED_POINTER, keys_at, keys_document, keys_pointer,
-    push_nonce_sentence, push_untied_sentence,
+    LISTED_ONCE_NAME, SHARED_NONCE_NAME, UNTIED_NAME, UNTIED_POINTER, keys_at, keys_document,
+    keys_pointer, list_document, push_nonce_sentence, push_once_sentence, push_untied_sentence,
 };
 use std::alloc::{AllocError, Global};
 
 /// All that is found: in the policy, in the layout and in the sublayouts, then the files that are
-/// tied to no step, and then the nonces that are shared.
+/// tied to no step, the paths that one digest list alone names, and then the nonces that are
+/// shared.
 pub(crate) fn shown_found(alloc: Global, found: &Found) -> Result<Vec<ReportFinding>, AllocError>
     ensures { IfOk result (λ findings. findings.items ≡ found_shown found.now) }
 {
@@ -24,6 +27,7 @@ pub(crate) fn shown_found(alloc: Global, found: &Found) -> Result<Vec<ReportFind
     push_shown(alloc, &mut findings, &[], found.of_layout.as_slice())?;
     push_below(alloc, &mut findings, found.of_sublayouts.as_slice())?;
     push_untied(alloc, &mut findings, found.untied.as_slice())?;
+    push_listed_once(alloc, &mut findings, found.listed_once.as_slice())?;
     push_nonces(alloc, &mut findings, found.shared_nonces.as_slice())?;
     Ok(findings)
 }
@@ -53,6 +57,35 @@ fn shown_untied(alloc: Global, path: &Text) -> Result<ReportFinding, AllocError>
         at: Sequence::from(Vec::new(alloc)),
         name: Text::copy(alloc, UNTIED_NAME)?,
         place: Sequence::from(place),
+        sentence: Sequence::from(sentence),
+    })
+}
+
+/// Adds the paths that one digest list alone names, as they are written.
+fn push_listed_once(
+    alloc: Global,
+    findings: &mut Vec<ReportFinding>,
+    listed: &[ListedOnce],
+) -> Result<(), AllocError>
+    ensures { OnOk result (findings.new.items ≡ findings.old.items ++ map shown_once listed.now) }
+{
+    for once in listed {
+        findings.push(shown_once(alloc, once)?)?;
+    }
+    Ok(())
+}
+
+/// A digest list has no places, so that the JSON pointer is empty.
+fn shown_once(alloc: Global, once: &ListedOnce) -> Result<ReportFinding, AllocError>
+    ensures { IfOk result (λ shown. shown ≡ shown_once once.now) }
+{
+    let mut sentence = Vec::new(alloc);
+    push_once_sentence(&mut sentence, once)?;
+    Ok(ReportFinding {
+        document: Text::copy(alloc, list_document(once.list))?,
+        at: Sequence::from(Vec::new(alloc)),
+        name: Text::copy(alloc, LISTED_ONCE_NAME)?,
+        place: Sequence::from(Vec::new(alloc)),
         sentence: Sequence::from(sentence),
     })
 }

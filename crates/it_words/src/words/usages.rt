@@ -48,8 +48,9 @@ pub(super) const VERIFY: Usage = Usage {
       --strict          Refuses what would be accepted, with status 2, where
                         something is found in the policy, in the layout or in a
                         sublayout, as itv check finds it, an expectation is
-                        unused, a delivered file is tied to no step, or two
-                        keys signed with one nonce.
+                        unused, a delivered file is tied to no step, one of two
+                        digest lists alone names a path, or two keys signed
+                        with one nonce.
       --summary         Writes the body of a SLSA verification summary in place
                         of a report that accepts, for itv sign to sign; the
                         report of a refusal goes to standard error. It implies

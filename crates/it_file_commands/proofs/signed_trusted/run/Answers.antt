@@ -10,8 +10,8 @@ returns-clause-ok g c =
         holds_keys = search rules;
         root = c.in_ok-root.root;
         holds_root = search rules;
-        vouched = c.in_ok-of_one.vouched;
-        are_vouched = search rules;
+        vouched = c.in_ok-vouched.field-0.vouched;
+        are_vouched = rw c.in_ok-trust.ensures at c.in_ok-vouched.ensures.vouched;
         is_output = rw c.checks_with-checks.ensures at shown.1;
       },
       shown.2,

@@ -10,6 +10,9 @@ untied_files-requires g c =
     links_differ (g.C.Checks.panel c.args.checks.now) c.args.inputs.now
     c.args.grounds.now.documents c.args.grounds.now.evidence c.requires.made.is_evidence
 
+pub files_listed_once-requires : goal.files_listed_once-requires
+files_listed_once-requires g c = c.requires.made.read.delivered
+
 pub nonces_shared-requires : goal.nonces_shared-requires
 nonces_shared-requires g c = rw c.as_slice-2.ensures.value c.in_ok-sublayouts.ensures
 
@@ -23,5 +26,6 @@ returns g c = record {
     each = c.in_ok-of_sublayouts.ensures;
   });
   untied = rw c.from-4.ensures c.in_ok-untied.ensures;
-  shared_nonces = rw c.from-5.ensures c.in_ok-shared_nonces.ensures;
+  listed_once = rw c.from-5.ensures c.in_ok-listed_once.ensures;
+  shared_nonces = rw c.from-6.ensures c.in_ok-shared_nonces.ensures;
 }

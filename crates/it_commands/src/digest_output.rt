@@ -1,5 +1,5 @@
 //! `itv digest`: the line of a file in a digest list.
-ghost use Rattle.std.specs.Prelude.{◌≡◌, ◌≢◌, ◌↔◌, IfErr, IfOk, IsErrOf, IsOkAnd};
+ghost use Rattle.std.specs.Prelude.{◌≡◌, ◌≢◌, ◌↔◌, IfErr, IfOk, IsErrOf};
 ghost use Rattle.std.specs.Io.KnownBytes.{Appends};
 ghost use Rattle.it_base.specs.Writing.{AppendsBeginning};
 ghost use Rattle.it_digest.specs.DigestSet.{in_sha256, in_sha512};
@@ -10,7 +10,7 @@ ghost use Rattle.it_commands.specs.DigestOutput.{digest_line};
 
 use it_digest::reader::{DigestFault, sha256_of_reader, sha512_of_reader};
 use it_digest::sums::ListAlgorithm;
-use it_outcome::output::put_text;
+use it_outcome::output::{Output, put};
 use it_outcome::{RunFault, Status};
 use std::alloc::{AllocError, Global};
 use std::io::{Read, Write};
@@ -63,8 +63,13 @@ pub fn run_digest<R: Read, W: Write>(
     ensures known { IfErr result (λ fault. fault ≢ RunFault.UnknownKey) }
     ensures faults { IfErr result IsDigestFault }
 {
-    let text = line_of(alloc, ListAlgorithm::Sha256, name, input, limit)?;
-    put_text(out, text.as_slice())
+    match line_of(alloc, ListAlgorithm::Sha256, name, input, limit) {
+        Ok(text) => {
+            let status = Status::Good;
+            put(out, &Output { text, status })
+        }
+        Err(fault) => Err(fault),
+    }
 }
 
 /// Writes the line of a file in a digest list by SHA-512, as [`run_digest`] writes that by SHA-256:
@@ -96,8 +101,13 @@ pub fn run_digest512<R: Read, W: Write>(
     ensures known { IfErr result (λ fault. fault ≢ RunFault.UnknownKey) }
     ensures faults { IfErr result IsDigestFault }
 {
-    let text = line_of(alloc, ListAlgorithm::Sha512, name, input, limit)?;
-    put_text(out, text.as_slice())
+    match line_of(alloc, ListAlgorithm::Sha512, name, input, limit) {
+        Ok(text) => {
+            let status = Status::Good;
+            put(out, &Output { text, status })
+        }
+        Err(fault) => Err(fault),
+    }
 }
 
 /// The line of what the reader gives.
@@ -120,33 +130,21 @@ fn line_of<R: Read>(
 {
     check_name(name)?;
     match algorithm {
-        ListAlgorithm::Sha256 => line(alloc, sha256_of_reader(input, limit), name),
-        ListAlgorithm::Sha512 => line(alloc, sha512_of_reader(input, limit), name),
+        ListAlgorithm::Sha256 => match sha256_of_reader(input, limit) {
+            Ok(digest) => Ok(line(alloc, &digest, name)?),
+            Err(fault) => Err(RunFault::Digest(fault)),
+        },
+        ListAlgorithm::Sha512 => match sha512_of_reader(input, limit) {
+            Ok(digest) => Ok(line(alloc, &digest, name)?),
+            Err(fault) => Err(RunFault::Digest(fault)),
+        },
     }
 }
 
-/// The line of a digest, or why there is none.
-fn line<const N: usize>(
-    alloc: Global,
-    digest: Result<[u8; N], DigestFault>,
-    name: &str,
-) -> Result<Vec<u8>, RunFault>
-    ensures ok { IfOk result (λ text. IsOkAnd digest
-        (λ bytes. text.items ≡ digest_line bytes name.now)) }
-    ensures why { (why : _) → result ≡ Err (RunFault.Digest why) → digest ≡ Err why }
-    ensures faults { IfErr result (λ fault. (fault ≢ RunFault.Write) × (fault ≢ RunFault.BadName)
-        × IsDigestFault fault) }
-{
-    match digest {
-        Ok(digest) => Ok(line_text(alloc, digest.as_slice(), name)?),
-        Err(fault) => Err(RunFault::Digest(fault)),
-    }
-}
-
-fn line_text(alloc: Global, digest: &[u8], name: &str) -> Result<Vec<u8>, AllocError>
+fn line<const N: usize>(alloc: Global, digest: &[u8; N], name: &str) -> Result<Vec<u8>, AllocError>
     ensures { IfOk result (λ text. text.items ≡ digest_line digest.now name.now) }
 {
-    let mut text = hex::encode(alloc, digest)?;
+    let mut text = hex::encode(alloc, digest.as_slice())?;
     text.push_str("  ")?;
     text.push_str(name)?;
     text.push('\n')?;

@@ -2,6 +2,7 @@
 ghost use Rattle.std.specs.Prelude.{◌≡◌, ◌≢◌, ◌⊎◌, Ok, IfErr, IfOk, take};
 ghost use Rattle.std.specs.Io.KnownBytes.{Appends};
 ghost use Rattle.it_digest.specs.Sums.{algorithm_of};
+ghost use Rattle.it_commands.specs.DigestOutput.{IsDigestLine};
 ghost use Rattle.it_file_commands.specs.Commands.{AreLinesOf, IsLineOf, ListsDigests};
 ghost use Rattle.it_file_commands.specs.Commands.{asked_algorithm};
 ghost use Rattle.it_file_commands.specs.Stopped.{ListsFirst};
@@ -17,7 +18,7 @@ use it_outcome::{RunFault, Status};
 use it_words::words::digest_words::DigestWords;
 use std::alloc::{AllocError, Global};
 use std::io;
-use std::io::Write;
+use std::io::{Read, Write};
 
 /// How many bytes a file may have.
 const MOST_BYTES: u64 = 1_099_511_627_776;
@@ -100,13 +101,28 @@ fn digest_file<R: Disk + AllocGlobal, W: Write>(
         return Err(told(alloc, path, fault, None)?);
     }
     let mut input = Remembering::new(rt.open(path)?);
-    let written = match algorithm {
-        ListAlgorithm::Sha256 => run_digest(alloc, path, &mut input, MOST_BYTES, out),
-        ListAlgorithm::Sha512 => run_digest512(alloc, path, &mut input, MOST_BYTES, out),
-    };
-    match written {
+    match write_line(alloc, algorithm, path, &mut input, out) {
         Ok(_) => Ok(()),
         Err(fault) => Err(told(alloc, path, fault, input.error)?),
+    }
+}
+
+/// Writes the line of a file, of what its reader gives.
+fn write_line<I: Read, W: Write>(
+    alloc: Global,
+    algorithm: ListAlgorithm,
+    path: &str,
+    input: &mut I,
+    out: &mut W,
+) -> Result<Status, RunFault>
+    ensures ok { IfOk result (λ status. (status ≡ Status.Good) × (text : _)
+        × IsDigestLine (algorithm_of algorithm) (I.remaining input.old) (I.remaining input.new)
+        1099511627776 path.now text × Appends (W.contents out.old) (W.contents out.new) text) }
+    ensures nothing { IfErr result (λ fault. fault ≢ RunFault.Write → out.new ≡ out.old) }
+{
+    match algorithm {
+        ListAlgorithm::Sha256 => run_digest(alloc, path, input, MOST_BYTES, out),
+        ListAlgorithm::Sha512 => run_digest512(alloc, path, input, MOST_BYTES, out),
     }
 }
 

@@ -107,28 +107,29 @@ fn same(alloc: Global, row: &Value) -> Result<String, RowFault> {
 /// The entries of a digest list as `sha256sum` writes it.
 fn sums(alloc: Global, row: &Value) -> Result<String, RowFault> {
     let bytes = bytes_in(alloc, row, "bytes")?;
-    read(alloc, read_sums(alloc, bytes.as_slice()))
+    told_or_fault(alloc, read_sums(alloc, bytes.as_slice()))
 }
 
 /// The entries of a digest list as `sha512sum` writes it.
 fn sums_by_sha512(alloc: Global, row: &Value) -> Result<String, RowFault> {
     let bytes = bytes_in(alloc, row, "bytes")?;
     let list = read_list(alloc, ListAlgorithm::Sha512, bytes.as_slice());
-    read(alloc, list)
+    told_or_fault(alloc, list)
 }
 
 /// The entries of two digest lists together.
 fn lists(alloc: Global, row: &Value) -> Result<String, RowFault> {
     let sums = bytes_in(alloc, row, "sums")?;
     let sums512 = bytes_in(alloc, row, "sums512")?;
-    read(
-        alloc,
-        read_lists(alloc, sums.as_slice(), sums512.as_slice()),
-    )
+    let lists = read_lists(alloc, sums.as_slice(), sums512.as_slice());
+    told_or_fault(alloc, lists)
 }
 
 /// The entries that were read, or the fault.
-fn read<F: Debug>(alloc: Global, files: Result<Artifacts, F>) -> Result<String, RowFault> {
+fn told_or_fault<F: Copy + Debug>(
+    alloc: Global,
+    files: Result<Artifacts, F>,
+) -> Result<String, RowFault> {
     match files {
         Ok(files) => Ok(told(alloc, &files)?),
         Err(fault) => Ok(format!(in alloc; "{fault:?}")?),

@@ -12,7 +12,7 @@ mod sign_onto_output;
 mod sign_output;
 mod signed_output;
 
-pub use digest_output::{check_name, run_digest};
+pub use digest_output::{check_name, run_digest, run_digest512};
 pub use match_output::run_match;
 pub use no_envelope::no_envelope_output;
 pub use pae_output::run_pae;

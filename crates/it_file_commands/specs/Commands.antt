@@ -1,11 +1,13 @@
 -- What the commands other than verify write and find, by their words and by what is at the paths in
 -- them.
-use Rattle.std.specs.Prelude.{◌≡◌, ℕ, List, [], ◌∷◌, ◌++◌, MatchBool, Option, MatchOption}
+use Rattle.std.specs.Prelude.{◌≡◌, ℕ, List, [], ◌∷◌, ◌++◌, if◌then◌else◌, MatchBool, Option}
+use Rattle.std.specs.Prelude.{MatchOption}
 use Rattle.std.specs.Cmp.Lexicographic.{slice_cmp}
 use Rattle.std.specs.List.{AllZip}
 use Rattle.std.specs.List.Sorted.{IsPermutation, IsSorted}
 use Rattle.std.specs.Ordering.{nat_cmp}
 use Rattle.it_base.specs.Table.{Named}
+use Rattle.it_digest.specs.DigestSet.{Algorithm, in_sha256, in_sha512}
 use Rattle.it_dsse.specs.Pae.{pae_of}
 use Rattle.it_dsse.specs.Panel.{panel_of}
 use Rattle.it_dsse.specs.Ring.{ids_of, ring_check}
@@ -209,19 +211,24 @@ pub record Encodes (disk : Holdings) (words : PaeWords) (text : List ℕ)
   pub text_is : text ≡ pae_of words.kind body
   pub status_is : status ≡ Good
 
+-- digest: the algorithm that the words ask for
+abbrev pub asked_algorithm : DigestWords → Algorithm
+asked_algorithm words = if words.sha512 then in_sha512 else in_sha256
+
 -- digest: the line of the file at a path, of at most 1,099,511,627,776 bytes
-pub record IsLineOf (disk : Holdings) (path line : List ℕ) : Type 0 where
+pub record IsLineOf (disk : Holdings) (algorithm : Algorithm) (path line : List ℕ) : Type 0 where
   pub before : Option (List ℕ)
   pub opened : disk.left path before
   pub after : Option (List ℕ)
-  pub is_line : IsDigestLine before after 1099511627776 path line
+  pub is_line : IsDigestLine algorithm before after 1099511627776 path line
 
 -- digest: the lines of these files, in their order
-pub data AreLinesOf (disk : Holdings) : List (List ℕ) → List ℕ → Type 0 where
-  no_line : AreLinesOf disk [] []
-  one_more : {files : List (List ℕ)} {text file line : List ℕ} → AreLinesOf disk files text
-      → IsLineOf disk file line
-      → AreLinesOf disk (files ++ file ∷ []) (text ++ line)
+pub data AreLinesOf (disk : Holdings) (algorithm : Algorithm)
+    : List (List ℕ) → List ℕ → Type 0 where
+  no_line : AreLinesOf disk algorithm [] []
+  one_more : {files : List (List ℕ)} {text file line : List ℕ}
+      → AreLinesOf disk algorithm files text → IsLineOf disk algorithm file line
+      → AreLinesOf disk algorithm (files ++ file ∷ []) (text ++ line)
 
 -- digest: the files that the words name: those at the paths, or with --recursive all files at or
 -- below each path
@@ -229,10 +236,11 @@ abbrev pub AreNamed : Holdings → DigestWords → List (List ℕ) → Type 0
 AreNamed disk words files = MatchBool words.recursive (AreFilesAtEach disk words.paths files)
     (files ≡ words.paths)
 
--- digest: the lines of the files that the words name, in their order
+-- digest: the lines of the files that the words name, in their order: by SHA-256, or with --sha512
+-- by SHA-512
 pub record ListsDigests (disk : Holdings) (words : DigestWords) (text : List ℕ)
     (status : Status) : Type 0 where
   pub files : List (List ℕ)
   pub are_named : AreNamed disk words files
-  pub are_lines : AreLinesOf disk files text
+  pub are_lines : AreLinesOf disk (asked_algorithm words) files text
   pub status_is : status ≡ Good

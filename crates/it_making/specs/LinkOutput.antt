@@ -3,6 +3,7 @@ use Rattle.std.specs.Prelude.{◌≡◌, ℕ, List, ◌++◌, codes}
 use Rattle.serde_json.specs.Data.{Data, member, no_members, object, string}
 use Rattle.serde_json.specs.Written.{compact_text}
 use Rattle.it_digest.specs.Artifacts.{ArtifactMap}
+use Rattle.it_digest.specs.DigestSet.{in_sha256}
 use Rattle.it_digest.specs.Sums.{IsFirstBadLine, SumsOf}
 use Rattle.it_docs.specs.Link.{LinkOf}
 use Rattle.it_docs.specs.declared.link.Link.{Link}
@@ -28,13 +29,13 @@ link_document link = object
 unfoldable pub link_form : Link → List ℕ
 link_form link = compact_text (link_document link) ++ codes "\n"
 
--- the text is the written form of the link of this name and of these two digest lists, and reads
--- back as that link and no other
+-- the text is the written form of the link of this name and of these two digest lists by SHA-256,
+-- and reads back as that link and no other
 pub record IsLinkOutput (name materials products text : List ℕ) : Type 0 where
   pub link : Link
   pub name_is : link.name ≡ name
-  pub materials_are : SumsOf materials link.materials
-  pub products_are : SumsOf products link.products
+  pub materials_are : SumsOf in_sha256 materials link.materials
+  pub products_are : SumsOf in_sha256 products link.products
   pub text_is : text ≡ link_form link
   pub reads_back : LinkOf text link
   pub only : (other : Link) → LinkOf text other → other ≡ link
@@ -44,7 +45,8 @@ pub record IsLinkOutput (name materials products text : List ℕ) : Type 0 where
 abbrev pub IsLinkFault : (materials products : List ℕ) → RunFault → Type 0
 IsLinkFault materials products Write = Unit {0}
 IsLinkFault materials products OutOfMemory = Unit {0}
-IsLinkFault materials products (BadMaterials line) = IsFirstBadLine materials line
+IsLinkFault materials products (BadMaterials line) = IsFirstBadLine in_sha256 materials line
 IsLinkFault materials products (BadProducts line) =
-    ((sums : ArtifactMap) × SumsOf materials sums) × IsFirstBadLine products line
+    ((sums : ArtifactMap) × SumsOf in_sha256 materials sums)
+    × IsFirstBadLine in_sha256 products line
 IsLinkFault materials products other = ⊥

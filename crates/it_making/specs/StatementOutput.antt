@@ -13,6 +13,7 @@ use Rattle.it_base.specs.Document.{IsDocument}
 use Rattle.it_base.specs.Json.{Fields, no_fields}
 use Rattle.it_base.specs.TreeOf.{IsMembers}
 use Rattle.it_digest.specs.Artifacts.{ArtifactMap}
+use Rattle.it_digest.specs.DigestSet.{in_sha256}
 use Rattle.it_digest.specs.Sums.{IsFirstBadLine, SumsOf}
 use Rattle.it_digest.specs.declared.compare.DigestSet.{DigestSet}
 use Rattle.it_docs.specs.Statement.{StatementOf}
@@ -103,10 +104,10 @@ pub record IsWritten (text : List ℕ) (d : Data) : Type 0 where
   pub one_line : IsCompactLine text d
   pub text_is : has_float d ≡ false → text ≡ compact_text d ++ codes "\n"
 
--- the digest list describes these subjects, of which there is at least one (this project's choice:
--- a Statement without a subject attests nothing)
+-- the digest list, by SHA-256, describes these subjects, of which there is at least one (this
+-- project's choice: a Statement without a subject attests nothing)
 pub record AreSubjects (sums : List ℕ) (subjects : ArtifactMap) : Type 0 where
-  pub listed : SumsOf sums subjects
+  pub listed : SumsOf in_sha256 sums subjects
   pub some : subjects ≢ empty
 
 -- the text is a JSON text of the Statement of this digest list, builder, build type and parameters,
@@ -134,8 +135,8 @@ pub record IsStatementOutput (sums build_type builder : List ℕ) (given : Optio
 abbrev pub IsStatementFault : (sums : List ℕ) → Option (List ℕ) → RunFault → Type 0
 IsStatementFault sums given Write = Unit {0}
 IsStatementFault sums given OutOfMemory = Unit {0}
-IsStatementFault sums given (BadSubjects line) = IsFirstBadLine sums line
-IsStatementFault sums given NoSubjects = SumsOf sums empty
+IsStatementFault sums given (BadSubjects line) = IsFirstBadLine in_sha256 sums line
+IsStatementFault sums given NoSubjects = SumsOf in_sha256 sums empty
 IsStatementFault sums given BadParameters =
     ((subjects : ArtifactMap) × AreSubjects sums subjects)
     × ((d : Data) (parameters : Fields) → ¬ AreParameters given d parameters)

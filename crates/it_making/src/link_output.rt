@@ -3,6 +3,7 @@ ghost use Rattle.std.specs.Prelude.{◌≡◌, ◌≢◌, IfErr, IfOk, IsErrOf};
 ghost use Rattle.std.specs.Io.KnownBytes.{Appends};
 ghost use Rattle.serde_json.specs.View.{view};
 ghost use Rattle.it_base.specs.Writing.{AppendsBeginning};
+ghost use Rattle.it_digest.specs.DigestSet.{in_sha256};
 ghost use Rattle.it_digest.specs.Sums.{SumsOf};
 ghost use Rattle.it_docs.specs.Link.{IsLink, LinkOf};
 ghost use Rattle.it_making.specs.LinkOutput.{IsLinkFault, IsLinkOutput, link_document, link_form};
@@ -69,7 +70,7 @@ fn link_of(alloc: Global, name: &str, materials: &[u8], products: &[u8]) -> Resu
 }
 
 fn materials_of(alloc: Global, bytes: &[u8]) -> Result<Artifacts, RunFault>
-    ensures ok { IfOk result (SumsOf bytes.now) }
+    ensures ok { IfOk result (SumsOf in_sha256 bytes.now) }
     ensures err { IfErr result (IsMaterialsFault bytes.now) }
 {
     match read_sums(alloc, bytes) {
@@ -80,7 +81,7 @@ fn materials_of(alloc: Global, bytes: &[u8]) -> Result<Artifacts, RunFault>
 }
 
 fn products_of(alloc: Global, bytes: &[u8]) -> Result<Artifacts, RunFault>
-    ensures ok { IfOk result (SumsOf bytes.now) }
+    ensures ok { IfOk result (SumsOf in_sha256 bytes.now) }
     ensures err { IfErr result (IsProductsFault bytes.now) }
 {
     match read_sums(alloc, bytes) {

@@ -26,15 +26,12 @@ none_alone sums sums512 found h none some others list path alone =
     ((h.exact once).1 (some, others, alone)))
 
 pub lists_name_the_same : ListsNameTheSame
-lists_name_the_same panel inputs documents evidence found by_sha256 by_sha512 path are nothing some
-others first second =
+lists_name_the_same panel inputs documents evidence found m n path are nothing some others a b =
     let h = are.listed_once in
     let never = none_alone inputs.sums inputs.sums512 found.listed_once h nothing.listed_once some
     others in
-    let one : by_sha256 ≡ h.by_sha256 =
-    SumsOf_same in_sha256 inputs.sums h.by_sha256 by_sha256 h.first first in
-    let other : by_sha512 ≡ h.by_sha512 =
-    SumsOf_same in_sha512 inputs.sums512 h.by_sha512 by_sha512 h.second second in
+    let one : m ≡ h.by_sha256 = SumsOf_same in_sha256 inputs.sums h.by_sha256 m h.first a in
+    let other : n ≡ h.by_sha512 = SumsOf_same in_sha512 inputs.sums512 h.by_sha512 n h.second b in
     rw (one, other) (
       λ stands. never_not (contains_key h.by_sha512 path)
           (λ lacks. never Sha256 path (stands, lacks)),

@@ -15,10 +15,7 @@ pub const LISTED_ONCE_NAME: &str = "listed-once";
 
 /// Appends the lines of the first 40, and how many there are where there are more.
 #[tactic(auto, unfolding(crate::specs::ListedOnceText::once_text))]
-pub(crate) fn push_listed_once(
-    text: &mut Vec<u8>,
-    listed: &[ListedOnce],
-) -> Result<(), AllocError>
+pub(crate) fn push_listed_once(text: &mut Vec<u8>, listed: &[ListedOnce]) -> Result<(), AllocError>
     ensures { OnOk result (text.new.items ≡ text.old.items ++ once_text listed.now) }
 {
     push_first(text, listed)?;

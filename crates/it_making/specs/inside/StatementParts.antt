@@ -4,6 +4,7 @@ use Rattle.serde_json.specs.Data.{Data, depth}
 use Rattle.serde_json.specs.Find.{as_object}
 use Rattle.it_base.specs.Json.{Fields}
 use Rattle.std.specs.FinMap.{empty}
+use Rattle.it_digest.specs.DigestSet.{in_sha256}
 use Rattle.it_digest.specs.Sums.{IsFirstBadLine, SumsOf}
 use Rattle.it_outcome.specs.declared.outcome.RunFault.{RunFault}
 use Rattle.it_outcome.specs.declared.outcome.RunFault.TheVariants.{
@@ -21,8 +22,8 @@ GivesParameters given d = (parameters : Fields) × AreParameters given d paramet
 -- why subjects are not read
 abbrev pub IsSubjectsFault : List ℕ → RunFault → Type 0
 IsSubjectsFault bytes OutOfMemory = Unit {0}
-IsSubjectsFault bytes (BadSubjects line) = IsFirstBadLine bytes line
-IsSubjectsFault bytes NoSubjects = SumsOf bytes empty
+IsSubjectsFault bytes (BadSubjects line) = IsFirstBadLine in_sha256 bytes line
+IsSubjectsFault bytes NoSubjects = SumsOf in_sha256 bytes empty
 IsSubjectsFault bytes other = ⊥
 
 -- why parameters are not read

@@ -73,7 +73,21 @@ fn shown_limits(alloc: Global, words: &VerifyWords) -> Result<String, AllocError
     format!(in alloc; "{} {}", words.depth, words.most_checks)
 }
 
+/// The digest list by SHA-256, and that by SHA-512 behind a number sign, each if it is given.
+fn shown_lists(alloc: Global, words: &VerifyWords) -> Result<String, AllocError> {
+    let mut lists = String::new(alloc);
+    if let Some(sums) = &words.sums {
+        lists.push_str(sums.as_str())?;
+    }
+    if let Some(sums512) = &words.sums512 {
+        lists.push('#')?;
+        lists.push_str(sums512.as_str())?;
+    }
+    Ok(lists)
+}
+
 fn shown_verify(alloc: Global, words: &VerifyWords) -> Result<String, AllocError> {
+    let lists = shown_lists(alloc, words)?;
     let checks = shown_checks(alloc, words)?;
     let limits = shown_limits(alloc, words)?;
     let all = [
@@ -81,7 +95,7 @@ fn shown_verify(alloc: Global, words: &VerifyWords) -> Result<String, AllocError
         words.policy.as_str(),
         words.layout.as_str(),
         words.links.as_str(),
-        words.sums.as_str(),
+        lists.as_str(),
         words.at.as_str(),
         checks.as_str(),
         shown_or_none(&words.provenance),
@@ -147,11 +161,13 @@ fn shown_statement(alloc: Global, words: &StatementWords) -> Result<String, Allo
 
 fn shown_digest(alloc: Global, words: &DigestWords) -> Result<String, AllocError> {
     let paths = joined(alloc, words.paths.as_slice())?;
-    if words.recursive {
-        spaced(alloc, &["below", paths.as_str()])
-    } else {
-        spaced(alloc, &["digest", paths.as_str()])
-    }
+    let name = match (words.recursive, words.sha512) {
+        (false, false) => "digest",
+        (false, true) => "digest#",
+        (true, false) => "below",
+        (true, true) => "below#",
+    };
+    spaced(alloc, &[name, paths.as_str()])
 }
 
 fn shown_check(alloc: Global, words: &CheckWords) -> Result<String, AllocError> {
@@ -178,7 +194,8 @@ fn shown_key(alloc: Global, words: &KeyWords) -> Result<String, AllocError> {
 
 /// The name of a command and its values in the order of its type's fields, separated by spaces.
 /// Plus signs separate several paths, and a value that is missing is `none`. Keys come after `by`,
-/// as the issuer of an identity does, and `digest --recursive` is `below`.
+/// as the issuer of an identity does, and `digest --recursive` is `below`. A number sign stands for
+/// SHA-512.
 ///
 /// # Errors
 ///

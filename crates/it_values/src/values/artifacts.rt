@@ -2,11 +2,13 @@
 use crate::values::digests;
 use it_digest::artifacts::Artifacts;
 use it_digest::compare::DigestSet;
-use it_digest::sums::read_sums;
+use it_digest::listed::read_lists;
+use it_digest::sums::{ListAlgorithm, read_list, read_sums};
 use it_tables::RowFault;
 use it_tables::row::{bytes_in, list_in, text_in};
 use serde_json::Value;
 use std::alloc::{AllocError, Global};
+use std::fmt::Debug;
 
 /// What a call on maps of digests answers.
 pub(crate) fn answer(alloc: Global, call: &str, row: &Value) -> Result<String, RowFault> {
@@ -18,6 +20,8 @@ pub(crate) fn answer(alloc: Global, call: &str, row: &Value) -> Result<String, R
         "get" => get(alloc, row),
         "same" => same(alloc, row),
         "sums" => sums(alloc, row),
+        "sums by SHA-512" => sums_by_sha512(alloc, row),
+        "lists" => lists(alloc, row),
         _ => Err(RowFault::UnknownCall),
     }
 }
@@ -103,8 +107,31 @@ fn same(alloc: Global, row: &Value) -> Result<String, RowFault> {
 /// The entries of a digest list as `sha256sum` writes it.
 fn sums(alloc: Global, row: &Value) -> Result<String, RowFault> {
     let bytes = bytes_in(alloc, row, "bytes")?;
-    match read_sums(alloc, bytes.as_slice()) {
-        Ok(sums) => Ok(told(alloc, &sums)?),
+    told_or_fault(alloc, read_sums(alloc, bytes.as_slice()))
+}
+
+/// The entries of a digest list as `sha512sum` writes it.
+fn sums_by_sha512(alloc: Global, row: &Value) -> Result<String, RowFault> {
+    let bytes = bytes_in(alloc, row, "bytes")?;
+    let list = read_list(alloc, ListAlgorithm::Sha512, bytes.as_slice());
+    told_or_fault(alloc, list)
+}
+
+/// The entries of two digest lists together.
+fn lists(alloc: Global, row: &Value) -> Result<String, RowFault> {
+    let sums = bytes_in(alloc, row, "sums")?;
+    let sums512 = bytes_in(alloc, row, "sums512")?;
+    let lists = read_lists(alloc, sums.as_slice(), sums512.as_slice());
+    told_or_fault(alloc, lists)
+}
+
+/// The entries that were read, or the fault.
+fn told_or_fault<F: Copy + Debug>(
+    alloc: Global,
+    files: Result<Artifacts, F>,
+) -> Result<String, RowFault> {
+    match files {
+        Ok(files) => Ok(told(alloc, &files)?),
         Err(fault) => Ok(format!(in alloc; "{fault:?}")?),
     }
 }

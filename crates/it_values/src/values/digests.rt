@@ -1,8 +1,8 @@
-//! Digests: how sets of them compare, and the SHA-256 of what a reader gives.
+//! Digests: how sets of them compare, and the SHA-256 and the SHA-512 of what a reader gives.
 use it_base::document::member;
 use it_digest::compare::DigestSet;
 use it_digest::digest::digest_set;
-use it_digest::reader::sha256_of_reader;
+use it_digest::reader::{DigestFault, sha256_of_reader, sha512_of_reader};
 use it_tables::RowFault;
 use it_tables::devices::Source;
 use it_tables::row::{bytes_in, member_in, number_if, number_in};
@@ -15,6 +15,7 @@ pub(crate) fn answer(alloc: Global, call: &str, row: &Value) -> Result<String, R
         "compare" => compare(alloc, digests_in(row, "one")?, digests_in(row, "other")?),
         "compare filled" => compare(alloc, filled_in(row, "one")?, filled_in(row, "other")?),
         "of bytes" => of_bytes(alloc, row),
+        "by SHA-512 of bytes" => by_sha512_of_bytes(alloc, row),
         "of source" => of_source(alloc, row),
         _ => Err(RowFault::UnknownCall),
     }
@@ -81,14 +82,39 @@ fn push_digest<const N: usize>(
     Ok(())
 }
 
-/// The SHA-256 of some bytes, repeated as often as the row says, by a reader with a limit.
-fn of_bytes(alloc: Global, row: &Value) -> Result<String, RowFault> {
+/// The bytes of a row, repeated as often as it says.
+fn repeated(alloc: Global, row: &Value) -> Result<Vec<u8>, RowFault> {
     let times = number_if(row, "times").unwrap_or(1);
-    let bytes = bytes_in(alloc, row, "bytes")?
-        .as_slice()
-        .repeat(alloc, times as usize)?;
+    let bytes = bytes_in(alloc, row, "bytes")?;
+    Ok(bytes.as_slice().repeat(alloc, times as usize)?)
+}
+
+/// The SHA-256 of some bytes, by a reader with a limit.
+fn of_bytes(alloc: Global, row: &Value) -> Result<String, RowFault> {
+    let bytes = repeated(alloc, row)?;
     let mut reader = bytes.as_slice();
-    match sha256_of_reader(&mut reader, number_in(row, "limit")?) {
+    digits(
+        alloc,
+        sha256_of_reader(&mut reader, number_in(row, "limit")?),
+    )
+}
+
+/// The SHA-512 of some bytes, by a reader with a limit.
+fn by_sha512_of_bytes(alloc: Global, row: &Value) -> Result<String, RowFault> {
+    let bytes = repeated(alloc, row)?;
+    let mut reader = bytes.as_slice();
+    digits(
+        alloc,
+        sha512_of_reader(&mut reader, number_in(row, "limit")?),
+    )
+}
+
+/// The digits of a digest, or the fault.
+fn digits<const N: usize>(
+    alloc: Global,
+    digest: Result<[u8; N], DigestFault>,
+) -> Result<String, RowFault> {
+    match digest {
         Ok(digest) => Ok(hex::encode(alloc, digest.as_slice())?),
         Err(fault) => Ok(format!(in alloc; "{fault:?}")?),
     }

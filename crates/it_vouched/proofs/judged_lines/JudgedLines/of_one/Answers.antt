@@ -16,6 +16,6 @@ returns-clause-vouched c =
 
 pub returns-clause-silent : goal.returns-clause-silent
 returns-clause-silent c =
-    rw (c.in_ok-push_some-2.ensures, c.new-silent.ensures.items)
+    rw (c.from.ensures, c.in_ok-push_some-2.ensures, c.new-silent.ensures.items)
     (one_silent c.args.trust.now c.args.bytes.now _ c.in_ok-judged.ensures.misses _
     c.silent_line.ensures)

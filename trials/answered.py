@@ -5,7 +5,7 @@ import subprocess
 
 PROGRAM = pathlib.Path(__file__).resolve().parent.parent / "crates" / "itv" / "out" / "itv"
 # The parts of a delivery that may be missing, and the options that name them.
-OPTIONAL = {"ring": "ring", "root": "trusted-root"}
+OPTIONAL = {"sums": "sums", "sums512": "sums512", "ring": "ring", "root": "trusted-root"}
 
 
 def written(path, content):
@@ -25,7 +25,7 @@ def write_folder(folder, bundle):
 def words_of(delivery, folder):
     """Writes a delivery out, and returns the arguments that verify it."""
     words = ["verify", f"--at={delivery.moment}", f"--depth={delivery.depth}", "--links=links"]
-    for part in ("policy", "layout", "provenance", "sums"):
+    for part in ("policy", "layout", "provenance"):
         written(folder / part, getattr(delivery, part))
         words.append(f"--{part}={part}")
     write_folder(folder / "links", delivery.bundle)

@@ -13,7 +13,8 @@ import sys
 
 sys.path[:0] = [str(pathlib.Path(__file__).resolve().parent.parent / name)
                 for name in ("bench", "conformance")]
-from deliveries import MOMENT, TYPE, compact, digest, link, statement, step
+from deliveries import MOMENT, TYPE, compact, link, statement, step
+from digest_lists import LISTS, digests
 from signing_keys import (P256_ORDER, P384_ORDER, Ed25519Key, P256Key, P384Key, RsaKey,
                           order_less, pem)
 
@@ -21,6 +22,8 @@ SCHEMES = ["hmac-sha256", "ed25519", "ecdsa-sha2-nistp256", "rsassa-pss-sha256",
            "ecdsa-sha2-nistp384"]
 ORDERS = {SCHEMES[2]: P256_ORDER, SCHEMES[4]: P384_ORDER}
 SECRETS = {"h0": b"h0", "h1": b"one secret", "h2": b"one secret\0"}
+# The algorithms by which the links of a delivery have digests.
+ALGORITHMS = [["sha256"]] * 4 + [["sha512"]] * 2 + [["sha256", "sha512"]] * 3 + [["sha384", "sha512"]]
 IDS = ["a", "b", "c", "d", "h0", "h1", "h2", "longer-than-eight", "longer-than-seven"]
 
 
@@ -103,6 +106,7 @@ class Dice:
         self.dice = dice
         # Some deliveries are right or nearly so, others have faults all over.
         self.wrong = dice.choice([0, 0.01, 0.03, 0.1])
+        self.algorithms = dice.choice(ALGORITHMS)
 
     def is_wrong(self, times=1):
         """Whether something goes wrong here."""
@@ -149,14 +153,43 @@ class Dice:
 
     def body(self, name):
         """The body of a link of a step, now and then with something changed."""
-        made = link(name, [], ["app"])
-        if self.is_wrong():
-            made["products"]["app"] = {"sha256": digest("another app")}
+        made = {**link(name, [], []), "products": {"app": self.digest_set()}}
         if self.is_wrong():
             made["byproducts"] = {"noise": 1}
         if self.is_wrong():
             made["name"] = "another"
         return compact(made)
+
+    def digest_set(self):
+        """The digests of the file, of which now and then some are another file's."""
+        found = digests("app", *self.algorithms)
+        wrong = [name for name in found if self.is_wrong()]
+        return {**found, **(digests("another app", *wrong) if wrong else {})}
+
+    def attested(self):
+        """What the builder states of the file, by the algorithms of the links or by others."""
+        if self.dice.random() < 0.1:
+            self.algorithms = self.dice.choice(ALGORITHMS)
+        made = statement(["app"])
+        made["subject"][0]["digest"] = self.digest_set()
+        return compact(made)
+
+    def lists(self, algorithms):
+        """The digest lists, by the members that give them: one or both by these algorithms, or now
+        and then by others."""
+        names = [name for name, (of, _) in LISTS.items() if of in algorithms]
+        if self.is_wrong(3) or not names:
+            names = self.dice.choice([["sums"], ["sums512"], ["sums", "sums512"]])
+        return {name: self.listed(name) for name in names}
+
+    def listed(self, name):
+        """A digest list: the file's line, or now and then what is wrong."""
+        lines = {one: f"{digests('app', of)[of]}  app\n" for one, (of, _) in LISTS.items()}
+        other = f"{digests('another app', LISTS[name][0])[LISTS[name][0]]}  app\n"
+        if self.is_wrong():
+            return self.dice.choice([*lines.values(), "", other, lines[name] * 2,
+                                     lines[name].upper(), lines[name] + "\n"])
+        return lines[name]
 
     def layout(self, depth):
         """A layout, and the files below it."""
@@ -211,10 +244,12 @@ class Delivery:
                                "expectations": [expectation]}).decode()
         body, self.bundle = thrown.layout(2)
         self.layout = thrown.envelope(compact(body), held.items())
-        attested = compact(statement(["app"]))
+        algorithms = thrown.algorithms
+        attested = thrown.attested()
         self.provenance = "".join(thrown.envelope(attested, [one]) + "\n"
                                   for one in builder.items())
-        self.sums = f"{digest('app')}  app\n"
+        given = thrown.lists(algorithms)
+        self.sums, self.sums512 = given.get("sums"), given.get("sums512")
         self.depth = dice.choice([4, 4, 2, 1, 0] if thrown.wrong else [4, 2])
         self.public_keys = dice.random() < 0.95
         ring = [{"id": name, "secret": SECRETS[name].hex()} for name in sorted(SECRETS)]

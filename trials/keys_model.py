@@ -1,7 +1,8 @@
 """What `itv verify` has to answer for a delivery of keys_made, in plain Python.
 
 Written from docs/formats.md and docs/keys.md: it shares nothing with the program, and with what
-makes the deliveries only the notation of documents.
+makes the deliveries only the notation of documents. Digest lists are read by digest_lists.py of
+conformance, which was written from the same page.
 """
 
 import base64
@@ -9,7 +10,12 @@ import binascii
 import hashlib
 import hmac
 import json
+import pathlib
 import re
+import sys
+
+sys.path.insert(0, str(pathlib.Path(__file__).resolve().parent.parent / "conformance"))
+from digest_lists import LISTS, BadLine, agree, listed
 
 from cryptography.exceptions import InvalidSignature, UnsupportedAlgorithm
 from cryptography.hazmat.primitives import hashes
@@ -223,6 +229,31 @@ class Level:
         return inner[0][0][0], inner[-1][0][1]
 
 
+def delivered(delivery):
+    """The digest sets of the delivered files, by their paths in the order of their bytes."""
+    given = {name: (getattr(delivery, name, None) or "").encode() for name in LISTS}
+    try:
+        files = listed(given)
+    except BadLine as bad:
+        of = ["list sha512"] if bad.name == "sums512" else []
+        raise Refused("12 BadSums", *of, f"line {bad.number}") from None
+    if not files:
+        raise Refused("14 NoFiles")
+    return {path: files[path] for path in sorted(files, key=str.encode)}
+
+
+def check_delivery(files, products):
+    """Raises the refusal of a file that the last step did not make."""
+    for path, digest_set in files.items():
+        if not agree(digest_set, products.get(path, {})):
+            raise Refused("40 RuleFailed", "item deliver", "side products", "rule 1", f"path {path}")
+
+
+def attests(envelope, digest_set):
+    """Whether a subject of the Statement in an envelope has a file's digests."""
+    return any(agree(digest_set, one["digest"]) for one in json.loads(envelope.payload)["subject"])
+
+
 def verdict(delivery):
     """The lines of an accepted delivery, or none if its layout is not read; raises its refusal."""
     checks = Checks(delivery, ring=True, public_keys=delivery.public_keys)
@@ -230,6 +261,7 @@ def verdict(delivery):
     envelope = Envelope(delivery.layout)
     if envelope.has_too_many(checks):
         return []
+    files = delivered(delivery)
     if envelope.kind != TYPE:
         raise Refused("21 WrongPayloadType")
     for owner in sorted(policy["owners"], key=str.encode):
@@ -237,16 +269,15 @@ def verdict(delivery):
             raise Refused("22 OwnerMissing", f"key {owner}")
     layout = json.loads(envelope.payload)
     records = Level(checks, delivery.moment, layout, delivery.bundle, delivery.depth).records()
-    digest, path = delivery.sums.split()
-    if records[-1][0][1].get(path) != {"sha256": digest}:
-        raise Refused("40 RuleFailed", "item deliver", "side products", "rule 1", f"path {path}")
+    check_delivery(files, records[-1][0][1])
     builder = policy["expectations"][0]["builders"][0]["keys"]
     lines = [counted_envelope(line, checks) for line in delivery.provenance.split("\n")]
-    if not any(line and checks.signed(line, who, made)
-               for line in lines for who, made in builder.items()):
-        raise Refused("61 NoProvenance", f"path {path}")
+    for path, digest_set in files.items():
+        if not any(line and attests(line, digest_set) and checks.signed(line, who, made)
+                   for line in lines for who, made in builder.items()):
+            raise Refused("61 NoProvenance", f"path {path}")
     steps = [f"step {step['name']} {keys}" for step, (_, keys) in zip(layout["steps"], records)]
-    return ["accepted", *steps, f"file {path}"]
+    return ["accepted", *steps, *(f"file {path}" for path in files)]
 
 
 def verified(delivery, judged=verdict):

@@ -12,6 +12,15 @@ def listed(change, *says, name, status=1):
     return Mistake(name, changed, status, says)
 
 
+def listed_512(change, *says, name, status=1, **words):
+    """A mistake in a digest list by SHA-512, which is made of the list by SHA-512 and of `sums`."""
+    def changed(release):
+        by_512 = release.made("itv", "digest", "--sha512", "hello.tar").decode()
+        release.write("sums512", change(by_512, release.text("sums")))
+        return release.verify(sums512="sums512", **words)
+    return Mistake(name, changed, status, says)
+
+
 def link(change, *says, name, step="build", by="bob", signer=None, to=None):
     """A mistake in the link of a step, which somebody else may sign, in another file."""
     return Mistake(name, lambda release: release.link(step, by, change, signer, to), 1, says)
@@ -187,6 +196,35 @@ def of_files():
     ]
 
 
+def of_lists():
+    """Mistakes in the digest list by SHA-512, and in giving it."""
+    bad = "12 BadSums", "list sha512", "digest list by SHA-512: line 1"
+    return [
+        listed_512(lambda sums512, sums: sums, *bad, "begins with 64 in place of 128",
+                   name="a list of sha256sum for --sums512"),
+        listed_512(lambda sums512, sums: sums, *bad, "begins with 64 in place of 128",
+                   name="a list of sha256sum for --sums512 alone", sums=None),
+        listed_512(lambda sums512, sums: sums512, "12 BadSums", "digest list: line 1",
+                   "begins with 128 in place of 64", name="the two lists the other way round",
+                   sums="sums512"),
+        listed_512(lambda sums512, sums: sums512[1:], *bad, "begins with 127 in place of 128",
+                   name="a digit of SHA-512 that is missing"),
+        listed_512(lambda sums512, sums: sums512 * 2, "12 BadSums", "list sha512",
+                   "digest list by SHA-512: line 2", "which line 1 has too",
+                   name="a list by SHA-512 that was appended to"),
+        listed_512(lambda sums512, sums: sums512.replace("\n", "\r\n"), "40 RuleFailed",
+                   "hello.tar\\x0d", "digest list by SHA-512: line 1 ends with a carriage return",
+                   name="lines of DOS in a list by SHA-512"),
+        listed_512(lambda sums512, sums: sums512, "40 RuleFailed",
+                   "no algorithm is in both, of package: sha256, and here: sha512",
+                   name="SHA-512 alone, where the links have SHA-256", sums=None),
+        listed_512(lambda sums512, sums: sums512[:100], *bad, "begins with 100 in place of 128",
+                   name="a list by SHA-512 that is cut off"),
+        Mistake("no digest list", lambda release: release.verify(sums=None), 2,
+                ("--sums", "--sums512")),
+    ]
+
+
 def of_provenance():
     """Mistakes in the provenance and in records."""
     return [
@@ -219,4 +257,4 @@ def of_provenance():
     ]
 
 
-MISTAKES = [*of_steps(), *of_files(), *of_provenance()]
+MISTAKES = [*of_steps(), *of_files(), *of_lists(), *of_provenance()]

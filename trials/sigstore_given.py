@@ -24,7 +24,7 @@ def delivery(line, root, key):
     """The delivery whose one line of provenance is this, by a key object."""
     envelope, bundle = read_line(line)
     found = attested_in(envelope)
-    asked = found or {"digest_of_file": "0" * 64, "buildType": ""}
+    asked = found or {"digest_set": {"sha256": "0" * 64}, "buildType": ""}
     made = Plain(root, line + b"\n", key, **asked)
     if found is None and bundle is not None:
         made.layout = line_of(json.loads(line)["dsseEnvelope"])
@@ -33,14 +33,15 @@ def delivery(line, root, key):
 
 
 def attested_in(envelope):
-    """A SHA-256 that the provenance in an envelope attests, and what it says of it; or None."""
+    """The digests that the provenance in an envelope attests for its first file with a SHA-256 or a
+    SHA-512, and what it says of it; or None."""
     try:
         need(envelope, "no envelope")
         found = sigstore_verdict.provenance_in(envelope)
     except Unfit:
         return None
-    digests = sorted(one for one in found.digests if isinstance(one, str))
-    return {"digest_of_file": digests[0].lower(), "builder": found.builder,
+    digests = [one for one in found.digests if one.keys() & {"sha256", "sha512"}]
+    return {"digest_set": digests[0], "builder": found.builder,
             "buildType": found.build_type, "ignore": list(found.parameters)} if digests else None
 
 

@@ -13,7 +13,7 @@ from bundle_runs import named
 from deliveries import MOMENT, compact, envelope, key_object, layout, signature, signed, step
 from keys_made import Bundle
 from sigstore_cases import line_of
-from sigstore_parts import (BUILD_TYPE, BUILDER, FILES, WORKFLOW, Plain, digest, of_case, of_made)
+from sigstore_parts import (BUILD_TYPE, BUILDER, FILES, WORKFLOW, Plain, digests, of_case, of_made)
 from sigstore_spoiled import Spoiler
 
 # The cases of the private Sigstore in a mixed order, and how many each delivery has.
@@ -21,6 +21,8 @@ CASES = random.Random("cases").sample(list(private.CASES), len(private.CASES))
 EACH = 3
 # The shortest and the longest name of an identity, and the one that is too long.
 LENGTHS = [1, 512, 513]
+# The algorithms of the digest lists, and those by which links have digests.
+BY = [["sha256"]] * 3 + [["sha512"]] * 2 + [["sha256", "sha512"]] * 3
 LISTS = ["tlogs", "certificateAuthorities", "ctlogs"]
 SCHEMES = ["fulcio", "Fulcio ", "hmac-sha256", "ecdsa-sha2-nistp256", "", None]
 
@@ -50,7 +52,9 @@ class Delivery:
         self.spoil()
         # The lines of bundles of layouts and links, and the folder of links.
         self.others, self.bundle = [], Bundle()
-        self.sums = "".join(f"{digest(FILES[name])}  {name}\n" for name in self.names())
+        names, algorithms = self.names(), dice.choice(BY)
+        self.sums, self.sums512 = (self.listed(names, one) if one in algorithms else None
+                                   for one in ("sha256", "sha512"))
         body = self.laid_out()
         self.policy = compact(self.believing()).decode()
         self.layout = self.signed_layout(body)
@@ -66,6 +70,11 @@ class Delivery:
     def names(self):
         """The names of the delivered files."""
         return ["app", "lib"] if self.dice.random() < 0.3 else ["app"]
+
+    def listed(self, names, algorithm):
+        """A digest list of files, of which now and then one is left out."""
+        kept = [name for name in names if not self.is_wrong(0.2)]
+        return "".join(f"{digests(FILES[name], algorithm)[algorithm]}  {name}\n" for name in kept)
 
     # Bundles.
 
@@ -193,7 +202,7 @@ class Delivery:
         if self.dice.random() < 0.6:
             return layout([], [])
         record = {"_type": "link", "name": "build", "materials": {}, "products": {
-            name: {"sha256": digest(FILES[name])} for name in FILES
+            name: digests(FILES[name], *self.dice.choice(BY)) for name in FILES
             if not self.is_wrong(0.2)}}
         body = compact(record)
         keys = {"alice": key_object(), "bob": by_keys.key(by_keys.p256("bob")),
@@ -242,7 +251,7 @@ class Delivery:
 def by_each(made):
     """The provenance of a delivery, by the key object of each of its bundles alone."""
     for part in made.parts:
-        yield Plain(made.root, made.provenance, part.key, digest(part.artifact),
+        yield Plain(made.root, made.provenance, part.key, digests(part.artifact, "sha256"),
                     buildType=BUILD_TYPE, ignore=["workflow"])
 
 

@@ -19,9 +19,9 @@ WORKFLOW = {"ref": "refs/heads/main", "repository": "https://github.com/acme/too
             "path": ".github/workflows/release.yml"}
 
 
-def digest(content):
-    """The SHA-256 of bytes, in hexadecimal."""
-    return hashlib.sha256(content).hexdigest()
+def digests(content, *algorithms):
+    """The digest set of bytes by these algorithms."""
+    return {name: hashlib.new(name, content).hexdigest() for name in algorithms}
 
 
 class Part:
@@ -58,11 +58,12 @@ class Plain:
 
     moment, depth, ring, public_keys = MOMENT, 4, None, True
 
-    def __init__(self, root, provenance, key, digest_of_file, builder=BUILDER, **expected):
+    def __init__(self, root, provenance, key, digest_set, builder=BUILDER, **expected):
         self.root, self.provenance, self.bundle = root, provenance, Bundle()
         owner = by_keys.p256("owner")
         self.layout = by_keys.signed_by(layout([], []), ("owner", owner))
-        self.sums = f"{digest_of_file}  app\n"
+        self.sums, self.sums512 = (f"{digest_set[name]}  app\n" if name in digest_set else None
+                                   for name in ("sha256", "sha512"))
         self.expectation = {"files": "*", "builders": [{"id": builder, "keys": {"signer": key}}],
                             **expected}
         self.owned_by(by_keys.key(owner))

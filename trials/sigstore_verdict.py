@@ -6,14 +6,18 @@ steps are those of keys_model.
 
 import functools
 import json
+import re
 from typing import NamedTuple
 
 import keys_model
+from digest_lists import agree
 from keys_model import MOST_SIGNATURES, TYPE, Refused
 from sigstore_forms import (Unfit, document, list_at, member, need, object_at, of_type, text_at)
 from sigstore_logs import Root
 from sigstore_model import Vouched, identity_of, read_line, vouched_lines
 
+# How many hexadecimal digits a digest has, by each algorithm that counts.
+DIGITS = {"sha256": 64, "sha384": 96, "sha512": 128}
 STATEMENT, PROVENANCE = "https://in-toto.io/Statement/v1", "https://slsa.dev/provenance/v1"
 
 
@@ -46,12 +50,23 @@ class Checks(keys_model.Checks):
 
 
 class Provenance(NamedTuple):
-    """What an envelope attests: SHA-256 digests, how they were built, and by whom."""
+    """What an envelope attests: the digest sets of its subjects, how they were built, and by whom."""
 
-    digests: set
+    digests: list
     build_type: str
     parameters: dict
     builder: str
+
+
+def digest_set_of(subject):
+    """The digest set of a subject, by the algorithms that count."""
+    given, found = member(of_type(subject, dict, "subject"), "digest"), {}
+    for name, digits in DIGITS.items() if given is not None else ():
+        value = member(of_type(given, dict, "digest"), name)
+        if value is not None:
+            need(re.fullmatch(f"[0-9a-fA-F]{{{digits}}}", of_type(value, str, name)), name)
+            found[name] = value.lower()
+    return found
 
 
 def provenance_in(envelope):
@@ -60,7 +75,7 @@ def provenance_in(envelope):
     whole = of_type(document(envelope.payload), dict, "payload")
     need((text_at(whole, "_type"), text_at(whole, "predicateType")) == (STATEMENT, PROVENANCE),
          "no provenance")
-    digests = {member(member(one, "digest"), "sha256") for one in list_at(whole, "subject")}
+    digests = [digest_set_of(one) for one in list_at(whole, "subject")]
     predicate = object_at(whole, "predicate")
     build, run = object_at(predicate, "buildDefinition"), object_at(predicate, "runDetails")
     return Provenance(digests, text_at(build, "buildType"),
@@ -68,32 +83,33 @@ def provenance_in(envelope):
                       text_at(object_at(run, "builder"), "id"))
 
 
-def meets(found, digest, expectation):
+def meets(found, digest_set, expectation):
     """Whether provenance meets an expectation for a file, but for its builder."""
     wanted, given = expectation.get("parameters", {}), found.parameters
-    return (digest in found.digests and found.build_type == expectation["buildType"]
+    return (any(agree(digest_set, one) for one in found.digests)
+            and found.build_type == expectation["buildType"]
             and all(name in given and given[name] == value for name, value in wanted.items())
             and all(name in wanted or name in expectation.get("ignore", []) for name in given))
 
 
-def levels(envelopes, digest, expectation, checks):
+def levels(envelopes, digest_set, expectation, checks):
     """The levels of the builders with which envelopes meet an expectation for a file."""
     for envelope in envelopes:
         try:
             found = provenance_in(envelope)
         except Unfit:
             continue
-        if meets(found, digest, expectation):
+        if meets(found, digest_set, expectation):
             yield from (builder.get("level", 0) for builder in expectation["builders"]
                         if builder["id"] == found.builder
                         and any(checks.signed(envelope, who, made)
                                 for who, made in builder["keys"].items()))
 
 
-def check_provenance(path, digest, policy, envelopes, checks):
+def check_provenance(path, digest_set, policy, envelopes, checks):
     """Raises the refusal of a file without provenance."""
     expectation = next(one for one in policy["expectations"] if one["files"] in (path, "*"))
-    best = max(levels(envelopes, digest, expectation, checks), default=None)
+    best = max(levels(envelopes, digest_set, expectation, checks), default=None)
     if best is None or best < expectation.get("level", 0):
         told = [] if best is None else [f"best {best}"]
         raise Refused("61 NoProvenance", f"path {path}", *told)
@@ -128,19 +144,17 @@ def layout_of(delivery, policy, checks):
 def verdict(delivery):
     """The lines of an accepted delivery; raises its refusal, or Unfit where it is not read."""
     checks, policy = Checks(delivery), json.loads(delivery.policy)
+    files = keys_model.delivered(delivery)
     layout = layout_of(delivery, policy, checks)
     records = keys_model.Level(checks, delivery.moment, layout, delivery.bundle,
                                delivery.depth).records()
-    files = [line.split("  ", 1) for line in delivery.sums.splitlines()]
-    for digest, path in files if records else []:
-        if records[-1][0][1].get(path) != {"sha256": digest}:
-            raise Refused("40 RuleFailed", "item deliver", "side products", "rule 1",
-                          f"path {path}")
+    if records:
+        keys_model.check_delivery(files, records[-1][0][1])
     envelopes = list(counted_lines(delivery))
-    for digest, path in files:
-        check_provenance(path, digest, policy, envelopes, checks)
+    for path, digest_set in files.items():
+        check_provenance(path, digest_set, policy, envelopes, checks)
     steps = [f"step {step['name']} {keys}" for step, (_, keys) in zip(layout["steps"], records)]
-    return ["accepted", *steps, *(f"file {path}" for _, path in files)]
+    return ["accepted", *steps, *(f"file {path}" for path in files)]
 
 
 def answers(delivery):

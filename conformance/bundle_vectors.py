@@ -8,13 +8,13 @@ identity by the root; always the same.
 The bundles, and what they do not meet, are those of sigstore_bundles.py.
 """
 import collections
-import json
 import random
 import sys
 
 sys.dont_write_bytecode = True
 import lines
 import sigstore_bundles
+from sigstore_cases import line_of
 
 DATA = lines.TOP / "crates" / "it_bundle_vectors" / "data" / "bundles.jsonl"
 # How many bad bundles of each condition there are.
@@ -46,9 +46,7 @@ def chosen():
 
 def text(value):
     """The text of a document, which may be given as its bytes."""
-    if isinstance(value, bytes):
-        return value.decode()
-    return json.dumps(value, separators=(",", ":"), ensure_ascii=False)
+    return line_of(value).decode()
 
 
 def row(name):

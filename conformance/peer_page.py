@@ -1,4 +1,4 @@
-"""Writes the part of docs/peers.md on another verifier, from the outcomes of its cases."""
+"""Writes the part of docs/peers.md on a verifier of layouts, from the outcomes of its cases."""
 
 import collections
 import re
@@ -9,14 +9,15 @@ PAGE = TOP / "docs" / "peers.md"
 BEGIN = """\
 # Other verifiers on the same cases
 
-The whole verifications of [conformance](../conformance/README.md), given to two other verifiers \
-of in-toto layouts: where they accept and refuse as the cases expect, and where not. Each part \
-below was written by one run of
+Cases of [conformance](../conformance/README.md), given to other verifiers: where they accept and \
+refuse as the cases expect, and where not. `conformance/peers` fetches the programs from Debian. \
+The answers that are expected are those of the cases; `itv` was not run. The whole verifications \
+were given to two verifiers of in-toto layouts, and [bundles](#sigstore-bundles) to two of \
+Sigstore's. Each part on the former was written by one run of
 
     conformance/run --peer NAME --write PROGRAM
 
-over all cases that can be files of a disk; `conformance/peers` fetches the programs from Debian. \
-The answers that are expected are those of the cases; `itv` was not run.
+over all cases that can be files of a disk.
 
 **What was done.** Each case was written anew in the forms of the other verifier, and signed anew.
 
@@ -46,6 +47,8 @@ chose](formats.md): what a pattern is, which members are ignored, which digests 
 links are compared. Where another verifier differs, it may have chosen otherwise, and need not be \
 wrong.
 """
+# The headings of the parts, in their order.
+PARTS = ["in-toto-golang", "in-toto", "Sigstore bundles"]
 # The rule that each fault is about.
 RULES = {
     10: "the policy reads", 12: "the digest list reads", 13: "the moment reads",
@@ -131,7 +134,6 @@ def part(peer, versions, outcomes):
     by_fault = table(["Expected", "The rule"], outcomes, lambda one: one.fault or (), title)
     by_file = table(["File"], outcomes, lambda one: one.file, lambda file: f"`{file}`")
     return "\n\n".join([
-        f"## {peer.name}",
         f"What was run is `{peer.command}`, of Debian's {versions}, which reads {peer.form}.\n\n"
         f"Of {len(outcomes)} cases {len(tried)} were tried, and {sum(map(agrees, tried))} agree. "
         f"Of {sum(one.fault is None for one in tried)} that are expected to be accepted it accepts "
@@ -142,10 +144,15 @@ def part(peer, versions, outcomes):
         f"### What was not tried with {peer.name}", left_out(outcomes)]) + "\n"
 
 
-def write(peer, versions, outcomes):
-    """Puts the part on a peer into the page, beside those on others."""
+def put(heading, text):
+    """Puts the part with a heading into the page, beside the others."""
     old = PAGE.read_text(encoding="utf-8") if PAGE.exists() else ""
-    parts = {text.split("\n")[0]: text for text in re.split(r"^## ", old, flags=re.M)[1:]}
-    parts[peer.name] = part(peer, versions, outcomes).removeprefix("## ")
-    texts = [f"## {text.strip()}\n" for _, text in sorted(parts.items(), reverse=True)]
+    parts = dict(part.split("\n", 1) for part in re.split(r"^## ", old, flags=re.M)[1:])
+    parts[heading] = text
+    texts = [f"## {name}\n\n{parts[name].strip()}\n" for name in PARTS if name in parts]
     PAGE.write_text("\n".join([BEGIN, *texts]), encoding="utf-8")
+
+
+def write(peer, versions, outcomes):
+    """Puts the part on a peer into the page."""
+    put(peer.name, part(peer, versions, outcomes))

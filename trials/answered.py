@@ -36,7 +36,12 @@ def words_of(delivery, folder):
     return words + ["--public-keys"] * delivery.public_keys
 
 
+def told(words, folder):
+    """What the program answers in a folder: its status, its output and what it says besides."""
+    done = subprocess.run([PROGRAM, *words], cwd=folder, capture_output=True, check=False)
+    return done.returncode, done.stdout.decode(), done.stderr.decode()
+
+
 def answer(words, folder):
     """What the program answers in a folder: its status and its output."""
-    done = subprocess.run([PROGRAM, *words], cwd=folder, capture_output=True, check=False)
-    return done.returncode, done.stdout.decode()
+    return told(words, folder)[:2]

@@ -9,11 +9,12 @@ otherwise because its owner did not sign it (22).
 import json
 
 import sigstore_verdict
+from sigstore_cases import line_of, named
 from sigstore_certificates import Leaf
 from sigstore_forms import Unfit, need
 from sigstore_logs import Root
 from sigstore_model import read_line, vouched
-from sigstore_parts import Plain, line_of, named
+from sigstore_parts import Plain
 
 NOBODY = named("nobody", "nobody")
 

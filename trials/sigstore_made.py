@@ -11,8 +11,8 @@ import by_keys
 import sigstore_bundles as private
 from deliveries import MOMENT, compact, envelope, key_object, layout, signature, signed, step
 from keys_made import Bundle
-from sigstore_parts import (BUILD_TYPE, BUILDER, FILES, WORKFLOW, Plain, digest, line_of, named,
-                            of_case, of_made)
+from sigstore_cases import line_of, named
+from sigstore_parts import (BUILD_TYPE, BUILDER, FILES, WORKFLOW, Plain, digest, of_case, of_made)
 from sigstore_spoiled import Spoiler
 
 # The cases of the private Sigstore in a mixed order, and how many each delivery has.

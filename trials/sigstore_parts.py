@@ -4,12 +4,12 @@ The bundles are those of a private Sigstore (conformance/sigstore_bundles.py).
 """
 
 import hashlib
-import json
 
 import by_keys
 import sigstore_bundles as private
 from deliveries import MOMENT, compact, layout
 from keys_made import Bundle
+from sigstore_cases import named
 
 FILES = {"app": b"an artifact\n", "lib": b"lib\n"}
 # What the Statements of the bundles say.
@@ -22,13 +22,6 @@ WORKFLOW = {"ref": "refs/heads/main", "repository": "https://github.com/acme/too
 def digest(content):
     """The SHA-256 of bytes, in hexadecimal."""
     return hashlib.sha256(content).hexdigest()
-
-
-def line_of(document):
-    """The bytes of a document, which may be given as its bytes."""
-    if isinstance(document, bytes):
-        return document
-    return json.dumps(document, ensure_ascii=False, separators=(",", ":")).encode()
 
 
 class Part:
@@ -44,12 +37,6 @@ class Part:
     def is_plain(self):
         """Whether the bundle is a document, which can be changed."""
         return isinstance(self.bundle, dict) and isinstance(self.bundle.get("dsseEnvelope"), dict)
-
-
-def named(identity, issuer):
-    """The key object of an identity."""
-    return {"keytype": "sigstore-oidc", "scheme": "Fulcio",
-            "keyval": {"identity": identity, "issuer": issuer}}
 
 
 def of_case(dice, name):

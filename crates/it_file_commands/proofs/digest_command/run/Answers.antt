@@ -13,7 +13,7 @@ returns g c = record {
             files = w.in_ok-files.files.items;
             are_named = rw w.if-words.true
                 (rw c.as_slice-paths.ensures at w.in_ok-files.ensures);
-            are_lines = rw (w.as_slice.ensures.value, c.algorithm_asked_by.ensures) at told.1;
+            are_lines = rw (w.as_slice.ensures.value, c.algorithm_asked_by-algorithm.ensures) at told.1;
             status_is = refl;
           },
           rw w.out-is told.2,
@@ -24,7 +24,7 @@ returns g c = record {
           record {
             files = c.args.words.now.paths;
             are_named = rw w.if-words.false refl;
-            are_lines = rw (c.as_slice-paths.ensures, c.algorithm_asked_by.ensures) at told.1;
+            are_lines = rw (c.as_slice-paths.ensures, c.algorithm_asked_by-algorithm.ensures) at told.1;
             status_is = refl;
           },
           rw w.out-is told.2,

@@ -161,13 +161,16 @@ fn shown_statement(alloc: Global, words: &StatementWords) -> Result<String, Allo
 
 fn shown_digest(alloc: Global, words: &DigestWords) -> Result<String, AllocError> {
     let paths = joined(alloc, words.paths.as_slice())?;
-    let name = match (words.recursive, words.sha512) {
+    spaced(alloc, &[digest_name(words), paths.as_str()])
+}
+
+fn digest_name(words: &DigestWords) -> &'static str {
+    match (words.recursive, words.sha512) {
         (false, false) => "digest",
         (false, true) => "digest#",
         (true, false) => "below",
         (true, true) => "below#",
-    };
-    spaced(alloc, &[name, paths.as_str()])
+    }
 }
 
 fn shown_check(alloc: Global, words: &CheckWords) -> Result<String, AllocError> {

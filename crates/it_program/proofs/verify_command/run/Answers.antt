@@ -49,7 +49,7 @@ returns-clause-findings g c = λ is. elim c.told_spent.ensures [
         has_findings = rw c.in_ok-asked.ensures.form at told.2;
         goes_out = rw c.in_ok-asked.ensures.form at told.3;
       })
-  | inr spent ↦ cc (spent.1, is)
+  | inr spent ↦ absurd (never _ _ spent.1 is)
 ]
 
 pub returns-clause-lines : goal.returns-clause-lines

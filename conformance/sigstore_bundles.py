@@ -721,7 +721,7 @@ def certificate_cases():
     def ed25519(rng):
         return der(0x30, der(0x30, oid("1.3.101.112")), der(3, b"\x00", rng.randbytes(32)))
     off_curve.random = compressed.random = ed25519.random = True
-    simple("leaf-key-off-curve", form, leaf_info=off_curve)
+    simple("leaf-key-off-curve", "envelope-signature", leaf_info=off_curve)
     simple("leaf-key-compressed", form, leaf_info=compressed)
     simple("leaf-key-ed25519", form, leaf_info=ed25519)
 

@@ -13,14 +13,14 @@ import sigstore_verdict
 from sigstore_forms import Unfit, need
 from sigstore_logs import Root
 from sigstore_model import identity_of, read_line, vouched
-from sigstore_parts import BUILD_TYPE, FILES, Plain, digest
+from sigstore_parts import BUILD_TYPE, FILES, Plain, digests
 
 NO_ROOT = "itv: the trusted root root does not read: "
 
 
 def delivery(case):
     """The delivery of a case."""
-    return Plain(case.root, case.bundle + b"\n", case.asked(), digest(FILES["app"]),
+    return Plain(case.root, case.bundle + b"\n", case.asked(), digests(FILES["app"], "sha256"),
                  buildType=BUILD_TYPE, ignore=["workflow"])
 
 

@@ -15,6 +15,8 @@ import sys
 ITV = os.path.join(os.path.dirname(os.path.abspath(__file__)), "..", "crates", "itv", "out", "itv")
 TYPE = "application/vnd.in-toto+json"
 MOMENT = "2029-12-31T00:00:00Z"
+# The files that a delivery may be without.
+OPTIONAL = {"sums", "sums512", "trusted-root"}
 
 
 # Runs a command and writes its seconds, its peak memory in bytes and its status to a descriptor. It
@@ -164,10 +166,12 @@ class Delivery:
         self.write("provenance", "".join(line + "\n" for line in lines) + own)
 
     def words(self, *further):
-        """The command that verifies the delivery, by its trusted root if it has one."""
-        names = ["policy", "layout", "links", "sums", "provenance", "ring", "trusted-root"]
+        """The command that verifies the delivery, by the digest lists and the trusted root that it
+        has."""
+        names = ["policy", "layout", "links", "sums", "sums512", "provenance", "ring",
+                 "trusted-root"]
         options = [["--" + name, self.path(name)] for name in names
-                   if name != "trusted-root" or os.path.exists(self.path(name))]
+                   if name not in OPTIONAL or os.path.exists(self.path(name))]
         return [ITV, "verify", *sum(options, []), "--at", MOMENT, *further]
 
     def envelopes(self):

@@ -1,7 +1,8 @@
 #!/usr/bin/env python3
-"""Fails where a product file, a line or the body of a function is too long.
+"""Fails where a product file, a line or the body of a function is too long, or a private function
+has too many parameters.
 
-    shape.py           files, lines and bodies of src/ and specs/
+    shape.py           files, lines, bodies and parameters of src/ and specs/
     shape.py --proofs  the lines of proofs/ too, except those that name a goal and its answer
 
 A table that a script of conformance/ made may have any number of lines, and a line that is a number
@@ -16,6 +17,9 @@ import tree
 MOST_LINES = 250
 MOST_COLUMNS = 100
 MOST_BODY_LINES = 35
+MOST_PARAMETERS = 5
+# What checks of signatures are asked, in the form of their trait.
+OF_TRAIT = {"any_valid", "any_valid_in"}
 # A line of a proof with nothing but two names, both given by the check.
 ANSWER = re.compile(r"\s*(abbrev )?(pub )?\S+ : goal\.\S+$")
 # A line with nothing but a number, such as those of a curve.
@@ -23,6 +27,8 @@ NUMBER = re.compile(r"\s*\d+$")
 # The first line of a table that a script made.
 MADE = re.compile(r"//! .+, made by conformance/\w+\.$")
 FUNCTION = re.compile(r"( *)(?:pub(?:\([a-z]+\))? )?(?:unsafe )?(?:const )?fn (\w+)")
+# The head of a function that other crates do not see, up to its first parameter.
+PRIVATE = re.compile(r"^ *(?:pub\(crate\) )?fn (\w+)(?:<.*>)?\(", re.MULTILINE)
 
 
 def product_files(crate):
@@ -67,13 +73,38 @@ def long_bodies(path, lines):
                 yield f"{tree.name_of(path)}:{number + 1}: {told}"
 
 
+def parameters_at(text, place):
+    """How many parameters follow, up to the bracket that closes them."""
+    depth, count, begun = 1, 0, False
+    while depth:
+        here = text[place]
+        depth += (here in "([<") - (here in ")]" or here == ">" and text[place - 1] != "-")
+        if depth == 0 or depth == 1 and here == ",":
+            count, begun = count + begun, False
+        else:
+            begun = begun or not here.isspace()
+        place += 1
+    return count
+
+
+def many_parameters(path, text):
+    """The private functions that have too many parameters."""
+    for found in PRIVATE.finditer(text):
+        count = parameters_at(text, found.end())
+        if count > MOST_PARAMETERS and found[1] not in OF_TRAIT:
+            told = f"{found[1]} has {count} parameters, more than {MOST_PARAMETERS}"
+            yield f"{tree.name_of(path)}:{text.count(chr(10), 0, found.end()) + 1}: {told}"
+
+
 def file_faults(path):
     """Everything that is too long in a file."""
-    lines = path.read_text().splitlines()
+    text = path.read_text()
+    lines = text.splitlines()
     yield from long_file(path, lines)
     yield from long_lines(path, lines)
     if path.suffix == ".rt":
         yield from long_bodies(path, lines)
+        yield from many_parameters(path, text)
 
 
 def main():

@@ -37,17 +37,36 @@ MISSES = [
     ("certificate-base64", "its certificate has no bytes, or not in base64"),
     ("no-entry", "it has no entry of a transparency log"),
     ("many-entries", "it has more than 8 entries"),
-    ("certificate-form certificate-critical leaf-key leaf-usage leaf-purpose leaf-authority "
-     "leaf-name leaf-issuer",
-     "its certificate is not that of a signer: not read, or not of the form that is taken"),
-    ("entry-form entry-promise entry-kind entry-log entry-log-window entry-timestamp body-form "
-     "body-payload body-type body-signature body-certificate proof-missing proof-form proof-root "
-     "checkpoint-form checkpoint-root checkpoint-signature",
-     "no log of the trusted root vouches for an entry of it"),
-    ("leaf-time authority-name authority-window authority-time authority-signature sct-missing "
-     "sct-form sct-log sct-window sct-signature",
-     "no authority of the trusted root issued its certificate at the time of its entry, or no "
-     "certificate log promised to log it"),
+    ("certificate-form certificate-critical", "its certificate is not read"),
+    ("leaf-key", "its certificate has a key of another curve"),
+    ("leaf-usage", "its certificate is not for signatures"),
+    ("leaf-purpose", "its certificate is not for code signing"),
+    ("leaf-authority", "its certificate is that of an authority"),
+    ("leaf-name", "its certificate does not have exactly one name of a URI, an address or "
+     "Fulcio's own kind"),
+    ("leaf-issuer", "its certificate does not name one issuer"),
+    ("entry-form entry-promise proof-form",
+     "its entry has a member that is missing or of another form"),
+    ("entry-log", "its entry is of a log that the trusted root does not have"),
+    ("entry-log-window", "its entry's time is outside the time of that log"),
+    ("entry-kind", "its entry is of another kind than dsse 0.0.1 and intoto 0.0.2"),
+    ("body-form body-payload body-type body-signature body-certificate",
+     "its entry is about another signature, or does not read"),
+    ("proof-missing", "its entry has no inclusion proof"),
+    ("proof-root", "its inclusion proof does not lead to its root"),
+    ("checkpoint-form checkpoint-root checkpoint-signature",
+     "the log did not sign the checkpoint"),
+    ("entry-timestamp", "the log did not sign its entry's time"),
+    ("authority-name", "no authority of the trusted root has the name of the certificate's issuer"),
+    ("authority-window", "that authority did not count at the time of its entry"),
+    ("leaf-time", "the certificate was not valid at the time of its entry"),
+    ("authority-time", "a certificate of that authority was not valid at the time of its entry"),
+    ("authority-signature", "that authority did not sign the certificate"),
+    ("sct-missing", "the certificate has no timestamp of a certificate log"),
+    ("sct-form", "its timestamps do not read"),
+    ("sct-log", "its timestamps are of logs that the trusted root does not have"),
+    ("sct-window", "its timestamp is outside the time of that log"),
+    ("sct-signature", "that log did not sign the certificate's timestamp"),
     ("envelope-signature", "the certificate's key did not sign the envelope"),
 ]
 # What it says of some cases: a list has no members, and a chain of none has no first certificate.
@@ -80,6 +99,8 @@ def misses(name, condition, bundle):
     another identity."""
     if name in SAID:
         return SAID[name]
+    if condition == "sct-form" and name.startswith("timestamp-"):
+        condition = "sct-log"  # the list reads, and what is no timestamp is one of no log
     if condition == "one-signature":
         count = len(bundle["dsseEnvelope"]["signatures"])
         return f"its envelope has {count} signatures, and a bundle's must have one"

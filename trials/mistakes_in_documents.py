@@ -118,6 +118,19 @@ def unnamed(release):
     return envelope
 
 
+def identity(name, issuer):
+    """The key object of an identity."""
+    return {"keytype": "sigstore-oidc", "scheme": "Fulcio",
+            "keyval": {"identity": name, "issuer": issuer}}
+
+
+def owner_by_identity(release):
+    """An owner is an identity, which signs lines of the provenance alone."""
+    release.policy(put("owners", "security", identity("https://ci.example/release",
+                                                      "https://issuer.example")))
+    return ["itv", "check", "--policy", "policy.json"]
+
+
 def two_builders(document):
     """One key as a builder of level 2 and as another of level 3."""
     builders = document["expectations"][0]["builders"]
@@ -195,6 +208,9 @@ def silent():
         Mistake("one key is two owners", twin, 2, ("owner", "security", "same key")),
         policy(two_builders, 2, "https://ci.example/hardened", "same key",
                name="one key is two builders"),
+        policy(put("expectations", 0, "builders", 0, "keys", "release",
+                   identity("https://ci.example/release", "")), 2, "incomplete-identity",
+               "release", name="an identity without its issuer"),
         policy(put("owners", "owner", "keyval", "private", "a secret"), 2, "private",
                name="a private key in the policy"),
     ]
@@ -227,6 +243,7 @@ def refused():
         policy(renamed("owner", "owners"), 1, '"owner"', 'did you mean "owners"', "missing",
                name="owner for owners"),
         policy(put("owners", "owner", "a text"), 1, "owners", name="an owner that is a text"),
+        Mistake("an owner is an identity", owner_by_identity, 1, ("identity-key", "security")),
         policy(put("expectations", 0, "files", "dist/*"), 1, "60 NoExpectation", "dist/*",
                name="expectations of other files"),
         policy(put("expectations", 0, "buildType", "https://ci.example/make/"), 1,

@@ -10,7 +10,7 @@ import tempfile
 import answered
 import sigstore_notes
 import sigstore_verdict
-from sigstore_forms import Unfit, need
+from sigstore_forms import Unfit
 from sigstore_logs import Root
 from sigstore_model import identity_of, read_line, vouched
 from sigstore_parts import BUILD_TYPE, FILES, Plain, digests
@@ -24,14 +24,15 @@ def delivery(case):
                  buildType=BUILD_TYPE, ignore=["workflow"])
 
 
-def vouches(case):
-    """Whether the bundle vouches for what is asked for, by the model."""
+def judged(case):
+    """Whom the bundle vouches for, by the model, or the notes that it vouches for nobody."""
+    _, bundle = read_line(case.bundle)
+    if bundle is None:
+        return None, []
     try:
-        _, bundle = read_line(case.bundle)
-        need(bundle, "no bundle")
-        return vouched(bundle, Root(case.root)) == identity_of(case.asked())
-    except Unfit:
-        return False
+        return vouched(bundle, Root(case.root)), []
+    except Unfit as fault:
+        return None, [f"{sigstore_notes.FRONT}{fault}"]
 
 
 def noted(said):
@@ -43,7 +44,8 @@ def noted(said):
 def faults(case):
     """What of a case is not as its condition has it."""
     made, is_root = delivery(case), case.condition != "root"
-    if vouches(case) != (case.condition is None):
+    found, missed = judged(case) if is_root else (None, [])
+    if (found == identity_of(case.asked()) and found is not None) != (case.condition is None):
         yield "the model has another answer"
     with tempfile.TemporaryDirectory() as name:
         folder = pathlib.Path(name)
@@ -54,6 +56,8 @@ def faults(case):
     if [tuple(given), as_json] != wanted:
         yield f"{[tuple(given), as_json]} in place of {wanted}"
     notes = sigstore_notes.notes(case.name, case.condition, case.bundle) if is_root else []
+    if missed != [note for note in notes if note.startswith(sigstore_notes.FRONT)]:
+        yield f"the model misses {missed} in place of {notes}"
     if noted(said) != notes:
         yield f"the notes {noted(said)} in place of {notes}"
     if not is_root and not said.startswith(NO_ROOT):

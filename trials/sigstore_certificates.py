@@ -6,7 +6,7 @@ from typing import NamedTuple
 
 from sigstore_der import (P256, P384, content_of, curve_of, element, elements, identifier,
                           is_valid)
-from sigstore_forms import Unfit, need, seconds_of
+from sigstore_forms import Unfit, need, saying, seconds_of
 
 # The element of each algorithm, and the curve of the keys that sign by it.
 ALGORITHMS = {bytes.fromhex("300a06082a8648ce3d040302"): P256,
@@ -176,16 +176,19 @@ def issuer_in(values):
 
 
 class Leaf(Certificate):
-    """A leaf, with the bytes of its name and of its issuer's."""
+    """A leaf, with the bytes of its name and of its issuer's. Where it is none, Unfit says what it
+    misses first, in the words of docs/sigstore.md.
+    """
 
     def __init__(self, content):
-        super().__init__(content)
-        need(self.curve == P256, "a leaf with a key that is not of P-256")
-        need(self.has_usage(SIGNS), "a leaf without key usage for signatures")
-        need(CODE_SIGNING in (self.purposes or ()), "a leaf without the purpose of code signing")
-        need(not self.is_authority(), "a leaf that is an authority's")
-        need(NAME in self.values, "a leaf without a name")
-        self.name, self.who_says = name_in(self.values[NAME]), issuer_in(self.values)
+        saying("its certificate is not read", super().__init__, content)
+        need(self.curve == P256, "its certificate has a key of another curve")
+        need(self.has_usage(SIGNS), "its certificate is not for signatures")
+        need(CODE_SIGNING in (self.purposes or ()), "its certificate is not for code signing")
+        need(not self.is_authority(), "its certificate is that of an authority")
+        self.name = saying("its certificate does not have exactly one name of a URI, an address or "
+                           "Fulcio's own kind", name_in, self.values.get(NAME, b""))
+        self.who_says = saying("its certificate does not name one issuer", issuer_in, self.values)
 
 
 def usable(contents):
@@ -215,10 +218,9 @@ class Timestamp:
         self.sig, rest = counted(rest[2:])
         need(not rest, "bytes after a timestamp")
 
-    def is_by(self, log, signed):
-        """Whether it is one of a log, of what the function gives for it."""
-        return (self.log == log.id and log.window.holds(self.moment * 10**6)
-                and is_valid(log.info, signed(self), self.sig))
+    def is_in_window(self, log):
+        """Whether its moment lies in the window of a log."""
+        return log.window.holds(self.moment * 10**6)
 
 
 def counted(data):
@@ -252,14 +254,23 @@ def signed_by_log(leaf, info, timestamp):
             + len(timestamp.extensions).to_bytes(2, "big") + timestamp.extensions)
 
 
-def is_logged(leaf, info, logs):
-    """Whether a leaf, whose issuer has the key of this encoding, is logged by one of the logs."""
-    need(TIMESTAMPS in leaf.values, "no timestamps")
-    for item in items_in(leaf.values[TIMESTAMPS]):
+def timestamps_in(items):
+    """The timestamps among items; one that is none says nothing of the others."""
+    for item in items:
         try:
-            timestamp = Timestamp(item)
+            yield Timestamp(item)
         except Unfit:
             continue
-        if any(timestamp.is_by(log, lambda one: signed_by_log(leaf, info, one)) for log in logs):
-            return True
-    return False
+
+
+def check_logged(leaf, info, logs):
+    """Raises Unfit where a leaf, whose issuer has the key of this encoding, is logged by none of the
+    logs."""
+    need(TIMESTAMPS in leaf.values, "the certificate has no timestamp of a certificate log")
+    items = saying("its timestamps do not read", items_in, leaf.values[TIMESTAMPS])
+    found = [(one, log) for one in timestamps_in(items) for log in logs if one.log == log.id]
+    need(found, "its timestamps are of logs that the trusted root does not have")
+    found = [(one, log) for one, log in found if one.is_in_window(log)]
+    need(found, "its timestamp is outside the time of that log")
+    need(any(is_valid(log.info, signed_by_log(leaf, info, one), one.sig) for one, log in found),
+         "that log did not sign the certificate's timestamp")

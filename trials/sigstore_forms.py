@@ -26,6 +26,14 @@ def need(holds, said):
         raise Unfit(said)
 
 
+def saying(said, read, *given):
+    """What a function reads of what is given; where that is not as a page says, this is said."""
+    try:
+        return read(*given)
+    except Unfit:
+        raise Unfit(said) from None
+
+
 def levels(text):
     """How many levels a JSON text nests."""
     level = most = 0

@@ -8,12 +8,15 @@ from typing import NamedTuple
 from sigstore_certificates import usable
 from sigstore_der import P256, curve_of, is_valid, key_of
 from sigstore_forms import (Unfit, bytes_at, bytes_in, document, list_at, list_or_empty, member,
-                            nanoseconds_at, need, number_at, object_at, of_type, standard_bytes_in,
-                            text_at, utf8)
+                            nanoseconds_at, need, number_at, object_at, of_type, saying,
+                            standard_bytes_in, text_at, utf8)
 
 ROOT_TYPES = ["application/vnd.dev.sigstore.trustedroot+json;version=0.1",
               "application/vnd.dev.sigstore.trustedroot.v0.1+json"]
 MOST_LISTED, MOST_CERTIFICATES, MOST_HASHES, MOST_SIGNATURE_LINES = 64, 8, 63, 8
+# What is said where no log that is used has an entry's id, and no authority the issuer's name.
+OF_NO_LOG = "its entry is of a log that the trusted root does not have"
+OF_NOBODY = "no authority of the trusted root has the name of the certificate's issuer"
 # What each kind of entry is called, and its version.
 DSSE, INTOTO = ("dsse", "0.0.1"), ("intoto", "0.0.2")
 
@@ -61,12 +64,16 @@ class Authority(NamedTuple):
     certificates: list
     window: Window
 
-    def issued(self, leaf, moment):
-        """Whether it issued a leaf at a moment in seconds."""
-        return (leaf.issuer == self.certificates[0].subject
-                and leaf.is_signed_by(self.certificates[0].info)
-                and self.window.holds(moment * 10**9)
-                and all(one.is_valid_at(moment) for one in [leaf, *self.certificates]))
+    def check(self, leaf, moment):
+        """Raises Unfit where it did not issue a leaf at a moment in seconds."""
+        need(leaf.issuer == self.certificates[0].subject, OF_NOBODY)
+        need(self.window.holds(moment * 10**9),
+             "that authority did not count at the time of its entry")
+        need(leaf.is_valid_at(moment), "the certificate was not valid at the time of its entry")
+        need(all(one.is_valid_at(moment) for one in self.certificates),
+             "a certificate of that authority was not valid at the time of its entry")
+        need(leaf.is_signed_by(self.certificates[0].info),
+             "that authority did not sign the certificate")
 
 
 def authority_in(value):
@@ -123,9 +130,14 @@ class Proof:
 
     def check(self, body, log):
         """Raises Unfit where it does not hold for a body, by the key of a log."""
+        saying("its inclusion proof does not lead to its root", self.check_hashes, body)
+        saying("the log did not sign the checkpoint", check_checkpoint, self.note, self.size,
+               self.root, log)
+
+    def check_hashes(self, body):
+        """Raises Unfit where the hashes do not lead to the root hash."""
         leaf = hashlib.sha256(b"\0" + body).digest()
         need(root_hash(self.index, self.size, leaf, self.hashes) == self.root, "another root hash")
-        check_checkpoint(self.note, self.size, self.root, log)
 
 
 def hash_in(text):
@@ -193,27 +205,22 @@ class Entry:
         self.proof = None if proof is None else Proof(of_type(proof, dict, "inclusionProof"))
         self.body = bytes_at(value, "canonicalizedBody")
 
-    def check(self, signed, logs):
-        """Raises Unfit where it does not vouch, by one of the logs, for what must be signed."""
-        self.check_body(signed)
-        fault = Unfit("an entry of a log that is not trusted")
-        for log in logs:
-            try:
-                return self.check_by(log)
-            except Unfit as found:
-                fault = found if log.id == self.log else fault
-        raise fault
-
-    def check_by(self, log):
-        """Raises Unfit where it does not vouch by a log."""
-        need(self.log == log.id, "an entry of another log")
-        need(log.window.holds(self.moment * 10**9), "an entry outside the window of its log")
+    def check(self, signed, needs_proof, log):
+        """Raises Unfit where it does not vouch, by a log, for what must be signed."""
+        need(self.log == log.id, OF_NO_LOG)
+        need(log.window.holds(self.moment * 10**9),
+             "its entry's time is outside the time of that log")
+        need(self.kind in (DSSE, INTOTO),
+             "its entry is of another kind than dsse 0.0.1 and intoto 0.0.2")
+        saying("its entry is about another signature, or does not read", self.check_body, signed)
+        if self.proof is not None:
+            self.proof.check(self.body, log)
+        need(self.proof is not None or not needs_proof, "its entry has no inclusion proof")
         promised = (f'{{"body":"{base64.b64encode(self.body).decode()}",'
                     f'"integratedTime":{self.moment},"logID":"{self.log.hex()}",'
                     f'"logIndex":{self.index}}}')
-        need(is_valid(log.info, promised.encode(), self.promise), "a promise that does not hold")
-        if self.proof is not None:
-            self.proof.check(self.body, log)
+        need(is_valid(log.info, promised.encode(), self.promise),
+             "the log did not sign its entry's time")
 
     def check_body(self, signed):
         """Raises Unfit where its body does not agree with what must be signed."""
@@ -221,7 +228,6 @@ class Entry:
         need((text_at(whole, "kind"), text_at(whole, "apiVersion")) == self.kind,
              "a body of another kind")
         spec = object_at(whole, "spec")
-        need(self.kind in (DSSE, INTOTO), "a kind of entry that is not read")
         if self.kind == DSSE:
             held, listed, names = spec, spec, ("signature", "verifier")
         else:

@@ -1,22 +1,36 @@
 """Whom a Sigstore bundle vouches for, in plain Python.
 
 Written from docs/sigstore.md, docs/formats.md and docs/keys.md: it shares nothing with the program.
-Where a bundle vouches for nobody, Unfit says why.
+Where a bundle vouches for nobody, Unfit says which condition it misses, in the words of the first.
 """
 
+import pathlib
+import re
 from typing import NamedTuple
 
-from sigstore_certificates import Leaf, is_logged
+from sigstore_certificates import Leaf, check_logged
 from sigstore_der import is_valid
 from sigstore_forms import (Unfit, bytes_at, document, list_at, member, need, object_at, of_type,
-                            text_at)
-from sigstore_logs import Entry, Signed
+                            saying, text_at)
+from sigstore_logs import OF_NO_LOG, OF_NOBODY, Entry, Signed
 
 VERSIONS = {"application/vnd.dev.sigstore.bundle+json;version=0.1": 1,
             "application/vnd.dev.sigstore.bundle+json;version=0.2": 2,
             "application/vnd.dev.sigstore.bundle+json;version=0.3": 3,
             "application/vnd.dev.sigstore.bundle.v0.3+json": 3}
 MOST_ENTRIES, MOST_BYTES = 8, 512
+PAGE = pathlib.Path(__file__).resolve().parent.parent / "docs" / "sigstore.md"
+UNREADABLE = "its entry has a member that is missing or of another form"
+
+
+def conditions():
+    """What a bundle can miss, in the order and the words of the page."""
+    _, _, section = PAGE.read_text().partition("### What a bundle misses")
+    rows = section.partition("|---|---|")[2].partition("\n\n")[0]
+    return re.findall(r"`([^`]+)`", rows)
+
+
+ORDER = conditions()
 
 
 class Identity(NamedTuple):
@@ -73,22 +87,32 @@ class Bundle:
 
     def certificate(self):
         """The bytes of the certificate of who signed."""
-        need(member(self.material, "publicKey") is None, "a public key")
+        need(member(self.material, "publicKey") is None,
+             "it is signed by a public key, not by a certificate")
         alone, chain = (member(self.material, name)
                         for name in ("certificate", "x509CertificateChain"))
-        need((alone is None) != (chain is None), "no certificate, or two forms of it")
-        if chain is not None:
-            need(self.version < 3, "a chain in version 3")
-            listed = list_at(chain, "certificates")
-            need(listed, "an empty chain")
-            alone = listed[0]
-        return bytes_at(of_type(alone, dict, "certificate"), "rawBytes")
+        need(alone is not None or chain is not None, "it has no certificate")
+        need(alone is None or chain is None, "it has both a certificate and a chain")
+        need(chain is None or self.version < 3,
+             "bundles of version 0.3 have one certificate, not a chain")
+        return saying("its certificate has no bytes, or not in base64", raw_bytes, alone, chain)
 
     def entries(self):
         """The elements that are to be entries of a transparency log."""
-        listed = list_at(self.material, "tlogEntries")
-        need(1 <= len(listed) <= MOST_ENTRIES, "no entry, or too many")
+        none = "it has no entry of a transparency log"
+        listed = saying(none, list_at, self.material, "tlogEntries")
+        need(listed, none)
+        need(len(listed) <= MOST_ENTRIES, f"it has more than {MOST_ENTRIES} entries")
         return listed
+
+
+def raw_bytes(alone, chain):
+    """The bytes of a certificate, or of the first of a chain."""
+    if chain is not None:
+        listed = list_at(chain, "certificates")
+        need(listed, "an empty chain")
+        alone = listed[0]
+    return bytes_at(of_type(alone, dict, "certificate"), "rawBytes")
 
 
 def read_line(line):
@@ -111,38 +135,45 @@ def read_line(line):
 def vouched(bundle, root):
     """The identity that a bundle vouches for by a trusted root."""
     envelope = bundle.envelope
-    need(len(envelope.signatures) == 1, "not one signature")
-    content = bundle.certificate()
+    count = len(envelope.signatures)
+    need(count == 1, f"its envelope has {count} signatures, and a bundle's must have one")
+    need(bundle.material is not None, "it has no verificationMaterial")
+    content, listed = bundle.certificate(), bundle.entries()
     leaf = Leaf(content)
-    found = identity(leaf.name, leaf.who_says)
+    found = saying("its certificate's name or issuer is empty or has more than 512 bytes",
+                   identity, leaf.name, leaf.who_says)
     signed = Signed(envelope.payload, envelope.kind, envelope.signatures[0].sig, content)
-    fault = None
-    for value in bundle.entries():
-        try:
-            check_issued(leaf, moment_of(value, bundle.version, signed, root), root)
-            break
-        except Unfit as no:
-            fault = no
-    else:
-        raise fault
-    need(is_valid(leaf.info, envelope.message, signed.sig), "a signature that is not the leaf's")
+    check_one(UNREADABLE, listed, lambda value: check_entry(value, bundle, signed, leaf, root))
+    need(is_valid(leaf.info, envelope.message, signed.sig),
+         "the certificate's key did not sign the envelope")
     return found
 
 
-def moment_of(value, version, signed, root):
-    """The moment of an element that is an entry and vouches for what must be signed."""
-    entry = Entry(of_type(value, dict, "entry"))
-    need(version == 1 or entry.proof is not None, "an entry without a proof")
-    entry.check(signed, root.logs)
-    return entry.moment
+def check_one(least, given, check):
+    """Raises Unfit where none of what is given passes a check: with the furthest condition that one
+    of them misses, or with the least."""
+    missed = [least]
+    for one in given:
+        try:
+            return check(one)
+        except Unfit as fault:
+            missed.append(str(fault))
+    raise Unfit(max(missed, key=ORDER.index))
 
 
-def check_issued(leaf, moment, root):
-    """Raises Unfit where no authority issued a leaf at a moment, or it is not logged as its."""
-    issued = [one for one in root.authorities if one.issued(leaf, moment)]
-    need(issued, "no authority issued the leaf at the moment of the entry")
-    need(any(is_logged(leaf, one.certificates[0].info, root.certificate_logs) for one in issued),
-         "a leaf that is not logged")
+def check_entry(value, bundle, signed, leaf, root):
+    """Raises Unfit where an element is no entry by which a log vouches for what must be signed, or
+    the leaf was not issued and logged at its moment."""
+    entry = saying(UNREADABLE, lambda: Entry(of_type(value, dict, "entry")))
+    check_one(OF_NO_LOG, root.logs, lambda log: entry.check(signed, bundle.version > 1, log))
+    check_one(OF_NOBODY, root.authorities,
+              lambda authority: check_issued(leaf, entry.moment, authority, root))
+
+
+def check_issued(leaf, moment, authority, root):
+    """Raises Unfit where an authority did not issue a leaf at a moment, or it is not logged as its."""
+    authority.check(leaf, moment)
+    check_logged(leaf, authority.certificates[0].info, root.certificate_logs)
 
 
 class Vouched(NamedTuple):

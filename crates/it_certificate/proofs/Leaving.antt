@@ -1,11 +1,31 @@
 -- Leaves, by their certificates.
-use Rattle.std.proofs.Common.{ℕ, List, subst}
+use Rattle.std.proofs.Common.{ℕ, List, refl, subst, inl, inr}
 use Rattle.it_certificate.specs.Certificate.{CertificateOf, Facts}
 use Rattle.it_certificate.specs.Leaf.{IsLeaf, LeafOf}
+use Rattle.it_certificate.specs.LeafMisses.{CertificateMisses, IsNoLeaf, LeafMisses}
+use Rattle.it_certificate.specs.declared.leaf_shortfall.LeafShortfall.{LeafShortfall}
+use Rattle.it_certificate.specs.declared.leaf_shortfall.LeafShortfall.TheVariants as shortfalls
 use Rattle.it_certificate.proofs.OneFacts.{one_facts}
 
--- a certificate that is no leaf
-pub no_leaf : (bytes : List ℕ) (read : Facts) → CertificateOf bytes read → ((name issuer : List ℕ) → IsLeaf read name issuer → ⊥)
-    → (f : Facts) (name issuer : List ℕ) → LeafOf bytes f name issuer → ⊥
-no_leaf bytes read is none f name issuer leaf =
-    none name issuer (subst (λ (g : Facts). IsLeaf g name issuer) (one_facts bytes f read leaf.certificate is) leaf.leaf)
+-- a certificate that misses a condition is no leaf
+misses_leaf : (f : Facts) (missed : LeafShortfall) → CertificateMisses f missed → (name issuer : List ℕ) → IsLeaf f name issuer → ⊥
+misses_leaf f shortfalls.Form m name issuer is = m
+misses_leaf f shortfalls.Key m name issuer is = m is.signs_code.curve
+misses_leaf f shortfalls.Usage m name issuer is = m.1 is.signs_code.signs
+misses_leaf f shortfalls.Purpose m name issuer is = m.2 is.signs_code.for_code
+misses_leaf f shortfalls.Authority m name issuer is = m.3 is.signs_code.no_authority
+misses_leaf f shortfalls.Name m name issuer is = m.1 name is.name_is
+misses_leaf f shortfalls.Issuer m name issuer is = m.2 issuer is.issuer_is
+
+pub no_leaf : (bytes : List ℕ) (read : Facts) (missed : LeafShortfall) → CertificateOf bytes read → CertificateMisses read missed
+    → IsNoLeaf bytes × LeafMisses bytes missed
+no_leaf bytes read missed is m = (
+  λ f name issuer leaf.
+      misses_leaf read missed m name issuer
+      (subst (λ (g : Facts). IsLeaf g name issuer) (one_facts bytes f read leaf.certificate is) leaf.leaf),
+  inr (read, is, m),
+)
+
+-- bytes that are no certificate
+pub no_certificate : (bytes : List ℕ) → ((f : Facts) → CertificateOf bytes f → ⊥) → IsNoLeaf bytes × LeafMisses bytes shortfalls.Form
+no_certificate bytes none = (λ f name issuer leaf. none f leaf.certificate, inl (refl, none))

@@ -18,5 +18,6 @@ pub mod Permitted
 pub mod Allowed
 pub mod Certificate
 pub mod Leaf
+pub mod LeafMisses
 pub mod Authority
 pub mod Laws

@@ -2,8 +2,10 @@
 //! leaves that name who signed, and the certificates of authorities.
 //!
 //! ```
-//! let Some(leaf) = read_leaf(alloc, bytes)? else { .. };
-//! let name = leaf.identity.name;
+//! match read_leaf(alloc, bytes)? {
+//!     Ok(leaf) => .. leaf.identity.name ..,
+//!     Err(missed) => ..,
+//! }
 //! ```
 #![tactic(auto)]
 
@@ -21,6 +23,7 @@ mod issuer;
 mod known;
 pub mod laws;
 mod leaf;
+mod leaf_shortfall;
 mod name;
 mod outer;
 mod parts;
@@ -42,6 +45,7 @@ pub use extensions::read_extensions;
 pub use identifiers::TIMESTAMPS;
 pub use known::Known;
 pub use leaf::{Identity, Leaf, read_leaf};
+pub use leaf_shortfall::LeafShortfall;
 pub use parts::{CertificateParts, read_parts};
 pub use purposes::Purposes;
 pub use subject_key::{Curve, SubjectKey};

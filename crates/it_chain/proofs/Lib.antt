@@ -31,6 +31,7 @@ pub mod Orders
 pub mod Others
 pub mod Outcomes
 pub mod Records
+pub mod Reused
 pub mod Sides
 pub mod SignerLists
 pub mod SignerWalks

@@ -18,17 +18,10 @@ least_first None = 0
 least_first (Some first) = 1
 
 module _ (panel : Panel) (step id : List ℕ) (object : KeyObject) where
-  -- an envelope that counts, and none with another payload
-  pub record IsFirst (envelopes : List Envelope) (first : FoundBody) : Type 0 where
-    pub is : IsSigned panel step id object envelopes first.envelope.now first.key first.body
-    pub alone : (other : Envelope) (k : KeyNumber) (b : Held)
-        → IsSigned panel step id object envelopes other k b
-        → first.envelope.now.payload ≡ other.payload
-
   abbrev pub SoFar : List Envelope → Option FoundBody → Type 0
   SoFar envelopes None = (envelope : Envelope) (key : KeyNumber) (body : Held)
       → ¬ IsSigned panel step id object envelopes envelope key body
-  SoFar envelopes (Some first) = IsFirst envelopes first
+  SoFar envelopes (Some first) = CountsOne panel step id object envelopes first
 
   pub none_so_far : SoFar [] None
   none_so_far envelope key body h = in_none envelope h.stands
@@ -118,12 +111,4 @@ module _ (panel : Panel) (step id : List ℕ) (object : KeyObject) where
     one_is = first_is;
     other_is = other_is;
     differ = differ;
-  }
-
-  pub one_of : (envelopes : List Envelope) (first : FoundBody) → SoFar envelopes (Some first)
-      → CountsOne panel step id object envelopes first.key first.body
-  one_of envelopes first h = record {
-    envelope = first.envelope.now;
-    is = h.is;
-    alone = h.alone;
   }

@@ -37,6 +37,7 @@ use Rattle.it_chain.specs.declared.body.Body.{Body as Held}
 use Rattle.it_chain.specs.declared.body.Body.TheVariants.{Link as held_link}
 use Rattle.it_chain.specs.declared.body.Body.TheVariants.{Layout as held_layout}
 use Rattle.it_chain.specs.declared.chain.Chain.{Chain as ChainOf}
+use Rattle.it_chain.specs.declared.counted_bodies.FoundBody.{FoundBody}
 use Rattle.it_chain.specs.declared.chain.StepResult.{StepResult}
 use Rattle.it_chain.specs.declared.record.IdRecord.{IdRecord}
 use Rattle.it_chain.specs.declared.refusal.ChainError.{ChainError}
@@ -287,13 +288,13 @@ module _ (sub : Holding) (fails : Failing) (setting : Setting) (layout : Layout)
     differ = two.differ;
   }
 
-  pub one_counts : (key : KeyNumber) (body : Held)
-      → CountsOne setting.panel step.name id object candidates key body
-      → OneBody sub setting layout bundle step id key (as_body body)
+  pub one_counts : (found : FoundBody)
+      → CountsOne setting.panel step.name id object candidates found
+      → OneBody sub setting layout bundle step id found.key (as_body found.body)
   unfolding counted_of
-  one_counts key body one = record {
-    payload = one.envelope.payload;
-    counted = counted_of one.envelope key body one.is;
+  one_counts found one = record {
+    payload = found.envelope.now.payload;
+    counted = counted_of found.envelope.now found.key found.body one.is;
     key_is = refl;
     reads = one.is.signed.1;
     alone = λ other c. one.alone c.envelope c.key (as_held c.body) (candidate_of other c)

@@ -1,4 +1,5 @@
 pub mod Agreement
+pub mod Answered
 pub mod Asked
 pub mod Below
 pub mod Candidates

@@ -15,7 +15,7 @@ use crate::checking::Checking;
 use crate::claimed_files::Claims;
 use crate::expiry::is_expired;
 use crate::fault::refused;
-use crate::id_records::verify_ids;
+use crate::id_records::{StepAt, verify_ids};
 use crate::judged::JudgedChain;
 use crate::refusal::{ChainError, ChainFault};
 use crate::signers::signers;
@@ -103,10 +103,10 @@ fn verify_steps<C: Checking>(
 
 /// The record of a step.
 #[cycle(level)]
-fn verify_step<C: Checking>(
-    walk: &Walk<C>,
+fn verify_step<'a, C: Checking>(
+    walk: &Walk<'a, C>,
     claims: &Claims,
-    step: &Step,
+    step: &'a Step,
     meter: &mut Meter,
 ) -> Result<StepResult, ChainError>
     requires shallow { walk.now.level.depth ≤ 8 }
@@ -121,6 +121,7 @@ fn verify_step<C: Checking>(
     let found = Candidates::at(alloc, walk.level.links.files(), claims.places(name))?;
     let signers = signers(alloc, walk.level.layout, step)?;
     let signers = signers.as_slice();
-    let records = verify_ids(walk, step, signers, &found, meter)?;
+    let at = StepAt { step, found };
+    let records = verify_ids(walk, &at, signers, meter)?;
     judged(alloc, step, records)
 }

@@ -1,10 +1,14 @@
 //! Sublayouts: how deep they may be nested, what they may not ask for, and where their files are.
 ghost use Rattle.std.specs.Prelude.{◌≡◌, ◌≤◌, ◌↔◌, IfOk, IsTrue, string_bytes};
 ghost use Rattle.it_chain.specs.Sublayouts.{first_characters, folder_name as folder_name_of};
+ghost use Rattle.it_chain.specs.inside.Answered.{AreAnswers};
 ghost use Rattle.it_chain.specs.inside.Asked.{Asks};
+ghost use Rattle.it_chain.specs.inside.Candidates.{IsBody};
 ghost use Rattle.it_chain.specs.inside.Scope.{BodyAnswers, BodyCost, BodyTakes, scope_of};
 ghost use Rattle.it_chain.specs.inside.Scope.{SublayoutAnswers, SublayoutCost, SublayoutTakes};
+ghost use Rattle.it_chain.specs.inside.Sublayouts.{IsSummarized};
 
+use crate::answered::{Answer, AnsweredSublayouts, raise_by};
 use crate::body::Body;
 use crate::bundle::Bundle;
 use crate::chain::Chain;
@@ -19,21 +23,37 @@ use it_docs::layout::Layout;
 use it_dsse::meter::Meter;
 use std::alloc::{AllocError, Global};
 
-/// The artifacts that the body of a key id records.
+/// Where a body counts: for a step, under a key id, in a payload.
+#[derive(Drop)]
+pub(crate) struct BodyAt<'a> {
+    /// The name of the step.
+    pub step: &'a str,
+    /// The key id.
+    pub id: &'a str,
+    /// The payload that the body was read from.
+    pub payload: &'a [u8],
+}
+
+/// The artifacts that the body of a key id records. A sublayout that was answered over the same
+/// folder is not verified again.
 #[cycle(level)]
-pub(crate) fn verify_body<C: Checking>(
+pub(crate) fn verify_body<'a, C: Checking>(
     walk: &Walk<C>,
-    step: &str,
-    id: &str,
+    at: &BodyAt<'a>,
     body: Body,
+    answered: &mut AnsweredSublayouts<'a>,
     meter: &mut Meter,
 ) -> Result<Recorded, ChainError>
     requires shallow { walk.now.level.depth ≤ 8 }
-    ensures answer { BodyAnswers (scope_of C.setting walk.now) step.now id.now body result }
-    ensures asked { Asks (λ _. 0) (BodyCost (scope_of C.setting walk.now) step.now id.now body)
-        meter.old meter.new result }
-    ensures fewest { IfOk result (λ _. BodyTakes (scope_of C.setting walk.now) step.now id.now body
-        meter.old meter.new) }
+    requires reads { IsBody at.now.step.now at.now.payload.now body }
+    requires answers { AreAnswers (scope_of C.setting walk.now) answered.old }
+    ensures answer { BodyAnswers (scope_of C.setting walk.now) at.now.step.now at.now.id.now body
+        result }
+    ensures asked { Asks (λ _. 0) (BodyCost (scope_of C.setting walk.now) at.now.step.now
+        at.now.id.now body) meter.old meter.new result }
+    ensures fewest { IfOk result (λ _. BodyTakes (scope_of C.setting walk.now) at.now.step.now
+        at.now.id.now body meter.old meter.new) }
+    ensures answers { IfOk result (λ _. AreAnswers (scope_of C.setting walk.now) answered.new) }
 {
     match body {
         Body::Link(link) => Ok(Recorded {
@@ -42,11 +62,36 @@ pub(crate) fn verify_body<C: Checking>(
         }),
         Body::Layout(sublayout) => {
             let alloc = walk.alloc;
-            match verify_sublayout(walk, step, id, &sublayout, meter) {
-                Ok(chain) => Ok(summary_of(alloc, chain.steps.into_vec())),
-                Err(error) => Err(under(alloc, step, id, error)),
+            let folder = folder_name(alloc, at.step, at.id)?;
+            if let Some(recorded) = answered.recall(alloc, folder.as_str(), at.payload, meter)? {
+                return Ok(recorded);
             }
+            let mut asked = Meter { asked: 0 };
+            let chain = verify_sublayout(walk, at.step, at.id, &sublayout, &mut asked);
+            raise_by(meter, asked);
+            let recorded = summarized(alloc, at.step, at.id, chain)?;
+            let answer = Answer {
+                recorded: recorded.copy(alloc)?,
+                asked,
+            };
+            answered.keep(folder, at.payload, answer)?;
+            Ok(recorded)
         }
+    }
+}
+
+/// What a sublayout gives the step that it was signed for under a key id, or its error.
+fn summarized(
+    alloc: Global,
+    step: &str,
+    id: &str,
+    chain: Result<Chain, ChainError>,
+) -> Result<Recorded, ChainError>
+    ensures { IsSummarized step.now id.now chain result }
+{
+    match chain {
+        Ok(chain) => Ok(summary_of(alloc, chain.steps.into_vec())),
+        Err(error) => Err(under(alloc, step, id, error)),
     }
 }
 

@@ -33,5 +33,7 @@ name_of (findings.UnequalNumber place name) = codes "unequal-number"
 name_of (findings.UnusedExpectation place) = codes "unused-expectation"
 name_of (findings.NoThreshold place) = codes "no-threshold"
 name_of (findings.NullKey key) = null_name key.list
+name_of (findings.IdentityKey key) = codes "identity-key"
+name_of (findings.IncompleteIdentity key) = codes "incomplete-identity"
 name_of (findings.SharedKey shared) = codes "shared-key"
 name_of (findings.Member finding) = member_name finding

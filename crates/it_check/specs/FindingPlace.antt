@@ -72,6 +72,8 @@ document_of (findings.UnequalNumber place name) = codes "policy"
 document_of (findings.UnusedExpectation place) = codes "policy"
 document_of (findings.NoThreshold place) = codes "layout"
 document_of (findings.NullKey key) = document_of_keys key.list
+document_of (findings.IdentityKey key) = document_of_keys (list_of key)
+document_of (findings.IncompleteIdentity key) = document_of_keys (list_of key)
 document_of (findings.SharedKey shared) = document_of_keys (list_of shared.place)
 document_of (findings.Member finding) = document_of_member finding
 
@@ -181,6 +183,8 @@ pointer_of form (findings.UnequalNumber place name) = parameter_pointer form pla
 pointer_of form (findings.UnusedExpectation place) = expectation_pointer place (codes "")
 pointer_of form (findings.NoThreshold place) = step_pointer place (codes "/threshold")
 pointer_of form (findings.NullKey key) = key_pointer form key.list key.id
+pointer_of form (findings.IdentityKey key) = key_pointer form (list_of key) (id_of key)
+pointer_of form (findings.IncompleteIdentity key) = key_pointer form (list_of key) (id_of key)
 pointer_of form (findings.SharedKey shared) =
     key_pointer form (list_of shared.place) (id_of shared.place)
 pointer_of form (findings.Member finding) = member_pointer form finding

@@ -5,6 +5,7 @@ use Rattle.it_findings.specs.declared.finding.Finding.TheVariants as findings
 use Rattle.it_check.specs.ExpectationSentence.{no_builders_sentence, no_level_sentence}
 use Rattle.it_check.specs.ExpectationSentence.{unequal_number_sentence, unreachable_level_sentence}
 use Rattle.it_check.specs.ExpectationSentence.{unused_expectation_sentence}
+use Rattle.it_check.specs.IdentitySentence.{identity_sentence, incomplete_sentence}
 use Rattle.it_check.specs.MemberSentence.{member_sentence}
 use Rattle.it_check.specs.NullKeySentence.{null_key_sentence}
 use Rattle.it_check.specs.RuleSentence.{no_rules_sentence, open_rules_sentence, parameter_sentence}
@@ -30,5 +31,7 @@ sentence_of (findings.UnequalNumber place name) = unequal_number_sentence place 
 sentence_of (findings.UnusedExpectation place) = unused_expectation_sentence place
 sentence_of (findings.NoThreshold place) = no_threshold_sentence place
 sentence_of (findings.NullKey key) = null_key_sentence key
+sentence_of (findings.IdentityKey key) = identity_sentence key
+sentence_of (findings.IncompleteIdentity key) = incomplete_sentence key
 sentence_of (findings.SharedKey shared) = shared_key_sentence shared
 sentence_of (findings.Member finding) = member_sentence finding

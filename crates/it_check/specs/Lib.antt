@@ -5,6 +5,7 @@ pub mod FindingLine
 pub mod FindingName
 pub mod FindingPlace
 pub mod FindingSentence
+pub mod IdentitySentence
 pub mod MemberSentence
 pub mod NullKeySentence
 pub mod Pieces

@@ -26,6 +26,8 @@ pub fn finding_name(finding: &Finding) -> &'static str
         Finding::UnusedExpectation(_) => "unused-expectation",
         Finding::NoThreshold(_) => "no-threshold",
         Finding::NullKey(key) => null_name(key.list),
+        Finding::IdentityKey(_) => "identity-key",
+        Finding::IncompleteIdentity(_) => "incomplete-identity",
         Finding::SharedKey(_) => "shared-key",
         Finding::Member(finding) => member_name(finding),
     }

@@ -32,6 +32,7 @@ pub fn finding_document(finding: &Finding) -> &'static str
         Finding::NoBuilders(_) | Finding::NoLevel(_) => "policy",
         Finding::UnreachableLevel { .. } | Finding::UnequalNumber { .. } => "policy",
         Finding::UnusedExpectation(_) => "policy",
+        Finding::IdentityKey(key) | Finding::IncompleteIdentity(key) => document_of_key(key),
         Finding::SharedKey(shared) => document_of_key(&shared.place),
         Finding::NullKey(key) => document_of_keys(key.list),
         Finding::Member(finding) => document_of_member(finding),
@@ -117,6 +118,8 @@ pub fn push_pointer(
         Finding::UnusedExpectation(place) => push_expectation(text, *place, ""),
         Finding::NoThreshold(place) => push_step(text, *place, "/threshold"),
         Finding::NullKey(key) => push_key(text, form, key.list, &key.id),
+        Finding::IdentityKey(key) => push_key_at(text, form, key),
+        Finding::IncompleteIdentity(key) => push_key_at(text, form, key),
         Finding::SharedKey(shared) => push_key_at(text, form, &shared.place),
         Finding::Member(finding) => push_member(text, form, finding),
     }

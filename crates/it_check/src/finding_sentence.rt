@@ -6,6 +6,7 @@ use crate::expectation_sentences::{
     push_no_builders, push_no_level, push_unequal_number, push_unreachable_level,
     push_unused_expectation,
 };
+use crate::identity_sentences::{push_identity, push_incomplete};
 use crate::member_sentences::push_on_member;
 use crate::null_key_sentence::push_null_key;
 use crate::rule_sentences::{push_no_rules, push_open_rules, push_parameter, push_unknown_item};
@@ -46,6 +47,8 @@ pub fn push_sentence(text: &mut Vec<u8>, finding: &Finding) -> Result<(), AllocE
         Finding::UnusedExpectation(place) => push_unused_expectation(text, *place),
         Finding::NoThreshold(place) => push_no_threshold(text, *place),
         Finding::NullKey(key) => push_null_key(text, key),
+        Finding::IdentityKey(key) => push_identity(text, key),
+        Finding::IncompleteIdentity(key) => push_incomplete(text, key),
         Finding::SharedKey(shared) => push_shared_key(text, shared),
         Finding::Member(finding) => push_on_member(text, finding),
     }

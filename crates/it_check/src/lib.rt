@@ -9,6 +9,7 @@ mod finding_names;
 mod finding_place;
 mod finding_sentence;
 mod found;
+mod identity_sentences;
 mod member_pointers;
 mod member_sentences;
 mod null_key_sentence;

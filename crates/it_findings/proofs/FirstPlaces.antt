@@ -11,45 +11,50 @@ use Rattle.std.proofs.lemmas.Map.Text.{is_eq-slice_cmp}
 use Rattle.std.proofs.lemmas.Slice.Eq.{bytes_eq-Decides}
 use Rattle.it_base.specs.Table.{Named}
 use Rattle.it_dsse.proofs.Places.{find-position}
-use Rattle.it_findings.specs.SharedKeys.{has_part}
+use Rattle.it_findings.specs.SharedKeys.{is_key, is_same_key}
 use Rattle.it_findings.specs.declared.key_use.KeyUse.{KeyUse}
-use Rattle.it_findings.specs.inside.FirstPlaces.{ArePlaces, KeepsFirst}
+use Rattle.it_findings.specs.declared.listed_key.ListedKey.{ListedKey}
+use Rattle.it_findings.specs.inside.FirstPlaces.{ArePlaces, KeepsFirst, name_of}
+use Rattle.it_findings.proofs.KeyNames.{told_apart}
 
 or_none : (o : Option ℕ) → o ≡ option_or o None
 or_none None = refl
 or_none (Some n) = refl
 
-module _ (public : List ℕ) (place : ℕ) (places : Named ℕ) where
-  kept_at : (n : ℕ) → get places public ≡ Some n → (q : List ℕ)
-      → get places q ≡ option_or (get places q) (cond (bytes_eq q public) (Some place) None)
-  kept_at n there q = elim (cases_Bool (bytes_eq q public)) [
+module _ (key : ListedKey) (place : ℕ) (places : Named ℕ) where
+  kept_at : (n : ℕ) → get places (name_of key) ≡ Some n → (q : ListedKey)
+      → get places (name_of q)
+      ≡ option_or (get places (name_of q)) (cond (is_same_key q key) (Some place) None)
+  kept_at n there q = elim (cases_Bool (bytes_eq (name_of q) (name_of key))) [
     | inl e ↦
-        let is : get places q ≡ Some n = ap (get places) ((bytes_eq-Decides q public).0 e)
-        ∙ there in
-        rw (e, is) refl
-    | inr e ↦ rw e (or_none (get places q))
+        let is : get places (name_of q) ≡ Some n =
+        ap (get places) ((bytes_eq-Decides (name_of q) (name_of key)).0 e) ∙ there in
+        rw is refl
+    | inr e ↦ rw (sym (told_apart q key) ∙ e) (or_none (get places (name_of q)))
   ]
 
   -- a place that was there is kept
-  pub kept : (n : ℕ) → get places public ≡ Some n → KeepsFirst public place places places
+  pub kept : (n : ℕ) → get places (name_of key) ≡ Some n → KeepsFirst key place places places
   kept n there = λ q. kept_at n there q
 
-  put_at : get places public ≡ None → (q : List ℕ)
-      → cond (bytes_eq q public) (Some place) (get places q)
-      ≡ option_or (get places q) (cond (bytes_eq q public) (Some place) None)
-  put_at none q = elim (cases_Bool (bytes_eq q public)) [
+  put_at : get places (name_of key) ≡ None → (q : ListedKey)
+      → cond (is_same_key q key) (Some place) (get places (name_of q))
+      ≡ option_or (get places (name_of q)) (cond (is_same_key q key) (Some place) None)
+  put_at none q = elim (cases_Bool (bytes_eq (name_of q) (name_of key))) [
     | inl e ↦
-        let is : get places q ≡ None = ap (get places) ((bytes_eq-Decides q public).0 e)
-        ∙ none in
-        rw (e, is) refl
-    | inr e ↦ rw e (or_none (get places q))
+        let is : get places (name_of q) ≡ None =
+        ap (get places) ((bytes_eq-Decides (name_of q) (name_of key)).0 e) ∙ none in
+        rw (sym (told_apart q key) ∙ e, is) refl
+    | inr e ↦ rw (sym (told_apart q key) ∙ e) (or_none (get places (name_of q)))
   ]
 
   -- a place is put where there was none
-  pub put : get places public ≡ None → KeepsFirst public place places (insert places public place)
+  pub put : get places (name_of key) ≡ None
+      → KeepsFirst key place places (insert places (name_of key) place)
   put none = λ q.
-      get-insert nat_list_cmp_total places public place q
-      ∙ ap (λ b. cond b (Some place) (get places q)) (is_eq-slice_cmp q public)
+      get-insert nat_list_cmp_total places (name_of key) place (name_of q)
+      ∙ ap (λ b. cond b (Some place) (get places (name_of q)))
+      (is_eq-slice_cmp (name_of q) (name_of key) ∙ told_apart q key)
       ∙ put_at none q
 
 -- a place that is lent is there, and one that is not is missing
@@ -63,10 +68,10 @@ pub is_missing : (lent : Option (Bor ℕ)) (at : Option ℕ) → is_some lent �
 is_missing None at is same = sym same
 is_missing (Some v) at is same = absurd (false≢true (sym is))
 
--- what stands at the first place of a key is the first that is this key
-pub first_at : (uses : List KeyUse) (places : Named ℕ) (public : List ℕ) (at : Option ℕ)
-    → ArePlaces uses places → at ≡ get places public
-    → option_and_then (slice_get uses) at ≡ find (has_part public) uses
-first_at uses places public at are is =
-    ap (option_and_then (slice_get uses)) (is ∙ are public)
-    ∙ sym (find-position (has_part public) uses)
+-- what stands at the first place of a key is the first use of it
+pub first_at : (uses : List KeyUse) (places : Named ℕ) (key : ListedKey) (name : List ℕ)
+    (at : Option ℕ) → ArePlaces uses places → at ≡ get places name → name ≡ name_of key
+    → option_and_then (slice_get uses) at ≡ find (is_key key) uses
+first_at uses places key name at are is named =
+    ap (option_and_then (slice_get uses)) (is ∙ ap (get places) named ∙ are key)
+    ∙ sym (find-position (is_key key) uses)

@@ -2,6 +2,7 @@ pub mod Agreeing
 pub mod FirstPassing
 pub mod FirstPlaces
 pub mod Joining
+pub mod KeyNames
 pub mod MemberLists
 pub mod NullLists
 pub mod Reaching

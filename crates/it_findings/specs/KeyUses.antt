@@ -1,13 +1,15 @@
--- The public keys that a policy lists, with their holders: owners and builders (this profile's
--- choice).
-use Rattle.std.specs.Prelude.{◌≢◌, ℕ, List, [], codes}
+-- The keys that a policy lists, with their holders: owners and builders (this profile's choice).
+use Rattle.std.specs.Prelude.{◌≡◌, ◌≢◌, ℕ, List, [], ◌∷◌, Option, Some, None, codes}
 use Rattle.std.specs.FinMap.{entries}
 use Rattle.it_dsse.specs.declared.key_object.KeyObject.{KeyObject}
 use Rattle.it_docs.specs.declared.policy.Builder.{Builder}
 use Rattle.it_docs.specs.declared.policy.Expectation.{Expectation}
-use Rattle.it_findings.specs.Joined.{Joined, JoinedEach, Said}
+use Rattle.it_findings.specs.Joined.{Joined, JoinedEach}
+use Rattle.it_findings.specs.KeyIdentities.{HasIdentity}
 use Rattle.it_findings.specs.KeyPlaces.{key_place}
 use Rattle.it_findings.specs.declared.key_use.KeyUse.{KeyUse}
+use Rattle.it_findings.specs.declared.listed_key.ListedKey.{ListedKey}
+use Rattle.it_findings.specs.declared.listed_key.ListedKey.TheVariants.{Identity, Public}
 use Rattle.it_findings.specs.declared.null_key.KeyList.{KeyList}
 use Rattle.it_findings.specs.declared.null_key.KeyList.TheVariants as lists
 use Rattle.it_findings.specs.declared.shared_key.Holder.{Holder}
@@ -19,11 +21,24 @@ pub record HasPublic (object : KeyObject) : Type 0 where
   pub some : object.public ≢ []
   pub other : object.scheme ≢ codes "hmac-sha256"
 
--- the public key, if it is one, under an id of a list of key objects
+-- the key of an object: its identity where it describes one, and otherwise its public key, if any
+abbrev pub IsKeyIn : KeyObject → Option ListedKey → Type 0
+IsKeyIn object (Some (Identity identity issuer)) =
+    HasIdentity object × (identity ≡ object.identity) × (issuer ≡ object.issuer)
+IsKeyIn object (Some (Public public)) =
+    (¬ HasIdentity object) × HasPublic object × (public ≡ object.public)
+IsKeyIn object None = (¬ HasIdentity object) × (¬ HasPublic object)
+
+-- the key, if there is one, at a place, with its holder
+abbrev pub uses_of : KeyList → Holder → List ℕ → Option ListedKey → List KeyUse
+uses_of list holder id None = []
+uses_of list holder id (Some key) =
+    (record { place = key_place list id; holder = holder; key = key }) ∷ []
+
+-- the key, if the object has one, under an id of a list of key objects
 abbrev pub KeyUses : KeyList → Holder → List ℕ × KeyObject → List KeyUse → Type 0
 KeyUses list holder entry uses =
-    Said (HasPublic entry.1)
-    (record { place = key_place list entry.0; holder = holder; public = entry.1.public }) uses
+    (key : Option ListedKey) × IsKeyIn entry.1 key × (uses ≡ uses_of list holder entry.0 key)
 
 -- that of an owner
 abbrev pub OwnerUses : List ℕ × KeyObject → List KeyUse → Type 0

@@ -5,6 +5,7 @@ use Rattle.it_docs.specs.declared.layout.Layout.{Layout}
 use Rattle.it_docs.specs.declared.rule.Side.TheVariants.{Materials, Products}
 use Rattle.it_docs.specs.declared.step.Inspection.{Inspection}
 use Rattle.it_docs.specs.declared.step.Step.{Step}
+use Rattle.it_findings.specs.IdentityFindings.{LayoutIdentities}
 use Rattle.it_findings.specs.Joined.{Joined}
 use Rattle.it_findings.specs.RuleFindings.{ListFindings}
 use Rattle.it_findings.specs.StepKeyFindings.{StepKeyFindings}
@@ -44,10 +45,13 @@ pub record InspectionFindings (layout : Layout) (place : ℕ) (inspection : Insp
       (lists.OfInspection place inspection.name Products) inspection.expected_products
       of_products
 
--- what is found in a layout: in its steps, and then in its inspections, each in its order
+-- what is found in a layout: on identities among its keys, in its steps, and then in its
+-- inspections, each in its order
 pub record LayoutFindings (layout : Layout) (found : List Finding) : Type 0 where
+  pub of_identities : List Finding
   pub of_steps : List Finding
   pub of_inspections : List Finding
-  pub found_are : found ≡ of_steps ++ of_inspections
+  pub found_are : found ≡ of_identities ++ (of_steps ++ of_inspections)
+  pub identities : LayoutIdentities layout of_identities
   pub steps : Joined (StepFindings layout) layout.steps of_steps
   pub inspections : Joined (InspectionFindings layout) layout.inspections of_inspections

@@ -1,6 +1,8 @@
 pub mod Closed
 pub mod ExpectationFindings
+pub mod IdentityFindings
 pub mod Joined
+pub mod KeyIdentities
 pub mod KeyPlaces
 pub mod KeyUses
 pub mod LayoutFindings

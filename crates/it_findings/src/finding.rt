@@ -3,6 +3,7 @@ ghost use Rattle.std.specs.Prelude.{◌≡◌, IfOk};
 
 use crate::member_finding::MemberFinding;
 use crate::null_key::NullKey;
+use crate::place::KeyPlace;
 use crate::shared_key::SharedKey;
 use it_base::text::Text;
 use it_docs::rule::Side;
@@ -118,6 +119,12 @@ pub enum Finding {
     NoThreshold(usize),
     /// Null stands under a key id, which so counts as missing.
     NullKey(NullKey),
+    /// A key object of an owner or of a layout describes an identity, whose signatures on layouts
+    /// and links count only where lines of the provenance have them.
+    IdentityKey(KeyPlace),
+    /// A key object has the scheme of identities and describes none, so that no signature counts
+    /// for it.
+    IncompleteIdentity(KeyPlace),
     /// Two owners, or two builders, have the same key.
     SharedKey(SharedKey),
     /// Something about a member.

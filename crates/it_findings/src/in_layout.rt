@@ -7,6 +7,7 @@ ghost use Rattle.it_findings.specs.RuleFindings.{ListFindings};
 ghost use Rattle.it_findings.specs.declared.finding.RuleList.TheVariants as lists;
 
 use crate::finding::{Finding, RuleList, StepPlace};
+use crate::identity_findings::layout_identities;
 use crate::in_rules::list_findings;
 use crate::in_step_keys::step_key_findings;
 use it_base::text::Text;
@@ -15,7 +16,8 @@ use it_docs::rule::Side;
 use it_docs::step::{Inspection, Step};
 use std::alloc::{AllocError, Global};
 
-/// All that is found in a layout: in its steps, and then in its inspections, each in its order.
+/// All that is found in a layout: on identities among its keys, in its steps, and then in its
+/// inspections, each in its order.
 ///
 /// # Errors
 ///
@@ -23,8 +25,10 @@ use std::alloc::{AllocError, Global};
 pub fn layout_findings(alloc: Global, layout: &Layout) -> Result<Vec<Finding>, AllocError>
     ensures { IfOk result (λ found. LayoutFindings layout.now found.items) }
 {
-    let mut found = steps_findings(alloc, layout)?;
+    let mut found = layout_identities(alloc, layout)?;
+    let mut steps = steps_findings(alloc, layout)?;
     let mut inspections = inspections_findings(alloc, layout)?;
+    found.append(&mut steps)?;
     found.append(&mut inspections)?;
     Ok(found)
 }

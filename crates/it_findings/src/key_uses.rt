@@ -1,13 +1,14 @@
-//! The public keys that a policy lists, with their holders.
-ghost use Rattle.std.specs.Prelude.{◌≡◌, ◌↔◌, ◌∷◌, [], IfOk, IsTrue, string_bytes};
+//! The keys that a policy lists, with their holders.
+ghost use Rattle.std.specs.Prelude.{◌≡◌, ◌↔◌, IfOk, IsTrue, Some, string_bytes};
 ghost use Rattle.std.specs.FinMap.{entries};
 ghost use Rattle.it_findings.specs.Joined.{Joined, JoinedEach};
-ghost use Rattle.it_findings.specs.KeyPlaces.{key_place as place_under};
 ghost use Rattle.it_findings.specs.KeyUses.{BuilderUses, ExpectationUses, HasPublic, KeyUses};
-ghost use Rattle.it_findings.specs.KeyUses.{OwnerUses};
+ghost use Rattle.it_findings.specs.KeyUses.{IsKeyIn, OwnerUses, uses_of};
 
+use crate::key_identities::has_identity;
 use crate::key_members::key_place;
 use crate::key_use::KeyUse;
+use crate::listed_key::ListedKey;
 use crate::null_key::KeyList;
 use crate::shared_key::Holder;
 use it_base::table::Table;
@@ -16,7 +17,7 @@ use it_docs::policy::{Builder, Expectation};
 use it_dsse::key_object::KeyObject;
 use std::alloc::{AllocError, Global};
 
-/// The public keys of owners, in the order of their ids.
+/// The keys of owners, in the order of their ids.
 ///
 /// # Errors
 ///
@@ -42,7 +43,7 @@ fn owner_use(alloc: Global, id: &String, object: &KeyObject) -> Result<Vec<KeyUs
     key_use(alloc, KeyList::Owners, &holder, id, object)
 }
 
-/// The public keys of the builders of expectations, in their order.
+/// The keys of the builders of expectations, in their order.
 ///
 /// # Errors
 ///
@@ -76,7 +77,7 @@ fn each_builder(
     Ok(uses)
 }
 
-/// The public keys of the builder at a place of an expectation.
+/// The keys of the builder at a place of an expectation.
 fn builder_keys(
     alloc: Global,
     expectation: usize,
@@ -113,7 +114,7 @@ fn each_key(
     Ok(uses)
 }
 
-/// The public key under an id of a list, if its object describes one.
+/// The key under an id of a list, if its object has one.
 fn key_use(
     alloc: Global,
     list: KeyList,
@@ -124,10 +125,10 @@ fn key_use(
     ensures { IfOk result (λ uses.
         KeyUses list holder.now (string_bytes id.now, object.now) uses.items) }
 {
-    if !has_public(object) {
-        return Ok(Vec::new(alloc));
+    match key_in(alloc, object)? {
+        Some(key) => one_use(alloc, list, holder, id, key),
+        None => Ok(Vec::new(alloc)),
     }
-    one_use(alloc, list, holder, id, &object.public)
 }
 
 fn one_use(
@@ -135,22 +136,36 @@ fn one_use(
     list: KeyList,
     holder: &Holder,
     id: &String,
-    public: &Text,
+    key: ListedKey,
 ) -> Result<Vec<KeyUse>, AllocError>
-    ensures { IfOk result (λ uses. uses.items ≡ (record {
-      place = place_under list (string_bytes id.now);
-      holder = holder.now;
-      public = public.now;
-    }) ∷ []) }
+    ensures { IfOk result (λ uses.
+        uses.items ≡ uses_of list holder.now (string_bytes id.now) (Some key)) }
 {
     let key = KeyUse {
         place: key_place(alloc, list, id)?,
         holder: holder.copy(alloc)?,
-        public: Text::copy(alloc, public.as_str())?,
+        key,
     };
     let mut uses = Vec::new(alloc);
     uses.push(key)?;
     Ok(uses)
+}
+
+/// The key of an object: its identity where it describes one, and otherwise its public key.
+fn key_in(alloc: Global, object: &KeyObject) -> Result<Option<ListedKey>, AllocError>
+    ensures { IfOk result (IsKeyIn object.now) }
+{
+    if has_identity(object) {
+        return Ok(Some(ListedKey::Identity {
+            identity: Text::copy(alloc, object.identity.as_str())?,
+            issuer: Text::copy(alloc, object.issuer.as_str())?,
+        }));
+    }
+    if !has_public(object) {
+        return Ok(None);
+    }
+    let public = Text::copy(alloc, object.public.as_str())?;
+    Ok(Some(ListedKey::Public(public)))
 }
 
 /// Whether the object describes a public key.

@@ -4,15 +4,18 @@
 
 mod closed;
 pub mod finding;
+mod identity_findings;
 mod in_expectations;
 mod in_layout;
 mod in_policy;
 mod in_rules;
 mod in_step_keys;
+mod key_identities;
 mod key_members;
 mod key_use;
 mod key_uses;
 pub mod laws;
+mod listed_key;
 mod meaning;
 mod meant;
 pub mod member_finding;

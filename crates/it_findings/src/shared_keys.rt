@@ -2,12 +2,13 @@
 ghost use Rattle.std.specs.Prelude.{◌≡◌, ◌≢◌, IfOk, OnOk, find, slice_get};
 ghost use Rattle.std.specs.Option.{option_copied};
 ghost use Rattle.it_findings.specs.Joined.{Said};
-ghost use Rattle.it_findings.specs.SharedKeys.{SharedAmong, SharedIn, SharedKeys, has_part};
-ghost use Rattle.it_findings.specs.inside.FirstPlaces.{ArePlaces, KeepsFirst};
+ghost use Rattle.it_findings.specs.SharedKeys.{SharedAmong, SharedIn, SharedKeys, is_key};
+ghost use Rattle.it_findings.specs.inside.FirstPlaces.{ArePlaces, KeepsFirst, name_of};
 
 use crate::finding::Finding;
 use crate::key_use::KeyUse;
 use crate::key_uses::{builder_uses, owner_uses};
+use crate::listed_key::ListedKey;
 use crate::one::one;
 use crate::shared_key::{Holder, SharedKey};
 use it_base::table::Table;
@@ -50,7 +51,7 @@ fn first_places(alloc: Global, uses: &[KeyUse]) -> Result<Table<usize>, AllocErr
 {
     let mut places = Table::new(alloc);
     for (place, at) in uses.iter().enumerate() {
-        keep_first(alloc, &mut places, at.public.as_str(), place)?;
+        keep_first(alloc, &mut places, &at.key, place)?;
     }
     Ok(places)
 }
@@ -58,16 +59,16 @@ fn first_places(alloc: Global, uses: &[KeyUse]) -> Result<Table<usize>, AllocErr
 fn keep_first(
     alloc: Global,
     places: &mut Table<usize>,
-    public: &str,
+    key: &ListedKey,
     place: usize,
 ) -> Result<(), AllocError>
-    ensures { OnOk result (KeepsFirst public.now place places.old places.new) }
+    ensures { OnOk result (KeepsFirst key.now place places.old places.new) }
 {
-    if places.get(public).is_some() {
+    let name = key.name(alloc)?;
+    if places.get(name.as_str()).is_some() {
         return Ok(());
     }
-    let public = String::from_str(alloc, public)?;
-    places.insert(public, place)?;
+    places.insert(name, place)?;
     Ok(())
 }
 
@@ -81,18 +82,20 @@ fn shared_in(
     requires { ArePlaces uses.now places.now }
     ensures { IfOk result (λ found. SharedIn uses.now at.now found.items) }
 {
-    match first_use(uses, places, at.public.as_str()) {
+    let name = at.key.name(alloc)?;
+    match first_use(uses, places, name.as_str()) {
         Some(first) => shared_with(alloc, &first.holder, at),
         None => Ok(Vec::new(alloc)),
     }
 }
 
-/// The first key with this public part.
-fn first_use<'u>(uses: &'u [KeyUse], places: &Table<usize>, public: &str) -> Option<&'u KeyUse>
+/// The first use of the key that has this name.
+fn first_use<'u>(uses: &'u [KeyUse], places: &Table<usize>, name: &str) -> Option<&'u KeyUse>
     requires { ArePlaces uses.now places.now }
-    ensures { option_copied result ≡ find (has_part public.now) uses.now }
+    ensures { (key : ListedKey) → name.now ≡ name_of key
+        → option_copied result ≡ find (is_key key) uses.now }
 {
-    match places.get(public) {
+    match places.get(name) {
         Some(place) => use_at(uses, *place),
         None => None,
     }

@@ -3,4 +3,7 @@ pub mod Signing
 pub mod Turning
 pub mod Reading
 pub mod Issuing
+pub mod Missed
+pub mod IssueMissing
 pub mod Logging
+pub mod LogMissing

@@ -1,23 +1,19 @@
 -- What certificate logs promised, item by item and log by log.
 use Rattle.std.proofs.Common.{◌≡◌, ℕ, ◌+◌, ◌*◌, ◌<◌, ◌≤◌, ◌↔◌, pos, Bool, true, false, IsTrue, List, [], ◌∷◌, length, get_or, map, Bor}
-use Rattle.std.proofs.Common.{Any, Some, None, refl, sym, ap, subst, ◌∙◌, arith}
+use Rattle.std.proofs.Common.{Any, refl, sym, ap, subst, ◌∙◌, arith}
 use Rattle.std.proofs.lemmas.List.{get_or-map, get_or_default, length-map}
 use Rattle.std.proofs.Common.{inl, inr}
 use Rattle.std.proofs.lemmas.Bool.{cases_lt}
 use Rattle.std.specs.Int.{w64, from_be_bytes}
 use Rattle.it_numbers.specs.Bytes.{big}
 use Rattle.it_p256.specs.Signature.{IsSignature}
-use Rattle.it_certificate.specs.Certificate.{Facts}
-use Rattle.it_certificate.specs.Identifiers.{timestamps}
-use Rattle.it_certificate.specs.Values.{value_of}
-use Rattle.it_certificate_log.specs.Bare.{bare_bytes}
-use Rattle.it_certificate_log.specs.Items.{IsItemList}
 use Rattle.it_certificate_log.specs.SignedText.{signed_text}
 use Rattle.it_certificate_log.specs.Timestamp.{Stamp, TimestampOf}
-use Rattle.it_certificate_log.proofs.Listing.{one_list}
 use Rattle.it_certificate_log.proofs.Stamping.{one_stamp}
-use Rattle.it_issued.specs.Logged.{IsByListed, IsByLog, IsLogged, IsPromise}
-use Rattle.it_issued.specs.Signature.{key_info}
+use Rattle.it_issued.specs.LogMisses.{HasId, IsInWindow, OfUsable}
+use Rattle.it_issued.specs.Logged.{IsByLog}
+use Rattle.it_issued.specs.declared.logged.Tie.{Tie}
+use Rattle.it_issued.specs.inside.Tied.{IsTiedItem, Tied}
 use Rattle.it_issued.proofs.Tests.{refused}
 use Rattle.it_log.specs.Window.{LiesIn}
 use Rattle.it_log.specs.declared.log.Log.{Log}
@@ -72,64 +68,34 @@ none_left P xs i d end none =
     let is : any.1 ≡ (get_or xs any.0 d).now = sym any.3 ∙ get_or-map (λ (x : Bor (List ℕ)). x.now) xs any.0 d any.1 within in
     none any.0 d (omega (arith, any.2)) (subst P is any.4))
 
--- an item that is a timestamp is a promise where a log made it
-pub promise_is : (logs : List RootLog) (issuer_key bare item text : List ℕ) (stamp : Stamp) (b : Bool) → TimestampOf item stamp
-    → text ≡ signed_text issuer_key bare stamp → IsTrue b ↔ Any (IsByListed text stamp) logs
-    → IsTrue b ↔ IsPromise logs issuer_key bare item
-promise_is logs issuer_key bare item text stamp b is text_is iff =
-    let by : IsTrue b ↔ Any (IsByListed (signed_text issuer_key bare stamp) stamp) logs =
-    subst (λ (t : List ℕ). IsTrue b ↔ Any (IsByListed t stamp) logs) text_is iff in (
-      λ t. record { stamp = stamp; stamp_is = is; by_log = by.0 t },
-      λ promise. by.1 (subst (λ (s : Stamp). Any (IsByListed (signed_text issuer_key bare s) s) logs)
-          (one_stamp item promise.stamp stamp promise.stamp_is is) promise.by_log),
+-- an item that is a timestamp is tied where that is
+pub tied_is : (logs : List RootLog) (issuer_key bare item text : List ℕ) (tie : Tie) (stamp : Stamp) (b : Bool) → TimestampOf item stamp
+    → text ≡ signed_text issuer_key bare stamp → IsTrue b ↔ Any (OfUsable (Tied tie text stamp)) logs
+    → IsTrue b ↔ IsTiedItem logs issuer_key bare tie item
+tied_is logs issuer_key bare item text tie stamp b is text_is iff =
+    let of : IsTrue b ↔ Any (OfUsable (Tied tie (signed_text issuer_key bare stamp) stamp)) logs =
+    subst (λ (t : List ℕ). IsTrue b ↔ Any (OfUsable (Tied tie t stamp)) logs) text_is iff in (
+      λ t. record { stamp = stamp; stamp_is = is; of_log = of.0 t },
+      λ item_is. of.1 (subst (λ (s : Stamp). Any (OfUsable (Tied tie (signed_text issuer_key bare s) s)) logs)
+          (one_stamp item item_is.stamp stamp item_is.stamp_is is) item_is.of_log),
     )
 
-pub no_promise : (logs : List RootLog) (issuer_key bare item : List ℕ) → ((s : Stamp) → TimestampOf item s → ⊥)
-    → IsTrue false ↔ IsPromise logs issuer_key bare item
-no_promise logs issuer_key bare item none =
-    refused (IsPromise logs issuer_key bare item) (λ promise. none promise.stamp promise.stamp_is)
+pub no_stamp : (logs : List RootLog) (issuer_key bare item : List ℕ) (tie : Tie) → ((s : Stamp) → TimestampOf item s → ⊥)
+    → IsTrue false ↔ IsTiedItem logs issuer_key bare tie item
+no_stamp logs issuer_key bare item tie none =
+    refused (IsTiedItem logs issuer_key bare tie item) (λ is. none is.stamp is.stamp_is)
 
--- the list of timestamps
-same_value : (one two : List ℕ) → Some one ≡ Some two → one ≡ two
-same_value one two e = cc
+-- a timestamp that has a log's id is in its window, or is by the log
+pub in_window_is : (stamp : Stamp) (log : Log) (b : Bool) → HasId stamp log
+    → IsTrue b ↔ LiesIn log.window (pos (1_000_000 * big stamp.moment)) → IsTrue b ↔ IsInWindow stamp log
+in_window_is stamp log b id iff = (
+  λ t. record { id_is = id; trusted = iff.0 t },
+  λ is. iff.1 is.trusted,
+)
 
-no_value : (value : List ℕ) → None ≡ Some value → ⊥
-no_value value e = cc
-
-pub none_logged : (logs : List RootLog) (issuer leaf : Facts) → None ≡ value_of timestamps leaf.extensions
-    → IsTrue false ↔ IsLogged logs issuer leaf
-none_logged logs issuer leaf none =
-    refused (IsLogged logs issuer leaf) (λ logged. no_value logged.value (none ∙ logged.value_is))
-
-pub no_list : (logs : List RootLog) (issuer leaf : Facts) (value : List ℕ) → Some value ≡ value_of timestamps leaf.extensions
-    → ((items : List (List ℕ)) → IsItemList value items → ⊥) → IsTrue false ↔ IsLogged logs issuer leaf
-no_list logs issuer leaf value is none =
-    refused (IsLogged logs issuer leaf) (λ logged.
-    none logged.items (subst (λ (v : List ℕ). IsItemList v logged.items) (sym (same_value value logged.value (is ∙ logged.value_is)))
-    logged.items_are))
-
-pub logged_is : (logs : List RootLog) (issuer leaf : Facts) (value issuer_key bare : List ℕ) (items : List (List ℕ)) (b : Bool)
-    → Some value ≡ value_of timestamps leaf.extensions → IsItemList value items
-    → issuer_key ≡ key_info issuer.curve issuer.coordinates → bare ≡ bare_bytes leaf
-    → IsTrue b ↔ Any (IsPromise logs issuer_key bare) items → IsTrue b ↔ IsLogged logs issuer leaf
-logged_is logs issuer leaf value issuer_key bare items b is are key_is bare_is iff =
-    let by_key : IsTrue b ↔ Any (IsPromise logs (key_info issuer.curve issuer.coordinates) bare) items =
-    subst (λ (k : List ℕ). IsTrue b ↔ Any (IsPromise logs k bare) items) key_is iff in
-    let by : IsTrue b ↔ Any (IsPromise logs (key_info issuer.curve issuer.coordinates) (bare_bytes leaf)) items =
-    subst (λ (x : List ℕ). IsTrue b ↔ Any (IsPromise logs (key_info issuer.curve issuer.coordinates) x) items) bare_is by_key in (
-      λ t. record { value = value; items = items; value_is = sym is; items_are = are; promised = by.0 t },
-      λ logged.
-          let same : logged.value ≡ value = same_value logged.value value (sym logged.value_is ∙ sym is) in
-          let theirs : IsItemList value logged.items = subst (λ (v : List ℕ). IsItemList v logged.items) same logged.items_are in
-          by.1 (subst (λ (l : List (List ℕ)). Any (IsPromise logs (key_info issuer.curve issuer.coordinates) (bare_bytes leaf)) l)
-          (one_list value logged.items items theirs are) logged.promised),
-    )
-
--- a log made a timestamp
-pub by_log_is : (text : List ℕ) (stamp : Stamp) (log : Log) (b : Bool) → stamp.log ≡ log.id
-    → LiesIn log.window (pos (1_000_000 * big stamp.moment)) → IsTrue b ↔ IsSignature log.key text stamp.signature
-    → IsTrue b ↔ IsByLog text stamp log
-by_log_is text stamp log b id trusted iff = (
-  λ t. record { id_is = id; trusted = trusted; signed = iff.0 t },
+pub by_log_is : (text : List ℕ) (stamp : Stamp) (log : Log) (b : Bool) → IsInWindow stamp log
+    → IsTrue b ↔ IsSignature log.key text stamp.signature → IsTrue b ↔ IsByLog text stamp log
+by_log_is text stamp log b within iff = (
+  λ t. record { id_is = within.id_is; trusted = within.trusted; signed = iff.0 t },
   λ by. iff.1 by.signed,
 )

@@ -1,13 +1,14 @@
-//! Whether an authority issued a leaf.
+//! Whether an authority issued a leaf, or which condition the leaf misses.
 ghost use Rattle.std.specs.Prelude.{◌≡◌, ◌↔◌, ◌*◌, pos, IfOk, IsTrue, All, map};
 ghost use Rattle.std.specs.List.{AllByRecursion};
 ghost use Rattle.it_certificate.specs.Authority.{IsValidAt};
 ghost use Rattle.it_certificate.specs.Certificate.{facts_of};
 ghost use Rattle.it_certificate_log.specs.Bare.{WasRead};
-ghost use Rattle.it_issued.specs.Issued.{IsIssued};
+ghost use Rattle.it_issued.specs.IssueMisses.{IsIssueShortfall};
 ghost use Rattle.it_log.specs.Window.{LiesIn};
 
 use crate::authority::UsableAuthority;
+use crate::shortfall::IssueShortfall;
 use crate::signature::is_signed_by;
 use it_certificate::Certificate;
 use it_log::Window;
@@ -16,42 +17,45 @@ use std::alloc::{AllocError, Global};
 /// Nanoseconds in a second.
 const NANOSECONDS: i128 = 1_000_000_000;
 
-/// Whether an authority issued a leaf, at a moment in seconds since 1970-01-01T00:00:00Z: the first
-/// of its certificates is named by the leaf and signed it, and at that moment the authority was
-/// trusted, and the leaf and each of the certificates was valid.
+/// The condition that a leaf misses where an authority did not issue it, at a moment in seconds
+/// since 1970-01-01T00:00:00Z. `None` where the authority issued it: the first of its certificates
+/// is named by the leaf and signed it, and at that moment the authority was trusted, and the leaf
+/// and each of the certificates was valid. The signature is looked at last.
 ///
 /// # Errors
 ///
 /// `AllocError` where memory was refused.
-pub fn is_issued(
+pub fn issue_shortfall(
     alloc: Global,
     authority: &UsableAuthority<'_>,
     leaf: &Certificate<'_>,
     moment: u64,
-) -> Result<bool, AllocError>
+) -> Result<Option<IssueShortfall>, AllocError>
     requires authority_read { All WasRead authority.now.certificates.items }
     requires leaf_read { WasRead leaf.now }
-    ensures { IfOk result (λ is. IsTrue is
-        ↔ IsIssued (map facts_of authority.now.certificates.items) authority.now.window
-        (facts_of leaf.now) moment) }
+    ensures { IfOk result (IsIssueShortfall (map facts_of authority.now.certificates.items)
+        authority.now.window (facts_of leaf.now) moment) }
 {
     let certificates = authority.certificates.as_slice();
     let Some(issuer) = certificates.first() else {
-        return Ok(false);
+        return Ok(Some(IssueShortfall::Name));
     };
+    if !is_named(leaf, issuer) {
+        return Ok(Some(IssueShortfall::Name));
+    }
     if !is_trusted(&authority.window, moment) {
-        return Ok(false);
+        return Ok(Some(IssueShortfall::Window));
     }
     if !is_valid(leaf, moment) {
-        return Ok(false);
+        return Ok(Some(IssueShortfall::LeafTime));
     }
     if !are_valid(certificates, moment) {
-        return Ok(false);
+        return Ok(Some(IssueShortfall::AuthorityTime));
     }
-    if !is_named(leaf, issuer) {
-        return Ok(false);
+    if !is_signed_by(alloc, leaf, issuer)? {
+        return Ok(Some(IssueShortfall::Signature));
     }
-    is_signed_by(alloc, leaf, issuer)
+    Ok(None)
 }
 
 fn is_trusted(window: &Window, moment: u64) -> bool

@@ -1,20 +1,22 @@
 //! Whether a leaf was issued by a trusted authority (RFC 5280, section 6.1) and logged by a trusted
-//! certificate log (RFC 6962).
+//! certificate log (RFC 6962), or which condition it misses.
 //!
 //! ```
 //! let Some(authority) = read_authority(alloc, listed)? else { .. };
-//! let issued = is_issued(alloc, &authority, &leaf.certificate, moment)?;
+//! let missed = issue_shortfall(alloc, &authority, &leaf.certificate, moment)?;
 //! let issuer = &authority.certificates[0];
-//! let logged = is_logged(alloc, logs, issuer, &leaf.certificate)?;
+//! let unlogged = log_shortfall(alloc, logs, issuer, &leaf.certificate)?;
 //! ```
 #![tactic(auto)]
 
 mod authority;
 mod issued;
 mod logged;
+mod shortfall;
 mod signature;
 
 pub use authority::{UsableAuthority, read_authority};
-pub use issued::is_issued;
-pub use logged::is_logged;
+pub use issued::issue_shortfall;
+pub use logged::log_shortfall;
+pub use shortfall::{IssueShortfall, LogShortfall};
 pub use signature::is_signed_by;

@@ -4,7 +4,7 @@ ghost use Rattle.it_leaf_vectors.specs.Agreement.{Issues, Promises};
 
 use crate::vector::{Vector, Wanted};
 use it_certificate::read_certificate;
-use it_issued::{is_issued, is_logged, read_authority};
+use it_issued::{issue_shortfall, log_shortfall, read_authority};
 use std::alloc::{AllocError, Global};
 
 /// What was found of a leaf.
@@ -51,8 +51,11 @@ pub(crate) fn find(alloc: Global, vector: &Vector) -> Result<Found, AllocError>
     let Some(issuer) = certificates.first() else {
         return Ok(neither);
     };
-    let issued = is_issued(alloc, &authority, &leaf, vector.wanted.moment)?;
+    let not_issued = issue_shortfall(alloc, &authority, &leaf, vector.wanted.moment)?;
     let logs = vector.logs.as_slice();
-    let logged = is_logged(alloc, logs, issuer, &leaf)?;
-    Ok(Found { issued, logged })
+    let not_logged = log_shortfall(alloc, logs, issuer, &leaf)?;
+    Ok(Found {
+        issued: not_issued.is_none(),
+        logged: not_logged.is_none(),
+    })
 }

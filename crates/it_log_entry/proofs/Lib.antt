@@ -8,4 +8,5 @@ pub mod Items
 pub mod Notes
 pub mod Numbers
 pub mod Same
+pub mod Shortfalls
 pub mod SignatureLines

@@ -14,8 +14,12 @@ pub record IsOfKind (kind : EntryKind) (name version : List ℕ) : Type 0 where
   pub kind_is : kind.kind ≡ name
   pub version_is : kind.version ≡ version
 
--- the `spec` of a body is about this signature, by one of the two kinds that are read (this
--- profile's choice)
+-- the kind is one of the two that are read (this profile's choice)
+abbrev pub IsReadKind : EntryKind → Type 0
+IsReadKind kind = IsOfKind kind (codes "dsse") (codes "0.0.1")
+    ⊎ IsOfKind kind (codes "intoto") (codes "0.0.2")
+
+-- the `spec` of a body is about this signature, by one of these kinds
 abbrev pub IsSpec : EntryKind → Data → Logged → Type 0
 IsSpec kind d logged = (IsOfKind kind (codes "dsse") (codes "0.0.1") × IsDsseBody d logged)
     ⊎ (IsOfKind kind (codes "intoto") (codes "0.0.2") × IsIntotoBody d logged)

@@ -2,12 +2,14 @@ pub mod Agreement
 pub mod CertificateText
 pub mod Checkpoint
 pub mod DsseBody
+pub mod EntryMisses
 pub mod InclusionProof
 pub mod IntotoBody
 pub mod LogEntry
 pub mod Note
 pub mod Number
 pub mod PayloadHash
+pub mod Place
 pub mod Stamp
 pub mod Vouching
 pub mod inside

@@ -1,7 +1,7 @@
 //! Whether the body of an entry is about a signature.
-ghost use Rattle.std.specs.Prelude.{◌≡◌, ◌↔◌, IfOk, IsTrue};
+ghost use Rattle.std.specs.Prelude.{◌↔◌, IfOk, IsTrue, codes};
 ghost use Rattle.serde_json.specs.View.{view};
-ghost use Rattle.it_log_entry.specs.Agreement.{BodyAgrees, IsBody, IsOfKind, IsSpec};
+ghost use Rattle.it_log_entry.specs.Agreement.{BodyAgrees, IsBody, IsOfKind, IsReadKind, IsSpec};
 
 use crate::dsse_body::is_dsse_body;
 use crate::intoto_body::is_intoto_body;
@@ -11,6 +11,13 @@ use it_base::document::{member, read_document};
 use it_base::text::has_text;
 use serde_json::Value;
 use std::alloc::{AllocError, Global};
+
+/// Whether the kind is one of those that are read.
+pub(crate) fn is_read_kind(kind: &EntryKind) -> bool
+    ensures { IsTrue result ↔ IsReadKind kind.now }
+{
+    is_dsse(kind) || is_intoto(kind)
+}
 
 /// Whether a body is of this kind, and about this signature and no other.
 pub(crate) fn body_agrees(
@@ -55,13 +62,25 @@ fn is_spec(
 ) -> Result<bool, AllocError>
     ensures { IfOk result (λ is. IsTrue is ↔ IsSpec kind.now (view spec.now) logged.now) }
 {
-    if is_of_kind(kind, "dsse", "0.0.1") {
+    if is_dsse(kind) {
         return is_dsse_body(alloc, spec, logged);
     }
-    if is_of_kind(kind, "intoto", "0.0.2") {
+    if is_intoto(kind) {
         return is_intoto_body(alloc, spec, logged);
     }
     Ok(false)
+}
+
+fn is_dsse(kind: &EntryKind) -> bool
+    ensures { IsTrue result ↔ IsOfKind kind.now (codes "dsse") (codes "0.0.1") }
+{
+    is_of_kind(kind, "dsse", "0.0.1")
+}
+
+fn is_intoto(kind: &EntryKind) -> bool
+    ensures { IsTrue result ↔ IsOfKind kind.now (codes "intoto") (codes "0.0.2") }
+{
+    is_of_kind(kind, "intoto", "0.0.2")
 }
 
 fn is_of_kind(kind: &EntryKind, name: &str, version: &str) -> bool

@@ -1,5 +1,5 @@
 //! Entries of a transparency log (Rekor), as Sigstore bundles hold them: reading them, and whether
-//! a log vouches by one for the signature of an envelope at a moment.
+//! a log vouches by one for the signature of an envelope at a moment, or what it misses.
 #![tactic(auto)]
 
 mod agreement;
@@ -16,6 +16,7 @@ mod logged;
 mod note;
 mod number;
 mod payload_hash;
+mod shortfall;
 mod signature_line;
 mod stamp;
 mod vouching;
@@ -24,4 +25,5 @@ pub use entry::LogEntry;
 pub use inclusion_proof::InclusionProof;
 pub use kind::EntryKind;
 pub use logged::Logged;
-pub use vouching::vouches;
+pub use shortfall::EntryShortfall;
+pub use vouching::{entry_shortfall, vouches};

@@ -1,13 +1,15 @@
-//! Whether an entry vouches for a signature.
-ghost use Rattle.std.specs.Prelude.{◌↔◌, ◌≡◌, ◌*◌, false, pos, IfOk, IsTrue, MatchOption};
+//! Whether an entry vouches for a signature, or which condition it misses.
+ghost use Rattle.std.specs.Prelude.{◌↔◌, ◌*◌, pos, IfOk, IsTrue, MatchOption};
 ghost use Rattle.it_log.specs.Window.{LiesIn};
-ghost use Rattle.it_log_entry.specs.Vouching.{EntryVouches, ProofHolds};
+ghost use Rattle.it_log_entry.specs.EntryMisses.{EntryMisses, IsIncluded};
+ghost use Rattle.it_log_entry.specs.Vouching.{EntryVouches};
+ghost use Rattle.it_log_entry.specs.inside.ProofMisses.{ProofMisses};
 
-use crate::agreement::body_agrees;
+use crate::agreement::{body_agrees, is_read_kind};
 use crate::checkpoint::is_signed_checkpoint;
 use crate::entry::LogEntry;
-use crate::inclusion_proof::InclusionProof;
 use crate::logged::Logged;
+use crate::shortfall::EntryShortfall;
 use crate::stamp::is_promised;
 use it_log::{Log, LogKey, Window};
 use it_merkle::{leads, leaf_hash};
@@ -16,12 +18,52 @@ use std::alloc::{AllocError, Global};
 /// Nanoseconds in a second.
 const NANOSECONDS: i128 = 1_000_000_000;
 
-/// Whether the log vouches, by an entry, that a signature was made with a certificate and logged at
-/// the entry's time. An entry without an inclusion proof vouches only where none is needed.
+/// The first condition that an entry misses, where the log does not vouch by it that a signature
+/// was made with a certificate and logged at the entry's time; `None` where it does. An entry
+/// without an inclusion proof vouches only where none is needed.
 ///
 /// # Errors
 ///
 /// `AllocError` where memory was refused.
+pub fn entry_shortfall(
+    alloc: Global,
+    log: &Log,
+    needs_proof: bool,
+    entry: &LogEntry,
+    logged: &Logged<'_>,
+) -> Result<Option<EntryShortfall>, AllocError>
+    ensures { IfOk result (λ missed. MatchOption missed
+        (EntryVouches log.now needs_proof entry.now logged.now)
+        (EntryMisses log.now needs_proof entry.now logged.now)) }
+{
+    if entry.log_id.as_slice() != log.id.as_slice() {
+        return Ok(Some(EntryShortfall::Log));
+    }
+    if !counts(&log.window, entry.time) {
+        return Ok(Some(EntryShortfall::Time));
+    }
+    if !is_read_kind(&entry.kind) {
+        return Ok(Some(EntryShortfall::Kind));
+    }
+    if !body_agrees(alloc, &entry.kind, entry.body.as_slice(), logged)? {
+        return Ok(Some(EntryShortfall::Body));
+    }
+    if let Some(missed) = proof_shortfall(alloc, &log.key, needs_proof, entry)? {
+        return Ok(Some(missed));
+    }
+    if !is_promised(alloc, log.key.key(), entry)? {
+        return Ok(Some(EntryShortfall::Promise));
+    }
+    Ok(None)
+}
+
+/// Whether the log vouches, by an entry, that a signature was made with a certificate and logged at
+/// the entry's time.
+///
+/// # Errors
+///
+/// `AllocError` where memory was refused.
+#[tactic(auto, using(crate::proofs::Shortfalls::none_where_vouching))]
 pub fn vouches(
     alloc: Global,
     log: &Log,
@@ -32,19 +74,8 @@ pub fn vouches(
     ensures { IfOk result (λ vouches. IsTrue vouches
         ↔ EntryVouches log.now needs_proof entry.now logged.now) }
 {
-    if entry.log_id.as_slice() != log.id.as_slice() {
-        return Ok(false);
-    }
-    if !counts(&log.window, entry.time) {
-        return Ok(false);
-    }
-    if !body_agrees(alloc, &entry.kind, entry.body.as_slice(), logged)? {
-        return Ok(false);
-    }
-    if !is_included(alloc, &log.key, needs_proof, entry)? {
-        return Ok(false);
-    }
-    is_promised(alloc, log.key.key(), entry)
+    let missed = entry_shortfall(alloc, log, needs_proof, entry, logged)?;
+    Ok(missed.is_none())
 }
 
 /// Whether a time, in seconds, lies in the window.
@@ -54,45 +85,29 @@ fn counts(window: &Window, time: u64) -> bool
     window.contains(NANOSECONDS * i128::from(time))
 }
 
-/// Whether the proof of an entry holds, or it has none and needs none.
-fn is_included(
+/// The condition on its proof that an entry misses.
+fn proof_shortfall(
     alloc: Global,
     key: &LogKey,
     needs_proof: bool,
     entry: &LogEntry,
-) -> Result<bool, AllocError>
-    ensures { IfOk result (λ is. IsTrue is ↔ MatchOption entry.now.proof (needs_proof ≡ false)
-        (λ proof. ProofHolds key.now entry.now.body proof)) }
+) -> Result<Option<EntryShortfall>, AllocError>
+    ensures { IfOk result (λ missed. MatchOption missed (IsIncluded key.now needs_proof entry.now)
+        (ProofMisses key.now needs_proof entry.now)) }
 {
-    match &entry.proof {
-        None => Ok(!needs_proof),
-        Some(proof) => holds(alloc, key, entry.body.as_slice(), proof),
+    let proof = match &entry.proof {
+        Some(proof) => proof,
+        None if needs_proof => return Ok(Some(EntryShortfall::NoProof)),
+        None => return Ok(None),
+    };
+    let hash = leaf_hash(entry.body.as_slice());
+    let root = &proof.root;
+    if !leads(&hash, proof.index, proof.size, proof.path.as_slice(), root) {
+        return Ok(Some(EntryShortfall::Inclusion));
     }
-}
-
-fn holds(
-    alloc: Global,
-    key: &LogKey,
-    body: &[u8],
-    proof: &InclusionProof,
-) -> Result<bool, AllocError>
-    ensures { IfOk result (λ is. IsTrue is ↔ ProofHolds key.now body.now proof.now) }
-{
-    let hash = leaf_hash(body);
-    if !leads(
-        &hash,
-        proof.index,
-        proof.size,
-        proof.path.as_slice(),
-        &proof.root,
-    ) {
-        return Ok(false);
+    let checkpoint = proof.checkpoint.as_str();
+    if !is_signed_checkpoint(alloc, key, checkpoint, proof.size, root)? {
+        return Ok(Some(EntryShortfall::Checkpoint));
     }
-    is_signed_checkpoint(
-        alloc,
-        key,
-        proof.checkpoint.as_str(),
-        proof.size,
-        &proof.root,
-    )
+    Ok(None)
 }

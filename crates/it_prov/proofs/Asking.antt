@@ -15,7 +15,7 @@ use Rattle.it_dsse.proofs.Tries.{signed_tries, tries_at_most}
 use Rattle.it_dsse.proofs.Trying.{raised-zero, raised_more}
 use Rattle.it_docs.specs.declared.policy.Builder.{Builder}
 use Rattle.it_prov.specs.Asked.{AtLeast}
-use Rattle.it_prov.specs.Cost.{key_count, signature_count}
+use Rattle.it_prov.specs.Cost.{key_count}
 
 -- ---- one call after another
 pub raised_none : (most : ℕ) (meter now : Meter) → now ≡ meter → RaisedBy (λ n. n ≤ most) meter now
@@ -93,15 +93,6 @@ module _ (start now new : Meter) (i : ℕ) where
       let split = sum_split size xs i x below here in
       leaves_less (keys * size x) (keys * rest) (keys * sum_by size (drop i xs)) total start now new
       (ap (λ n. keys * n) split ∙ omega arith)
-
-  pub leaves_envelope : (keys : ℕ) (envelopes : List Envelope) (envelope : Envelope)
-      → i < length envelopes → envelope ≡ get_or envelopes i envelope
-      → Leaves (keys * signature_count (drop i envelopes)) (keys * signature_count envelopes) start
-      now → RaisedBy (λ n. n ≤ keys * length envelope.signatures) now new
-      → Leaves (keys * signature_count (drop (i + 1) envelopes)) (keys * signature_count envelopes)
-      start new
-  leaves_envelope keys envelopes = leaves_each (λ (e : Envelope). length e.signatures) keys
-      (keys * signature_count envelopes) envelopes
 
 -- ---- one key
 -- the signatures that are tried with a key

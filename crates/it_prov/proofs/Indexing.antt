@@ -1,123 +1,173 @@
--- The index of envelopes by the SHA-256 of their subjects, as it is made.
-use Rattle.std.proofs.Common.{◌≡◌, ◌<◌, ◌+◌, ◌-◌, ◌||◌, ℕ, List, [], ◌∷◌, ◌++◌, length}
-use Rattle.std.proofs.Common.{Bool, true, false, if◌then◌else◌, Option, Some, None}
-use Rattle.std.proofs.Common.{refl, sym, ap, subst, ◌∙◌, arith, nat_cmp, bytes_eq, get_or, take}
-use Rattle.std.specs.BTreeMap.{BTreeMap, get, is_at}
+-- The index of the subjects of Statements, as it is made.
+use Rattle.std.proofs.Common.{◌≡◌, ◌<◌, ◌+◌, ◌==◌, ◌&&◌, ◌||◌, ℕ, zero, suc, List, [], ◌∷◌, ◌++◌}
+use Rattle.std.proofs.Common.{length, Bool, true, false, Option, Some, None, refl, sym, ap, ◌∙◌}
+use Rattle.std.proofs.Common.{Contains, arith, nat_cmp, bytes_eq, get_or, take}
+use Rattle.std.specs.BTreeMap.{get, is_at}
 use Rattle.std.specs.Cmp.Lexicographic.{slice_cmp}
 use Rattle.std.specs.List.{list_any, slice_get}
 use Rattle.std.specs.Option.{UnwrapsOrElse, option_map_or}
 use Rattle.std.specs.declared.alloc.Global.{Global}
 use Rattle.std.specs.declared.vec.Vec.{Vec}
+use Rattle.std.proofs.Math.Bool.{and-false, or-false}
+use Rattle.std.proofs.Math.Dec.{eqb-suc-zero, eqb-zero-suc}
+use Rattle.std.proofs.lemmas.Bool.Decides.{Decides-eqb, same_from_decides}
 use Rattle.std.proofs.lemmas.Cmp.{nat_list_eq_equiv}
-use Rattle.std.proofs.lemmas.List.{length-append, take_more}
-use Rattle.std.proofs.lemmas.List.Folds.{list_any-append}
+use Rattle.std.proofs.lemmas.List.{length-take, take_more}
+use Rattle.std.proofs.lemmas.List.Folds.{list_any-append, list_any-from_Any, list_any_more}
 use Rattle.std.proofs.lemmas.Map.Text.{is_eq-slice_cmp}
 use Rattle.std.proofs.lemmas.Slice.Eq.{bytes_eq-Decides}
-use Rattle.it_digest.specs.DigestSet.{no_digests}
+use Rattle.it_digest.specs.DigestSet.{in_sha256, in_sha384, in_sha512, no_digests}
 use Rattle.it_digest.specs.declared.compare.DigestSet.{DigestSet}
-use Rattle.it_prov.specs.Index.{has_sha256, places_under}
-use Rattle.it_prov.specs.inside.Indexed.{AreAdded, AreBelow, IsAdded, IsEnded}
-use Rattle.it_prov.proofs.Searching.{stands_in}
+use Rattle.it_prov.specs.declared.attestations.Attestation.{Attestation}
+use Rattle.it_prov.specs.declared.index.Entry.{Entry}
+use Rattle.it_prov.specs.declared.index.Index.{Index}
+use Rattle.it_prov.specs.Index.{Entries, IsIndex, entries_by, has_digest, is_of, lists, names}
+use Rattle.it_prov.specs.inside.Indexed.{AreAdded, IsAdded, IsAddedUnder}
 
-abbrev Map : Type 0
-Map = BTreeMap (List ℕ) (Vec ℕ Global)
+-- ---- one element more at the end
+module _ {X : Type 0} (test : X → Bool) where
+  any_with : (xs : List X) (x : X) → Contains xs x → (b : Bool) → test x ≡ b
+      → list_any test xs ≡ (list_any test xs || b)
+  any_with xs x c true e =
+      let any = list_any-from_Any test xs (c.0, x, c.1, c.2, e) in rw any refl
+  any_with xs x c false e = sym (or-false (list_any test xs))
 
--- the places that an entry gives, none where there was no entry
-opened : (found : Option (Vec ℕ Global)) (given : Vec ℕ Global) (Made : Vec ℕ Global → Type 0)
-    → ((v : Vec ℕ Global) → Made v → v.items ≡ []) → UnwrapsOrElse found Made given
-    → given.items ≡ option_map_or (λ places. places.items) found []
-opened None given Made none h = none given h
-opened (Some places) given Made none h = ap (λ (v : Vec ℕ Global). v.items) h
+  -- unless it is there already
+  pub any_kept : (xs : List X) (x : X) → Contains xs x
+      → list_any test xs ≡ (list_any test xs || test x)
+  any_kept xs x c = any_with xs x c (test x) refl
 
-pub added : (digest : List ℕ) (place : ℕ) (old new : Map) (found : Option (Vec ℕ Global))
-    (before after : Vec ℕ Global) (Made : Vec ℕ Global → Type 0)
-    → ((v : Vec ℕ Global) → Made v → v.items ≡ []) → found ≡ get (slice_cmp nat_cmp) old digest
-    → UnwrapsOrElse found Made before → get (slice_cmp nat_cmp) new digest ≡ Some after
-    → ((q : List ℕ) → is_at (slice_cmp nat_cmp digest) q ≡ false
+  pub any_pushed : (xs : List X) (x : X)
+      → list_any test (xs ++ x ∷ []) ≡ (list_any test xs || test x)
+  any_pushed xs x = list_any-append test xs (x ∷ [])
+      ∙ ap (λ b. list_any test xs || b) (or-false (test x))
+
+-- ---- one entry under one digest
+-- a test of what an entry of the map gives, where there was none of nothing
+opened : (test : Entry → Bool) (found : Option (Vec Entry Global)) (given : Vec Entry Global)
+    (Made : Vec Entry Global → Type 0) → ((v : Vec Entry Global) → Made v → v.items ≡ [])
+    → UnwrapsOrElse found Made given
+    → list_any test given.items ≡ option_map_or (λ v. list_any test v.items) found false
+opened test None given Made none h = ap (list_any test) (none given h)
+opened test (Some entries) given Made none h = ap (λ (v : Vec Entry Global). list_any test v.items) h
+
+module _ (digest : List ℕ) (entry : Entry) (old new : Entries) (found : Option (Vec Entry Global))
+    (before after : Vec Entry Global) (Made : Vec Entry Global → Type 0)
+    (none : (v : Vec Entry Global) → Made v → v.items ≡ [])
+    (is : found ≡ get (slice_cmp nat_cmp) old digest) (opens : UnwrapsOrElse found Made before)
+    (puts : get (slice_cmp nat_cmp) new digest ≡ Some after)
+    (keeps : (q : List ℕ) → is_at (slice_cmp nat_cmp digest) q ≡ false
     → get (slice_cmp nat_cmp) new q ≡ get (slice_cmp nat_cmp) old q)
-    → IsEnded place before.items after.items → IsAdded digest place old new
-added digest place old new found before after Made none is opens puts keeps ended =
-    let was : before.items ≡ places_under old digest = opened found before Made none opens
-    ∙ ap (λ o. option_map_or (λ (v : Vec ℕ Global). v.items) o []) is in
-    let now : after.items ≡ places_under new digest =
-    sym (ap (λ o. option_map_or (λ (v : Vec ℕ Global). v.items) o []) puts) in
-    record {
-      here = subst (λ xs. IsEnded place xs (places_under new digest)) was
-          (subst (IsEnded place before.items) now ended);
-      elsewhere = λ other apart. ap (λ o. option_map_or (λ (v : Vec ℕ Global). v.items) o [])
-          (keeps other (is_eq-slice_cmp digest other ∙ apart));
-    }
+    (ended : (test : Entry → Bool)
+    → list_any test after.items ≡ (list_any test before.items || test entry)) where
+  put : (d : List ℕ) (test : DigestSet → Bool) (place : ℕ) (b : Bool) → bytes_eq d digest ≡ b
+      → lists new d test place ≡ (lists old d test place || (b && is_of test place entry))
+  put d test place true e =
+      let same = (bytes_eq-Decides d digest).0 e in
+      let value = λ (o : Option (Vec Entry Global)). option_map_or
+      (λ v. list_any (is_of test place) v.items) o false in
+      let was : list_any (is_of test place) before.items ≡ lists old digest test place =
+      opened (is_of test place) found before Made none opens ∙ ap value is in
+      rw same (ap value puts ∙ ended (is_of test place)
+      ∙ ap (λ b. b || is_of test place entry) was)
+  put d test place false e =
+      let value = λ (o : Option (Vec Entry Global)). option_map_or
+      (λ v. list_any (is_of test place) v.items) o false in
+      ap value (keeps d (is_eq-slice_cmp digest d ∙ nat_list_eq_equiv.symm digest d ∙ e))
+      ∙ sym (or-false (lists old d test place))
+
+  pub put_under : IsAddedUnder (Some digest) entry old new
+  put_under = record { lists_more = λ d test place. put d test place (bytes_eq d digest) refl }
+
+-- where there is no digest, nothing is put
+pub none_under : (entry : Entry) (old : Entries) → IsAddedUnder None entry old old
+none_under entry old =
+    record { lists_more = λ d test place. sym (or-false (lists old d test place)) }
+
+pub put_each : (entry : Entry) (old new : Index)
+    → IsAddedUnder entry.subject.sha256 entry old.by_sha256 new.by_sha256
+    → IsAddedUnder entry.subject.sha384 entry old.by_sha384 new.by_sha384
+    → IsAddedUnder entry.subject.sha512 entry old.by_sha512 new.by_sha512
+    → IsAdded entry old new
+put_each entry old new first second third in_sha256 = first
+put_each entry old new first second third in_sha384 = second
+put_each entry old new first second third in_sha512 = third
 
 -- ---- the subjects of one envelope
-at_end : (xs : List ℕ) (p : ℕ) → slice_get (xs ++ p ∷ []) (length xs) ≡ Some p
-at_end [] p = refl
-at_end (x ∷ xs) p = at_end xs p
+pub none_more : (a p : Bool) → a ≡ (a || (p && false))
+none_more a p = sym (ap (λ b. a || b) (and-false p) ∙ or-false a)
 
-last_is : (xs : List ℕ) (p : ℕ) → slice_get (xs ++ p ∷ []) (length (xs ++ p ∷ []) - 1) ≡ Some p
-last_is xs p =
-    let same : length (xs ++ p ∷ []) - 1 ≡ length xs = omega (arith, length-append xs (p ∷ [])) in
-    ap (slice_get (xs ++ p ∷ [])) same ∙ at_end xs p
+one_more : (a p l h t : Bool)
+    → ((a || (p && l)) || (h && (p && t))) ≡ (a || (p && (l || (h && t))))
+one_more true p l h t = refl
+one_more false true l h t = refl
+one_more false false l true t = refl
+one_more false false l false t = refl
 
--- a place stands at the end once, however often it is put there
-ended_once : (place : ℕ) (old now new : List ℕ) (seen : Bool) → AreBelow place old
-    → now ≡ (if seen then old ++ place ∷ [] else old) → IsEnded place now new
-    → new ≡ old ++ place ∷ []
-ended_once place old now new true below is ended =
-    ended.stays (subst (λ xs. slice_get xs (length xs - 1) ≡ Some place) (sym is)
-    (last_is old place)) ∙ is
-ended_once place old now new false below is ended =
-    ended.grows (λ h. let c : slice_get old (length old - 1) ≡ Some place =
-    subst (λ xs. slice_get xs (length xs - 1) ≡ Some place) is h in
-    let less = below place (stands_in old (length old - 1) place c) in absurd (omega (arith, less)))
-    ∙ ap (λ xs. xs ++ place ∷ []) is
+pub none_added : (here : ℕ) (old : Index) → AreAdded here [] old old
+none_added here old = λ algorithm digest test place.
+    none_more (lists (entries_by algorithm old) digest test place) (here == place)
 
-or_end : (seen b : Bool) → (seen || (b || false)) ≡ (if b then true else seen)
-or_end true true = refl
-or_end true false = refl
-or_end false true = refl
-or_end false false = refl
+pub one_added : (subjects : List DigestSet) (here i : ℕ) → i < length subjects
+    → (old now new : Index) → AreAdded here (take i subjects) old now
+    → IsAdded (record { place = here; subject = get_or subjects i no_digests }) now new
+    → AreAdded here (take (i + 1) subjects) old new
+one_added subjects here i below old now new before added = λ algorithm digest test place.
+    let named = λ (s : DigestSet). has_digest algorithm digest s && test s in
+    let s = get_or subjects i no_digests in
+    let was = lists (entries_by algorithm old) digest test place in
+    (added algorithm).lists_more digest test place
+    ∙ ap (λ b. b || (has_digest algorithm digest s && ((here == place) && test s)))
+    (before algorithm digest test place)
+    ∙ one_more was (here == place) (list_any named (take i subjects))
+    (has_digest algorithm digest s) (test s)
+    ∙ ap (λ b. was || ((here == place) && b)) (sym (list_any_more named subjects i no_digests below))
 
-any_more : (digest : List ℕ) (subjects : List DigestSet) (i : ℕ) → i < length subjects
-    → list_any (has_sha256 digest) (take (i + 1) subjects)
-    ≡ (if has_sha256 digest (get_or subjects i no_digests) then true
-    else list_any (has_sha256 digest) (take i subjects))
-any_more digest subjects i below =
-    ap (list_any (has_sha256 digest)) (take_more subjects i no_digests below)
-    ∙ list_any-append (has_sha256 digest) (take i subjects) (get_or subjects i no_digests ∷ [])
-    ∙ or_end (list_any (has_sha256 digest) (take i subjects))
-    (has_sha256 digest (get_or subjects i no_digests))
+-- ---- one envelope after another
+module _ {X : Type 0} (test : X → Bool) where
+  abbrev passes_at : List X → ℕ → Bool
+  passes_at xs p = option_map_or test (slice_get xs p) false
 
-module _ (subjects : List DigestSet) (place : ℕ) (i : ℕ) (below : i < length subjects)
-    (old now : Map) (before : AreAdded (take i subjects) place old now) where
-  -- with a subject that has no SHA-256
-  pub none_added : (get_or subjects i no_digests).sha256 ≡ None
-      → AreAdded (take (i + 1) subjects) place old now
-  none_added none = λ digest.
-      let any = any_more digest subjects i below in
-      let no : has_sha256 digest (get_or subjects i no_digests) ≡ false =
-      ap (λ o. option_map_or (bytes_eq digest) o false) none in
-      before digest ∙ rw (any, no) refl
+  same_next : (m n : ℕ) → (m == n) ≡ (suc m == suc n)
+  same_next m n = same_from_decides (m == n) (suc m == suc n) (Decides-eqb m n) (
+    λ e. let same = (Decides-eqb (suc m) (suc n)).0 e in omega (arith, same),
+    λ same. (Decides-eqb (suc m) (suc n)).1 (ap suc same),
+  )
 
-  put_under : (d digest : List ℕ) (new : Map) → IsAdded d place now new → (b : Bool)
-      → bytes_eq digest d ≡ b → AreBelow place (places_under old digest)
-      → places_under new digest
-      ≡ (if (if b then true else list_any (has_sha256 digest) (take i subjects))
-      then places_under old digest ++ place ∷ [] else places_under old digest)
-  put_under d digest new added true e less =
-      let same = (bytes_eq-Decides digest d).0 e in
-      ended_once place (places_under old digest) (places_under now digest) (places_under new digest)
-      (list_any (has_sha256 digest) (take i subjects)) less (before digest)
-      (subst (λ k. IsEnded place (places_under now k) (places_under new k)) (sym same) added.here)
-  put_under d digest new added false e less =
-      added.elsewhere digest (nat_list_eq_equiv.symm d digest ∙ e) ∙ before digest
+  at_push : (xs : List X) (x : X) (p : ℕ)
+      → passes_at (xs ++ x ∷ []) p ≡ (passes_at xs p || ((length xs == p) && test x))
+  at_push [] x zero = refl
+  at_push [] x (suc p) = ap (λ b. false || (b && test x)) (sym (eqb-zero-suc p))
+  at_push (y ∷ ys) x zero = sym (or-false (test y))
+      ∙ ap (λ b. test y || (b && test x)) (sym (eqb-suc-zero (length ys)))
+  at_push (y ∷ ys) x (suc p) = at_push ys x p
+      ∙ ap (λ b. passes_at ys p || (b && test x)) (same_next (length ys) p)
 
-  -- with one more that has it
-  pub one_added : (d : List ℕ) (new : Map) → (get_or subjects i no_digests).sha256 ≡ Some d
-      → IsAdded d place now new
-      → ((digest : List ℕ) → AreBelow place (places_under old digest))
-      → AreAdded (take (i + 1) subjects) place old new
-  one_added d new has added less = λ digest.
-      let any = any_more digest subjects i below in
-      let is : has_sha256 digest (get_or subjects i no_digests) ≡ bytes_eq digest d =
-      ap (λ o. option_map_or (bytes_eq digest) o false) has in
-      rw (any, is) (put_under d digest new added (bytes_eq digest d) refl (less digest))
+  at_more : (xs : List X) (i : ℕ) (x : X) → i < length xs → x ≡ get_or xs i x → (p : ℕ)
+      → passes_at (take (i + 1) xs) p ≡ (passes_at (take i xs) p || ((i == p) && test x))
+  at_more xs i x below here p =
+      let more : take (i + 1) xs ≡ take i xs ++ x ∷ [] = take_more xs i x below
+      ∙ ap (λ z. take i xs ++ z ∷ []) (sym here) in
+      let long : length (take i xs) ≡ i = omega (arith, length-take i xs) in
+      ap (λ zs. passes_at zs p) more ∙ at_push (take i xs) x p
+      ∙ ap (λ n. passes_at (take i xs) p || ((n == p) && test x)) long
+
+module _ (held : List (Option Attestation)) (i : ℕ) (below : i < length held)
+    (old : Index) (before : IsIndex (take i held) old) where
+  -- with what one more envelope holds
+  pub indexed_more : (a : Attestation) → Some a ≡ get_or held i (Some a) → (new : Index)
+      → AreAdded i a.statement.subjects old new → IsIndex (take (i + 1) held) new
+  indexed_more a here new added = λ algorithm digest test place.
+      let named = λ (s : DigestSet). has_digest algorithm digest s && test s in
+      added algorithm digest test place
+      ∙ ap (λ b. b || ((i == place) && list_any named a.statement.subjects))
+      (before algorithm digest test place)
+      ∙ sym (at_more (names named) held i (Some a) below here place)
+
+  -- with one that holds nothing
+  pub indexed_none : None ≡ get_or held i None → IsIndex (take (i + 1) held) old
+  indexed_none here = λ algorithm digest test place.
+      let named = λ (s : DigestSet). has_digest algorithm digest s && test s in
+      before algorithm digest test place
+      ∙ none_more (option_map_or (names named) (slice_get (take i held) place) false) (i == place)
+      ∙ sym (at_more (names named) held i None below here place)

@@ -1,4 +1,5 @@
 pub mod Answering
+pub mod Ascending
 pub mod AskedOnce
 pub mod Asking
 pub mod Attesting

@@ -1,46 +1,20 @@
 -- The places of the elements of a list that pass a test.
-use Rattle.std.proofs.Common.{◌≡◌, ◌<◌, ◌≤◌, ◌+◌, ℕ, zero, suc, List, [], ◌∷◌, ◌++◌, length}
+use Rattle.std.proofs.Common.{◌≡◌, ◌<◌, ◌≤◌, ◌+◌, ℕ, zero, suc, List, [], ◌∷◌, length}
 use Rattle.std.proofs.Common.{Bool, true, false, if◌then◌else◌, Some, Contains, take, get_or}
-use Rattle.std.proofs.Common.{inl, inr, refl, sym, ap, subst, ◌∙◌, arith}
+use Rattle.std.proofs.Common.{inl, inr, refl, sym, ap, subst, ◌∙◌, arith, nat_cmp}
+use Rattle.std.specs.Cmp.{nat_cmp_is}
+use Rattle.std.specs.declared.cmp.Ordering.TheVariants.{Less}
 use Rattle.std.specs.List.{slice_get, sum_by}
+use Rattle.std.specs.List.Sorted.{IsStrictlySortedBy}
 use Rattle.std.proofs.lemmas.Bool.{true≢false}
-use Rattle.std.proofs.lemmas.List.{length-take, take_more}
+use Rattle.std.proofs.lemmas.List.Elements.{All-from_get_or, Contains-get_or}
+use Rattle.std.proofs.lemmas.List.Elements.{recursion_from_All}
 use Rattle.std.proofs.lemmas.List.Sums.{sum_by-cons}
-use Rattle.std.proofs.lemmas.Option.{same_Some}
+use Rattle.std.proofs.lemmas.Option.{same_Some, slice_get_within}
 use Rattle.it_base.proofs.Members.{in_cases, in_head, in_none, in_tail}
-use Rattle.it_prov.specs.Index.{places_where}
-
-push_cases : (a b : Bool) (k n m : ℕ) (later rest : List ℕ) → n ≡ m
-    → later ≡ (if b then rest ++ n ∷ [] else rest)
-    → (if a then k ∷ later else later)
-    ≡ (if b then (if a then k ∷ rest else rest) ++ m ∷ [] else (if a then k ∷ rest else rest))
-push_cases true true k n m later rest same e = rw (e, same) refl
-push_cases true false k n m later rest same e = rw e refl
-push_cases false true k n m later rest same e = rw (e, same) refl
-push_cases false false k n m later rest same e = e
+use Rattle.it_prov.specs.inside.Indexed.{AreBelow, places_where}
 
 module _ {X : Type 0} (test : X → Bool) where
-  where_push : (k : ℕ) (xs : List X) (x : X) → places_where test k (xs ++ x ∷ [])
-      ≡ (if test x then places_where test k xs ++ (k + length xs) ∷ [] else places_where test k xs)
-  where_push k [] x = let same : k ≡ k + 0 = omega arith in
-      ap (λ n. if test x then n ∷ [] else []) same
-  where_push k (y ∷ ys) x = push_cases (test y) (test x) k (k + 1 + length ys)
-      (k + length (y ∷ ys)) (places_where test (k + 1) (ys ++ x ∷ []))
-      (places_where test (k + 1) ys) (omega arith) (where_push (k + 1) ys x)
-
-  -- with one element more
-  pub where_more : (xs : List X) (i : ℕ) (x : X) → i < length xs → x ≡ get_or xs i x
-      → places_where test 0 (take (i + 1) xs)
-      ≡ (if test x then places_where test 0 (take i xs) ++ i ∷ []
-      else places_where test 0 (take i xs))
-  where_more xs i x below here =
-      let more : take (i + 1) xs ≡ take i xs ++ x ∷ [] = take_more xs i x below
-      ∙ ap (λ z. take i xs ++ z ∷ []) (sym here) in
-      let long : 0 + length (take i xs) ≡ i = omega (arith, length-take i xs) in
-      ap (places_where test 0) more ∙ where_push 0 (take i xs) x
-      ∙ ap (λ n. if test x then places_where test 0 (take i xs) ++ n ∷ []
-      else places_where test 0 (take i xs)) long
-
   -- what stands at one of the places, if the first of the elements stands at k
   abbrev pub At : ℕ → List X → ℕ → Type 0
   At k xs p = (i : ℕ) × (x : X) × (p ≡ k + i) × (slice_get xs i ≡ Some x) × (test x ≡ true)
@@ -62,6 +36,35 @@ module _ {X : Type 0} (test : X → Bool) where
   where_at k [] p c = absurd (in_none p c)
   where_at k (x ∷ xs) p c = first_at k x xs p (places_where test (k + 1) xs)
       (where_at (k + 1) xs p) (test x) refl c
+
+  -- the places are in order, each once
+  ascends_first : (b : Bool) (k : ℕ) (rest : List ℕ)
+      → ((p : ℕ) → Contains rest p → k < p) → IsStrictlySortedBy nat_cmp rest
+      → IsStrictlySortedBy nat_cmp (if b then k ∷ rest else rest)
+  unfolding IsStrictlySortedBy
+  ascends_first true k rest above h = (
+    recursion_from_All (λ p. nat_cmp k p ≡ Less) rest
+        (All-from_get_or (λ p. nat_cmp k p ≡ Less) rest 0
+        (λ i below. let p = get_or rest i 0 in
+        sym (nat_cmp_is k p Less (above p (Contains-get_or rest i 0 below))))),
+    h,
+  )
+  ascends_first false k rest above h = h
+
+  pub where_ascends : (k : ℕ) (xs : List X) → IsStrictlySortedBy nat_cmp (places_where test k xs)
+  unfolding IsStrictlySortedBy
+  where_ascends k [] = tt
+  where_ascends k (x ∷ xs) = ascends_first (test x) k (places_where test (k + 1) xs)
+      (λ p c. let at = where_at (k + 1) xs p c in let is = at.2 in omega (arith, is))
+      (where_ascends (k + 1) xs)
+
+  -- and below the number of the elements
+  pub where_below : (xs : List X) → AreBelow (length xs) (places_where test 0 xs)
+  where_below xs = λ p c.
+      let at = where_at 0 xs p c in
+      let within = slice_get_within xs at.0 at.1 at.3 in
+      let is = at.2 in
+      omega (arith, within, is)
 
   has_first : (b : Bool) (k : ℕ) (rest : List ℕ) (p : ℕ) → b ≡ true → p ≡ k
       → Contains (if b then k ∷ rest else rest) p

@@ -72,15 +72,6 @@ module _ (panel : Panel) (expectations : List Expectation) (expectation : Expect
       subst (λ (s : Statement). SaysExpected expectation s m.besides_level.provenance)
       (statement_same envelope.payload a.statement statement a.reads held.reads) says
 
-  meets_has : (a : Attestation) → IsHeld panel expectations envelope a.statement
-      → (level : ℕ) → MeetsAtLevel panel expectation digests envelope level → HasSubject digests a
-  meets_has a held level m =
-      let at = m.besides_level.attests in
-      let c = subst (λ (s : Statement). Contains s.subjects at.subject)
-      (statement_same envelope.payload at.statement a.statement at.reads held.reads) at.is_subject
-      in
-      (c.0, at.subject, c.1, c.2, at.digests_agree)
-
   -- ---- with which level an envelope meets an expectation in all else
   none_reached : (meter : Meter)
       → ((level : ℕ) → ¬ MeetsAtLevel panel expectation digests envelope level)
@@ -97,13 +88,6 @@ module _ (panel : Panel) (expectations : List Expectation) (expectation : Expect
       → IsReached panel expectation digests envelope meter meter None
   unread_reached meter none =
       none_reached meter (λ level m. none m.besides_level.attests.statement (held_of level m))
-
-  -- none, where no subject has the digests
-  pub unnamed_reached : (meter : Meter) (a : Attestation)
-      → IsHeld panel expectations envelope a.statement → ¬ HasSubject digests a
-      → IsReached panel expectation digests envelope meter meter None
-  unnamed_reached meter a held none =
-      none_reached meter (λ level m. none (meets_has a held level m))
 
   -- none, where the Statement does not say what is expected
   pub unsaid_reached : (meter : Meter) (statement : Statement)

@@ -1,6 +1,6 @@
--- Which envelopes hold a Statement with a subject of a given SHA-256, as an index made for a search
+-- Which envelopes hold a Statement with a subject of a given digest, as an index made for a search
 -- (specific to this project; no standard covers it).
-use Rattle.std.specs.Prelude.{◌≡◌, ◌+◌, ℕ, List, [], ◌∷◌, Bool, false, Option, if◌then◌else◌}
+use Rattle.std.specs.Prelude.{◌≡◌, ◌==◌, ◌&&◌, ℕ, List, Bool, false, Option, slice_get}
 use Rattle.std.specs.BTreeMap.{BTreeMap, get}
 use Rattle.std.specs.Cmp.Lexicographic.{slice_cmp}
 use Rattle.std.specs.List.{list_any}
@@ -9,31 +9,48 @@ use Rattle.std.specs.Ordering.{nat_cmp}
 use Rattle.std.specs.Str.{bytes_eq}
 use Rattle.std.specs.declared.alloc.Global.{Global}
 use Rattle.std.specs.declared.vec.Vec.{Vec}
+use Rattle.it_digest.specs.DigestSet.{Algorithm, in_sha256, in_sha384, in_sha512, value_in}
 use Rattle.it_digest.specs.declared.compare.DigestSet.{DigestSet}
 use Rattle.it_prov.specs.declared.attestations.Attestation.{Attestation}
+use Rattle.it_prov.specs.declared.index.Entry.{Entry}
+use Rattle.it_prov.specs.declared.index.Index.{Index}
 
--- whether a subject has this SHA-256
-abbrev pub has_sha256 : List ℕ → DigestSet → Bool
-has_sha256 digest subject = option_map_or (bytes_eq digest) subject.sha256 false
+-- whether an envelope holds a Statement with a subject that passes a test
+abbrev pub names : (DigestSet → Bool) → Option Attestation → Bool
+names test held = option_map_or (λ a. list_any test a.statement.subjects) held false
 
--- whether an envelope holds a Statement with a subject of this SHA-256
-abbrev pub names_sha256 : List ℕ → Option Attestation → Bool
-names_sha256 digest held =
-    option_map_or (λ a. list_any (has_sha256 digest) a.statement.subjects) held false
+-- whether the envelope at a place does
+abbrev pub names_at : (DigestSet → Bool) → List (Option Attestation) → ℕ → Bool
+names_at test held place = option_map_or (names test) (slice_get held place) false
 
--- the places of the elements that pass a test, in order, given the place of the first element
-abbrev pub places_where : {X : Type 0} → (X → Bool) → ℕ → List X → List ℕ
-places_where test first [] = []
-places_where test first (x ∷ xs) =
-    if test x then first ∷ places_where test (first + 1) xs else places_where test (first + 1) xs
+-- entries under digests of one algorithm
+abbrev pub Entries : Type 0
+Entries = BTreeMap (List ℕ) (Vec Entry Global)
 
--- the places listed under a SHA-256
-abbrev pub places_under : BTreeMap (List ℕ) (Vec ℕ Global) → List ℕ → List ℕ
-places_under by_sha256 digest =
-    option_map_or (λ places. places.items) (get (slice_cmp nat_cmp) by_sha256 digest) []
+-- the entries under the digests of an algorithm
+abbrev pub entries_by : Algorithm → Index → Entries
+entries_by in_sha256 index = index.by_sha256
+entries_by in_sha384 index = index.by_sha384
+entries_by in_sha512 index = index.by_sha512
 
--- under each SHA-256 are the places of the envelopes with a subject that has it
-abbrev pub IsIndex : List (Option Attestation) → BTreeMap (List ℕ) (Vec ℕ Global) → Type 0
-IsIndex held by_sha256 =
-    (digest : List ℕ)
-    → places_under by_sha256 digest ≡ places_where (names_sha256 digest) 0 held
+-- whether a subject has a digest under an algorithm
+abbrev pub has_digest : Algorithm → List ℕ → DigestSet → Bool
+has_digest algorithm digest subject =
+    option_map_or (bytes_eq digest) (value_in algorithm subject) false
+
+-- whether an entry is of the envelope at a place, and its subject passes a test
+abbrev pub is_of : (DigestSet → Bool) → ℕ → Entry → Bool
+is_of test place entry = (entry.place == place) && test entry.subject
+
+-- whether one of the entries under a digest is
+abbrev pub lists : Entries → List ℕ → (DigestSet → Bool) → ℕ → Bool
+lists entries digest test place = option_map_or
+    (λ found. list_any (is_of test place) found.items) (get (slice_cmp nat_cmp) entries digest)
+    false
+
+-- under each digest are the subjects that have it
+abbrev pub IsIndex : List (Option Attestation) → Index → Type 0
+IsIndex held index =
+    (algorithm : Algorithm) (digest : List ℕ) (test : DigestSet → Bool) (place : ℕ)
+    → lists (entries_by algorithm index) digest test place
+    ≡ names_at (λ subject. has_digest algorithm digest subject && test subject) held place

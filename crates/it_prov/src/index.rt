@@ -1,81 +1,126 @@
-//! The index of envelopes by the SHA-256 of the subjects of their Statements.
-ghost use Rattle.std.specs.Prelude.{◌≡◌, List, ℕ, IfOk, OnOk};
-ghost use Rattle.it_prov.specs.Index.{IsIndex, places_under};
-ghost use Rattle.it_prov.specs.inside.Indexed.{AreAdded, AreBelow, IsAdded, IsEnded};
+//! The index of the subjects of Statements, by each of their digests.
+ghost use Rattle.std.specs.Prelude.{◌≡◌, ◌||◌, ℕ, Bool, Contains, IfOk, IsTrue, OnOk, false};
+ghost use Rattle.std.specs.List.{list_any};
+ghost use Rattle.std.specs.Option.{option_map_or};
+ghost use Rattle.it_digest.specs.declared.compare.DigestSet.{DigestSet};
+ghost use Rattle.it_prov.specs.declared.index.Entry.{Entry};
+ghost use Rattle.it_prov.specs.Index.{IsIndex, is_of, lists};
+ghost use Rattle.it_prov.specs.inside.Indexed.{AreAdded, IsAdded, IsAddedUnder};
 
 use crate::attestations::Attestation;
 use it_digest::compare::DigestSet;
 use std::alloc::{AllocError, Global};
 use std::collections::BTreeMap;
 
-/// The places of the envelopes that hold a Statement, by the SHA-256 of its subjects: in order, and
-/// each only once under a SHA-256.
-pub(crate) fn index_of(
-    alloc: Global,
-    held: &[Option<Attestation>],
-) -> Result<BTreeMap<[u8; 32], Vec<usize>>, AllocError>
-    ensures { IfOk result (IsIndex held.now) }
-{
-    let mut by_sha256 = BTreeMap::new(alloc);
-    for (place, one) in held.iter().enumerate() {
-        if let Some(attestation) = one {
-            add_each(
-                &mut by_sha256,
-                attestation.statement.subjects.as_slice(),
-                place,
-            )?;
-        }
-    }
-    Ok(by_sha256)
+/// A subject of the Statement that an envelope holds.
+#[derive(Clone, Copy, PartialEq, Eq)]
+pub(crate) struct Entry {
+    /// The place of the envelope.
+    pub(crate) place: usize,
+    /// The subject.
+    pub(crate) subject: DigestSet,
 }
 
-/// The places listed under a SHA-256.
-pub(crate) fn places_of<'a>(
-    by_sha256: &'a BTreeMap<[u8; 32], Vec<usize>>,
-    digest: &[u8; 32],
-) -> &'a [usize]
-    ensures { result.now ≡ places_under by_sha256.now digest.now }
+/// The subjects of the Statements that envelopes hold, under each digest that they have. Under a
+/// digest, those of one envelope stand together, and equal ones next to each other are one entry.
+#[derive(Drop)]
+pub(crate) struct Index {
+    pub(crate) by_sha256: BTreeMap<[u8; 32], Vec<Entry>>,
+    pub(crate) by_sha384: BTreeMap<[u8; 48], Vec<Entry>>,
+    pub(crate) by_sha512: BTreeMap<[u8; 64], Vec<Entry>>,
+}
+
+impl Index {
+    /// The index of the Statements that envelopes hold.
+    pub(crate) fn of(alloc: Global, held: &[Option<Attestation>]) -> Result<Index, AllocError>
+        ensures { IfOk result (IsIndex held.now) }
+    {
+        let mut index = Index {
+            by_sha256: BTreeMap::new(alloc),
+            by_sha384: BTreeMap::new(alloc),
+            by_sha512: BTreeMap::new(alloc),
+        };
+        for (place, one) in held.iter().enumerate() {
+            if let Some(attestation) = one {
+                index.add_each(place, attestation.statement.subjects.as_slice())?;
+            }
+        }
+        Ok(index)
+    }
+
+    /// Adds the subjects of the Statement that the envelope at a place holds.
+    fn add_each(&mut self, place: usize, subjects: &[DigestSet]) -> Result<(), AllocError>
+        ensures { OnOk result (AreAdded place subjects.now self.old self.new) }
+    {
+        for subject in subjects {
+            self.add(Entry {
+                place,
+                subject: *subject,
+            })?;
+        }
+        Ok(())
+    }
+
+    fn add(&mut self, entry: Entry) -> Result<(), AllocError>
+        ensures { OnOk result (IsAdded entry self.old self.new) }
+    {
+        add_under(&mut self.by_sha256, entry.subject.sha256, entry)?;
+        add_under(&mut self.by_sha384, entry.subject.sha384, entry)?;
+        add_under(&mut self.by_sha512, entry.subject.sha512, entry)?;
+        Ok(())
+    }
+}
+
+/// The entries under a digest.
+pub(crate) fn entries_under<'a, const N: usize>(
+    entries: &'a BTreeMap<[u8; N], Vec<Entry>>,
+    digest: &Option<[u8; N]>,
+) -> &'a [Entry]
+    ensures { (test : DigestSet → Bool) (place : ℕ)
+        → list_any (is_of test place) result.now
+        ≡ option_map_or (λ d. lists entries.now d test place) digest.now false }
 {
-    match by_sha256.get(digest) {
-        Some(places) => places.as_slice(),
+    let Some(digest) = digest else {
+        return &[];
+    };
+    match entries.get(digest) {
+        Some(found) => found.as_slice(),
         None => &[],
     }
 }
 
-fn add_each(
-    by_sha256: &mut BTreeMap<[u8; 32], Vec<usize>>,
-    subjects: &[DigestSet],
-    place: usize,
+/// Adds an entry under a digest, if there is one.
+fn add_under<const N: usize>(
+    entries: &mut BTreeMap<[u8; N], Vec<Entry>>,
+    digest: Option<[u8; N]>,
+    entry: Entry,
 ) -> Result<(), AllocError>
-    requires { (digest : List ℕ) → AreBelow place (places_under by_sha256.old digest) }
-    ensures { OnOk result (AreAdded subjects.now place by_sha256.old by_sha256.new) }
+    ensures { OnOk result (IsAddedUnder digest.entry entry entries.old entries.new) }
 {
-    for subject in subjects {
-        if let Some(digest) = subject.sha256 {
-            add(by_sha256, digest, place)?;
-        }
+    if let Some(digest) = digest {
+        end_with(entries.entry(digest)?.or_default(), entry)?;
     }
     Ok(())
 }
 
-fn add(
-    by_sha256: &mut BTreeMap<[u8; 32], Vec<usize>>,
-    digest: [u8; 32],
-    place: usize,
-) -> Result<(), AllocError>
-    ensures { OnOk result (IsAdded digest place by_sha256.old by_sha256.new) }
+/// Puts an entry at the end, unless it is there already.
+fn end_with(entries: &mut Vec<Entry>, entry: Entry) -> Result<(), AllocError>
+    ensures { OnOk result ((test : Entry → Bool)
+        → list_any test entries.new.items ≡ (list_any test entries.old.items || test entry)) }
 {
-    end_with(by_sha256.entry(digest)?.or_default(), place)?;
-    Ok(())
-}
-
-/// Puts a place at the end, unless it is there already.
-fn end_with(places: &mut Vec<usize>, place: usize) -> Result<(), AllocError>
-    ensures { OnOk result (IsEnded place places.old.items places.new.items) }
-{
-    if places.last().copied() == Some(place) {
+    if is_last(entries.as_slice(), &entry) {
         return Ok(());
     }
-    places.push(place)?;
+    entries.push(entry)?;
     Ok(())
+}
+
+/// Whether an entry is the last one.
+fn is_last(entries: &[Entry], entry: &Entry) -> bool
+    ensures { IsTrue result → Contains entries.now entry.now }
+{
+    match entries.last() {
+        Some(last) => last == entry,
+        None => false,
+    }
 }

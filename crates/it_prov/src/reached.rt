@@ -30,36 +30,10 @@ pub(crate) struct Sought<'a, 'n> {
     pub(crate) ignored: &'a BTreeSet<&'n str>,
 }
 
-/// The level of a builder with which an envelope meets the expectation in all but the level, by
-/// what it attests: one that is high enough, otherwise the greatest.
+/// The level of a builder with which an envelope with a subject that agrees with the digests meets
+/// the expectation in all but the level, by what it attests: one that is high enough, otherwise the
+/// greatest.
 pub(crate) fn level_reached(
-    sought: &Sought,
-    digests: &DigestSet,
-    held: &Option<Attestation>,
-    meter: &mut Meter,
-) -> Option<u8>
-    requires names { HasNames sought.now.expectation.now.ignore sought.now.ignored.now }
-    requires answers { IfSome held.now
-        (HasAnswers sought.now.place sought.now.expectation.now.builders) }
-    ensures { (panel : Panel) (expectations : List Expectation) (envelope : Envelope)
-        → slice_get expectations sought.now.place ≡ Some sought.now.expectation.now
-        → HoldsOrNone panel expectations envelope held.now
-        → IsReached panel sought.now.expectation.now digests.now envelope meter.old meter.new
-        result }
-{
-    let Some(attestation) = held else {
-        return None;
-    };
-    if some_agrees(attestation.statement.subjects.as_slice(), digests) {
-        level_of_statement(sought, attestation, meter)
-    } else {
-        None
-    }
-}
-
-/// `level_reached` for an envelope that the index gives: a subject is known to have the digests, so
-/// none is looked at.
-pub(crate) fn level_listed(
     sought: &Sought,
     held: &Option<Attestation>,
     meter: &mut Meter,

@@ -23,10 +23,11 @@ use std::alloc::{AllocError, Global};
 /// and 5.2). A sublayout that counts under several key ids is listed under each.
 ///
 /// The `checks` check the signatures. Each file of a folder is read once as a layout, those that
-/// are one are looked at for each key id of each step, and each sublayout is verified once for its
-/// records. So this costs at most as many times what the verification of the layout did as
-/// sublayouts are nested deep, beside the files that are layouts times the key ids of all steps.
-/// Where no file is a layout, no signature is checked.
+/// are one are looked at for each key id of each step, and each sublayout is verified for its
+/// records once for each key id that it counts under. So where no two of these ids share a folder,
+/// this costs at most as many times what the verification of the layout did as sublayouts are
+/// nested deep, beside the files that are layouts times the key ids of all steps. Where no file is
+/// a layout, no signature is checked.
 ///
 /// # Errors
 ///

@@ -12,8 +12,9 @@ use Rattle.it_dsse.specs.Signed.{message_of}
 use Rattle.it_identity.specs.declared.identity.Identity.{Identity}
 use Rattle.it_trust_root.specs.declared.root.TrustedRoot.{TrustedRoot}
 use Rattle.it_vouches.specs.Found.{AreFound}
-use Rattle.it_vouches.specs.Vouches.{Vouches}
+use Rattle.it_vouches.specs.Vouches.{Vouches, VouchesAt}
 use Rattle.it_vouches.specs.declared.shortfall.Shortfall.{Shortfall}
+use Rattle.it_vouches.specs.declared.voucher.Voucher.{Voucher}
 use Rattle.it_vouches.proofs.Found.{found_more}
 use Rattle.it_vouched.specs.Line.{AreVouched, IsVouched, VouchesForNone}
 use Rattle.it_vouched.specs.Silent.{AreSilent, IsSilent, LineMisses, MissesNothing, Numbered, numbered_from}
@@ -22,21 +23,28 @@ use Rattle.it_vouched.specs.declared.vouched.Vouched.{Vouched}
 use Rattle.it_vouched.proofs.Lines.{as_found, no_signature}
 
 -- a bundle that vouches for an identity, and the message and the one signature of its envelope
-pub found_with : (root : TrustedRoot) (line : List ℕ) (bundle : SigstoreBundle) (identity : Identity) → BundleOf line bundle
-    → Vouches root bundle identity → (found : Option Vouched)
+pub found_with : (root : TrustedRoot) (line : List ℕ) (bundle : SigstoreBundle) (voucher : Voucher) → BundleOf line bundle
+    → VouchesAt root bundle voucher.identity voucher.time → (found : Option Vouched)
     → MatchOption found
     ((bytes : List ℕ) → map (λ s. s.sig) bundle.envelope.signatures ≡ bytes ∷ [] → ⊥)
-    (λ v. (v.identity ≡ identity) × (v.message ≡ message_of bundle.envelope)
+    (λ v. (v.identity ≡ voucher.identity) × (v.time ≡ voucher.time) × (v.message ≡ message_of bundle.envelope)
     × (map (λ s. s.sig) bundle.envelope.signatures ≡ v.signature ∷ []))
     → Finds (IsVouched root line) found
-found_with root line bundle identity is vouches None none = no_signature root line bundle identity vouches none
-found_with root line bundle identity is vouches (Some v) parts = record {
-  bundle = bundle;
-  bundle_is = is;
-  vouches = subst (Vouches root bundle) (sym parts.0) vouches;
-  message_is = parts.1;
-  one_signature = parts.2;
-}
+found_with root line bundle voucher is told None none = no_signature root line bundle voucher.identity told.vouches none
+found_with root line bundle voucher is told (Some v) parts =
+    let by : VouchesAt root bundle v.identity v.time =
+    subst (VouchesAt root bundle v.identity) (sym parts.1)
+    (subst (λ (i : Identity). VouchesAt root bundle i voucher.time) (sym parts.0) told) in
+    record {
+      line_vouches = record {
+        bundle = bundle;
+        bundle_is = is;
+        vouches = by.vouches;
+        message_is = parts.2;
+        one_signature = parts.3;
+      };
+      by_entry = by;
+    }
 
 -- a bundle that vouches for somebody misses nothing
 pub vouches_for_one : (root : TrustedRoot) (line : List ℕ) (bundle : SigstoreBundle) (identity : Identity) → BundleOf line bundle

@@ -5,3 +5,4 @@ pub mod Lines
 pub mod Parts
 pub mod Saying
 pub mod Signing
+pub mod TestedIdentity

@@ -1,5 +1,5 @@
 -- What lines vouch for, line by line.
-use Rattle.std.proofs.Common.{◌≡◌, ◌∙◌, ℕ, List, [], ◌∷◌, All, get_or, map, sym, subst, ap}
+use Rattle.std.proofs.Common.{◌≡◌, ◌∙◌, ℕ, List, [], ◌∷◌, All, get_or, map, sym, subst, ap, refl}
 use Rattle.std.proofs.Common.{Option, Some, None, MatchOption}
 use Rattle.std.specs.List.{Contains}
 use Rattle.std.proofs.lemmas.List.Elements.{Contains-get_or}
@@ -44,8 +44,11 @@ line_same root line i j m n s t one two =
 element_of : (root : TrustedRoot) (lines : List (List ℕ)) (vouched : List Vouched) (line : List ℕ) (i : Identity) (m s : List ℕ)
     → AreVouched root lines vouched → Contains lines line → LineVouches root line i m s → IsAmong (IsVouched root) line vouched
 element_of root lines vouched line i m s are among is =
-    let here : Vouched = record { identity = i; message = m; signature = s } in
-    of_found (VouchesForNone root) (IsVouched root) lines vouched line are among (λ none. none here is)
+    let here : Vouched = record { identity = i; message = m; signature = s; time = is.vouches.entry.time } in
+    of_found (VouchesForNone root) (IsVouched root) lines vouched line are among (λ none. none here (record {
+      line_vouches = is;
+      by_entry = record { vouches = is.vouches; time_is = refl };
+    }))
 
 pub line_of : (root : TrustedRoot) (lines : List (List ℕ)) (vouched : List Vouched) (v : Vouched) → AreVouched root lines vouched
     → Contains vouched v → IsOf (IsVouched root) lines v
@@ -55,7 +58,7 @@ pub each_identity : (root : TrustedRoot) (lines : List (List ℕ)) (vouched : Li
     → All (λ v. IsIdentity v.identity) vouched
 each_identity root lines vouched are k d below =
     let of = line_of root lines vouched (get_or vouched k d) are (Contains-get_or vouched k d below) in
-    of.is.vouches.is_identity
+    of.is.line_vouches.vouches.is_identity
 
 -- what a line vouches for is valid
 pub valid_where : (root : TrustedRoot) (lines : List (List ℕ)) (vouched : List Vouched) (line : List ℕ) (i : Identity) (m s : List ℕ)
@@ -63,7 +66,7 @@ pub valid_where : (root : TrustedRoot) (lines : List (List ℕ)) (vouched : List
 valid_where root lines vouched line i m s are among is =
     let element = element_of root lines vouched line i m s are among is in
     let v = element.found in
-    let same = line_same root line i v.identity m v.message s v.signature is element.is in
+    let same = line_same root line i v.identity m v.message s v.signature is element.is.line_vouches in
     any_of_contains (Says (number_of i) m s) vouched v element.among (record {
       number_is = ap number_of (sym same.identity);
       message_is = sym same.message;
@@ -78,13 +81,14 @@ as_found root line (Some v) finds = finds
 
 -- ---- reading a line
 pub no_bundle : (root : TrustedRoot) (line : List ℕ) → ((b : SigstoreBundle) → BundleOf line b → ⊥) → VouchesForNone root line
-no_bundle root line none v is = none is.bundle is.bundle_is
+no_bundle root line none v is = none is.line_vouches.bundle is.line_vouches.bundle_is
 
 pub for_none : (root : TrustedRoot) (line : List ℕ) (bundle : SigstoreBundle) → BundleOf line bundle
     → ((i : Identity) → Vouches root bundle i → ⊥) → VouchesForNone root line
 for_none root line bundle bundle_is none v is =
-    let same = bundle_same line is.bundle bundle is.bundle_is bundle_is in
-    none v.identity (subst (λ (b : SigstoreBundle). Vouches root b v.identity) same is.vouches)
+    let by = is.line_vouches in
+    let same = bundle_same line by.bundle bundle by.bundle_is bundle_is in
+    none v.identity (subst (λ (b : SigstoreBundle). Vouches root b v.identity) same by.vouches)
 
 pub no_signature : (root : TrustedRoot) (line : List ℕ) (bundle : SigstoreBundle) (identity : Identity) → Vouches root bundle identity
     → ((bytes : List ℕ) → map (λ x. x.sig) bundle.envelope.signatures ≡ bytes ∷ [] → ⊥) → VouchesForNone root line

@@ -33,9 +33,9 @@ vouched_where root lines vouched i m s are all good bytes valid =
     let among = contains_of_any (Says (number_of i) m s) vouched valid in
     let of = line_of root lines vouched v are among in
     let says = valid.4 in
-    let same = numbers_tell v.identity i of.is.vouches.is_identity good (each_of_bytes vouched v all among) bytes says.number_is in
+    let same = numbers_tell v.identity i of.is.line_vouches.vouches.is_identity good (each_of_bytes vouched v all among) bytes says.number_is in
     any_of_contains (λ line. LineVouches root line i m s) lines of.element of.among
-    (spoken root of.element v i m s same says.message_is says.signature_is of.is)
+    (spoken root of.element v i m s same says.message_is says.signature_is of.is.line_vouches)
 
 pub valid_means : (root : TrustedRoot) (lines : List (List ℕ)) (vouched : List Vouched) (i : Identity) (m s : List ℕ)
     → AreVouched root lines vouched → All (λ v. IsOfBytes v.identity) vouched → IsIdentity i → IsOfBytes i
@@ -53,7 +53,7 @@ more_said root lines more vouched wider are others within n m s valid =
     let v = valid.1 in
     let of = line_of root lines vouched v are (contains_of_any (Says n m s) vouched valid) in
     let says = valid.4 in
-    let line = spoken root of.element v v.identity m s (λ i. v.identity) says.message_is says.signature_is of.is in
+    let line = spoken root of.element v v.identity m s (λ i. v.identity) says.message_is says.signature_is of.is.line_vouches in
     let there = valid_where root more wider of.element v.identity m s others (within of.element of.among) line in
     subst (λ (x : ℕ). IsValid wider x m s) says.number_is there
 

@@ -10,13 +10,18 @@ use Rattle.it_identity.specs.declared.identity.Identity.{Identity}
 use Rattle.it_trust_root.specs.declared.root.TrustedRoot.{TrustedRoot}
 use Rattle.it_vouched.specs.Check.{vouched_check}
 use Rattle.it_vouched.specs.Line.{AreVouched, LineVouches}
-use Rattle.it_vouched.specs.ObjectIdentity.{identity_in}
+use Rattle.it_vouched.specs.ObjectIdentity.{describes, identity_in}
 use Rattle.it_vouched.specs.declared.vouched.Vouched.{Vouched}
 
 -- the identity of a key object is the one that the document describes
 abbrev pub IdentityIsDescribed : Type 0
 IdentityIsDescribed = (d : Data) (object : KeyObject) (identity : Identity) → IsKeyObject d object
     → DescribesIdentity d identity ↔ (identity_in object ≡ Some identity)
+
+-- the test says whether this is the identity of the key object
+abbrev pub DescribesIdentityIn : Type 0
+DescribesIdentityIn = (object : KeyObject) (identity : Identity)
+    → IsTrue (describes object identity) ↔ (identity_in object ≡ Some identity)
 
 -- objects with keys of one number have one identity and one issuer, whatever their ids are
 abbrev pub OneKey : KeyObject → KeyObject → Type 0

@@ -20,3 +20,8 @@ abbrev pub identity_in : KeyObject → Option Identity
 identity_in object =
     if has_identity object
     then Some (record { name = object.identity; issuer = object.issuer }) else None
+
+-- this is the identity that an object describes, as a test
+abbrev pub describes : KeyObject → Identity → Bool
+describes object identity = has_identity object
+    && (bytes_eq object.identity identity.name && bytes_eq object.issuer identity.issuer)

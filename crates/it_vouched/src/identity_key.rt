@@ -57,7 +57,7 @@ impl IdentityKey {
 }
 
 /// Whether an object describes an identity.
-fn has_identity(object: &KeyObject) -> bool
+pub(crate) fn has_identity(object: &KeyObject) -> bool
     ensures { result ≡ has_identity object.now }
 {
     object.scheme.as_str() == "Fulcio"

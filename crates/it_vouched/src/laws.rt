@@ -1,14 +1,19 @@
 //! Laws about what lines vouch for: functions that do nothing, and whose contracts say what was
 //! proved.
 ghost use Rattle.std.specs.Prelude.{◌<◌, ℕ, slice_index};
-ghost use Rattle.it_vouched.specs.Laws.{IdentityIsDescribed, MoreLinesSignMore, OneKey};
-ghost use Rattle.it_vouched.specs.Laws.{ValidMeansVouched};
+ghost use Rattle.it_vouched.specs.Laws.{DescribesIdentityIn, IdentityIsDescribed};
+ghost use Rattle.it_vouched.specs.Laws.{MoreLinesSignMore, OneKey, ValidMeansVouched};
 
 use it_dsse::key_object::KeyObject;
 
 /// The identity of a key object is the one that the document describes.
 pub fn identity_is_described()
     ensures { IdentityIsDescribed }
+{}
+
+/// The test says whether this is the identity of the key object.
+pub fn describes_identity_in()
+    ensures { DescribesIdentityIn }
 {}
 
 /// Two objects with keys of one number have one identity and one issuer.

@@ -10,6 +10,7 @@
 #![tactic(auto)]
 
 mod asked;
+mod describing;
 mod identity_key;
 mod joining;
 mod judged_lines;
@@ -19,6 +20,7 @@ mod silent_notes;
 mod vouched;
 mod vouched_lines;
 
+pub use describing::describes;
 pub use identity_key::IdentityKey;
 pub use judged_lines::JudgedLines;
 pub use silent_line::SilentLine;

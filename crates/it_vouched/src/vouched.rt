@@ -10,7 +10,7 @@ use it_bundle::{SigstoreBundle, read_bundle};
 use it_dsse::envelope::{Envelope, Signature};
 use it_dsse::pae;
 use it_identity::Identity;
-use it_vouches::{Judged, Shortfall, Trust, judged};
+use it_vouches::{Judged, Shortfall, Trust, Voucher, judged};
 use std::alloc::{AllocError, Global};
 
 /// An identity that is vouched for, and with what.
@@ -22,6 +22,9 @@ pub struct Vouched {
     pub message: Sequence<u8>,
     /// The envelope's one signature.
     pub signature: Sequence<u8>,
+    /// The time of an entry of a transparency log by which the bundle vouches, in seconds since
+    /// 1970.
+    pub time: u64,
 }
 
 /// What is judged of a line.
@@ -55,8 +58,8 @@ pub(crate) fn judged_line(
         });
     };
     match judged(alloc, trust, &bundle)? {
-        Judged::For(identity) => Ok(LineJudged {
-            vouched: vouched_with(alloc, &bundle, identity)?,
+        Judged::For(voucher) => Ok(LineJudged {
+            vouched: vouched_with(alloc, &bundle, voucher)?,
             shortfall: None,
         }),
         Judged::Misses(shortfall) => Ok(LineJudged {
@@ -66,15 +69,16 @@ pub(crate) fn judged_line(
     }
 }
 
-/// The identity that a bundle vouches for, with the message and the signature of its envelope.
+/// What a bundle vouches for, with the message and the signature of its envelope.
 fn vouched_with(
     alloc: Global,
     bundle: &SigstoreBundle,
-    identity: Identity,
+    voucher: Voucher,
 ) -> Result<Option<Vouched>, AllocError>
     ensures { IfOk result (λ found. MatchOption found
         ((bytes : List ℕ) → map (λ s. s.sig) bundle.now.envelope.signatures ≡ bytes ∷ [] → ⊥)
-        (λ v. (v.identity ≡ identity) × (v.message ≡ message_of bundle.now.envelope)
+        (λ v. (v.identity ≡ voucher.identity) × (v.time ≡ voucher.time)
+        × (v.message ≡ message_of bundle.now.envelope)
         × (map (λ s. s.sig) bundle.now.envelope.signatures ≡ v.signature ∷ []))) }
 {
     let Some(signature) = only_signature(alloc, bundle.envelope.signatures.as_slice())? else {
@@ -82,9 +86,10 @@ fn vouched_with(
     };
     let message = message_of(alloc, &bundle.envelope)?;
     Ok(Some(Vouched {
-        identity,
+        identity: voucher.identity,
         message,
         signature,
+        time: voucher.time,
     }))
 }
 

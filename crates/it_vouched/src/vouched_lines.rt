@@ -43,6 +43,13 @@ impl VouchedLines {
         VouchedLines { all }
     }
 
+    /// What lines vouch for, in their order, as a slice. Takes no memory.
+    pub fn as_slice(&self) -> &[Vouched]
+        ensures { result.now ≡ self.now }
+    {
+        self.all.as_slice()
+    }
+
     /// Whether a signature of the message that the parts make is valid for a key: whether some line
     /// with this message and this signature vouches for the identity. Takes no memory, and checks
     /// no signature.

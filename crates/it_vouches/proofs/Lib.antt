@@ -1,8 +1,15 @@
 pub mod Loops
+pub mod Furthest
+pub mod Places
+pub mod OneEntry
+pub mod Logs
+pub mod Entries
 pub mod Found
 pub mod Usable
+pub mod Authorities
 pub mod Attesting
 pub mod Claiming
 pub mod SameLogged
 pub mod Vouching
+pub mod Coming
 pub mod Missing

@@ -16,6 +16,9 @@ any_here P xs i x below is p = (λ t. any_at P xs i x below is p, λ any. refl)
 abbrev pub NoneIn : {X : Type 0} → (X → Type 0) → List X → Type 0
 NoneIn P xs = All (λ x. ¬ P x) xs
 
+pub none_first : {X : Type 0} (P : X → Type 0) → NoneIn P []
+none_first P = λ k d low. absurd (omega (arith, low))
+
 pub none_more : {X : Type 0} (P : X → Type 0) (xs : List X) (i : ℕ) (x : X) → i < length xs → x ≡ get_or xs i x → (P x → ⊥)
     → NoneIn P (take i xs) → NoneIn P (take (i + 1) xs)
 none_more P xs i x below is none before =
@@ -29,34 +32,6 @@ none_left P xs i end none =
 
 pub not_any : {X : Type 0} (P : X → Type 0) (xs : List X) (i : ℕ) → length xs ≤ i → NoneIn P (take i xs) → ¬ Any P xs
 not_any P xs i end none any = true≢false (sym ((none_left P xs i end none).1 any))
-
--- whether P holds of an element, as far as the first i tell: where of one of these, then of one of all
-abbrev pub IsKnown : {X : Type 0} → (X → Type 0) → List X → ℕ → Bool → Type 0
-IsKnown P xs i false = NoneIn P (take i xs)
-IsKnown P xs i true = Any P xs
-
-pub known_more : {X : Type 0} (P : X → Type 0) (xs : List X) (i : ℕ) (x : X) (b : Bool) → i < length xs → x ≡ get_or xs i x → (P x → ⊥)
-    → IsKnown P xs i b → IsKnown P xs (i + 1) b
-known_more P xs i x false below is none before = none_more P xs i x below is none before
-known_more P xs i x true below is none before = before
-
--- one more element, where P implies L: neither holds of it, or L alone
-pub none_next : {X : Type 0} (P L : X → Type 0) → ((x : X) → P x → L x) → (xs : List X) (i : ℕ) (x : X) (b : Bool) → i < length xs
-    → x ≡ get_or xs i x → ¬ L x → NoneIn P (take i xs) × IsKnown L xs i b → NoneIn P (take (i + 1) xs) × IsKnown L xs (i + 1) b
-none_next P L implies xs i x b below is none before = (
-  none_more P xs i x below is (λ p. none (implies x p)) before.0,
-  known_more L xs i x b below is none before.1,
-)
-
-pub one_next : {X : Type 0} (P L : X → Type 0) (xs : List X) (i : ℕ) (x : X) (b : Bool) → i < length xs → x ≡ get_or xs i x
-    → L x × ¬ P x → NoneIn P (take i xs) × IsKnown L xs i b → NoneIn P (take (i + 1) xs) × IsKnown L xs (i + 1) true
-one_next P L xs i x b below is found before = (none_more P xs i x below is found.1 before.0, any_at L xs i x below is found.0)
-
-pub known_any : {X : Type 0} (P : X → Type 0) (xs : List X) (i : ℕ) (b : Bool) → b ≡ true → IsKnown P xs i b → Any P xs
-known_any P xs i b e known = subst (IsKnown P xs i) e known
-
-pub known_none : {X : Type 0} (P : X → Type 0) (xs : List X) (i : ℕ) (b : Bool) → b ≡ false → length xs ≤ i → IsKnown P xs i b → ¬ Any P xs
-known_none P xs i b e end known = not_any P xs i end (subst (IsKnown P xs i) e known)
 
 -- elements of lists
 pub contains_cases : {X : Type 0} (x z : X) (xs : List X) → Contains (x ∷ xs) z → (x ≡ z) ⊎ Contains xs z

@@ -16,9 +16,16 @@ use Rattle.it_dsse.specs.Signed.{message_of}
 use Rattle.it_identity.specs.Identity.{IsIdentity, IsShort}
 use Rattle.it_identity.specs.declared.identity.Identity.{Identity}
 use Rattle.it_issued.specs.Signature.{IsByP256, key_info}
+use Rattle.it_log_entry.specs.Place.{place_of}
+use Rattle.it_log_entry.specs.declared.shortfall.EntryShortfall.{EntryShortfall}
 use Rattle.it_trust_root.specs.declared.root.TrustedRoot.{TrustedRoot}
+use Rattle.it_vouches.specs.Claim.{Brought}
+use Rattle.it_vouches.specs.EntryMissed.{IsMissedByEntry}
+use Rattle.it_vouches.specs.Furthest.{IsFurthest}
+use Rattle.it_vouches.specs.IssuerMissed.{issuer_place}
 use Rattle.it_vouches.specs.Judged.{IsJudged, VouchesForNobody}
-use Rattle.it_vouches.specs.Misses.{Brought, HasCertificate, HasIssuer, HasLog, Misses, Names}
+use Rattle.it_vouches.specs.Misses.{HasCertificate, HasIssuer, HasLog, HasNoEntry, IsMissedByIssuer, Misses, Names}
+use Rattle.it_vouches.specs.declared.issuer_shortfall.IssuerShortfall.{IssuerShortfall}
 use Rattle.it_vouches.specs.declared.judgement.Judged.TheVariants.{Misses as ForNobody}
 use Rattle.it_vouches.specs.declared.shortfall.Shortfall.{Shortfall}
 use Rattle.it_vouches.specs.declared.shortfall.Shortfall.TheVariants as shortfalls
@@ -59,18 +66,22 @@ nobody root bundle shortfalls.NoEntry m = λ identity v.
 nobody root bundle shortfalls.ManyEntries m = λ identity v.
     both (λ x. HasCertificate x × (x.entries ≡ TooMany)) (λ x. x.entries ≡ Listed v.entries)
     (λ x one two. not_many x.entries v.entries one.1 two) bundle.material m.1 v.claims.entries_are
-nobody root bundle shortfalls.Leaf m = λ identity v.
+nobody root bundle (shortfalls.Leaf missed) m = λ identity v.
     let leaf = leaf_of root bundle m.brought identity m.brings v in
     m.no_leaf leaf.leaf identity.name identity.issuer leaf.is
 nobody root bundle shortfalls.Identity m = λ identity v.
     let leaf = leaf_of root bundle m.brought identity m.brings v in
     let same = one_leaf m.brought.certificate leaf.leaf m.leaf identity.name identity.issuer m.name m.issuer leaf.is m.leaf_is in
     m.not_short (subst IsShort same.1 v.is_identity.name, subst IsShort same.2 v.is_identity.issuer)
-nobody root bundle shortfalls.Log m = λ identity v.
+nobody root bundle shortfalls.Entry m = λ identity v.
+    let n = m.names in
+    let has = (seen root bundle m.brought m.leaf m.identity.name m.identity.issuer identity n.brings n.leaf_is v).has_issuer in
+    m.no_entry has.entry has.by_log.is_entry
+nobody root bundle (shortfalls.Log missed) m = λ identity v.
     let n = m.names in
     let has = (seen root bundle m.brought m.leaf m.identity.name m.identity.issuer identity n.brings n.leaf_is v).has_issuer in
     m.no_log (has.entry, has.by_log)
-nobody root bundle shortfalls.Issuer m = λ identity v.
+nobody root bundle (shortfalls.Issuer missed) m = λ identity v.
     let n = m.names in
     m.no_issuer (seen root bundle m.brought m.leaf m.identity.name m.identity.issuer identity n.brings n.leaf_is v).has_issuer
 nobody root bundle shortfalls.Signature m = λ identity v.
@@ -87,20 +98,35 @@ pub not_short : (name issuer : List ℕ) → ((x : Identity) → (x.name ≡ nam
 not_short name issuer none short =
     none (record { name = name; issuer = issuer }) (refl, refl, record { name = short.0; issuer = short.1 })
 
-pub log_missed : (root : TrustedRoot) (bundle : SigstoreBundle) (b : Brought) (f : Facts) (identity : Identity) → Names bundle b f identity
-    → ¬ HasLog root bundle b → IsJudged root bundle (ForNobody shortfalls.Log)
-log_missed root bundle b f identity names none =
-    judged_short root bundle shortfalls.Log (record { brought = b; leaf = f; identity = identity; names = names; no_log = none })
+pub entry_missed : (root : TrustedRoot) (bundle : SigstoreBundle) (b : Brought) (f : Facts) (identity : Identity)
+    → Names bundle b f identity → HasNoEntry b → IsJudged root bundle (ForNobody shortfalls.Entry)
+entry_missed root bundle b f identity names none =
+    judged_short root bundle shortfalls.Entry (record { brought = b; leaf = f; identity = identity; names = names; no_entry = none })
 
-pub issuer_missed : (root : TrustedRoot) (bundle : SigstoreBundle) (b : Brought) (f : Facts) (identity : Identity) → Names bundle b f identity
-    → HasLog root bundle b × ¬ HasIssuer root bundle b f → IsJudged root bundle (ForNobody shortfalls.Issuer)
-issuer_missed root bundle b f identity names found = judged_short root bundle shortfalls.Issuer (record {
+pub log_missed : (root : TrustedRoot) (bundle : SigstoreBundle) (b : Brought) (f : Facts) (identity : Identity) (missed : EntryShortfall)
+    → Names bundle b f identity → (¬ HasLog root bundle b) × IsFurthest place_of (IsMissedByEntry root bundle b) missed
+    → IsJudged root bundle (ForNobody (shortfalls.Log missed))
+log_missed root bundle b f identity missed names found = judged_short root bundle (shortfalls.Log missed) (record {
+  brought = b;
+  leaf = f;
+  identity = identity;
+  names = names;
+  no_log = found.0;
+  furthest = found.1;
+})
+
+pub issuer_missed : (root : TrustedRoot) (bundle : SigstoreBundle) (b : Brought) (f : Facts) (identity : Identity) (missed : IssuerShortfall)
+    → Names bundle b f identity
+    → HasLog root bundle b × (¬ HasIssuer root bundle b f) × IsFurthest issuer_place (IsMissedByIssuer root bundle b f) missed
+    → IsJudged root bundle (ForNobody (shortfalls.Issuer missed))
+issuer_missed root bundle b f identity missed names found = judged_short root bundle (shortfalls.Issuer missed) (record {
   brought = b;
   leaf = f;
   identity = identity;
   names = names;
   has_log = found.0;
   no_issuer = found.1;
+  furthest = found.2;
 })
 
 pub signature_missed : (root : TrustedRoot) (bundle : SigstoreBundle) (b : Brought) (f : Facts) (identity : Identity) (is : Bool)

@@ -1,5 +1,5 @@
 -- An entry vouches for what is logged, wherever that lies in memory.
-use Rattle.std.proofs.Common.{◌≡◌, ℕ, Bool, List, [], ◌∷◌, Option, Some, None, MatchOption, codes, subst, inl, inr, Any}
+use Rattle.std.proofs.Common.{◌≡◌, ℕ, Bool, List, [], ◌∷◌, Option, Some, None, MatchOption, codes, sym, subst, inl, inr, Any}
 use Rattle.serde_json.specs.Data.{Data, Items, no_items, item}
 use Rattle.serde_json.specs.Find.{as_array}
 use Rattle.it_base.specs.Base64Text.{IsBase64}
@@ -10,13 +10,18 @@ use Rattle.it_base.specs.Text.{IsText}
 use Rattle.it_log_entry.specs.Agreement.{BodyAgrees, IsBody, IsSpec}
 use Rattle.it_log_entry.specs.CertificateText.{IsEncodedCertificate}
 use Rattle.it_log_entry.specs.DsseBody.{IsDsseBody, IsDsseSignature}
+use Rattle.it_log_entry.specs.EntryMisses.{EntryMisses, SpeaksOf}
 use Rattle.it_log_entry.specs.IntotoBody.{IsIntotoBody, IsIntotoContent, IsIntotoEnvelope, IsIntotoSignature, IsTwiceBase64}
 use Rattle.it_log_entry.specs.PayloadHash.{IsPayloadHash}
 use Rattle.it_log_entry.specs.declared.entry.LogEntry.{LogEntry}
 use Rattle.it_log_entry.specs.declared.kind.EntryKind.{EntryKind}
 use Rattle.it_log_entry.specs.declared.logged.Logged.{Logged}
+use Rattle.it_log_entry.specs.declared.shortfall.EntryShortfall.{EntryShortfall}
+use Rattle.it_log_entry.specs.declared.shortfall.EntryShortfall.TheVariants as shortfalls
+use Rattle.it_log.specs.declared.log.Log.{Log}
 use Rattle.it_trust_root.specs.declared.root_log.RootLog.{RootLog}
 use Rattle.it_trust_root.specs.declared.root_log.RootLog.TheVariants.{Usable, PassedOver}
+use Rattle.it_vouches.specs.EntryMissed.{MissesWith, MissesWithOne}
 use Rattle.it_vouches.specs.Logged.{VouchesBy}
 
 -- the same, wherever it lies
@@ -112,3 +117,42 @@ vouches_same needs entry x y same (PassedOver reason) h = h
 pub by_log_same : (needs : Bool) (entry : LogEntry) (x y : Logged) → IsSame x y → (logs : List RootLog)
     → Any (VouchesBy needs entry x) logs → Any (VouchesBy needs entry y) logs
 by_log_same needs entry x y same logs any = (any.0, any.1, any.2, any.3, vouches_same needs entry x y same any.1 any.4)
+
+-- ---- conditions that are missed
+turned : (x y : Logged) → IsSame x y → IsSame y x
+turned x y same = record {
+  payload = sym same.payload;
+  payload_type = sym same.payload_type;
+  signature = sym same.signature;
+  certificate = sym same.certificate;
+}
+
+speaks_same : (log : Log) (entry : LogEntry) (x y : Logged) → IsSame x y → SpeaksOf log entry x → SpeaksOf log entry y
+speaks_same log entry x y same speaks = record {
+  id_is = speaks.id_is;
+  counts = speaks.counts;
+  agrees = agrees entry.kind entry.body x y same speaks.agrees;
+}
+
+entry_same : (log : Log) (needs : Bool) (entry : LogEntry) (x y : Logged) → IsSame x y → (s : EntryShortfall)
+    → EntryMisses log needs entry x s → EntryMisses log needs entry y s
+entry_same log needs entry x y same shortfalls.Log m = m
+entry_same log needs entry x y same shortfalls.Time m = m
+entry_same log needs entry x y same shortfalls.Kind m = m
+entry_same log needs entry x y same shortfalls.Body m =
+    (m.0, m.1, m.2, λ about. m.3 (agrees entry.kind entry.body y x (turned x y same) about))
+entry_same log needs entry x y same shortfalls.NoProof m = (speaks_same log entry x y same m.0, m.1, m.2)
+entry_same log needs entry x y same shortfalls.Inclusion m = (speaks_same log entry x y same m.0, m.1)
+entry_same log needs entry x y same shortfalls.Checkpoint m = (speaks_same log entry x y same m.0, m.1)
+entry_same log needs entry x y same shortfalls.Promise m = (speaks_same log entry x y same m.0, m.1, m.2)
+
+with_same : (needs : Bool) (entry : LogEntry) (x y : Logged) → IsSame x y → (s : EntryShortfall) (log : RootLog)
+    → MissesWith needs entry x log s → MissesWith needs entry y log s
+with_same needs entry x y same s (Usable log) m = entry_same log needs entry x y same s m
+with_same needs entry x y same s (PassedOver reason) m = m
+
+pub missed_same : (logs : List RootLog) (needs : Bool) (entry : LogEntry) (x y : Logged) → IsSame x y → (s : EntryShortfall)
+    → MissesWithOne logs needs entry x s → MissesWithOne logs needs entry y s
+missed_same logs needs entry x y same s (inl is) = inl is
+missed_same logs needs entry x y same s (inr any) =
+    inr (any.0, any.1, any.2, any.3, with_same needs entry x y same s any.1 any.4)

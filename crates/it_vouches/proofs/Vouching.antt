@@ -1,9 +1,9 @@
 -- Whom a bundle vouches for, by what is read of it.
-use Rattle.std.proofs.Common.{◌≡◌, ◌↔◌, ℕ, List, Any, sym, subst, ◌∙◌}
+use Rattle.std.proofs.Common.{◌≡◌, ℕ, List, sym, subst, ◌∙◌}
 use Rattle.std.specs.List.{Contains}
 use Rattle.it_bundle.specs.declared.bundle.SigstoreBundle.{SigstoreBundle}
 use Rattle.it_bundle.specs.declared.listed_entry.ListedEntry.{ListedEntry}
-use Rattle.it_bundle.specs.declared.listed_entry.ListedEntry.TheVariants.{Entry, Unreadable}
+use Rattle.it_bundle.specs.declared.listed_entry.ListedEntry.TheVariants.{Entry}
 use Rattle.it_certificate.specs.Certificate.{Facts}
 use Rattle.it_certificate.specs.Leaf.{LeafOf}
 use Rattle.it_certificate.proofs.OneLeaf.{one_leaf}
@@ -13,17 +13,13 @@ use Rattle.it_identity.specs.declared.identity.Identity.{Identity}
 use Rattle.it_issued.specs.Signature.{IsByP256, key_info}
 use Rattle.it_log_entry.specs.declared.logged.Logged.{Logged}
 use Rattle.it_trust_root.specs.declared.root.TrustedRoot.{TrustedRoot}
-use Rattle.it_vouches.specs.Claim.{needs_proof}
+use Rattle.it_vouches.specs.Claim.{Brings, Brought}
 use Rattle.it_vouches.specs.Logged.{IsAbout}
-use Rattle.it_vouches.specs.Misses.{Brings, Brought, HasIssuer, HasLog, IsByLog, Names}
-use Rattle.it_vouches.specs.Vouches.{IsAttested, Vouches}
-use Rattle.it_vouches.specs.declared.attested.Attestation.{Attestation}
-use Rattle.it_vouches.specs.declared.attested.Attestation.TheVariants.{NoLog, NoIssuer, Attested}
-use Rattle.it_vouches.specs.inside.Attested.{IsLoggedBy, IsProvedBy}
-use Rattle.it_vouches.specs.inside.Shows.{Shows}
+use Rattle.it_vouches.specs.Misses.{HasIssuer, IsByLog, Names}
+use Rattle.it_vouches.specs.Vouches.{IsAttested, Vouches, VouchesAt}
+use Rattle.it_vouches.specs.inside.Shows.{HasIssuerAt}
 use Rattle.it_vouches.proofs.Claiming.{one_claim}
-use Rattle.it_vouches.proofs.Loops.{any_of_contains, contains_of_any}
-use Rattle.it_vouches.proofs.SameLogged.{IsSame, by_log_same}
+use Rattle.it_vouches.proofs.SameLogged.{IsSame}
 
 -- the same, in terms of what was read
 pub record IsSeen (root : TrustedRoot) (bundle : SigstoreBundle) (b : Brought) (f : Facts) (identity : Identity) : Type 0 where
@@ -94,6 +90,13 @@ vouches_is root bundle b f identity names has signed = record {
   signed = signed;
 }
 
+pub vouches_then : (root : TrustedRoot) (bundle : SigstoreBundle) (b : Brought) (f : Facts) (identity : Identity) (time : ℕ)
+    → Names bundle b f identity → HasIssuerAt root bundle b f time
+    → IsByP256 (key_info f.curve f.coordinates) (message_of bundle.envelope) b.signature → VouchesAt root bundle identity time
+unfolding vouches_is
+vouches_then root bundle b f identity time names has signed =
+    record { vouches = vouches_is root bundle b f identity names has.has_issuer signed; time_is = has.time_is }
+
 -- what is read names what it is read of
 pub names_of : (bundle : SigstoreBundle) (b : Brought) (f : Facts) (name issuer : List ℕ) (identity : Identity) → Brings bundle b
     → LeafOf b.certificate f name issuer → (identity.name ≡ name) × (identity.issuer ≡ issuer) × IsIdentity identity
@@ -105,74 +108,14 @@ names_of bundle b f name issuer identity brings leaf_is names = record {
   is_identity = names.2;
 }
 
--- ---- by the elements of the list; what is logged may lie anywhere
-about_same : (bundle : SigstoreBundle) (s c : List ℕ) (x y : Logged) → IsAbout bundle.envelope s c x → IsAbout bundle.envelope s c y → IsSame x y
+-- what is logged may lie anywhere
+pub about_same : (bundle : SigstoreBundle) (s c : List ℕ) (x y : Logged) → IsAbout bundle.envelope s c x → IsAbout bundle.envelope s c y → IsSame x y
 about_same bundle s c x y one two = record {
   payload = one.payload ∙ sym two.payload;
   payload_type = one.payload_type ∙ sym two.payload_type;
   signature = one.signature_is ∙ sym two.signature_is;
   certificate = one.certificate_is ∙ sym two.certificate_is;
 }
-
-log_at : (root : TrustedRoot) (bundle : SigstoreBundle) (b : Brought) (logged : Logged) (e : ListedEntry) → Contains b.entries e
-    → IsAbout bundle.envelope b.signature b.certificate logged → IsLoggedBy root (needs_proof bundle.version) logged e
-    → HasLog root bundle b
-log_at root bundle b logged (Entry entry) among about is =
-    (entry, record { logged = logged; is_entry = among; about = about; by_log = is })
-log_at root bundle b logged Unreadable among about is = absurd is
-
-issuer_at : (root : TrustedRoot) (bundle : SigstoreBundle) (b : Brought) (f : Facts) (logged : Logged) (e : ListedEntry)
-    → Contains b.entries e → IsAbout bundle.envelope b.signature b.certificate logged
-    → IsProvedBy root (needs_proof bundle.version) logged f e → HasIssuer root bundle b f
-issuer_at root bundle b f logged (Entry entry) among about is = record {
-  entry = entry;
-  by_log = record { logged = logged; is_entry = among; about = about; by_log = is.by_log };
-  attested = is.attested;
-}
-issuer_at root bundle b f logged Unreadable among about is = absurd is
-
-log_is : (root : TrustedRoot) (bundle : SigstoreBundle) (b : Brought) (logged : Logged)
-    → IsAbout bundle.envelope b.signature b.certificate logged
-    → Any (IsLoggedBy root (needs_proof bundle.version) logged) b.entries ↔ HasLog root bundle b
-log_is root bundle b logged about =
-    let P : ListedEntry → Type 0 = IsLoggedBy root (needs_proof bundle.version) logged in (
-      λ any. log_at root bundle b logged any.1 (contains_of_any P b.entries any) about any.4,
-      λ has.
-          let by = has.1 in
-          any_of_contains P b.entries (Entry has.0) by.is_entry
-          (by_log_same (needs_proof bundle.version) has.0 by.logged logged
-          (about_same bundle b.signature b.certificate by.logged logged by.about about) root.logs by.by_log),
-    )
-
-issuer_is : (root : TrustedRoot) (bundle : SigstoreBundle) (b : Brought) (f : Facts) (logged : Logged)
-    → IsAbout bundle.envelope b.signature b.certificate logged
-    → Any (IsProvedBy root (needs_proof bundle.version) logged f) b.entries ↔ HasIssuer root bundle b f
-issuer_is root bundle b f logged about =
-    let P : ListedEntry → Type 0 = IsProvedBy root (needs_proof bundle.version) logged f in (
-      λ any. issuer_at root bundle b f logged any.1 (contains_of_any P b.entries any) about any.4,
-      λ has.
-          let by = has.by_log in
-          any_of_contains P b.entries (Entry has.entry) by.is_entry (record {
-            by_log = by_log_same (needs_proof bundle.version) has.entry by.logged logged
-                (about_same bundle b.signature b.certificate by.logged logged by.about about) root.logs by.by_log;
-            attested = has.attested;
-          }),
-    )
-
-shows_as : (A B C D : Type 0) → A ↔ C → B ↔ D → (found : Attestation) → Shows A B found → Shows C D found
-shows_as A B C D first second NoLog shows = λ c. shows (first.1 c)
-shows_as A B C D first second NoIssuer shows = (first.0 shows.0, λ d. shows.1 (second.1 d))
-shows_as A B C D first second Attested shows = second.0 shows
-
-pub claim_shows : (root : TrustedRoot) (bundle : SigstoreBundle) (b : Brought) (f : Facts) (logged : Logged) (found : Attestation)
-    → IsAbout bundle.envelope b.signature b.certificate logged
-    → Shows (Any (IsLoggedBy root (needs_proof bundle.version) logged) b.entries)
-    (Any (IsProvedBy root (needs_proof bundle.version) logged f) b.entries) found
-    → Shows (HasLog root bundle b) (HasIssuer root bundle b f) found
-claim_shows root bundle b f logged found about shows =
-    shows_as (Any (IsLoggedBy root (needs_proof bundle.version) logged) b.entries)
-    (Any (IsProvedBy root (needs_proof bundle.version) logged f) b.entries) (HasLog root bundle b) (HasIssuer root bundle b f)
-    (log_is root bundle b logged about) (issuer_is root bundle b f logged about) found shows
 
 -- at most one identity
 pub vouches_same : (root : TrustedRoot) (bundle : SigstoreBundle) (x y : Identity) → Vouches root bundle x → Vouches root bundle y → x ≡ y

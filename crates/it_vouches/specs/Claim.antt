@@ -15,6 +15,15 @@ pub record Claims (bundle : SigstoreBundle) (signature certificate : List ℕ)
   pub certificate_is : MatchOption bundle.material ⊥ (λ m. m.certificate ≡ Bytes certificate)
   pub entries_are : MatchOption bundle.material ⊥ (λ m. m.entries ≡ Entries entries)
 
+-- the same, in one
+pub record Brought : Type 0 where
+  pub signature : List ℕ
+  pub certificate : List ℕ
+  pub entries : List ListedEntry
+
+abbrev pub Brings : SigstoreBundle → Brought → Type 0
+Brings bundle brought = Claims bundle brought.signature brought.certificate brought.entries
+
 -- whether an entry of a bundle of this version needs an inclusion proof
 abbrev pub needs_proof : BundleVersion → Bool
 needs_proof V1 = false

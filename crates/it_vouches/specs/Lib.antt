@@ -1,5 +1,8 @@
 pub mod Claim
+pub mod EntryMissed
 pub mod Found
+pub mod Furthest
+pub mod IssuerMissed
 pub mod Judged
 pub mod Logged
 pub mod Laws

@@ -4,21 +4,28 @@ use Rattle.std.specs.Prelude.{◌≡◌, ◌≢◌, ℕ, List, None, MatchOption
 use Rattle.it_bundle.specs.declared.bundle.SigstoreBundle.{SigstoreBundle}
 use Rattle.it_bundle.specs.declared.certificate.BundleCertificate.TheVariants.{Bytes, Lacks}
 use Rattle.it_bundle.specs.declared.entries.BundleEntries.TheVariants.{Missing, TooMany}
-use Rattle.it_bundle.specs.declared.listed_entry.ListedEntry.{ListedEntry}
 use Rattle.it_bundle.specs.declared.listed_entry.ListedEntry.TheVariants.{Entry}
 use Rattle.it_bundle.specs.declared.material.Material.{Material}
 use Rattle.it_certificate.specs.Certificate.{Facts}
 use Rattle.it_certificate.specs.Leaf.{LeafOf}
+use Rattle.it_certificate.specs.LeafMisses.{IsNoLeaf, LeafMisses}
+use Rattle.it_certificate.specs.declared.leaf_shortfall.LeafShortfall.{LeafShortfall}
 use Rattle.it_dsse.specs.Signed.{message_of}
 use Rattle.it_identity.specs.Identity.{IsIdentity, IsShort}
 use Rattle.it_identity.specs.declared.identity.Identity.{Identity}
 use Rattle.it_issued.specs.Signature.{IsByP256, key_info}
+use Rattle.it_log_entry.specs.Place.{place_of}
 use Rattle.it_log_entry.specs.declared.entry.LogEntry.{LogEntry}
 use Rattle.it_log_entry.specs.declared.logged.Logged.{Logged}
+use Rattle.it_log_entry.specs.declared.shortfall.EntryShortfall.{EntryShortfall}
 use Rattle.it_trust_root.specs.declared.root.TrustedRoot.{TrustedRoot}
-use Rattle.it_vouches.specs.Claim.{Claims, needs_proof}
+use Rattle.it_vouches.specs.Claim.{Brings, Brought, needs_proof}
+use Rattle.it_vouches.specs.EntryMissed.{IsMissedByEntry}
+use Rattle.it_vouches.specs.Furthest.{IsFurthest}
+use Rattle.it_vouches.specs.IssuerMissed.{IsMissedByLeaf, issuer_place}
 use Rattle.it_vouches.specs.Logged.{IsAbout, VouchesBy}
 use Rattle.it_vouches.specs.Vouches.{IsAttested}
+use Rattle.it_vouches.specs.declared.issuer_shortfall.IssuerShortfall.{IssuerShortfall}
 use Rattle.it_vouches.specs.declared.shortfall.Shortfall.{Shortfall}
 use Rattle.it_vouches.specs.declared.shortfall.Shortfall.TheVariants as shortfalls
 
@@ -34,21 +41,12 @@ HasCertificate material = (bytes : List ℕ) × (material.certificate ≡ Bytes 
 abbrev pub HasMaterial : SigstoreBundle → (Material → Type 0) → Type 0
 HasMaterial bundle IsSo = HasOneSignature bundle × MatchOption bundle.material ⊥ IsSo
 
--- what a bundle brings: its one signature, its certificate and its entries
-pub record Brought : Type 0 where
-  pub signature : List ℕ
-  pub certificate : List ℕ
-  pub entries : List ListedEntry
-
-abbrev pub Brings : SigstoreBundle → Brought → Type 0
-Brings bundle brought = Claims bundle brought.signature brought.certificate brought.entries
-
--- its certificate is no leaf
-pub record MissesLeaf (bundle : SigstoreBundle) : Type 0 where
+-- its certificate is no leaf, and misses this condition of one
+pub record MissesLeaf (bundle : SigstoreBundle) (missed : LeafShortfall) : Type 0 where
   pub brought : Brought
   pub brings : Brings bundle brought
-  pub no_leaf : (leaf : Facts) (name issuer : List ℕ)
-      → ¬ LeafOf brought.certificate leaf name issuer
+  pub no_leaf : IsNoLeaf brought.certificate
+  pub misses : LeafMisses brought.certificate missed
 
 -- its certificate is a leaf, but the name or the issuer in that is empty or long
 pub record MissesIdentity (bundle : SigstoreBundle) : Type 0 where
@@ -85,22 +83,46 @@ pub record HasIssuer (root : TrustedRoot) (bundle : SigstoreBundle) (brought : B
   pub by_log : IsByLog root bundle brought entry
   pub attested : IsAttested root leaf entry.time
 
--- it names an identity, but no log vouches
-pub record MissesLog (root : TrustedRoot) (bundle : SigstoreBundle) : Type 0 where
+-- none of its entries reads
+abbrev pub HasNoEntry : Brought → Type 0
+HasNoEntry brought = (entry : LogEntry) → ¬ Contains brought.entries (Entry entry)
+
+-- at the time of an entry by which a log vouches, the leaf misses this condition
+pub record IsMissedByIssuer (root : TrustedRoot) (bundle : SigstoreBundle) (brought : Brought)
+    (leaf : Facts) (missed : IssuerShortfall) : Type 0 where
+  pub entry : LogEntry
+  pub by_log : IsByLog root bundle brought entry
+  pub misses : IsMissedByLeaf root leaf entry.time missed
+
+-- it names an identity, but no entry reads
+pub record MissesEntry (bundle : SigstoreBundle) : Type 0 where
+  pub brought : Brought
+  pub leaf : Facts
+  pub identity : Identity
+  pub names : Names bundle brought leaf identity
+  pub no_entry : HasNoEntry brought
+
+-- no log vouches, and of all entries and logs this is the furthest condition that is missed
+pub record MissesLog (root : TrustedRoot) (bundle : SigstoreBundle) (missed : EntryShortfall)
+    : Type 0 where
   pub brought : Brought
   pub leaf : Facts
   pub identity : Identity
   pub names : Names bundle brought leaf identity
   pub no_log : ¬ HasLog root bundle brought
+  pub furthest : IsFurthest place_of (IsMissedByEntry root bundle brought) missed
 
--- a log vouches, but the leaf is not attested
-pub record MissesIssuer (root : TrustedRoot) (bundle : SigstoreBundle) : Type 0 where
+-- a log vouches, but the leaf is not attested, and of all entries by which a log vouches and all
+-- authorities this is the furthest condition that is missed
+pub record MissesIssuer (root : TrustedRoot) (bundle : SigstoreBundle) (missed : IssuerShortfall)
+    : Type 0 where
   pub brought : Brought
   pub leaf : Facts
   pub identity : Identity
   pub names : Names bundle brought leaf identity
   pub has_log : HasLog root bundle brought
   pub no_issuer : ¬ HasIssuer root bundle brought leaf
+  pub furthest : IsFurthest issuer_place (IsMissedByIssuer root bundle brought leaf) missed
 
 -- the leaf is attested, but its key did not sign the envelope
 pub record MissesSignature (root : TrustedRoot) (bundle : SigstoreBundle) : Type 0 where
@@ -123,8 +145,9 @@ Misses root bundle shortfalls.NoEntry =
     HasMaterial bundle (λ material. HasCertificate material × (material.entries ≡ Missing))
 Misses root bundle shortfalls.ManyEntries =
     HasMaterial bundle (λ material. HasCertificate material × (material.entries ≡ TooMany))
-Misses root bundle shortfalls.Leaf = MissesLeaf bundle
+Misses root bundle (shortfalls.Leaf missed) = MissesLeaf bundle missed
 Misses root bundle shortfalls.Identity = MissesIdentity bundle
-Misses root bundle shortfalls.Log = MissesLog root bundle
-Misses root bundle shortfalls.Issuer = MissesIssuer root bundle
+Misses root bundle shortfalls.Entry = MissesEntry bundle
+Misses root bundle (shortfalls.Log missed) = MissesLog root bundle missed
+Misses root bundle (shortfalls.Issuer missed) = MissesIssuer root bundle missed
 Misses root bundle shortfalls.Signature = MissesSignature root bundle

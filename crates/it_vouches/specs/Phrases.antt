@@ -2,6 +2,16 @@
 use Rattle.std.specs.Prelude.{ℕ, List, ◌++◌, codes, decimal}
 use Rattle.it_bundle.specs.declared.certificate.NoCertificate.{NoCertificate}
 use Rattle.it_bundle.specs.declared.certificate.NoCertificate.TheVariants as reasons
+use Rattle.it_certificate.specs.declared.leaf_shortfall.LeafShortfall.{LeafShortfall}
+use Rattle.it_certificate.specs.declared.leaf_shortfall.LeafShortfall.TheVariants as leaves
+use Rattle.it_issued.specs.declared.shortfall.IssueShortfall.{IssueShortfall}
+use Rattle.it_issued.specs.declared.shortfall.IssueShortfall.TheVariants as issues
+use Rattle.it_issued.specs.declared.shortfall.LogShortfall.{LogShortfall}
+use Rattle.it_issued.specs.declared.shortfall.LogShortfall.TheVariants as logs
+use Rattle.it_log_entry.specs.declared.shortfall.EntryShortfall.{EntryShortfall}
+use Rattle.it_log_entry.specs.declared.shortfall.EntryShortfall.TheVariants as entries
+use Rattle.it_vouches.specs.declared.issuer_shortfall.IssuerShortfall.{IssuerShortfall}
+use Rattle.it_vouches.specs.declared.issuer_shortfall.IssuerShortfall.TheVariants.{Issue, Log}
 use Rattle.it_vouches.specs.declared.shortfall.Shortfall.{Shortfall}
 use Rattle.it_vouches.specs.declared.shortfall.Shortfall.TheVariants as shortfalls
 
@@ -14,6 +24,51 @@ certificate_phrase_of reasons.Chain =
     codes "bundles of version 0.3 have one certificate, not a chain"
 certificate_phrase_of reasons.Unreadable = codes "its certificate has no bytes, or not in base64"
 
+-- why its certificate is no leaf
+abbrev pub leaf_phrase_of : LeafShortfall → List ℕ
+leaf_phrase_of leaves.Form = codes "its certificate is not read"
+leaf_phrase_of leaves.Key = codes "its certificate has a key of another curve"
+leaf_phrase_of leaves.Usage = codes "its certificate is not for signatures"
+leaf_phrase_of leaves.Purpose = codes "its certificate is not for code signing"
+leaf_phrase_of leaves.Authority = codes "its certificate is that of an authority"
+leaf_phrase_of leaves.Name =
+    codes "its certificate does not have exactly one name of a URI, an address or Fulcio's own kind"
+leaf_phrase_of leaves.Issuer = codes "its certificate does not name one issuer"
+
+-- why no log vouches by an entry
+abbrev pub entry_phrase_of : EntryShortfall → List ℕ
+entry_phrase_of entries.Log = codes "its entry is of a log that the trusted root does not have"
+entry_phrase_of entries.Time = codes "its entry's time is outside the time of that log"
+entry_phrase_of entries.Kind =
+    codes "its entry is of another kind than dsse 0.0.1 and intoto 0.0.2"
+entry_phrase_of entries.Body = codes "its entry is about another signature, or does not read"
+entry_phrase_of entries.NoProof = codes "its entry has no inclusion proof"
+entry_phrase_of entries.Inclusion = codes "its inclusion proof does not lead to its root"
+entry_phrase_of entries.Checkpoint = codes "the log did not sign the checkpoint"
+entry_phrase_of entries.Promise = codes "the log did not sign its entry's time"
+
+-- why no authority issued the certificate
+abbrev pub issue_phrase_of : IssueShortfall → List ℕ
+issue_phrase_of issues.Name =
+    codes "no authority of the trusted root has the name of the certificate's issuer"
+issue_phrase_of issues.Window = codes "that authority did not count at the time of its entry"
+issue_phrase_of issues.LeafTime = codes "the certificate was not valid at the time of its entry"
+issue_phrase_of issues.AuthorityTime =
+    codes "a certificate of that authority was not valid at the time of its entry"
+issue_phrase_of issues.Signature = codes "that authority did not sign the certificate"
+
+-- why no certificate log promised to log it
+abbrev pub log_phrase_of : LogShortfall → List ℕ
+log_phrase_of logs.Missing = codes "the certificate has no timestamp of a certificate log"
+log_phrase_of logs.Form = codes "its timestamps do not read"
+log_phrase_of logs.Log = codes "its timestamps are of logs that the trusted root does not have"
+log_phrase_of logs.Window = codes "its timestamp is outside the time of that log"
+log_phrase_of logs.Signature = codes "that log did not sign the certificate's timestamp"
+
+abbrev pub issuer_phrase_of : IssuerShortfall → List ℕ
+issuer_phrase_of (Issue missed) = issue_phrase_of missed
+issuer_phrase_of (Log missed) = log_phrase_of missed
+
 -- the end of a sentence about the bundle
 abbrev pub phrase_of : Shortfall → List ℕ
 phrase_of (shortfalls.Signatures count) =
@@ -23,12 +78,10 @@ phrase_of shortfalls.Material = codes "it has no verificationMaterial"
 phrase_of (shortfalls.Certificate reason) = certificate_phrase_of reason
 phrase_of shortfalls.NoEntry = codes "it has no entry of a transparency log"
 phrase_of shortfalls.ManyEntries = codes "it has more than 8 entries"
-phrase_of shortfalls.Leaf =
-    codes "its certificate is not that of a signer: not read, or not of the form that is taken"
+phrase_of (shortfalls.Leaf missed) = leaf_phrase_of missed
 phrase_of shortfalls.Identity =
     codes "its certificate's name or issuer is empty or has more than 512 bytes"
-phrase_of shortfalls.Log = codes "no log of the trusted root vouches for an entry of it"
-phrase_of shortfalls.Issuer =
-    codes "no authority of the trusted root issued its certificate at the time of its entry, or "
-    ++ codes "no certificate log promised to log it"
+phrase_of shortfalls.Entry = codes "its entry has a member that is missing or of another form"
+phrase_of (shortfalls.Log missed) = entry_phrase_of missed
+phrase_of (shortfalls.Issuer missed) = issuer_phrase_of missed
 phrase_of shortfalls.Signature = codes "the certificate's key did not sign the envelope"

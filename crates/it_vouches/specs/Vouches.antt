@@ -1,6 +1,6 @@
 -- Whom a bundle vouches for: who signed its envelope, by a trusted root (this profile's choice of
 -- what Sigstore's clients verify). Nothing else that the bundle or the root holds has a part in it.
-use Rattle.std.specs.Prelude.{ℕ, List, ◌∷◌, Any, Contains}
+use Rattle.std.specs.Prelude.{◌≡◌, ℕ, List, ◌∷◌, Any, Contains}
 use Rattle.it_bundle.specs.declared.bundle.SigstoreBundle.{SigstoreBundle}
 use Rattle.it_bundle.specs.declared.listed_entry.ListedEntry.{ListedEntry}
 use Rattle.it_bundle.specs.declared.listed_entry.ListedEntry.TheVariants.{Entry}
@@ -52,3 +52,9 @@ pub record Vouches (root : TrustedRoot) (bundle : SigstoreBundle) (identity : Id
   pub attested : IsAttested root leaf entry.time
   pub signed : IsByP256 (key_info leaf.curve leaf.coordinates) (message_of bundle.envelope)
       signature
+
+-- it does so by an entry of this time, in seconds since 1970
+pub record VouchesAt (root : TrustedRoot) (bundle : SigstoreBundle) (identity : Identity)
+    (time : ℕ) : Type 0 where
+  pub vouches : Vouches root bundle identity
+  pub time_is : vouches.entry.time ≡ time

@@ -1,12 +1,11 @@
 //! How far the entries of a bundle and the authorities of a trusted root attest a leaf.
-ghost use Rattle.std.specs.Prelude.{Any, IfOk};
+ghost use Rattle.std.specs.Prelude.{IfOk};
 ghost use Rattle.it_certificate.specs.Certificate.{facts_of};
 ghost use Rattle.it_certificate_log.specs.Bare.{WasRead};
-ghost use Rattle.it_vouches.specs.Logged.{VouchesBy};
-ghost use Rattle.it_vouches.specs.inside.Attested.{IsLoggedBy, IsProved, IsProvedBy};
-ghost use Rattle.it_vouches.specs.inside.Shows.{Shows};
+ghost use Rattle.it_vouches.specs.inside.Shows.{AllShow, EntryShows, ListedShows};
 
-use crate::entry_log::is_by_one;
+use crate::attestation::Attestation;
+use crate::entry_log::shortfall_by_logs;
 use crate::trust::Trust;
 use it_bundle::ListedEntry;
 use it_certificate::Certificate;
@@ -24,20 +23,9 @@ pub(crate) struct Question<'q> {
     pub(crate) leaf: &'q Certificate<'q>,
 }
 
-/// What is known of a leaf by entries.
-#[derive(Clone, Copy, Drop)]
-pub(crate) enum Attestation {
-    /// No log vouches by any.
-    NoLog,
-    /// A log vouches by one, but at no such entry's time the leaf was issued and promised to be
-    /// logged.
-    NoIssuer,
-    /// A log vouches by one, and at its time the leaf was issued and promised to be logged.
-    Attested,
-}
-
-/// How far a leaf is attested by the entries: whether, by one of them, a log vouches for what is
-/// logged, and whether the leaf was issued at such an entry's time and promised to be logged.
+/// How far a leaf comes by the entries: whether, by one of them, a log vouches for what is logged,
+/// and at which such entry's time the leaf was issued and promised to be logged; otherwise the
+/// furthest condition that is missed. The first entry by which all of it is so ends the search.
 ///
 /// # Errors
 ///
@@ -49,24 +37,18 @@ pub(crate) fn attestation_by(
     entries: &[ListedEntry],
 ) -> Result<Attestation, AllocError>
     requires { WasRead question.now.leaf.now }
-    ensures { IfOk result (Shows
-        (Any (IsLoggedBy trust.now question.now.needs_proof question.now.logged) entries.now)
-        (Any (IsProvedBy trust.now question.now.needs_proof question.now.logged
-        (facts_of question.now.leaf.now)) entries.now)) }
+    ensures { IfOk result (AllShow (ListedShows trust.now question.now.needs_proof
+        question.now.logged (facts_of question.now.leaf.now)) entries.now) }
 {
-    let mut by_log = false;
+    let mut furthest = Attestation::NoEntry;
     for listed in entries {
-        match attestation_by_listed(alloc, trust, question, listed)? {
-            Attestation::NoLog => {}
-            Attestation::NoIssuer => by_log = true,
-            Attestation::Attested => return Ok(Attestation::Attested),
+        let found = attestation_by_listed(alloc, trust, question, listed)?;
+        if let Attestation::Attested(time) = found {
+            return Ok(Attestation::Attested(time));
         }
+        furthest = furthest.further(found);
     }
-    if by_log {
-        Ok(Attestation::NoIssuer)
-    } else {
-        Ok(Attestation::NoLog)
-    }
+    Ok(furthest)
 }
 
 fn attestation_by_listed(
@@ -76,14 +58,12 @@ fn attestation_by_listed(
     listed: &ListedEntry,
 ) -> Result<Attestation, AllocError>
     requires { WasRead question.now.leaf.now }
-    ensures { IfOk result (Shows
-        (IsLoggedBy trust.now question.now.needs_proof question.now.logged listed.now)
-        (IsProvedBy trust.now question.now.needs_proof question.now.logged
-        (facts_of question.now.leaf.now) listed.now)) }
+    ensures { IfOk result (ListedShows trust.now question.now.needs_proof question.now.logged
+        (facts_of question.now.leaf.now) listed.now) }
 {
     match listed {
         ListedEntry::Entry(entry) => attestation_by_entry(alloc, trust, question, entry),
-        ListedEntry::Unreadable => Ok(Attestation::NoLog),
+        ListedEntry::Unreadable => Ok(Attestation::NoEntry),
     }
 }
 
@@ -94,22 +74,16 @@ fn attestation_by_entry(
     entry: &LogEntry,
 ) -> Result<Attestation, AllocError>
     requires { WasRead question.now.leaf.now }
-    ensures { IfOk result (Shows
-        (Any (VouchesBy question.now.needs_proof entry.now question.now.logged) trust.now.logs)
-        (IsProved trust.now question.now.needs_proof question.now.logged
-        (facts_of question.now.leaf.now) entry.now)) }
+    ensures { IfOk result (EntryShows trust.now question.now.needs_proof question.now.logged
+        (facts_of question.now.leaf.now) entry.now) }
 {
-    if !is_by_one(
-        alloc,
-        trust.logs(),
-        question.needs_proof,
-        entry,
-        &question.logged,
-    )? {
-        return Ok(Attestation::NoLog);
+    let logs = trust.logs();
+    let needs_proof = question.needs_proof;
+    if let Some(missed) = shortfall_by_logs(alloc, logs, needs_proof, entry, &question.logged)? {
+        return Ok(Attestation::NoLog(missed));
     }
-    if !trust.attests(alloc, question.leaf, entry.time)? {
-        return Ok(Attestation::NoIssuer);
+    if let Some(missed) = trust.issuer_shortfall(alloc, question.leaf, entry.time)? {
+        return Ok(Attestation::NoIssuer(missed));
     }
-    Ok(Attestation::Attested)
+    Ok(Attestation::Attested(entry.time))
 }

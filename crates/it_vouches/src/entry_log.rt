@@ -1,46 +1,67 @@
-//! The logs of a trusted root that vouch by an entry.
-ghost use Rattle.std.specs.Prelude.{◌↔◌, Any, IfOk, IsTrue};
+//! The logs of a trusted root, by an entry.
+ghost use Rattle.std.specs.Prelude.{Any, IfOk, MatchOption};
+ghost use Rattle.it_log_entry.specs.Place.{place_of};
+ghost use Rattle.it_vouches.specs.EntryMissed.{MissesWith};
 ghost use Rattle.it_vouches.specs.Logged.{VouchesBy};
+ghost use Rattle.it_vouches.specs.inside.Further.{IsFurther};
+ghost use Rattle.it_vouches.specs.inside.Shows.{LacksLog};
 
-use it_log_entry::{LogEntry, Logged, vouches};
+use it_log_entry::{EntryShortfall, LogEntry, Logged, entry_shortfall};
 use it_trust_root::RootLog;
 use std::alloc::{AllocError, Global};
 
-/// Whether one of the logs vouches, by an entry, for what is logged. A log that is passed over
-/// vouches for nothing, and neither does one with another id than the entry's, at no cost.
+/// The furthest condition that an entry misses where none of the logs vouches by it for what is
+/// logged; `None` where one does. A log that is passed over is another log than the entry's, and
+/// one with another id than the entry's costs nothing.
 ///
 /// # Errors
 ///
 /// `AllocError` where memory was refused.
-pub(crate) fn is_by_one(
+pub(crate) fn shortfall_by_logs(
     alloc: Global,
     logs: &[RootLog],
     needs_proof: bool,
     entry: &LogEntry,
     logged: &Logged<'_>,
-) -> Result<bool, AllocError>
-    ensures { IfOk result (λ is. IsTrue is
-        ↔ Any (VouchesBy needs_proof entry.now logged.now) logs.now) }
+) -> Result<Option<EntryShortfall>, AllocError>
+    ensures { IfOk result (λ missed. MatchOption missed
+        (Any (VouchesBy needs_proof entry.now logged.now) logs.now)
+        (LacksLog logs.now needs_proof logged.now entry.now)) }
 {
+    let mut furthest = EntryShortfall::Log;
     for log in logs {
-        if is_by_listed(alloc, log, needs_proof, entry, logged)? {
-            return Ok(true);
+        match shortfall_by_listed(alloc, log, needs_proof, entry, logged)? {
+            Some(missed) => furthest = further(furthest, missed),
+            None => return Ok(None),
         }
     }
-    Ok(false)
+    Ok(Some(furthest))
 }
 
-fn is_by_listed(
+fn shortfall_by_listed(
     alloc: Global,
     log: &RootLog,
     needs_proof: bool,
     entry: &LogEntry,
     logged: &Logged<'_>,
-) -> Result<bool, AllocError>
-    ensures { IfOk result (λ is. IsTrue is ↔ VouchesBy needs_proof entry.now logged.now log.now) }
+) -> Result<Option<EntryShortfall>, AllocError>
+    ensures { IfOk result (λ missed. MatchOption missed
+        (VouchesBy needs_proof entry.now logged.now log.now)
+        (MissesWith needs_proof entry.now logged.now log.now)) }
 {
     match log {
-        RootLog::Usable(log) => vouches(alloc, log, needs_proof, entry, logged),
-        RootLog::PassedOver(_) => Ok(false),
+        RootLog::Usable(log) => entry_shortfall(alloc, log, needs_proof, entry, logged),
+        RootLog::PassedOver(_) => Ok(Some(EntryShortfall::Log)),
+    }
+}
+
+/// The further of two conditions.
+fn further(one: EntryShortfall, other: EntryShortfall) -> EntryShortfall
+    ensures { IsFurther place_of one other result }
+{
+    if one.place() < other.place() {
+        other
+    } else {
+        one
     }
 }

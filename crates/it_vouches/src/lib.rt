@@ -4,23 +4,29 @@
 //! ```
 //! let trust = Trust::of(alloc, &root)?;
 //! match judged(alloc, &trust, &bundle)? {
-//!     Judged::For(identity) => ..,
+//!     Judged::For(voucher) => ..,
 //!     Judged::Misses(shortfall) => shortfall.push_phrase(&mut text)?,
 //! }
 //! ```
 #![tactic(auto)]
 
+mod attestation;
 mod attested;
 mod claim;
 mod entry_log;
+mod issuer_shortfall;
 mod judgement;
 pub mod laws;
 mod leaf_key;
+mod phrases;
 mod shortfall;
 mod trust;
 mod vouched;
+mod voucher;
 
+pub use issuer_shortfall::IssuerShortfall;
 pub use judgement::Judged;
 pub use shortfall::Shortfall;
 pub use trust::Trust;
 pub use vouched::{judged, vouched_identity};
+pub use voucher::Voucher;

@@ -1,8 +1,12 @@
 //! Why a bundle vouches for nobody.
 ghost use Rattle.std.specs.Prelude.{◌≡◌, ◌++◌, OnOk};
-ghost use Rattle.it_vouches.specs.Phrases.{certificate_phrase_of, phrase_of};
+ghost use Rattle.it_vouches.specs.Phrases.{phrase_of};
 
+use crate::issuer_shortfall::IssuerShortfall;
+use crate::phrases::{certificate_phrase, entry_phrase, issuer_phrase, leaf_phrase};
 use it_bundle::NoCertificate;
+use it_certificate::LeafShortfall;
+use it_log_entry::EntryShortfall;
 use std::alloc::AllocError;
 
 /// The condition that a bundle misses where it vouches for nobody: the first of these that is true.
@@ -18,15 +22,19 @@ pub enum Shortfall {
     NoEntry,
     /// It has more than 8 entries.
     ManyEntries,
-    /// Its certificate is not that of a signer.
-    Leaf,
+    /// Its certificate is no leaf, for this reason.
+    Leaf(LeafShortfall),
     /// The name or the issuer in its certificate is empty or has more than 512 bytes.
     Identity,
-    /// None of its entries is about its signature and by a log of the trusted root.
-    Log,
+    /// None of its entries reads.
+    Entry,
+    /// None of its entries is about its signature and by a log of the trusted root. Of all entries
+    /// and logs, this is the furthest condition that is missed.
+    Log(EntryShortfall),
     /// At the time of none of the entries that are, an authority of the trusted root issued its
-    /// certificate, and was promised by a certificate log that it is logged.
-    Issuer,
+    /// certificate, and was promised by a certificate log that it is logged. Of all these entries
+    /// and all authorities, this is the furthest condition that is missed.
+    Issuer(IssuerShortfall),
     /// The certificate's key did not sign the envelope.
     Signature,
 }
@@ -46,39 +54,19 @@ impl Shortfall {
             Shortfall::Certificate(reason) => push(text, certificate_phrase(*reason)),
             Shortfall::NoEntry => push(text, "it has no entry of a transparency log"),
             Shortfall::ManyEntries => push(text, "it has more than 8 entries"),
-            Shortfall::Leaf => push(
-                text,
-                "its certificate is not that of a signer: not read, or not of the form that is \
-                 taken",
-            ),
+            Shortfall::Leaf(missed) => push(text, leaf_phrase(*missed)),
             Shortfall::Identity => push(
                 text,
                 "its certificate's name or issuer is empty or has more than 512 bytes",
             ),
-            Shortfall::Log => push(
+            Shortfall::Entry => push(
                 text,
-                "no log of the trusted root vouches for an entry of it",
+                "its entry has a member that is missing or of another form",
             ),
-            Shortfall::Issuer => push(
-                text,
-                "no authority of the trusted root issued its certificate at the time of its entry, \
-                 or no certificate log promised to log it",
-            ),
+            Shortfall::Log(missed) => push(text, entry_phrase(*missed)),
+            Shortfall::Issuer(missed) => push(text, issuer_phrase(*missed)),
             Shortfall::Signature => push(text, "the certificate's key did not sign the envelope"),
         }
-    }
-}
-
-/// Why a bundle has no certificate.
-fn certificate_phrase(reason: NoCertificate) -> &'static str
-    ensures { result.now ≡ certificate_phrase_of reason }
-{
-    match reason {
-        NoCertificate::PublicKey => "it is signed by a public key, not by a certificate",
-        NoCertificate::Missing => "it has no certificate",
-        NoCertificate::TwoForms => "it has both a certificate and a chain",
-        NoCertificate::Chain => "bundles of version 0.3 have one certificate, not a chain",
-        NoCertificate::Unreadable => "its certificate has no bytes, or not in base64",
     }
 }
 

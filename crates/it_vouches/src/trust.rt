@@ -1,14 +1,16 @@
 //! Trusted roots with their authorities read.
-ghost use Rattle.std.specs.Prelude.{◌≡◌, ◌↔◌, Any, IfOk, IsTrue, All};
+ghost use Rattle.std.specs.Prelude.{◌≡◌, All, Any, IfOk, MatchOption};
 ghost use Rattle.it_certificate.specs.Certificate.{facts_of};
 ghost use Rattle.it_certificate_log.specs.Bare.{WasRead};
 ghost use Rattle.it_vouches.specs.Vouches.{IsAttested};
-ghost use Rattle.it_vouches.specs.inside.Attested.{IsIssuedBy};
+ghost use Rattle.it_vouches.specs.inside.Attested.{IsIssuedBy, IsMissedBy, IsMissedByEach};
+ghost use Rattle.it_vouches.specs.inside.Shows.{LacksIssuer};
 ghost use Rattle.it_vouches.specs.inside.Usable.{AreUsable};
 
+use crate::issuer_shortfall::IssuerShortfall;
 use it_base::optional::push_some;
 use it_certificate::Certificate;
-use it_issued::{UsableAuthority, is_issued, is_logged, read_authority};
+use it_issued::{IssueShortfall, UsableAuthority, issue_shortfall, log_shortfall, read_authority};
 use it_trust_root::{Authority, RootLog, TrustedRoot};
 use std::alloc::{AllocError, Global};
 use std::marker::Model;
@@ -53,24 +55,25 @@ impl<'r> Trust<'r> {
         self.root.logs.as_slice()
     }
 
-    /// Whether an authority issued a leaf at a moment, in seconds, and a certificate log promised
-    /// it to log the leaf.
+    /// The furthest condition that a leaf misses where no authority issued it at a moment, in
+    /// seconds, with a certificate log's promise to log the leaf; `None` where one did.
     ///
     /// # Errors
     ///
     /// `AllocError` where memory was refused.
-    pub(crate) fn attests(
+    pub(crate) fn issuer_shortfall(
         &self,
         alloc: Global,
         leaf: &Certificate<'_>,
         moment: u64,
-    ) -> Result<bool, AllocError>
+    ) -> Result<Option<IssuerShortfall>, AllocError>
         requires { WasRead leaf.now }
-        ensures { IfOk result (λ is. IsTrue is
-            ↔ IsAttested self.now (facts_of leaf.now) moment) }
+        ensures { IfOk result (λ missed. MatchOption missed
+            (IsAttested self.now (facts_of leaf.now) moment)
+            (LacksIssuer self.now (facts_of leaf.now) moment)) }
     {
         let logs = self.root.certificate_logs.as_slice();
-        is_issued_by_one(alloc, self.authorities.as_slice(), logs, leaf, moment)
+        shortfall_by_authorities(alloc, self.authorities.as_slice(), logs, leaf, moment)
     }
 }
 
@@ -88,45 +91,53 @@ fn usable_authorities(
     Ok(usable)
 }
 
-/// Whether one of the authorities issued a leaf and was promised that it is logged.
-fn is_issued_by_one(
+/// The furthest condition that a leaf misses where none of the authorities issued it and was
+/// promised that it is logged.
+fn shortfall_by_authorities(
     alloc: Global,
     authorities: &[UsableAuthority<'_>],
     logs: &[RootLog],
     leaf: &Certificate<'_>,
     moment: u64,
-) -> Result<bool, AllocError>
+) -> Result<Option<IssuerShortfall>, AllocError>
     requires authorities_read { All (λ a. All WasRead a.certificates.items) authorities.now }
     requires leaf_read { WasRead leaf.now }
-    ensures { IfOk result (λ is. IsTrue is
-        ↔ Any (IsIssuedBy logs.now (facts_of leaf.now) moment) authorities.now) }
+    ensures { IfOk result (λ missed. MatchOption missed
+        (Any (IsIssuedBy logs.now (facts_of leaf.now) moment) authorities.now)
+        (IsMissedByEach logs.now (facts_of leaf.now) moment authorities.now)) }
 {
+    let mut furthest = IssuerShortfall::Issue(IssueShortfall::Name);
     for authority in authorities {
-        if is_issued_by(alloc, authority, logs, leaf, moment)? {
-            return Ok(true);
+        match shortfall_by(alloc, authority, logs, leaf, moment)? {
+            Some(missed) => furthest = furthest.further(missed),
+            None => return Ok(None),
         }
     }
-    Ok(false)
+    Ok(Some(furthest))
 }
 
-fn is_issued_by(
+/// The condition that a leaf misses with an authority, if it misses one.
+fn shortfall_by(
     alloc: Global,
     authority: &UsableAuthority<'_>,
     logs: &[RootLog],
     leaf: &Certificate<'_>,
     moment: u64,
-) -> Result<bool, AllocError>
+) -> Result<Option<IssuerShortfall>, AllocError>
     requires authority_read { All WasRead authority.now.certificates.items }
     requires leaf_read { WasRead leaf.now }
-    ensures { IfOk result (λ is. IsTrue is
-        ↔ IsIssuedBy logs.now (facts_of leaf.now) moment authority.now) }
+    ensures { IfOk result (λ missed. MatchOption missed
+        (IsIssuedBy logs.now (facts_of leaf.now) moment authority.now)
+        (IsMissedBy logs.now (facts_of leaf.now) moment authority.now)) }
 {
-    let certificates = authority.certificates.as_slice();
-    let Some(issuer) = certificates.first() else {
-        return Ok(false);
+    let Some(issuer) = authority.certificates.as_slice().first() else {
+        return Ok(Some(IssuerShortfall::Issue(IssueShortfall::Name)));
     };
-    if !is_issued(alloc, authority, leaf, moment)? {
-        return Ok(false);
+    if let Some(missed) = issue_shortfall(alloc, authority, leaf, moment)? {
+        return Ok(Some(IssuerShortfall::Issue(missed)));
     }
-    is_logged(alloc, logs, issuer, leaf)
+    if let Some(missed) = log_shortfall(alloc, logs, issuer, leaf)? {
+        return Ok(Some(IssuerShortfall::Log(missed)));
+    }
+    Ok(None)
 }

@@ -7,17 +7,18 @@ ghost use Rattle.it_dsse.specs.Signed.{message_of};
 ghost use Rattle.it_issued.specs.Signature.{IsByP256, key_info};
 ghost use Rattle.it_vouches.specs.Judged.{IsJudged};
 ghost use Rattle.it_vouches.specs.Logged.{IsAbout};
-ghost use Rattle.it_vouches.specs.Misses.{HasIssuer, HasLog};
 ghost use Rattle.it_vouches.specs.Vouches.{Vouches};
 ghost use Rattle.it_vouches.specs.inside.Brought.{brought_of};
-ghost use Rattle.it_vouches.specs.inside.Shows.{Shows};
+ghost use Rattle.it_vouches.specs.inside.Shows.{ClaimShows};
 
-use crate::attested::{Attestation, Question, attestation_by};
+use crate::attestation::Attestation;
+use crate::attested::{Question, attestation_by};
 use crate::claim::{Claim, claim_of, needs_proof};
 use crate::judgement::Judged;
 use crate::leaf_key::is_by_leaf;
 use crate::shortfall::Shortfall;
 use crate::trust::Trust;
+use crate::voucher::Voucher;
 use it_bundle::SigstoreBundle;
 use it_certificate::{Certificate, read_leaf};
 use it_dsse::envelope::Envelope;
@@ -39,12 +40,13 @@ pub fn vouched_identity(
     ensures { IfOk result (Finds (Vouches trust.now bundle.now)) }
 {
     match judged(alloc, trust, bundle)? {
-        Judged::For(identity) => Ok(Some(identity)),
+        Judged::For(voucher) => Ok(Some(voucher.identity)),
         Judged::Misses(_) => Ok(None),
     }
 }
 
-/// Whom a bundle vouches for, by a trusted root, or the first condition that it misses. What costs
+/// Whom a bundle vouches for, by a trusted root, and by an entry of which time, or the first
+/// condition that it misses. What costs
 /// no signature is looked at first; then the entries, the leaf's issuer, its timestamps and last
 /// the signature of the envelope.
 ///
@@ -62,21 +64,23 @@ pub fn judged(
         Ok(claim) => claim,
         Err(missed) => return Ok(Judged::Misses(missed)),
     };
-    let Some(leaf) = read_leaf(alloc, claim.certificate)? else {
-        return Ok(Judged::Misses(Shortfall::Leaf));
+    let leaf = match read_leaf(alloc, claim.certificate)? {
+        Ok(leaf) => leaf,
+        Err(missed) => return Ok(Judged::Misses(Shortfall::Leaf(missed))),
     };
     let Some(identity) = Identity::of(alloc, leaf.identity.name, leaf.identity.issuer)? else {
         return Ok(Judged::Misses(Shortfall::Identity));
     };
-    match attestation_of_claim(alloc, trust, bundle, &claim, &leaf.certificate)? {
-        Attestation::NoLog => return Ok(Judged::Misses(Shortfall::Log)),
-        Attestation::NoIssuer => return Ok(Judged::Misses(Shortfall::Issuer)),
-        Attestation::Attested => {}
-    }
+    let time = match attestation_of_claim(alloc, trust, bundle, &claim, &leaf.certificate)? {
+        Attestation::NoEntry => return Ok(Judged::Misses(Shortfall::Entry)),
+        Attestation::NoLog(missed) => return Ok(Judged::Misses(Shortfall::Log(missed))),
+        Attestation::NoIssuer(missed) => return Ok(Judged::Misses(Shortfall::Issuer(missed))),
+        Attestation::Attested(time) => time,
+    };
     if !is_envelope_signed(alloc, &bundle.envelope, &leaf.certificate, claim.signature)? {
         return Ok(Judged::Misses(Shortfall::Signature));
     }
-    Ok(Judged::For(identity))
+    Ok(Judged::For(Voucher { identity, time }))
 }
 
 /// How far the entries and the authorities attest what a bundle claims.
@@ -88,8 +92,8 @@ fn attestation_of_claim(
     leaf: &Certificate<'_>,
 ) -> Result<Attestation, AllocError>
     requires { WasRead leaf.now }
-    ensures { IfOk result (Shows (HasLog trust.now bundle.now (brought_of claim.now))
-        (HasIssuer trust.now bundle.now (brought_of claim.now) (facts_of leaf.now))) }
+    ensures { IfOk result (ClaimShows trust.now bundle.now (brought_of claim.now)
+        (facts_of leaf.now)) }
 {
     let question = Question {
         logged: logged_of(&bundle.envelope, claim),

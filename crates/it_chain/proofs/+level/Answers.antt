@@ -1,6 +1,8 @@
 use Rattle.std.proofs.Common.{IfOk, ◌≡◌, ◌∙◌, ◌<ℤ◌, ◌-◌, [], ◌∷◌, Option, None, Some}
 use Rattle.std.proofs.Common.{Contains, map, zip, Err, flat_map, rules, refl, sym, ap}
-use Rattle.std.proofs.Common.{subst, unwrap_or, length, take, take_all, arith}
+use Rattle.std.proofs.Common.{subst, unwrap_or, length, take, take_all, string_bytes, arith}
+use Rattle.it_dsse.specs.Meter.{raised}
+use Rattle.it_docs.specs.Layout.{LayoutOf}
 use Rattle.std.specs.FinMap.{keys}
 use Rattle.std.specs.List.{cons_option}
 use Rattle.std.proofs.lemmas.List.Elements.{Contains-get_or}
@@ -34,13 +36,17 @@ use Rattle.it_chain.proofs.LevelFewest.{FewestSum, below_takes, given_more, one_
 use Rattle.it_chain.proofs.LevelFewest.{record_takes, some_fewest_below, step_takes}
 use Rattle.it_chain.proofs.LevelWalks.{level_judged, steps_fail}
 use Rattle.it_chain.proofs.LevelRules.{links_differ}
+use Rattle.it_chain.proofs.Reused.{anew, anew_asks, anew_fails, kept_answers, none_answered}
+use Rattle.it_chain.proofs.Reused.{none_recalled, recalled}
 use Rattle.it_chain.proofs.StepWalks.{judged_walks}
 use Rattle.it_chain.proofs.SignerWalks.{AreWalked, signer_known, signer_listed, walked_all}
 use Rattle.it_chain.proofs.SignerWalks.{walked_fail, walked_more, walked_none}
 use Rattle.it_chain.proofs.Walks.{folder_or, level_below, nil_of, not_when, fails_before, fails_at}
 use Rattle.it_chain.proofs.Walks.{none_counts, none_more, one_counts, one_below, apart_below}
 use Rattle.it_chain.proofs.Walks.{two_count, walks_behind, walks_given, walks_record, walks_two}
-use Rattle.it_chain.specs.inside.Scope.{LevelAnswers, LevelAsks, LevelTakes}
+use Rattle.it_chain.specs.inside.Answered.{answer_at}
+use Rattle.it_chain.specs.inside.Scope.{BodyAnswers, BodyCost, LevelAnswers, LevelAsks}
+use Rattle.it_chain.specs.inside.Scope.{LevelTakes, scope_of}
 use Rattle.it_chain.proofs.+level.Goals as goal
 
 pushed_record : (given : Option IdRecord) → cons_option given [] ≡ with_record given []
@@ -52,12 +58,12 @@ id_records::verify_id-returns-in-One-clause-answer g t c =
     let s = g.C.Checking.setting c.args.walk.now.checking.now in
     let l = c.args.walk.now.level in
     let one = one_counts (holds_below s l.depth) (fails_below s l.depth) s l.layout.now l.links.now
-    c.args.step.now c.args.signer.now.id.now c.args.signer.now.object.now c.args.found.now
+    c.args.at.now.step.now c.args.signer.now.id.now c.args.signer.now.object.now c.args.at.now.found
     c.requires.candidates c.requires.listed c.requires.known
-    c.in-One.key c.in-One.body
+    c.in-One.found
     (rw (c.in-One.is, c.as_str-name.ensures) at c.in_ok-counted.ensures.answer) in
-    walks_record s l.depth l.layout.now l.links.now c.args.step.now c.args.signer.now.id.now
-    c.in-One.key (as_body c.in-One.body) one c.verify_body-recorded.result
+    walks_record s l.depth l.layout.now l.links.now c.args.at.now.step.now c.args.signer.now.id.now
+    c.in-One.found.key (as_body c.in-One.found.body) one c.verify_body-recorded.result
     c.record_of.result
     (rw c.as_str-name.ensures at c.verify_body-recorded.ensures.answer) c.record_of.ensures
 
@@ -65,9 +71,9 @@ pub id_records::verify_id-returns-in-Nothing-clause-answer : goal.id_records::ve
 id_records::verify_id-returns-in-Nothing-clause-answer g t c =
     let s = g.C.Checking.setting c.args.walk.now.checking.now in
     let l = c.args.walk.now.level in
-    walks_given s l.depth l.layout.now l.links.now c.args.step.now c.args.signer.now.id.now None
+    walks_given s l.depth l.layout.now l.links.now c.args.at.now.step.now c.args.signer.now.id.now None
     (none_counts (holds_below s l.depth) (fails_below s l.depth) s l.layout.now l.links.now
-    c.args.step.now c.args.signer.now.id.now c.args.signer.now.object.now c.args.found.now
+    c.args.at.now.step.now c.args.signer.now.id.now c.args.signer.now.object.now c.args.at.now.found
     c.requires.candidates c.requires.listed c.requires.known
     (rw (c.in-Nothing.is, c.as_str-name.ensures) at c.in_ok-counted.ensures.answer))
 
@@ -75,14 +81,14 @@ pub id_records::verify_id-returns-in_ok-copy-in-Several-2-clause-answer : goal.i
 id_records::verify_id-returns-in_ok-copy-in-Several-2-clause-answer g t c =
     let s = g.C.Checking.setting c.args.walk.now.checking.now in
     let l = c.args.walk.now.level in
-    let name : c.in_ok-copy-in-Several.field-0 ≡ c.args.step.now.name =
+    let name : c.in_ok-copy-in-Several.field-0 ≡ c.args.at.now.step.now.name =
     c.in_ok-copy-in-Several.ensures ∙ c.as_str-name.ensures in
     let id : c.in_ok-copy-in-Several-2.field-0 ≡ c.args.signer.now.id.now =
     c.in_ok-copy-in-Several-2.ensures in
-    walks_two s l.depth l.layout.now l.links.now c.args.step.now c.args.signer.now.id.now
+    walks_two s l.depth l.layout.now l.links.now c.args.at.now.step.now c.args.signer.now.id.now
     c.refused.result
     (two_count (holds_below s l.depth) (fails_below s l.depth) s l.layout.now l.links.now
-    c.args.step.now c.args.signer.now.id.now c.args.signer.now.object.now c.args.found.now
+    c.args.at.now.step.now c.args.signer.now.id.now c.args.signer.now.object.now c.args.at.now.found
     c.requires.candidates c.requires.listed c.requires.known
     (rw (c.in-Several.is, c.as_str-name.ensures) at c.in_ok-counted.ensures.answer))
     (c.refused.ensures ∙ (λ k. Refused (here (TwoPayloads (name k) (id k)))))
@@ -92,7 +98,7 @@ id_records::verify_ids-returns-in_err-record-clause-answer g t c =
     let s = g.C.Checking.setting c.args.walk.now.checking.now in
     let v = c.args.walk.now.level in
     let p = err_from_is_err_and c.from_residual.result c.from_residual.ensures.1 in
-    rw (p.1, p.2) (walked_fail s v.depth v.layout.now v.links.now c.args.step.now c.args.signers.now
+    rw (p.1, p.2) (walked_fail s v.depth v.layout.now v.links.now c.args.at.now.step.now c.args.signers.now
     c.loop-signer.signer-index c.signer-item.result c.loop-signer.records.items
     c.loop-signer-test.true c.signer-item.is c.loop-signer.invariant.walked
     c.in_err-record.field-0.0 c.requires.signers c.in_err-record.ensures.answer)
@@ -103,11 +109,13 @@ id_records::verify_ids-loop-signer-init g t c =
     let s = g.C.Checking.setting c.args.walk.now.checking.now in
     rw c.new-records.ensures.items
     (record {
-      walked = walked_none s v.depth v.layout.now v.links.now c.args.step.now;
-      asked = within_none (SignersSum s v.depth v.layout.now v.links.now c.args.step.now
-          c.args.found.now []) c.args.meter.now c.args.meter.now refl;
+      walked = walked_none s v.depth v.layout.now v.links.now c.args.at.now.step.now;
+      asked = within_none (SignersSum s v.depth v.layout.now v.links.now c.args.at.now.step.now
+          c.args.at.now.found []) c.args.meter.now c.args.meter.now refl;
       fewest = least_none (RecordsFewest (fewest_below s v.depth) s v.layout.now v.links.now
-          c.args.step.now []) c.args.meter.now c.args.meter.now (λ n h. h) refl;
+          c.args.at.now.step.now []) c.args.meter.now c.args.meter.now (λ n h. h) refl;
+      answers = none_answered (scope_of g.C.Checking.setting c.args.walk.now)
+          c.new-answered.result c.new-answered.ensures;
     })
 
 pub id_records::verify_ids-verify_id-requires : goal.id_records::verify_ids-verify_id-requires
@@ -124,11 +132,14 @@ id_records::verify_ids-verify_id-requires g t c κs within =
           (
             c.requires.candidates,
             (
-              signer_listed c.args.walk.now.level.layout.now c.args.step.now all c.requires.signers
+              signer_listed c.args.walk.now.level.layout.now c.args.at.now.step.now all c.requires.signers
                   signer
                   stands,
-              signer_known c.args.walk.now.level.layout.now c.args.step.now all c.requires.signers
-                  signer stands,
+              (
+                signer_known c.args.walk.now.level.layout.now c.args.at.now.step.now all
+                    c.requires.signers signer stands,
+                c.loop-signer.invariant.answers,
+              ),
             ),
           ),
         ),
@@ -139,7 +150,7 @@ pub id_records::verify_ids-loop-signer-preserved : goal.id_records::verify_ids-l
 id_records::verify_ids-loop-signer-preserved g t c =
     let s = g.C.Checking.setting c.args.walk.now.checking.now in
     let v = c.args.walk.now.level in
-    let step = c.args.step.now in
+    let step = c.args.at.now.step.now in
     let found = c.args.signers.now in
     let i = c.loop-signer.signer-index in
     let signer = c.signer-item.result in
@@ -151,12 +162,13 @@ id_records::verify_ids-loop-signer-preserved g t c =
           c.loop-signer-test.true c.signer-item.is c.loop-signer.invariant.walked given
           c.in_ok-record.ensures.answer.0 c.in_ok-record.ensures.answer.1;
       asked = signer_more s v.depth v.layout.now v.links.now c.args.meter.now c.loop-signer.meter
-          c.verify_id.new.meter i step c.args.found.now found signer records c.loop-signer-test.true
+          c.verify_id.new.meter i step c.args.at.now.found found signer records c.loop-signer-test.true
           c.signer-item.is c.loop-signer.invariant.asked given c.in_ok-record.ensures.asked;
       fewest = given_more (fewest_below s v.depth) (one_fewest_below s v.depth)
           (some_fewest_below s v.depth) (holds_below s v.depth) s v.layout.now v.links.now step
           given records c.args.meter.now c.loop-signer.meter c.verify_id.new.meter
           c.loop-signer.invariant.fewest c.in_ok-record.ensures.fewest;
+      answers = c.in_ok-record.ensures.answers;
     })
 
 pub id_records::verify_ids-returns-in_err-record-clause-asked : goal.id_records::verify_ids-returns-in_err-record-clause-asked
@@ -165,7 +177,7 @@ id_records::verify_ids-returns-in_err-record-clause-asked g t c =
     let v = c.args.walk.now.level in
     let p = err_from_is_err_and c.from_residual.result c.from_residual.ensures.1 in
     rw p.1 (signer_fails s v.depth v.layout.now v.links.now c.args.meter.now c.loop-signer.meter
-    c.verify_id.new.meter c.loop-signer.signer-index c.args.step.now c.args.found.now
+    c.verify_id.new.meter c.loop-signer.signer-index c.args.at.now.step.now c.args.at.now.found
     c.args.signers.now c.signer-item.result c.loop-signer.records.items
     c.loop-signer-test.true c.signer-item.is c.loop-signer.invariant.asked 0
     c.in_err-record.ensures.asked)
@@ -177,7 +189,7 @@ id_records::verify_ids-returns-in_err-push_some-clause-asked g t c =
     let p = err_from_is_err_and c.from_residual-in_err-push_some.result
     c.from_residual-in_err-push_some.ensures.1 in
     rw p.1 (signer_fails s v.depth v.layout.now v.links.now c.args.meter.now c.loop-signer.meter
-    c.verify_id.new.meter c.loop-signer.signer-index c.args.step.now c.args.found.now
+    c.verify_id.new.meter c.loop-signer.signer-index c.args.at.now.step.now c.args.at.now.found
     c.args.signers.now c.signer-item.result c.loop-signer.records.items
     c.loop-signer-test.true c.signer-item.is c.loop-signer.invariant.asked
     (least_given c.in_ok-record.record) c.in_ok-record.ensures.asked)
@@ -190,7 +202,7 @@ id_records::verify_ids-returns-clause-asked g t c =
     let all : take c.loop-signer.signer-index found ≡ found =
     take_all c.loop-signer.signer-index found (omega arith) in
     subst (λ ss. RaisedWithin (length c.loop-signer.records.items)
-    (SignersSum s v.depth v.layout.now v.links.now c.args.step.now c.args.found.now ss)
+    (SignersSum s v.depth v.layout.now v.links.now c.args.at.now.step.now c.args.at.now.found ss)
     c.args.meter.now c.loop-signer.meter) all c.loop-signer.invariant.asked
 
 pub id_records::verify_ids-returns-clause-answer : goal.id_records::verify_ids-returns-clause-answer
@@ -200,9 +212,9 @@ id_records::verify_ids-returns-clause-answer g t c =
     let found = c.args.signers.now in
     let all : take c.loop-signer.signer-index found ≡ found =
     take_all c.loop-signer.signer-index found (omega arith) in
-    walked_all s v.depth v.layout.now v.links.now c.args.step.now found c.loop-signer.records.items
+    walked_all s v.depth v.layout.now v.links.now c.args.at.now.step.now found c.loop-signer.records.items
     c.requires.signers
-    (subst (λ ss. AreWalked s v.depth v.layout.now v.links.now c.args.step.now ss
+    (subst (λ ss. AreWalked s v.depth v.layout.now v.links.now c.args.at.now.step.now ss
     c.loop-signer.records.items) all c.loop-signer.invariant.walked)
 
 pub level::judge_level-returns-in_err-steps-clause-answer : goal.level::judge_level-returns-in_err-steps-clause-answer
@@ -529,7 +541,7 @@ id_records::verify_id-returns-in_err-counted-clause-asked g t c =
     let s = g.C.Checking.setting c.args.walk.now.checking.now in
     let l = c.args.walk.now.level in
     let p = err_from_is_err_and c.from_residual.result c.from_residual.ensures.1 in
-    rw p.1 (candidates_raise s l.depth l.layout.now l.links.now c.args.step.now c.args.found.now
+    rw p.1 (candidates_raise s l.depth l.layout.now l.links.now c.args.at.now.step.now c.args.at.now.found
     c.args.signer.now.id.now 0 c.args.meter.now c.counted.new.meter c.in_err-counted.ensures.asked)
 
 pub id_records::verify_id-returns-in_err-copy-in-Several-clause-asked : goal.id_records::verify_id-returns-in_err-copy-in-Several-clause-asked
@@ -538,7 +550,7 @@ id_records::verify_id-returns-in_err-copy-in-Several-clause-asked g t c =
     let l = c.args.walk.now.level in
     let p = err_from_is_err_and c.from_residual-in_err-copy-in-Several.result
     c.from_residual-in_err-copy-in-Several.ensures.1 in
-    rw p.1 (candidates_raise s l.depth l.layout.now l.links.now c.args.step.now c.args.found.now
+    rw p.1 (candidates_raise s l.depth l.layout.now l.links.now c.args.at.now.step.now c.args.at.now.found
     c.args.signer.now.id.now 0 c.args.meter.now c.counted.new.meter
     (rw c.in-Several.is at c.in_ok-counted.ensures.asked))
 
@@ -548,7 +560,7 @@ id_records::verify_id-returns-in_err-copy-in-Several-2-clause-asked g t c =
     let l = c.args.walk.now.level in
     let p = err_from_is_err_and c.from_residual-in_err-copy-in-Several-2.result
     c.from_residual-in_err-copy-in-Several-2.ensures.1 in
-    rw p.1 (candidates_raise s l.depth l.layout.now l.links.now c.args.step.now c.args.found.now
+    rw p.1 (candidates_raise s l.depth l.layout.now l.links.now c.args.at.now.step.now c.args.at.now.found
     c.args.signer.now.id.now 0 c.args.meter.now c.counted.new.meter
     (rw c.in-Several.is at c.in_ok-counted.ensures.asked))
 
@@ -556,7 +568,7 @@ pub id_records::verify_id-returns-in_ok-copy-in-Several-2-clause-asked : goal.id
 id_records::verify_id-returns-in_ok-copy-in-Several-2-clause-asked g t c =
     let s = g.C.Checking.setting c.args.walk.now.checking.now in
     let l = c.args.walk.now.level in
-    candidates_raise s l.depth l.layout.now l.links.now c.args.step.now c.args.found.now
+    candidates_raise s l.depth l.layout.now l.links.now c.args.at.now.step.now c.args.at.now.found
     c.args.signer.now.id.now 0 c.args.meter.now c.counted.new.meter
     (rw c.in-Several.is at c.in_ok-counted.ensures.asked)
 
@@ -564,7 +576,7 @@ pub id_records::verify_id-returns-in-Nothing-clause-asked : goal.id_records::ver
 id_records::verify_id-returns-in-Nothing-clause-asked g t c =
     let s = g.C.Checking.setting c.args.walk.now.checking.now in
     let l = c.args.walk.now.level in
-    candidates_raise s l.depth l.layout.now l.links.now c.args.step.now c.args.found.now
+    candidates_raise s l.depth l.layout.now l.links.now c.args.at.now.step.now c.args.at.now.found
     c.args.signer.now.id.now 0 c.args.meter.now c.counted.new.meter
     (rw c.in-Nothing.is at c.in_ok-counted.ensures.asked)
 
@@ -573,12 +585,12 @@ id_records::verify_id-returns-in-One-clause-asked g t c =
     let s = g.C.Checking.setting c.args.walk.now.checking.now in
     let l = c.args.walk.now.level in
     let one = one_counts (holds_below s l.depth) (fails_below s l.depth) s l.layout.now l.links.now
-    c.args.step.now c.args.signer.now.id.now c.args.signer.now.object.now c.args.found.now
+    c.args.at.now.step.now c.args.signer.now.id.now c.args.signer.now.object.now c.args.at.now.found
     c.requires.candidates c.requires.listed c.requires.known
-    c.in-One.key c.in-One.body
+    c.in-One.found
     (rw (c.in-One.is, c.as_str-name.ensures) at c.in_ok-counted.ensures.answer) in
-    record_asks s l.depth l.layout.now l.links.now c.args.step.now c.args.found.now
-    c.args.signer.now.id.now (holds_below s l.depth) c.in-One.key (as_body c.in-One.body)
+    record_asks s l.depth l.layout.now l.links.now c.args.at.now.step.now c.args.at.now.found
+    c.args.signer.now.id.now (holds_below s l.depth) c.in-One.found.key (as_body c.in-One.found.body)
     one c.args.meter.now c.counted.new.meter c.verify_body-recorded.new.meter
     (rw c.in-One.is at c.in_ok-counted.ensures.asked) c.verify_body-recorded.result
     c.record_of.result c.record_of.ensures
@@ -640,7 +652,7 @@ sublayouts::verify_sublayout-returns-clause-fewest g t c =
 
 pub id_records::verify_id-returns-in-Nothing-clause-fewest : goal.id_records::verify_id-returns-in-Nothing-clause-fewest
 id_records::verify_id-returns-in-Nothing-clause-fewest g t c =
-    least_of 0 (SignaturesIn c.args.found.now) c.args.meter.now c.counted.new.meter
+    least_of 0 (SignaturesIn c.args.at.now.found) c.args.meter.now c.counted.new.meter
     (rw c.in-Nothing.is at c.in_ok-counted.ensures.asked)
 
 pub id_records::verify_id-returns-in-One-clause-fewest : goal.id_records::verify_id-returns-in-One-clause-fewest
@@ -648,14 +660,193 @@ id_records::verify_id-returns-in-One-clause-fewest g t c =
     let s = g.C.Checking.setting c.args.walk.now.checking.now in
     let l = c.args.walk.now.level in
     let one = one_counts (holds_below s l.depth) (fails_below s l.depth) s l.layout.now l.links.now
-    c.args.step.now c.args.signer.now.id.now c.args.signer.now.object.now c.args.found.now
+    c.args.at.now.step.now c.args.signer.now.id.now c.args.signer.now.object.now c.args.at.now.found
     c.requires.candidates c.requires.listed c.requires.known
-    c.in-One.key c.in-One.body
+    c.in-One.found
     (rw (c.in-One.is, c.as_str-name.ensures) at c.in_ok-counted.ensures.answer) in
     record_takes (fewest_below s l.depth) (one_fewest_below s l.depth) (some_fewest_below s l.depth)
-    (holds_below s l.depth) s l.layout.now l.links.now c.args.step.now c.args.signer.now.id.now
-    c.in-One.key (as_body c.in-One.body) one
-    c.args.found.now c.args.meter.now c.counted.new.meter c.verify_body-recorded.new.meter
+    (holds_below s l.depth) s l.layout.now l.links.now c.args.at.now.step.now c.args.signer.now.id.now
+    c.in-One.found.key (as_body c.in-One.found.body) one
+    c.args.at.now.found c.args.meter.now c.counted.new.meter c.verify_body-recorded.new.meter
     (rw c.in-One.is at c.in_ok-counted.ensures.asked) c.verify_body-recorded.result
     c.record_of.result c.record_of.ensures
     (rw c.as_str-name.ensures at c.verify_body-recorded.ensures.fewest)
+
+-- ---- a body, whose sublayout may have been answered
+pub sublayouts::verify_body-returns-in_err-recorded-in-Layout-clause-asked : goal.sublayouts::verify_body-returns-in_err-recorded-in-Layout-clause-asked
+sublayouts::verify_body-returns-in_err-recorded-in-Layout-clause-asked g t c =
+    let scope = scope_of g.C.Checking.setting c.args.walk.now in
+    let place = c.args.at.now in
+    let p = err_from_is_err_and c.from_residual-in_err-recorded-in-Layout.result c.from_residual-in_err-recorded-in-Layout.ensures.1 in
+    rw p.1 (within_none (BodyCost scope place.step.now place.id.now c.args.body) c.args.meter.now
+    c.recall.new.meter c.in_err-recorded-in-Layout.ensures.unchanged)
+
+pub sublayouts::verify_body-returns-in-Some-clause-answer : goal.sublayouts::verify_body-returns-in-Some-clause-answer
+sublayouts::verify_body-returns-in-Some-clause-answer g t c =
+    let scope = scope_of g.C.Checking.setting c.args.walk.now in
+    let place = c.args.at.now in
+    let sublayout = c.in-Layout.sublayout in
+    let reads : LayoutOf place.payload.now sublayout = rw c.in-Layout.is at c.requires.reads in
+    let told = recalled scope place.step.now place.id.now sublayout c.args.answered.now
+    c.requires.answers place.payload.now reads c.in-Some.recorded c.args.meter.now c.recall.new.meter
+    (rw (c.as_str.ensures.value, c.in_ok-folder-in-Layout.ensures, c.in-Some.is) at
+    c.in_ok-recorded-in-Layout.ensures.told) in
+    rw c.in-Layout.is told.answer
+
+pub sublayouts::verify_body-returns-in-Some-clause-asked : goal.sublayouts::verify_body-returns-in-Some-clause-asked
+sublayouts::verify_body-returns-in-Some-clause-asked g t c =
+    let scope = scope_of g.C.Checking.setting c.args.walk.now in
+    let place = c.args.at.now in
+    let sublayout = c.in-Layout.sublayout in
+    let reads : LayoutOf place.payload.now sublayout = rw c.in-Layout.is at c.requires.reads in
+    let told = recalled scope place.step.now place.id.now sublayout c.args.answered.now
+    c.requires.answers place.payload.now reads c.in-Some.recorded c.args.meter.now c.recall.new.meter
+    (rw (c.as_str.ensures.value, c.in_ok-folder-in-Layout.ensures, c.in-Some.is) at
+    c.in_ok-recorded-in-Layout.ensures.told) in
+    rw c.in-Layout.is told.asked
+
+pub sublayouts::verify_body-returns-in-Some-clause-fewest : goal.sublayouts::verify_body-returns-in-Some-clause-fewest
+sublayouts::verify_body-returns-in-Some-clause-fewest g t c =
+    let scope = scope_of g.C.Checking.setting c.args.walk.now in
+    let place = c.args.at.now in
+    let sublayout = c.in-Layout.sublayout in
+    let reads : LayoutOf place.payload.now sublayout = rw c.in-Layout.is at c.requires.reads in
+    let told = recalled scope place.step.now place.id.now sublayout c.args.answered.now
+    c.requires.answers place.payload.now reads c.in-Some.recorded c.args.meter.now c.recall.new.meter
+    (rw (c.as_str.ensures.value, c.in_ok-folder-in-Layout.ensures, c.in-Some.is) at
+    c.in_ok-recorded-in-Layout.ensures.told) in
+    rw c.in-Layout.is told.fewest
+
+pub sublayouts::verify_body-returns-in_err-recorded-in-Layout-2-clause-asked : goal.sublayouts::verify_body-returns-in_err-recorded-in-Layout-2-clause-asked
+sublayouts::verify_body-returns-in_err-recorded-in-Layout-2-clause-asked g t c =
+    let scope = scope_of g.C.Checking.setting c.args.walk.now in
+    let place = c.args.at.now in
+    let asked = c.verify_sublayout-chain.new.meter in
+    let new = c.raise_by.new.meter in
+    let is : new ≡ raised c.args.meter.now asked.asked = c.raise_by.ensures
+    ∙ ap (λ m. raised m asked.asked) (none_recalled
+    (answer_at c.args.answered.now c.as_str.result.now place.payload.now) c.args.meter.now
+    c.recall.new.meter (rw c.in_default.is at c.in_ok-recorded-in-Layout.ensures.told)) in
+    let p = err_from_is_err_and c.from_residual-in_err-recorded-in-Layout-2.result c.from_residual-in_err-recorded-in-Layout-2.ensures.1 in
+    rw (p.1, c.in-Layout.is) (anew_asks scope place.step.now place.id.now c.in-Layout.sublayout
+    asked c.args.meter.now new is c.verify_sublayout-chain.result
+    c.verify_sublayout-chain.ensures.asked)
+
+pub sublayouts::verify_body-returns-in_err-copy-in-Layout-clause-asked : goal.sublayouts::verify_body-returns-in_err-copy-in-Layout-clause-asked
+sublayouts::verify_body-returns-in_err-copy-in-Layout-clause-asked g t c =
+    let scope = scope_of g.C.Checking.setting c.args.walk.now in
+    let place = c.args.at.now in
+    let asked = c.verify_sublayout-chain.new.meter in
+    let new = c.raise_by.new.meter in
+    let is : new ≡ raised c.args.meter.now asked.asked = c.raise_by.ensures
+    ∙ ap (λ m. raised m asked.asked) (none_recalled
+    (answer_at c.args.answered.now c.as_str.result.now place.payload.now) c.args.meter.now
+    c.recall.new.meter (rw c.in_default.is at c.in_ok-recorded-in-Layout.ensures.told)) in
+    let p = err_from_is_err_and c.from_residual-in_err-copy-in-Layout.result c.from_residual-in_err-copy-in-Layout.ensures.1 in
+    rw (p.1, c.in-Layout.is) (anew_asks scope place.step.now place.id.now c.in-Layout.sublayout
+    asked c.args.meter.now new is c.verify_sublayout-chain.result
+    c.verify_sublayout-chain.ensures.asked)
+
+pub sublayouts::verify_body-returns-in_err-keep-in-Layout-clause-asked : goal.sublayouts::verify_body-returns-in_err-keep-in-Layout-clause-asked
+sublayouts::verify_body-returns-in_err-keep-in-Layout-clause-asked g t c =
+    let scope = scope_of g.C.Checking.setting c.args.walk.now in
+    let place = c.args.at.now in
+    let asked = c.verify_sublayout-chain.new.meter in
+    let new = c.raise_by.new.meter in
+    let is : new ≡ raised c.args.meter.now asked.asked = c.raise_by.ensures
+    ∙ ap (λ m. raised m asked.asked) (none_recalled
+    (answer_at c.args.answered.now c.as_str.result.now place.payload.now) c.args.meter.now
+    c.recall.new.meter (rw c.in_default.is at c.in_ok-recorded-in-Layout.ensures.told)) in
+    let p = err_from_is_err_and c.from_residual-in_err-keep-in-Layout.result c.from_residual-in_err-keep-in-Layout.ensures.1 in
+    rw (p.1, c.in-Layout.is) (anew_asks scope place.step.now place.id.now c.in-Layout.sublayout
+    asked c.args.meter.now new is c.verify_sublayout-chain.result
+    c.verify_sublayout-chain.ensures.asked)
+
+pub sublayouts::verify_body-returns-in_err-recorded-in-Layout-2-clause-answer : goal.sublayouts::verify_body-returns-in_err-recorded-in-Layout-2-clause-answer
+sublayouts::verify_body-returns-in_err-recorded-in-Layout-2-clause-answer g t c =
+    let scope = scope_of g.C.Checking.setting c.args.walk.now in
+    let place = c.args.at.now in
+    let p = err_from_is_err_and c.from_residual-in_err-recorded-in-Layout-2.result c.from_residual-in_err-recorded-in-Layout-2.ensures.1 in
+    let error = c.in_err-recorded-in-Layout-2.field-0.0 in
+    let fails : c.from_residual-in_err-recorded-in-Layout-2.result ≡ Err error =
+    p.1 ∙ ap Err p.2 in
+    subst (λ r. BodyAnswers scope place.step.now place.id.now c.args.body r) (sym fails)
+    (subst (λ b. BodyAnswers scope place.step.now place.id.now b (Err error)) (sym c.in-Layout.is)
+    (anew_fails scope place.step.now place.id.now c.in-Layout.sublayout
+    c.verify_sublayout-chain.result error c.verify_sublayout-chain.ensures.answer
+    c.in_err-recorded-in-Layout-2.ensures))
+
+pub sublayouts::verify_body-returns-in_ok-keep-in-Layout-clause-answer : goal.sublayouts::verify_body-returns-in_ok-keep-in-Layout-clause-answer
+sublayouts::verify_body-returns-in_ok-keep-in-Layout-clause-answer g t c =
+    let scope = scope_of g.C.Checking.setting c.args.walk.now in
+    let place = c.args.at.now in
+    let sublayout = c.in-Layout.sublayout in
+    let reads : LayoutOf place.payload.now sublayout = rw c.in-Layout.is at c.requires.reads in
+    let asked = c.verify_sublayout-chain.new.meter in
+    let new = c.raise_by.new.meter in
+    let is : new ≡ raised c.args.meter.now asked.asked = c.raise_by.ensures
+    ∙ ap (λ m. raised m asked.asked) (none_recalled
+    (answer_at c.args.answered.now c.as_str.result.now place.payload.now) c.args.meter.now
+    c.recall.new.meter (rw c.in_default.is at c.in_ok-recorded-in-Layout.ensures.told)) in
+    let made = anew scope place.step.now place.id.now sublayout asked c.args.meter.now new is
+    place.payload.now reads c.verify_sublayout-chain.result c.in_ok-recorded-in-Layout-2.recorded
+    c.verify_sublayout-chain.ensures.answer c.verify_sublayout-chain.ensures.asked
+    c.verify_sublayout-chain.ensures.fewest c.in_ok-recorded-in-Layout-2.ensures in
+    rw c.in-Layout.is made.told.answer
+
+pub sublayouts::verify_body-returns-in_ok-keep-in-Layout-clause-asked : goal.sublayouts::verify_body-returns-in_ok-keep-in-Layout-clause-asked
+sublayouts::verify_body-returns-in_ok-keep-in-Layout-clause-asked g t c =
+    let scope = scope_of g.C.Checking.setting c.args.walk.now in
+    let place = c.args.at.now in
+    let sublayout = c.in-Layout.sublayout in
+    let reads : LayoutOf place.payload.now sublayout = rw c.in-Layout.is at c.requires.reads in
+    let asked = c.verify_sublayout-chain.new.meter in
+    let new = c.raise_by.new.meter in
+    let is : new ≡ raised c.args.meter.now asked.asked = c.raise_by.ensures
+    ∙ ap (λ m. raised m asked.asked) (none_recalled
+    (answer_at c.args.answered.now c.as_str.result.now place.payload.now) c.args.meter.now
+    c.recall.new.meter (rw c.in_default.is at c.in_ok-recorded-in-Layout.ensures.told)) in
+    let made = anew scope place.step.now place.id.now sublayout asked c.args.meter.now new is
+    place.payload.now reads c.verify_sublayout-chain.result c.in_ok-recorded-in-Layout-2.recorded
+    c.verify_sublayout-chain.ensures.answer c.verify_sublayout-chain.ensures.asked
+    c.verify_sublayout-chain.ensures.fewest c.in_ok-recorded-in-Layout-2.ensures in
+    rw c.in-Layout.is made.told.asked
+
+pub sublayouts::verify_body-returns-in_ok-keep-in-Layout-clause-fewest : goal.sublayouts::verify_body-returns-in_ok-keep-in-Layout-clause-fewest
+sublayouts::verify_body-returns-in_ok-keep-in-Layout-clause-fewest g t c =
+    let scope = scope_of g.C.Checking.setting c.args.walk.now in
+    let place = c.args.at.now in
+    let sublayout = c.in-Layout.sublayout in
+    let reads : LayoutOf place.payload.now sublayout = rw c.in-Layout.is at c.requires.reads in
+    let asked = c.verify_sublayout-chain.new.meter in
+    let new = c.raise_by.new.meter in
+    let is : new ≡ raised c.args.meter.now asked.asked = c.raise_by.ensures
+    ∙ ap (λ m. raised m asked.asked) (none_recalled
+    (answer_at c.args.answered.now c.as_str.result.now place.payload.now) c.args.meter.now
+    c.recall.new.meter (rw c.in_default.is at c.in_ok-recorded-in-Layout.ensures.told)) in
+    let made = anew scope place.step.now place.id.now sublayout asked c.args.meter.now new is
+    place.payload.now reads c.verify_sublayout-chain.result c.in_ok-recorded-in-Layout-2.recorded
+    c.verify_sublayout-chain.ensures.answer c.verify_sublayout-chain.ensures.asked
+    c.verify_sublayout-chain.ensures.fewest c.in_ok-recorded-in-Layout-2.ensures in
+    rw c.in-Layout.is made.told.fewest
+
+pub sublayouts::verify_body-returns-in_ok-keep-in-Layout-clause-answers : goal.sublayouts::verify_body-returns-in_ok-keep-in-Layout-clause-answers
+sublayouts::verify_body-returns-in_ok-keep-in-Layout-clause-answers g t c =
+    let scope = scope_of g.C.Checking.setting c.args.walk.now in
+    let place = c.args.at.now in
+    let sublayout = c.in-Layout.sublayout in
+    let reads : LayoutOf place.payload.now sublayout = rw c.in-Layout.is at c.requires.reads in
+    let asked = c.verify_sublayout-chain.new.meter in
+    let new = c.raise_by.new.meter in
+    let is : new ≡ raised c.args.meter.now asked.asked = c.raise_by.ensures
+    ∙ ap (λ m. raised m asked.asked) (none_recalled
+    (answer_at c.args.answered.now c.as_str.result.now place.payload.now) c.args.meter.now
+    c.recall.new.meter (rw c.in_default.is at c.in_ok-recorded-in-Layout.ensures.told)) in
+    let made = anew scope place.step.now place.id.now sublayout asked c.args.meter.now new is
+    place.payload.now reads c.verify_sublayout-chain.result c.in_ok-recorded-in-Layout-2.recorded
+    c.verify_sublayout-chain.ensures.answer c.verify_sublayout-chain.ensures.asked
+    c.verify_sublayout-chain.ensures.fewest c.in_ok-recorded-in-Layout-2.ensures in
+    kept_answers scope c.args.answered.now c.keep.new.self (string_bytes c.in_ok-folder-in-Layout.folder)
+    place.payload.now (record { recorded = c.in_ok-copy-in-Layout.field-0; asked = asked })
+    (rw (c.in_ok-folder-in-Layout.ensures, c.in_ok-copy-in-Layout.ensures) made.kept) c.requires.answers
+    c.in_ok-keep-in-Layout.ensures

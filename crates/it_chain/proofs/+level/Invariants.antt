@@ -4,6 +4,8 @@ use Rattle.it_base.specs.Places.{NoneAt}
 use Rattle.it_chain.specs.Chain.{holds_below}
 use Rattle.it_chain.specs.inside.Asked.{RaisedAtLeast, RaisedWithin, RecordsFewest, fewest_below}
 use Rattle.it_chain.specs.inside.Asked.{key_total}
+use Rattle.it_chain.specs.inside.Answered.{AreAnswers}
+use Rattle.it_chain.specs.inside.Scope.{scope_of}
 use Rattle.it_chain.specs.First.{step_places}
 use Rattle.it_chain.specs.Level.{StepHolds}
 use Rattle.it_chain.specs.inside.Below.{StandsAt}
@@ -55,18 +57,19 @@ invariant-level::verify_steps-loop-step g l =
     }
 
 -- nothing stands at the ids of the signers so far, of which these are the records, no more was
--- asked than they cost, and no less than the records take
+-- asked than they cost, and no less than the records take; what was answered for them is right
 abbrev pub invariant-id_records::verify_ids-loop-signer : goal.invariant-id_records::verify_ids-loop-signer
 invariant-id_records::verify_ids-loop-signer g l =
     let setting = g.C.Checking.setting l.walk.checking.now in
     let layout = l.walk.level.layout.now in
     let bundle = l.walk.level.links.now in
     record {
-      walked : AreWalked setting l.walk.level.depth layout bundle l.step (take l.signer-index l.signers)
-          l.records.items;
+      walked : AreWalked setting l.walk.level.depth layout bundle l.at.step.now
+          (take l.signer-index l.signers) l.records.items;
       asked : RaisedWithin (length l.records.items)
-          (SignersSum setting l.walk.level.depth layout bundle l.step l.found
+          (SignersSum setting l.walk.level.depth layout bundle l.at.step.now l.at.found
           (take l.signer-index l.signers)) l.fn.meter l.meter;
       fewest : RaisedAtLeast (RecordsFewest (fewest_below setting l.walk.level.depth) setting layout
-          bundle l.step l.records.items) l.fn.meter l.meter;
+          bundle l.at.step.now l.records.items) l.fn.meter l.meter;
+      answers : AreAnswers (scope_of g.C.Checking.setting l.walk) l.answered;
     }

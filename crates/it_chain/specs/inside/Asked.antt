@@ -39,7 +39,7 @@ signature_count envelopes = sum_by (λ envelope. length envelope.signatures) env
 -- where one body counts for an id, a signature was asked for
 abbrev pub least_counted : Counting → ℕ
 least_counted Nothing = 0
-least_counted (One key body) = 1
+least_counted (One found) = 1
 least_counted Several = 0
 
 abbrev pub least_given : Option IdRecord → ℕ

@@ -6,6 +6,7 @@ use Rattle.it_dsse.specs.declared.envelope.Envelope.{Envelope}
 use Rattle.it_dsse.specs.declared.key_object.KeyObject.{KeyObject}
 use Rattle.it_chain.specs.inside.Candidates.{IsBody}
 use Rattle.it_chain.specs.declared.body.Body.{Body as Held}
+use Rattle.it_chain.specs.declared.counted_bodies.FoundBody.{FoundBody}
 use Rattle.it_chain.specs.declared.counted_bodies.Counting.{Counting}
 use Rattle.it_chain.specs.declared.counted_bodies.Counting.TheVariants.{Nothing, One, Several}
 
@@ -22,11 +23,10 @@ module _ (panel : Panel) (step id : List ℕ) (object : KeyObject) where
       pub signed : IsSignedBody envelope (key, body)
 
     -- one body, and no other
-    pub record CountsOne (key : KeyNumber) (body : Held) : Type 0 where
-      pub envelope : Envelope
-      pub is : IsSigned envelope key body
+    pub record CountsOne (found : FoundBody) : Type 0 where
+      pub is : IsSigned found.envelope.now found.key found.body
       pub alone : (other : Envelope) (k : KeyNumber) (b : Held) → IsSigned other k b
-          → envelope.payload ≡ other.payload
+          → found.envelope.now.payload ≡ other.payload
 
     -- two that differ
     pub record CountTwo : Type 0 where
@@ -43,5 +43,5 @@ module _ (panel : Panel) (step id : List ℕ) (object : KeyObject) where
     abbrev pub Counts : Counting → Type 0
     Counts Nothing = (envelope : Envelope) (key : KeyNumber) (body : Held)
         → ¬ IsSigned envelope key body
-    Counts (One key body) = CountsOne key body
+    Counts (One found) = CountsOne found
     Counts Several = CountTwo

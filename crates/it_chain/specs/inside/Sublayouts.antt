@@ -7,6 +7,7 @@ use Rattle.it_chain.specs.CountedBodies.{Body, of_link, of_layout}
 use Rattle.it_chain.specs.First.{Failing, under}
 use Rattle.it_chain.specs.Level.{Holding, Records}
 use Rattle.it_chain.specs.Sublayouts.{folder_of}
+use Rattle.it_chain.specs.Summary.{summary}
 use Rattle.it_chain.specs.declared.chain.Chain.{Chain as ChainOf}
 use Rattle.it_chain.specs.declared.refusal.ChainError.{ChainError}
 use Rattle.it_chain.specs.declared.refusal.ChainError.TheVariants.{Refused, OutOfMemory}
@@ -38,3 +39,11 @@ IsUnder step id (Refused inner) (Refused outer) = outer ≡ under step id inner
 IsUnder step id (Refused inner) OutOfMemory = ⊤
 IsUnder step id OutOfMemory (Refused outer) = ⊥
 IsUnder step id OutOfMemory OutOfMemory = ⊤
+
+-- what a sublayout gives for a pair, or its error
+abbrev pub IsSummarized : List ℕ → List ℕ → Result ChainOf ChainError → Result Recorded ChainError
+    → Type 0
+IsSummarized step id (Ok chain) (Ok recorded) = recorded ≡ summary chain.steps
+IsSummarized step id (Ok chain) (Err e) = ⊥
+IsSummarized step id (Err e) (Ok recorded) = ⊥
+IsSummarized step id (Err inner) (Err outer) = IsUnder step id inner outer

@@ -1,5 +1,5 @@
 -- What a bundle brings, as it is read. Nothing here is trusted.
-use Rattle.it_vouches.specs.Misses.{Brought}
+use Rattle.it_vouches.specs.Claim.{Brought}
 use Rattle.it_vouches.specs.declared.claim.Claim.{Claim}
 
 abbrev pub brought_of : Claim → Brought

@@ -8,7 +8,7 @@ use Rattle.it_dsse.specs.declared.envelope.Envelope.{Envelope}
 use Rattle.it_chain.proofs.Asking.{asked_first, asked_last, asked_more, asked_stopped}
 use Rattle.it_chain.proofs.Asking.{within_none}
 use Rattle.it_chain.proofs.Candidates.{lent_item, lent_length}
-use Rattle.it_chain.proofs.SoFar.{begun, least_first, none_so_far, one_of, passed_by, repeated}
+use Rattle.it_chain.proofs.SoFar.{begun, least_first, none_so_far, passed_by, repeated}
 use Rattle.it_chain.proofs.SoFar.{two_of}
 use Rattle.it_chain.proofs.counted_bodies.counted.Goals as goal
 use Rattle.it_chain.proofs.counted_bodies.counted.Goals.{in-Some+in-None}
@@ -126,9 +126,7 @@ returns-in-Some-first-2-clause-answer g c =
     c.as_slice-envelope-items.ensures in
     let all : take c.loop-envelope.envelope-index c.args.envelopes.now ≡ c.args.envelopes.now =
     take_all c.loop-envelope.envelope-index c.args.envelopes.now (omega (arith, long, c.loop-envelope-test.false)) in
-    one_of (g.C.Checking.setting c.args.walk.now.checking.now).panel c.args.step.now
-    c.args.signer.now.id.now c.args.signer.now.object.now c.args.envelopes.now
-    c.in-Some-first-2.found (rw (c.in-Some-first-2.is, all) at c.loop-envelope.invariant.so_far)
+    rw (c.in-Some-first-2.is, all) at c.loop-envelope.invariant.so_far
 
 pub loop-envelope-init : goal.loop-envelope-init
 loop-envelope-init g c = record {

@@ -1,4 +1,4 @@
-use Rattle.std.proofs.Common.{subst}
+use Rattle.std.proofs.Common.{◌∙◌, subst}
 use Rattle.std.specs.Result.{IfOk}
 use Rattle.it_findings.specs.SharedKeys.{SharedWith}
 use Rattle.it_findings.proofs.shared_keys.shared_in.Goals as goal
@@ -7,9 +7,11 @@ pub returns-in-Some : goal.returns-in-Some
 returns-in-Some c =
     subst (λ first. IfOk c.shared_with.result
     (λ found. SharedWith c.args.at.now first found.items))
-    (rw c.as_str.ensures at c.in-Some.ensures) c.shared_with.ensures
+    (c.in-Some.ensures c.args.at.now.key (c.as_str.ensures.value ∙ c.in_ok-name.ensures))
+    c.shared_with.ensures
 
-pub returns-in-None : goal.returns-in-None
-returns-in-None c =
+pub returns : goal.returns
+returns c =
     subst (λ first. SharedWith c.args.at.now first c.new.result.items)
-    (rw c.as_str.ensures at c.in-None.ensures) c.new.ensures.items
+    (c.in-None.ensures c.args.at.now.key (c.as_str.ensures.value ∙ c.in_ok-name.ensures))
+    c.new.ensures.items

@@ -1,0 +1,15 @@
+use Rattle.std.proofs.Common.{◌↔◌, IsTrue, sym, subst}
+use Rattle.it_certificate_log.specs.Timestamp.{stamp_of}
+use Rattle.it_issued.specs.declared.logged.Tie.{Tie}
+use Rattle.it_issued.specs.inside.Tied.{Tied}
+use Rattle.it_issued.proofs.logged.is_tied.Goals as goal
+
+pub returns-in-Window : goal.returns-in-Window
+returns-in-Window c =
+    subst (λ (t : Tie). IsTrue c.is_in_window.result ↔ Tied t c.args.text.now (stamp_of c.args.timestamp.now) c.args.log.now)
+    (sym c.in-Window.is) c.is_in_window.ensures
+
+pub returns-in-Signature : goal.returns-in-Signature
+returns-in-Signature c =
+    subst (λ (t : Tie). IsTrue c.is_by_log.result ↔ Tied t c.args.text.now (stamp_of c.args.timestamp.now) c.args.log.now)
+    (sym c.in-Signature.is) c.is_by_log.ensures

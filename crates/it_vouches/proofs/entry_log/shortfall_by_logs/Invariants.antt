@@ -1,0 +1,13 @@
+use Rattle.std.proofs.Common.{take}
+use Rattle.it_log_entry.specs.Place.{place_of}
+use Rattle.it_vouches.specs.EntryMissed.{MissesWithOne}
+use Rattle.it_vouches.specs.Furthest.{IsFurthest}
+use Rattle.it_vouches.specs.Logged.{VouchesBy}
+use Rattle.it_vouches.proofs.Loops.{NoneIn}
+use Rattle.it_vouches.proofs.entry_log.shortfall_by_logs.Given as goal
+
+-- none of the logs so far vouches, and this is the furthest condition that the entry misses
+abbrev pub invariant-loop-log : goal.invariant-loop-log
+invariant-loop-log l =
+    NoneIn (VouchesBy l.needs_proof l.entry l.logged) (take l.log-index l.logs)
+    × IsFurthest place_of (MissesWithOne (take l.log-index l.logs) l.needs_proof l.entry l.logged) l.furthest

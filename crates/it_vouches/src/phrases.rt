@@ -1,0 +1,96 @@
+//! The words for what a bundle misses.
+ghost use Rattle.std.specs.Prelude.{◌≡◌};
+ghost use Rattle.it_vouches.specs.Phrases.{certificate_phrase_of, entry_phrase_of};
+ghost use Rattle.it_vouches.specs.Phrases.{issue_phrase_of, issuer_phrase_of, leaf_phrase_of};
+ghost use Rattle.it_vouches.specs.Phrases.{log_phrase_of};
+
+use crate::issuer_shortfall::IssuerShortfall;
+use it_bundle::NoCertificate;
+use it_certificate::LeafShortfall;
+use it_issued::{IssueShortfall, LogShortfall};
+use it_log_entry::EntryShortfall;
+
+/// Why a bundle has no certificate.
+pub(crate) fn certificate_phrase(reason: NoCertificate) -> &'static str
+    ensures { result.now ≡ certificate_phrase_of reason }
+{
+    match reason {
+        NoCertificate::PublicKey => "it is signed by a public key, not by a certificate",
+        NoCertificate::Missing => "it has no certificate",
+        NoCertificate::TwoForms => "it has both a certificate and a chain",
+        NoCertificate::Chain => "bundles of version 0.3 have one certificate, not a chain",
+        NoCertificate::Unreadable => "its certificate has no bytes, or not in base64",
+    }
+}
+
+/// Why its certificate is no leaf.
+pub(crate) fn leaf_phrase(missed: LeafShortfall) -> &'static str
+    ensures { result.now ≡ leaf_phrase_of missed }
+{
+    match missed {
+        LeafShortfall::Form => "its certificate is not read",
+        LeafShortfall::Key => "its certificate has a key of another curve",
+        LeafShortfall::Usage => "its certificate is not for signatures",
+        LeafShortfall::Purpose => "its certificate is not for code signing",
+        LeafShortfall::Authority => "its certificate is that of an authority",
+        LeafShortfall::Name => {
+            "its certificate does not have exactly one name of a URI, an address or Fulcio's own \
+             kind"
+        }
+        LeafShortfall::Issuer => "its certificate does not name one issuer",
+    }
+}
+
+/// Why no log vouches by its entry.
+pub(crate) fn entry_phrase(missed: EntryShortfall) -> &'static str
+    ensures { result.now ≡ entry_phrase_of missed }
+{
+    match missed {
+        EntryShortfall::Log => "its entry is of a log that the trusted root does not have",
+        EntryShortfall::Time => "its entry's time is outside the time of that log",
+        EntryShortfall::Kind => { "its entry is of another kind than dsse 0.0.1 and intoto 0.0.2" }
+        EntryShortfall::Body => "its entry is about another signature, or does not read",
+        EntryShortfall::NoProof => "its entry has no inclusion proof",
+        EntryShortfall::Inclusion => "its inclusion proof does not lead to its root",
+        EntryShortfall::Checkpoint => "the log did not sign the checkpoint",
+        EntryShortfall::Promise => "the log did not sign its entry's time",
+    }
+}
+
+/// Why its certificate is not attested.
+pub(crate) fn issuer_phrase(missed: IssuerShortfall) -> &'static str
+    ensures { result.now ≡ issuer_phrase_of missed }
+{
+    match missed {
+        IssuerShortfall::Issue(missed) => issue_phrase(missed),
+        IssuerShortfall::Log(missed) => log_phrase(missed),
+    }
+}
+
+fn issue_phrase(missed: IssueShortfall) -> &'static str
+    ensures { result.now ≡ issue_phrase_of missed }
+{
+    match missed {
+        IssueShortfall::Name => {
+            "no authority of the trusted root has the name of the certificate's issuer"
+        }
+        IssueShortfall::Window => "that authority did not count at the time of its entry",
+        IssueShortfall::LeafTime => "the certificate was not valid at the time of its entry",
+        IssueShortfall::AuthorityTime => {
+            "a certificate of that authority was not valid at the time of its entry"
+        }
+        IssueShortfall::Signature => "that authority did not sign the certificate",
+    }
+}
+
+fn log_phrase(missed: LogShortfall) -> &'static str
+    ensures { result.now ≡ log_phrase_of missed }
+{
+    match missed {
+        LogShortfall::Missing => "the certificate has no timestamp of a certificate log",
+        LogShortfall::Form => "its timestamps do not read",
+        LogShortfall::Log => "its timestamps are of logs that the trusted root does not have",
+        LogShortfall::Window => "its timestamp is outside the time of that log",
+        LogShortfall::Signature => "that log did not sign the certificate's timestamp",
+    }
+}

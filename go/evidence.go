@@ -32,6 +32,14 @@ type CountedKey struct {
 	Signatures []uint64 `json:"signatures"`
 }
 
+// Signer is an identity that signed.
+type Signer struct {
+	Identity string `json:"identity"`
+	Issuer   string `json:"issuer"`
+	// LoggedAt is the time of the log by which a bundle vouches, in seconds since 1970.
+	LoggedAt uint64 `json:"loggedAt"`
+}
+
 // FileEvidence is a delivered file, and what stood for it.
 type FileEvidence struct {
 	Path string `json:"path"`
@@ -42,4 +50,7 @@ type FileEvidence struct {
 	Line    uint64 `json:"line"`
 	Builder string `json:"builder"`
 	Level   uint8  `json:"level"`
+	// Signer is who signed the line, where a bundle vouches for an identity of the builder, and
+	// otherwise nil.
+	Signer *Signer `json:"signer"`
 }

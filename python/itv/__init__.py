@@ -18,11 +18,11 @@ be called in several threads at once.
 from ._commands import (Checked, check, digest, key, link, match, pae, payload, sign, signed,
                         statement)
 from ._errors import Found, ItvError, NoMemory, Refused, Stopped
-from ._evidence import CountedKey, Evidence, FileEvidence, StepEvidence
+from ._evidence import CountedKey, Evidence, FileEvidence, Signer, StepEvidence
 from ._library import Run, run, version
 from ._verify import Finding, Refusal, Verdict, verify
 
 __all__ = ["Checked", "CountedKey", "Evidence", "FileEvidence", "Finding", "Found", "ItvError",
-           "NoMemory", "Refusal", "Refused", "Run", "StepEvidence", "Stopped", "Verdict", "check",
+           "NoMemory", "Refusal", "Refused", "Run", "Signer", "StepEvidence", "Stopped", "Verdict", "check",
            "digest", "key", "link", "match", "pae", "payload", "run", "sign", "signed", "statement",
            "verify", "version"]

@@ -1,7 +1,7 @@
 """What stands behind a delivery that is accepted."""
 
 import dataclasses
-from typing import Any, Dict, List
+from typing import Any, Dict, List, Optional
 
 
 @dataclasses.dataclass(frozen=True)
@@ -24,10 +24,21 @@ class StepEvidence:
 
 
 @dataclasses.dataclass(frozen=True)
+class Signer:
+    """An identity that signed, its issuer, and the time of the log by which a bundle vouches for
+    it, in seconds since 1970.
+    """
+
+    identity: str
+    issuer: str
+    logged_at: int
+
+
+@dataclasses.dataclass(frozen=True)
 class FileEvidence:
     """A delivered file, its digests from the name of the algorithm to hexadecimal digits, and what
-    stood for it: the line of the provenance, counted from 1, the builder that it names, and the
-    builder's level.
+    stood for it: the line of the provenance, counted from 1, the builder that it names, the
+    builder's level, and, where a bundle vouches for an identity of this builder, who signed.
     """
 
     path: str
@@ -35,6 +46,7 @@ class FileEvidence:
     line: int
     builder: str
     level: int
+    signer: Optional[Signer] = None
 
 
 @dataclasses.dataclass(frozen=True)
@@ -54,9 +66,18 @@ class Evidence:
     files: List[FileEvidence]
 
 
+def file_of(told: Dict[str, Any]) -> FileEvidence:
+    """What a report tells of a file."""
+    signer = told.get("signer")
+    if signer is None:
+        return FileEvidence(**told)
+    who = Signer(signer["identity"], signer["issuer"], signer["loggedAt"])
+    return FileEvidence(**{**told, "signer": who})
+
+
 def evidence_of(told: Dict[str, Any]) -> Evidence:
     """The evidence that a report tells as JSON."""
     steps = [StepEvidence(step["name"], [CountedKey(**key) for key in step["keys"]])
              for step in told["steps"]]
-    files = [FileEvidence(**file) for file in told["files"]]
+    files = [file_of(file) for file in told["files"]]
     return Evidence(**{**told, "steps": steps, "files": files})

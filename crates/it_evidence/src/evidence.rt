@@ -19,12 +19,14 @@ use it_step_evidence::step_evidence;
 use it_verify::documents::Documents;
 use it_verify::grounds::Grounds;
 use it_verify::inputs::Inputs;
+use it_vouched::Vouched;
 use sha2::{Digest, Sha256};
 use std::alloc::{AllocError, Global};
 
 /// What stands behind a delivery that is accepted (in-toto 1.0 section 5.2; SLSA v1.0, verifying
 /// artifacts). The `grounds` show that the delivered files of the `inputs` were made as the owners
-/// prescribed. Signatures are checked by the `checks`.
+/// prescribed. Signatures are checked by the `checks`. Who signed the provenance of a file is told
+/// as far as what is `vouched` says it.
 ///
 /// # Errors
 ///
@@ -34,14 +36,15 @@ pub fn evidence_of<C: Checks>(
     inputs: &Inputs,
     grounds: &Grounds,
     checks: &C,
+    vouched: &[Vouched],
 ) -> Result<Evidence, AllocError>
     requires { IsMadeBy (C.panel checks.now) inputs.now grounds.now.documents grounds.now.evidence }
-    ensures { IfOk result (IsBehind (C.panel checks.now) inputs.now) }
+    ensures { IfOk result (IsBehind (C.panel checks.now) vouched.now inputs.now) }
 {
     let documents = &grounds.documents;
     let expires = expires_of(alloc, documents)?;
     let steps = step_evidence(alloc, &documents.layout, &inputs.links, checks)?;
-    let files = file_evidence(alloc, inputs, documents, checks)?;
+    let files = file_evidence(alloc, inputs, documents, checks, vouched)?;
     Ok(Evidence {
         moment: Text::copy(alloc, inputs.moment.as_str())?,
         policy: Sha256::digest(inputs.policy.as_slice()),

@@ -19,6 +19,7 @@ use Rattle.it_verify.specs.declared.evidence.Evidence.{Evidence}
 use Rattle.it_verify.specs.Made.{IsMadeBy}
 use Rattle.it_verify.specs.Provenance.{HasProvenance}
 use Rattle.it_verify.specs.declared.inputs.Inputs.{Inputs}
+use Rattle.it_vouched.specs.declared.vouched.Vouched.{Vouched}
 use Rattle.it_file_evidence.specs.FileEvidence.{AreFileEvidence, IsFileEvidence}
 use Rattle.it_file_evidence.specs.inside.Lines.{AreReadFrom}
 use Rattle.it_file_evidence.specs.inside.Proven.{AreEvidence, IsEvidenceOrNone, IsProven}
@@ -28,17 +29,17 @@ abbrev File : Type 0
 File = List ℕ × DigestSet
 
 -- ---- one file more
-module _ (panel : Panel) (expectations : List Expectation) (lines : List (List ℕ))
-    (envelopes : List Envelope) where
+module _ (panel : Panel) (expectations : List Expectation) (vouched : List Vouched)
+    (lines : List (List ℕ)) (envelopes : List Envelope) where
   abbrev Are : List File → List FileEvidence → Type 0
-  Are = AreEvidence panel expectations lines envelopes
+  Are = AreEvidence panel expectations vouched lines envelopes
 
   pub no_evidence : Are [] []
   no_evidence = record { proven = []; are_those = refl; each = tt }
 
   pub evidence_more : (done : List File) (found : List FileEvidence) (file : File)
       (one : Option FileEvidence) → Are done found
-      → IsEvidenceOrNone panel expectations lines envelopes file one
+      → IsEvidenceOrNone panel expectations vouched lines envelopes file one
       → Are (done ++ file ∷ []) (found ++ cons_option one [])
   evidence_more done found file None are none = rw (append-nil found) (record {
     proven = are.proven;
@@ -50,8 +51,8 @@ module _ (panel : Panel) (expectations : List Expectation) (lines : List (List �
     proven = are.proven ++ file ∷ [];
     are_those = keep_last (IsProven panel expectations envelopes) done are.proven file are.are_those
         is.0;
-    each = all_zipped_more (IsFileEvidence panel lines expectations) are.proven found file one
-        are.each is.1;
+    each = all_zipped_more (IsFileEvidence panel vouched lines expectations) are.proven found file
+        one are.each is.1;
   }
 
 -- ---- lists that keep what a fact holds of
@@ -102,22 +103,22 @@ module _ (panel : Panel) (inputs : Inputs) (documents : Documents) (envelopes : 
     meets = has.meets;
   }
 
-  module _ (found : List FileEvidence)
-      (are : AreEvidence panel expectations (lines_of inputs.provenance) envelopes
+  module _ (vouched : List Vouched) (found : List FileEvidence)
+      (are : AreEvidence panel expectations vouched (lines_of inputs.provenance) envelopes
       (entries documents.delivered) found) where
     those : AreThose Proven (entries documents.delivered) are.proven
     those = those_alike (IsProven panel expectations envelopes) Proven has_provenance is_proven
         (entries documents.delivered) are.proven are.are_those
 
-    pub are_evidence : AreFileEvidence panel inputs documents found
+    pub are_evidence : AreFileEvidence panel vouched inputs documents found
     are_evidence = record { proven = are.proven; are_those = those; each = are.each }
 
     pub all_evidence : (evidence : Evidence) → IsMadeBy panel inputs documents evidence
-        → AllZip (IsFileEvidence panel (lines_of inputs.provenance) expectations)
+        → AllZip (IsFileEvidence panel vouched (lines_of inputs.provenance) expectations)
         (entries documents.delivered) found
     all_evidence evidence made =
-        subst (λ files. AllZip (IsFileEvidence panel (lines_of inputs.provenance) expectations)
-        files found)
+        subst (λ files. AllZip (IsFileEvidence panel vouched (lines_of inputs.provenance)
+        expectations) files found)
         (those_all Proven (entries documents.delivered) are.proven those
         (λ file c. made.provenance file.0 file.1 (entry_known documents.delivered file c)))
         are.each

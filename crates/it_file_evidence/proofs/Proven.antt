@@ -26,7 +26,10 @@ use Rattle.it_prov.proofs.Meeting.{built_of, level_by, level_of}
 use Rattle.it_prov.proofs.OneFit.{fits_one}
 use Rattle.it_prov.proofs.Saying.{held_of}
 use Rattle.it_json_report.specs.declared.evidence.FileEvidence.{FileEvidence}
+use Rattle.it_json_report.specs.declared.evidence.Signer.{Signer}
+use Rattle.it_vouched.specs.declared.vouched.Vouched.{Vouched}
 use Rattle.it_file_evidence.specs.FileEvidence.{IsFileEvidence, IsFirstLine}
+use Rattle.it_file_evidence.specs.Signer.{signer_among}
 use Rattle.it_file_evidence.specs.inside.Lines.{AreReadFrom}
 use Rattle.it_file_evidence.specs.inside.Proven.{IsProven, builder_named}
 use Rattle.it_file_evidence.proofs.ReadLines.{read_at}
@@ -127,6 +130,16 @@ module _ (panel : Panel) (expectations : List Expectation) (envelopes : List Env
       → named ≡ Some provenance_of.builder
   builder_read held read named are is names = names ∙ builder_is read (held_read held read are is)
 
+  -- the builders of the expectation at a place that speaks of the file
+  builders_there : (place : ℕ) (wanted : Expectation) (builders : List Builder)
+      → FitsAt expectations file.0 place → builders ≡ (get_or expectations place wanted).builders
+      → builders ≡ expectation.builders
+  builders_there place wanted builders at are =
+      let wanted_is : get_or expectations place wanted ≡ expectation =
+      get_or_from_slice_get expectations place at.expectation wanted at.stands
+      ∙ fits_one expectations file.0 at.expectation expectation at.fits found.fits in
+      are ∙ ap (λ (e : Expectation). e.builders) wanted_is
+
   -- the greatest level of the builders that are named there and signed what stands there
   pub greatest_read : (place : ℕ) (wanted : Expectation) (other : Envelope)
       (builders : List Builder) (id : List ℕ) (level : Option ℕ)
@@ -135,11 +148,7 @@ module _ (panel : Panel) (expectations : List Expectation) (envelopes : List Env
       → IsGreatest (OfSome (IsBuiltBy panel (get_or envelopes index other) id) builders) level
       → IsGreatest Built level
   greatest_read place wanted other builders id level at builders_are id_is h =
-      let wanted_is : get_or expectations place wanted ≡ expectation =
-      get_or_from_slice_get expectations place at.expectation wanted at.stands
-      ∙ fits_one expectations file.0 at.expectation expectation at.fits found.fits in
-      let same : builders ≡ expectation.builders = builders_are
-      ∙ ap (λ (e : Expectation). e.builders) wanted_is in
+      let same = builders_there place wanted builders at builders_are in
       let read = get_or envelopes index other in
       subst (λ (e : Envelope). IsGreatest
       (OfSome (IsBuiltBy panel e provenance_of.builder) expectation.builders) level)
@@ -148,6 +157,22 @@ module _ (panel : Panel) (expectations : List Expectation) (envelopes : List Env
       level) id_is
       (subst (λ (bs : List Builder). IsGreatest (OfSome (IsBuiltBy panel read id) bs) level)
       same h))
+
+  -- who signed what stands there for the builders that are named
+  pub signer_read : (vouched : List Vouched) (place : ℕ) (wanted : Expectation) (other : Envelope)
+      (builders : List Builder) (id : List ℕ) (signer : Option Signer)
+      → FitsAt expectations file.0 place
+      → builders ≡ (get_or expectations place wanted).builders → id ≡ provenance_of.builder
+      → signer ≡ signer_among vouched builders id (get_or envelopes index other)
+      → signer ≡ signer_among vouched expectation.builders provenance_of.builder envelope_of
+  signer_read vouched place wanted other builders id signer at builders_are id_is is =
+      let read = get_or envelopes index other in
+      is
+      ∙ ap (λ (bs : List Builder). signer_among vouched bs id read)
+      (builders_there place wanted builders at builders_are)
+      ∙ ap (λ (i : List ℕ). signer_among vouched expectation.builders i read) id_is
+      ∙ ap (λ (e : Envelope). signer_among vouched expectation.builders provenance_of.builder e)
+      (get_or_from_slice_get envelopes index envelope_of other found.first.stands)
 
   module _ (lines : List (List ℕ)) (places : List ℕ)
       (are : AreReadFrom 1 lines envelopes places) (place : ℕ)
@@ -167,11 +192,12 @@ module _ (panel : Panel) (expectations : List Expectation) (envelopes : List Env
               (line.before earlier other c reads);
         }
 
-    pub is_evidence : (given : FileEvidence) → given.path ≡ file.0 → given.digests ≡ file.1
-        → given.line ≡ place → given.builder ≡ provenance_of.builder
+    pub is_evidence : (vouched : List Vouched) (given : FileEvidence) → given.path ≡ file.0
+        → given.digests ≡ file.1 → given.line ≡ place → given.builder ≡ provenance_of.builder
         → IsGreatest Built (Some given.level)
-        → IsFileEvidence panel lines expectations file given
-    is_evidence given path digests line builder level = record {
+        → given.signer ≡ signer_among vouched expectation.builders provenance_of.builder envelope_of
+        → IsFileEvidence panel vouched lines expectations file given
+    is_evidence vouched given path digests line builder level signer = record {
       path_is = path;
       digests_are = digests;
       expectation = expectation;
@@ -183,4 +209,5 @@ module _ (panel : Panel) (expectations : List Expectation) (envelopes : List Env
       attests = met.attests;
       builder_is = builder;
       level_is = greatest_alike Built AtLevel at_built built_at (Some given.level) level;
+      signer_is = signer;
     }

@@ -1,2 +1,3 @@
 pub mod FileEvidence
+pub mod Signer
 pub mod inside

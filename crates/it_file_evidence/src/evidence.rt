@@ -11,6 +11,7 @@ ghost use Rattle.it_file_evidence.specs.inside.Lines.{AreReadFrom};
 ghost use Rattle.it_file_evidence.specs.inside.Proven.{AreEvidence};
 
 use crate::evidence_of::evidence_of;
+use crate::known_lines::KnownLines;
 use crate::lines::read_lines;
 use it_base::optional::push_some;
 use it_digest::artifacts::Artifacts;
@@ -20,6 +21,7 @@ use it_prov::asked_builders::AskedBuilders;
 use it_prov::attestations::Attestations;
 use it_verify::documents::Documents;
 use it_verify::inputs::Inputs;
+use it_vouched::Vouched;
 use std::alloc::{AllocError, Global};
 
 /// What stands for each delivered file of a verification that has provenance (SLSA v1.0, verifying
@@ -28,7 +30,9 @@ use std::alloc::{AllocError, Global};
 ///
 /// The line is the first of the provenance, from 1, that meets the expectation which speaks of the
 /// file. The builder is the one that the provenance in this line names. The level is the greatest
-/// that the expectation gives a builder of this id whose key signed the line.
+/// that the expectation gives a builder of this id whose key signed the line. The signer is the
+/// identity of a builder of this id that signed it by the first of the lines that vouches for this,
+/// where one of those that are `vouched` does.
 ///
 /// # Errors
 ///
@@ -38,46 +42,46 @@ pub fn file_evidence<C: Checks>(
     inputs: &Inputs,
     documents: &Documents,
     checks: &C,
+    vouched: &[Vouched],
 ) -> Result<Vec<FileEvidence>, AllocError>
-    ensures files { IfOk result (λ found.
-        AreFileEvidence (C.panel checks.now) inputs.now documents.now found.items) }
+    ensures files { IfOk result (λ found. AreFileEvidence (C.panel checks.now) vouched.now
+        inputs.now documents.now found.items) }
     ensures made { (evidence : Evidence)
         → IsMadeBy (C.panel checks.now) inputs.now documents.now evidence
-        → IfOk result (λ found. AllZip (IsFileEvidence (C.panel checks.now)
+        → IfOk result (λ found. AllZip (IsFileEvidence (C.panel checks.now) vouched.now
         (lines_of inputs.now.provenance) documents.now.policy.expectations)
         (entries documents.now.delivered) found.items) }
 {
     let read = read_lines(alloc, inputs.provenance.as_slice())?;
     let asked = AskedBuilders::of(alloc, documents.policy.expectations.as_slice())?;
     let attestations = Attestations::of(alloc, read.envelopes.as_slice(), &asked, checks)?;
-    evidence_among(
-        alloc,
-        &documents.delivered,
-        read.places.as_slice(),
-        &attestations,
-    )
+    let lines = KnownLines {
+        places: read.places.as_slice(),
+        vouched,
+    };
+    evidence_among(alloc, &documents.delivered, &lines, &attestations)
 }
 
-/// What stands for each delivered file, by what envelopes attest. The `places` are those of the
-/// envelopes' lines.
+/// What stands for each delivered file, by what envelopes attest and by what is known of the lines.
 fn evidence_among<C: Checks>(
     alloc: Global,
     delivered: &Artifacts,
-    places: &[u64],
+    lines: &KnownLines<'_>,
     attestations: &Attestations<C>,
 ) -> Result<Vec<FileEvidence>, AllocError>
     requires held { AreHeld (C.panel attestations.now.checks.now)
         attestations.now.expectations.now attestations.now.envelopes.now
         attestations.now.held.items }
-    requires places { length places.now ≡ length attestations.now.envelopes.now }
-    ensures { IfOk result (λ found. (lines : List (List ℕ))
-        → AreReadFrom 1 lines attestations.now.envelopes.now places.now
+    requires places { length lines.now.places.now ≡ length attestations.now.envelopes.now }
+    ensures { IfOk result (λ found. (texts : List (List ℕ))
+        → AreReadFrom 1 texts attestations.now.envelopes.now lines.now.places.now
         → AreEvidence (C.panel attestations.now.checks.now) attestations.now.expectations.now
-        lines attestations.now.envelopes.now (entries delivered.now) found.items) }
+        lines.now.vouched.now texts attestations.now.envelopes.now (entries delivered.now)
+        found.items) }
 {
     let mut found = Vec::new(alloc);
     for (path, digests) in delivered.iter() {
-        let one = evidence_of(alloc, path.as_str(), *digests, places, attestations)?;
+        let one = evidence_of(alloc, path.as_str(), *digests, lines, attestations)?;
         push_some(&mut found, one)?;
     }
     Ok(found)

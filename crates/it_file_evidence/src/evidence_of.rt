@@ -5,7 +5,9 @@ ghost use Rattle.it_file_evidence.specs.inside.Lines.{AreReadFrom};
 ghost use Rattle.it_file_evidence.specs.inside.Proven.{IsEvidenceOrNone};
 
 use crate::found::{builder_in, index_found};
+use crate::known_lines::KnownLines;
 use crate::levels::greatest_level;
+use crate::signer::signer_in;
 use it_base::text::Text;
 use it_digest::compare::DigestSet;
 use it_dsse::checks::Checks;
@@ -14,24 +16,23 @@ use it_prov::attestations::Attestations;
 use it_prov::fits::fitting;
 use std::alloc::{AllocError, Global};
 
-/// What stands for the file at a path, or `None` where the file has no provenance. The `places` are
-/// those of the envelopes' lines.
+/// What stands for the file at a path, or `None` where the file has no provenance.
 pub(crate) fn evidence_of<C: Checks>(
     alloc: Global,
     path: &str,
     digests: DigestSet,
-    places: &[u64],
+    lines: &KnownLines<'_>,
     attestations: &Attestations<C>,
 ) -> Result<Option<FileEvidence>, AllocError>
     requires held { AreHeld (C.panel attestations.now.checks.now)
         attestations.now.expectations.now attestations.now.envelopes.now
         attestations.now.held.items }
-    requires places { length places.now ≡ length attestations.now.envelopes.now }
-    ensures { IfOk result (λ found. (lines : List (List ℕ))
-        → AreReadFrom 1 lines attestations.now.envelopes.now places.now
+    requires places { length lines.now.places.now ≡ length attestations.now.envelopes.now }
+    ensures { IfOk result (λ found. (texts : List (List ℕ))
+        → AreReadFrom 1 texts attestations.now.envelopes.now lines.now.places.now
         → IsEvidenceOrNone (C.panel attestations.now.checks.now)
-        attestations.now.expectations.now lines attestations.now.envelopes.now
-        (path.now, digests) found) }
+        attestations.now.expectations.now lines.now.vouched.now texts
+        attestations.now.envelopes.now (path.now, digests) found) }
 {
     let Some(place) = fitting(attestations.expectations, path) else {
         return Ok(None);
@@ -49,11 +50,13 @@ pub(crate) fn evidence_of<C: Checks>(
     let Some(level) = greatest_level(builders, builder, envelope, attestations.checks)? else {
         return Ok(None);
     };
+    let signer = signer_in(alloc, lines.vouched, builders, builder, envelope)?;
     Ok(Some(FileEvidence {
         path: Text::copy(alloc, path)?,
         digests,
-        line: places[index],
+        line: lines.places[index],
         builder: Text::copy(alloc, builder)?,
         level,
+        signer,
     }))
 }

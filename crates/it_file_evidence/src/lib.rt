@@ -1,11 +1,13 @@
 //! What stands for each delivered file of a verification: the line of the provenance, the builder
-//! that it names, and the builder's level.
+//! that it names, the builder's level, and who signed the line, where a bundle vouches for it.
 #![tactic(auto)]
 
 mod evidence;
 mod evidence_of;
 mod found;
+mod known_lines;
 mod levels;
 mod lines;
+mod signer;
 
 pub use evidence::file_evidence;

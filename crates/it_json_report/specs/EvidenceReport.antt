@@ -7,6 +7,7 @@ use Rattle.it_json_report.specs.Json.{json_list, json_object, json_text}
 use Rattle.it_json_report.specs.declared.evidence.CountedKey.{CountedKey}
 use Rattle.it_json_report.specs.declared.evidence.Evidence.{Evidence}
 use Rattle.it_json_report.specs.declared.evidence.FileEvidence.{FileEvidence}
+use Rattle.it_json_report.specs.declared.evidence.Signer.{Signer}
 use Rattle.it_json_report.specs.declared.evidence.StepEvidence.{StepEvidence}
 
 -- a digest, as a text of lower-case hexadecimal digits
@@ -42,14 +43,26 @@ counted_form name keys =
 abbrev pub counted_object : StepEvidence → List ℕ
 counted_object step = counted_form step.name step.keys
 
--- a delivered file with its digests, the line of its provenance, the builder, and the builder's
--- level
+-- an identity that signed, its issuer, and the time of the log, in seconds since 1970
+abbrev pub signer_object : Signer → List ℕ
+signer_object signer =
+    json_object ((codes "identity", json_text signer.identity)
+    ∷ (codes "issuer", json_text signer.issuer) ∷ (codes "loggedAt", decimal signer.logged_at)
+    ∷ [])
+
+-- the member of the identity, where one signed
+abbrev pub signer_members : Option Signer → List (List ℕ × List ℕ)
+signer_members None = []
+signer_members (Some signer) = (codes "signer", signer_object signer) ∷ []
+
+-- a delivered file with its digests, the line of its provenance, the builder, the builder's level,
+-- and the identity that signed
 abbrev pub file_object : FileEvidence → List ℕ
 file_object file =
     json_object ((codes "path", json_text file.path)
     ∷ (codes "digests", json_object (set_members file.digests))
     ∷ (codes "line", decimal file.line) ∷ (codes "builder", json_text file.builder)
-    ∷ (codes "level", decimal file.level) ∷ [])
+    ∷ (codes "level", decimal file.level) ∷ signer_members file.signer)
 
 -- what stands behind an accepted delivery
 abbrev pub evidence_object : Evidence → List ℕ

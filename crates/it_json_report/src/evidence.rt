@@ -26,6 +26,18 @@ pub struct StepEvidence {
     pub keys: Sequence<CountedKey>,
 }
 
+/// Whom a Sigstore bundle names as the signer of the provenance of a file.
+#[derive(Drop)]
+pub struct Signer {
+    /// The identity, as the policy lists it for the builder.
+    pub identity: Text,
+    /// The issuer that vouched for the identity.
+    pub issuer: Text,
+    /// The time of the entry of a transparency log by which the bundle vouches, in seconds since
+    /// 1970.
+    pub logged_at: u64,
+}
+
 /// What stood for a delivered file.
 #[derive(Drop)]
 pub struct FileEvidence {
@@ -39,6 +51,9 @@ pub struct FileEvidence {
     pub builder: Text,
     /// The level that the policy gives this builder.
     pub level: u8,
+    /// Who signed the envelope, where a Sigstore bundle vouches that an identity of this builder
+    /// did.
+    pub signer: Option<Signer>,
 }
 
 /// What stands behind a delivery that is accepted.

@@ -3,11 +3,12 @@ ghost use Rattle.std.specs.Prelude.{◌≡◌, ◌++◌, ◌∷◌, [], OnOk, co
 ghost use Rattle.it_json_report.specs.EvidenceReport.{counted_form, counted_object};
 ghost use Rattle.it_json_report.specs.EvidenceReport.{evidence_object, file_object, json_digits};
 ghost use Rattle.it_json_report.specs.EvidenceReport.{key_form, key_object, set_members};
+ghost use Rattle.it_json_report.specs.EvidenceReport.{signer_members, signer_object};
 ghost use Rattle.it_json_report.specs.Json.{further, json_list, json_object, json_text};
 ghost use Rattle.it_json_report.specs.Json.{member, opened};
 
 use crate::digests::{push_digests, push_digits_member};
-use crate::evidence::{CountedKey, Evidence, FileEvidence, StepEvidence};
+use crate::evidence::{CountedKey, Evidence, FileEvidence, Signer, StepEvidence};
 use crate::lists::JsonItem;
 use crate::members::{push_list_member, push_member_name, push_number_member, push_text_member};
 use crate::texts::push_text;
@@ -78,6 +79,7 @@ fn push_file(alloc: Global, json: &mut Vec<u8>, file: &FileEvidence) -> Result<(
 {
     push_delivered(alloc, json, &file.path, &file.digests)?;
     push_provenance(alloc, json, file.line, &file.builder, file.level)?;
+    push_signer(alloc, json, &file.signer)?;
     Ok(())
 }
 
@@ -98,7 +100,7 @@ fn push_delivered(
     push_digests(alloc, json, digests)
 }
 
-/// The end of the object of a file.
+/// The members of a file's provenance.
 fn push_provenance(
     alloc: Global,
     json: &mut Vec<u8>,
@@ -106,13 +108,44 @@ fn push_provenance(
     builder: &Text,
     level: u8,
 ) -> Result<(), AllocError>
-    ensures { OnOk result (json.new.items ≡ json.old.items ++ (further member
+    ensures { OnOk result (json.new.items ≡ json.old.items ++ further member
         ((codes "line", decimal line) ∷ (codes "builder", json_text builder.now)
-        ∷ (codes "level", decimal level) ∷ []) ++ codes "}")) }
+        ∷ (codes "level", decimal level) ∷ [])) }
 {
     push_number_member(alloc, json, "line", line)?;
     push_text_member(json, "builder", builder.as_str())?;
-    push_number_member(alloc, json, "level", level as u64)?;
+    push_number_member(alloc, json, "level", level as u64)
+}
+
+/// The end of the object of a file: the identity that signed, where one did.
+fn push_signer(alloc: Global, json: &mut Vec<u8>, signer: &Option<Signer>) -> Result<(), AllocError>
+    ensures { OnOk result (json.new.items
+        ≡ json.old.items ++ (further member (signer_members signer.now) ++ codes "}")) }
+{
+    match signer {
+        Some(signer) => push_signing(alloc, json, signer),
+        None => json.push(b'}'),
+    }
+}
+
+fn push_signing(alloc: Global, json: &mut Vec<u8>, signer: &Signer) -> Result<(), AllocError>
+    ensures { OnOk result (json.new.items ≡ json.old.items
+        ++ (further member ((codes "signer", signer_object signer.now) ∷ []) ++ codes "}")) }
+{
+    push_member_name(json, "signer")?;
+    push_identity(alloc, json, signer)?;
+    json.push(b'}')?;
+    Ok(())
+}
+
+/// The object of an identity that signed.
+fn push_identity(alloc: Global, json: &mut Vec<u8>, signer: &Signer) -> Result<(), AllocError>
+    ensures { OnOk result (json.new.items ≡ json.old.items ++ signer_object signer.now) }
+{
+    json.extend_from_slice(b"{\"identity\":")?;
+    push_text(json, signer.identity.as_str())?;
+    push_text_member(json, "issuer", signer.issuer.as_str())?;
+    push_number_member(alloc, json, "loggedAt", signer.logged_at)?;
     json.push(b'}')?;
     Ok(())
 }

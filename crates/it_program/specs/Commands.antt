@@ -1,5 +1,5 @@
 -- What the commands write and find, by their words and by what is at the paths in them.
-use Rattle.std.specs.Prelude.{◌≡◌, ℕ, List, Option, IsTrue}
+use Rattle.std.specs.Prelude.{◌≡◌, ℕ, List, [], Option, IsTrue, unwrap_or}
 use Rattle.std.specs.Io.KnownBytes.{Appends}
 use Rattle.std.specs.List.{AllZip}
 use Rattle.it_dsse.specs.Check.{Check as SignatureCheck}
@@ -44,25 +44,26 @@ form_asked (asked.Report form) = report_asked form
 form_asked (asked.Summary words) =
     Summary (record { verifier = words.verifier; resource = words.resource })
 
--- what a verification is given: its inputs, and the checks, which are those of the rings in the
--- order of the words, then, where they are asked for, of public keys, and then, where a trusted
--- root is given, of what the provenance vouches for
+-- what a verification is given: its inputs, what the provenance vouches for, where a trusted root
+-- is given, and the checks, which are those of the rings in the order of the words, then, where
+-- they are asked for, of public keys, and then of what the provenance vouches for
 pub record AreGiven (disk : Holdings) (words : VerifyWords) (inputs : Inputs)
-    (checks : List SignatureCheck) : Type 0 where
-  pub vouched : Option (List Vouched)
+    (vouched : Option (List Vouched)) (checks : List SignatureCheck) : Type 0 where
   pub are_inputs : AreInputs disk words inputs vouched
   pub rings : List (List RingEntry)
   pub holds_rings : AllZip (HoldsRing disk) words.rings rings
   pub checks_are : checks ≡ command_checks rings words.public_keys vouched
 
--- verify: the output of verifying the inputs by the checks; with --strict, nothing is found in what
--- is accepted
+-- verify: the output of verifying the inputs by the checks, which names who signed by what the
+-- provenance vouches for; with --strict, nothing is found in what is accepted
 pub record Verifies (disk : Holdings) (words : VerifyWords) (text : List ℕ)
     (status : Status) : Type 0 where
   pub inputs : Inputs
+  pub vouched : Option (List Vouched)
   pub checks : List SignatureCheck
-  pub given : AreGiven disk words inputs checks
-  pub is_output : IsVerifyOutputIn (form_asked words.output) (panel_of checks) inputs text status
+  pub given : AreGiven disk words inputs vouched checks
+  pub is_output : IsVerifyOutputIn (form_asked words.output) (panel_of checks)
+      (unwrap_or vouched []) inputs text status
   pub stands : IsTrue words.strict → status ≡ Good → StandsStrictly (panel_of checks) inputs
 
 -- verify --strict: all that was prescribed holds of the inputs, and something is found; with
@@ -71,8 +72,9 @@ pub record FindsAgainst (disk : Holdings) (words : VerifyWords) (old new : Optio
     : Type 0 where
   pub is_strict : IsTrue words.strict
   pub inputs : Inputs
+  pub vouched : Option (List Vouched)
   pub checks : List SignatureCheck
-  pub given : AreGiven disk words inputs checks
+  pub given : AreGiven disk words inputs vouched checks
   pub text : List ℕ
   pub has_findings : HasFindings (form_asked words.output) (panel_of checks) inputs text
   pub goes_out : form_asked words.output ≡ Full → Appends old new text

@@ -40,8 +40,8 @@ pub(crate) struct Given {
 /// lines of the provenance that have too many signatures are left out.
 pub(crate) fn read_given<R: Disk + AllocGlobal>(rt: &R, words: &VerifyWords) -> Result<Given, Fault>
     ensures given { IfOk result (λ given. AreGiven (R.holdings rt.now) words.now given.inputs
-        (command_checks given.checks.own.rings.items given.checks.own.public_keys
-        given.checks.vouched)) }
+        given.checks.vouched (command_checks given.checks.own.rings.items
+        given.checks.own.public_keys given.checks.vouched)) }
     ensures silent { IfOk result
         (λ given. AreSilentIn (R.holdings rt.now) words.now given.silent) }
 {

@@ -1,5 +1,5 @@
 //! `itv verify`: whether delivered files were made as the owners prescribed.
-ghost use Rattle.std.specs.Prelude.{◌≡◌, ◌≢◌, ◌≤◌, IfErr, IfOk, IsErrOf, IsTrue};
+ghost use Rattle.std.specs.Prelude.{◌≡◌, ◌≢◌, ◌≤◌, [], IfErr, IfOk, IsErrOf, IsTrue, unwrap_or};
 ghost use Rattle.std.specs.Io.KnownBytes.{Appends};
 ghost use Rattle.it_verify_command.specs.Strictly.{HasFindings, StandsStrictly};
 ghost use Rattle.it_verify_command.specs.VerifyOutputIn.{IsVerifyOutputIn};
@@ -18,6 +18,7 @@ use it_verify_command::output_form::OutputForm;
 use it_verify_command::verification::Verification;
 use it_verify_command::verify_strictly::verify_strictly;
 use it_verify_command::verify_with_notes::verify_with_notes;
+use it_vouched::Vouched;
 use it_words::words::verify_words::VerifyWords;
 use std::alloc::Global;
 use std::io::Write;
@@ -51,11 +52,22 @@ pub(crate) fn run<R: Disk + AllocGlobal, W: Write, N: Write>(
     let verification = Verification {
         inputs: &given.inputs,
         checks: &given.checks,
+        vouched: vouched_in(&given.checks),
         form: &asked.form,
     };
     let outcome = verify_as_asked(alloc, &verification, asked.strict, out, notes);
     note_silent(alloc, &outcome, given.silent.as_slice(), notes);
     told_spent(outcome, &given.checks, words.most_checks)
+}
+
+/// What lines of the provenance vouch for: nothing where no trusted root is given.
+fn vouched_in(checks: &CommandChecks) -> &[Vouched]
+    ensures { result.now ≡ unwrap_or checks.now.vouched [] }
+{
+    match &checks.vouched {
+        Some(lines) => lines.as_slice(),
+        None => &[],
+    }
 }
 
 /// The outcome of a verification, where that of lack of memory is told as it is: that more
@@ -86,8 +98,8 @@ fn verify_as_asked<C: Checks, W: Write, N: Write>(
 ) -> Result<Status, Stop>
     requires { asked.now.inputs.now.depth ≤ 8 }
     ensures ok { IfOk result (λ status. (text : _)
-        × IsVerifyOutputIn asked.now.form.now (C.panel asked.now.checks.now) asked.now.inputs.now
-        text status
+        × IsVerifyOutputIn asked.now.form.now (C.panel asked.now.checks.now)
+        asked.now.vouched.now asked.now.inputs.now text status
         × Appends (W.contents out.old) (W.contents out.new) text) }
     ensures stands { IfOk result (λ status. IsTrue strict → status ≡ Status.Good
         → StandsStrictly (C.panel asked.now.checks.now) asked.now.inputs.now) }

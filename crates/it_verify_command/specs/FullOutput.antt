@@ -17,6 +17,7 @@ use Rattle.it_report.specs.declared.verdict.Verdict.{Verdict}
 use Rattle.it_strict.specs.declared.below.FoundBelow.{FoundBelow}
 use Rattle.it_verify.specs.Verdict.{OnAccepted}
 use Rattle.it_verify.specs.declared.inputs.Inputs.{Inputs}
+use Rattle.it_vouched.specs.declared.vouched.Vouched.{Vouched}
 use Rattle.it_notes.specs.FoundInDocuments.{AreFoundInDocuments}
 use Rattle.it_notes.specs.declared.found_in_documents.FoundInDocuments.{FoundInDocuments}
 use Rattle.it_verify_command.specs.SummaryOutput.{IsSummaryText}
@@ -54,15 +55,17 @@ pub record AreFindings (panel : Panel) (inputs : Inputs) (findings : List Report
 
 -- the text is the report of the verdict, where it accepts with what is found and with what stands
 -- behind the delivery, and with some notes
-pub record IsFullText (panel : Panel) (inputs : Inputs) (verdict : Verdict) (text : List ℕ)
-    : Type 0 where
+pub record IsFullText (panel : Panel) (vouched : List Vouched) (inputs : Inputs)
+    (verdict : Verdict) (text : List ℕ) : Type 0 where
   pub beside : Beside
   pub findings : OnAccepted verdict (AreFindings panel inputs beside.findings)
-  pub evidence : OnAccepted verdict (MatchOption beside.evidence ⊥ (IsBehind panel inputs))
+  pub evidence : OnAccepted verdict
+      (MatchOption beside.evidence ⊥ (IsBehind panel vouched inputs))
   pub text_is : text ≡ full_json_of verdict beside
 
 -- the text is the output for the verdict in a form
-abbrev pub IsTextIn : OutputForm → Panel → Inputs → Verdict → List ℕ → Type 0
-IsTextIn (Report form) panel inputs verdict text = text ≡ form_of form verdict
-IsTextIn Full panel inputs verdict text = IsFullText panel inputs verdict text
-IsTextIn (Summary names) panel inputs verdict text = IsSummaryText names panel inputs verdict text
+abbrev pub IsTextIn : OutputForm → Panel → List Vouched → Inputs → Verdict → List ℕ → Type 0
+IsTextIn (Report form) panel vouched inputs verdict text = text ≡ form_of form verdict
+IsTextIn Full panel vouched inputs verdict text = IsFullText panel vouched inputs verdict text
+IsTextIn (Summary names) panel vouched inputs verdict text =
+    IsSummaryText names panel vouched inputs verdict text

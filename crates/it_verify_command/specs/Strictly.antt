@@ -8,6 +8,7 @@ use Rattle.it_verify.specs.declared.documents.Documents.{Documents}
 use Rattle.it_verify.specs.declared.evidence.Evidence.{Evidence}
 use Rattle.it_verify.specs.Made.{IsMadeBy}
 use Rattle.it_verify.specs.declared.inputs.Inputs.{Inputs}
+use Rattle.it_vouched.specs.declared.vouched.Vouched.{Vouched}
 use Rattle.it_verify_command.specs.FoundOutput.{found_in}
 use Rattle.it_verify_command.specs.VerifyOutputIn.{IsVerifyOutputIn}
 use Rattle.it_verify_command.specs.declared.output_form.OutputForm.{OutputForm}
@@ -36,7 +37,7 @@ pub record HasFindings (form : OutputForm) (panel : Panel) (inputs : Inputs) (te
 
 -- the text is what a strict verification writes as its output: that for the verdict, or, in the
 -- full form, what is found
-abbrev pub IsStrictOutput : OutputForm → Panel → Inputs → List ℕ → Type 0
-IsStrictOutput form panel inputs text =
-    ((status : Status) × IsVerifyOutputIn form panel inputs text status)
+abbrev pub IsStrictOutput : OutputForm → Panel → List Vouched → Inputs → List ℕ → Type 0
+IsStrictOutput form panel vouched inputs text =
+    ((status : Status) × IsVerifyOutputIn form panel vouched inputs text status)
     ⊎ ((form ≡ Full) × HasFindings form panel inputs text)

@@ -44,7 +44,8 @@ pub(crate) fn answer_to<'a, C: Checks>(
 ) -> Result<Answer<'a>, AllocError>
     requires { asked.now.inputs.now.depth ≤ 8 }
     ensures { IfOk result
-        (IsAnswer asked.now.form.now (C.panel asked.now.checks.now) asked.now.inputs.now) }
+        (IsAnswer asked.now.form.now (C.panel asked.now.checks.now)
+        asked.now.vouched.now asked.now.inputs.now) }
 {
     match verify_grounds(alloc, asked.inputs, asked.checks)? {
         Outcome::Made(grounds) => {
@@ -68,7 +69,8 @@ pub(crate) fn made_answer<'a, C: Checks>(
     requires found { IfSome found
         (AreFoundInDocuments (C.panel asked.now.checks.now) asked.now.inputs.now) }
     ensures { IfOk result
-        (IsAnswer asked.now.form.now (C.panel asked.now.checks.now) asked.now.inputs.now) }
+        (IsAnswer asked.now.form.now (C.panel asked.now.checks.now)
+        asked.now.vouched.now asked.now.inputs.now) }
 {
     let behind = behind_in(alloc, asked, &grounds)?;
     let told = made_told(alloc, asked.inputs, grounds, found)?;
@@ -85,7 +87,8 @@ pub(crate) fn refused_answer<'a, C: Checks>(
     requires refused { RefusedFor (C.panel asked.now.checks.now) asked.now.inputs.now refusal }
     requires found { IfSome found (IsFound (C.panel asked.now.checks.now) asked.now.inputs.now) }
     ensures answer { IfOk result
-        (IsAnswer asked.now.form.now (C.panel asked.now.checks.now) asked.now.inputs.now) }
+        (IsAnswer asked.now.form.now (C.panel asked.now.checks.now)
+        asked.now.vouched.now asked.now.inputs.now) }
     ensures refuses { IfOk result (λ answer. answer.told.verdict ≡ Refused refusal) }
 {
     let told = Told {
@@ -105,9 +108,10 @@ fn answer_on<'a, C: Checks>(
 ) -> Result<Answer<'a>, AllocError>
     requires told { IsTold (C.panel asked.now.checks.now) asked.now.inputs.now told }
     requires behind { OnAccepted told.verdict (IsBehindIn asked.now.form.now
-        (C.panel asked.now.checks.now) asked.now.inputs.now behind) }
+        (C.panel asked.now.checks.now) asked.now.vouched.now asked.now.inputs.now behind) }
     ensures answer { IfOk result
-        (IsAnswer asked.now.form.now (C.panel asked.now.checks.now) asked.now.inputs.now) }
+        (IsAnswer asked.now.form.now (C.panel asked.now.checks.now)
+        asked.now.vouched.now asked.now.inputs.now) }
     ensures verdict { IfOk result (λ answer. answer.told.verdict ≡ told.entry.verdict) }
 {
     let text = text_in(alloc, asked, &told, behind)?;

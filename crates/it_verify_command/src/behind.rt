@@ -1,5 +1,6 @@
 //! What stands behind a delivery that is accepted, for the forms that have it.
 ghost use Rattle.std.specs.Prelude.{IfOk};
+ghost use Rattle.it_evidence.specs.Evidence.{IsBehind};
 ghost use Rattle.it_verify.specs.Made.{IsMadeBy};
 ghost use Rattle.it_verify_command.specs.inside.Answer.{IsBehindIn};
 
@@ -20,16 +21,26 @@ pub(crate) fn behind_in<C: Checks>(
     requires { IsMadeBy (C.panel asked.now.checks.now) asked.now.inputs.now grounds.now.documents
         grounds.now.evidence }
     ensures { IfOk result
-        (IsBehindIn asked.now.form.now (C.panel asked.now.checks.now) asked.now.inputs.now) }
+        (IsBehindIn asked.now.form.now (C.panel asked.now.checks.now)
+        asked.now.vouched.now asked.now.inputs.now) }
 {
     match asked.form {
         OutputForm::Report(_) => Ok(None),
-        OutputForm::Full => Ok(Some(evidence_of(alloc, asked.inputs, grounds, asked.checks)?)),
-        OutputForm::Summary(_) => Ok(Some(evidence_of(
-            alloc,
-            asked.inputs,
-            grounds,
-            asked.checks,
-        )?)),
+        OutputForm::Full => Ok(Some(behind(alloc, asked, grounds)?)),
+        OutputForm::Summary(_) => Ok(Some(behind(alloc, asked, grounds)?)),
     }
+}
+
+/// The same, whatever the form is.
+fn behind<C: Checks>(
+    alloc: Global,
+    asked: &Verification<C>,
+    grounds: &Grounds,
+) -> Result<Evidence, AllocError>
+    requires { IsMadeBy (C.panel asked.now.checks.now) asked.now.inputs.now grounds.now.documents
+        grounds.now.evidence }
+    ensures { IfOk result
+        (IsBehind (C.panel asked.now.checks.now) asked.now.vouched.now asked.now.inputs.now) }
+{
+    evidence_of(alloc, asked.inputs, grounds, asked.checks, asked.vouched)
 }

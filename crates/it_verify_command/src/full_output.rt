@@ -26,9 +26,9 @@ pub(crate) fn full_text<C: Checks>(
 ) -> Result<Vec<u8>, AllocError>
     requires told { IsTold (C.panel asked.now.checks.now) asked.now.inputs.now told.now }
     requires behind { OnAccepted told.now.verdict (MatchOption behind ⊥
-        (IsBehind (C.panel asked.now.checks.now) asked.now.inputs.now)) }
-    ensures { IfOk result (λ text. IsFullText (C.panel asked.now.checks.now) asked.now.inputs.now
-        told.now.verdict text.items) }
+        (IsBehind (C.panel asked.now.checks.now) asked.now.vouched.now asked.now.inputs.now)) }
+    ensures { IfOk result (λ text. IsFullText (C.panel asked.now.checks.now)
+        asked.now.vouched.now asked.now.inputs.now told.now.verdict text.items) }
 {
     let beside = beside(alloc, asked, told, behind)?;
     full_json_report(alloc, &told.verdict, &beside)

@@ -27,9 +27,9 @@ pub(crate) fn text_in<C: Checks>(
 ) -> Result<Vec<u8>, AllocError>
     requires told { IsTold (C.panel asked.now.checks.now) asked.now.inputs.now told.now }
     requires behind { OnAccepted told.now.verdict (IsBehindIn asked.now.form.now
-        (C.panel asked.now.checks.now) asked.now.inputs.now behind) }
+        (C.panel asked.now.checks.now) asked.now.vouched.now asked.now.inputs.now behind) }
     ensures { IfOk result (λ text. IsTextIn asked.now.form.now (C.panel asked.now.checks.now)
-        asked.now.inputs.now told.now.verdict text.items) }
+        asked.now.vouched.now asked.now.inputs.now told.now.verdict text.items) }
 {
     match asked.form {
         OutputForm::Report(form) => report_in(alloc, *form, &told.verdict),

@@ -30,7 +30,8 @@ pub(crate) fn strict_answer<'a, C: Checks>(
 ) -> Result<StrictAnswer<'a>, AllocError>
     requires { asked.now.inputs.now.depth ≤ 8 }
     ensures { IfOk result
-        (IsStrictAnswer asked.now.form.now (C.panel asked.now.checks.now) asked.now.inputs.now) }
+        (IsStrictAnswer asked.now.form.now (C.panel asked.now.checks.now)
+        asked.now.vouched.now asked.now.inputs.now) }
 {
     match verify_grounds(alloc, asked.inputs, asked.checks)? {
         Outcome::Made(grounds) => strict_made(alloc, asked, grounds),
@@ -51,7 +52,8 @@ fn strict_made<'a, C: Checks>(
     requires made { IsMadeBy (C.panel asked.now.checks.now) asked.now.inputs.now grounds.documents
         grounds.evidence }
     ensures { IfOk result
-        (IsStrictAnswer asked.now.form.now (C.panel asked.now.checks.now) asked.now.inputs.now) }
+        (IsStrictAnswer asked.now.form.now (C.panel asked.now.checks.now)
+        asked.now.vouched.now asked.now.inputs.now) }
 {
     let found = found_in(alloc, asked.inputs, &grounds, asked.checks)?;
     judged(alloc, asked, grounds, found)
@@ -69,7 +71,8 @@ fn judged<'a, C: Checks>(
     requires found { AreFound (C.panel asked.now.checks.now) asked.now.inputs.now grounds.documents
         grounds.evidence found }
     ensures { IfOk result
-        (IsStrictAnswer asked.now.form.now (C.panel asked.now.checks.now) asked.now.inputs.now) }
+        (IsStrictAnswer asked.now.form.now (C.panel asked.now.checks.now)
+        asked.now.vouched.now asked.now.inputs.now) }
 {
     if !found.is_nothing() {
         return Ok(StrictAnswer::Against(found));

@@ -18,9 +18,10 @@ pub(crate) fn summary_text(
     behind: &Option<Evidence>,
     names: &SummaryNames,
 ) -> Result<Vec<u8>, AllocError>
-    ensures { (panel : _) (inputs : _)
-        → OnAccepted verdict.now (MatchOption behind.now ⊥ (IsBehind panel inputs))
-        → IfOk result (λ text. IsSummaryText names.now panel inputs verdict.now text.items) }
+    ensures { (panel : _) (vouched : _) (inputs : _)
+        → OnAccepted verdict.now (MatchOption behind.now ⊥ (IsBehind panel vouched inputs))
+        → IfOk result
+        (λ text. IsSummaryText names.now panel vouched inputs verdict.now text.items) }
 {
     match (verdict, behind) {
         (Verdict::Refused(_), _) => Ok(Vec::new(alloc)),

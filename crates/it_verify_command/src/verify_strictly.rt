@@ -36,8 +36,8 @@ pub fn verify_strictly<C: Checks, W: Write, N: Write>(
 ) -> Result<Status, StrictFault>
     requires { asked.now.inputs.now.depth ≤ 8 }
     ensures ok { IfOk result (λ status. (text : _)
-        × IsVerifyOutputIn asked.now.form.now (C.panel asked.now.checks.now) asked.now.inputs.now
-        text status
+        × IsVerifyOutputIn asked.now.form.now (C.panel asked.now.checks.now)
+        asked.now.vouched.now asked.now.inputs.now text status
         × Appends (W.contents out.old) (W.contents out.new) text) }
     ensures stands { IfOk result (λ status. status ≡ Status.Good
         → StandsStrictly (C.panel asked.now.checks.now) asked.now.inputs.now) }
@@ -46,8 +46,8 @@ pub fn verify_strictly<C: Checks, W: Write, N: Write>(
         × AreTold asked.now.form.now (W.contents out.old) (W.contents out.new)
         (N.contents notes.old) (N.contents notes.new) text }
     ensures write { IsErrOf result (StrictFault.Run RunFault.Write) → (text : _)
-        × IsStrictOutput asked.now.form.now (C.panel asked.now.checks.now) asked.now.inputs.now
-        text
+        × IsStrictOutput asked.now.form.now (C.panel asked.now.checks.now)
+        asked.now.vouched.now asked.now.inputs.now text
         × AppendsBeginning (W.contents out.old) (W.contents out.new) text }
     ensures kept { IfErr result (λ fault. fault ≢ StrictFault.Run RunFault.Write
         → fault ≢ StrictFault.Findings → out.new ≡ out.old) }

@@ -36,12 +36,12 @@ pub fn verify_with_notes<C: Checks, W: Write, N: Write>(
 ) -> Result<Status, RunFault>
     requires { asked.now.inputs.now.depth ≤ 8 }
     ensures ok { IfOk result (λ status. (text : _)
-        × IsVerifyOutputIn asked.now.form.now (C.panel asked.now.checks.now) asked.now.inputs.now
-        text status
+        × IsVerifyOutputIn asked.now.form.now (C.panel asked.now.checks.now)
+        asked.now.vouched.now asked.now.inputs.now text status
         × Appends (W.contents out.old) (W.contents out.new) text) }
     ensures write { IsErrOf result RunFault.Write → (text : _) × (status : _)
-        × IsVerifyOutputIn asked.now.form.now (C.panel asked.now.checks.now) asked.now.inputs.now
-        text status
+        × IsVerifyOutputIn asked.now.form.now (C.panel asked.now.checks.now)
+        asked.now.vouched.now asked.now.inputs.now text status
         × AppendsBeginning (W.contents out.old) (W.contents out.new) text }
     ensures memory { IsErrOf result RunFault.OutOfMemory → out.new ≡ out.old }
     ensures faults { IfErr result IsOutputFault }

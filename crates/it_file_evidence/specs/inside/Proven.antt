@@ -10,6 +10,7 @@ use Rattle.it_prov.specs.Fits.{Fits}
 use Rattle.it_prov.specs.Meets.{Meets}
 use Rattle.it_prov.specs.declared.attestations.Attestation.{Attestation}
 use Rattle.it_json_report.specs.declared.evidence.FileEvidence.{FileEvidence}
+use Rattle.it_vouched.specs.declared.vouched.Vouched.{Vouched}
 use Rattle.it_file_evidence.specs.FileEvidence.{IsFileEvidence}
 
 -- the builder that the provenance in an envelope names
@@ -27,16 +28,16 @@ module _ (panel : Panel) (expectations : List Expectation) where
     pub stands : Contains envelopes envelope
     pub meets : Meets panel expectation file.1 envelope
 
-  module _ (lines : List (List ℕ)) (envelopes : List Envelope) where
+  module _ (vouched : List Vouched) (lines : List (List ℕ)) (envelopes : List Envelope) where
     -- what stands for a file where it has provenance, or none
     abbrev pub IsEvidenceOrNone : List ℕ × DigestSet → Option FileEvidence → Type 0
     IsEvidenceOrNone file None = ¬ IsProven envelopes file
     IsEvidenceOrNone file (Some found) =
-        IsProven envelopes file × IsFileEvidence panel lines expectations file found
+        IsProven envelopes file × IsFileEvidence panel vouched lines expectations file found
 
     -- what stands for those files that have provenance
     pub record AreEvidence (files : List (List ℕ × DigestSet)) (found : List FileEvidence)
         : Type 0 where
       pub proven : List (List ℕ × DigestSet)
       pub are_those : AreThose (IsProven envelopes) files proven
-      pub each : AllZip (IsFileEvidence panel lines expectations) proven found
+      pub each : AllZip (IsFileEvidence panel vouched lines expectations) proven found

@@ -10,6 +10,7 @@ use Rattle.it_report.specs.declared.verdict.Verdict.TheVariants.{Accepted, Refus
 use Rattle.it_strict.specs.Found.{IsNothing}
 use Rattle.it_verify.specs.VerifyOutput.{status_of}
 use Rattle.it_verify.specs.declared.inputs.Inputs.{Inputs}
+use Rattle.it_vouched.specs.declared.vouched.Vouched.{Vouched}
 use Rattle.it_notes.specs.Known.{IsTold}
 use Rattle.it_verify_command.specs.FullOutput.{IsTextIn}
 use Rattle.it_verify_command.specs.Strictly.{IsFoundIn, StandsStrictly}
@@ -22,10 +23,12 @@ use Rattle.it_verify_command.specs.declared.strict_answer.StrictAnswer.TheVarian
 use Rattle.it_verify_command.specs.declared.strict_answer.StrictAnswer.TheVariants.{Stands}
 
 -- this stands behind a delivery, in the form that has it
-abbrev pub IsBehindIn : OutputForm → Panel → Inputs → Option Evidence → Type 0
-IsBehindIn (Report form) panel inputs evidence = ⊤
-IsBehindIn Full panel inputs evidence = MatchOption evidence ⊥ (IsBehind panel inputs)
-IsBehindIn (Summary names) panel inputs evidence = MatchOption evidence ⊥ (IsBehind panel inputs)
+abbrev pub IsBehindIn : OutputForm → Panel → List Vouched → Inputs → Option Evidence → Type 0
+IsBehindIn (Report form) panel vouched inputs evidence = ⊤
+IsBehindIn Full panel vouched inputs evidence =
+    MatchOption evidence ⊥ (IsBehind panel vouched inputs)
+IsBehindIn (Summary names) panel vouched inputs evidence =
+    MatchOption evidence ⊥ (IsBehind panel vouched inputs)
 
 -- the report in lines of a verdict that refuses
 abbrev pub refusal_text : Verdict → List ℕ
@@ -39,20 +42,22 @@ before_notes Full verdict = []
 before_notes (Summary names) verdict = refusal_text verdict
 
 -- the output is that on the verdict which was told, in this form
-pub record IsAnswer (form : OutputForm) (panel : Panel) (inputs : Inputs) (answer : Answer)
-    : Type 0 where
+pub record IsAnswer (form : OutputForm) (panel : Panel) (vouched : List Vouched) (inputs : Inputs)
+    (answer : Answer) : Type 0 where
   pub told : IsTold panel inputs answer.told
-  pub text : IsTextIn form panel inputs answer.told.verdict answer.output.text.items
+  pub text : IsTextIn form panel vouched inputs answer.told.verdict answer.output.text.items
   pub status : answer.output.status ≡ status_of answer.told.verdict
   pub before : answer.before_notes.items ≡ before_notes form answer.told.verdict
 
 -- the same, and nothing is found in what is accepted
-pub record StandsAs (form : OutputForm) (panel : Panel) (inputs : Inputs) (answer : Answer)
-    : Type 0 where
-  pub is_answer : IsAnswer form panel inputs answer
+pub record StandsAs (form : OutputForm) (panel : Panel) (vouched : List Vouched) (inputs : Inputs)
+    (answer : Answer) : Type 0 where
+  pub is_answer : IsAnswer form panel vouched inputs answer
   pub stands : answer.output.status ≡ Good → StandsStrictly panel inputs
 
 -- either that, or something is found in what would be accepted
-abbrev pub IsStrictAnswer : OutputForm → Panel → Inputs → StrictAnswer → Type 0
-IsStrictAnswer form panel inputs (Stands answer) = StandsAs form panel inputs answer
-IsStrictAnswer form panel inputs (Against found) = IsFoundIn panel inputs found × ¬ IsNothing found
+abbrev pub IsStrictAnswer : OutputForm → Panel → List Vouched → Inputs → StrictAnswer → Type 0
+IsStrictAnswer form panel vouched inputs (Stands answer) =
+    StandsAs form panel vouched inputs answer
+IsStrictAnswer form panel vouched inputs (Against found) =
+    IsFoundIn panel inputs found × ¬ IsNothing found

@@ -15,7 +15,8 @@ loop-path-init g c =
       sym (ap path_entries c.into_iter-path-iterator.ensures.into_iter_gives
           ∙ c.iter-path-items.ensures),
       λ lines read. rw c.new-found.ensures.items
-          (no_evidence panel a.expectations.now lines a.envelopes.now),
+          (no_evidence panel a.expectations.now c.args.lines.now.vouched.now lines
+          a.envelopes.now),
     )
 
 pub loop-path-preserved : goal.loop-path-preserved
@@ -29,7 +30,8 @@ loop-path-preserved g c =
       inv.1 ∙ ap (λ es. inv.0 ++ path_entries es) c.in-Some.ensures.steps
           ∙ sym (append_assoc inv.0 (file ∷ []) left),
       λ lines read. rw c.in_ok-push_some.ensures
-          (evidence_more panel a.expectations.now lines a.envelopes.now inv.0
+          (evidence_more panel a.expectations.now c.args.lines.now.vouched.now lines
+          a.envelopes.now inv.0
           c.loop-path.found.items file c.in_ok-one.one (inv.2 lines read)
           (rw c.as_str.ensures.value at (c.in_ok-one.ensures lines read))),
     )
@@ -41,5 +43,6 @@ returns g c =
     let inv = c.loop-path.invariant in
     let whole : entries c.args.delivered.now ≡ inv.0 =
     inv.1 ∙ ap (λ es. inv.0 ++ path_entries es) c.in-None.ensures.steps.0 ∙ append-nil inv.0 in
-    λ lines read. subst (λ files. AreEvidence panel a.expectations.now lines a.envelopes.now files
-    c.loop-path.found.items) (sym whole) (inv.2 lines read)
+    λ lines read. subst (λ files. AreEvidence panel a.expectations.now
+    c.args.lines.now.vouched.now lines a.envelopes.now files c.loop-path.found.items) (sym whole)
+    (inv.2 lines read)

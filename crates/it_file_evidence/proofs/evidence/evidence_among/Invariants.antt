@@ -11,7 +11,7 @@ abbrev pub invariant-loop-path : goal.invariant-loop-path
 invariant-loop-path g l =
     (done : List (List ℕ × DigestSet))
     × (entries l.delivered ≡ done ++ path_entries l.path-iterator)
-    × ((lines : List (List ℕ))
-    → AreReadFrom 1 lines l.attestations.envelopes.now l.places
+    × ((texts : List (List ℕ))
+    → AreReadFrom 1 texts l.attestations.envelopes.now l.lines.places.now
     → AreEvidence (g.C.Checks.panel l.attestations.checks.now) l.attestations.expectations.now
-    lines l.attestations.envelopes.now done l.found.items)
+    l.lines.vouched.now texts l.attestations.envelopes.now done l.found.items)

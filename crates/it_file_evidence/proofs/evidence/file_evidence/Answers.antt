@@ -27,17 +27,18 @@ returns-clause-files g c =
     let inputs = c.args.inputs.now in
     let documents = c.args.documents.now in
     let places = c.as_slice-4.result.now in
+    let vouched = c.args.vouched.now in
     let read : AreReadFrom 1 (lines_of inputs.provenance) a.envelopes.now places = rw (
       c.as_slice-4.ensures.value,
       c.in_ok-attestations.ensures.envelopes,
       c.as_slice-3.ensures.value,
     ) (rw c.as_slice.ensures at c.in_ok-read.ensures) in
     IfOk-weaker c.evidence_among.result
-    (λ found. (lines : List (List ℕ)) → AreReadFrom 1 lines a.envelopes.now places
-    → AreEvidence (g.C.Checks.panel a.checks.now) a.expectations.now lines a.envelopes.now
-    (entries documents.delivered) found.items)
-    (λ found. AreFileEvidence panel inputs documents found.items)
-    (λ found are. are_evidence panel inputs documents a.envelopes.now places read found.items
+    (λ found. (texts : List (List ℕ)) → AreReadFrom 1 texts a.envelopes.now places
+    → AreEvidence (g.C.Checks.panel a.checks.now) a.expectations.now vouched texts
+    a.envelopes.now (entries documents.delivered) found.items)
+    (λ found. AreFileEvidence panel vouched inputs documents found.items)
+    (λ found are. are_evidence panel inputs documents a.envelopes.now places read vouched found.items
     (rw (
       c.in_ok-attestations.ensures.checks,
       c.in_ok-attestations.ensures.expectations,
@@ -52,18 +53,19 @@ returns-clause-made g c =
     let inputs = c.args.inputs.now in
     let documents = c.args.documents.now in
     let places = c.as_slice-4.result.now in
+    let vouched = c.args.vouched.now in
     let read : AreReadFrom 1 (lines_of inputs.provenance) a.envelopes.now places = rw (
       c.as_slice-4.ensures.value,
       c.in_ok-attestations.ensures.envelopes,
       c.as_slice-3.ensures.value,
     ) (rw c.as_slice.ensures at c.in_ok-read.ensures) in
     λ evidence made. IfOk-weaker c.evidence_among.result
-    (λ found. (lines : List (List ℕ)) → AreReadFrom 1 lines a.envelopes.now places
-    → AreEvidence (g.C.Checks.panel a.checks.now) a.expectations.now lines a.envelopes.now
-    (entries documents.delivered) found.items)
-    (λ found. AllZip (IsFileEvidence panel (lines_of inputs.provenance)
+    (λ found. (texts : List (List ℕ)) → AreReadFrom 1 texts a.envelopes.now places
+    → AreEvidence (g.C.Checks.panel a.checks.now) a.expectations.now vouched texts
+    a.envelopes.now (entries documents.delivered) found.items)
+    (λ found. AllZip (IsFileEvidence panel vouched (lines_of inputs.provenance)
     documents.policy.expectations) (entries documents.delivered) found.items)
-    (λ found are. all_evidence panel inputs documents a.envelopes.now places read found.items
+    (λ found are. all_evidence panel inputs documents a.envelopes.now places read vouched found.items
     (rw (
       c.in_ok-attestations.ensures.checks,
       c.in_ok-attestations.ensures.expectations,

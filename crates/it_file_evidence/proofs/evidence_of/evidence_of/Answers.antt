@@ -6,7 +6,7 @@ use Rattle.it_prov.specs.Finding.{IsFound}
 use Rattle.it_prov.specs.Held.{HoldsOrNone}
 use Rattle.it_prov.proofs.Holding.{zip_length}
 use Rattle.it_file_evidence.proofs.Proven.{builder_read, found_proven, greatest_read, is_evidence}
-use Rattle.it_file_evidence.proofs.Proven.{provenance_of, some_built, unproven_none}
+use Rattle.it_file_evidence.proofs.Proven.{provenance_of, signer_read, some_built, unproven_none}
 use Rattle.it_file_evidence.proofs.evidence_of.evidence_of.Goals as goal
 
 pub returns-in_default : goal.returns-in_default
@@ -89,8 +89,8 @@ returns-in_default-3 g c =
     (rw c.in_default-3.is at c.in_ok-level.ensures) in
     λ lines read. absurd (some_built panel a.expectations.now a.envelopes.now file i found none)
 
-pub bounds-places-index : goal.bounds-places-index
-bounds-places-index g c =
+pub bounds-lines-index : goal.bounds-lines-index
+bounds-lines-index g c =
     let a = c.args.attestations.now in
     let panel = g.C.Checks.panel a.checks.now in
     let i = c.in-Some-2.index in
@@ -99,15 +99,15 @@ bounds-places-index g c =
     let below = slice_get_within a.envelopes.now i found.first.envelope found.first.stands in
     omega (arith, below, c.requires.places)
 
-pub offset_bounds-places-index : goal.offset_bounds-places-index
-offset_bounds-places-index g c =
+pub offset_bounds-lines-index : goal.offset_bounds-lines-index
+offset_bounds-lines-index g c =
     let a = c.args.attestations.now in
     let panel = g.C.Checks.panel a.checks.now in
     let i = c.in-Some-2.index in
     let found : IsFound panel a.expectations.now c.args.path.now c.args.digests a.envelopes.now i =
     rw c.in-Some-2.is at c.in_ok-index.ensures in
     let within = slice_get_within a.envelopes.now i found.first.envelope found.first.stands in
-    let below : i < length c.args.places.now = omega (arith, within, c.requires.places) in
+    let below : i < length c.args.lines.now.places.now = omega (arith, within, c.requires.places) in
     search rules
 
 pub returns : goal.returns
@@ -119,8 +119,8 @@ returns g c =
     let found : IsFound panel a.expectations.now c.args.path.now c.args.digests a.envelopes.now i =
     rw c.in-Some-2.is at c.in_ok-index.ensures in
     let within = slice_get_within a.envelopes.now i found.first.envelope found.first.stands in
-    let below : i < length c.args.places.now = omega (arith, within, c.requires.places) in
-    let place : ℕ = slice_index_or c.args.places.now i 0 in
+    let below : i < length c.args.lines.now.places.now = omega (arith, within, c.requires.places) in
+    let place : ℕ = slice_index_or c.args.lines.now.places.now i 0 in
     let provenance = provenance_of panel a.expectations.now a.envelopes.now file i found in
     let named = builder_read panel a.expectations.now a.envelopes.now file i found a.held.items
     c.index-held.result.now (option_map (λ (id : Bor (List ℕ)). id.now) c.builder_in.result)
@@ -132,9 +132,14 @@ returns g c =
     c.in-Some.place c.index-attestations-place.result c.index-attestations-index.result
     c.as_slice-builders.result.now c.in-Some-builder_in.builder.now (Some c.in-Some-3.level)
     c.in-Some.ensures c.as_slice-builders.ensures id_is (rw c.in-Some-3.is at c.in_ok-level.ensures) in
+    let vouched = c.args.lines.now.vouched.now in
+    let signer = signer_read panel a.expectations.now a.envelopes.now file i found vouched
+    c.in-Some.place c.index-attestations-place.result c.index-attestations-index.result
+    c.as_slice-builders.result.now c.in-Some-builder_in.builder.now c.in_ok-signer.signer
+    c.in-Some.ensures c.as_slice-builders.ensures id_is c.in_ok-signer.ensures in
     λ lines read. (
       found_proven panel a.expectations.now a.envelopes.now file i found,
-      is_evidence panel a.expectations.now a.envelopes.now file i found lines c.args.places.now
-          read place (slice_get-get_or c.args.places.now i 0 below) _ c.in_ok-copy.ensures refl refl
-          (c.in_ok-copy-2.ensures ∙ id_is) greatest,
+      is_evidence panel a.expectations.now a.envelopes.now file i found lines c.args.lines.now.places.now
+          read place (slice_get-get_or c.args.lines.now.places.now i 0 below) vouched _
+          c.in_ok-copy.ensures refl refl (c.in_ok-copy-2.ensures ∙ id_is) greatest signer,
     )

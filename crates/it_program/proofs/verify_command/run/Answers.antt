@@ -20,9 +20,10 @@ returns-clause-ok g c = elim c.told_spent.ensures [
     told.0,
     record {
       inputs = c.in_ok-given.given.inputs;
+      vouched = c.in_ok-given.given.checks.vouched;
       checks = _;
       given = c.in_ok-given.ensures.given;
-      is_output = rw c.in_ok-asked.ensures.form at told.1;
+      is_output = rw (c.in_ok-asked.ensures.form, c.vouched_in.ensures) at told.1;
       stands = rw c.in_ok-asked.ensures.strict at stands;
     },
     told.2,
@@ -43,6 +44,7 @@ returns-clause-findings g c = λ is. elim c.told_spent.ensures [
       record {
         is_strict = rw c.in_ok-asked.ensures.strict at told.0;
         inputs = c.in_ok-given.given.inputs;
+        vouched = c.in_ok-given.given.checks.vouched;
         checks = _;
         given = c.in_ok-given.ensures.given;
         text = told.1;

@@ -9,8 +9,8 @@ pub returns-in_err-write_answer-in-Stands-clause-write :
 returns-in_err-write_answer-in-Stands-clause-write g c = λ failed.
     let asked = c.args.asked.now in
     let panel = g.C.Checks.panel asked.checks.now in
-    let stands = subst (IsStrictAnswer asked.form.now panel asked.inputs.now) c.in-Stands.is
-    c.in_ok-answer.ensures in
+    let stands = subst (IsStrictAnswer asked.form.now panel asked.vouched.now asked.inputs.now)
+    c.in-Stands.is c.in_ok-answer.ensures in
     let given = stands.is_answer in
     let answer = c.in-Stands.answer in (
       answer.output.text.items,
@@ -31,8 +31,8 @@ pub returns-in_err-tell_found-in-Against-clause-write :
 returns-in_err-tell_found-in-Against-clause-write g c = λ failed.
     let asked = c.args.asked.now in
     let panel = g.C.Checks.panel asked.checks.now in
-    let given = subst (IsStrictAnswer asked.form.now panel asked.inputs.now) c.in-Against.is
-    c.in_ok-answer.ensures in
+    let given = subst (IsStrictAnswer asked.form.now panel asked.vouched.now asked.inputs.now)
+    c.in-Against.is c.in_ok-answer.ensures in
     let residual = c.from_residual-in_err-tell_found-in-Against in
     let fault = c.in_err-tell_found-in-Against.field-0.0 in
     let told = c.in_err-tell_found-in-Against.ensures.write
@@ -55,8 +55,8 @@ pub returns-in_ok-tell_found-in-Against-clause-findings :
 returns-in_ok-tell_found-in-Against-clause-findings g c = λ is.
     let asked = c.args.asked.now in
     let panel = g.C.Checks.panel asked.checks.now in
-    let given = subst (IsStrictAnswer asked.form.now panel asked.inputs.now) c.in-Against.is
-    c.in_ok-answer.ensures in (
+    let given = subst (IsStrictAnswer asked.form.now panel asked.vouched.now asked.inputs.now)
+    c.in-Against.is c.in_ok-answer.ensures in (
       found_in asked.form.now c.in-Against.found,
       record {
         found = c.in-Against.found;

@@ -125,6 +125,20 @@ def strictly():
     assert told.findings == [untied_file] and told.notes == [], told.findings
 
 
+def signers():
+    """Who signed the provenance, by a bundle in it."""
+    bundle, root = SIGSTORE / "provenance.jsonl", SIGSTORE / "trusted_root.json"
+    verdict = itv.verify(policy=SIGSTORE / "policy.json", layout=SIGSTORE / "layout.envelope.json",
+                         links=SIGSTORE / "links", provenance=bundle, trusted_root=root,
+                         sums=itv.digest(of={"hello.sh": (SIGSTORE / "hello.sh").read_bytes()}),
+                         public_keys=True, at=AT.replace(year=2027))
+    (entry,) = json.loads(bundle.read_bytes())["verificationMaterial"]["tlogEntries"]
+    (expected,) = json.loads((SIGSTORE / "policy.json").read_bytes())["expectations"]
+    who = expected["builders"][0]["keys"]["release"]["keyval"]
+    signer = itv.Signer(who["identity"], who["issuer"], int(entry["integratedTime"]))
+    assert verdict.evidence.files[0].signer == signer, verdict.evidence
+
+
 def folders():
     """Folders of links as dictionaries, with folders in them."""
     links = {path.name: path for path in (EXAMPLE / "links").glob("*.link")}
@@ -239,7 +253,7 @@ def at_once():
 
 
 if __name__ == "__main__":
-    for trial in (verifications, lists, strictly, folders, misuse, commands):
+    for trial in (verifications, lists, strictly, signers, folders, misuse, commands):
         trial()
     print("Python: verdicts, folders, misuse and commands give what they should")
     at_once()

@@ -2,3 +2,4 @@ pub mod FilesEvident
 pub mod HighestLevels
 pub mod Proven
 pub mod ReadLines
+pub mod Signing

@@ -1,3 +1,4 @@
 pub mod FileEvidence
+pub mod Laws
 pub mod Signer
 pub mod inside

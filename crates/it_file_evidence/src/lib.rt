@@ -6,6 +6,7 @@ mod evidence;
 mod evidence_of;
 mod found;
 mod known_lines;
+pub mod laws;
 mod levels;
 mod lines;
 mod signer;

@@ -17,7 +17,8 @@ GOOD = """uri email other-name v1-promise-only v1-with-proof v2-chain v3 v3-old-
 BAD = """media-type-parameter-space message-signature sig-not-base64 line-a-list
     second-signature-of-stranger material-is-a-list public-key-besides-certificate empty-chain
     certificate-and-chain chain-in-0.3 certificate-in-pem extension-twice leaf-key-p384
-    critical-policies usage-of-authority purpose-any leaf-is-authority-path-0 email-and-uri
+    critical-policies usage-zeros-at-the-end usage-of-authority purpose-any
+    leaf-is-authority-path-0 email-and-uri
     issuers-differ-in-case identity-other-ref object-with-identity-outside-keyval only-rfc3161
     nine-entries time-as-number promise-empty kind-hashedrekord body-two-signatures
     root-log-of-p384-details after-log-window body-of-other-payload body-of-other-type
@@ -47,24 +48,24 @@ MISSES = [
     ("leaf-issuer", "its certificate does not name one issuer"),
     ("entry-form entry-promise proof-form",
      "its entry has a member that is missing or of another form"),
-    ("entry-log", "its entry is of a log that the trusted root does not have"),
+    ("entry-log", "its entry is of no log of the trusted root that is used"),
     ("entry-log-window", "its entry's time is outside the time of that log"),
     ("entry-kind", "its entry is of another kind than dsse 0.0.1 and intoto 0.0.2"),
     ("body-form body-payload body-type body-signature body-certificate",
-     "its entry is about another signature, or does not read"),
+     "its entry is about another envelope or certificate, or does not read"),
     ("proof-missing", "its entry has no inclusion proof"),
     ("proof-root", "its inclusion proof does not lead to its root"),
     ("checkpoint-form checkpoint-root checkpoint-signature",
-     "the log did not sign the checkpoint"),
+     "the log did not sign a checkpoint of its root"),
     ("entry-timestamp", "the log did not sign its entry's time"),
-    ("authority-name", "no authority of the trusted root has the name of the certificate's issuer"),
+    ("authority-name", "no authority that is used has the name of the certificate's issuer"),
     ("authority-window", "that authority did not count at the time of its entry"),
     ("leaf-time", "the certificate was not valid at the time of its entry"),
     ("authority-time", "a certificate of that authority was not valid at the time of its entry"),
     ("authority-signature", "that authority did not sign the certificate"),
     ("sct-missing", "the certificate has no timestamp of a certificate log"),
     ("sct-form", "its timestamps do not read"),
-    ("sct-log", "its timestamps are of logs that the trusted root does not have"),
+    ("sct-log", "none of its timestamps is of a log of the trusted root that is used"),
     ("sct-window", "its timestamp is outside the time of that log"),
     ("sct-signature", "that log did not sign the certificate's timestamp"),
     ("envelope-signature", "the certificate's key did not sign the envelope"),

@@ -731,6 +731,8 @@ def certificate_cases():
     simple("leaf-key-p384", "leaf-key", leaf_key=p384, sign_envelope=lambda m: m.leaf_key.sign(m.message, hashlib.sha256))
     simple("usage-unused-bits", form, usage=bytes.fromhex("03020781"))
     simple("usage-empty", form, usage=bytes.fromhex("030100"))
+    simple("usage-zeros-at-the-end", form, usage=bytes.fromhex("03020080"))
+    simple("usage-second-byte-of-zeros", form, usage=bytes.fromhex("0303078000"))
     simple("basic-false-written", form, exts={"basic": extension("2.5.29.19", der(0x30, der(1, b"\x00")), True)})
     simple("purposes-empty", form, purposes=[])
     simple("critical-unknown", "certificate-critical", exts={"more": extension("1.2.3.4.5", b"any", True)})

@@ -75,11 +75,13 @@ STRICTER = [
          "intermediate-path-128 intermediate-path-negative".split()),
     Rule("strict DER",
          "no bytes left over in the parts of a certificate, no unique identifiers, no `FALSE` "
-         "written out, no NULL beside an algorithm, years up to 2049 in two digits",
+         "written out, no NULL beside an algorithm, no zeros at the end of key usage, years up to "
+         "2049 in two digits",
          "these pass",
          "each part has one form, and RFC 5280 has no others",
          "issuer-unique-id basic-false-written algorithm-with-null "
-         "intermediate-path-of-another-tag intermediate-constraints-of-three".split()),
+         "intermediate-path-of-another-tag intermediate-constraints-of-three "
+         "usage-zeros-at-the-end usage-second-byte-of-zeros".split()),
     Rule("kinds of keys",
          "leaves and logs of P-256; authorities of P-256 with SHA-256 or P-384 with SHA-384",
          "other curves, RSA and Ed25519 too, and each curve with other digests",

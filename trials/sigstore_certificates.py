@@ -56,7 +56,8 @@ def usage_of(value):
     """The first byte of key usage."""
     content = content_of(value, 3)
     need(len(content) in (2, 3) and content[0] <= 7, "key usage of another form")
-    need(content[-1] % (1 << content[0]) == 0, "key usage with unused bits")
+    lowest = 1 << content[0]
+    need(content[-1] % (2 * lowest) == lowest, "key usage with unused bits or zeros at its end")
     return content[1]
 
 
@@ -269,7 +270,7 @@ def check_logged(leaf, info, logs):
     need(TIMESTAMPS in leaf.values, "the certificate has no timestamp of a certificate log")
     items = saying("its timestamps do not read", items_in, leaf.values[TIMESTAMPS])
     found = [(one, log) for one in timestamps_in(items) for log in logs if one.log == log.id]
-    need(found, "its timestamps are of logs that the trusted root does not have")
+    need(found, "none of its timestamps is of a log of the trusted root that is used")
     found = [(one, log) for one, log in found if one.is_in_window(log)]
     need(found, "its timestamp is outside the time of that log")
     need(any(is_valid(log.info, signed_by_log(leaf, info, one), one.sig) for one, log in found),

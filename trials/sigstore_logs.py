@@ -15,8 +15,8 @@ ROOT_TYPES = ["application/vnd.dev.sigstore.trustedroot+json;version=0.1",
               "application/vnd.dev.sigstore.trustedroot.v0.1+json"]
 MOST_LISTED, MOST_CERTIFICATES, MOST_HASHES, MOST_SIGNATURE_LINES = 64, 8, 63, 8
 # What is said where no log that is used has an entry's id, and no authority the issuer's name.
-OF_NO_LOG = "its entry is of a log that the trusted root does not have"
-OF_NOBODY = "no authority of the trusted root has the name of the certificate's issuer"
+OF_NO_LOG = "its entry is of no log of the trusted root that is used"
+OF_NOBODY = "no authority that is used has the name of the certificate's issuer"
 # What each kind of entry is called, and its version.
 DSSE, INTOTO = ("dsse", "0.0.1"), ("intoto", "0.0.2")
 
@@ -131,7 +131,8 @@ class Proof:
     def check(self, body, log):
         """Raises Unfit where it does not hold for a body, by the key of a log."""
         saying("its inclusion proof does not lead to its root", self.check_hashes, body)
-        saying("the log did not sign the checkpoint", check_checkpoint, self.note, self.size,
+        saying("the log did not sign a checkpoint of its root", check_checkpoint, self.note,
+               self.size,
                self.root, log)
 
     def check_hashes(self, body):
@@ -212,7 +213,8 @@ class Entry:
              "its entry's time is outside the time of that log")
         need(self.kind in (DSSE, INTOTO),
              "its entry is of another kind than dsse 0.0.1 and intoto 0.0.2")
-        saying("its entry is about another signature, or does not read", self.check_body, signed)
+        saying("its entry is about another envelope or certificate, or does not read",
+               self.check_body, signed)
         if self.proof is not None:
             self.proof.check(self.body, log)
         need(self.proof is not None or not needs_proof, "its entry has no inclusion proof")

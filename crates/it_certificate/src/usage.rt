@@ -46,7 +46,8 @@ fn usage_of(unused: u8, first: u8, last: u8) -> Option<Usage>
     if unused > 7 {
         return None;
     }
-    if last % 2u8.pow(u32::from(unused)) != 0 {
+    let lowest = 2u8.pow(u32::from(unused));
+    if last % lowest != 0 || last / lowest % 2 != 1 {
         return None;
     }
     Some(Usage {

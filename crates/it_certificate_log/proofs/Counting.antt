@@ -2,8 +2,9 @@
 use Rattle.std.proofs.Common.{◌≡◌, ℕ, ◌+◌, ◌-◌, ◌*◌, ◌/◌, ◌%◌, ◌<◌, ◌≤◌, List, [], ◌∷◌, ◌++◌, length, get_or, take, drop}
 use Rattle.std.proofs.Common.{Option, Some, None, MatchOption, sym, ap, ◌∙◌, arith}
 use Rattle.it_der.proofs.Reading.{same_front, rest_from}
-use Rattle.it_certificate_log.specs.Counted.{BeginsCounted, counted}
+use Rattle.it_certificate_log.specs.Counted.{counted}
 use Rattle.it_certificate_log.specs.declared.counted.Front.{Front}
+use Rattle.it_certificate_log.specs.inside.Begins.{BeginsCounted}
 
 -- bytes begin with such a content in at most one way
 pub one_counted : (bytes content content' rest rest' : List ℕ) → BeginsCounted bytes content rest → BeginsCounted bytes content' rest'

@@ -3,9 +3,10 @@ use Rattle.std.proofs.Common.{◌≡◌, ℕ, ◌^◌, ◌<◌, ◌≤◌, List,
 use Rattle.std.proofs.Common.{Bool, true, false, true≢false, IsTrue, ◌↔◌, refl, sym, ap, subst, ◌∙◌, arith, append_assoc, append-nil}
 use Rattle.std.proofs.lemmas.List.{length-map}
 use Rattle.std.specs.List.{AllByRecursion, flat_map}
-use Rattle.it_certificate_log.specs.Counted.{BeginsCounted, counted}
+use Rattle.it_certificate_log.specs.Counted.{counted}
 use Rattle.it_certificate.proofs.OneWay.{one_content}
-use Rattle.it_certificate_log.specs.Items.{AreItems, BeginsItem, IsCountedList, IsItem, IsItemList}
+use Rattle.it_certificate_log.specs.Items.{IsCountedList, IsItem, IsItemList}
+use Rattle.it_certificate_log.specs.inside.Begins.{AreItems, BeginsCounted, BeginsItem}
 use Rattle.it_certificate_log.proofs.Counting.{one_counted}
 
 abbrev pub AreItem : List (List ℕ) → Type 0

@@ -1,8 +1,9 @@
 -- The parts of a timestamp, one after another.
 use Rattle.std.proofs.Common.{◌≡◌, ℕ, ◌<◌, List, [], ◌∷◌, ◌++◌, length, refl, sym, ap, ◌∙◌, arith, append-nil}
 use Rattle.it_der.proofs.Reading.{same_front}
-use Rattle.it_certificate_log.specs.Counted.{BeginsCounted, counted}
+use Rattle.it_certificate_log.specs.Counted.{counted}
 use Rattle.it_certificate_log.specs.Timestamp.{Stamp, TimestampOf}
+use Rattle.it_certificate_log.specs.inside.Begins.{BeginsCounted}
 use Rattle.it_certificate_log.proofs.Counting.{one_counted}
 
 abbrev pub after_algorithm : Stamp → List ℕ

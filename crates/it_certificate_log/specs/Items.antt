@@ -2,21 +2,11 @@
 use Rattle.std.specs.Prelude.{◌≡◌, ℕ, ◌^◌, ◌<◌, ◌≤◌, List, length}
 use Rattle.std.specs.List.{flat_map, AllByRecursion}
 use Rattle.it_certificate.specs.Within.{Wraps}
-use Rattle.it_certificate_log.specs.Counted.{counted, BeginsCounted}
+use Rattle.it_certificate_log.specs.Counted.{counted}
 
 -- an item has some bytes, and its length fits in two
 abbrev pub IsItem : List ℕ → Type 0
 IsItem item = (0 < length item) × (length item < 2 ^ 16)
-
--- the bytes begin with an item, and what comes after it is the rest
-pub record BeginsItem (bytes item rest : List ℕ) : Type 0 where
-  pub some : 0 < length item
-  pub begins : BeginsCounted bytes item rest
-
--- the bytes are these items, each after its length
-pub record AreItems (bytes : List ℕ) (items : List (List ℕ)) : Type 0 where
-  pub each : AllByRecursion IsItem items
-  pub written : bytes ≡ flat_map counted items
 
 -- the items come after the length of all of them; there are 1 to 8 (this profile's choice)
 pub record IsCountedList (content : List ℕ) (items : List (List ℕ)) : Type 0 where

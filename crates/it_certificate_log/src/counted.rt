@@ -1,6 +1,7 @@
 //! Bytes that come after how many they are.
 ghost use Rattle.std.specs.Prelude.{◌≡◌, ◌^◌, ◌<◌, ◌++◌, ℕ, List, MatchOption, length};
-ghost use Rattle.it_certificate_log.specs.Counted.{BeginsCounted, counted};
+ghost use Rattle.it_certificate_log.specs.Counted.{counted};
+ghost use Rattle.it_certificate_log.specs.inside.Begins.{BeginsCounted};
 
 /// Bytes, and what comes after them.
 #[derive(Drop)]

@@ -1,6 +1,7 @@
 //! The list of timestamps in a certificate.
 ghost use Rattle.std.specs.Prelude.{◌↔◌, ℕ, ◌<◌, ◌≤◌, List, MatchOption, IfOk, IsTrue, length, map};
-ghost use Rattle.it_certificate_log.specs.Items.{AreItems, BeginsItem, IsCountedList, IsItemList};
+ghost use Rattle.it_certificate_log.specs.Items.{IsCountedList, IsItemList};
+ghost use Rattle.it_certificate_log.specs.inside.Begins.{AreItems, BeginsItem};
 
 use crate::counted::{Front, first_counted};
 use it_der::content_of;

@@ -1,6 +1,6 @@
 -- Who signed an envelope by what lines vouch for.
-use Rattle.std.proofs.Common.{◌≡◌, ◌∙◌, ◌×◌, ◌⊎◌, ℕ, List, [], ◌∷◌, Bool, true, false, ◌&&◌, Option}
-use Rattle.std.proofs.Common.{None, Some, IsTrue, Contains, Any, if◌then◌else◌, option_map, ap, refl}
+use Rattle.std.proofs.Common.{◌≡◌, ◌⊎◌, ℕ, List, [], ◌∷◌, Bool, true, false, ◌&&◌, Option}
+use Rattle.std.proofs.Common.{None, Some, IsTrue, Contains, Any, if◌then◌else◌, option_map, refl}
 use Rattle.std.proofs.Common.{inl, inr}
 use Rattle.std.specs.FinMap.{entries}
 use Rattle.std.specs.Option.{option_or}
@@ -13,7 +13,6 @@ use Rattle.it_dsse.specs.declared.envelope.Envelope.{Envelope}
 use Rattle.it_dsse.specs.declared.envelope.Signature.{Signature}
 use Rattle.it_dsse.specs.declared.key_object.KeyObject.{KeyObject}
 use Rattle.it_identity.specs.Name.{number_of}
-use Rattle.it_json_report.specs.declared.evidence.Signer.{Signer}
 use Rattle.it_prov.specs.Meets.{SignedByBuilder}
 use Rattle.it_prov.proofs.Entries.{entry_known}
 use Rattle.it_vouched.specs.Check.{vouched_check}
@@ -23,7 +22,7 @@ use Rattle.it_vouched.proofs.Saying.{both, equal_bytes, is_valid}
 use Rattle.it_vouched.proofs.TestedIdentity.{described}
 use Rattle.it_file_evidence.specs.Laws.{SignerHasSigned}
 use Rattle.it_file_evidence.specs.Signer.{first_answer, object_for, object_of, object_signing}
-use Rattle.it_file_evidence.specs.Signer.{signer_among, signer_by, signer_of}
+use Rattle.it_file_evidence.specs.Signer.{signer_by, signer_of}
 
 -- ---- answers
 one_of : {Y : Type 0} (first later : Option Y) (y : Y) → option_or first later ≡ Some y

@@ -37,20 +37,21 @@ leaf_phrase_of leaves.Issuer = codes "its certificate does not name one issuer"
 
 -- why no log vouches by an entry
 abbrev pub entry_phrase_of : EntryShortfall → List ℕ
-entry_phrase_of entries.Log = codes "its entry is of a log that the trusted root does not have"
+entry_phrase_of entries.Log = codes "its entry is of no log of the trusted root that is used"
 entry_phrase_of entries.Time = codes "its entry's time is outside the time of that log"
 entry_phrase_of entries.Kind =
     codes "its entry is of another kind than dsse 0.0.1 and intoto 0.0.2"
-entry_phrase_of entries.Body = codes "its entry is about another signature, or does not read"
+entry_phrase_of entries.Body =
+    codes "its entry is about another envelope or certificate, or does not read"
 entry_phrase_of entries.NoProof = codes "its entry has no inclusion proof"
 entry_phrase_of entries.Inclusion = codes "its inclusion proof does not lead to its root"
-entry_phrase_of entries.Checkpoint = codes "the log did not sign the checkpoint"
+entry_phrase_of entries.Checkpoint = codes "the log did not sign a checkpoint of its root"
 entry_phrase_of entries.Promise = codes "the log did not sign its entry's time"
 
 -- why no authority issued the certificate
 abbrev pub issue_phrase_of : IssueShortfall → List ℕ
 issue_phrase_of issues.Name =
-    codes "no authority of the trusted root has the name of the certificate's issuer"
+    codes "no authority that is used has the name of the certificate's issuer"
 issue_phrase_of issues.Window = codes "that authority did not count at the time of its entry"
 issue_phrase_of issues.LeafTime = codes "the certificate was not valid at the time of its entry"
 issue_phrase_of issues.AuthorityTime =
@@ -61,7 +62,7 @@ issue_phrase_of issues.Signature = codes "that authority did not sign the certif
 abbrev pub log_phrase_of : LogShortfall → List ℕ
 log_phrase_of logs.Missing = codes "the certificate has no timestamp of a certificate log"
 log_phrase_of logs.Form = codes "its timestamps do not read"
-log_phrase_of logs.Log = codes "its timestamps are of logs that the trusted root does not have"
+log_phrase_of logs.Log = codes "none of its timestamps is of a log of the trusted root that is used"
 log_phrase_of logs.Window = codes "its timestamp is outside the time of that log"
 log_phrase_of logs.Signature = codes "that log did not sign the certificate's timestamp"
 

@@ -46,13 +46,15 @@ pub(crate) fn entry_phrase(missed: EntryShortfall) -> &'static str
     ensures { result.now ≡ entry_phrase_of missed }
 {
     match missed {
-        EntryShortfall::Log => "its entry is of a log that the trusted root does not have",
+        EntryShortfall::Log => "its entry is of no log of the trusted root that is used",
         EntryShortfall::Time => "its entry's time is outside the time of that log",
         EntryShortfall::Kind => { "its entry is of another kind than dsse 0.0.1 and intoto 0.0.2" }
-        EntryShortfall::Body => "its entry is about another signature, or does not read",
+        EntryShortfall::Body => {
+            "its entry is about another envelope or certificate, or does not read"
+        }
         EntryShortfall::NoProof => "its entry has no inclusion proof",
         EntryShortfall::Inclusion => "its inclusion proof does not lead to its root",
-        EntryShortfall::Checkpoint => "the log did not sign the checkpoint",
+        EntryShortfall::Checkpoint => "the log did not sign a checkpoint of its root",
         EntryShortfall::Promise => "the log did not sign its entry's time",
     }
 }
@@ -72,7 +74,7 @@ fn issue_phrase(missed: IssueShortfall) -> &'static str
 {
     match missed {
         IssueShortfall::Name => {
-            "no authority of the trusted root has the name of the certificate's issuer"
+            "no authority that is used has the name of the certificate's issuer"
         }
         IssueShortfall::Window => "that authority did not count at the time of its entry",
         IssueShortfall::LeafTime => "the certificate was not valid at the time of its entry",
@@ -89,7 +91,7 @@ fn log_phrase(missed: LogShortfall) -> &'static str
     match missed {
         LogShortfall::Missing => "the certificate has no timestamp of a certificate log",
         LogShortfall::Form => "its timestamps do not read",
-        LogShortfall::Log => "its timestamps are of logs that the trusted root does not have",
+        LogShortfall::Log => "none of its timestamps is of a log of the trusted root that is used",
         LogShortfall::Window => "its timestamp is outside the time of that log",
         LogShortfall::Signature => "that log did not sign the certificate's timestamp",
     }

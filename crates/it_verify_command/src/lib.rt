@@ -9,6 +9,7 @@ pub mod output_form;
 mod output_text;
 mod shown_findings;
 mod shown_found;
+mod signer_notes;
 mod strict_answer;
 pub mod strict_fault;
 mod summary_text;

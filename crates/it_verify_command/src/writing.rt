@@ -5,6 +5,7 @@ ghost use Rattle.it_base.specs.Writing.{AppendsBeginning};
 ghost use Rattle.it_notes.specs.Known.{IsTold};
 
 use crate::answer::Answer;
+use crate::signer_notes::note_signers;
 use crate::verification::Verification;
 use it_base::writing::write_all_of;
 use it_dsse::checks::Checks;
@@ -32,11 +33,27 @@ pub(crate) fn write_answer<C: Checks, W: Write, N: Write>(
         (W.contents out.old) (W.contents out.new) answer.entry.output.text.items) }
 {
     let outcome = put(out, &answer.output);
-    if outcome.is_ok() && answer.noted {
+    if outcome.is_ok() {
+        write_notes(alloc, asked, &answer, notes);
+    }
+    outcome
+}
+
+/// Writes the notes on an answer, where they follow elsewhere, after what goes before them; and then
+/// those on who signed the provenance, which follow elsewhere in every form.
+fn write_notes<C: Checks, N: Write>(
+    alloc: Global,
+    asked: &Verification<C>,
+    answer: &Answer,
+    notes: &mut N,
+)
+    requires { IsTold (C.panel asked.now.checks.now) asked.now.inputs.now answer.now.told }
+{
+    if answer.noted {
         let _ = write_all_of(notes, answer.before_notes.as_slice());
         note(alloc, asked, &answer.told, notes);
     }
-    outcome
+    note_signers(alloc, asked.vouched, &answer.told, notes);
 }
 
 /// Writes the notes on what was told, as far as memory suffices and they can be written.

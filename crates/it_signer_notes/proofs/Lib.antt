@@ -1,0 +1,4 @@
+pub mod Fronts
+pub mod Once
+pub mod Showing
+pub mod Texts

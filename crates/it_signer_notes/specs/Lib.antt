@@ -1,0 +1,5 @@
+pub mod BuilderKeys
+pub mod Nearest
+pub mod SignerText
+pub mod Signers
+pub mod inside

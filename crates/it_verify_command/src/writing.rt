@@ -39,8 +39,8 @@ pub(crate) fn write_answer<C: Checks, W: Write, N: Write>(
     outcome
 }
 
-/// Writes the notes on an answer, where they follow elsewhere, after what goes before them; and then
-/// those on who signed the provenance, which follow elsewhere in every form.
+/// Writes the notes on an answer, where they follow elsewhere, after what goes before them; and
+/// then those on who signed the provenance, which follow elsewhere in every form.
 fn write_notes<C: Checks, N: Write>(
     alloc: Global,
     asked: &Verification<C>,

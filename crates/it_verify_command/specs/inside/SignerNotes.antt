@@ -1,5 +1,5 @@
--- What is noted of identities that signed the provenance and are keys of no builder. Nothing here is
--- trusted.
+-- What is noted of identities that signed the provenance and are keys of no builder. Nothing here
+-- is trusted.
 use Rattle.std.specs.Prelude.{ℕ, List, [], Option, Some, None, ◌==◌, if◌then◌else◌}
 use Rattle.it_notes.specs.declared.known.Known.{Known}
 use Rattle.it_notes.specs.declared.known.Told.{Told}

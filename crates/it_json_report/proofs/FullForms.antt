@@ -31,6 +31,25 @@ module _ (old : List ℕ) (first : List ℕ × List ℕ) (members more : List (L
       ∙ ap (λ rest. old ++ rest) (sym (append_assoc front (further member more) (codes "}"))
       ∙ ap (λ rest. rest ++ codes "}") (goes_on first members more))
 
+-- an object whose last member is written by itself
+pub object_by_last : (old : List ℕ) (first last : List ℕ × List ℕ)
+    (members : List (List ℕ × List ℕ))
+    → ((old ++ opened (first ∷ members)) ++ (codes "," ++ member last)) ++ codes "}"
+    ≡ old ++ json_object (first ∷ (members ++ last ∷ []))
+object_by_last old first last members =
+    let front = old ++ opened (first ∷ members) in
+    let next = codes "," ++ member last in
+    append_assoc front next (codes "}")
+    ∙ ap (λ rest. front ++ (rest ++ codes "}")) (sym (append-nil next))
+    ∙ object_in_two old first members (last ∷ [])
+
+-- three texts behind another, one after another
+pub three_after : (old first second third : List ℕ) → ((old ++ first) ++ second) ++ third
+    ≡ old ++ (first ++ (second ++ (third ++ [])))
+three_after old first second third =
+    append_assoc (old ++ first) second third ∙ append_assoc old first (second ++ third)
+    ∙ ap (λ rest. old ++ (first ++ (second ++ rest))) (sym (append-nil third))
+
 -- the beginning of an object, written as its first name, the value, and what follows
 pub opened_by : (old name value next : List ℕ)
     → ((old ++ (codes "{\"" ++ name ++ codes "\":")) ++ value) ++ next

@@ -44,11 +44,13 @@ abbrev pub counted_object : StepEvidence → List ℕ
 counted_object step = counted_form step.name step.keys
 
 -- an identity that signed, its issuer, and the time of the log, in seconds since 1970
+abbrev pub signer_form : (identity issuer : List ℕ) (time : ℕ) → List ℕ
+signer_form identity issuer time =
+    json_object ((codes "identity", json_text identity) ∷ (codes "issuer", json_text issuer)
+    ∷ (codes "loggedAt", decimal time) ∷ [])
+
 abbrev pub signer_object : Signer → List ℕ
-signer_object signer =
-    json_object ((codes "identity", json_text signer.identity)
-    ∷ (codes "issuer", json_text signer.issuer) ∷ (codes "loggedAt", decimal signer.logged_at)
-    ∷ [])
+signer_object signer = signer_form signer.identity signer.issuer signer.logged_at
 
 -- the member of the identity, where one signed
 abbrev pub signer_members : Option Signer → List (List ℕ × List ℕ)

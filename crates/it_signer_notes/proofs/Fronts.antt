@@ -1,7 +1,7 @@
 -- What stands before the last @ of a name.
-use Rattle.std.proofs.Common.{◌≡◌, ◌≢◌, ◌∙◌, ◌+◌, ◌-◌, ◌++◌, ◌∷◌, [], ◌||◌, ℕ, List, Bool, true, false}
-use Rattle.std.proofs.Common.{Some, None, if◌then◌else◌, ap, arith, cond, length, length-append, not}
-use Rattle.std.proofs.Common.{refl, reverse, sym, take}
+use Rattle.std.proofs.Common.{◌≡◌, ◌≢◌, ◌∙◌, ◌+◌, ◌-◌, ◌++◌, ◌∷◌, [], ◌||◌, ℕ, List, Bool, true}
+use Rattle.std.proofs.Common.{false, Some, None, if◌then◌else◌, ap, arith, cond, length, length-append}
+use Rattle.std.proofs.Common.{not, refl, reverse, sym, take}
 use Rattle.std.specs.List.{before_last, list_any, prefix_len, suffix_len}
 use Rattle.std.proofs.lemmas.List.{reverse-append, take-append-le, take_all}
 use Rattle.std.proofs.lemmas.Bool.Decides.{nat_tests}

@@ -1,10 +1,9 @@
 -- Identities that were seen, in a set of borrowed names and issuers.
-use Rattle.std.proofs.Common.{◌≡◌, ◌∙◌, ◌&&◌, ◌||◌, ◌++◌, ◌∷◌, [], ℕ, ◌+◌, ◌<◌, List, Bool, true, false}
-use Rattle.std.proofs.Common.{Bor, Ordering, Less, Equal, Greater, ap, cond, get_or, is_eq, length, map, nat_cmp, not}
-use Rattle.std.proofs.Common.{refl, reverse, sym, take, true≢false}
+use Rattle.std.proofs.Common.{◌≡◌, ◌∙◌, ◌&&◌, ◌||◌, ◌++◌, ◌∷◌, [], ℕ, ◌+◌, ◌<◌, List, Bool, true}
+use Rattle.std.proofs.Common.{false, Bor, Ordering, Less, Equal, Greater, ap, cond, get_or, is_eq}
+use Rattle.std.proofs.Common.{length, map, nat_cmp, not, refl, reverse, sym, take, true≢false}
 use Rattle.std.specs.BTreeSet.{BTreeSet, contains}
 use Rattle.std.specs.Cmp.Lexicographic.{slice_cmp}
-use Rattle.std.specs.List.{list_any}
 use Rattle.std.specs.Ordering.{ordering_then}
 use Rattle.std.specs.Set.{is_member, unique_keys}
 use Rattle.std.specs.Str.{bytes_eq}
@@ -13,7 +12,7 @@ use Rattle.std.proofs.lemmas.List.{map-append, map_more, reverse-append}
 use Rattle.std.proofs.lemmas.Map.Text.{is_eq-slice_cmp}
 use Rattle.it_identity.specs.declared.identity.Identity.{Identity}
 use Rattle.it_vouched.specs.declared.vouched.Vouched.{Vouched}
-use Rattle.it_signer_notes.specs.Signers.{each_once, is_same}
+use Rattle.it_signer_notes.specs.Signers.{is_same}
 use Rattle.it_signer_notes.specs.inside.Lent.{lent}
 
 abbrev pub Texts : Type 0
@@ -88,7 +87,8 @@ module _ (others identities : List Identity) (k : Texts)
       (once : List (Bor Identity)) (before : lent once ≡ reverse (unique_keys is_same others)) where
     abbrev kept : Bool → List Identity
     kept again =
-        reverse (cond again (unique_keys is_same others) (identity_of k ∷ unique_keys is_same others))
+        reverse (cond again (unique_keys is_same others)
+        (identity_of k ∷ unique_keys is_same others))
 
     kept_is : (again : Bool) → is_member is_same others (identity_of k) ≡ again
         → kept again ≡ reverse (unique_keys is_same identities)

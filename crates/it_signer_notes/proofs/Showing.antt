@@ -1,6 +1,6 @@
 -- Which identities are on a line each.
-use Rattle.std.proofs.Common.{◌≡◌, ◌∙◌, ◌++◌, ◌-◌, ◌<◌, ◌≤◌, ℕ, List, Bool, true, false, Bor, ap, arith}
-use Rattle.std.proofs.Common.{if◌then◌else◌, length, nat_le, refl, sym, take}
+use Rattle.std.proofs.Common.{◌≡◌, ◌∙◌, ◌++◌, ◌-◌, ◌<◌, ◌≤◌, ℕ, List, Bool, true, false, Bor}
+use Rattle.std.proofs.Common.{ap, arith, if◌then◌else◌, length, nat_le, refl, sym, take}
 use Rattle.std.specs.List.{flat_map}
 use Rattle.std.proofs.lemmas.Bool.Decides.{nat_tests}
 use Rattle.std.proofs.lemmas.List.{length-map, take-map}

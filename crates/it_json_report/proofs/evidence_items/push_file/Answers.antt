@@ -1,4 +1,4 @@
-use Rattle.std.proofs.Common.{◌∙◌, ◌∷◌, [], ◌++◌, ap, codes, decimal}
+use Rattle.std.proofs.Common.{◌∙◌, ◌∷◌, [], ◌++◌, List, ℕ, ap, codes, decimal}
 use Rattle.it_json_report.specs.EvidenceReport.{set_members, signer_members}
 use Rattle.it_json_report.specs.Json.{further, json_object, json_text, member}
 use Rattle.it_json_report.proofs.FullForms.{object_in_two, opened_in_two}
@@ -8,9 +8,11 @@ pub returns : goal.returns
 returns c =
     let file = c.args.file.now in
     let old = c.args.json.now.items in
-    let path = (codes "path", json_text file.path) in
-    let digests = (codes "digests", json_object (set_members file.digests)) ∷ [] in
-    let made = (codes "line", decimal file.line) ∷ (codes "builder", json_text file.builder)
+    let path : List ℕ × List ℕ = (codes "path", json_text file.path) in
+    let digests : List (List ℕ × List ℕ) =
+    (codes "digests", json_object (set_members file.digests)) ∷ [] in
+    let made : List (List ℕ × List ℕ) =
+    (codes "line", decimal file.line) ∷ (codes "builder", json_text file.builder)
     ∷ (codes "level", decimal file.level) ∷ [] in
     let more = signer_members file.signer in
     c.in_ok-push_signer.ensures

@@ -1,4 +1,4 @@
-use Rattle.std.proofs.Common.{◌≡◌, ◌∙◌, ◌++◌, ◌-◌, ◌≤◌, ap, arith, length, sym}
+use Rattle.std.proofs.Common.{◌∙◌, ◌++◌, ◌-◌, ◌≤◌, ap, arith, length, sym}
 use Rattle.std.proofs.lemmas.List.{length-take-le}
 use Rattle.it_signer_notes.specs.SignerText.{further_text}
 use Rattle.it_signer_notes.specs.inside.Lent.{lent}

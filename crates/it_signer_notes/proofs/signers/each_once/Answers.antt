@@ -1,7 +1,7 @@
 use Rattle.std.proofs.Common.{◌≡◌, ◌∙◌, ◌∷◌, ◌+◌, ap, refl, sym}
 use Rattle.it_identity.specs.declared.identity.Identity.{Identity}
-use Rattle.it_signer_notes.proofs.Once.{Texts, from_behind, identity_of, once_less, once_more, one_more}
-use Rattle.it_signer_notes.proofs.Once.{seen_more}
+use Rattle.it_signer_notes.proofs.Once.{Texts, from_behind, identity_of, once_less, once_more}
+use Rattle.it_signer_notes.proofs.Once.{one_more, seen_more}
 use Rattle.it_signer_notes.proofs.signers.each_once.Goals as goal
 use Rattle.it_signer_notes.proofs.signers.each_once.Goals.{then-branch+in_ok-push, else-branch}
 

@@ -3,14 +3,14 @@ ghost use Rattle.std.specs.Prelude.{◌≡◌, ◌++◌, ◌∷◌, [], OnOk, co
 ghost use Rattle.it_json_report.specs.EvidenceReport.{counted_form, counted_object};
 ghost use Rattle.it_json_report.specs.EvidenceReport.{evidence_object, file_object, json_digits};
 ghost use Rattle.it_json_report.specs.EvidenceReport.{key_form, key_object, set_members};
-ghost use Rattle.it_json_report.specs.EvidenceReport.{signer_form, signer_members, signer_object};
 ghost use Rattle.it_json_report.specs.Json.{further, json_list, json_object, json_text};
 ghost use Rattle.it_json_report.specs.Json.{member, opened};
 
 use crate::digests::{push_digests, push_digits_member};
-use crate::evidence::{CountedKey, Evidence, FileEvidence, Signer, StepEvidence};
+use crate::evidence::{CountedKey, Evidence, FileEvidence, StepEvidence};
 use crate::lists::JsonItem;
 use crate::members::{push_list_member, push_member_name, push_number_member, push_text_member};
+use crate::signer_item::push_signer;
 use crate::texts::push_text;
 use it_base::text::Text;
 use it_digest::compare::DigestSet;
@@ -115,52 +115,6 @@ fn push_provenance(
     push_number_member(alloc, json, "line", line)?;
     push_text_member(json, "builder", builder.as_str())?;
     push_number_member(alloc, json, "level", level as u64)?;
-    Ok(())
-}
-
-/// The end of the object of a file: the identity that signed, where one did.
-fn push_signer(alloc: Global, json: &mut Vec<u8>, signer: &Option<Signer>) -> Result<(), AllocError>
-    ensures { OnOk result (json.new.items
-        ≡ json.old.items ++ (further member (signer_members signer.now) ++ codes "}")) }
-{
-    match signer {
-        Some(signer) => push_signing(alloc, json, signer),
-        None => Ok(json.push(b'}')?),
-    }
-}
-
-fn push_signing(alloc: Global, json: &mut Vec<u8>, signer: &Signer) -> Result<(), AllocError>
-    ensures { OnOk result (json.new.items ≡ json.old.items
-        ++ (further member ((codes "signer", signer_object signer.now) ∷ []) ++ codes "}")) }
-{
-    push_member_name(json, "signer")?;
-    push_identity(
-        alloc,
-        json,
-        &signer.identity,
-        &signer.issuer,
-        signer.logged_at,
-    )?;
-    json.push(b'}')?;
-    Ok(())
-}
-
-/// The object of an identity that signed, with its issuer and the time of the log.
-fn push_identity(
-    alloc: Global,
-    json: &mut Vec<u8>,
-    identity: &Text,
-    issuer: &Text,
-    time: u64,
-) -> Result<(), AllocError>
-    ensures { OnOk result (json.new.items
-        ≡ json.old.items ++ signer_form identity.now issuer.now time) }
-{
-    json.extend_from_slice(b"{\"identity\":")?;
-    push_text(json, identity.as_str())?;
-    push_text_member(json, "issuer", issuer.as_str())?;
-    push_number_member(alloc, json, "loggedAt", time)?;
-    json.push(b'}')?;
     Ok(())
 }
 

@@ -12,6 +12,7 @@ mod lists;
 mod members;
 mod parts;
 mod reporting;
+mod signer_item;
 mod texts;
 
 pub use reporting::json_report;

@@ -1,7 +1,7 @@
 use Rattle.std.proofs.Common.{◌∙◌, ◌∷◌, [], ◌++◌, List, ℕ, ap, codes, decimal}
 use Rattle.it_json_report.specs.Json.{json_text, member}
 use Rattle.it_json_report.proofs.FullForms.{object_by_last, opened_by}
-use Rattle.it_json_report.proofs.evidence_items.push_identity.Goals as goal
+use Rattle.it_json_report.proofs.signer_item.push_identity.Goals as goal
 
 pub returns : goal.returns
 returns c =

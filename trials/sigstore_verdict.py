@@ -23,8 +23,8 @@ STATEMENT, PROVENANCE = "https://in-toto.io/Statement/v1", "https://slsa.dev/pro
 
 @functools.lru_cache(1)
 def vouched_in(provenance, root):
-    """What the lines of provenance vouch for by a trusted root."""
-    return set(vouched_lines(provenance.split(b"\n"), Root(root)))
+    """What the lines of provenance vouch for by a trusted root, in their order."""
+    return tuple(vouched_lines(provenance.split(b"\n"), Root(root)))
 
 
 class Checks(keys_model.Checks):
@@ -33,7 +33,7 @@ class Checks(keys_model.Checks):
     def __init__(self, delivery):
         super().__init__(delivery, ring=True, public_keys=delivery.public_keys)
         self.has_root = delivery.root is not None
-        self.vouched = vouched_in(delivery.provenance, delivery.root) if self.has_root else set()
+        self.vouched = vouched_in(delivery.provenance, delivery.root) if self.has_root else ()
 
     def key(self, name, made):
         """The key that an id and an object name, as its scheme and what identifies it, or None."""
@@ -113,6 +113,29 @@ def check_provenance(path, digest_set, policy, envelopes, checks):
     if best is None or best < expectation.get("level", 0):
         told = [] if best is None else [f"best {best}"]
         raise Refused("61 NoProvenance", f"path {path}", *told)
+
+
+def signer_of(envelope, builders, checks):
+    """The identity that signed an envelope for those of the builders that its provenance names, by
+    the first line that vouches for this, or None."""
+    keys = [(who, identity_of(made)) for builder in builders
+            if builder["id"] == provenance_in(envelope).builder
+            for who, made in sorted(builder["keys"].items(), key=lambda one: one[0].encode())]
+    return next((one.identity for one in checks.vouched if one.message == envelope.message
+                 for hint, sig in envelope.signatures if sig == one.sig
+                 for who, found in keys if hint in ("", who) and found == one.identity), None)
+
+
+def told_signers(delivery):
+    """Who signed the provenance of each file of an accepted delivery, in their order."""
+    checks, policy = Checks(delivery), json.loads(delivery.policy)
+    envelopes = list(counted_lines(delivery))
+    for path, digest_set in keys_model.delivered(delivery).items():
+        expectation = next(one for one in policy["expectations"] if one["files"] in (path, "*"))
+        line = next(one for one in envelopes if any(
+            level >= expectation.get("level", 0)
+            for level in levels([one], digest_set, expectation, checks)))
+        yield signer_of(line, expectation["builders"], checks)
 
 
 def counted_lines(delivery):

@@ -1,5 +1,5 @@
 -- Names and numbers of identities (this profile's choice), in the manner of those of public keys,
--- whose kinds are 1 to 3.
+-- whose kinds are 1 to 4; a key of kind 4 has a name of another length.
 use Rattle.std.specs.Prelude.{ℕ, ◌+◌, ◌-◌, ◌/◌, ◌%◌, List, ◌∷◌, ◌++◌, length, replicate}
 use Rattle.it_numbers.specs.Bytes.{big}
 use Rattle.it_identity.specs.declared.identity.Identity.{Identity}

@@ -131,9 +131,7 @@ class Proof:
     def check(self, body, log):
         """Raises Unfit where it does not hold for a body, by the key of a log."""
         saying("its inclusion proof does not lead to its root", self.check_hashes, body)
-        saying("the log did not sign a checkpoint of its root", check_checkpoint, self.note,
-               self.size,
-               self.root, log)
+        check_checkpoint(self.note, self.size, self.root, log)
 
     def check_hashes(self, body):
         """Raises Unfit where the hashes do not lead to the root hash."""
@@ -169,17 +167,25 @@ def node_hash(left, right):
 
 def check_checkpoint(note, size, root, log):
     """Raises Unfit where a note is no checkpoint of this tree that a log signed."""
+    told, found = saying("the checkpoint of its inclusion proof does not read", note_in, note)
+    need(told[1:3] == [str(size), base64.b64encode(root).decode()],
+         "the checkpoint of its inclusion proof is not of its root and size")
+    hint = hashlib.sha256(log.info).digest()[:4]
+    text = "".join(f"{line}\n" for line in told).encode()
+    need(any(one[:4] == hint and is_valid(log.info, text, one[4:]) for one in found),
+         "the log did not sign the checkpoint of its inclusion proof")
+
+
+def note_in(note):
+    """The lines of a signed note of a tree, and its signatures."""
     lines, blank, signatures = note.partition("\n\n")
-    text = lines + "\n"
     told = lines.split("\n")
     need(blank and all(told) and len(told) >= 3, "a checkpoint of another form")
-    need(told[1:3] == [str(size), base64.b64encode(root).decode()], "a checkpoint of another tree")
+    need(re.fullmatch("0|[1-9][0-9]{0,19}", told[1]) and int(told[1]) < 2**64, "no size")
     need(signatures.endswith("\n"), "a checkpoint of another form")
     found = [signature_in(line) for line in signatures[:-1].split("\n")]
     need(len(found) <= MOST_SIGNATURE_LINES, "too many signatures on a checkpoint")
-    hint = hashlib.sha256(log.info).digest()[:4]
-    need(any(one[:4] == hint and is_valid(log.info, text.encode(), one[4:]) for one in found),
-         "a checkpoint that the log did not sign")
+    return told, found
 
 
 def signature_in(line):
@@ -213,8 +219,7 @@ class Entry:
              "its entry's time is outside the time of that log")
         need(self.kind in (DSSE, INTOTO),
              "its entry is of another kind than dsse 0.0.1 and intoto 0.0.2")
-        saying("its entry is about another envelope or certificate, or does not read",
-               self.check_body, signed)
+        self.check_body(signed)
         if self.proof is not None:
             self.proof.check(self.body, log)
         need(self.proof is not None or not needs_proof, "its entry has no inclusion proof")
@@ -226,23 +231,48 @@ class Entry:
 
     def check_body(self, signed):
         """Raises Unfit where its body does not agree with what must be signed."""
+        hashed, envelope, one = saying("its entry's body does not read", self.body_parts)
+        saying("its entry is not about its payload", check_hash, hashed, signed.payload)
+        if envelope is not None:
+            saying("its entry is not about its payload type", check_type, envelope, signed.kind)
+        saying("its entry is not about its signature", self.check_signature, one, signed.sig)
+        saying("its entry is not about its certificate", self.check_certificate, one,
+               signed.certificate)
+
+    def body_parts(self):
+        """What its body says: the payload's hash, the envelope of some kinds, the signature."""
         whole = of_type(document(self.body), dict, "body")
         need((text_at(whole, "kind"), text_at(whole, "apiVersion")) == self.kind,
              "a body of another kind")
-        spec = object_at(whole, "spec")
+        spec = value_at(whole, "spec")
         if self.kind == DSSE:
-            held, listed, names = spec, spec, ("signature", "verifier")
-        else:
-            held = object_at(spec, "content")
-            listed, names = object_at(held, "envelope"), ("sig", "publicKey")
-            need(text_at(listed, "payloadType") == signed.kind, "an entry about another type")
-        check_hash(object_at(held, "payloadHash"), signed.payload)
-        (one,) = only(list_at(listed, "signatures"))
-        sig = bytes_at(of_type(one, dict, "signature"), names[0])
-        sig = bytes_in(utf8(sig)) if self.kind == INTOTO else sig
-        need(sig == signed.sig, "an entry about another signature")
-        need(certificate_in(utf8(bytes_at(one, names[1]))) == signed.certificate,
-             "an entry about another certificate")
+            (one,) = only(list_at(spec, "signatures"))
+            return value_at(spec, "payloadHash"), None, one
+        content = value_at(spec, "content")
+        envelope = value_at(content, "envelope")
+        (one,) = only(list_at(envelope, "signatures"))
+        return value_at(content, "payloadHash"), envelope, one
+
+    def check_signature(self, one, wanted):
+        """Raises Unfit where a signature in its body is another."""
+        found = bytes_at(of_type(one, dict, "signature"), self.names()[0])
+        found = bytes_in(utf8(found)) if self.kind == INTOTO else found
+        need(found == wanted, "another signature")
+
+    def check_certificate(self, one, wanted):
+        """Raises Unfit where the certificate of a signature in its body is another."""
+        need(certificate_in(utf8(bytes_at(one, self.names()[1]))) == wanted, "another certificate")
+
+    def names(self):
+        """The names of the members of a signature, and of its certificate."""
+        return ("signature", "verifier") if self.kind == DSSE else ("sig", "publicKey")
+
+
+def value_at(value, name):
+    """The member of a value of this name."""
+    found = member(of_type(value, dict, name), name)
+    need(found is not None, f"no {name}")
+    return found
 
 
 def only(listed):
@@ -251,11 +281,16 @@ def only(listed):
     return listed
 
 
+def check_type(envelope, kind):
+    """Raises Unfit where the envelope in a body has another payload type."""
+    need(text_at(envelope, "payloadType") == kind, "another type")
+
+
 def check_hash(value, payload):
     """Raises Unfit where a hash in a body is not that of the payload."""
+    value = of_type(value, dict, "payloadHash")
     need(text_at(value, "algorithm") == "sha256"
-         and text_at(value, "value") == hashlib.sha256(payload).hexdigest(),
-         "an entry about another payload")
+         and text_at(value, "value") == hashlib.sha256(payload).hexdigest(), "another payload")
 
 
 def certificate_in(text):

@@ -1,14 +1,17 @@
 -- Checkpoints, from the parts of their notes.
-use Rattle.std.proofs.Common.{◌≡◌, ◌∙◌, ◌↔◌, ℕ, ◌≤◌, List, [], ◌∷◌, ◌++◌, IsTrue, sym, ap, subst}
+use Rattle.std.proofs.Common.{◌≡◌, ◌∙◌, ◌↔◌, ℕ, ◌^◌, ◌<◌, ◌≤◌, List, [], ◌∷◌, ◌++◌, IsTrue, refl, sym, ap, subst}
 use Rattle.std.proofs.Common.{Bool, length, take, drop, get_or, decimal, arith}
 use Rattle.std.specs.Borrow.{Bor}
 use Rattle.it_base.specs.Base64Text.{base64_encoded}
 use Rattle.it_p256.specs.Key.{Key, info_of}
 use Rattle.it_p256.specs.Signature.{IsSignature}
 use Rattle.sha2.specs.Sha256.{sha256}
-use Rattle.it_log_entry.specs.Checkpoint.{IsCheckpoint, IsNoteSignature, IsSignedCheckpoint}
+use Rattle.it_log_entry.specs.Checkpoint.{IsCheckpoint, IsNoteSignature}
+use Rattle.it_log_entry.specs.CheckpointMisses.{AreTreeLines, IsSize}
 use Rattle.it_log_entry.specs.Note.{AreLines, NoteOf}
+use Rattle.it_log_entry.specs.declared.note_shortfall.NoteShortfall.TheVariants as missed
 use Rattle.it_log_entry.specs.inside.Lines.{AreSignatures, IsCutAtEmpty, IsSignedBy, texts_of}
+use Rattle.it_log_entry.specs.inside.NoCheckpoint.{IsNoCheckpoint}
 use Rattle.it_log_entry.proofs.Notes.{same_lines, same_parts}
 use Rattle.it_log_entry.proofs.SignatureLines.{same_signatures}
 
@@ -46,54 +49,98 @@ known_signatures note all lines below signatures others names written cut signed
     same_signatures below signatures names signed
     (rw same.1 (record { signed = is.signed; some = is.some; few = is.few }))
 
--- a note whose parts were found is a signed checkpoint where its lines are a checkpoint's and one of
--- its signatures is the key's
-pub signed_checkpoint : (key : Key) (note : List ℕ) (all lines below signatures : List (List ℕ))
-    (size : ℕ) (root : List ℕ) (b : Bool) → AreLines note all → IsCutAtEmpty all (lines, below)
-    → IsCheckpoint lines size root → AreSignatures below signatures
-    → IsTrue b ↔ IsSignedBy key lines signatures → IsTrue b ↔ IsSignedCheckpoint key note size root
-signed_checkpoint key note all lines below signatures size root b written cut is signed test = (
-  λ passes. record {
-    lines = lines;
-    signatures = signatures;
-    note_is = note_from note all lines below signatures written cut signed;
-    checkpoint_is = is;
-    signed = test.0 passes;
-  },
-  λ whole.
+-- a text that is no note
+pub no_lines : (note : List ℕ) → ((all : List (List ℕ)) → ¬ AreLines note all)
+    → (lines signatures : List (List ℕ)) → ¬ NoteOf note lines signatures
+no_lines note none lines signatures is = none _ is.written
+
+pub no_cut : (note : List ℕ) (all : List (List ℕ)) → AreLines note all
+    → ((parts : List (List ℕ) × List (List ℕ)) → ¬ IsCutAtEmpty all parts)
+    → (lines signatures : List (List ℕ)) → ¬ NoteOf note lines signatures
+no_cut note all written none lines signatures is =
+    none (lines, is.below) (parts_of note all lines signatures written is)
+
+pub no_signatures : (note : List ℕ) (all lines below : List (List ℕ)) → AreLines note all
+    → IsCutAtEmpty all (lines, below)
+    → ((signatures : List (List ℕ)) → ¬ AreSignatures below signatures)
+    → (others names : List (List ℕ)) → ¬ NoteOf note others names
+no_signatures note all lines below written cut none others names is =
+    let same = known_parts note all lines below others names written cut is in
+    none names (rw same.1 (record { signed = is.signed; some = is.some; few = is.few }))
+
+-- a text that is no note
+pub not_signed : (key : Key) (note : List ℕ) (size : ℕ) (root : List ℕ)
+    → ((lines signatures : List (List ℕ)) → ¬ NoteOf note lines signatures)
+    → IsNoCheckpoint key note size root missed.Form
+not_signed key note size root none = record {
+  not_signed = λ whole. none whole.lines whole.signatures whole.note_is;
+  misses = λ says. none says.lines says.signatures says.note_is;
+}
+
+-- the lines of a checkpoint of a tree are those of one of any tree
+of_any_tree : (lines : List (List ℕ)) (size : ℕ) (root : List ℕ) → size < 2 ^ 64 → IsCheckpoint lines size root
+    → AreTreeLines lines
+of_any_tree lines size root small is = record {
+  origin = is.origin;
+  size_text = decimal size;
+  root_text = base64_encoded root;
+  others = is.others;
+  lines_are = is.lines_are;
+  size = size;
+  size_is = record { digits_are = refl; small = small };
+}
+
+pub no_tree : (key : Key) (note : List ℕ) (all lines below : List (List ℕ)) (size : ℕ) (root : List ℕ)
+    → size < 2 ^ 64 → AreLines note all → IsCutAtEmpty all (lines, below) → ¬ AreTreeLines lines
+    → IsNoCheckpoint key note size root missed.Form
+no_tree key note all lines below size root small written cut none = record {
+  not_signed = λ whole.
+      let same = known_parts note all lines below whole.lines whole.signatures written cut whole.note_is in
+      none (subst AreTreeLines (sym same.0) (of_any_tree whole.lines size root small whole.checkpoint_is));
+  misses = λ says.
+      let same = known_parts note all lines below says.lines says.signatures written cut says.note_is in
+      none (subst AreTreeLines (sym same.0) says.tree);
+}
+
+pub other_tree : (key : Key) (note : List ℕ) (all lines below signatures : List (List ℕ)) (size : ℕ)
+    (root : List ℕ) → AreLines note all → IsCutAtEmpty all (lines, below) → AreSignatures below signatures
+    → AreTreeLines lines → ¬ IsCheckpoint lines size root → IsNoCheckpoint key note size root missed.Root
+other_tree key note all lines below signatures size root written cut signed tree none = record {
+  not_signed = λ whole.
+      let same = known_parts note all lines below whole.lines whole.signatures written cut whole.note_is in
+      none (rw same.0 whole.checkpoint_is);
+  misses = (
+    record {
+      lines = lines;
+      signatures = signatures;
+      note_is = note_from note all lines below signatures written cut signed;
+      tree = tree;
+      says = tt;
+    },
+    λ other.
+        let same = known_parts note all lines below other.lines other.signatures written cut other.note_is in
+        none (rw same.0 other.says),
+  );
+}
+
+pub no_signer : (key : Key) (note : List ℕ) (all lines below signatures : List (List ℕ)) (size : ℕ)
+    (root : List ℕ) → AreLines note all → IsCutAtEmpty all (lines, below) → AreSignatures below signatures
+    → AreTreeLines lines → IsCheckpoint lines size root → ¬ IsSignedBy key lines signatures
+    → IsNoCheckpoint key note size root missed.Signature
+no_signer key note all lines below signatures size root written cut signed tree is none = record {
+  not_signed = λ whole.
       let same = known_parts note all lines below whole.lines whole.signatures written cut whole.note_is in
       let names = known_signatures note all lines below signatures whole.lines whole.signatures
       written cut signed whole.note_is in
-      test.1 (rw (same.0, names) whole.signed),
-)
-
-pub no_checkpoint : (key : Key) (note : List ℕ) (all lines below : List (List ℕ)) (size : ℕ)
-    (root : List ℕ) → AreLines note all → IsCutAtEmpty all (lines, below)
-    → ¬ IsCheckpoint lines size root → ¬ IsSignedCheckpoint key note size root
-no_checkpoint key note all lines below size root written cut none whole =
-    let same = known_parts note all lines below whole.lines whole.signatures written cut whole.note_is in
-    none (rw same.0 whole.checkpoint_is)
-
-pub no_signatures : (key : Key) (note : List ℕ) (all lines below : List (List ℕ)) (size : ℕ)
-    (root : List ℕ) → AreLines note all → IsCutAtEmpty all (lines, below)
-    → ((signatures : List (List ℕ)) → ¬ AreSignatures below signatures)
-    → ¬ IsSignedCheckpoint key note size root
-no_signatures key note all lines below size root written cut none whole =
-    let is = whole.note_is in
-    let same = known_parts note all lines below whole.lines whole.signatures written cut is in
-    none whole.signatures
-    (rw same.1 (record { signed = is.signed; some = is.some; few = is.few }))
-
-pub no_lines : (key : Key) (note : List ℕ) (size : ℕ) (root : List ℕ)
-    → ((all : List (List ℕ)) → ¬ AreLines note all) → ¬ IsSignedCheckpoint key note size root
-no_lines key note size root none whole = none _ whole.note_is.written
-
-pub no_cut_in : (key : Key) (note : List ℕ) (all : List (List ℕ)) (size : ℕ) (root : List ℕ)
-    → AreLines note all → ((parts : List (List ℕ) × List (List ℕ)) → ¬ IsCutAtEmpty all parts)
-    → ¬ IsSignedCheckpoint key note size root
-no_cut_in key note all size root written none whole =
-    none (whole.lines, whole.note_is.below)
-    (parts_of note all whole.lines whole.signatures written whole.note_is)
+      none (rw (same.0, names) whole.signed);
+  misses = record {
+    lines = lines;
+    signatures = signatures;
+    note_is = note_from note all lines below signatures written cut signed;
+    tree = tree;
+    says = is;
+  };
+}
 
 -- the lines of a checkpoint, by place
 pub checkpoint_lines : (lines : List (Bor (List ℕ))) (d e : Bor (List ℕ)) (size : ℕ)
@@ -136,3 +183,35 @@ note_signature key text signature rest b hint same test = (
   λ passes. record { hint_is = hint; signed = subst (IsSignature key text) same (test.0 passes) },
   λ is. test.1 (subst (IsSignature key text) (sym same) is.signed),
 )
+
+-- the lines of a checkpoint of any tree, by place
+pub tree_lines : (lines : List (Bor (List ℕ))) (d : Bor (List ℕ)) (b : Bool) → 3 ≤ length lines
+    → IsTrue b ↔ ((n : ℕ) × IsSize (get_or lines 1 d).now n)
+    → IsTrue b ↔ AreTreeLines (texts_of lines)
+tree_lines [] d b long test = absurd (omega arith)
+tree_lines (x ∷ []) d b long test = absurd (omega arith)
+tree_lines (x ∷ y ∷ []) d b long test = absurd (omega arith)
+tree_lines (x ∷ y ∷ z ∷ rest) d b long test = (
+  λ passes. let number = test.0 passes in record {
+    origin = x.now;
+    size_text = y.now;
+    root_text = z.now;
+    others = texts_of rest;
+    lines_are = refl;
+    size = number.0;
+    size_is = number.1;
+  },
+  λ are.
+      let same = second x.now y.now are.origin are.size_text (z.now ∷ texts_of rest) (are.root_text ∷ are.others)
+      are.lines_are in
+      test.1 (are.size, subst (λ text. IsSize text are.size) (sym same) are.size_is),
+)
+  where
+    second : (x y o p : List ℕ) (r s : List (List ℕ)) → x ∷ y ∷ r ≡ o ∷ p ∷ s → y ≡ p
+    second x y o p r s e = cc
+
+pub few_lines : (lines : List (Bor (List ℕ))) → length lines < 3 → ¬ AreTreeLines (texts_of lines)
+few_lines [] few are = let e = are.lines_are in cc
+few_lines (x ∷ []) few are = let e = are.lines_are in cc
+few_lines (x ∷ y ∷ []) few are = let e = are.lines_are in cc
+few_lines (x ∷ y ∷ z ∷ rest) few are = absurd (omega arith)

@@ -2,11 +2,13 @@ pub mod Bodies
 pub mod CertificateLines
 pub mod Checkpoints
 pub mod Entries
+pub mod Finding
 pub mod First
 pub mod Hashes
 pub mod Items
 pub mod Notes
 pub mod Numbers
+pub mod Parts
 pub mod Same
 pub mod Shortfalls
 pub mod SignatureLines

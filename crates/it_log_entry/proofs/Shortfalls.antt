@@ -12,6 +12,7 @@ use Rattle.it_log_entry.specs.declared.kind.EntryKind.{EntryKind}
 use Rattle.it_log_entry.specs.declared.logged.Logged.{Logged}
 use Rattle.it_log_entry.specs.declared.shortfall.EntryShortfall.{EntryShortfall}
 use Rattle.it_log_entry.specs.declared.shortfall.EntryShortfall.TheVariants as shortfalls
+use Rattle.it_log_entry.proofs.Parts.{body_missed}
 
 -- two things that cannot both be so of a proof
 both : (A B : InclusionProof → Type 0) (N : Type 0) → ((proof : InclusionProof) → A proof → B proof → ⊥)
@@ -39,14 +40,15 @@ pub not_vouching : (log : Log) (needs_proof : Bool) (entry : LogEntry) (logged :
 not_vouching log needs_proof entry logged shortfalls.Log m v = m v.id_is
 not_vouching log needs_proof entry logged shortfalls.Time m v = m.1 v.counts
 not_vouching log needs_proof entry logged shortfalls.Kind m v = m.2 (read_kind entry.kind entry.body logged v.agrees)
-not_vouching log needs_proof entry logged shortfalls.Body m v = m.3 v.agrees
+not_vouching log needs_proof entry logged (shortfalls.Body part) m v =
+    body_missed entry.kind entry.body logged part m.3 v.agrees
 not_vouching log needs_proof entry logged shortfalls.NoProof m v =
     needed needs_proof (λ proof. ProofHolds log.key entry.body proof) entry.proof m.1 m.2 v.included
 not_vouching log needs_proof entry logged shortfalls.Inclusion m v =
     both (λ proof. ¬ LeadsFrom entry.body proof) (λ proof. ProofHolds log.key entry.body proof) (needs_proof ≡ false)
     (λ proof no holds. no holds.leads) entry.proof m.1 v.included
-not_vouching log needs_proof entry logged shortfalls.Checkpoint m v =
-    both (LacksCheckpoint log.key entry.body) (λ proof. ProofHolds log.key entry.body proof) (needs_proof ≡ false)
+not_vouching log needs_proof entry logged (shortfalls.Checkpoint missed) m v =
+    both (LacksCheckpoint log.key entry.body missed) (λ proof. ProofHolds log.key entry.body proof) (needs_proof ≡ false)
     (λ proof lacks holds. lacks.not_signed holds.checkpoint) entry.proof m.1 v.included
 not_vouching log needs_proof entry logged shortfalls.Promise m v = m.2 v.promised
 

@@ -1,6 +1,9 @@
 pub mod Agreement
+pub mod BodyMisses
+pub mod BodyParts
 pub mod CertificateText
 pub mod Checkpoint
+pub mod CheckpointMisses
 pub mod DsseBody
 pub mod EntryMisses
 pub mod InclusionProof
@@ -8,6 +11,7 @@ pub mod IntotoBody
 pub mod LogEntry
 pub mod Note
 pub mod Number
+pub mod OnlyItem
 pub mod PayloadHash
 pub mod Place
 pub mod Stamp

@@ -1,3 +1,4 @@
 pub mod Lines
-pub mod OnlyItem
+pub mod NoCheckpoint
 pub mod ProofMisses
+pub mod Said

@@ -1,90 +1,110 @@
-//! Whether the body of an entry is about a signature.
-ghost use Rattle.std.specs.Prelude.{◌↔◌, IfOk, IsTrue, codes};
-ghost use Rattle.serde_json.specs.View.{view};
-ghost use Rattle.it_log_entry.specs.Agreement.{BodyAgrees, IsBody, IsOfKind, IsReadKind, IsSpec};
+//! Whether the body of an entry is about a signature, or which part of it is not.
+ghost use Rattle.std.specs.Prelude.{◌↔◌, IfOk, IsTrue, MatchOption};
+ghost use Rattle.it_log_entry.specs.Agreement.{BodyAgrees};
+ghost use Rattle.it_log_entry.specs.BodyMisses.{BodyMisses, SaysCertificate, SaysSignature};
+ghost use Rattle.it_log_entry.specs.BodyMisses.{SaysType};
+ghost use Rattle.it_log_entry.specs.inside.Said.{AllSay, SaidMisses, said_by};
 
-use crate::dsse_body::is_dsse_body;
-use crate::intoto_body::is_intoto_body;
+use crate::body_parts::{BodyParts, parts_in};
+use crate::body_shortfall::BodyShortfall;
+use crate::certificate_text::has_certificate;
+use crate::encoded::{has_bytes, has_twice_encoded};
 use crate::kind::EntryKind;
 use crate::logged::Logged;
-use it_base::document::{member, read_document};
+use crate::payload_hash::is_payload_hash;
+use crate::read_kind::{is_dsse, is_intoto};
+use it_base::document::read_document;
 use it_base::text::has_text;
-use serde_json::Value;
 use std::alloc::{AllocError, Global};
 
-/// Whether the kind is one of those that are read.
-pub(crate) fn is_read_kind(kind: &EntryKind) -> bool
-    ensures { IsTrue result ↔ IsReadKind kind.now }
-{
-    is_dsse(kind) || is_intoto(kind)
-}
-
-/// Whether a body is of this kind, and about this signature and no other.
-pub(crate) fn body_agrees(
+/// The first part of a body of this kind that is not about this signature; `None` where the body
+/// is about it, and about no other.
+pub(crate) fn body_shortfall(
     alloc: Global,
     kind: &EntryKind,
     body: &[u8],
     logged: &Logged<'_>,
-) -> Result<bool, AllocError>
-    ensures { IfOk result (λ agrees. IsTrue agrees ↔ BodyAgrees kind.now body.now logged.now) }
+) -> Result<Option<BodyShortfall>, AllocError>
+    ensures { IfOk result (λ missed. MatchOption missed
+        (BodyAgrees kind.now body.now logged.now)
+        (BodyMisses kind.now body.now logged.now)) }
 {
-    match read_document(alloc, body)? {
-        None => Ok(false),
-        Some(document) => is_body(alloc, kind, &document, logged),
+    let Some(document) = read_document(alloc, body)? else {
+        return Ok(Some(BodyShortfall::Form));
+    };
+    let Some(parts) = parts_in(kind, &document) else {
+        return Ok(Some(BodyShortfall::Form));
+    };
+    parts_shortfall(alloc, kind, &parts, logged)
+}
+
+/// The first of the parts that is not about this signature.
+fn parts_shortfall(
+    alloc: Global,
+    kind: &EntryKind,
+    parts: &BodyParts<'_>,
+    logged: &Logged<'_>,
+) -> Result<Option<BodyShortfall>, AllocError>
+    ensures { IfOk result (λ missed. MatchOption missed
+        (AllSay kind.now logged.now (said_by parts.now))
+        (SaidMisses kind.now logged.now (said_by parts.now))) }
+{
+    if !is_payload_hash(alloc, parts.hash, logged.payload)? {
+        return Ok(Some(BodyShortfall::Payload));
+    }
+    if !is_type(parts, logged) {
+        return Ok(Some(BodyShortfall::PayloadType));
+    }
+    if !is_about_signature(alloc, kind, parts, logged)? {
+        return Ok(Some(BodyShortfall::Signature));
+    }
+    if !is_about_certificate(alloc, kind, parts, logged)? {
+        return Ok(Some(BodyShortfall::Certificate));
+    }
+    Ok(None)
+}
+
+fn is_type(parts: &BodyParts<'_>, logged: &Logged<'_>) -> bool
+    ensures { IsTrue result ↔ SaysType logged.now (said_by parts.now) }
+{
+    match parts.envelope {
+        None => true,
+        Some(envelope) => has_text(envelope, "payloadType", logged.payload_type),
     }
 }
 
-fn is_body(
+fn is_about_signature(
     alloc: Global,
     kind: &EntryKind,
-    document: &Value,
+    parts: &BodyParts<'_>,
     logged: &Logged<'_>,
 ) -> Result<bool, AllocError>
-    ensures { IfOk result (λ is. IsTrue is ↔ IsBody kind.now (view document.now) logged.now) }
-{
-    if !has_text(document, "kind", kind.kind.as_str()) {
-        return Ok(false);
-    }
-    if !has_text(document, "apiVersion", kind.version.as_str()) {
-        return Ok(false);
-    }
-    match member(document, "spec") {
-        None => Ok(false),
-        Some(spec) => is_spec(alloc, kind, spec, logged),
-    }
-}
-
-fn is_spec(
-    alloc: Global,
-    kind: &EntryKind,
-    spec: &Value,
-    logged: &Logged<'_>,
-) -> Result<bool, AllocError>
-    ensures { IfOk result (λ is. IsTrue is ↔ IsSpec kind.now (view spec.now) logged.now) }
+    ensures { IfOk result (λ is. IsTrue is
+        ↔ SaysSignature kind.now logged.now (said_by parts.now)) }
 {
     if is_dsse(kind) {
-        return is_dsse_body(alloc, spec, logged);
+        return has_bytes(alloc, parts.signature, "signature", logged.signature);
     }
     if is_intoto(kind) {
-        return is_intoto_body(alloc, spec, logged);
+        return has_twice_encoded(alloc, parts.signature, "sig", logged.signature);
     }
     Ok(false)
 }
 
-fn is_dsse(kind: &EntryKind) -> bool
-    ensures { IsTrue result ↔ IsOfKind kind.now (codes "dsse") (codes "0.0.1") }
+fn is_about_certificate(
+    alloc: Global,
+    kind: &EntryKind,
+    parts: &BodyParts<'_>,
+    logged: &Logged<'_>,
+) -> Result<bool, AllocError>
+    ensures { IfOk result (λ is. IsTrue is
+        ↔ SaysCertificate kind.now logged.now (said_by parts.now)) }
 {
-    is_of_kind(kind, "dsse", "0.0.1")
-}
-
-fn is_intoto(kind: &EntryKind) -> bool
-    ensures { IsTrue result ↔ IsOfKind kind.now (codes "intoto") (codes "0.0.2") }
-{
-    is_of_kind(kind, "intoto", "0.0.2")
-}
-
-fn is_of_kind(kind: &EntryKind, name: &str, version: &str) -> bool
-    ensures { IsTrue result ↔ IsOfKind kind.now name.now version.now }
-{
-    kind.kind.as_str() == name && kind.version.as_str() == version
+    if is_dsse(kind) {
+        return has_certificate(alloc, parts.signature, "verifier", logged.certificate);
+    }
+    if is_intoto(kind) {
+        return has_certificate(alloc, parts.signature, "publicKey", logged.certificate);
+    }
+    Ok(false)
 }

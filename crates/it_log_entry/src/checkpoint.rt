@@ -1,12 +1,17 @@
-//! Checkpoints.
-ghost use Rattle.std.specs.Prelude.{◌↔◌, ◌≡◌, ◌≤◌, IfOk, IsTrue, decimal, length, take};
+//! Checkpoints, and what keeps a text from being one.
+ghost use Rattle.std.specs.Prelude.{◌↔◌, ◌≡◌, ◌≤◌, IfOk, IsTrue, MatchOption, decimal};
+ghost use Rattle.std.specs.Prelude.{length, take};
 ghost use Rattle.sha2.specs.Sha256.{sha256};
 ghost use Rattle.it_base.specs.Base64Text.{base64_encoded};
 ghost use Rattle.it_p256.specs.Key.{info_of};
 ghost use Rattle.it_log_entry.specs.Checkpoint.{IsCheckpoint, IsNoteSignature, IsSignedCheckpoint};
+ghost use Rattle.it_log_entry.specs.CheckpointMisses.{AreTreeLines};
 ghost use Rattle.it_log_entry.specs.inside.Lines.{IsSignedBy, texts_of};
+ghost use Rattle.it_log_entry.specs.inside.NoCheckpoint.{IsNoCheckpoint};
 
 use crate::note::{cut_at_empty, ended_lines, note_lines};
+use crate::note_shortfall::NoteShortfall;
+use crate::number::is_size_line;
 use crate::signature_line::signatures_in;
 use crate::stamp::decimal_text;
 use it_base::base64_text::base64_text_of;
@@ -16,30 +21,48 @@ use it_p256::is_signature;
 use sha2::{Digest, Sha256};
 use std::alloc::{AllocError, Global};
 
-/// Whether a note is a checkpoint of a tree with `size` entries and this root, and one of its
-/// signatures is the key's.
-pub(crate) fn is_signed_checkpoint(
+/// What keeps a note from being a checkpoint of a tree with `size` entries and this root of which
+/// one signature is the key's; `None` where it is one.
+pub(crate) fn checkpoint_shortfall(
     alloc: Global,
     key: &LogKey,
     note: &str,
     size: u64,
     root: &[u8; 32],
-) -> Result<bool, AllocError>
-    ensures { IfOk result (λ is. IsTrue is ↔ IsSignedCheckpoint key.now note.now size root.now) }
+) -> Result<Option<NoteShortfall>, AllocError>
+    ensures { IfOk result (λ missed. MatchOption missed
+        (IsSignedCheckpoint key.now note.now size root.now)
+        (IsNoCheckpoint key.now note.now size root.now)) }
 {
     let Some(all) = note_lines(alloc, note.as_bytes())? else {
-        return Ok(false);
+        return Ok(Some(NoteShortfall::Form));
     };
     let Some((lines, below)) = cut_at_empty(all.as_slice()) else {
-        return Ok(false);
+        return Ok(Some(NoteShortfall::Form));
     };
+    let Some(signatures) = signatures_in(alloc, below)? else {
+        return Ok(Some(NoteShortfall::Form));
+    };
+    if !are_tree_lines(alloc, lines)? {
+        return Ok(Some(NoteShortfall::Form));
+    }
     if !is_checkpoint(alloc, lines, size, root)? {
+        return Ok(Some(NoteShortfall::Root));
+    }
+    if !is_signed_by(alloc, key, lines, signatures.as_slice())? {
+        return Ok(Some(NoteShortfall::Signature));
+    }
+    Ok(None)
+}
+
+/// Whether lines are those of a checkpoint of any tree.
+fn are_tree_lines(alloc: Global, lines: &[&[u8]]) -> Result<bool, AllocError>
+    ensures { IfOk result (λ are. IsTrue are ↔ AreTreeLines (texts_of lines.now)) }
+{
+    if lines.len() < 3 {
         return Ok(false);
     }
-    match signatures_in(alloc, below)? {
-        None => Ok(false),
-        Some(signatures) => is_signed_by(alloc, key, lines, signatures.as_slice()),
-    }
+    is_size_line(alloc, lines[1])
 }
 
 /// Whether lines are those of a checkpoint of this tree.
@@ -54,20 +77,20 @@ fn is_checkpoint(
     if lines.len() < 3 {
         return Ok(false);
     }
-    if !is_size_line(alloc, lines[1], size)? {
+    if !is_of_size(alloc, lines[1], size)? {
         return Ok(false);
     }
-    is_root_line(alloc, lines[2], root)
+    is_of_root(alloc, lines[2], root)
 }
 
-fn is_size_line(alloc: Global, line: &[u8], size: u64) -> Result<bool, AllocError>
+fn is_of_size(alloc: Global, line: &[u8], size: u64) -> Result<bool, AllocError>
     ensures { IfOk result (λ is. IsTrue is ↔ (line.now ≡ decimal size)) }
 {
     let text = decimal_text(alloc, size)?;
     Ok(line == text.as_bytes())
 }
 
-fn is_root_line(alloc: Global, line: &[u8], root: &[u8; 32]) -> Result<bool, AllocError>
+fn is_of_root(alloc: Global, line: &[u8], root: &[u8; 32]) -> Result<bool, AllocError>
     ensures { IfOk result (λ is. IsTrue is ↔ (line.now ≡ base64_encoded root.now)) }
 {
     let text = base64_text_of(alloc, root.as_slice())?;

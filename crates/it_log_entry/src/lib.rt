@@ -4,26 +4,32 @@
 
 mod agreement;
 mod base64_bytes;
+mod body_parts;
+mod body_shortfall;
 mod certificate_text;
 mod checkpoint;
-mod dsse_body;
+mod encoded;
 mod entry;
 mod hash;
 mod inclusion_proof;
-mod intoto_body;
 mod kind;
 mod logged;
 mod note;
+mod note_shortfall;
 mod number;
+mod only_item;
 mod payload_hash;
+mod read_kind;
 mod shortfall;
 mod signature_line;
 mod stamp;
 mod vouching;
 
+pub use body_shortfall::BodyShortfall;
 pub use entry::LogEntry;
 pub use inclusion_proof::InclusionProof;
 pub use kind::EntryKind;
 pub use logged::Logged;
+pub use note_shortfall::NoteShortfall;
 pub use shortfall::EntryShortfall;
 pub use vouching::{entry_shortfall, vouches};

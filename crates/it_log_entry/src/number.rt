@@ -1,6 +1,7 @@
 //! Numbers, which the JSON form of Sigstore's messages has as texts.
-ghost use Rattle.std.specs.Prelude.{◌≡◌, ◌↔◌, IfOk, IsTrue, decimal};
+ghost use Rattle.std.specs.Prelude.{◌≡◌, ◌↔◌, ℕ, IfOk, IsTrue, decimal};
 ghost use Rattle.it_base.specs.Finds.{Finds};
+ghost use Rattle.it_log_entry.specs.CheckpointMisses.{IsSize};
 ghost use Rattle.it_log_entry.specs.Number.{IsNumber, IsNumberText};
 
 use crate::stamp::decimal_text;
@@ -8,6 +9,7 @@ use it_base::parts::FromDocument;
 use serde_json::Value;
 use std::alloc::{AllocError, Global};
 use std::marker::Model;
+use std::str;
 
 /// The greatest number that is read.
 const GREATEST: u64 = 9_007_199_254_740_991;
@@ -68,6 +70,19 @@ fn number_in(alloc: Global, text: &str) -> Result<Option<Number>, AllocError>
     } else {
         Ok(None)
     }
+}
+
+/// Whether a line is a number of 64 bits in decimal.
+pub(crate) fn is_size_line(alloc: Global, line: &[u8]) -> Result<bool, AllocError>
+    ensures { IfOk result (λ is. IsTrue is ↔ ((n : ℕ) × IsSize line.now n)) }
+{
+    let Ok(text) = str::from_utf8(line) else {
+        return Ok(false);
+    };
+    let Ok(number) = text.parse::<u64>() else {
+        return Ok(false);
+    };
+    is_written(alloc, number, text)
 }
 
 /// Whether a text is a number in decimal.

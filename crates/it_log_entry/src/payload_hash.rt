@@ -1,31 +1,19 @@
 //! The hash of a payload in the body of an entry.
-ghost use Rattle.std.specs.Prelude.{◌↔◌, IfOk, IsTrue, codes};
+ghost use Rattle.std.specs.Prelude.{◌↔◌, IfOk, IsTrue};
 ghost use Rattle.serde_json.specs.View.{view};
-ghost use Rattle.it_base.specs.Parts.{IsPart};
 ghost use Rattle.it_log_entry.specs.PayloadHash.{IsPayloadHash};
 
-use it_base::document::member;
 use it_base::text::has_text;
 use serde_json::Value;
 use sha2::{Digest, Sha256};
 use std::alloc::{AllocError, Global};
 
-/// Whether `payloadHash` is the hash of the payload.
-pub(crate) fn has_payload_hash(
+/// Whether a value is the hash of the payload.
+pub(crate) fn is_payload_hash(
     alloc: Global,
     value: &Value,
     payload: &[u8],
 ) -> Result<bool, AllocError>
-    ensures { IfOk result (λ has. IsTrue has
-        ↔ IsPart IsPayloadHash (codes "payloadHash") (view value.now) payload.now) }
-{
-    match member(value, "payloadHash") {
-        None => Ok(false),
-        Some(found) => is_payload_hash(alloc, found, payload),
-    }
-}
-
-fn is_payload_hash(alloc: Global, value: &Value, payload: &[u8]) -> Result<bool, AllocError>
     ensures { IfOk result (λ is. IsTrue is ↔ IsPayloadHash (view value.now) payload.now) }
 {
     let digest = Sha256::digest(payload);

@@ -2,6 +2,9 @@
 ghost use Rattle.std.specs.Prelude.{◌≡◌};
 ghost use Rattle.it_log_entry.specs.Place.{place_of};
 
+use crate::body_shortfall::BodyShortfall;
+use crate::note_shortfall::NoteShortfall;
+
 /// The condition that an entry misses where a log does not vouch by it: the first of these.
 #[derive(Clone, Copy, Debug, PartialEq, Eq)]
 pub enum EntryShortfall {
@@ -11,14 +14,14 @@ pub enum EntryShortfall {
     Time,
     /// It is of a kind that is not read.
     Kind,
-    /// Its body is not about the signature: not read, or about something else.
-    Body,
+    /// This part of its body is not about the signature.
+    Body(BodyShortfall),
     /// It has no inclusion proof, and needs one.
     NoProof,
     /// Its inclusion proof does not lead to its root.
     Inclusion,
-    /// The log did not sign the checkpoint of that root.
-    Checkpoint,
+    /// The checkpoint of its inclusion proof is not one of that root that the log signed.
+    Checkpoint(NoteShortfall),
     /// The log did not sign the entry's time (the promise).
     Promise,
 }
@@ -32,11 +35,11 @@ impl EntryShortfall {
             EntryShortfall::Log => 0,
             EntryShortfall::Time => 1,
             EntryShortfall::Kind => 2,
-            EntryShortfall::Body => 3,
-            EntryShortfall::NoProof => 4,
-            EntryShortfall::Inclusion => 5,
-            EntryShortfall::Checkpoint => 6,
-            EntryShortfall::Promise => 7,
+            EntryShortfall::Body(part) => 3 + part.place(),
+            EntryShortfall::NoProof => 8,
+            EntryShortfall::Inclusion => 9,
+            EntryShortfall::Checkpoint(missed) => 10 + missed.place(),
+            EntryShortfall::Promise => 13,
         }
     }
 }

@@ -1,14 +1,15 @@
 //! Whether an entry vouches for a signature, or which condition it misses.
 ghost use Rattle.std.specs.Prelude.{◌↔◌, ◌*◌, pos, IfOk, IsTrue, MatchOption};
 ghost use Rattle.it_log.specs.Window.{LiesIn};
-ghost use Rattle.it_log_entry.specs.EntryMisses.{EntryMisses, IsIncluded};
+ghost use Rattle.it_log_entry.specs.EntryMisses.{EntryMisses, IsIncluded, IsOf};
 ghost use Rattle.it_log_entry.specs.Vouching.{EntryVouches};
 ghost use Rattle.it_log_entry.specs.inside.ProofMisses.{ProofMisses};
 
-use crate::agreement::{body_agrees, is_read_kind};
-use crate::checkpoint::is_signed_checkpoint;
+use crate::agreement::body_shortfall;
+use crate::checkpoint::checkpoint_shortfall;
 use crate::entry::LogEntry;
 use crate::logged::Logged;
+use crate::read_kind::is_read_kind;
 use crate::shortfall::EntryShortfall;
 use crate::stamp::is_promised;
 use it_log::{Log, LogKey, Window};
@@ -36,7 +37,7 @@ pub fn entry_shortfall(
         (EntryVouches log.now needs_proof entry.now logged.now)
         (EntryMisses log.now needs_proof entry.now logged.now)) }
 {
-    if entry.log_id.as_slice() != log.id.as_slice() {
+    if !is_of(log, entry) {
         return Ok(Some(EntryShortfall::Log));
     }
     if !counts(&log.window, entry.time) {
@@ -45,8 +46,8 @@ pub fn entry_shortfall(
     if !is_read_kind(&entry.kind) {
         return Ok(Some(EntryShortfall::Kind));
     }
-    if !body_agrees(alloc, &entry.kind, entry.body.as_slice(), logged)? {
-        return Ok(Some(EntryShortfall::Body));
+    if let Some(part) = body_shortfall(alloc, &entry.kind, entry.body.as_slice(), logged)? {
+        return Ok(Some(EntryShortfall::Body(part)));
     }
     if let Some(missed) = proof_shortfall(alloc, &log.key, needs_proof, entry)? {
         return Ok(Some(missed));
@@ -78,6 +79,13 @@ pub fn vouches(
     Ok(missed.is_none())
 }
 
+/// Whether an entry is of this log.
+fn is_of(log: &Log, entry: &LogEntry) -> bool
+    ensures { IsTrue result ↔ IsOf log.now entry.now }
+{
+    entry.log_id.as_slice() == log.id.as_slice()
+}
+
 /// Whether a time, in seconds, lies in the window.
 fn counts(window: &Window, time: u64) -> bool
     ensures { IsTrue result ↔ LiesIn window.now (pos (1_000_000_000 * time)) }
@@ -106,8 +114,8 @@ fn proof_shortfall(
         return Ok(Some(EntryShortfall::Inclusion));
     }
     let checkpoint = proof.checkpoint.as_str();
-    if !is_signed_checkpoint(alloc, key, checkpoint, proof.size, root)? {
-        return Ok(Some(EntryShortfall::Checkpoint));
+    match checkpoint_shortfall(alloc, key, checkpoint, proof.size, root)? {
+        Some(missed) => Ok(Some(EntryShortfall::Checkpoint(missed))),
+        None => Ok(None),
     }
-    Ok(None)
 }

@@ -6,7 +6,7 @@ use Rattle.std.specs.List.{flat_map}
 use Rattle.it_docs.specs.declared.policy.Policy.{Policy}
 use Rattle.it_dsse.specs.declared.key_object.KeyObject.{KeyObject}
 use Rattle.it_identity.specs.declared.identity.Identity.{Identity}
-use Rattle.it_report.specs.Name.{cut_form}
+use Rattle.it_report.specs.Name.{name_form}
 use Rattle.it_vouched.specs.declared.vouched.Vouched.{Vouched}
 use Rattle.it_signer_notes.specs.BuilderKeys.{keys_of_builders}
 use Rattle.it_signer_notes.specs.Nearest.{is_near}
@@ -14,7 +14,7 @@ use Rattle.it_signer_notes.specs.Signers.{unlisted}
 
 -- that the policy lists the identity of a key
 abbrev pub listed_text : KeyObject → List ℕ
-listed_text key = codes "; the policy lists " ++ cut_form key.identity
+listed_text key = codes "; the policy lists " ++ name_form key.identity
 
 -- the same of a key that is near, if there is one
 abbrev pub listing_text : Option KeyObject → List ℕ
@@ -24,8 +24,8 @@ listing_text (Some key) = listed_text key
 -- the line of a note on an identity: it names the first of the keys that is near
 unfoldable pub signer_text : List KeyObject → Identity → List ℕ
 signer_text keys identity =
-    codes "the provenance is signed by " ++ cut_form identity.name ++ codes " of "
-    ++ cut_form identity.issuer ++ codes ", which is the key of no builder"
+    codes "the provenance is signed by " ++ name_form identity.name ++ codes " of "
+    ++ name_form identity.issuer ++ codes ", which is the key of no builder"
     ++ listing_text (find (is_near identity) keys) ++ codes "\n"
 
 -- how many identities there are of which no line is written

@@ -7,10 +7,10 @@ ghost use Rattle.it_signer_notes.specs.inside.Lent.{lent};
 use crate::nearest::nearest;
 use it_dsse::key_object::KeyObject;
 use it_identity::Identity;
-use it_report::name::push_cut_name;
+use it_report::name::push_name;
 use std::alloc::AllocError;
 
-/// Appends the line of a note, which ends with a line feed, with names as `push_cut_name` writes
+/// Appends the line of a note, which ends with a line feed, with names as `push_name` writes
 /// them.
 ///
 /// # Errors
@@ -25,9 +25,9 @@ pub(crate) fn push_line(
         (text.new.items ≡ text.old.items ++ signer_text (lent keys.now) identity.now) }
 {
     text.extend_from_slice(b"the provenance is signed by ")?;
-    push_cut_name(text, identity.name.as_slice())?;
+    push_name(text, identity.name.as_slice())?;
     text.extend_from_slice(b" of ")?;
-    push_cut_name(text, identity.issuer.as_slice())?;
+    push_name(text, identity.issuer.as_slice())?;
     text.extend_from_slice(b", which is the key of no builder")?;
     push_listing(text, keys, identity)?;
     text.push(b'\n')?;
@@ -54,6 +54,6 @@ fn push_listed(text: &mut Vec<u8>, key: &KeyObject) -> Result<(), AllocError>
     ensures { OnOk result (text.new.items ≡ text.old.items ++ listed_text key.now) }
 {
     text.extend_from_slice(b"; the policy lists ")?;
-    push_cut_name(text, key.identity.as_str().as_bytes())?;
+    push_name(text, key.identity.as_str().as_bytes())?;
     Ok(())
 }

@@ -1,23 +1,23 @@
 -- An entry vouches for what is logged, wherever that lies in memory.
-use Rattle.std.proofs.Common.{◌≡◌, ℕ, Bool, List, [], ◌∷◌, Option, Some, None, MatchOption, codes, sym, subst, inl, inr, Any}
-use Rattle.serde_json.specs.Data.{Data, Items, no_items, item}
-use Rattle.serde_json.specs.Find.{as_array}
+use Rattle.std.proofs.Common.{◌≡◌, ℕ, Bool, List, MatchOption, codes, sym, subst, inl, inr, Any}
 use Rattle.it_base.specs.Base64Text.{IsBase64}
-use Rattle.it_base.specs.Document.{member_at}
 use Rattle.it_base.specs.Parts.{IsPart}
-use Rattle.it_base.specs.Sequence.{AreEach, IsList}
 use Rattle.it_base.specs.Text.{IsText}
-use Rattle.it_log_entry.specs.Agreement.{BodyAgrees, IsBody, IsSpec}
+use Rattle.it_log_entry.specs.Agreement.{BodyAgrees}
+use Rattle.it_log_entry.specs.BodyMisses.{BodyMisses, BodySays, SaysCertificate, SaysPayload, SaysSignature, SaysType}
+use Rattle.it_log_entry.specs.BodyParts.{Parts}
 use Rattle.it_log_entry.specs.CertificateText.{IsEncodedCertificate}
-use Rattle.it_log_entry.specs.DsseBody.{IsDsseBody, IsDsseSignature}
 use Rattle.it_log_entry.specs.EntryMisses.{EntryMisses, SpeaksOf}
-use Rattle.it_log_entry.specs.IntotoBody.{IsIntotoBody, IsIntotoContent, IsIntotoEnvelope, IsIntotoSignature, IsTwiceBase64}
+use Rattle.it_log_entry.specs.IntotoBody.{IsTwiceBase64}
 use Rattle.it_log_entry.specs.PayloadHash.{IsPayloadHash}
+use Rattle.it_log_entry.specs.declared.body_shortfall.BodyShortfall.{BodyShortfall}
+use Rattle.it_log_entry.specs.declared.body_shortfall.BodyShortfall.TheVariants as parts
 use Rattle.it_log_entry.specs.declared.entry.LogEntry.{LogEntry}
 use Rattle.it_log_entry.specs.declared.kind.EntryKind.{EntryKind}
 use Rattle.it_log_entry.specs.declared.logged.Logged.{Logged}
 use Rattle.it_log_entry.specs.declared.shortfall.EntryShortfall.{EntryShortfall}
 use Rattle.it_log_entry.specs.declared.shortfall.EntryShortfall.TheVariants as shortfalls
+use Rattle.it_log_entry.proofs.Parts.{agreeing, says_all}
 use Rattle.it_log.specs.declared.log.Log.{Log}
 use Rattle.it_trust_root.specs.declared.root_log.RootLog.{RootLog}
 use Rattle.it_trust_root.specs.declared.root_log.RootLog.TheVariants.{Usable, PassedOver}
@@ -31,76 +31,42 @@ pub record IsSame (x y : Logged) : Type 0 where
   pub signature : x.signature.now ≡ y.signature.now
   pub certificate : x.certificate.now ≡ y.certificate.now
 
--- what follows for each part follows for parts of a document
-found_as : {X : Type 0} (P : Data → X → Type 0) (x y : X) → ((d : Data) → P d x → P d y)
-    → (found : Option Data) → MatchOption found ⊥ (λ v. P v x) → MatchOption found ⊥ (λ v. P v y)
-found_as P x y each None h = h
-found_as P x y each (Some v) h = each v h
-
-only_as : (P : Data → Logged → Type 0) (x y : Logged) → ((d : Data) → P d x → P d y)
-    → (items : Items) → AreEach P items (x ∷ []) → AreEach P items (y ∷ [])
-only_as P x y each no_items h = h
-only_as P x y each (item d no_items) h = (each d h.0, h.1)
-only_as P x y each (item d (item e ds)) h = (each d h.0, h.1)
-
-listed_as : (P : Data → Logged → Type 0) (x y : Logged) → ((d : Data) → P d x → P d y)
-    → (found : Option Items) → MatchOption found ⊥ (λ items. AreEach P items (x ∷ [])) → MatchOption found ⊥ (λ items. AreEach P items (y ∷ []))
-listed_as P x y each None h = h
-listed_as P x y each (Some items) h = only_as P x y each items h
-
-list_as : (P : Data → Logged → Type 0) (x y : Logged) → ((d : Data) → P d x → P d y)
-    → (d : Data) → IsList P d (x ∷ []) → IsList P d (y ∷ [])
-list_as P x y each d h = listed_as P x y each (as_array d) h
-
 -- bodies
-dsse_signature : (x y : Logged) → IsSame x y → (d : Data) → IsDsseSignature d x → IsDsseSignature d y
-dsse_signature x y same d h = record {
-  signature = subst (IsPart IsBase64 (codes "signature") d) same.signature h.signature;
-  certificate = subst (IsPart IsEncodedCertificate (codes "verifier") d) same.certificate h.certificate;
-}
+says_payload : (x y : Logged) → IsSame x y → (said : Parts) → SaysPayload x said → SaysPayload y said
+says_payload x y same said h = subst (IsPayloadHash said.hash) same.payload h
 
-dsse_body : (x y : Logged) → IsSame x y → (d : Data) → IsDsseBody d x → IsDsseBody d y
-dsse_body x y same d h = record {
-  payload = subst (IsPart IsPayloadHash (codes "payloadHash") d) same.payload h.payload;
-  signatures = found_as (IsList IsDsseSignature) (x ∷ []) (y ∷ [])
-      (list_as IsDsseSignature x y (dsse_signature x y same)) (member_at (codes "signatures") d) h.signatures;
-}
+says_type : (x y : Logged) → IsSame x y → (said : Parts) → SaysType x said → SaysType y said
+says_type x y same said h = subst (λ text. MatchOption said.envelope (Unit {0})
+    (λ envelope. IsPart IsText (codes "payloadType") envelope text)) same.payload_type h
 
-intoto_signature : (x y : Logged) → IsSame x y → (d : Data) → IsIntotoSignature d x → IsIntotoSignature d y
-intoto_signature x y same d h = record {
-  signature = subst (IsPart IsTwiceBase64 (codes "sig") d) same.signature h.signature;
-  certificate = subst (IsPart IsEncodedCertificate (codes "publicKey") d) same.certificate h.certificate;
-}
+says_signature : (kind : EntryKind) (x y : Logged) → IsSame x y → (said : Parts) → SaysSignature kind x said
+    → SaysSignature kind y said
+says_signature kind x y same said (inl h) =
+    inl (h.0, subst (IsPart IsBase64 (codes "signature") said.signature) same.signature h.1)
+says_signature kind x y same said (inr h) =
+    inr (h.0, subst (IsPart IsTwiceBase64 (codes "sig") said.signature) same.signature h.1)
 
-intoto_envelope : (x y : Logged) → IsSame x y → (d : Data) → IsIntotoEnvelope d x → IsIntotoEnvelope d y
-intoto_envelope x y same d h = record {
-  payload_type = subst (IsPart IsText (codes "payloadType") d) same.payload_type h.payload_type;
-  signatures = found_as (IsList IsIntotoSignature) (x ∷ []) (y ∷ [])
-      (list_as IsIntotoSignature x y (intoto_signature x y same)) (member_at (codes "signatures") d) h.signatures;
-}
-
-intoto_content : (x y : Logged) → IsSame x y → (d : Data) → IsIntotoContent d x → IsIntotoContent d y
-intoto_content x y same d h = record {
-  payload = subst (IsPart IsPayloadHash (codes "payloadHash") d) same.payload h.payload;
-  envelope = found_as IsIntotoEnvelope x y (intoto_envelope x y same) (member_at (codes "envelope") d) h.envelope;
-}
-
-intoto_body : (x y : Logged) → IsSame x y → (d : Data) → IsIntotoBody d x → IsIntotoBody d y
-intoto_body x y same d h = found_as IsIntotoContent x y (intoto_content x y same) (member_at (codes "content") d) h
-
-spec : (kind : EntryKind) (x y : Logged) → IsSame x y → (d : Data) → IsSpec kind d x → IsSpec kind d y
-spec kind x y same d (inl h) = inl (h.0, dsse_body x y same d h.1)
-spec kind x y same d (inr h) = inr (h.0, intoto_body x y same d h.1)
-
-body : (kind : EntryKind) (x y : Logged) → IsSame x y → (d : Data) → IsBody kind d x → IsBody kind d y
-body kind x y same d h = record {
-  kind_is = h.kind_is;
-  version_is = h.version_is;
-  spec_is = found_as (IsSpec kind) x y (spec kind x y same) (member_at (codes "spec") d) h.spec_is;
-}
+says_certificate : (kind : EntryKind) (x y : Logged) → IsSame x y → (said : Parts) → SaysCertificate kind x said
+    → SaysCertificate kind y said
+says_certificate kind x y same said (inl h) =
+    inl (h.0, subst (IsPart IsEncodedCertificate (codes "verifier") said.signature) same.certificate h.1)
+says_certificate kind x y same said (inr h) =
+    inr (h.0, subst (IsPart IsEncodedCertificate (codes "publicKey") said.signature) same.certificate h.1)
 
 agrees : (kind : EntryKind) (bytes : List ℕ) (x y : Logged) → IsSame x y → BodyAgrees kind bytes x → BodyAgrees kind bytes y
-agrees kind bytes x y same (d, is, h) = (d, is, body kind x y same d h)
+agrees kind bytes x y same h =
+    let (said, is, says) = agreeing kind bytes x h in
+    says_all kind bytes y said is (record {
+      payload = says_payload x y same said says.payload;
+      payload_type = says_type x y same said says.payload_type;
+      signature = says_signature kind x y same said says.signature;
+      certificate = says_certificate kind x y same said says.certificate;
+    })
+
+-- what is said of one is said of the other
+body_says : (kind : EntryKind) (bytes : List ℕ) (P Q : Parts → Type 0) → ((said : Parts) → P said → Q said)
+    → BodySays kind bytes P → BodySays kind bytes Q
+body_says kind bytes P Q to (said, is, h) = (said, is, to said h)
 
 -- logs
 pub vouches_same : (needs : Bool) (entry : LogEntry) (x y : Logged) → IsSame x y → (log : RootLog) → VouchesBy needs entry x log
@@ -134,16 +100,48 @@ speaks_same log entry x y same speaks = record {
   agrees = agrees entry.kind entry.body x y same speaks.agrees;
 }
 
+module _ (kind : EntryKind) (bytes : List ℕ) (x y : Logged) (same : IsSame x y) where
+  payload_same : BodySays kind bytes (SaysPayload x) → BodySays kind bytes (SaysPayload y)
+  payload_same = body_says kind bytes (SaysPayload x) (SaysPayload y) (says_payload x y same)
+
+  type_same : BodySays kind bytes (SaysType x) → BodySays kind bytes (SaysType y)
+  type_same = body_says kind bytes (SaysType x) (SaysType y) (says_type x y same)
+
+  signature_same : BodySays kind bytes (SaysSignature kind x) → BodySays kind bytes (SaysSignature kind y)
+  signature_same = body_says kind bytes (SaysSignature kind x) (SaysSignature kind y) (says_signature kind x y same)
+
+  certificate_same : BodySays kind bytes (SaysCertificate kind x) → BodySays kind bytes (SaysCertificate kind y)
+  certificate_same =
+      body_says kind bytes (SaysCertificate kind x) (SaysCertificate kind y) (says_certificate kind x y same)
+
+body_same : (kind : EntryKind) (bytes : List ℕ) (x y : Logged) → IsSame x y → (part : BodyShortfall)
+    → BodyMisses kind bytes x part → BodyMisses kind bytes y part
+body_same kind bytes x y same parts.Form m = m
+body_same kind bytes x y same parts.Payload m = (m.0, λ h. m.1 (payload_same kind bytes y x (turned x y same) h))
+body_same kind bytes x y same parts.PayloadType m =
+    (payload_same kind bytes x y same m.0, λ h. m.1 (type_same kind bytes y x (turned x y same) h))
+body_same kind bytes x y same parts.Signature m = (
+  payload_same kind bytes x y same m.0,
+  type_same kind bytes x y same m.1,
+  λ h. m.2 (signature_same kind bytes y x (turned x y same) h),
+)
+body_same kind bytes x y same parts.Certificate m = (
+  payload_same kind bytes x y same m.0,
+  type_same kind bytes x y same m.1,
+  signature_same kind bytes x y same m.2,
+  λ h. m.3 (certificate_same kind bytes y x (turned x y same) h),
+)
+
 entry_same : (log : Log) (needs : Bool) (entry : LogEntry) (x y : Logged) → IsSame x y → (s : EntryShortfall)
     → EntryMisses log needs entry x s → EntryMisses log needs entry y s
 entry_same log needs entry x y same shortfalls.Log m = m
 entry_same log needs entry x y same shortfalls.Time m = m
 entry_same log needs entry x y same shortfalls.Kind m = m
-entry_same log needs entry x y same shortfalls.Body m =
-    (m.0, m.1, m.2, λ about. m.3 (agrees entry.kind entry.body y x (turned x y same) about))
+entry_same log needs entry x y same (shortfalls.Body part) m =
+    (m.0, m.1, m.2, body_same entry.kind entry.body x y same part m.3)
 entry_same log needs entry x y same shortfalls.NoProof m = (speaks_same log entry x y same m.0, m.1, m.2)
 entry_same log needs entry x y same shortfalls.Inclusion m = (speaks_same log entry x y same m.0, m.1)
-entry_same log needs entry x y same shortfalls.Checkpoint m = (speaks_same log entry x y same m.0, m.1)
+entry_same log needs entry x y same (shortfalls.Checkpoint missed) m = (speaks_same log entry x y same m.0, m.1)
 entry_same log needs entry x y same shortfalls.Promise m = (speaks_same log entry x y same m.0, m.1, m.2)
 
 with_same : (needs : Bool) (entry : LogEntry) (x y : Logged) → IsSame x y → (s : EntryShortfall) (log : RootLog)

@@ -8,6 +8,10 @@ use Rattle.it_issued.specs.declared.shortfall.IssueShortfall.{IssueShortfall}
 use Rattle.it_issued.specs.declared.shortfall.IssueShortfall.TheVariants as issues
 use Rattle.it_issued.specs.declared.shortfall.LogShortfall.{LogShortfall}
 use Rattle.it_issued.specs.declared.shortfall.LogShortfall.TheVariants as logs
+use Rattle.it_log_entry.specs.declared.body_shortfall.BodyShortfall.{BodyShortfall}
+use Rattle.it_log_entry.specs.declared.body_shortfall.BodyShortfall.TheVariants as bodies
+use Rattle.it_log_entry.specs.declared.note_shortfall.NoteShortfall.{NoteShortfall}
+use Rattle.it_log_entry.specs.declared.note_shortfall.NoteShortfall.TheVariants as checkpoints
 use Rattle.it_log_entry.specs.declared.shortfall.EntryShortfall.{EntryShortfall}
 use Rattle.it_log_entry.specs.declared.shortfall.EntryShortfall.TheVariants as entries
 use Rattle.it_vouches.specs.declared.issuer_shortfall.IssuerShortfall.{IssuerShortfall}
@@ -35,17 +39,32 @@ leaf_phrase_of leaves.Name =
     codes "its certificate does not have exactly one name of a URI, an address or Fulcio's own kind"
 leaf_phrase_of leaves.Issuer = codes "its certificate does not name one issuer"
 
+-- why the body of its entry is not about its signature
+abbrev pub body_phrase_of : BodyShortfall → List ℕ
+body_phrase_of bodies.Form = codes "its entry's body does not read"
+body_phrase_of bodies.Payload = codes "its entry is not about its payload"
+body_phrase_of bodies.PayloadType = codes "its entry is not about its payload type"
+body_phrase_of bodies.Signature = codes "its entry is not about its signature"
+body_phrase_of bodies.Certificate = codes "its entry is not about its certificate"
+
+-- what the checkpoint of its proof lacks
+abbrev pub checkpoint_phrase_of : NoteShortfall → List ℕ
+checkpoint_phrase_of checkpoints.Form = codes "the checkpoint of its inclusion proof does not read"
+checkpoint_phrase_of checkpoints.Root =
+    codes "the checkpoint of its inclusion proof is not of its root and size"
+checkpoint_phrase_of checkpoints.Signature =
+    codes "the log did not sign the checkpoint of its inclusion proof"
+
 -- why no log vouches by an entry
 abbrev pub entry_phrase_of : EntryShortfall → List ℕ
 entry_phrase_of entries.Log = codes "its entry is of no log of the trusted root that is used"
 entry_phrase_of entries.Time = codes "its entry's time is outside the time of that log"
 entry_phrase_of entries.Kind =
     codes "its entry is of another kind than dsse 0.0.1 and intoto 0.0.2"
-entry_phrase_of entries.Body =
-    codes "its entry is about another envelope or certificate, or does not read"
+entry_phrase_of (entries.Body part) = body_phrase_of part
 entry_phrase_of entries.NoProof = codes "its entry has no inclusion proof"
 entry_phrase_of entries.Inclusion = codes "its inclusion proof does not lead to its root"
-entry_phrase_of entries.Checkpoint = codes "the log did not sign a checkpoint of its root"
+entry_phrase_of (entries.Checkpoint missed) = checkpoint_phrase_of missed
 entry_phrase_of entries.Promise = codes "the log did not sign its entry's time"
 
 -- why no authority issued the certificate

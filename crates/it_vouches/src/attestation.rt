@@ -40,8 +40,8 @@ impl Attestation {
         match self {
             Attestation::NoEntry => 0,
             Attestation::NoLog(missed) => 1 + missed.place(),
-            Attestation::NoIssuer(missed) => 9 + missed.place(),
-            Attestation::Attested(_) => 19,
+            Attestation::NoIssuer(missed) => 15 + missed.place(),
+            Attestation::Attested(_) => 25,
         }
     }
 }

@@ -1,6 +1,7 @@
 //! The words for what a bundle misses.
 ghost use Rattle.std.specs.Prelude.{◌≡◌};
-ghost use Rattle.it_vouches.specs.Phrases.{certificate_phrase_of, entry_phrase_of};
+ghost use Rattle.it_vouches.specs.Phrases.{body_phrase_of, certificate_phrase_of};
+ghost use Rattle.it_vouches.specs.Phrases.{checkpoint_phrase_of, entry_phrase_of};
 ghost use Rattle.it_vouches.specs.Phrases.{issue_phrase_of, issuer_phrase_of, leaf_phrase_of};
 ghost use Rattle.it_vouches.specs.Phrases.{log_phrase_of};
 
@@ -8,7 +9,7 @@ use crate::issuer_shortfall::IssuerShortfall;
 use it_bundle::NoCertificate;
 use it_certificate::LeafShortfall;
 use it_issued::{IssueShortfall, LogShortfall};
-use it_log_entry::EntryShortfall;
+use it_log_entry::{BodyShortfall, EntryShortfall, NoteShortfall};
 
 /// Why a bundle has no certificate.
 pub(crate) fn certificate_phrase(reason: NoCertificate) -> &'static str
@@ -49,13 +50,35 @@ pub(crate) fn entry_phrase(missed: EntryShortfall) -> &'static str
         EntryShortfall::Log => "its entry is of no log of the trusted root that is used",
         EntryShortfall::Time => "its entry's time is outside the time of that log",
         EntryShortfall::Kind => { "its entry is of another kind than dsse 0.0.1 and intoto 0.0.2" }
-        EntryShortfall::Body => {
-            "its entry is about another envelope or certificate, or does not read"
-        }
+        EntryShortfall::Body(part) => body_phrase(part),
         EntryShortfall::NoProof => "its entry has no inclusion proof",
         EntryShortfall::Inclusion => "its inclusion proof does not lead to its root",
-        EntryShortfall::Checkpoint => "the log did not sign a checkpoint of its root",
+        EntryShortfall::Checkpoint(missed) => checkpoint_phrase(missed),
         EntryShortfall::Promise => "the log did not sign its entry's time",
+    }
+}
+
+fn body_phrase(part: BodyShortfall) -> &'static str
+    ensures { result.now ≡ body_phrase_of part }
+{
+    match part {
+        BodyShortfall::Form => "its entry's body does not read",
+        BodyShortfall::Payload => "its entry is not about its payload",
+        BodyShortfall::PayloadType => "its entry is not about its payload type",
+        BodyShortfall::Signature => "its entry is not about its signature",
+        BodyShortfall::Certificate => "its entry is not about its certificate",
+    }
+}
+
+fn checkpoint_phrase(missed: NoteShortfall) -> &'static str
+    ensures { result.now ≡ checkpoint_phrase_of missed }
+{
+    match missed {
+        NoteShortfall::Form => "the checkpoint of its inclusion proof does not read",
+        NoteShortfall::Root => {
+            "the checkpoint of its inclusion proof is not of its root and size"
+        }
+        NoteShortfall::Signature => { "the log did not sign the checkpoint of its inclusion proof" }
     }
 }
 

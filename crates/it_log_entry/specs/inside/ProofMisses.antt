@@ -11,6 +11,6 @@ ProofMisses key needs_proof entry shortfalls.NoProof =
     (entry.proof ≡ None) × (needs_proof ≡ true)
 ProofMisses key needs_proof entry shortfalls.Inclusion =
     MatchOption entry.proof ⊥ (λ proof. ¬ LeadsFrom entry.body proof)
-ProofMisses key needs_proof entry shortfalls.Checkpoint =
-    MatchOption entry.proof ⊥ (LacksCheckpoint key entry.body)
+ProofMisses key needs_proof entry (shortfalls.Checkpoint missed) =
+    MatchOption entry.proof ⊥ (LacksCheckpoint key entry.body missed)
 ProofMisses key needs_proof entry _ = ⊥

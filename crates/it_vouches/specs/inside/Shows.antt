@@ -25,8 +25,8 @@ use Rattle.it_vouches.specs.declared.issuer_shortfall.IssuerShortfall.{IssuerSho
 abbrev pub attestation_place : Attestation → ℕ
 attestation_place attestations.NoEntry = 0
 attestation_place (attestations.NoLog missed) = 1 + place_of missed
-attestation_place (attestations.NoIssuer missed) = 9 + issuer_place missed
-attestation_place (attestations.Attested time) = 19
+attestation_place (attestations.NoIssuer missed) = 15 + issuer_place missed
+attestation_place (attestations.Attested time) = 25
 
 -- none of these logs vouches by an entry, and this is the furthest condition that it misses
 pub record LacksLog (logs : List RootLog) (needs : Bool) (logged : Logged) (entry : LogEntry)

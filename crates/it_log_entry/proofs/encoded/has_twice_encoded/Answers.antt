@@ -1,6 +1,6 @@
 use Rattle.serde_json.specs.View.{view}
 use Rattle.it_log_entry.proofs.Bodies.{mapped, refused, twice_is, twice_none}
-use Rattle.it_log_entry.proofs.intoto_body.has_twice_encoded.Goals as goal
+use Rattle.it_log_entry.proofs.encoded.has_twice_encoded.Goals as goal
 
 pub returns-in-Some : goal.returns-in-Some
 returns-in-Some c =

@@ -52,13 +52,13 @@ def delivery(**changed):
     return {**good(), "policy": deliver(TIES, CLOSES), "layout": made(), **changed}
 
 
-def row(name, gives, *words, call="run with notes", command=COMMAND, **changed):
-    """A run on that delivery; what it gives begins with its notes. A digest list that is `None` is
-    not given."""
+def row(name, gives, *words, call="run with notes", command=COMMAND, people=PEOPLE, **changed):
+    """A run on that delivery, with a ring of these people; what it gives begins with its notes. A
+    digest list that is `None` is not given."""
     given = delivery(**changed)
     parts = [path for path in PARTS if given.get(path) is not None]
     nodes = [*(text_node(path, given[path]) for path in parts),
-             text_node("ring", ring(PEOPLE)), *folder_nodes("links", given["links"])]
+             text_node("ring", ring(people)), *folder_nodes("links", given["links"])]
     if "sums" not in parts:
         command = command.replace(" --sums sums", "")
     if "sums512" in parts:

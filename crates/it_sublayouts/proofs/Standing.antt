@@ -89,6 +89,20 @@ module _ (setting : Setting) (layout : Layout) (bundle : Contents) (step : Step)
       (recorded_in beside_it.0) is.is_layout
       (subst (λ p. BodyOf step.name p has.body) (sym same) has.reads) has.records
 
+-- the sublayouts for a step under one key id have one payload, where the layout holds
+pub one_payload : (setting : Setting) (layout : Layout) (bundle : Contents) (step : Step)
+    (id : List ℕ) (x y : Layout)
+    (first : IsSublayout (IsSigner setting.panel) layout bundle step id x)
+    (second : IsSublayout (IsSigner setting.panel) layout bundle step id y) (depth : ℕ)
+    (results : List StepResult) → Chain setting depth layout bundle results
+    → first.envelope.payload ≡ second.envelope.payload
+one_payload setting layout bundle step id x y first second depth results h =
+    let beside_it = beside (StepHolds (holds_below setting depth) setting layout bundle)
+    layout.steps results (step_records setting depth layout bundle results h) step first.is_step in
+    beside_it.1.one_body id first.envelope.payload second.envelope.payload
+    (counts_as setting layout bundle step id x first)
+    (counts_as setting layout bundle step id y second)
+
 -- what holds below a level is below it
 pub some_depth : (setting : Setting) (depth : ℕ) (layout : Layout) (bundle : Contents)
     (results : List StepResult) → holds_below setting depth layout bundle results → 0 < depth

@@ -5,10 +5,12 @@
 mod counted;
 mod layout_files;
 mod level;
+mod listed;
 mod place;
 mod records;
 mod signed_layout;
 mod sublayouts;
+mod unlisted;
 
 pub use counted::CountedSublayout;
 pub use level::Level;

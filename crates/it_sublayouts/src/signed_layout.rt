@@ -1,8 +1,10 @@
 //! The sublayout that a key id signed for a step.
 ghost use Rattle.std.specs.Prelude.{IfOk};
-ghost use Rattle.it_base.specs.Finds.{Finds};
+ghost use Rattle.it_base.specs.Finds.{FindsAs};
+ghost use Rattle.it_docs.specs.Layout.{LayoutOf};
+ghost use Rattle.it_sublayouts.specs.Counted.{PayloadCounts};
 ghost use Rattle.it_sublayouts.specs.inside.Below.{SignerStands, StepStands};
-ghost use Rattle.it_sublayouts.specs.inside.Signed.{HoldsLayout, IsRead, IsSignedFor, IsSignedIn};
+ghost use Rattle.it_sublayouts.specs.inside.Signed.{HoldsSigned, IsRead, IsSignedIn};
 
 use crate::level::StepAt;
 use it_base::sequence::Sequence;
@@ -25,52 +27,50 @@ pub(crate) struct SignedLayout {
     pub layout: Layout,
 }
 
-/// The sublayout that a key id signed for a step, or `None` where there is none.
-pub(crate) fn signed_for<C: Checks>(
-    alloc: Global,
-    at: &StepAt,
+/// The payload of the sublayout that a key id signed for a step, or `None` where there is none.
+pub(crate) fn signed_for<'a, C: Checks>(
+    at: &StepAt<'_, '_, 'a>,
     signer: &Signer,
     checks: &C,
-) -> Result<Option<SignedLayout>, AllocError>
+) -> Result<Option<&'a [u8]>, AllocError>
     requires step { StepStands (C.panel checks.now) at.now }
     requires signer { SignerStands at.now signer.now }
-    ensures { IfOk result (Finds (IsSignedFor (C.panel checks.now) at.now.level.now.layout.now
-        at.now.level.now.links.now at.now.step.now signer.now.id.now)) }
+    ensures { IfOk result (FindsAs (λ payload. payload.now) (PayloadCounts (C.panel checks.now)
+        at.now.level.now.layout.now at.now.level.now.links.now at.now.step.now
+        signer.now.id.now)) }
 {
     for file in at.files {
-        if let Some(found) = signed_in(alloc, at.step, signer, file, checks)? {
+        if let Some(found) = signed_in(at.step, signer, file, checks)? {
             return Ok(Some(found));
         }
     }
     Ok(None)
 }
 
-/// The layout that a file holds, where the file is claimed for the step and a key id signed it.
-fn signed_in<C: Checks>(
-    alloc: Global,
+/// The payload that a file holds, where the file is claimed for the step and a key id signed it.
+fn signed_in<'a, C: Checks>(
     step: &Step,
     signer: &Signer,
-    file: &HeldFile,
+    file: &'a HeldFile,
     checks: &C,
-) -> Result<Option<SignedLayout>, AllocError>
-    ensures { IfOk result (Finds (IsSignedIn (C.panel checks.now) step.now signer.now.id.now
-        signer.now.object.now file.now)) }
+) -> Result<Option<&'a [u8]>, AllocError>
+    ensures { IfOk result (FindsAs (λ payload. payload.now) (IsSignedIn (C.panel checks.now)
+        step.now signer.now.id.now signer.now.object.now file.now)) }
 {
     if !is_claimed(step.name.as_str(), file.name()) {
         return Ok(None);
     }
-    held_layout(alloc, signer, file, checks)
+    held_payload(signer, file, checks)
 }
 
-/// The layout that a file holds, where a key id signed it.
-fn held_layout<C: Checks>(
-    alloc: Global,
+/// The payload that a file holds, where a key id signed it.
+fn held_payload<'a, C: Checks>(
     signer: &Signer,
-    file: &HeldFile,
+    file: &'a HeldFile,
     checks: &C,
-) -> Result<Option<SignedLayout>, AllocError>
-    ensures { IfOk result (Finds (HoldsLayout (C.panel checks.now) signer.now.id.now
-        signer.now.object.now file.now.bytes)) }
+) -> Result<Option<&'a [u8]>, AllocError>
+    ensures { IfOk result (FindsAs (λ payload. payload.now) (HoldsSigned (C.panel checks.now)
+        signer.now.id.now signer.now.object.now file.now.bytes)) }
 {
     let Some(envelope) = candidate_in(file) else {
         return Ok(None);
@@ -80,16 +80,17 @@ fn held_layout<C: Checks>(
     if !signed {
         return Ok(None);
     }
-    read(alloc, envelope.payload.as_slice())
+    Ok(Some(envelope.payload.as_slice()))
 }
 
-/// The layout that a payload is, with a copy of that payload.
-fn read(alloc: Global, payload: &[u8]) -> Result<Option<SignedLayout>, AllocError>
-    ensures { IfOk result (Finds (IsRead payload.now)) }
+/// The layout that a payload is known to be, with a copy of that payload.
+pub(crate) fn read(alloc: Global, payload: &[u8]) -> Result<SignedLayout, AllocError>
+    requires { (layout : _) × LayoutOf payload.now layout }
+    ensures { IfOk result (IsRead payload.now) }
 {
     let Some(layout) = layout_in(alloc, payload)? else {
-        return Ok(None);
+        unreachable!();
     };
     let payload = Sequence::from(Vec::from_slice(alloc, payload)?);
-    Ok(Some(SignedLayout { payload, layout }))
+    Ok(SignedLayout { payload, layout })
 }

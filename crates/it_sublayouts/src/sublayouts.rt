@@ -1,15 +1,18 @@
 //! The sublayouts that count, at every depth.
-ghost use Rattle.std.specs.Prelude.{◌≤◌, IfOk};
+ghost use Rattle.std.specs.Prelude.{◌≤◌, IfOk, OnOk};
 ghost use Rattle.it_sublayouts.specs.Counted.{AreCountedIn, LevelStands};
-ghost use Rattle.it_sublayouts.specs.inside.Below.{IdListed, SignerStands, StepListed, StepStands};
+ghost use Rattle.it_sublayouts.specs.inside.Below.{AreListedWith, IdListed, IsListed, SignerStands};
+ghost use Rattle.it_sublayouts.specs.inside.Below.{StepListed, StepStands, none_already};
 ghost use Rattle.it_sublayouts.specs.inside.Signed.{IsSignedFor};
 
 use crate::counted::CountedSublayout;
 use crate::layout_files::layout_files;
 use crate::level::{Level, StepAt};
+use crate::listed::ListedSublayouts;
 use crate::place::place_below;
 use crate::records::records_of;
-use crate::signed_layout::{SignedLayout, signed_for};
+use crate::signed_layout::{SignedLayout, read};
+use crate::unlisted::unlisted;
 use it_base::sequence::Sequence;
 use it_chain::bundle::Bundle;
 use it_chain::folder_name;
@@ -20,14 +23,15 @@ use std::alloc::{AllocError, Global};
 /// The sublayouts that count for the steps of a layout which holds for its bundle, and those that
 /// count for theirs, down to the depth: the steps in the layout's order, for each the key ids in
 /// the order of their bytes, and after each sublayout those below it (in-toto 1.0, sections 4.4
-/// and 5.2). A sublayout that counts under several key ids is listed under each.
+/// and 5.2). A sublayout that counts under several key ids of a step is listed once for each folder
+/// that these ids have, under the first of those that have it: over one folder it holds with the
+/// same records, and has the same sublayouts below it.
 ///
 /// The `checks` check the signatures. Each file of a folder is read once as a layout, those that
-/// are one are looked at for each key id of each step, and each sublayout is verified for its
-/// records once for each key id that it counts under. So where no two of these ids share a folder,
-/// this costs at most as many times what the verification of the layout did as sublayouts are
-/// nested deep, beside the files that are layouts times the key ids of all steps. Where no file is
-/// a layout, no signature is checked.
+/// are one are looked at for each key id of each step, and each sublayout is read again and
+/// verified for its records as often as it is listed. So this costs at most as many times what the
+/// verification of the layout did as sublayouts are nested deep, beside the files that are layouts
+/// times the key ids of all steps. Where no file is a layout, no signature is checked.
 ///
 /// # Errors
 ///
@@ -65,33 +69,38 @@ fn step_sublayouts<C: Checks>(
     ensures { IfOk result (λ found. StepListed (C.panel checks.now) at.now found.items) }
 {
     let signers = signers(alloc, at.level.layout, at.step)?;
+    let mut listed = ListedSublayouts::new(alloc);
     let mut found = Vec::new(alloc);
     for signer in signers.as_slice() {
-        let mut here = id_sublayouts(alloc, at, signer, checks)?;
+        let mut here = id_sublayouts(alloc, at, signer, &mut listed, checks)?;
         found.append(&mut here)?;
     }
     Ok(found)
 }
 
-/// The sublayout that counts for a step under a key id, and those below it.
+/// The sublayout that counts for a step under a key id, and those below it; none where it was
+/// listed over the same folder.
 #[cycle(sublayouts)]
-fn id_sublayouts<C: Checks>(
+fn id_sublayouts<'a, C: Checks>(
     alloc: Global,
-    at: &StepAt,
+    at: &StepAt<'_, '_, 'a>,
     signer: &Signer,
+    listed: &mut ListedSublayouts<'a>,
     checks: &C,
 ) -> Result<Vec<CountedSublayout>, AllocError>
     requires shallow { at.now.level.now.depth ≤ 8 }
     requires step { StepStands (C.panel checks.now) at.now }
     requires signer { SignerStands at.now signer.now }
-    ensures { IfOk result (λ found.
-        IdListed (C.panel checks.now) at.now signer.now.id.now found.items) }
+    ensures found { IfOk result (λ found. IdListed (C.panel checks.now) at.now
+        (IsListed at.now signer.now.id.now listed.old) signer.now.id.now found.items) }
+    ensures listed { OnOk result (AreListedWith (C.panel checks.now) at.now signer.now.id.now
+        listed.old listed.new) }
 {
-    let signed = signed_for(alloc, at, signer, checks)?;
-    match signed {
-        Some(signed) => with_those_below(alloc, at, signer, signed, checks),
-        None => Ok(Vec::new(alloc)),
-    }
+    let Some(payload) = unlisted(alloc, at, signer, listed, checks)? else {
+        return Ok(Vec::new(alloc));
+    };
+    let signed = read(alloc, payload)?;
+    with_those_below(alloc, at, signer, signed, checks)
 }
 
 /// A sublayout that counts for a step under a key id, and then those below it.
@@ -107,8 +116,8 @@ fn with_those_below<C: Checks>(
     requires step { StepStands (C.panel checks.now) at.now }
     requires counts { IsSignedFor (C.panel checks.now) at.now.level.now.layout.now
         at.now.level.now.links.now at.now.step.now signer.now.id.now signed }
-    ensures { IfOk result (λ found.
-        IdListed (C.panel checks.now) at.now signer.now.id.now found.items) }
+    ensures { IfOk result (λ found. IdListed (C.panel checks.now) at.now none_already
+        signer.now.id.now found.items) }
 {
     let level = at.level;
     let step = at.step.name.as_str();

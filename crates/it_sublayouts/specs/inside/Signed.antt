@@ -26,20 +26,20 @@ pub record IsRead (payload : List ℕ) (signed : SignedLayout) : Type 0 where
   pub payload_is : signed.payload ≡ payload
   pub reads : LayoutOf payload signed.layout
 
--- the bytes are an envelope of the in-toto type with this layout, which the object's key under an
+-- the bytes are an envelope of the in-toto type with this payload, which the object's key under an
 -- id signed
-pub record HoldsLayout (panel : Panel) (id : List ℕ) (object : KeyObject) (bytes : List ℕ)
-    (signed : SignedLayout) : Type 0 where
+pub record HoldsSigned (panel : Panel) (id : List ℕ) (object : KeyObject) (bytes payload : List ℕ)
+    : Type 0 where
   pub envelope : Envelope
   pub is_candidate : IsCandidate bytes envelope
   pub signs : IsSigner panel envelope object id
-  pub is_read : IsRead envelope.payload signed
+  pub payload_is : payload ≡ envelope.payload
 
 -- the same in a file that is claimed for a step
 pub record IsSignedIn (panel : Panel) (step : Step) (id : List ℕ) (object : KeyObject)
-    (file : File) (signed : SignedLayout) : Type 0 where
+    (file : File) (payload : List ℕ) : Type 0 where
   pub claimed : IsClaimed step.name file.name
-  pub holds : HoldsLayout panel id object file.bytes signed
+  pub holds : HoldsSigned panel id object file.bytes payload
 
 -- a sublayout for a step under a key id, with its payload
 pub record IsSignedFor (panel : Panel) (layout : Layout) (bundle : Contents) (step : Step)

@@ -1,9 +1,10 @@
-use Rattle.std.proofs.Common.{◌+◌, ◌*◌, take}
+use Rattle.std.proofs.Common.{◌+◌, ◌*◌, map, take}
 use Rattle.it_chain.specs.Chain.{holds_below}
 use Rattle.it_chain.specs.Signers.{entry_of}
-use Rattle.it_findings.specs.Joined.{JoinedEach}
+use Rattle.it_findings.specs.Joined.{Joined, JoinedEach}
 use Rattle.it_sublayouts.specs.Counted.{ListedForStep, setting_of}
-use Rattle.it_sublayouts.specs.inside.Below.{IdListed, listed_below}
+use Rattle.it_sublayouts.specs.inside.Below.{AreListed, listed_below}
+use Rattle.it_sublayouts.proofs.Descending.{ListedAfter}
 use Rattle.it_sublayouts.proofs.sublayouts.+sublayouts.Given as goal
 
 abbrev pub decreases-counted_sublayouts : goal.decreases-counted_sublayouts
@@ -27,9 +28,12 @@ invariant-counted_sublayouts-loop-step g l =
     setting level.at.now level.layout.now level.links.now) (take l.step-index l.step-items)
     l.found.items
 
--- those under the key ids so far
+-- those under the key ids so far, and what was listed for them
 abbrev pub invariant-step_sublayouts-loop-signer : goal.invariant-step_sublayouts-loop-signer
 invariant-step_sublayouts-loop-signer g l =
-    JoinedEach
-    (λ signer. IdListed (g.C.Checks.panel l.checks) l.at (entry_of signer).0)
-    (take l.signer-index l.signer-items) l.found.items
+    let panel = g.C.Checks.panel l.checks in
+    let ids = map entry_of l.signer-items in record {
+      found : Joined (λ place signer. ListedAfter panel l.at ids place (entry_of signer))
+          (take l.signer-index l.signer-items) l.found.items;
+      listed : AreListed panel l.at (take l.signer-index ids) l.listed;
+    }

@@ -15,7 +15,7 @@ pub record IsFoundBelow (sublayout : CountedSublayout) (found : FoundBelow) : Ty
   pub at_is : found.at ≡ sublayout.at
   pub findings : LayoutCounting sublayout.payload sublayout.layout sublayout.steps found.findings
 
--- the same of each sublayout that counts, at every depth
+-- the same of each sublayout that counts, once over each folder, at every depth
 pub record AreFoundBelow (panel : Panel) (inputs : Inputs) (documents : Documents)
     (found : List FoundBelow) : Type 0 where
   pub sublayouts : List CountedSublayout

@@ -27,8 +27,8 @@ pub struct FoundBelow {
 }
 
 /// What is found in each sublayout that counts, where the layout of a delivery holds: for each step
-/// in the layout's order those of its key ids in the order of their bytes, and after each the
-/// sublayouts below it. The `checks` check the signatures.
+/// in the layout's order those of its key ids in the order of their bytes, each once over a folder,
+/// and after each the sublayouts below it. The `checks` check the signatures.
 ///
 /// # Errors
 ///

@@ -37,7 +37,8 @@ pub struct Found {
     /// the step recorded some path on that side.
     pub of_layout: Sequence<Finding>,
     /// What is found in each sublayout that counts, and counts there as in the layout: one for
-    /// each, in the order of the steps and of their key ids, and after each those below it.
+    /// each, once over a folder, in the order of the steps and of their key ids, and after each
+    /// those below it.
     pub of_sublayouts: Sequence<FoundBelow>,
     /// The paths of the delivered files that are tied to no step, in the order of their bytes.
     pub untied: Sequence<Text>,

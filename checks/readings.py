@@ -27,13 +27,8 @@ ENVELOPES = (re.compile(r"\benvelope_in\(|\bfrom_bytes::<Envelope>\("), "it_dsse
     "crates/it_limits/src/signatures.rt": 1,
     # what stands behind an accepted delivery, for the full report alone
     "crates/it_file_evidence/src/lines.rt": 1,
-    # notes on a document that does not read or that an owner did not sign, which ends a
-    # verification before anything of it is kept, and on a record
-    "crates/it_notes/src/bad_parts.rt": 1,
+    # notes on the record of an inspection
     "crates/it_notes/src/inspections.rt": 1,
-    "crates/it_notes/src/layout_envelope.rt": 1,
-    "crates/it_notes/src/layout_notes.rt": 1,
-    "crates/it_notes/src/owners.rt": 1,
     # notes on lines of the provenance
     "crates/it_prov_notes/src/laid_out.rt": 1,
     "crates/it_prov_notes/src/line.rt": 1,
@@ -50,9 +45,6 @@ ENVELOPES = (re.compile(r"\benvelope_in\(|\bfrom_bytes::<Envelope>\("), "it_dsse
 })
 POLICIES = (re.compile(r"\bread_policy\(|\bfrom_bytes::<Policy>\("), "it_docs", {
     "crates/it_verify/src/documents.rt": 1,
-    # notes where the layout does not read, or an owner did not sign
-    "crates/it_notes/src/key_notes.rt": 1,
-    "crates/it_notes/src/owners.rt": 1,
     # another command
     "crates/it_check/src/documents.rt": 1,
 })

@@ -1,12 +1,15 @@
 -- What the verification read and found, from which the notes are made.
-use Rattle.std.specs.Prelude.{◌≡◌, IfSome}
+use Rattle.std.specs.Prelude.{◌≡◌, IfSome, ⊤}
 use Rattle.it_digest.specs.Listed.{AreListed}
 use Rattle.it_docs.specs.Policy.{PolicyOf}
 use Rattle.it_dsse.specs.Panel.{Panel}
+use Rattle.it_verify.specs.Grounds.{IsBegun}
 use Rattle.it_verify.specs.Verdict.{IsVerdict}
 use Rattle.it_verify.specs.declared.inputs.Inputs.{Inputs}
 use Rattle.it_notes.specs.FoundInDocuments.{AreFoundInDocuments}
 use Rattle.it_notes.specs.Level.{IsTop, StepsStand}
+use Rattle.it_notes.specs.declared.known.Basis.{Basis}
+use Rattle.it_notes.specs.declared.known.Basis.TheVariants as bases
 use Rattle.it_notes.specs.declared.known.Known.{Known}
 use Rattle.it_notes.specs.declared.known.Told.{Told}
 
@@ -18,8 +21,14 @@ pub record IsKnown (panel : Panel) (inputs : Inputs) (known : Known) : Type 0 wh
   pub top : IsTop inputs known.top
   pub steps : StepsStand panel inputs.depth known.top
 
+-- this is what the inputs read as, as far as they were read
+abbrev pub IsBasis : Panel → Inputs → Basis → Type 0
+IsBasis panel inputs bases.Nothing = ⊤
+IsBasis panel inputs (bases.Begun begun) = IsBegun inputs begun
+IsBasis panel inputs (bases.Known known) = IsKnown panel inputs known
+
 -- the verdict is the one on the inputs, this is what they read as, and this is found all the same
 pub record IsTold (panel : Panel) (inputs : Inputs) (told : Told) : Type 0 where
   pub verdict : IsVerdict panel inputs told.verdict
-  pub known : IfSome told.known (IsKnown panel inputs)
+  pub basis : IsBasis panel inputs told.basis
   pub found : IfSome told.found (AreFoundInDocuments panel inputs)

@@ -1,17 +1,19 @@
 //! What is wrong with a document that does not read.
 ghost use Rattle.std.specs.Prelude.{◌≡◌, IfOk};
+ghost use Rattle.it_dsse.specs.Envelope.{EnvelopeOf};
 ghost use Rattle.it_dsse.specs.Panel.{Panel};
 ghost use Rattle.it_report.specs.declared.refusal.Fault.TheVariants.{BadLayout, BadMoment};
 ghost use Rattle.it_report.specs.declared.refusal.Fault.TheVariants.{BadPolicy, NoFiles};
+ghost use Rattle.it_verify.specs.declared.inputs.Inputs.{Inputs};
 ghost use Rattle.it_notes.specs.DigestLists.{bad_line, list_in};
 ghost use Rattle.it_notes.specs.RefusalNotes.{TellsInputs};
 
 use crate::lines::Line;
 use crate::notes::RefusalNotes;
-use it_chain::envelope_in;
 use it_digest::sums::ListAlgorithm;
 use it_docs::layout_fault::LayoutPart;
 use it_docs::policy_fault::PolicyPart;
+use it_dsse::envelope::Envelope;
 use it_part_notes::layout_part_note::layout_part_note;
 use it_part_notes::moment_note::{MomentNote, moment_note};
 use it_part_notes::part_note::PartNote;
@@ -83,18 +85,15 @@ pub(crate) fn no_line_told(inputs: &Inputs) -> RefusalNotes
     }
 }
 
-/// What is wrong with the layout in its first part that fails.
+/// What is wrong with the layout in its envelope, in its first part that fails.
 pub(crate) fn layout_told(
     alloc: Global,
-    inputs: &Inputs,
+    envelope: &Envelope,
     part: &LayoutPart,
 ) -> Result<RefusalNotes, AllocError>
-    ensures { IfOk result
-        (λ told. (panel : Panel) → TellsInputs panel inputs.now (BadLayout part.now) told) }
+    ensures { (inputs : Inputs) → EnvelopeOf inputs.layout envelope.now → IfOk result
+        (λ told. (panel : Panel) → TellsInputs panel inputs (BadLayout part.now) told) }
 {
-    let Some(envelope) = envelope_in(alloc, inputs.layout.as_slice())? else {
-        return Ok(RefusalNotes::Nothing);
-    };
     match layout_part_note(alloc, envelope.payload.as_slice(), part)? {
         Some(note) => Ok(RefusalNotes::Part(note)),
         None => Ok(RefusalNotes::Nothing),

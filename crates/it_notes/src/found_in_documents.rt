@@ -3,7 +3,7 @@ ghost use Rattle.std.specs.Prelude.{◌≤◌, IfOk};
 ghost use Rattle.it_verify.specs.Made.{IsMadeBy};
 ghost use Rattle.it_notes.specs.FoundInDocuments.{AreFoundInDocuments};
 
-use crate::known::{Known, Told};
+use crate::known::{Basis, Known, Told};
 use crate::lines::{Line, Lines};
 use it_base::text::Text;
 use it_check::push_finding;
@@ -62,7 +62,7 @@ pub fn found_in_documents<C: Checks>(
 ///
 /// `AllocError` where memory was refused.
 pub fn add_found(lines: &mut Lines, told: &Told) -> Result<(), AllocError> {
-    let (Some(found), Some(known)) = (&told.found, &told.known) else {
+    let (Some(found), Basis::Known(known)) = (&told.found, &told.basis) else {
         return Ok(());
     };
     for finding in found.of_documents.as_slice() {

@@ -1,14 +1,13 @@
 //! The key objects that a refusal depends on and no check knows.
-ghost use Rattle.std.specs.Prelude.{All, IfOk, IfSome};
+ghost use Rattle.std.specs.Prelude.{All, IfOk};
 ghost use Rattle.it_docs.specs.Policy.{PolicyOf};
 ghost use Rattle.it_verify.specs.declared.inputs.Inputs.{Inputs};
-ghost use Rattle.it_notes.specs.Known.{IsKnown};
+ghost use Rattle.it_notes.specs.Known.{IsBasis, IsKnown};
 ghost use Rattle.it_notes.specs.KeyNotes.{IsOfBuilder, IsOfOwner, IsOfStep, TellsKey};
 
 use crate::fault_level::{level_reached, sublayout_reached};
-use crate::known::Known;
+use crate::known::{Basis, Known};
 use crate::provenance::speaking;
-use it_base::parts::from_bytes;
 use it_base::text::Text;
 use it_docs::policy::Policy;
 use it_docs::step::step_named;
@@ -16,28 +15,27 @@ use it_dsse::checks::Checks;
 use it_key_notes::unknown_key::UnknownKey;
 use it_key_notes::{unknown_in, unknown_of_builders, unknown_under};
 use it_report::refusal::{Fault, Refusal};
-use it_verify::inputs::Inputs;
 use std::alloc::{AllocError, Global};
 
 /// Notes on the key objects that a refusal depends on and no check knows: the owners', those of the
 /// step for which too few keys signed, or those of the expected builders.
 pub(crate) fn key_notes<C: Checks>(
     alloc: Global,
-    inputs: &Inputs,
-    known: &Option<Known>,
+    basis: &Basis,
     refusal: &Refusal,
     checks: &C,
 ) -> Result<Vec<UnknownKey>, AllocError>
-    requires { IfSome known.now (IsKnown (C.panel checks.now) inputs.now) }
-    ensures { IfOk result (λ notes. All (TellsKey (C.panel checks.now) inputs.now
-        refusal.now.at refusal.now.fault) notes.items) }
+    requires { (inputs : Inputs) × IsBasis (C.panel checks.now) inputs basis.now }
+    ensures { (inputs : Inputs) → IsBasis (C.panel checks.now) inputs basis.now
+        → IfOk result (λ notes. All (TellsKey (C.panel checks.now) inputs refusal.now.at
+        refusal.now.fault) notes.items) }
 {
-    match (&refusal.fault, known) {
-        (Fault::OwnerMissing(_), _) => owner_keys(alloc, inputs, checks),
-        (Fault::Threshold { step, .. }, Some(known)) => {
+    match (&refusal.fault, basis) {
+        (Fault::OwnerMissing(_), Basis::Begun(begun)) => owner_keys(alloc, &begun.policy, checks),
+        (Fault::Threshold { step, .. }, Basis::Known(known)) => {
             step_keys(alloc, known, refusal.at.as_slice(), step.as_str(), checks)
         }
-        (Fault::NoProvenance(path, _), Some(known)) => {
+        (Fault::NoProvenance(path, _), Basis::Known(known)) => {
             builder_keys(alloc, &known.policy, path.as_str(), checks)
         }
         _ => Ok(Vec::new(alloc)),
@@ -47,15 +45,12 @@ pub(crate) fn key_notes<C: Checks>(
 /// Those of the policy's owners.
 fn owner_keys<C: Checks>(
     alloc: Global,
-    inputs: &Inputs,
+    policy: &Policy,
     checks: &C,
 ) -> Result<Vec<UnknownKey>, AllocError>
-    ensures { IfOk result (λ notes. All
-        (IsOfOwner (C.panel checks.now) inputs.now) notes.items) }
+    ensures { (inputs : Inputs) → PolicyOf inputs.policy policy.now
+        → IfOk result (λ notes. All (IsOfOwner (C.panel checks.now) inputs) notes.items) }
 {
-    let Some(policy) = from_bytes::<Policy>(alloc, inputs.policy.as_slice())? else {
-        return Ok(Vec::new(alloc));
-    };
     let notes = unknown_in(alloc, &policy.owners, checks)?;
     Ok(notes)
 }

@@ -1,9 +1,10 @@
 //! What the verification read and found, from which the notes are made.
 ghost use Rattle.std.specs.Prelude.{IfOk, IfSome};
 ghost use Rattle.it_dsse.specs.Panel.{Panel};
-ghost use Rattle.it_verify.specs.Grounds.{IsFound};
+ghost use Rattle.it_report.specs.declared.refusal.Fault.{Fault};
+ghost use Rattle.it_verify.specs.Grounds.{IsBefore, IsFound};
 ghost use Rattle.it_verify.specs.Made.{IsMadeBy};
-ghost use Rattle.it_notes.specs.Known.{IsKnown, IsTold};
+ghost use Rattle.it_notes.specs.Known.{IsBasis, IsKnown, IsTold};
 ghost use Rattle.it_notes.specs.FoundInDocuments.{AreFoundInDocuments};
 
 use crate::fault_level::FaultLevel;
@@ -13,7 +14,7 @@ use it_docs::policy::Policy;
 use it_report::verdict::Verdict;
 use it_step_notes::signed_layout::SignedLayout;
 use it_verify::documents::Documents;
-use it_verify::grounds::{Found, Grounds};
+use it_verify::grounds::{Before, Begun, Found, Grounds};
 use it_verify::inputs::Inputs;
 use it_verify::verdict_of;
 use std::alloc::{AllocError, Global};
@@ -32,20 +33,30 @@ pub struct Known<'a> {
     pub top: FaultLevel<'a>,
 }
 
-/// A verdict, and what was found before it.
+/// What notes are made from, beside the inputs themselves.
+#[derive(Drop)]
+pub enum Basis<'a> {
+    /// Nothing was read.
+    Nothing,
+    /// The policy and the layout's envelope, where what the envelope holds was refused.
+    Begun(Begun),
+    /// All that was read and found.
+    Known(Known<'a>),
+}
+
+/// A verdict, and what was read and found before it.
 #[derive(Drop)]
 pub struct Told<'a> {
     /// The verdict.
     pub verdict: Verdict,
-    /// What was found, or `None` where the documents do not read, or an owner did not sign the
-    /// layout.
-    pub known: Option<Known<'a>>,
+    /// What was read and found.
+    pub basis: Basis<'a>,
     /// Where the verdict accepts, what is found in the policy, in the layout and in the sublayouts
     /// all the same, or `None` where memory was refused for that.
     pub found: Option<FoundInDocuments>,
 }
 
-/// The verdict that accepts, what was found before it, and what is found all the same.
+/// The verdict that accepts, what was read and found before it, and what is found all the same.
 ///
 /// # Errors
 ///
@@ -67,17 +78,21 @@ pub fn made_told(
     };
     Ok(Told {
         verdict,
-        known: Some(known_in(inputs, found)),
+        basis: Basis::Known(known_in(inputs, found)),
         found: all_the_same,
     })
 }
 
-/// What was found before a refusal of the inputs, if anything was.
-pub fn known_of(inputs: &Inputs, found: Option<Found>) -> Option<Known<'_>>
-    ensures { (panel : Panel) → IfSome found (IsFound panel inputs.now)
-        → IfSome result (IsKnown panel inputs.now) }
+/// What was read and found before a refusal of the inputs.
+pub fn basis_of(inputs: &Inputs, before: Before) -> Basis<'_>
+    ensures { (panel : Panel) (fault : Fault) → IsBefore panel inputs.now fault before
+        → IsBasis panel inputs.now result }
 {
-    Some(known_in(inputs, found?))
+    match before {
+        Before::Nothing => Basis::Nothing,
+        Before::Begun(begun) => Basis::Begun(begun),
+        Before::Found(found) => Basis::Known(known_in(inputs, found)),
+    }
 }
 
 /// What was found, over the links.

@@ -1,14 +1,16 @@
 //! What is wrong with the envelope of the layout.
 ghost use Rattle.std.specs.Prelude.{◌≡◌, ◌++◌, IfOk, OnOk};
+ghost use Rattle.it_dsse.specs.Envelope.{EnvelopeOf};
 ghost use Rattle.it_dsse.specs.Panel.{Panel};
 ghost use Rattle.it_report.specs.declared.refusal.Fault.TheVariants.{BadEnvelope, WrongPayloadType};
+ghost use Rattle.it_verify.specs.declared.inputs.Inputs.{Inputs};
 ghost use Rattle.it_notes.specs.LayoutEnvelope.{envelope_line, expected_form, type_line};
 ghost use Rattle.it_notes.specs.RefusalNotes.{TellsInputs};
 
 use crate::lines::Line;
 use crate::notes::RefusalNotes;
 use it_base::text::Text;
-use it_chain::envelope_in;
+use it_dsse::envelope::Envelope;
 use it_dsse::payload_type::IN_TOTO;
 use it_part_notes::envelope_part_note::envelope_part_note;
 use it_part_notes::part_note::PartNote;
@@ -77,14 +79,11 @@ pub(crate) fn envelope_told(alloc: Global, inputs: &Inputs) -> Result<RefusalNot
     }
 }
 
-/// Under which other type than in-toto's the layout is signed.
-pub(crate) fn type_told(alloc: Global, inputs: &Inputs) -> Result<RefusalNotes, AllocError>
-    ensures { IfOk result
-        (λ told. (panel : Panel) → TellsInputs panel inputs.now WrongPayloadType told) }
+/// Under which other type than in-toto's the layout in an envelope is signed.
+pub(crate) fn type_told(alloc: Global, envelope: &Envelope) -> Result<RefusalNotes, AllocError>
+    ensures { (inputs : Inputs) → EnvelopeOf inputs.layout envelope.now → IfOk result
+        (λ told. (panel : Panel) → TellsInputs panel inputs WrongPayloadType told) }
 {
-    let Some(envelope) = envelope_in(alloc, inputs.layout.as_slice())? else {
-        return Ok(RefusalNotes::Nothing);
-    };
     if envelope.payload_type.as_str() == IN_TOTO {
         return Ok(RefusalNotes::Nothing);
     }

@@ -1,17 +1,17 @@
 //! What in the layout, and in the policy's rules that see it, may not be what its author meant.
-ghost use Rattle.std.specs.Prelude.{IfOk, IfSome};
+ghost use Rattle.std.specs.Prelude.{IfOk};
+ghost use Rattle.it_dsse.specs.Envelope.{EnvelopeOf};
 ghost use Rattle.it_dsse.specs.Panel.{Panel};
 ghost use Rattle.it_notes.specs.Known.{IsKnown};
 ghost use Rattle.it_notes.specs.Notes.{TellsLayout};
 ghost use Rattle.it_verify.specs.declared.inputs.Inputs.{Inputs};
 
 use crate::known::Known;
-use it_chain::envelope_in;
+use it_dsse::envelope::Envelope;
 use it_member_notes::layout_note::LayoutNote;
 use it_member_notes::member_notes::MemberNotes;
 use it_member_notes::rule_list_note::RuleListNote;
 use it_member_notes::{layout_notes, layout_rule_notes, rule_list_notes};
-use it_verify::inputs::Inputs;
 use std::alloc::{AllocError, Global};
 
 /// Notes on a layout, and on the policy's rules on what is delivered, which see it.
@@ -39,21 +39,15 @@ impl LayoutNotes {
         })
     }
 
-    /// The notes on the members of what is in the layout's envelope and is no layout, or `None`
-    /// where there is no envelope.
-    pub(crate) fn of_unread(
-        alloc: Global,
-        inputs: &Inputs,
-    ) -> Result<Option<LayoutNotes>, AllocError>
-        ensures { IfOk result (λ found. IfSome found (TellsLayout inputs.now)) }
+    /// The notes on the members of what is in the layout's envelope and is no layout.
+    pub(crate) fn of_unread(alloc: Global, envelope: &Envelope) -> Result<LayoutNotes, AllocError>
+        ensures { (inputs : Inputs) → EnvelopeOf inputs.layout envelope.now
+            → IfOk result (TellsLayout inputs) }
     {
-        let Some(envelope) = envelope_in(alloc, inputs.layout.as_slice())? else {
-            return Ok(None);
-        };
-        Ok(Some(LayoutNotes {
+        Ok(LayoutNotes {
             deliver: Vec::new(alloc),
             members: layout_notes(alloc, envelope.payload.as_slice())?,
             rules: Vec::new(alloc),
-        }))
+        })
     }
 }

@@ -3,12 +3,12 @@ ghost use Rattle.std.specs.Prelude.{IfOk, IfSome};
 ghost use Rattle.it_dsse.specs.Panel.{Panel};
 ghost use Rattle.it_verify.specs.declared.inputs.Inputs.{Inputs};
 ghost use Rattle.it_notes.specs.KeyNotes.{TellsKeys};
-ghost use Rattle.it_notes.specs.Known.{IsKnown, IsTold};
+ghost use Rattle.it_notes.specs.Known.{IsBasis, IsTold};
 ghost use Rattle.it_notes.specs.Notes.{AreTrue, TellsLayout, TellsVerdict, TellsWhere};
 
 use crate::file_detail::DetailedNote;
 use crate::key_notes::key_notes;
-use crate::known::Told;
+use crate::known::{Basis, Told};
 use crate::layout_envelope::EnvelopeNote;
 use crate::layout_notes::LayoutNotes;
 use crate::place_notes::{PlaceNotes, place_notes};
@@ -122,9 +122,9 @@ impl Notes {
         ensures { IfOk result (AreTrue (C.panel checks.now) inputs.now told.now.verdict) }
     {
         let policy = policy_notes(alloc, inputs.policy.as_slice())?;
-        let layout = signed_layout_notes(alloc, inputs, told)?;
+        let layout = signed_layout_notes(alloc, told)?;
         let place = told_place(alloc, told, checks)?;
-        let keys = told_keys(alloc, inputs, told, checks)?;
+        let keys = told_keys(alloc, told, checks)?;
         Ok(Notes {
             place,
             refusal: told_refusal(alloc, inputs, told, checks)?,
@@ -142,29 +142,29 @@ fn told_refusal<C: Checks>(
     told: &Told,
     checks: &C,
 ) -> Result<RefusalNotes, AllocError>
-    requires { IfSome told.now.known (IsKnown (C.panel checks.now) inputs.now) }
+    requires { IsBasis (C.panel checks.now) inputs.now told.now.basis }
     ensures { IfOk result (TellsVerdict (C.panel checks.now) inputs.now told.now.verdict) }
 {
     match &told.verdict {
         Verdict::Accepted { .. } => Ok(RefusalNotes::Nothing),
-        Verdict::Refused(refusal) => refusal_notes(alloc, inputs, &told.known, refusal, checks),
+        Verdict::Refused(refusal) => refusal_notes(alloc, inputs, &told.basis, refusal, checks),
     }
 }
 
 /// The key objects that the verdict depends on and no check knows, if it refuses.
 fn told_keys<C: Checks>(
     alloc: Global,
-    inputs: &Inputs,
     told: &Told,
     checks: &C,
 ) -> Result<Vec<UnknownKey>, AllocError>
-    requires { IfSome told.now.known (IsKnown (C.panel checks.now) inputs.now) }
-    ensures { IfOk result (λ notes.
-        TellsKeys (C.panel checks.now) inputs.now told.now.verdict notes.items) }
+    requires { (inputs : Inputs) × IsBasis (C.panel checks.now) inputs told.now.basis }
+    ensures { (inputs : Inputs) → IsBasis (C.panel checks.now) inputs told.now.basis
+        → IfOk result (λ notes.
+        TellsKeys (C.panel checks.now) inputs told.now.verdict notes.items) }
 {
     match &told.verdict {
         Verdict::Accepted { .. } => Ok(Vec::new(alloc)),
-        Verdict::Refused(refusal) => key_notes(alloc, inputs, &told.known, refusal, checks),
+        Verdict::Refused(refusal) => key_notes(alloc, &told.basis, refusal, checks),
     }
 }
 
@@ -179,26 +179,26 @@ fn told_place<C: Checks>(
         → IfOk result (λ found. IfSome found
         (TellsWhere (C.panel checks.now) inputs told.now.verdict)) }
 {
-    match (&told.verdict, &told.known) {
-        (Verdict::Refused(refusal), Some(known)) => place_notes(alloc, known, refusal, checks),
+    match (&told.verdict, &told.basis) {
+        (Verdict::Refused(refusal), Basis::Known(known)) => {
+            place_notes(alloc, known, refusal, checks)
+        }
         _ => Ok(None),
     }
 }
 
 /// What is odd about the layout and the policy's rules that see it. A layout that the owners are
 /// not known to have signed is not read.
-fn signed_layout_notes(
-    alloc: Global,
-    inputs: &Inputs,
-    told: &Told,
-) -> Result<Option<LayoutNotes>, AllocError>
-    ensures { (panel : Panel) → IfSome told.now.known (IsKnown panel inputs.now)
-        → IfOk result (λ found. IfSome found (TellsLayout inputs.now)) }
+fn signed_layout_notes(alloc: Global, told: &Told) -> Result<Option<LayoutNotes>, AllocError>
+    ensures { (panel : Panel) (inputs : Inputs) → IsBasis panel inputs told.now.basis
+        → IfOk result (λ found. IfSome found (TellsLayout inputs)) }
 {
-    match &told.known {
-        Some(known) => Ok(Some(LayoutNotes::of(alloc, known)?)),
-        None if is_no_layout(&told.verdict) => LayoutNotes::of_unread(alloc, inputs),
-        None => Ok(None),
+    match &told.basis {
+        Basis::Known(known) => Ok(Some(LayoutNotes::of(alloc, known)?)),
+        Basis::Begun(begun) if is_no_layout(&told.verdict) => {
+            Ok(Some(LayoutNotes::of_unread(alloc, &begun.envelope)?))
+        }
+        _ => Ok(None),
     }
 }
 

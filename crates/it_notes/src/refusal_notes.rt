@@ -1,11 +1,14 @@
 //! Why a delivery was refused.
-ghost use Rattle.std.specs.Prelude.{IfOk, IfSome};
-ghost use Rattle.it_notes.specs.Known.{IsKnown};
+ghost use Rattle.std.specs.Prelude.{IfOk};
+ghost use Rattle.it_dsse.specs.Panel.{Panel};
+ghost use Rattle.it_verify.specs.Grounds.{IsBegun};
+ghost use Rattle.it_verify.specs.declared.inputs.Inputs.{Inputs};
+ghost use Rattle.it_notes.specs.Known.{IsBasis, IsKnown};
 ghost use Rattle.it_notes.specs.RefusalNotes.{Tells, TellsInputs};
 
 use crate::bad_parts::{layout_told, line_told, moment_told, no_line_told, policy_told};
 use crate::inspections::{bad_told, missing_told};
-use crate::known::Known;
+use crate::known::{Basis, Known};
 use crate::layout_envelope::{envelope_told, type_told};
 use crate::level_notes::level_told;
 use crate::notes::RefusalNotes;
@@ -15,6 +18,7 @@ use crate::provenance::provenance_told;
 use it_digest::sums::ListAlgorithm;
 use it_dsse::checks::Checks;
 use it_report::refusal::{Fault, Refusal};
+use it_verify::grounds::Begun;
 use it_verify::inputs::Inputs;
 use std::alloc::{AllocError, Global};
 
@@ -22,16 +26,17 @@ use std::alloc::{AllocError, Global};
 pub(crate) fn refusal_notes<C: Checks>(
     alloc: Global,
     inputs: &Inputs,
-    known: &Option<Known>,
+    basis: &Basis,
     refusal: &Refusal,
     checks: &C,
 ) -> Result<RefusalNotes, AllocError>
-    requires { IfSome known.now (IsKnown (C.panel checks.now) inputs.now) }
+    requires { IsBasis (C.panel checks.now) inputs.now basis.now }
     ensures { IfOk result (Tells (C.panel checks.now) inputs.now refusal.now) }
 {
-    match known {
-        Some(known) => known_notes(alloc, known, refusal, checks),
-        None => input_notes(alloc, inputs, &refusal.fault, checks),
+    match basis {
+        Basis::Nothing => input_notes(alloc, inputs, &refusal.fault),
+        Basis::Begun(begun) => begun_notes(alloc, begun, &refusal.fault, checks),
+        Basis::Known(known) => known_notes(alloc, known, refusal, checks),
     }
 }
 
@@ -54,14 +59,10 @@ fn known_notes<C: Checks>(
     }
 }
 
-/// The notes on a fault of the documents that were given.
-fn input_notes<C: Checks>(
-    alloc: Global,
-    inputs: &Inputs,
-    fault: &Fault,
-    checks: &C,
-) -> Result<RefusalNotes, AllocError>
-    ensures { IfOk result (TellsInputs (C.panel checks.now) inputs.now fault.now) }
+/// The notes on a fault of the documents that were given, where none is handed out.
+fn input_notes(alloc: Global, inputs: &Inputs, fault: &Fault) -> Result<RefusalNotes, AllocError>
+    ensures { IfOk result (λ told. (panel : Panel)
+        → TellsInputs panel inputs.now fault.now told) }
 {
     match fault {
         Fault::BadPolicy(part) => policy_told(alloc, inputs, *part),
@@ -70,9 +71,24 @@ fn input_notes<C: Checks>(
         Fault::BadMoment => moment_told(alloc, inputs),
         Fault::NoFiles => Ok(no_line_told(inputs)),
         Fault::BadEnvelope => envelope_told(alloc, inputs),
-        Fault::WrongPayloadType => type_told(alloc, inputs),
-        Fault::BadLayout(part) => layout_told(alloc, inputs, part),
-        Fault::OwnerMissing(_) => owners_told(alloc, inputs, checks),
+        _ => Ok(RefusalNotes::Nothing),
+    }
+}
+
+/// The notes on a fault in what the layout's envelope holds.
+fn begun_notes<C: Checks>(
+    alloc: Global,
+    begun: &Begun,
+    fault: &Fault,
+    checks: &C,
+) -> Result<RefusalNotes, AllocError>
+    ensures { (inputs : Inputs) → IsBegun inputs begun.now
+        → IfOk result (TellsInputs (C.panel checks.now) inputs fault.now) }
+{
+    match fault {
+        Fault::WrongPayloadType => type_told(alloc, &begun.envelope),
+        Fault::OwnerMissing(_) => owners_told(alloc, begun, checks),
+        Fault::BadLayout(part) => layout_told(alloc, &begun.envelope, part),
         _ => Ok(RefusalNotes::Nothing),
     }
 }

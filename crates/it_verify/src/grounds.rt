@@ -1,8 +1,10 @@
-//! What a verification rests on where it accepts, and what it had found where it refuses.
+//! What a verification rests on where it accepts, and what it had read or found where it refuses.
 use crate::documents::Documents;
 use crate::evidence::Evidence;
 use it_base::sequence::Sequence;
 use it_chain::chain::StepResult;
+use it_docs::policy::Policy;
+use it_dsse::envelope::Envelope;
 use it_report::refusal::Refusal;
 
 /// What shows that delivered files were made as the owners prescribed.
@@ -12,6 +14,16 @@ pub struct Grounds {
     pub documents: Documents,
     /// What the layout's steps and inspections recorded.
     pub evidence: Evidence,
+}
+
+/// What a verification had read where it refused what the layout's envelope holds: a payload of
+/// another type than in-toto's, one that an owner did not sign, or one that is no layout.
+#[derive(Drop)]
+pub struct Begun {
+    /// The policy.
+    pub policy: Policy,
+    /// The layout's envelope.
+    pub envelope: Envelope,
 }
 
 /// What a verification had found before it refused.
@@ -24,6 +36,18 @@ pub struct Found {
     pub steps: Option<Sequence<StepResult>>,
 }
 
+/// What a verification had before it refused.
+#[derive(Drop)]
+pub enum Before {
+    /// Nothing: what comes before the payload of the layout's envelope does not read, or no file is
+    /// delivered.
+    Nothing,
+    /// The policy and the layout's envelope: it refused what the envelope holds.
+    Begun(Begun),
+    /// All documents, and that every owner signed the layout.
+    Found(Found),
+}
+
 /// What a verification comes to.
 #[derive(Drop)]
 pub enum Outcome {
@@ -33,8 +57,7 @@ pub enum Outcome {
     Refused {
         /// The first thing that does not hold.
         refusal: Refusal,
-        /// What was found before it, or `None` where the documents do not read, or an owner did
-        /// not sign the layout.
-        found: Option<Found>,
+        /// What was read and found before it.
+        before: Before,
     },
 }

@@ -1,7 +1,7 @@
 //! The answer to what was handed in: an output, and what was told before it.
 ghost use Rattle.std.specs.Prelude.{◌≡◌, ◌≤◌, IfOk, IfSome};
 ghost use Rattle.it_report.specs.declared.verdict.Verdict.TheVariants.{Refused};
-ghost use Rattle.it_verify.specs.Grounds.{IsFound};
+ghost use Rattle.it_verify.specs.Grounds.{IsBefore};
 ghost use Rattle.it_verify.specs.Made.{IsMadeBy};
 ghost use Rattle.it_verify.specs.RefusedFor.{RefusedFor};
 ghost use Rattle.it_verify.specs.Verdict.{OnAccepted};
@@ -16,18 +16,18 @@ use crate::verification::Verification;
 use it_dsse::checks::Checks;
 use it_json_report::evidence::Evidence;
 use it_notes::found_in_documents::{FoundInDocuments, found_in_documents};
-use it_notes::known::{Told, known_of, made_told};
+use it_notes::known::{Told, basis_of, made_told};
 use it_outcome::output::Output;
 use it_report::refusal::Refusal;
 use it_report::verdict::Verdict;
-use it_verify::grounds::{Found, Grounds, Outcome};
+use it_verify::grounds::{Before, Grounds, Outcome};
 use it_verify::verify_grounds;
 use std::alloc::{AllocError, Global};
 
 /// An output, and what was told before it.
 #[derive(Drop)]
 pub(crate) struct Answer<'a> {
-    /// The verdict, and what was found before it.
+    /// The verdict, and what was read and found before it.
     pub(crate) told: Told<'a>,
     /// The output on the verdict, and the status that goes with it.
     pub(crate) output: Output,
@@ -52,7 +52,7 @@ pub(crate) fn answer_to<'a, C: Checks>(
             let found = found_in_documents(alloc, asked.inputs, &grounds, asked.checks).ok();
             made_answer(alloc, asked, grounds, found)
         }
-        Outcome::Refused { refusal, found } => refused_answer(alloc, asked, refusal, found),
+        Outcome::Refused { refusal, before } => refused_answer(alloc, asked, refusal, before),
     }
 }
 
@@ -77,15 +77,17 @@ pub(crate) fn made_answer<'a, C: Checks>(
     answer_on(alloc, asked, told, behind)
 }
 
-/// The answer that refuses, for the first thing that does not hold and after what was found.
+/// The answer that refuses, for the first thing that does not hold and after what was read and
+/// found.
 pub(crate) fn refused_answer<'a, C: Checks>(
     alloc: Global,
     asked: &Verification<'a, C>,
     refusal: Refusal,
-    found: Option<Found>,
+    before: Before,
 ) -> Result<Answer<'a>, AllocError>
     requires refused { RefusedFor (C.panel asked.now.checks.now) asked.now.inputs.now refusal }
-    requires found { IfSome found (IsFound (C.panel asked.now.checks.now) asked.now.inputs.now) }
+    requires before { IsBefore (C.panel asked.now.checks.now) asked.now.inputs.now refusal.fault
+        before }
     ensures answer { IfOk result
         (IsAnswer asked.now.form.now (C.panel asked.now.checks.now)
         asked.now.vouched.now asked.now.inputs.now) }
@@ -93,7 +95,7 @@ pub(crate) fn refused_answer<'a, C: Checks>(
 {
     let told = Told {
         verdict: Verdict::Refused(refusal),
-        known: known_of(asked.inputs, found),
+        basis: basis_of(asked.inputs, before),
         found: None,
     };
     answer_on(alloc, asked, told, None)

@@ -3,7 +3,7 @@ ghost use Rattle.std.specs.Prelude.{◌≡◌, IfOk};
 ghost use Rattle.it_verify_command.specs.inside.SignerNotes.{signers_told};
 
 use it_base::writing::write_all_of;
-use it_notes::known::Told;
+use it_notes::known::{Basis, Told};
 use it_report::verdict::Verdict;
 use it_signer_notes::notes_on_signers;
 use it_vouched::Vouched;
@@ -36,8 +36,9 @@ fn signers_text(alloc: Global, vouched: &[Vouched], told: &Told) -> Result<Vec<u
     if refusal.fault.number() != NO_PROVENANCE {
         return Ok(Vec::new(alloc));
     }
-    match &told.known {
-        Some(known) => notes_on_signers(alloc, &known.policy, vouched),
-        None => Ok(Vec::new(alloc)),
+    match &told.basis {
+        Basis::Known(known) => notes_on_signers(alloc, &known.policy, vouched),
+        Basis::Nothing => Ok(Vec::new(alloc)),
+        Basis::Begun(_) => Ok(Vec::new(alloc)),
     }
 }

@@ -35,8 +35,8 @@ pub(crate) fn strict_answer<'a, C: Checks>(
 {
     match verify_grounds(alloc, asked.inputs, asked.checks)? {
         Outcome::Made(grounds) => strict_made(alloc, asked, grounds),
-        Outcome::Refused { refusal, found } => {
-            let answer = refused_answer(alloc, asked, refusal, found)?;
+        Outcome::Refused { refusal, before } => {
+            let answer = refused_answer(alloc, asked, refusal, before)?;
             Ok(StrictAnswer::Stands(answer))
         }
     }

@@ -1,12 +1,12 @@
 -- What a function that fails answers, in terms of the definitions.
-use Rattle.std.specs.Prelude.{◌≡◌, ⊤, Option}
+use Rattle.std.specs.Prelude.{◌≡◌, ⊤}
 use Rattle.it_chain.specs.declared.refusal.ChainError.{ChainError}
 use Rattle.it_chain.specs.declared.refusal.ChainError.TheVariants as chain
 use Rattle.it_report.specs.declared.refusal.Refusal.{Refusal}
 use Rattle.it_verify.specs.Refusals.{refusal_of}
 use Rattle.it_verify.specs.declared.failure.Failure.{Failure}
 use Rattle.it_verify.specs.declared.failure.Failure.TheVariants.{Refused, OutOfMemory}
-use Rattle.it_verify.specs.declared.grounds.Found.{Found}
+use Rattle.it_verify.specs.declared.grounds.Before.{Before}
 use Rattle.it_verify.specs.declared.grounds.Outcome.{Outcome}
 use Rattle.it_verify.specs.declared.grounds.Outcome.TheVariants as outcome
 
@@ -20,7 +20,7 @@ abbrev pub failure_of : ChainError → Failure
 failure_of (chain.Refused refusal) = Refused (refusal_of refusal)
 failure_of chain.OutOfMemory = OutOfMemory
 
--- the refusal that a failure is, with what was found before it
-abbrev pub IsRefusedWith : Failure → Option Found → Outcome → Type 0
-IsRefusedWith (Refused refusal) found given = given ≡ outcome.Refused refusal found
-IsRefusedWith OutOfMemory found given = ⊥
+-- the refusal that a failure is, with what was read and found before it
+abbrev pub IsRefusedWith : Failure → Before → Outcome → Type 0
+IsRefusedWith (Refused refusal) before given = given ≡ outcome.Refused refusal before
+IsRefusedWith OutOfMemory before given = ⊥

@@ -8,4 +8,4 @@ use Rattle.it_verify.specs.declared.grounds.Outcome.TheVariants.{Made, Refused}
 -- the verdict that an outcome tells
 abbrev pub told_by : Outcome → Verdict
 told_by (Made grounds) = verdict_of grounds.documents grounds.evidence
-told_by (Refused refusal found) = verdict.Refused refusal
+told_by (Refused refusal before) = verdict.Refused refusal

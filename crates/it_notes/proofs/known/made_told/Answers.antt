@@ -7,7 +7,7 @@ returns c = λ panel made are_found.
     record {
       verdict = is_verdict panel c.args.inputs.now grounds.documents grounds.evidence
           c.in_ok-verdict.verdict made c.in_ok-verdict.ensures.verdict;
-      known = c.known_in.ensures panel (record {
+      basis = c.known_in.ensures panel (record {
         read = made.read;
         owners = made.owners;
         steps = tt;

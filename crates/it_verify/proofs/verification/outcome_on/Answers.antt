@@ -1,43 +1,53 @@
-use Rattle.std.proofs.Common.{None, Some, refl}
+use Rattle.std.proofs.Common.{Some, refl}
 use Rattle.it_verify.specs.Documents.{setting_of}
 use Rattle.it_verify.specs.Made.{verdict_of}
+use Rattle.it_verify.specs.declared.grounds.Before.TheVariants.{Found}
 use Rattle.it_verify.proofs.Held.{chain_records}
-use Rattle.it_verify.proofs.Refusing.{refused_outcome}
+use Rattle.it_verify.proofs.Refusing.{refused_after, refused_outcome}
 use Rattle.it_verify.proofs.WholeCosting.{files_most, links_most, owners_most, takes_enough}
 use Rattle.it_verify.proofs.verification.outcome_on.Goals as goal
 
 pub returns-in-Err-clause-outcome : goal.returns-in-Err-clause-outcome
 returns-in-Err-clause-outcome g c =
     let panel = g.C.Checks.panel c.args.checks.now in
-    refused_outcome panel c.args.inputs.now None tt c.in-Err.failure c.in-Err.ensures.documents
-    c.refused_with.result c.refused_with.ensures
+    let stopped = c.in-Err.field-0 in
+    refused_outcome panel c.args.inputs.now stopped.before stopped.failure
+    c.in-Err.ensures.documents c.refused_with.result c.refused_with.ensures
 
 pub returns-in-Err-gather-clause-outcome : goal.returns-in-Err-gather-clause-outcome
 returns-in-Err-gather-clause-outcome g c =
     let panel = g.C.Checks.panel c.args.checks.now in
+    let inputs = c.args.inputs.now in
     let stopped = c.in-Err-gather.ensures.evidence in
     let hold = c.in-Ok.ensures.documents in
-    refused_outcome panel c.args.inputs.now
-    (Some (record { documents = c.in-Ok.documents; steps = c.in-Err-gather.field-0.steps }))
-    (record { read = hold.read; owners = hold.owners; steps = stopped.steps })
-    c.in-Err-gather.field-0.failure stopped.fails
+    let before = Found (record {
+      documents = c.in-Ok.documents;
+      steps = c.in-Err-gather.field-0.steps;
+    }) in
+    let failure = c.in-Err-gather.field-0.failure in
+    refused_outcome panel inputs before failure
+    (refused_after panel inputs before
+    (λ fault. record { read = hold.read; owners = hold.owners; steps = stopped.steps })
+    failure stopped.fails)
     c.refused_with-in-Err-gather.result c.refused_with-in-Err-gather.ensures
 
 pub returns-in-Err-judge-clause-outcome : goal.returns-in-Err-judge-clause-outcome
 returns-in-Err-judge-clause-outcome g c =
     let panel = g.C.Checks.panel c.args.checks.now in
+    let inputs = c.args.inputs.now in
+    let documents = c.in-Ok.documents in
     let hold = c.in-Ok.ensures.documents in
-    refused_outcome panel c.args.inputs.now
-    (Some (record { documents = c.in-Ok.documents; steps = Some c.in-Ok-gather.evidence.steps }))
-    (record {
+    let steps = c.in-Ok-gather.evidence.steps in
+    let before = Found (record { documents = documents; steps = Some steps }) in
+    refused_outcome panel inputs before c.in-Err-judge.failure
+    (refused_after panel inputs before
+    (λ fault. record {
       read = hold.read;
       owners = hold.owners;
-      steps = chain_records (setting_of panel c.in-Ok.documents) c.args.inputs.now.depth
-          c.in-Ok.documents.layout c.args.inputs.now.links c.in-Ok-gather.evidence.steps
-          c.in-Ok-gather.ensures.evidence.steps;
-    })
-    c.in-Err-judge.failure c.in-Err-judge.ensures.made c.refused_with-in-Err-judge.result
-    c.refused_with-in-Err-judge.ensures
+      steps = chain_records (setting_of panel documents) inputs.depth documents.layout
+          inputs.links steps c.in-Ok-gather.ensures.evidence.steps;
+    }) c.in-Err-judge.failure c.in-Err-judge.ensures.made)
+    c.refused_with-in-Err-judge.result c.refused_with-in-Err-judge.ensures
 
 pub returns-in-Err-clause-at_most : goal.returns-in-Err-clause-at_most
 returns-in-Err-clause-at_most g c =

@@ -1,0 +1,10 @@
+use Rattle.it_verify_command.proofs.answer.refused_answer.Goals as goal
+
+pub answer_on-requires-clause-told : goal.answer_on-requires-clause-told
+answer_on-requires-clause-told g c =
+    let panel = g.C.Checks.panel c.args.asked.now.checks.now in
+    record {
+      verdict = c.requires.refused;
+      basis = c.basis_of.ensures panel c.args.refusal.fault c.requires.before;
+      found = tt;
+    }

@@ -6,3 +6,4 @@ pub mod Squares
 pub mod LowestFirst
 pub mod HighestFirst
 pub mod FastPowers
+pub mod PowerSteps

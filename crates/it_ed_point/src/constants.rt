@@ -5,18 +5,6 @@ ghost use Rattle.it_ed_point.specs.Curve.{curve_d, root_of_minus_one};
 
 use it_ed_field::field_element::FieldElement;
 
-/// The prime minus 2, lowest byte first.
-pub(crate) const PRIME_LESS_TWO: [u8; 32] = [
-    235, 255, 255, 255, 255, 255, 255, 255, 255, 255, 255, 255, 255, 255, 255, 255, 255, 255, 255,
-    255, 255, 255, 255, 255, 255, 255, 255, 255, 255, 255, 255, 127,
-];
-
-/// The number (prime - 5) / 8, lowest byte first.
-pub(crate) const EIGHTH: [u8; 32] = [
-    253, 255, 255, 255, 255, 255, 255, 255, 255, 255, 255, 255, 255, 255, 255, 255, 255, 255, 255,
-    255, 255, 255, 255, 255, 255, 255, 255, 255, 255, 255, 255, 15,
-];
-
 pub(crate) fn zero() -> FieldElement
     ensures { result ≡ 0 }
 {

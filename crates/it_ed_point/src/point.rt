@@ -8,7 +8,6 @@ ghost use Rattle.it_ed_point.specs.Encoding.{encoding_of, decoded};
 use crate::base_doubles::base_multiple;
 use crate::constants::{one, twice_curve_constant, zero};
 use crate::decoding::point_at;
-use crate::roots::inverse;
 use it_ed_field::bits::top_bit;
 use it_ed_field::field_element::FieldElement;
 use it_ed_scalar::scalar::Scalar;
@@ -106,7 +105,8 @@ impl Point {
     {
         let a = self.x.square();
         let b = self.y.square();
-        let c = self.z.add(&self.z).multiply(&self.z);
+        let square = self.z.square();
+        let c = square.add(&square);
         let h = a.add(&b);
         let s = self.x.add(&self.y);
         let e = h.subtract(&s.square());
@@ -165,7 +165,7 @@ impl Point {
     pub fn encode(&self) -> [u8; 32]
         ensures { result ≡ encoding_of self.now }
     {
-        let inverse = inverse(&self.z);
+        let inverse = self.z.inverse();
         let x = self.x.multiply(&inverse);
         let y = self.y.multiply(&inverse);
         y.to_bytes(x.parity())

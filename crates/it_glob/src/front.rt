@@ -4,12 +4,20 @@ ghost use Rattle.it_glob.specs.Pattern.{items_of, front_of};
 
 use crate::item::Item;
 
-/// The part of the text before its first star, any or set item.
-pub(crate) fn front_of_text<'a>(text: &'a str, items: &[Item]) -> &'a str
-    requires { items.now ≡ items_of text.now }
+/// The part of a pattern's text before its first star, any or set item, which has that length.
+pub(crate) fn front_of_text(text: &str, len: usize) -> &str
+    requires { len ≡ length (front_of (items_of text.now)) }
     ensures { result.now ≡ front_of (items_of text.now) }
 {
-    &text[..len_of_front(items)]
+    &text[..len]
+}
+
+/// How long that part is in bytes. The items are those of the text.
+pub(crate) fn front_len(text: &str, items: &[Item]) -> usize
+    requires { items.now ≡ items_of text.now }
+    ensures { result ≡ length (front_of (items_of text.now)) }
+{
+    len_of_front(items)
 }
 
 /// How many bytes the items before the first that is not `Exactly` take in a text.

@@ -3,7 +3,7 @@ ghost use Rattle.std.specs.Prelude.{◌≡◌, ◌+◌, ◌*◌, ◌≤◌, IfOk
 ghost use Rattle.std.specs.Str.{IsUtf8, chars};
 ghost use Rattle.it_glob.specs.Pattern.{items_of, Matches, front_of, plain_count, BeginsWith};
 
-use crate::front::front_of_text;
+use crate::front::{front_len, front_of_text};
 use crate::item::Item;
 use crate::match_items::match_items;
 use crate::reading::read_items;
@@ -16,17 +16,20 @@ use std::marker::Model;
 pub struct Pattern {
     text: String,
     items: Vec<Item>,
+    /// The length of the text before the first star, any or set item, in bytes.
+    front: usize,
 }
 
 impl Model for Pattern {
-    ghost use Rattle.std.specs.Prelude.{◌≡◌, List, ℕ, string_bytes};
-    ghost use Rattle.it_glob.specs.Pattern.{items_of};
+    ghost use Rattle.std.specs.Prelude.{◌≡◌, List, ℕ, length, string_bytes};
+    ghost use Rattle.it_glob.specs.Pattern.{items_of, front_of};
 
     ghost Value = { List ℕ };
 
     ghost view = { λ p. string_bytes p.text };
 
-    ghost invariant = { λ p. p.items.items ≡ items_of (string_bytes p.text) };
+    ghost invariant = { λ p. (p.items.items ≡ items_of (string_bytes p.text))
+        × (p.front ≡ length (front_of (items_of (string_bytes p.text)))) };
 }
 
 impl Pattern {
@@ -37,8 +40,9 @@ impl Pattern {
         ensures { IfOk result (λ p. p ≡ text.now) }
     {
         let items = read_items(alloc, text)?;
+        let front = front_len(text, items.as_slice());
         let text = String::from_str(alloc, text)?;
-        Ok(Pattern { text, items })
+        Ok(Pattern { text, items, front })
     }
 
     /// Lends the text that the pattern was read from. Takes no memory.
@@ -52,6 +56,10 @@ impl Pattern {
     pub fn matches(&self, path: &str) -> bool
         ensures { IsTrue result ↔ Matches (items_of self.now) path.now }
     {
+        // Most patterns and paths part ways before the first star.
+        if !path.starts_with(self.literal_front()) {
+            return false;
+        }
         let (matched, _) = self.matches_counted(path);
         matched
     }
@@ -76,6 +84,6 @@ impl Pattern {
         ensures begins { (path : List ℕ) → IsUtf8 path → Matches (items_of self.now) path
             → BeginsWith path result.now }
     {
-        front_of_text(self.text(), self.items.as_slice())
+        front_of_text(self.text(), self.front)
     }
 }

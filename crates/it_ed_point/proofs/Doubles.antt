@@ -1,13 +1,15 @@
 -- The table of the doubles of the base point.
-use Rattle.std.proofs.Common.{◌≡◌, ℕ, zero, suc, ◌+◌, ◌^◌, ◌<◌, Bool, true, false, ◌&&◌, nat_eq, nat_lt, List, [], ◌∷◌, length, get_or, refl, add-one, arith}
+use Rattle.std.proofs.Common.{◌≡◌, ◌⊎◌, inl, inr, ℕ, zero, suc, ◌+◌, ◌^◌, ◌<◌, Bool, true, false, ◌&&◌, nat_eq, nat_lt, List, [], ◌∷◌, ◌++◌, length, length-append, get_or, refl, sym, ap, ◌∙◌, add-one, arith}
+use Rattle.std.proofs.Math.Seq.{get_or-append_seam}
 use Rattle.std.proofs.lemmas.Bool.Decides.{nat_tests}
+use Rattle.std.proofs.lemmas.List.{get_or_append_left}
 use Rattle.it_ed_field.specs.Limbs.{number_of}
 use Rattle.it_ed_point.specs.Curve.{base, double_of}
 use Rattle.it_ed_point.specs.declared.point.Point.{Point}
 use Rattle.it_ed_point.specs.declared.base_doubles.Limbs.{Limbs}
 use Rattle.it_ed_point.specs.declared.base_doubles.Coordinates.{Coordinates}
 use Rattle.it_ed_point.specs.declared.base_table.TheConstants.{BASE_DOUBLES}
-use Rattle.it_ed_point.specs.inside.Doubles.{doubled, HoldsNumber, HoldsPoint, number_in}
+use Rattle.it_ed_point.specs.inside.Doubles.{doubled, AreDoubles, HoldsNumber, HoldsPoint, number_in}
 
 unfoldable are_limbs_of : Limbs → ℕ → Bool
 are_limbs_of l n =
@@ -65,3 +67,26 @@ next_double i p = rw add-one (next i p)
 
 pub table_held : (i : ℕ) (other : Coordinates) → i < 253 → HoldsPoint (get_or BASE_DOUBLES i other) (doubled i base)
 table_held i other below = double_held i base BASE_DOUBLES other table_is below
+
+pub no_doubles : (p : Point) → AreDoubles 0 p []
+no_doubles p = record { many = refl; each = λ place other below. absurd (omega arith) }
+
+pub more_doubles : (i : ℕ) (p s : Point) (ds : List Point) → AreDoubles i p ds → s ≡ doubled i p → AreDoubles (i + 1) p (ds ++ s ∷ [])
+more_doubles i p s ds d e = record {
+  many = length-append ds (s ∷ []) ∙ (let one : length ds + 1 ≡ i + 1 = rw d.many refl in one);
+  each = λ place other below. at place other (last_or_earlier place i below);
+}
+  where
+    last_or_earlier : (k n : ℕ) → k < n + 1 → (k < n) ⊎ (k ≡ n)
+    last_or_earlier k n h = grind (arith)
+
+    at : (place : ℕ) (other : Point) → (place < i) ⊎ (place ≡ i) → get_or (ds ++ s ∷ []) place other ≡ doubled place p
+    at place other (inl earlier) =
+        get_or_append_left ds (s ∷ []) other place (rw d.many earlier) ∙ d.each place other earlier
+    at place other (inr last) =
+        ap (λ (k : ℕ). get_or (ds ++ s ∷ []) k other) (last ∙ sym d.many) ∙ get_or-append_seam ds s [] other
+        ∙ e ∙ ap (λ (k : ℕ). doubled k p) (sym last)
+
+pub double_in : (place : ℕ) (p q r : Point) (ds : List Point) → AreDoubles 253 p ds → place < 253 → p ≡ q → r ≡ get_or ds place r
+    → r ≡ doubled place q
+double_in place p q r ds d below e f = f ∙ d.each place r below ∙ ap (doubled place) e

@@ -6,5 +6,6 @@ mod base_doubles;
 mod base_table;
 mod constants;
 mod decoding;
+pub mod multiplier;
 pub mod point;
 mod roots;

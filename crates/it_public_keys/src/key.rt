@@ -20,6 +20,17 @@ pub enum Key {
 }
 
 impl Key {
+    /// The same key, made for many signatures where its kind gains by that. Where memory is
+    /// refused, nothing is gained.
+    pub(crate) fn for_many(self, alloc: Global) -> Key
+        ensures { result ≡ self }
+    {
+        match self {
+            Key::Ed25519(key) => Key::Ed25519(key.for_many(alloc)),
+            key => key,
+        }
+    }
+
     /// What is computed once per message, however many signatures are tried: its SHA-256 if the
     /// key's kind signs that, otherwise zeros.
     pub(crate) fn digest(&self, message: &[&[u8]]) -> [u8; 32]

@@ -12,6 +12,7 @@ ghost use Rattle.it_public_keys.specs.Validity.{is_signature_with};
 ghost use Rattle.it_public_keys.specs.inside.Questions.{check_of};
 
 use crate::budget::Budget;
+use crate::for_many::ForMany;
 use crate::found_key::FoundKey;
 use crate::named_key::{NamedKey, key_of};
 use crate::question::Question;
@@ -30,6 +31,7 @@ pub(crate) struct Memory {
     alloc: Global,
     remembered: RefCell<Remembered>,
     budget: Cell<Budget>,
+    for_many: ForMany,
 }
 
 impl Memory {
@@ -39,6 +41,7 @@ impl Memory {
             alloc,
             remembered: RefCell::new(Remembered::new(alloc)),
             budget: Cell::new(Budget::new(most_checks)),
+            for_many: ForMany::new(),
         }
     }
 
@@ -49,10 +52,8 @@ impl Memory {
         if let Some(key) = self.key(object) {
             return Some(FoundKey::Shared(key));
         }
-        match key_of(object) {
-            Some(key) => Some(self.keep_key(object, key)),
-            None => None,
-        }
+        let key = self.for_many.made(self.alloc, key_of(object)?);
+        Some(self.keep_key(object, key))
     }
 
     /// The key that an object describes, if it is remembered.
@@ -155,9 +156,8 @@ impl Memory {
         self.is_valid(question, signature.sig.as_slice())
     }
 
-    /// Whether `sig` is what the question asks for, which is computed the first time. Without the
-    /// form of a signature by the key it is not, and nothing is computed. An error where it would
-    /// have to be computed and the budget has no check left.
+    /// Whether `sig` is what the question asks for, computed the first time. Without the form of a
+    /// signature by the key it is not, and nothing is computed. An error where no check is left.
     fn is_valid(&self, question: &Question, sig: &[u8]) -> Result<bool, AllocError>
         ensures { IfOk result (λ valid. valid ≡ is_signature_with question.now.key.value
             question.now.digest question.now.message.value.items sig.now) }

@@ -5,6 +5,7 @@ ghost use Rattle.it_disk.specs.declared.fault.Fault.TheVariants.{Run};
 ghost use Rattle.it_program.specs.Stopped.{stop_of};
 ghost use Rattle.it_program.specs.declared.stop.Stop.TheVariants.{OfFault};
 
+use crate::spent::Spent;
 use it_disk::Fault;
 use it_outcome::RunFault;
 use it_verify_command::strict_fault::StrictFault;
@@ -17,10 +18,9 @@ pub enum Stop {
     /// Something is found by `verify --strict`, which would have accepted the delivery otherwise.
     #[error("findings stand against the delivery, which would be accepted without --strict")]
     Findings,
-    /// More signatures would have to be checked by public keys than this many.
-    #[error("more than {0} signatures would have to be checked by public keys \
-         (--most-checks N allows more)")]
-    TooManyChecks(u64),
+    /// More signatures would have to be checked by public keys than may be.
+    #[error("{0}")]
+    TooManyChecks(Spent),
     /// A fault of a command, or of the words.
     #[error("{0}")]
     OfFault(Fault),

@@ -7,8 +7,9 @@ ghost use Rattle.it_program.specs.Commands.{FindsAgainst, Verifies, form_asked};
 ghost use Rattle.it_program.specs.inside.Spent.{IsToldSpent};
 
 use crate::asked::Asked;
-use crate::given::read_given;
+use crate::given::{Given, read_given};
 use crate::silent_notes::note_silent;
+use crate::spent::Spent;
 use crate::stop::Stop;
 use it_command_checks::command_checks::CommandChecks;
 use it_disk::{Disk, Fault, note_left_out};
@@ -57,7 +58,7 @@ pub(crate) fn run<R: Disk + AllocGlobal, W: Write, N: Write>(
     };
     let outcome = verify_as_asked(alloc, &verification, asked.strict, out, notes);
     note_silent(alloc, &outcome, given.silent.as_slice(), notes);
-    told_spent(outcome, &given.checks, words.most_checks)
+    told_spent(alloc, outcome, &given, words.most_checks)
 }
 
 /// What lines of the provenance vouch for: nothing where no trusted root is given.
@@ -70,18 +71,20 @@ fn vouched_in(checks: &CommandChecks) -> &[Vouched]
     }
 }
 
-/// The outcome of a verification, where that of lack of memory is told as it is: that more
-/// signatures would have had to be checked.
+/// The outcome of a verification of what is given, where that of lack of memory is told as it is:
+/// that more signatures would have had to be checked.
 fn told_spent(
+    alloc: Global,
     outcome: Result<Status, Stop>,
-    checks: &CommandChecks,
+    given: &Given,
     most_checks: u64,
 ) -> Result<Status, Stop>
     ensures { IsToldSpent most_checks outcome result }
 {
     match outcome {
-        Err(Stop::OfFault(Fault::Run(RunFault::OutOfMemory))) if checks.is_spent() => {
-            Err(Stop::TooManyChecks(most_checks))
+        Err(Stop::OfFault(Fault::Run(RunFault::OutOfMemory))) if given.checks.is_spent() => {
+            let links = given.inputs.links.files();
+            Err(Stop::TooManyChecks(Spent::on(alloc, most_checks, links)))
         }
         outcome => outcome,
     }

@@ -3,6 +3,7 @@ use Rattle.std.specs.Prelude.{◌≡◌, ◌⊎◌, ℕ, Result, Err}
 use Rattle.it_disk.specs.declared.fault.Fault.TheVariants.{Run}
 use Rattle.it_outcome.specs.declared.outcome.RunFault.TheVariants.{OutOfMemory}
 use Rattle.it_outcome.specs.declared.outcome.Status.{Status}
+use Rattle.it_program.specs.declared.spent.Spent.{Spent}
 use Rattle.it_program.specs.declared.stop.Stop.{Stop}
 use Rattle.it_program.specs.declared.stop.Stop.TheVariants.{OfFault, TooManyChecks}
 
@@ -10,4 +11,5 @@ use Rattle.it_program.specs.declared.stop.Stop.TheVariants.{OfFault, TooManyChec
 abbrev pub IsToldSpent : ℕ → Result Status Stop → Result Status Stop → Type 0
 IsToldSpent most outcome told =
     (told ≡ outcome)
-    ⊎ ((outcome ≡ Err (OfFault (Run OutOfMemory))) × (told ≡ Err (TooManyChecks most)))
+    ⊎ ((outcome ≡ Err (OfFault (Run OutOfMemory)))
+    × (spent : Spent) × (spent.most ≡ most) × (told ≡ Err (TooManyChecks spent)))

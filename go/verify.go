@@ -41,7 +41,7 @@ type Delivery struct {
 	// TrustedRoot is the trusted root of Sigstore, by which lines of the provenance that are bundles
 	// are checked. Without it there is none.
 	TrustedRoot []byte
-	// Provenance has an envelope on each line. Without it there is none.
+	// Provenance has an envelope on each line, or with TrustedRoot a bundle. Without it there is none.
 	Provenance []byte
 	// Records has the records of inspections. Without it there are none.
 	Records fs.FS
@@ -70,7 +70,8 @@ type Verdict struct {
 	Evidence *Evidence
 	// Notes are sentences for people, which say more about the verdict.
 	Notes []string
-	// NotesComplete is false where memory was refused for the notes.
+	// NotesComplete is false where memory was refused for the notes, or more signatures would have
+	// had to be checked for them than MostChecks allows. There are none then.
 	NotesComplete bool
 	// Report is the whole report, as itv verify --json=2 writes it.
 	Report json.RawMessage

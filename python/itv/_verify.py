@@ -115,11 +115,12 @@ def verify(*, policy: Document, layout: Document, links: Folder, at: datetime.da
     sublayouts. `sums` is the digest list of the delivered files by SHA-256, as `digest` makes it, and
     `sums512` the one by SHA-512, which it makes with `sha512`: one of them is needed, and a path that
     is in both has both digests. `at` is the moment at which no layout may have expired, a `datetime`
-    with a zone, of which parts of a second are cut off. Signatures are checked by the `rings`, in their order, and then by `public_keys` where that is
-    true; lines of the provenance that are bundles by the `trusted_root` of Sigstore. One of the three
-    is needed. `provenance` has an envelope on each line, and `records` are those of inspections.
-    `depth` is how deep sublayouts may lie, 4 where it is not given; `most_checks` how many signatures
-    are checked by public keys at most, 20,000 where it is not.
+    with a zone, of which parts of a second are cut off. Signatures are checked by the `rings`, in
+    their order, and then by `public_keys` where that is true; lines of the provenance that are bundles
+    by the `trusted_root` of Sigstore. One of the three is needed. `provenance` has an envelope on each
+    line, or with a `trusted_root` a bundle, and `records` are those of inspections. `depth` is how
+    deep sublayouts may lie, 4 where it is not given; `most_checks` how many signatures are checked by
+    public keys at most, 20,000 where it is not.
 
     Raises `Stopped` where the command stops; with `strict` a `Found` where something is found in what
     would be accepted, with these `findings`.

@@ -21,6 +21,8 @@ MEANING = tree.TOP / "docs" / "semantics.md"
 # The crates whose definitions docs/semantics.md leaves out: those on public keys and on tables.
 LEFT_OUT = re.compile(r"it_(numbers|ed|p256|p384|ecdsa_der|limb_slices|rsa|tables|vectors)|itv_cases")
 HEADING = re.compile(r"^## (.+)$", re.MULTILINE)
+# A name that a comment links to.
+LINKED = re.compile(r"\[(`[^`]*`)\]")
 LIST = "Further public functions, with what their contracts pin:"
 
 
@@ -58,7 +60,7 @@ def sentence_of(contract):
         inside = inside or bool(owner.match(line))
         if inside and start.match(line):
             sentence = re.split(r"(?<=\.) ", comment_before(lines, place))[0]
-            return uncapitalised(sentence)
+            return uncapitalised(LINKED.sub(r"\1", sentence))
     return None
 
 
@@ -92,11 +94,12 @@ def list_of(text, crates, found):
     quoted = quoted_in(text)
     functions_here = [one for crate in crates for one in found.get(crate, [])]
     names = [contract.name for contract, _ in functions_here]
+    free = [contract.name for contract, _ in functions_here if not contract.owner]
     items = []
     for contract, sentence in functions_here:
         if not is_named(contract, names, quoted):
-            owner = f"{contract.owner}::" if contract.owner else ""
-            items.append(f"- `{owner}{contract.name}`: {sentence}")
+            owner = contract.owner or (contract.crate if free.count(contract.name) > 1 else None)
+            items.append(f"- `{f'{owner}::' if owner else ''}{contract.name}`: {sentence}")
     return [LIST, "", *items, ""] if items else []
 
 

@@ -1,2 +1,4 @@
+pub mod EntriesRead
 mod LinksCounted
+pub mod LinksRead
 mod LinksSized

@@ -4,4 +4,5 @@ pub mod LinksSize
 pub mod Reading
 pub mod RingFlaw
 pub mod Shown
+pub mod Walks
 pub mod inside

@@ -1,11 +1,15 @@
 //! Folders of links, read as far as they count and no further.
-ghost use Rattle.std.specs.Prelude.{◌≡◌, ◌+◌, ◌≤◌, IfOk, OnOk, vec_len};
+ghost use Rattle.std.specs.Prelude.{◌≡◌, ◌+◌, ◌∷◌, ◌++◌, ◌≤◌, [], IfOk, OnOk, string_bytes};
+ghost use Rattle.it_chain.specs.Contents.{empty, with_folder};
 ghost use Rattle.it_limits.specs.Links.{AreFilesWithin};
 ghost use Rattle.it_disk.specs.LinksCount.{IsWithinCount, count_of};
 ghost use Rattle.it_disk.specs.LinksSize.{IsWithinSize, size_of};
 ghost use Rattle.it_disk.specs.Reading.{AreLimited};
+ghost use Rattle.it_disk.specs.Walks.{AreLinks, HaveLinks};
+ghost use Rattle.it_disk.specs.inside.Entries.{IsEntryIn, shown};
 ghost use Rattle.it_disk.specs.inside.SoFar.{IsCountedIn, IsWithin};
 
+use crate::entries::{Entry, entries_of};
 use crate::fault::Fault;
 use crate::left_out::{LeftOut, too_many_in};
 use crate::shown::Shown;
@@ -16,13 +20,6 @@ use it_base::text::Text;
 use it_chain::bundle::{Bundle, BundleFault, File};
 use it_chain::held_file::HeldFile;
 use std::alloc::{AllocError, Global};
-use std::path::{Path, PathBuf};
-
-/// How many entries of one folder may be read.
-const MOST_ENTRIES: usize = 1_000;
-
-/// How the names of the files that are read end.
-pub(crate) const ENDING: &str = ".link";
 
 /// What is read: a file, or a folder.
 #[derive(Clone, Copy, PartialEq, Eq)]
@@ -47,6 +44,7 @@ pub struct Links {
 impl Links {
     /// No links, after so much was read.
     fn after(alloc: Global, read: SoFar) -> Links
+        ensures nothing { result.bundle ≡ empty }
         ensures within { AreFilesWithin result.bundle }
         ensures no_bytes { size_of result.bundle ≡ 0 }
         ensures no_entries { count_of result.bundle ≡ 0 }
@@ -58,14 +56,6 @@ impl Links {
             read,
         }
     }
-}
-
-/// An entry of a folder that is read.
-#[derive(Drop)]
-pub(crate) struct Entry {
-    pub(crate) name: String,
-    pub(crate) path: PathBuf,
-    pub(crate) kind: Kind,
 }
 
 /// The files of a folder whose names end in `.link`, and its folders whose names hold a full stop,
@@ -84,6 +74,8 @@ pub fn read_links<T: Tree + AllocGlobal>(
     depth: u8,
     limited: bool,
 ) -> Result<Links, Fault>
+    ensures holds { IfOk result
+        (λ links. AreLinks (T.seen tree.now) folder.now depth limited links.bundle) }
     ensures limited { IfOk result (λ links. AreLimited limited links.bundle) }
     ensures size { IfOk result (λ links. IsWithinSize links.bundle) }
     ensures count { IfOk result (λ links. IsWithinCount links.bundle) }
@@ -105,6 +97,8 @@ fn read_more<T: Tree + AllocGlobal>(
     read: SoFar,
 ) -> Result<Links, Fault>
     requires { IsWithin read }
+    ensures holds { IfOk result
+        (λ links. AreLinks (T.seen tree.now) folder.now depth limited links.bundle) }
     ensures limited { IfOk result (λ links. AreLimited limited links.bundle) }
     ensures counted { IfOk result (λ links. IsCountedIn links.read read links.bundle) }
     ensures listed { IfOk result
@@ -114,15 +108,16 @@ fn read_more<T: Tree + AllocGlobal>(
     let names = tree.names(folder)?;
     let listed = read.with_names(tree.alloc(), folder, names.len())?;
     let mut links = Links::after(tree.alloc(), listed);
-    for entry in entries(tree, folder, names, depth)? {
-        match depth.checked_sub(1) {
-            Some(below) if entry.kind == Kind::Folder => {
+    let entries = entries_of(tree, folder, names, depth)?;
+    for entry in entries {
+        match entry.kind {
+            Kind::File => add_file(tree, &mut links, entry, limited)?,
+            Kind::Folder => {
                 let path = entry.path.as_str();
                 let so_far = links.read.with(tree.alloc(), path, &[])?;
-                let inner = read_more(tree, path, below, limited, so_far)?;
+                let inner = read_more(tree, path, depth - 1, limited, so_far)?;
                 add_folder(tree.alloc(), &mut links, entry, inner)?;
             }
-            _ => add_file(tree, &mut links, entry, limited)?,
         }
     }
     Ok(links)
@@ -135,6 +130,11 @@ fn add_file<T: Tree + AllocGlobal>(
     entry: Entry,
     limited: bool,
 ) -> Result<(), Fault>
+    ensures holds { OnOk result ((folder : _) (depth : _) (before : _)
+        → IsEntryIn folder depth entry → entry.kind ≡ Kind.File
+        → HaveLinks (T.seen tree.now) limited depth folder before links.old.bundle
+        → HaveLinks (T.seen tree.now) limited depth folder (before ++ shown entry ∷ [])
+        links.new.bundle) }
     ensures limited { OnOk result (AreLimited limited links.old.bundle
         → AreLimited limited links.new.bundle) }
     ensures counted { OnOk result ((before : SoFar)
@@ -163,6 +163,8 @@ fn add_file<T: Tree + AllocGlobal>(
 
 /// Adds the links of a folder, and what is left out of it.
 fn add_folder(alloc: Global, links: &mut Links, entry: Entry, inner: Links) -> Result<(), Fault>
+    ensures added { OnOk result (links.new.bundle
+        ≡ with_folder (string_bytes entry.name) inner.bundle links.old.bundle) }
     ensures limited { OnOk result ((limited : _) → AreLimited limited links.old.bundle
         → AreLimited limited inner.bundle → AreLimited limited links.new.bundle) }
     ensures size { OnOk result
@@ -185,52 +187,5 @@ fn add_folder(alloc: Global, links: &mut Links, entry: Entry, inner: Links) -> R
             Err(Fault::unread(alloc, path, "its name stands twice")?)
         }
         Err(BundleFault::OutOfMemory) => Err(Fault::from(AllocError)),
-    }
-}
-
-/// What is read of a folder, which has these names, in their order. Folders are read where `depth`
-/// is not 0.
-pub(crate) fn entries<T: Tree + AllocGlobal>(
-    tree: &T,
-    folder: &str,
-    names: Vec<String>,
-    depth: u8,
-) -> Result<Vec<Entry>, Fault>
-    ensures { IfOk result (λ entries. vec_len entries ≤ vec_len names) }
-{
-    let alloc = tree.alloc();
-    let mut entries = Vec::new(alloc);
-    for name in names {
-        if !may_be_read(name.as_str(), depth) {
-            continue;
-        }
-        let path = Path::new(folder).join(alloc, name.as_str())?;
-        let Some(kind) = kind_of(tree, name.as_str(), path.as_str(), depth)? else {
-            continue;
-        };
-        if entries.len() == MOST_ENTRIES {
-            return Err(Fault::TooMany {
-                path: Shown::of(alloc, folder)?,
-                limit: MOST_ENTRIES,
-            });
-        }
-        entries.push(Entry { name, path, kind })?;
-    }
-    Ok(entries)
-}
-
-/// Whether what has this name in a folder is looked at: files of links have such names, and folders
-/// where they are read.
-fn may_be_read(name: &str, depth: u8) -> bool {
-    name.ends_with(ENDING) || depth > 0 && name.contains('.')
-}
-
-/// What an entry is read as, or `None` where it is skipped: a folder too deep, a file with another
-/// ending, or what is neither. A symbolic link counts as what it leads to.
-fn kind_of<T: Tree>(tree: &T, name: &str, path: &str, depth: u8) -> Result<Option<Kind>, Fault> {
-    match tree.look(path)? {
-        Some(Kind::Folder) if depth > 0 => Ok(Some(Kind::Folder)),
-        Some(Kind::File) if name.ends_with(ENDING) => Ok(Some(Kind::File)),
-        _ => Ok(None),
     }
 }

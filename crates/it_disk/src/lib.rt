@@ -12,6 +12,7 @@
 #![tactic(auto)]
 
 mod disk;
+mod entries;
 mod fault;
 mod files;
 mod folders;

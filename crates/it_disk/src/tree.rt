@@ -1,6 +1,7 @@
 //! Files and folders one at a time, as walks through folders ask for them.
-ghost use Rattle.std.specs.Prelude.{◌≤◌, length, IfErr, IfOk};
+ghost use Rattle.std.specs.Prelude.{◌≤◌, length, IfErr, IfOk, map, string_bytes};
 ghost use Rattle.it_disk.specs.Faults.{IsFileFault, IsReadFault};
+ghost use Rattle.it_disk.specs.Walks.{Seen, unseen};
 
 use crate::fault::Fault;
 use crate::files::read_file;
@@ -12,10 +13,15 @@ use std::{fs, io};
 /// Files and folders, of which a walk reads one at a time. What it reads of a folder, in which
 /// order and up to which limits, is then the same wherever they are.
 ///
-/// Every type that gives files and memory is one.
+/// Every type that gives files and memory is one. Of the system's files no contract can say what is
+/// at a path.
 pub trait Tree {
+    // what is at each path here
+    ghost seen: { Self → Seen };
+
     /// The bytes of a file, 8,388,608 at most.
     fn read_whole(&self, path: &str) -> Result<Vec<u8>, Fault>
+        ensures holds { IfOk result (λ bytes. (seen self.now).file path.now bytes.items) }
         ensures within { IfOk result (λ bytes. length bytes.items ≤ 8388608) }
         ensures faults { IfErr result (IsFileFault path.now) };
 
@@ -24,7 +30,9 @@ pub trait Tree {
     /// # Errors
     ///
     /// Where the folder cannot be read, or a name in it is not UTF-8.
-    fn names(&self, folder: &str) -> Result<Vec<String>, Fault>;
+    fn names(&self, folder: &str) -> Result<Vec<String>, Fault>
+        ensures { IfOk result
+            (λ names. (seen self.now).names folder.now (map string_bytes names.items)) };
 
     /// What is at a path, or `None` where it is neither a file nor a folder. A symbolic link counts
     /// as what it leads to.
@@ -32,13 +40,16 @@ pub trait Tree {
     /// # Errors
     ///
     /// Where nothing is there.
-    fn look(&self, path: &str) -> Result<Option<Kind>, Fault>;
+    fn look(&self, path: &str) -> Result<Option<Kind>, Fault>
+        ensures { IfOk result (λ found. (seen self.now).kind path.now found) };
 
     /// Whether a symbolic link is at a path.
     fn is_link(&self, path: &str) -> Result<bool, Fault>;
 }
 
 impl<R: Files + AllocGlobal> Tree for R {
+    ghost seen = { λ _. unseen };
+
     fn read_whole(&self, path: &str) -> Result<Vec<u8>, Fault> {
         read_file(self, path)
     }

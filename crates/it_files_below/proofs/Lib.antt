@@ -1,2 +1,1 @@
 pub mod FilesFound
-pub mod SortedTexts

@@ -1,15 +1,12 @@
 //! The files at or below a path.
-ghost use Rattle.std.specs.Prelude.{◌≡◌, ◌∷◌, ◌++◌, ◌↔◌, [], Contains, IfOk, OnOk, map};
-ghost use Rattle.std.specs.Prelude.{string_bytes};
-ghost use Rattle.std.specs.Cmp.Lexicographic.{slice_cmp};
-ghost use Rattle.std.specs.List.Sorted.{IsStrictlySortedBy};
-ghost use Rattle.std.specs.Ordering.{nat_cmp};
+ghost use Rattle.std.specs.Prelude.{◌≡◌, ◌∷◌, ◌++◌, [], IfOk, OnOk, map, string_bytes};
 ghost use Rattle.it_files_below.specs.FilesBelow.{AreBelow, AreFilesAt, AreFilesAtEach, HoldsFiles};
 ghost use Rattle.it_files_below.specs.FilesBelow.{beginning_of as beginning_of_paths};
 ghost use Rattle.it_files_below.specs.FilesBelow.{path_in as joined};
 
 use it_base::text::Text;
 use it_disk::{Disk, Fault, Kind, Shown};
+use it_sorted_paths::put_in_order;
 use std::alloc::{AllocError, Global};
 use std::path::Path;
 
@@ -133,14 +130,4 @@ fn beginning_of(folder: &str) -> &str
     } else {
         folder
     }
-}
-
-/// Puts paths in the order of their bytes, and keeps each once.
-fn put_in_order(paths: &mut Vec<String>)
-    ensures same { (path : _) → Contains (map string_bytes paths.new.items) path
-        ↔ Contains (map string_bytes paths.old.items) path }
-    ensures rises { IsStrictlySortedBy (slice_cmp nat_cmp) (map string_bytes paths.new.items) }
-{
-    paths.sort_unstable();
-    paths.dedup();
 }

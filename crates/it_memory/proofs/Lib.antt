@@ -1,1 +1,2 @@
+pub mod NamesAfter
 pub mod Ordered

@@ -1,8 +1,9 @@
 -- Files in the order of their paths' bytes.
-use Rattle.std.proofs.Common.{◌≡◌, ◌∙◌, ◌++◌, ◌∷◌, ◌-◌, ◌<◌, ◌≤◌, ◌≢◌, [], ℕ, List, All, AllPairs, Bor}
-use Rattle.std.proofs.Common.{Less, Some, ap, arith, codes, get_or, inl, inr, length, option_map, refl}
-use Rattle.std.proofs.Common.{subst, sym}
-use Rattle.std.specs.List.{slice_get}
+use Rattle.std.proofs.Common.{◌≡◌, ◌∙◌, ◌++◌, ◌∷◌, ◌-◌, ◌<◌, ◌≤◌, ◌≢◌, ◌⊎◌, ◌↔◌, [], ℕ, List, All}
+use Rattle.std.proofs.Common.{AllPairs, Bor, Contains, Less, Some, ap, append-nil, append_assoc, arith, codes}
+use Rattle.std.proofs.Common.{get_or, inl, inr, length, option_map, refl, subst, sym}
+use Rattle.std.specs.List.{slice_get, slice_range}
+use Rattle.std.specs.Str.{byte}
 use Rattle.std.proofs.lemmas.Bool.{cases_lt}
 use Rattle.std.proofs.lemmas.Cmp.{nat_list_cmp_total}
 use Rattle.std.proofs.lemmas.List.{length-map}
@@ -12,7 +13,11 @@ use Rattle.it_rules.specs.Ranges.{AreInOrder, IsFrontRange}
 use Rattle.it_rules.proofs.Listed.{Contains-map, Contains-map_cases, mapped_place, same_place}
 use Rattle.it_rules.proofs.Listed.{slice_get_within}
 use Rattle.it_rules.proofs.PathOrder.{not_below_itself, path_cmp}
-use Rattle.it_memory.specs.Files.{HasBelow, HasFile, files_of}
+use Rattle.it_disk.specs.declared.folders.Kind.{Kind}
+use Rattle.it_disk.specs.declared.folders.Kind.TheVariants.{File as a_file, Folder}
+use Rattle.it_memory.specs.Files.{HasBelow, HasFile, HasKind, HasName, files_of}
+use Rattle.it_memory.specs.inside.Names.{HasNameAfter}
+use Rattle.it_memory.proofs.NamesAfter.{from_range, in_range}
 use Rattle.it_sorted_paths.specs.Order.{IsAt, IsNext}
 use Rattle.it_memory.specs.inside.Order.{AreOrdered}
 use Rattle.it_memory.specs.declared.file.File.{File}
@@ -157,3 +162,100 @@ module _ (files : List File) (paths : List (Bor (List ℕ))) (ordered : AreOrder
   of_each_file P all place d within =
       let within_paths : place < length paths = subst (λ n. place < n) same_length within in
       subst P (sym (path_at place d within_paths)) (all place no_path within_paths)
+
+  -- a name that follows the front in one of the paths is one of the folder
+  pub name_there : (front folder name : List ℕ) → front ≡ folder ++ codes "/"
+      → HasNameAfter front paths name → HasName (files_of files) folder name
+  name_there front folder name is found =
+      let path = found.0 in
+      let after = found.2 in
+      let inside : front ++ name ≡ folder ++ codes "/" ++ name = ap (λ f. f ++ name) is in
+      let has = has_at found.1.0 path (slice_get-get_or paths found.1.0 path found.1.1
+      ∙ ap Some found.1.2) in
+      elim after.ends [
+        | inl none ↦
+            let cut : path.now ≡ folder ++ codes "/" ++ name =
+            after.cut ∙ ap (λ r. front ++ name ++ r) none ∙ append-nil (front ++ name) ∙ inside in
+            record {
+              no_slash = after.no_slash;
+              kind = a_file;
+              has = (has.0, subst (λ p. HasFile (files_of files) p has.0) cut has.1);
+            }
+        | inr more ↦
+            let cut : path.now ≡ (folder ++ codes "/" ++ name) ++ codes "/" ++ more.0 =
+            after.cut ∙ ap (λ r. front ++ name ++ r) more.1 ∙ ap (λ f. f ++ (codes "/" ++ more.0)) inside
+            ∙ sym (append_assoc (folder ++ codes "/" ++ name) (codes "/") more.0) in
+            record {
+              no_slash = after.no_slash;
+              kind = Folder;
+              has = record {
+                inside = more.0;
+                bytes = has.0;
+                has = subst (λ p. HasFile (files_of files) p has.0) cut has.1;
+              };
+            }
+      ]
+
+  -- the place of the path of a file
+  path_of_file : (path bytes : List ℕ) → HasFile (files_of files) path bytes
+      → (place : ℕ) × (found : Bor (List ℕ)) × (slice_get paths place ≡ Some found)
+      × (found.now ≡ path)
+  path_of_file path bytes has =
+      let found = Contains-map_cases shown files (path, bytes) has in
+      let here = path_here found.0 found.1 found.2 in
+      (found.0, here.0, here.1, here.2 ∙ ap (λ f. f.0) found.3)
+
+  -- where a path is the front, a name and more, the name follows the front in the range
+  follows : (front name rest path bytes : List ℕ) (start end : ℕ)
+      → IsFrontRange paths front start end → ¬ Contains name (byte "/")
+      → ((rest ≡ []) ⊎ ((inside : List ℕ) × (rest ≡ byte "/" ∷ inside)))
+      → path ≡ front ++ name ++ rest → HasFile (files_of files) path bytes
+      → HasNameAfter front (slice_range paths start end) name
+  follows front name rest path bytes start end range lacks ends cut has =
+      let found = path_of_file path bytes has in
+      let whole : found.1.now ≡ front ++ name ++ rest = found.3 ∙ cut in
+      let within = (range.exact found.0 found.1 found.2).0
+      (name ++ rest, whole ∙ append_assoc front name rest) in (
+        found.1,
+        in_range paths start end range.start_first range.within found.0 found.1 within.0 within.1
+            (get_or_from_slice_get paths found.0 found.1 found.1 found.2),
+        record { rest = rest; cut = whole; ends = ends; no_slash = lacks },
+      )
+
+  -- each name of the folder follows the front in the range
+  module _ (front folder name : List ℕ) (start end : ℕ) (is : front ≡ folder ++ codes "/")
+      (range : IsFrontRange paths front start end) where
+    inside : folder ++ codes "/" ++ name ≡ front ++ name
+    inside = ap (λ f. f ++ name) (sym is)
+
+    of_kind : (kind : Kind) → ¬ Contains name (byte "/")
+        → HasKind (files_of files) (folder ++ codes "/" ++ name) kind
+        → HasNameAfter front (slice_range paths start end) name
+    of_kind a_file lacks held =
+        follows front name [] (folder ++ codes "/" ++ name) held.0 start end range lacks (inl refl)
+        (inside ∙ sym (append-nil (front ++ name))) held.1
+    of_kind Folder lacks below =
+        follows front name (byte "/" ∷ below.inside)
+        ((folder ++ codes "/" ++ name) ++ codes "/" ++ below.inside) below.bytes start end range lacks
+        (inr (below.inside, refl))
+        (append_assoc (folder ++ codes "/" ++ name) (codes "/") below.inside
+        ∙ ap (λ f. f ++ (codes "/" ++ below.inside)) inside) below.has
+
+    pub name_found : HasName (files_of files) folder name
+        → HasNameAfter front (slice_range paths start end) name
+    name_found has = of_kind has.kind has.no_slash has.has
+
+  -- the names that follow the front in the range are those of the folder
+  pub names_of_folder : (front folder : List ℕ) (start end : ℕ) → front ≡ folder ++ codes "/"
+      → IsFrontRange paths front start end → (found : List (List ℕ)) → ((name : List ℕ)
+      → Contains found name ↔ HasNameAfter front (slice_range paths start end) name)
+      → (name : List ℕ) → Contains found name ↔ HasName (files_of files) folder name
+  names_of_folder front folder start end is range found told name = (
+    λ c. let after = (told name).0 c in
+        name_there front folder name is (
+          after.0,
+          from_range paths start end range.start_first after.0 after.1,
+          after.2,
+        ),
+    λ has. (told name).1 (name_found front folder name start end is range has),
+  )

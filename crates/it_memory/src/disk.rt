@@ -1,5 +1,5 @@
 //! Files in memory as a disk.
-ghost use Rattle.it_memory.specs.Files.{in_memory};
+ghost use Rattle.it_memory.specs.Files.{in_memory, seen_in};
 
 use crate::memory::Memory;
 use it_base::sequence::Sequence;
@@ -18,6 +18,8 @@ impl<'a> Alloc for Memory<'a> {
 }
 
 impl<'a> Tree for Memory<'a> {
+    ghost seen = { seen_in };
+
     fn read_whole(&self, path: &str) -> Result<Vec<u8>, Fault> {
         self.file(path)
     }

@@ -1,8 +1,8 @@
 //! Files in memory, found by their paths.
-ghost use Rattle.std.specs.Prelude.{◌↔◌, All, IfErr, IfOk, IsTrue};
+ghost use Rattle.std.specs.Prelude.{◌↔◌, All, IfErr, IfOk, IsTrue, map, string_bytes};
 ghost use Rattle.std.specs.List.Sorted.{IsPermutation};
 ghost use Rattle.it_disk.specs.Faults.{IsReadFault};
-ghost use Rattle.it_memory.specs.Files.{AreApart, HasBelow, HasFile, HasKind, files_of};
+ghost use Rattle.it_memory.specs.Files.{AreApart, AreNames, HasBelow, HasFile, HasKind, files_of};
 
 use crate::file::File;
 use crate::names::names_in;
@@ -128,7 +128,10 @@ impl<'a> Memory<'a> {
     /// # Errors
     ///
     /// The fault of the path where no folder is there.
-    pub(crate) fn names_at(&self, folder: &str) -> Result<Vec<String>, Fault> {
+    pub(crate) fn names_at(&self, folder: &str) -> Result<Vec<String>, Fault>
+        ensures { IfOk result
+            (λ names. AreNames self.now folder.now (map string_bytes names.items)) }
+    {
         if let Kind::File = self.kind_at(folder)? {
             return Err(Fault::unread(self.alloc, folder, "Not a directory")?);
         }

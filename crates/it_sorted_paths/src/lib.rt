@@ -1,4 +1,5 @@
-//! Paths in the order of their bytes: which may come next, and where one stands among them.
+//! Paths in the order of their bytes: which may come next, where one stands among them, and putting
+//! them in that order.
 //!
 //! ```
 //! if is_next(paths.as_slice(), path) {
@@ -8,9 +9,10 @@
 //! ```
 #![tactic(auto)]
 
-ghost use Rattle.std.specs.Prelude.{◌↔◌, ◌≢◌, All, IsTrue, MatchOption};
+ghost use Rattle.std.specs.Prelude.{◌↔◌, ◌≢◌, All, Contains, IsTrue, MatchOption, map};
+ghost use Rattle.std.specs.Prelude.{string_bytes};
 ghost use Rattle.std.specs.Cmp.Lexicographic.{slice_cmp};
-ghost use Rattle.std.specs.List.Sorted.{IsSortedByKey};
+ghost use Rattle.std.specs.List.Sorted.{IsSortedByKey, IsStrictlySortedBy};
 ghost use Rattle.std.specs.Ordering.{nat_cmp};
 ghost use Rattle.it_sorted_paths.specs.Order.{IsAt, IsNext};
 
@@ -36,4 +38,14 @@ pub fn place_of(paths: &[&str], path: &str) -> Option<usize>
         Ok(place) => Some(place),
         Err(_) => None,
     }
+}
+
+/// Puts paths, or parts of paths, in the order of their bytes, and keeps each once.
+pub fn put_in_order(paths: &mut Vec<String>)
+    ensures same { (path : _) → Contains (map string_bytes paths.new.items) path
+        ↔ Contains (map string_bytes paths.old.items) path }
+    ensures rises { IsStrictlySortedBy (slice_cmp nat_cmp) (map string_bytes paths.new.items) }
+{
+    paths.sort_unstable();
+    paths.dedup();
 }

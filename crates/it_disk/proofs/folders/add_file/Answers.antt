@@ -1,7 +1,11 @@
-use Rattle.std.proofs.Common.{IsNone, IsTrue, Option, ap, arith, length, refl, subst, ℕ}
-use Rattle.it_limits.specs.Limit.{IsWithinLimit}
+use Rattle.std.proofs.Common.{◌≡◌, ◌∙◌, IfSome, IsNone, IsTrue, Option, ap, arith, length, refl, string_bytes}
+use Rattle.std.proofs.Common.{subst, sym, ℕ}
+use Rattle.std.specs.Path.{path_join}
+use Rattle.it_chain.specs.declared.bundle.File.{File}
+use Rattle.it_limits.specs.Limit.{IsOverLimit, IsWithinLimit}
 use Rattle.it_limits.proofs.LinksWithin.{file_within}
 use Rattle.it_disk.proofs.LinksCounted.{file_counted}
+use Rattle.it_disk.proofs.LinksRead.{file_kept, file_left}
 use Rattle.it_disk.proofs.LinksSized.{file_sized}
 use Rattle.it_disk.proofs.folders.add_file.Goals as goal
 use Rattle.it_disk.proofs.folders.add_file.Goals.{in-None+in_ok-add_read-in-None}
@@ -52,3 +56,32 @@ returns-clause-count g c = elim c.match-too_many_in.branch [
       let more = file_counted c.in_ok-file.file c.args.links.now.bundle in
       rw (ap (λ l. l.bundle) w.links-is, w.in_ok-add_read-in-None.ensures.ok) (omega (arith, more))
 ]
+
+pub returns-clause-holds : goal.returns-clause-holds
+returns-clause-holds g c = λ folder depth before entry file have.
+    let seen = g.T.Tree.seen c.args.tree.now in
+    let limited = c.args.limited in
+    let name = string_bytes c.args.entry.name in
+    let kind = c.args.entry.kind in
+    let bytes = c.from-bytes.result in
+    let links = c.args.links.now.bundle in
+    let held : seen.file (path_join folder name) bytes =
+    subst (seen.file (path_join folder name)) (sym c.from-bytes.ensures)
+    (rw (c.as_str.ensures, entry.at_path) at c.in_ok-read_whole.ensures.holds) in
+    let is : c.in_ok-file.file ≡ record { name = name; bytes = bytes } = c.in_ok-file.ensures
+    ∙ ap (λ n. record { name = n; bytes = bytes }) c.from-name.ensures in
+    elim c.match-too_many_in.branch [
+      | in-Some+in_ok-path-in-Some+in_ok-push-in-Some w ↦
+          let over = subst (λ (over : Option ℕ). IfSome over (λ count. IsTrue limited
+          × IsOverLimit c.in_ok-file.file.bytes count)) w.in-Some.is c.too_many_in.ensures.over in
+          let many = subst (λ (f : File). IsOverLimit f.bytes w.in-Some.signatures) is over.1 in
+          rw (ap (λ l. l.bundle) w.links-is)
+          (file_left seen limited depth folder name kind before links have bytes file held
+          w.in-Some.signatures over.0 many)
+      | in-None+in_ok-add_read-in-None w ↦
+          let within = subst (λ (over : Option ℕ). IsNone over → IsTrue limited
+          → IsWithinLimit c.in_ok-file.file.bytes) w.in-None.is c.too_many_in.ensures.within refl in
+          let few = subst (λ (f : File). IsTrue limited → IsWithinLimit f.bytes) is within in
+          rw (ap (λ l. l.bundle) w.links-is, w.in_ok-add_read-in-None.ensures.ok, is)
+          (file_kept seen limited depth folder name kind before links have bytes file held few)
+    ]

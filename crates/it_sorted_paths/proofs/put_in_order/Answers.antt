@@ -1,7 +1,7 @@
 use Rattle.std.proofs.Common.{string_bytes}
 use Rattle.std.proofs.lemmas.List.Filters.{dedup_is}
-use Rattle.it_files_below.proofs.SortedTexts.{same_texts, texts_rise}
-use Rattle.it_files_below.proofs.files_below.put_in_order.Goals as goal
+use Rattle.it_sorted_paths.proofs.SortedTexts.{same_texts, texts_rise}
+use Rattle.it_sorted_paths.proofs.put_in_order.Goals as goal
 
 pub returns-clause-same : goal.returns-clause-same
 returns-clause-same c =

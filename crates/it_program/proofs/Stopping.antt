@@ -1,6 +1,6 @@
 -- What has gone out where a command stops.
 use Rattle.std.proofs.Common.{◌⊎◌, ⊎_elim, inl, inr, ℕ, List, Option, Result, Ok, Err, IfErr}
-use Rattle.std.proofs.Common.{◌≡◌, ◌≢◌, ◌∙◌, IsErrOf, ap, refl}
+use Rattle.std.proofs.Common.{◌≡◌, ◌≢◌, ◌∙◌, IsErrOf, ap, refl, subst, sym}
 use Rattle.std.specs.Io.KnownBytes.{Appends}
 use Rattle.std.specs.Result.{IsErrAnd}
 use Rattle.it_disk.specs.Reading.{Holdings}
@@ -18,7 +18,8 @@ use Rattle.it_verify_command.specs.declared.strict_fault.StrictFault.TheVariants
 use Rattle.it_outcome.specs.declared.outcome.RunFault.TheVariants.{Write}
 use Rattle.it_verify_command.specs.FoundOutput.{AreTold}
 use Rattle.it_program.specs.Commands.{FindsAgainst, form_asked}
-use Rattle.it_program.specs.Stopped.{IsBegun, NamesBegun, stop_of}
+use Rattle.it_program.specs.Stopped.{IsAllowed, IsBegun, NamesAllowed, NamesBegun, stop_of}
+use Rattle.it_program.specs.declared.spent.Spent.{Spent}
 use Rattle.it_program.specs.declared.stop.Stop.{Stop}
 use Rattle.it_program.specs.declared.stop.Stop.TheVariants.{Findings as by_findings, OfFault}
 use Rattle.it_program.specs.declared.stop.Stop.TheVariants.{TooManyChecks}
@@ -86,3 +87,46 @@ pub told_out : (form : OutputForm) (old new before after : Option (List ℕ)) (t
 told_out (Report kind) old new before after text told is = cc
 told_out (Summary names) old new before after text told is = cc
 told_out Full old new before after text told is = told.0
+
+-- a fault of a command says nothing of too many checks
+of_fault : (command : Words) (fault : Fault) → IsAllowed command (OfFault fault)
+of_fault (Verify words) fault = tt
+of_fault command fault = tt
+
+pub fault_allowed : {T : Type 0} (command : Words) (result : Result T Stop) (fault : Fault)
+    → IsErrAnd result (λ stop. stop ≡ OfFault fault) → IfErr result (IsAllowed command)
+fault_allowed command (Ok x) fault is = tt
+fault_allowed command (Err stop) fault is =
+    subst (IsAllowed command) (sym is) (of_fault command fault)
+
+-- a strict verification stops the program with nothing said of too many checks
+pub strict_unspent : {T : Type 0} (result : Result T Stop) (fault : StrictFault)
+    → IsErrAnd result (λ stop. stop ≡ stop_of fault)
+    → IfErr result (λ stop. (spent : Spent) → stop ≢ TooManyChecks spent)
+strict_unspent (Ok x) fault is = tt
+strict_unspent (Err stop) Findings is = λ spent same. cc (is, same)
+strict_unspent (Err stop) (Run reason) is = λ spent same. cc (is, same)
+
+-- what a command says of too many checks, the words say that name it
+pub named_allowed : {T : Type 0} (words : List (List ℕ)) (command : Words) (result : Result T Stop)
+    → AreWordsOf words command → IfErr result (IsAllowed command)
+    → IfErr result (NamesAllowed words)
+named_allowed words command (Ok x) named allowed = tt
+named_allowed words command (Err (TooManyChecks spent)) named allowed = (command, named, allowed)
+named_allowed words command (Err by_findings) named allowed = tt
+named_allowed words command (Err (OfFault fault)) named allowed = tt
+
+-- an outcome that says nothing of too many checks, or says how many its words allow
+pub told_allowed : {T : Type 0} (words : VerifyWords) (result : Result T Stop)
+    → IfErr result (λ stop. (spent : Spent) → stop ≢ TooManyChecks spent)
+    → IfErr result (IsAllowed (Verify words))
+told_allowed words (Ok x) unspent = tt
+told_allowed words (Err (TooManyChecks spent)) unspent = absurd (unspent spent refl)
+told_allowed words (Err by_findings) unspent = tt
+told_allowed words (Err (OfFault fault)) unspent = tt
+
+-- a fault says nothing of too many checks, whatever the words name
+pub fault_names : {T : Type 0} (words : List (List ℕ)) (result : Result T Stop) (fault : Fault)
+    → IsErrAnd result (λ stop. stop ≡ OfFault fault) → IfErr result (NamesAllowed words)
+fault_names words (Ok x) fault is = tt
+fault_names words (Err stop) fault is = subst (NamesAllowed words) (sym is) tt

@@ -13,6 +13,7 @@ use Rattle.it_verify_command.specs.declared.strict_fault.StrictFault.TheVariants
 use Rattle.it_program.specs.Commands.{FindsAgainst, form_asked}
 use Rattle.it_program.specs.declared.stop.Stop.{Stop}
 use Rattle.it_program.specs.declared.stop.Stop.TheVariants.{Findings as by_findings, OfFault}
+use Rattle.it_program.specs.declared.stop.Stop.TheVariants.{TooManyChecks}
 
 -- why the program stops where a strict verification stopped
 abbrev pub stop_of : StrictFault → Stop
@@ -48,3 +49,16 @@ pub record NamesFoundAgainst (disk : Holdings) (words : List (List ℕ))
   pub command : Words
   pub are_words : AreWordsOf words command
   pub found : IsFoundAgainst disk command old new
+
+-- where it says that more signatures would have to be checked than may be, the command is verify,
+-- and its words allow as many as it says
+abbrev pub IsAllowed : Words → Stop → Type 0
+IsAllowed (Verify words) (TooManyChecks spent) = spent.most ≡ words.most_checks
+IsAllowed command (TooManyChecks spent) = ⊥
+IsAllowed command stop = Unit {0}
+
+-- where it says so, the words name such a command
+abbrev pub NamesAllowed : List (List ℕ) → Stop → Type 0
+NamesAllowed words (TooManyChecks spent) =
+    (command : Words) × AreWordsOf words command × IsAllowed command (TooManyChecks spent)
+NamesAllowed words stop = Unit {0}

@@ -4,8 +4,8 @@ ghost use Rattle.std.specs.Prelude.{string_bytes};
 ghost use Rattle.std.specs.Io.KnownBytes.{Appends};
 ghost use Rattle.it_words.specs.Words.{AreWordsOf, GoesNoDeeper};
 ghost use Rattle.it_program.specs.Commands.{IsOutputOf};
-ghost use Rattle.it_program.specs.Stopped.{IsBegun, IsFoundAgainst, NamesBegun};
-ghost use Rattle.it_program.specs.Stopped.{NamesFoundAgainst};
+ghost use Rattle.it_program.specs.Stopped.{IsAllowed, IsBegun, IsFoundAgainst, NamesAllowed};
+ghost use Rattle.it_program.specs.Stopped.{NamesBegun, NamesFoundAgainst};
 
 use crate::size_note::write_size_note;
 use crate::stop::Stop;
@@ -43,6 +43,7 @@ pub fn run_to<R: Disk + AllocGlobal, W: Write, N: Write>(
     ensures findings { IsErrOf result Stop.Findings
         → NamesFoundAgainst (R.holdings rt.now) (map string_bytes words.now)
         (W.contents out.old.inner) (W.contents out.new.inner) }
+    ensures spent { IfErr result (NamesAllowed (map string_bytes words.now)) }
 {
     let outcome = run_words(rt, words, out, notes);
     if outcome.is_ok() {
@@ -83,6 +84,7 @@ pub fn run_words<R: Disk + AllocGlobal, W: Write, N: Write>(
     ensures findings { IsErrOf result Stop.Findings
         → NamesFoundAgainst (R.holdings rt.now) (map string_bytes words.now) (W.contents out.old)
         (W.contents out.new) }
+    ensures spent { IfErr result (NamesAllowed (map string_bytes words.now)) }
 {
     let command = read_words(rt.alloc(), words)?;
     run_command(rt, &command, out, notes)
@@ -104,6 +106,7 @@ fn run_command<R: Disk + AllocGlobal, W: Write, N: Write>(
     ensures findings { IsErrOf result Stop.Findings
         → IsFoundAgainst (R.holdings rt.now) command.now (W.contents out.old)
         (W.contents out.new) }
+    ensures spent { IfErr result (IsAllowed command.now) }
 {
     match command {
         Words::Signed(words) => Ok(signed_command::run(rt, words, out, notes)?),

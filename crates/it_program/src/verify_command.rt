@@ -4,7 +4,9 @@ ghost use Rattle.std.specs.Io.KnownBytes.{Appends};
 ghost use Rattle.it_verify_command.specs.Strictly.{HasFindings, StandsStrictly};
 ghost use Rattle.it_verify_command.specs.VerifyOutputIn.{IsVerifyOutputIn};
 ghost use Rattle.it_program.specs.Commands.{FindsAgainst, Verifies, form_asked};
+ghost use Rattle.it_program.specs.Stopped.{IsAllowed};
 ghost use Rattle.it_program.specs.inside.Spent.{IsToldSpent};
+ghost use Rattle.it_words.specs.declared.words.Words.TheVariants.{Verify};
 
 use crate::asked::Asked;
 use crate::given::{Given, read_given};
@@ -45,6 +47,7 @@ pub(crate) fn run<R: Disk + AllocGlobal, W: Write, N: Write>(
         (W.contents out.old) (W.contents out.new) }
     ensures lines { IsErrOf result Stop.Findings → form_asked words.now.output ≢ OutputForm.Full
         → out.new ≡ out.old }
+    ensures spent { IfErr result (IsAllowed (Verify words.now)) }
 {
     let alloc = rt.alloc();
     let asked = Asked::by(alloc, words)?;
@@ -115,6 +118,7 @@ fn verify_as_asked<C: Checks, W: Write, N: Write>(
         → Appends (W.contents out.old) (W.contents out.new) text) }
     ensures lines { IsErrOf result Stop.Findings → asked.now.form.now ≢ OutputForm.Full
         → out.new ≡ out.old }
+    ensures unspent { IfErr result (λ stop. (spent : _) → stop ≢ Stop.TooManyChecks spent) }
 {
     if strict {
         Ok(verify_strictly(alloc, asked, out, notes)?)

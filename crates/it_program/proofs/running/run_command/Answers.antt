@@ -1,5 +1,5 @@
 use Rattle.std.proofs.Common.{⊎_elim, inl, inr}
-use Rattle.it_program.proofs.Stopping.{handed_on, verify_begun}
+use Rattle.it_program.proofs.Stopping.{fault_allowed, handed_on, verify_begun}
 use Rattle.it_program.proofs.running.run_command.Goals as goal
 
 pub returns-in_err-run-in-Signed-clause-stopped : goal.returns-in_err-run-in-Signed-clause-stopped
@@ -64,3 +64,46 @@ returns-in-Verify-clause-findings g c = λ is. record {
   is_verify = c.in-Verify.is;
   finds = c.run-in-Verify.ensures.findings is;
 }
+
+pub returns-in_err-run-in-Signed-clause-spent : goal.returns-in_err-run-in-Signed-clause-spent
+returns-in_err-run-in-Signed-clause-spent g c =
+    fault_allowed c.args.command.now c.from_residual.result _ c.from_residual.ensures.1
+
+pub returns-in_err-run-in-Match-clause-spent : goal.returns-in_err-run-in-Match-clause-spent
+returns-in_err-run-in-Match-clause-spent g c =
+    fault_allowed c.args.command.now c.from_residual-in_err-run-in-Match.result _ c.from_residual-in_err-run-in-Match.ensures.1
+
+pub returns-in_err-run-in-Pae-clause-spent : goal.returns-in_err-run-in-Pae-clause-spent
+returns-in_err-run-in-Pae-clause-spent g c =
+    fault_allowed c.args.command.now c.from_residual-in_err-run-in-Pae.result _ c.from_residual-in_err-run-in-Pae.ensures.1
+
+pub returns-in_err-run-in-Sign-clause-spent : goal.returns-in_err-run-in-Sign-clause-spent
+returns-in_err-run-in-Sign-clause-spent g c =
+    fault_allowed c.args.command.now c.from_residual-in_err-run-in-Sign.result _ c.from_residual-in_err-run-in-Sign.ensures.1
+
+pub returns-in_err-run-in-Digest-clause-spent : goal.returns-in_err-run-in-Digest-clause-spent
+returns-in_err-run-in-Digest-clause-spent g c =
+    fault_allowed c.args.command.now c.from_residual-in_err-run-in-Digest.result _ c.from_residual-in_err-run-in-Digest.ensures.1
+
+pub returns-in_err-run-in-Link-clause-spent : goal.returns-in_err-run-in-Link-clause-spent
+returns-in_err-run-in-Link-clause-spent g c =
+    fault_allowed c.args.command.now c.from_residual-in_err-run-in-Link.result _ c.from_residual-in_err-run-in-Link.ensures.1
+
+pub returns-in_err-run-in-Statement-clause-spent : goal.returns-in_err-run-in-Statement-clause-spent
+returns-in_err-run-in-Statement-clause-spent g c =
+    fault_allowed c.args.command.now c.from_residual-in_err-run-in-Statement.result _ c.from_residual-in_err-run-in-Statement.ensures.1
+
+pub returns-in_err-run-in-Payload-clause-spent : goal.returns-in_err-run-in-Payload-clause-spent
+returns-in_err-run-in-Payload-clause-spent g c =
+    fault_allowed c.args.command.now c.from_residual-in_err-run-in-Payload.result _ c.from_residual-in_err-run-in-Payload.ensures.1
+
+pub returns-in_err-run-in-Key-clause-spent : goal.returns-in_err-run-in-Key-clause-spent
+returns-in_err-run-in-Key-clause-spent g c =
+    fault_allowed c.args.command.now c.from_residual-in_err-run-in-Key.result _ c.from_residual-in_err-run-in-Key.ensures.1
+
+pub returns-in_err-run-in-Check-clause-spent : goal.returns-in_err-run-in-Check-clause-spent
+returns-in_err-run-in-Check-clause-spent g c =
+    fault_allowed c.args.command.now c.from_residual-in_err-run-in-Check.result _ c.from_residual-in_err-run-in-Check.ensures.1
+
+pub returns-in-Verify-clause-spent : goal.returns-in-Verify-clause-spent
+returns-in-Verify-clause-spent g c = rw c.in-Verify.is c.run-in-Verify.ensures.spent

@@ -3,7 +3,7 @@ use Rattle.std.specs.String.{string_bytes}
 use Rattle.std.specs.Io.KnownBytes.{Appends}
 use Rattle.it_words.specs.Words.{AreWordsOf}
 use Rattle.it_program.specs.Commands.{IsOutputOf}
-use Rattle.it_program.proofs.Stopping.{named_begun}
+use Rattle.it_program.proofs.Stopping.{fault_names, named_allowed, named_begun}
 use Rattle.it_program.proofs.running.run_words.Goals as goal
 
 -- what is told of a command is told of some command
@@ -29,6 +29,12 @@ returns g c =
       };
       ok = of_some (AreWordsOf words) (IsOutputOf disk) (Appends old new) command
           c.run_command.result named c.run_command.ensures.ok;
+      spent = named_allowed words command c.run_command.result named c.run_command.ensures.spent;
       stopped = named_begun _ _ disk command old new words c.run_command.result named
           c.run_command.ensures.stopped;
     }
+
+pub returns-in_err-command-clause-spent : goal.returns-in_err-command-clause-spent
+returns-in_err-command-clause-spent g c =
+    fault_names (map string_bytes c.args.words.now) c.from_residual.result _
+    c.from_residual.ensures.1

@@ -4,6 +4,7 @@ use Rattle.it_outcome.specs.declared.outcome.RunFault.TheVariants.{OutOfMemory, 
 use Rattle.it_program.specs.declared.spent.Spent.{Spent}
 use Rattle.it_program.specs.declared.stop.Stop.{Stop}
 use Rattle.it_program.specs.declared.stop.Stop.TheVariants.{Findings, OfFault, TooManyChecks}
+use Rattle.it_program.proofs.Stopping.{told_allowed}
 use Rattle.it_program.proofs.verify_command.run.Goals as goal
 
 -- what is told of an answer in two parts
@@ -68,4 +69,11 @@ pub returns-clause-lines : goal.returns-clause-lines
 returns-clause-lines g c = λ is. elim c.told_spent.ensures [
   | inl same ↦ rw c.in_ok-asked.ensures.form at (c.verify_as_asked-outcome.ensures.lines (sym same ∙ is))
   | inr spent ↦ λ other. absurd (never _ _ spent.3 is)
+]
+
+pub returns-clause-spent : goal.returns-clause-spent
+returns-clause-spent g c = elim c.told_spent.ensures [
+  | inl same ↦ rw same (told_allowed c.args.words.now c.verify_as_asked-outcome.result
+      c.verify_as_asked-outcome.ensures.unspent)
+  | inr spent ↦ rw spent.3 spent.2
 ]

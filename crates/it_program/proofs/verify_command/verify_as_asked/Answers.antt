@@ -1,5 +1,5 @@
 use Rattle.std.proofs.Common.{ap, Err}
-use Rattle.it_program.proofs.Stopping.{found_by, kept_by, told_out}
+use Rattle.it_program.proofs.Stopping.{found_by, kept_by, strict_unspent, told_out}
 use Rattle.it_program.proofs.verify_command.verify_as_asked.Goals as goal
 
 pub returns-in_err-verify_strictly-clause-findings : goal.returns-in_err-verify_strictly-clause-findings
@@ -25,3 +25,7 @@ returns-in_err-verify_strictly-clause-lines g c = λ is.
     let fault = c.in_err-verify_strictly.field-0.0 in
     c.in_err-verify_strictly.ensures.lines
     (ap Err (found_by c.from_residual.result fault c.from_residual.ensures.1 is))
+
+pub returns-in_err-verify_strictly-clause-unspent : goal.returns-in_err-verify_strictly-clause-unspent
+returns-in_err-verify_strictly-clause-unspent g c =
+    strict_unspent c.from_residual.result c.in_err-verify_strictly.field-0.0 c.from_residual.ensures.1

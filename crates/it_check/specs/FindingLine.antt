@@ -5,7 +5,7 @@ use Rattle.it_findings.specs.declared.finding.Finding.{Finding}
 use Rattle.it_check.specs.FindingName.{name_of}
 use Rattle.it_check.specs.FindingPlace.{document_of, pointer_of}
 use Rattle.it_check.specs.FindingSentence.{sentence_of}
-use Rattle.it_check.specs.Pieces.{number_form}
+use Rattle.it_part_notes.specs.SumLine.{numbered_form}
 use Rattle.it_check.specs.declared.pointer_form.PointerForm.TheVariants.{Shown}
 
 -- the beginning of a line: the document, the name of what is found, and its place as a JSON pointer
@@ -27,7 +27,7 @@ line_of finding =
 -- how many findings a document has, where not all are written
 unfoldable pub count_form : List ℕ → ℕ → List ℕ
 count_form document count =
-    document ++ number_form (codes ": 40 of ") count (codes " findings are written\n")
+    document ++ numbered_form (codes ": 40 of ") count (codes " findings are written\n")
 
 -- that there are more findings in a document than are written
 abbrev pub more_form : List ℕ → ℕ → List ℕ

@@ -21,7 +21,7 @@ use Rattle.it_repeats.specs.declared.repeated_member.Segment.TheVariants as segm
 use Rattle.it_repeats.specs.declared.root.Root.{Root}
 use Rattle.it_repeats.specs.declared.root.Root.TheVariants as roots
 use Rattle.it_report.specs.Name.{name_form}
-use Rattle.it_check.specs.Pieces.{number_form}
+use Rattle.it_part_notes.specs.SumLine.{numbered_form}
 use Rattle.it_check.specs.declared.pointer_form.PointerForm.{PointerForm}
 use Rattle.it_check.specs.declared.pointer_form.PointerForm.TheVariants.{Plain, Shown}
 
@@ -103,14 +103,14 @@ rule_pointer list place = list_pointer list ++ codes "/" ++ decimal place
 
 -- the place of a member of a step, of a key id of a step, and of a member of an expectation
 abbrev pub step_pointer : ℕ → List ℕ → List ℕ
-step_pointer place member = number_form (codes "/steps/") place member
+step_pointer place member = numbered_form (codes "/steps/") place member
 
 unfoldable pub step_key_pointer : ℕ → ℕ → List ℕ
 step_key_pointer step place =
-    number_form (codes "/steps/") step (codes "/pubkeys/") ++ decimal place
+    numbered_form (codes "/steps/") step (codes "/pubkeys/") ++ decimal place
 
 abbrev pub expectation_pointer : ℕ → List ℕ → List ℕ
-expectation_pointer place member = number_form (codes "/expectations/") place member
+expectation_pointer place member = numbered_form (codes "/expectations/") place member
 
 -- the place of a parameter of an expectation
 unfoldable pub parameter_pointer : PointerForm → ℕ → List ℕ → List ℕ
@@ -121,8 +121,8 @@ parameter_pointer form place name =
 unfoldable pub keys_pointer : KeyList → List ℕ
 keys_pointer Owners = codes "/owners"
 keys_pointer (OfBuilder expectation builder) =
-    number_form (codes "/expectations/") expectation (codes "/builders/")
-    ++ number_form (codes "") builder (codes "/keys")
+    numbered_form (codes "/expectations/") expectation (codes "/builders/")
+    ++ numbered_form (codes "") builder (codes "/keys")
 keys_pointer OfLayout = codes "/keys"
 
 -- the place of the key object under an id of such a list
@@ -132,7 +132,7 @@ key_pointer form list id = keys_pointer list ++ codes "/" ++ token_form form id
 -- the place of a builder, and of the keyval of a key object
 unfoldable pub builder_pointer : ℕ → ℕ → List ℕ
 builder_pointer expectation builder =
-    number_form (codes "/expectations/") expectation (codes "/builders/") ++ decimal builder
+    numbered_form (codes "/expectations/") expectation (codes "/builders/") ++ decimal builder
 
 unfoldable pub keyval_pointer : PointerForm → KeyPlace → List ℕ
 keyval_pointer form key = key_pointer form (list_of key) (id_of key) ++ codes "/keyval"
@@ -144,7 +144,7 @@ object_pointer form (places.Expectation n) = expectation_pointer n (codes "")
 object_pointer form (places.Builder expectation builder) = builder_pointer expectation builder
 object_pointer form places.Layout = []
 object_pointer form (places.Step n) = step_pointer n (codes "")
-object_pointer form (places.Inspection n) = number_form (codes "/inspect/") n (codes "")
+object_pointer form (places.Inspection n) = numbered_form (codes "/inspect/") n (codes "")
 object_pointer form (places.Key key) = key_pointer form (list_of key) (id_of key)
 object_pointer form (places.KeyValue key) = keyval_pointer form key
 

@@ -3,7 +3,8 @@ use Rattle.std.specs.Prelude.{ℕ, List, ◌++◌, codes}
 use Rattle.it_findings.specs.declared.finding.RuleList.{RuleList}
 use Rattle.it_findings.specs.declared.finding.RuleList.TheVariants.{Deliver, OfStep, OfInspection}
 use Rattle.it_report.specs.Report.{side_form}
-use Rattle.it_check.specs.Pieces.{number_form, quoted, told_form}
+use Rattle.it_check.specs.Pieces.{quoted, told_form}
+use Rattle.it_part_notes.specs.SumLine.{numbered_form}
 
 -- what the rules of a list are on
 unfoldable pub scope_form : RuleList → List ℕ
@@ -35,7 +36,7 @@ open_rules_sentence list = on_list (codes "the rules on ") list (closing_form li
 
 -- the beginning of a sentence on the rule at a place of a list
 unfoldable pub on_rule : RuleList → ℕ → List ℕ
-on_rule list place = number_form (codes "rule ") place (codes " on ") ++ scope_form list
+on_rule list place = numbered_form (codes "rule ") place (codes " on ") ++ scope_form list
 
 unfoldable pub unknown_item_sentence : RuleList → ℕ → List ℕ → List ℕ
 unknown_item_sentence list place name =

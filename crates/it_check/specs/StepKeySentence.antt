@@ -1,13 +1,14 @@
 -- What is said of findings on the keys of steps (this project's words).
 use Rattle.std.specs.Prelude.{ℕ, List, ◌++◌, codes, decimal}
 use Rattle.it_findings.specs.declared.finding.StepPlace.{StepPlace}
-use Rattle.it_check.specs.Pieces.{number_form, quoted, told_form}
+use Rattle.it_check.specs.Pieces.{quoted, told_form}
+use Rattle.it_part_notes.specs.SumLine.{numbered_form}
 
 -- how many different keys a step needs, and how many it lists
 unfoldable pub threshold_form : ℕ → ℕ → List ℕ
 threshold_form threshold ids =
     decimal threshold
-    ++ number_form (codes " different keys and lists ") ids (codes ", so that it never passes")
+    ++ numbered_form (codes " different keys and lists ") ids (codes ", so that it never passes")
 
 unfoldable pub high_threshold_sentence : StepPlace → ℕ → ℕ → List ℕ
 high_threshold_sentence step threshold ids =
@@ -15,7 +16,7 @@ high_threshold_sentence step threshold ids =
 
 abbrev pub no_threshold_sentence : ℕ → List ℕ
 no_threshold_sentence place =
-    number_form (codes "step ") place
+    numbered_form (codes "step ") place
     (codes " has no threshold, so that one key is enough for it")
 
 -- the beginning of a sentence on a key id of a step

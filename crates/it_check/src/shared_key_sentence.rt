@@ -1,6 +1,7 @@
 //! What is said of findings on keys with more than one holder.
 ghost use Rattle.std.specs.Prelude.{◌≡◌, ◌++◌, OnOk, codes, decimal};
-ghost use Rattle.it_check.specs.Pieces.{number_form, told_form};
+ghost use Rattle.it_check.specs.Pieces.{told_form};
+ghost use Rattle.it_part_notes.specs.SumLine.{numbered_form};
 ghost use Rattle.it_check.specs.SharedKeySentence.{holder_form, other_form, shared_key_sentence};
 
 use crate::writing::{push_number, push_told, push_told_number};
@@ -50,7 +51,7 @@ fn push_other(text: &mut Vec<u8>, holder: &Holder) -> Result<(), AllocError>
 fn push_other_builder(text: &mut Vec<u8>, id: &Text, level: u8) -> Result<(), AllocError>
     ensures { OnOk result (text.new.items
         ≡ text.old.items ++ (told_form (codes " and builder ") id.now (codes " of level ")
-        ++ number_form (codes "") level (codes " have the same key"))) }
+        ++ numbered_form (codes "") level (codes " have the same key"))) }
 {
     push_told(text, " and builder ", id, " of level ")?;
     push_told_number(text, "", level as usize, " have the same key")

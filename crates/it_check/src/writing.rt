@@ -1,6 +1,7 @@
 //! Pieces of lines.
 ghost use Rattle.std.specs.Prelude.{◌≡◌, ◌++◌, OnOk, decimal};
-ghost use Rattle.it_check.specs.Pieces.{number_form, quoted, told_form};
+ghost use Rattle.it_check.specs.Pieces.{quoted, told_form};
+ghost use Rattle.it_part_notes.specs.SumLine.{numbered_form};
 
 use it_base::text::Text;
 use it_report::name::push_name;
@@ -57,7 +58,7 @@ pub fn push_told(
 }
 
 /// Appends a number in decimal between two texts.
-#[tactic(auto, unfolding(crate::specs::Pieces::number_form))]
+#[tactic(auto, unfolding(it_part_notes::specs::SumLine::numbered_form))]
 pub(crate) fn push_told_number(
     text: &mut Vec<u8>,
     before: &str,
@@ -65,7 +66,7 @@ pub(crate) fn push_told_number(
     after: &str,
 ) -> Result<(), AllocError>
     ensures { OnOk result
-        (text.new.items ≡ text.old.items ++ number_form before.now number after.now) }
+        (text.new.items ≡ text.old.items ++ numbered_form before.now number after.now) }
 {
     push_text(text, before)?;
     push_number(text, number)?;

@@ -3,8 +3,7 @@ use Rattle.std.proofs.Common.{ℕ, List}
 use Rattle.it_dsse.specs.Panel.{Panel}
 use Rattle.it_dsse.specs.Signed.{AreThose, IsSigner}
 use Rattle.it_dsse.specs.declared.envelope.Envelope.{Envelope}
-use Rattle.it_commands.specs.SignedOutput.{NamesSigners, ring_object}
-use Rattle.it_commands.specs.inside.SignerNames.{ListsNames}
+use Rattle.it_commands.specs.SignedOutput.{ListsNames, NamesSigners, ring_object}
 use Rattle.it_outcome.specs.declared.outcome.Status.{Status}
 use Rattle.it_commands.proofs.Those.{any_kept, kept_any}
 

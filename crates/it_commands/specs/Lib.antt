@@ -6,4 +6,3 @@ pub mod SignOntoOutput
 pub mod SignNotes
 pub mod SignOutput
 pub mod SignedOutput
-pub mod inside

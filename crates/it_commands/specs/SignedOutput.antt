@@ -1,5 +1,5 @@
 -- Who signed an envelope, as a text (this profile's choice of the text).
-use Rattle.std.specs.Prelude.{◌≡◌, ◌↔◌, ◌⊎◌, ℕ, List, [], ◌++◌, Any, codes}
+use Rattle.std.specs.Prelude.{◌≡◌, ◌≢◌, ◌↔◌, ◌⊎◌, ℕ, List, [], ◌++◌, Any, codes}
 use Rattle.std.specs.List.{flat_map}
 use Rattle.it_dsse.specs.Panel.{Panel}
 use Rattle.it_dsse.specs.Envelope.{EnvelopeOf}
@@ -24,6 +24,11 @@ ring_object = record {
 -- names, one per line
 abbrev pub names_text : List (List ℕ) → List ℕ
 names_text names = flat_map (λ name. name_form name ++ codes "\n") names
+
+-- the text lists names, and the status says whether there is one
+pub record ListsNames (names : List (List ℕ)) (text : List ℕ) (status : Status) : Type 0 where
+  pub text_is : text ≡ names_text names
+  pub good : (status ≡ Good) ↔ (names ≢ [])
 
 -- the text names those of the ids that signed the envelope, and the status says whether any did
 pub record NamesSigners (panel : Panel) (ids : List (List ℕ)) (envelope : Envelope) (text : List ℕ)

@@ -20,4 +20,4 @@ pub use payload_output::run_payload;
 pub use sign_notes::write_sign_notes;
 pub use sign_onto_output::run_sign_onto;
 pub use sign_output::{put_line, run_sign};
-pub use signed_output::{names_text, run_signed, run_signed_by};
+pub use signed_output::{names_output, run_signed, run_signed_by};

@@ -7,11 +7,11 @@ ghost use Rattle.it_dsse.specs.Signed.{AreThose, IsSigner};
 ghost use Rattle.it_outcome.specs.Outcome.{IsOutputFault};
 ghost use Rattle.it_commands.specs.SignedOutput.{
   IsSignedOutput,
+  ListsNames,
   NamesSigners,
   names_text,
   ring_object,
 };
-ghost use Rattle.it_commands.specs.inside.SignerNames.{ListsNames};
 
 use crate::no_envelope::no_envelope_output;
 use it_base::parts::from_bytes;
@@ -149,7 +149,13 @@ fn ring_object(alloc: Global) -> Result<KeyObject, AllocError>
     })
 }
 
-fn names_output(alloc: Global, names: &[String]) -> Result<Output, AllocError>
+/// Names as an output: each as a report writes a name, on a line of its own, and the status `Good`
+/// where there is one, `Refused` otherwise.
+///
+/// # Errors
+///
+/// `AllocError` where memory was refused.
+pub fn names_output(alloc: Global, names: &[String]) -> Result<Output, AllocError>
     ensures { IfOk result (λ output. ListsNames (map string_bytes names.now)
         output.text.items output.status) }
 {
@@ -169,12 +175,7 @@ fn status_of(names: &[String]) -> Status
     }
 }
 
-/// Names as a text: each as a report writes a name, on a line of its own.
-///
-/// # Errors
-///
-/// `AllocError` where memory was refused.
-pub fn names_text(alloc: Global, names: &[String]) -> Result<Vec<u8>, AllocError>
+fn names_text(alloc: Global, names: &[String]) -> Result<Vec<u8>, AllocError>
     ensures { IfOk result (λ text. text.items ≡ names_text (map string_bytes names.now)) }
 {
     let mut text = Vec::new(alloc);

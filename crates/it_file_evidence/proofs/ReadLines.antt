@@ -70,9 +70,6 @@ pub record HasRead (bytes rest : List ℕ) (place : ℕ) (envelopes : List Envel
   pub as_many : place ≡ length done
   pub read : AreReadFrom 1 done envelopes places
 
-pub none_read : (bytes : List ℕ) → HasRead bytes bytes 0 [] []
-none_read bytes = record { done = []; all = refl; as_many = refl; read = (refl, refl) }
-
 module _ (bytes rest after line : List ℕ) (place : ℕ) (envelopes : List Envelope)
     (places : List ℕ) (has : HasRead bytes rest place envelopes places)
     (cut : lines_of rest ≡ line ∷ lines_of after) where

@@ -1,5 +1,5 @@
 -- The ids of the keys that signed a message, one after another.
-use Rattle.std.proofs.Common.{◌≡◌, ◌∙◌, ◌↔◌, ◌++◌, ◌≢◌, ℕ, List, [], ◌∷◌, map, refl, sym}
+use Rattle.std.proofs.Common.{◌≡◌, ◌∙◌, ◌++◌, ℕ, List, [], ◌∷◌, map, refl, sym}
 use Rattle.std.proofs.Common.{ap, subst, append-nil, append_assoc}
 use Rattle.std.specs.FinMap.{entries}
 use Rattle.std.proofs.lemmas.List.{map-append}
@@ -10,8 +10,7 @@ use Rattle.it_dsse.specs.declared.envelope.Signature.{Signature}
 use Rattle.it_dsse.specs.declared.key_object.KeyObject.{KeyObject}
 use Rattle.it_dsse.proofs.Keeping.{keep_last, pass_last}
 use Rattle.it_outcome.specs.declared.outcome.Status.{Status}
-use Rattle.it_outcome.specs.declared.outcome.Status.TheVariants.{Good}
-use Rattle.it_commands.specs.SignedOutput.{names_text}
+use Rattle.it_commands.specs.SignedOutput.{ListsNames, names_text}
 use Rattle.it_commands.proofs.Those.{any_kept, kept_any}
 use Rattle.it_key_commands.specs.SignedByKeysOutput.{IsKeySigner, NamesKeySigners}
 use Rattle.it_key_commands.specs.Signers.{SignedUnder}
@@ -93,16 +92,15 @@ no_ids (entry ∷ signers) none = cc
 pub names_signers : (objects : Named KeyObject) (envelope : Envelope) (names : List (List ℕ))
     (text : List ℕ) (status : Status)
     → AreSignerNames objects (message_of envelope) envelope.signatures names
-    → text ≡ names_text names → (status ≡ Good) ↔ (names ≢ [])
-    → NamesKeySigners objects envelope text status
-names_signers objects envelope names text status are text_is good = record {
+    → ListsNames names text status → NamesKeySigners objects envelope text status
+names_signers objects envelope names text status are lists = record {
   signers = are.signers;
   are_those = are.are_those;
-  text_is = text_is ∙ ap names_text are.names_are;
+  text_is = lists.text_is ∙ ap names_text are.names_are;
   good = (
     λ is. any_kept (IsKeySigner envelope) (entries objects) are.signers are.are_those
-        (λ none. good.0 is (are.names_are ∙ ap ids_of none)),
-    λ some. good.1 (λ none. kept_any (IsKeySigner envelope) (entries objects) are.signers
+        (λ none. lists.good.0 is (are.names_are ∙ ap ids_of none)),
+    λ some. lists.good.1 (λ none. kept_any (IsKeySigner envelope) (entries objects) are.signers
         are.are_those some (no_ids are.signers (sym are.names_are ∙ none))),
   );
 }

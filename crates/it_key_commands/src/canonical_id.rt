@@ -14,7 +14,7 @@ use std::alloc::{AllocError, Global};
 ///
 /// `AllocError` where memory was refused.
 #[tactic(auto, unfolding(crate::specs::KeyId::key_id))]
-pub fn key_id(alloc: Global, object: &KeyObject) -> Result<String, AllocError>
+pub(crate) fn key_id(alloc: Global, object: &KeyObject) -> Result<String, AllocError>
     ensures { IfOk result (λ id. string_bytes id ≡ key_id object.now) }
 {
     let text = id_text(alloc, object)?;

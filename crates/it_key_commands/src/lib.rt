@@ -19,7 +19,6 @@ mod signed_by_other;
 mod signer;
 mod two_numbers;
 
-pub use canonical_id::key_id;
 pub use fault::{FileFault, KeyFault, OtherText, SignatureFlaw};
 pub use identity_output::run_identity;
 pub use key_output::run_key;

@@ -1,5 +1,5 @@
 //! `itv signed` with public keys: whose keys signed an envelope.
-ghost use Rattle.std.specs.Prelude.{◌≡◌, ◌≢◌, ◌↔◌, [], IfErr, IfOk, IsErrOf, map, string_bytes};
+ghost use Rattle.std.specs.Prelude.{◌≡◌, IfErr, IfOk, IsErrOf, map, string_bytes};
 ghost use Rattle.std.specs.Io.KnownBytes.{Appends};
 ghost use Rattle.it_base.specs.Writing.{AppendsBeginning};
 ghost use Rattle.it_dsse.specs.Signed.{message_of};
@@ -10,7 +10,7 @@ ghost use Rattle.it_outcome.specs.Outcome.{IsOutputFault};
 use crate::signer::is_signed_under;
 use it_base::parts::from_bytes;
 use it_base::table::Table;
-use it_commands::{names_text, no_envelope_output};
+use it_commands::{names_output, no_envelope_output};
 use it_dsse::envelope::{Envelope, Signature};
 use it_dsse::key_object::KeyObject;
 use it_dsse::pae;
@@ -73,20 +73,7 @@ fn signers_output(
         output.text.items output.status) }
 {
     let names = signer_names(alloc, envelope, objects)?;
-    Ok(Output {
-        text: names_text(alloc, names.as_slice())?,
-        status: status_of(names.as_slice()),
-    })
-}
-
-fn status_of(names: &[String]) -> Status
-    ensures { (result ≡ Status.Good) ↔ (map string_bytes names.now ≢ []) }
-{
-    if names.is_empty() {
-        Status::Refused
-    } else {
-        Status::Good
-    }
+    names_output(alloc, names.as_slice())
 }
 
 fn signer_names(

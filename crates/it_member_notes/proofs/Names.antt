@@ -1,10 +1,9 @@
--- Maps of names: one more, and looking one up.
+-- Maps of names: one more, and those of a list.
 use Rattle.std.proofs.Common.{◌≡◌, ◌∙◌, ℕ, ◌+◌, ◌<◌, List, Bool, true, false, Option, Some, is_some}
 use Rattle.std.proofs.Common.{All, cond, get_or, length, take, refl, ap, subst}
 use Rattle.std.specs.FinMap.{get, get-insert, insert}
-use Rattle.std.specs.List.{Any}
 use Rattle.std.proofs.lemmas.Cmp.{nat_list_cmp_total}
-use Rattle.std.proofs.lemmas.List.Elements.{All-get_or, All-more, All-weaker}
+use Rattle.std.proofs.lemmas.List.Elements.{All-more, All-weaker}
 use Rattle.std.proofs.lemmas.Map.Text.{is_eq-slice_cmp}
 use Rattle.std.proofs.lemmas.Slice.Eq.{bytes_eq-Decides}
 use Rattle.it_base.specs.Table.{Named}
@@ -40,12 +39,3 @@ module _ {X : Type 0} (name_of : X → List ℕ) (xs : List X) where
       (All-weaker (λ y. HasName before (name_of y)) (λ y. HasName after (name_of y))
       (λ y h. kept (name_of y) h) (take i xs) all)
       (subst (λ y. HasName after (name_of y)) here has)
-
-  -- a map that has all names has each
-  pub has_any : (names : Named (Unit {0})) (name : List ℕ)
-      → All (λ y. HasName names (name_of y)) xs → Any (λ y. name_of y ≡ name) xs
-      → HasName names name
-  has_any names name all any =
-      subst (HasName names) any.4
-      (subst (λ y. HasName names (name_of y)) any.3
-      (All-get_or (λ y. HasName names (name_of y)) xs any.0 any.1 any.2 all))

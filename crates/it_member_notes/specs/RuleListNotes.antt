@@ -1,21 +1,13 @@
 -- What the notes on a list of artifact rules say (in-toto 1.0 section 4.3.3; that there are notes,
 -- and which, is a word of this project).
-use Rattle.std.specs.Prelude.{◌≡◌, ℕ, List, [], ◌∷◌, ◌++◌, Some, Any, slice_get}
+use Rattle.std.specs.Prelude.{◌≡◌, ℕ, List, [], ◌∷◌, ◌++◌, Some, slice_get}
 use Rattle.it_docs.specs.declared.layout.Layout.{Layout}
 use Rattle.it_docs.specs.declared.rule.Rule.{Rule}
 use Rattle.it_docs.specs.declared.rule.Rule.TheVariants.{Disallow, Match}
-use Rattle.it_docs.specs.declared.step.Inspection.{Inspection}
-use Rattle.it_docs.specs.declared.step.Step.{Step}
+use Rattle.it_findings.specs.RuleFindings.{HasInspection, HasStep}
 use Rattle.it_member_notes.specs.declared.rule_list_note.RuleListNote.{RuleListNote}
 use Rattle.it_member_notes.specs.declared.rule_list_note.RuleListNote.TheVariants.{MatchFromNoStep}
 use Rattle.it_member_notes.specs.declared.rule_list_note.RuleListNote.TheVariants.{NoDisallowAtEnd}
-
--- a step or an inspection of the layout has this name
-abbrev pub HasStep : Layout → List ℕ → Type 0
-HasStep layout name = Any (λ (s : Step). s.name ≡ name) layout.steps
-
-abbrev pub HasInspection : Layout → List ℕ → Type 0
-HasInspection layout name = Any (λ (i : Inspection). i.name ≡ name) layout.inspections
 
 -- the rule is a MATCH from this name
 abbrev pub IsMatchFrom : Rule → List ℕ → Type 0

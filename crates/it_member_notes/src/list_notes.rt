@@ -1,7 +1,7 @@
 //! The notes on a list of artifact rules.
 ghost use Rattle.std.specs.Prelude.{◌≡◌, ◌↔◌, All, IfOk, IsTrue};
-ghost use Rattle.it_member_notes.specs.RuleListNotes.{EndsOpen, HasInspection, HasStep};
-ghost use Rattle.it_member_notes.specs.RuleListNotes.{IsDisallow, IsOfRules};
+ghost use Rattle.it_findings.specs.RuleFindings.{HasInspection, HasStep};
+ghost use Rattle.it_member_notes.specs.RuleListNotes.{EndsOpen, IsDisallow, IsOfRules};
 ghost use Rattle.it_member_notes.specs.inside.NamedLayout.{AreNamesOf};
 
 use crate::named_layout::NamedLayout;

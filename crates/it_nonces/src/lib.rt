@@ -14,5 +14,5 @@ mod uses;
 
 pub use nonce_use::NonceUse;
 pub use shared::{SharedNonce, shared_nonces};
-pub use signer::{Role, Signer};
+pub use signer::{Role, Signer, copied_place};
 pub use uses::envelope_uses;

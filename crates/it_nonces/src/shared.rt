@@ -1,12 +1,13 @@
 //! Signatures by different keys with one number r.
-ghost use Rattle.std.specs.Prelude.{◌≡◌, IfOk};
-ghost use Rattle.std.specs.List.{find};
+ghost use Rattle.std.specs.Prelude.{◌≡◌, [], IfOk};
+ghost use Rattle.std.specs.List.{cons_option, find};
 ghost use Rattle.std.specs.Option.{option_copied};
 ghost use Rattle.it_nonces.specs.SharedNonces.{has_r, shared_in, shared_nonces, shared_with};
 ghost use Rattle.it_p256_limbs.specs.Numbers.{value_of};
 
 use crate::nonce_use::NonceUse;
 use crate::signer::Signer;
+use it_base::optional::push_some;
 use it_p256_limbs::{Limbs, is_same};
 use std::alloc::{AllocError, Global};
 
@@ -30,8 +31,8 @@ pub fn shared_nonces(alloc: Global, uses: &[NonceUse]) -> Result<Vec<SharedNonce
 {
     let mut found = Vec::new(alloc);
     for at in uses {
-        let mut here = shared_in(alloc, uses, at)?;
-        found.append(&mut here)?;
+        let here = shared_in(alloc, uses, at)?;
+        push_some(&mut found, here)?;
     }
     Ok(found)
 }
@@ -41,12 +42,12 @@ fn shared_in(
     alloc: Global,
     uses: &[NonceUse],
     at: &NonceUse,
-) -> Result<Vec<SharedNonce>, AllocError>
-    ensures { IfOk result (λ found. found.items ≡ shared_in uses.now at.now) }
+) -> Result<Option<SharedNonce>, AllocError>
+    ensures { IfOk result (λ found. cons_option found [] ≡ shared_in uses.now at.now) }
 {
     match first_use(uses, at.r) {
         Some(first) => shared_with(alloc, first, at),
-        None => Ok(Vec::new(alloc)),
+        None => Ok(None),
     }
 }
 
@@ -62,17 +63,14 @@ fn shared_with(
     alloc: Global,
     first: &NonceUse,
     at: &NonceUse,
-) -> Result<Vec<SharedNonce>, AllocError>
-    ensures { IfOk result (λ found. found.items ≡ shared_with at.now first.now) }
+) -> Result<Option<SharedNonce>, AllocError>
+    ensures { IfOk result (λ found. cons_option found [] ≡ shared_with at.now first.now) }
 {
     if first.key == at.key {
-        return Ok(Vec::new(alloc));
+        return Ok(None);
     }
-    let shared = SharedNonce {
+    Ok(Some(SharedNonce {
         signer: at.signer.copy(alloc)?,
         first: first.signer.copy(alloc)?,
-    };
-    let mut found = Vec::new(alloc);
-    found.push(shared)?;
-    Ok(found)
+    }))
 }

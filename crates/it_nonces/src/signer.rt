@@ -70,15 +70,22 @@ impl Role {
     pub fn functionary(alloc: Global, at: &[(Text, Text)], step: &str) -> Result<Role, AllocError>
         ensures { IfOk result (λ role. role ≡ Role.Functionary at.now step.now) }
     {
-        let at = Sequence::from(copied(alloc, at)?);
+        let at = copied_place(alloc, at)?;
         let step = Text::copy(alloc, step)?;
         Ok(Role::Functionary { at, step })
     }
 }
 
-/// A copy of the place of a layout.
-fn copied(alloc: Global, at: &[(Text, Text)]) -> Result<Vec<(Text, Text)>, AllocError>
-    ensures { IfOk result (λ copy. copy.items ≡ at.now) }
+/// A copy of the place of a layout, in memory of `alloc`: the sublayouts down to it.
+///
+/// # Errors
+///
+/// `AllocError` where memory was refused.
+pub fn copied_place(
+    alloc: Global,
+    at: &[(Text, Text)],
+) -> Result<Sequence<(Text, Text)>, AllocError>
+    ensures { IfOk result (λ copy. copy ≡ at.now) }
 {
     let mut copy = Vec::new(alloc);
     for (step, id) in at {
@@ -86,5 +93,5 @@ fn copied(alloc: Global, at: &[(Text, Text)]) -> Result<Vec<(Text, Text)>, Alloc
         let id = Text::copy(alloc, id.as_str())?;
         copy.push((step, id))?;
     }
-    Ok(copy)
+    Ok(Sequence::from(copy))
 }

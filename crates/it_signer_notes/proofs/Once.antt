@@ -1,7 +1,7 @@
 -- Identities that were seen, in a set of borrowed names and issuers.
 use Rattle.std.proofs.Common.{◌≡◌, ◌∙◌, ◌&&◌, ◌||◌, ◌++◌, ◌∷◌, [], ℕ, ◌+◌, ◌<◌, List, Bool, true}
 use Rattle.std.proofs.Common.{false, Bor, Ordering, Less, Equal, Greater, ap, cond, get_or, is_eq}
-use Rattle.std.proofs.Common.{length, map, nat_cmp, not, refl, reverse, sym, take, true≢false}
+use Rattle.std.proofs.Common.{length, map, nat_cmp, not, refl, reverse, sym, take}
 use Rattle.std.specs.BTreeSet.{BTreeSet, contains}
 use Rattle.std.specs.Cmp.Lexicographic.{slice_cmp}
 use Rattle.std.specs.Ordering.{ordering_then}
@@ -10,6 +10,7 @@ use Rattle.std.specs.Str.{bytes_eq}
 use Rattle.std.proofs.lemmas.Cmp.{nat_list_eq_equiv}
 use Rattle.std.proofs.lemmas.List.{map-append, map_more, reverse-append}
 use Rattle.std.proofs.lemmas.Map.Text.{is_eq-slice_cmp}
+use Rattle.it_docs.proofs.RepeatsSeen.{was_new, was_seen}
 use Rattle.it_identity.specs.declared.identity.Identity.{Identity}
 use Rattle.it_vouched.specs.declared.vouched.Vouched.{Vouched}
 use Rattle.it_signer_notes.specs.Signers.{is_same}
@@ -59,14 +60,6 @@ same_texts x y =
 or_first : (a b c : Bool) → a ≡ b → cond a true c ≡ (b || c)
 or_first true b c e = rw (sym e) refl
 or_first false b c e = rw (sym e) refl
-
-was_new : (added seen : Bool) → added ≡ not seen → added ≡ true → seen ≡ false
-was_new added true e f = absurd (true≢false (sym f ∙ e))
-was_new added false e f = refl
-
-was_seen : (added seen : Bool) → added ≡ not seen → added ≡ false → seen ≡ true
-was_seen added true e f = refl
-was_seen added false e f = absurd (true≢false (sym e ∙ f))
 
 -- one more identity, which stands before the others
 module _ (others identities : List Identity) (k : Texts)

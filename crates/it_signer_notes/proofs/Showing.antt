@@ -1,5 +1,5 @@
 -- Which identities are on a line each.
-use Rattle.std.proofs.Common.{◌≡◌, ◌∙◌, ◌++◌, ◌-◌, ◌<◌, ◌≤◌, ℕ, List, Bool, true, false, Bor}
+use Rattle.std.proofs.Common.{◌≡◌, ◌∙◌, ◌++◌, ◌-◌, ◌<◌, ℕ, List, Bool, true, false, Bor}
 use Rattle.std.proofs.Common.{ap, arith, if◌then◌else◌, length, nat_le, refl, sym, take}
 use Rattle.std.specs.List.{flat_map}
 use Rattle.std.proofs.lemmas.Bool.Decides.{nat_tests}
@@ -8,10 +8,6 @@ use Rattle.it_dsse.specs.declared.key_object.KeyObject.{KeyObject}
 use Rattle.it_identity.specs.declared.identity.Identity.{Identity}
 use Rattle.it_signer_notes.specs.SignerText.{further_text, signer_text, text_of_signers}
 use Rattle.it_signer_notes.specs.inside.Lent.{lent}
-
-first_of : (b : Bool) (text other : List ℕ) → b ≡ true → text ≡ (if b then text else other)
-first_of true text other is = refl
-first_of false text other is = cc
 
 second_of : (b : Bool) (text other : List ℕ) → b ≡ false → other ≡ (if b then text else other)
 second_of true text other is = cc
@@ -29,12 +25,6 @@ module _ (keys : List KeyObject) (signers : List (Bor Identity)) where
 
   long : length (lent signers) ≡ length signers
   long = length-map signers (λ x. x.now)
-
-  pub all_shown : length signers ≤ 40 → all ≡ text_of_signers keys (lent signers)
-  all_shown few =
-      let same = long in
-      let test : nat_le (length (lent signers)) 40 ≡ true = grind (arith, nat_tests) in
-      first_of (nat_le (length (lent signers)) 40) all some test
 
   pub some_shown : 40 < length signers
       → flat_map line (lent (take 39 signers)) ++ further_text (length signers - 39)

@@ -1,10 +1,10 @@
 -- The ids of the keys that signed an envelope, one after another.
-use Rattle.std.proofs.Common.{◌≡◌, ◌∙◌, ◌↔◌, ◌++◌, ◌≢◌, ℕ, List, [], ◌∷◌, map, refl, sym}
+use Rattle.std.proofs.Common.{◌≡◌, ◌∙◌, ◌++◌, ℕ, List, [], ◌∷◌, map, refl, sym}
 use Rattle.std.proofs.Common.{ap, subst, append-nil, append_assoc}
 use Rattle.std.specs.FinMap.{entries}
 use Rattle.std.proofs.lemmas.List.{map-append}
 use Rattle.it_base.specs.Table.{Named}
-use Rattle.it_commands.specs.SignedOutput.{names_text}
+use Rattle.it_commands.specs.SignedOutput.{ListsNames, names_text}
 use Rattle.it_commands.proofs.Those.{any_kept, kept_any}
 use Rattle.it_dsse.specs.Panel.{Panel}
 use Rattle.it_dsse.specs.Signed.{AreThose}
@@ -12,7 +12,6 @@ use Rattle.it_dsse.specs.declared.envelope.Envelope.{Envelope}
 use Rattle.it_dsse.specs.declared.key_object.KeyObject.{KeyObject}
 use Rattle.it_dsse.proofs.Keeping.{keep_last, pass_last}
 use Rattle.it_outcome.specs.declared.outcome.Status.{Status}
-use Rattle.it_outcome.specs.declared.outcome.Status.TheVariants.{Good}
 use Rattle.it_signers.specs.SignersOutput.{HasSigned, NamesSigners}
 use Rattle.it_signers.specs.inside.SignerNames.{AreSignerNames}
 
@@ -89,17 +88,16 @@ no_ids (entry ∷ signers) none = cc
 -- a text of the names, with a status that says whether there are some
 pub names_signers : (panel : Panel) (objects : Named KeyObject) (envelope : Envelope)
     (names : List (List ℕ)) (text : List ℕ) (status : Status)
-    → AreSignerNames panel objects envelope names
-    → text ≡ names_text names → (status ≡ Good) ↔ (names ≢ [])
+    → AreSignerNames panel objects envelope names → ListsNames names text status
     → NamesSigners panel objects envelope text status
-names_signers panel objects envelope names text status are text_is good = record {
+names_signers panel objects envelope names text status are lists = record {
   signers = are.signers;
   are_those = are.are_those;
-  text_is = text_is ∙ ap names_text are.names_are;
+  text_is = lists.text_is ∙ ap names_text are.names_are;
   good = (
     λ is. any_kept (HasSigned panel envelope) (entries objects) are.signers are.are_those
-        (λ none. good.0 is (are.names_are ∙ ap ids_of none)),
-    λ some. good.1 (λ none. kept_any (HasSigned panel envelope) (entries objects) are.signers
+        (λ none. lists.good.0 is (are.names_are ∙ ap ids_of none)),
+    λ some. lists.good.1 (λ none. kept_any (HasSigned panel envelope) (entries objects) are.signers
         are.are_those some (no_ids are.signers (sym are.names_are ∙ none))),
   );
 }

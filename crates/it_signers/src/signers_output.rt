@@ -1,5 +1,5 @@
 //! Who signed the envelope of a file.
-ghost use Rattle.std.specs.Prelude.{◌≡◌, ◌≢◌, ◌↔◌, [], IfErr, IfOk, IsErrOf, map, string_bytes};
+ghost use Rattle.std.specs.Prelude.{◌≡◌, IfErr, IfOk, IsErrOf};
 ghost use Rattle.std.specs.Io.KnownBytes.{Appends};
 ghost use Rattle.it_base.specs.Writing.{AppendsBeginning};
 ghost use Rattle.it_outcome.specs.Outcome.{IsOutputFault};
@@ -8,7 +8,7 @@ ghost use Rattle.it_signers.specs.SignersOutput.{IsSignersOutput, NamesSigners};
 use crate::file_envelope::envelope_in;
 use crate::signer_names::signer_names;
 use it_base::table::Table;
-use it_commands::{names_text, no_envelope_output};
+use it_commands::{names_output, no_envelope_output};
 use it_dsse::checks::Checks;
 use it_dsse::envelope::Envelope;
 use it_dsse::key_object::KeyObject;
@@ -74,18 +74,5 @@ fn signers_output<C: Checks>(
         output.text.items output.status) }
 {
     let names = signer_names(alloc, envelope, objects, checks)?;
-    Ok(Output {
-        text: names_text(alloc, names.as_slice())?,
-        status: status_of(names.as_slice()),
-    })
-}
-
-fn status_of(names: &[String]) -> Status
-    ensures { (result ≡ Status.Good) ↔ (map string_bytes names.now ≢ []) }
-{
-    if names.is_empty() {
-        Status::Refused
-    } else {
-        Status::Good
-    }
+    names_output(alloc, names.as_slice())
 }

@@ -74,14 +74,10 @@ first_kept name bytes was old there q =
       | inr e ↦ rw e (or_none (old q))
     ]
 
--- a value is there, or none is
+-- a value is there
 pub some_there : {X : Type 0} (o : Option X) → is_some o ≡ true → (x : X) × (o ≡ Some x)
 some_there None e = cc
 some_there (Some x) e = (x, refl)
-
-pub none_there : {X : Type 0} (o : Option X) → is_some o ≡ false → o ≡ None
-none_there None e = refl
-none_there (Some x) e = cc
 
 -- what is found under a name is the first record of that name
 pub found_first : (inputs : Inputs) (given : List (List ℕ × List ℕ))

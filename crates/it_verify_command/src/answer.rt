@@ -11,7 +11,7 @@ ghost use Rattle.it_verify_command.specs.inside.Answer.{IsAnswer, IsBehindIn};
 
 use crate::before_notes::text_before_notes;
 use crate::behind::behind_in;
-use crate::output_text::{status_of, text_in};
+use crate::output_text::text_in;
 use crate::verification::Verification;
 use it_dsse::checks::Checks;
 use it_json_report::evidence::Evidence;
@@ -21,7 +21,7 @@ use it_outcome::output::Output;
 use it_report::refusal::Refusal;
 use it_report::verdict::Verdict;
 use it_verify::grounds::{Before, Grounds, Outcome};
-use it_verify::verify_grounds;
+use it_verify::{status_of, verify_grounds};
 use std::alloc::{AllocError, Global};
 
 /// An output, and what was told before it.

@@ -1,7 +1,6 @@
-//! The output on a verdict, and the status that goes with it.
-ghost use Rattle.std.specs.Prelude.{◌≡◌, IfOk};
+//! The output on a verdict.
+ghost use Rattle.std.specs.Prelude.{IfOk};
 ghost use Rattle.it_verify.specs.Verdict.{OnAccepted};
-ghost use Rattle.it_verify.specs.VerifyOutput.{status_of};
 ghost use Rattle.it_verify_command.specs.FullOutput.{IsTextIn};
 ghost use Rattle.it_verify_command.specs.inside.Answer.{IsBehindIn};
 ghost use Rattle.it_notes.specs.Known.{IsTold};
@@ -14,8 +13,6 @@ use it_dsse::checks::Checks;
 use it_json_report::evidence::Evidence;
 use it_json_report::form::report_in;
 use it_notes::known::Told;
-use it_outcome::Status;
-use it_report::verdict::Verdict;
 use std::alloc::{AllocError, Global};
 
 /// The output on what was told, with what stands behind it.
@@ -35,15 +32,5 @@ pub(crate) fn text_in<C: Checks>(
         OutputForm::Report(form) => report_in(alloc, *form, &told.verdict),
         OutputForm::Full => full_text(alloc, asked, told, behind),
         OutputForm::Summary(names) => summary_text(alloc, &told.verdict, &behind, names),
-    }
-}
-
-/// `Good` where the verdict accepts, and `Refused` where it refuses.
-pub(crate) fn status_of(verdict: &Verdict) -> Status
-    ensures { result ≡ status_of verdict.now }
-{
-    match verdict {
-        Verdict::Accepted { .. } => Status::Good,
-        Verdict::Refused(_) => Status::Refused,
     }
 }

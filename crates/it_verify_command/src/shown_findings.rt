@@ -9,6 +9,7 @@ use it_check::pointer_form::PointerForm;
 use it_check::{finding_document, finding_name, push_pointer, push_sentence};
 use it_findings::finding::Finding;
 use it_json_report::full::ReportFinding;
+use it_nonces::copied_place;
 use it_notes::found_in_documents::FoundInDocuments;
 use it_strict::below::FoundBelow;
 use std::alloc::{AllocError, Global};
@@ -71,26 +72,9 @@ fn shown_finding(
     push_sentence(&mut sentence, finding)?;
     Ok(ReportFinding {
         document: Text::copy(alloc, finding_document(finding))?,
-        at: copied(alloc, at)?,
+        at: copied_place(alloc, at)?,
         name: Text::copy(alloc, finding_name(finding))?,
         place: Sequence::from(place),
         sentence: Sequence::from(sentence),
     })
-}
-
-/// A copy of the sublayouts down to a layout.
-pub(crate) fn copied(
-    alloc: Global,
-    at: &[(Text, Text)],
-) -> Result<Sequence<(Text, Text)>, AllocError>
-    ensures { IfOk result (λ copy. copy ≡ at.now) }
-{
-    let mut copy = Vec::new(alloc);
-    for (step, id) in at {
-        copy.push((
-            Text::copy(alloc, step.as_str())?,
-            Text::copy(alloc, id.as_str())?,
-        ))?;
-    }
-    Ok(Sequence::from(copy))
 }

@@ -3,11 +3,11 @@ ghost use Rattle.std.specs.Prelude.{◌≡◌, ◌++◌, IfOk, OnOk, map};
 ghost use Rattle.it_verify_command.specs.FoundOutput.{found_shown, shown_nonce, shown_once};
 ghost use Rattle.it_verify_command.specs.FoundOutput.{shown_untied};
 
-use crate::shown_findings::{copied, push_below, push_shown};
+use crate::shown_findings::{push_below, push_shown};
 use it_base::sequence::Sequence;
 use it_base::text::Text;
 use it_json_report::full::ReportFinding;
-use it_nonces::SharedNonce;
+use it_nonces::{SharedNonce, copied_place};
 use it_strict::found::Found;
 use it_strict::listed_once::ListedOnce;
 use it_strict::{
@@ -113,7 +113,7 @@ fn shown_nonce(alloc: Global, shared: &SharedNonce) -> Result<ReportFinding, All
     push_nonce_sentence(&mut sentence, shared)?;
     Ok(ReportFinding {
         document: Text::copy(alloc, keys_document(role))?,
-        at: copied(alloc, keys_at(role))?,
+        at: copied_place(alloc, keys_at(role))?,
         name: Text::copy(alloc, SHARED_NONCE_NAME)?,
         place: Sequence::from(place),
         sentence: Sequence::from(sentence),

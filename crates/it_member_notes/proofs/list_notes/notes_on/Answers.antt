@@ -1,7 +1,8 @@
 use Rattle.std.proofs.Common.{length, refl}
 use Rattle.std.proofs.lemmas.List.Elements.{All-push}
 use Rattle.std.proofs.lemmas.Option.{slice_get_read}
-use Rattle.it_member_notes.specs.RuleListNotes.{HasInspection, HasStep, IsOfRules}
+use Rattle.it_findings.specs.RuleFindings.{HasInspection, HasStep}
+use Rattle.it_member_notes.specs.RuleListNotes.{IsOfRules}
 use Rattle.it_member_notes.proofs.Noting.{not_so}
 use Rattle.it_member_notes.proofs.list_notes.notes_on.Goals as goal
 use Rattle.it_member_notes.proofs.list_notes.notes_on.Goals.{in-Match+then-not-is_in+in_ok-match_from_no_step+in_ok-push, in-Match+else-not-is_in, in_default}

@@ -4,8 +4,8 @@ use Rattle.std.specs.BTreeMap.{BTreeMap, get_by}
 use Rattle.std.specs.Cmp.Lexicographic.{slice_cmp}
 use Rattle.std.specs.Ordering.{nat_cmp}
 use Rattle.std.proofs.lemmas.Map.Text.{btree_map_updates_str}
-use Rattle.it_verify.proofs.FirstRecords.{first_kept, first_more, first_new, none_there, shown_if}
-use Rattle.it_verify.proofs.FirstRecords.{some_there}
+use Rattle.it_chain.proofs.Lookups.{none_of_is_some}
+use Rattle.it_verify.proofs.FirstRecords.{first_kept, first_more, first_new, shown_if, some_there}
 use Rattle.it_verify.proofs.inspections.first_records.Goals as goal
 use Rattle.it_verify.proofs.inspections.first_records.Goals.{then-not-contains_key+in_ok-insert}
 use Rattle.it_verify.proofs.inspections.first_records.Goals.{else-not-contains_key}
@@ -28,7 +28,7 @@ loop-name-preserved c =
     elim c.if-not-contains_key.branch [
       | then-not-contains_key+in_ok-insert w ↦
           let none : old r.0 ≡ None = ap (option_map (λ (b : Bor (List ℕ)). b.now))
-          (none_there (at_name c.loop-name.firsts r.0)
+          (none_of_is_some (at_name c.loop-name.firsts r.0)
           (rw c.as_str-name.ensures at (sym c.contains_key.ensures
           ∙ w.if-not-contains_key.true))) in
           first_more c.args.records.now i r old (bytes_at c.if-not-contains_key.firsts)

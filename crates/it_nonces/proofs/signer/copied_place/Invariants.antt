@@ -1,5 +1,5 @@
 use Rattle.std.proofs.Common.{◌≡◌, take}
-use Rattle.it_nonces.proofs.signer.copied.Given as goal
+use Rattle.it_nonces.proofs.signer.copied_place.Given as goal
 
 -- the pairs that were copied so far
 abbrev pub invariant-loop-step : goal.invariant-loop-step

@@ -20,6 +20,7 @@ impl<T> Remembering<T> {
     pub fn new(inner: T) -> Remembering<T>
         ensures inner { result.inner ≡ inner }
         ensures error { result.error ≡ None }
+        ensures written { result.written ≡ 0 }
     {
         Remembering {
             inner,

@@ -1,4 +1,4 @@
+pub mod BundleNotes
 pub mod Commands
 pub mod Stopped
 pub mod TrustedSigners
-pub mod inside

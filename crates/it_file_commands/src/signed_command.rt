@@ -1,9 +1,11 @@
 //! `itv signed ENVELOPE (--ring F | --keys F) [--trusted-root F]`.
-ghost use Rattle.std.specs.Prelude.{◌≡◌, ◌≢◌, [], ◌∷◌, IfErr, IfOk, map, string_bytes};
+ghost use Rattle.std.specs.Prelude.{◌≡◌, ◌≢◌, [], ◌∷◌, IfErr, IfOk, OnErr, map};
+ghost use Rattle.std.specs.Prelude.{string_bytes};
 ghost use Rattle.std.specs.Io.KnownBytes.{Appends};
 ghost use Rattle.it_dsse.specs.Panel.{panel_of};
 ghost use Rattle.it_dsse.specs.Ring.{ring_check};
 ghost use Rattle.it_commands.specs.SignedOutput.{IsSignedOutput};
+ghost use Rattle.it_file_commands.specs.BundleNotes.{NotesSigners};
 ghost use Rattle.it_file_commands.specs.Commands.{ShowsKeySigners, ShowsRingSigners, ShowsSigners};
 
 use crate::signed_trusted;
@@ -35,6 +37,9 @@ pub fn run<R: Disk + AllocGlobal, W: Write, N: Write>(
         × ShowsSigners (R.holdings rt.now) words.now text status
         × Appends (W.contents out.old) (W.contents out.new) text) }
     ensures nothing { IfErr result (λ fault. fault ≢ Fault.Run RunFault.Write → out.new ≡ out.old) }
+    ensures noted { IfOk result (λ status. NotesSigners (R.holdings rt.now) words.now status
+        (N.contents notes.old) (N.contents notes.new)) }
+    ensures unnoted { OnErr result (notes.new ≡ notes.old) }
 {
     let envelope = rt.file(words.envelope.as_str())?;
     let envelope = envelope.as_slice();

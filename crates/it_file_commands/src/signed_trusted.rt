@@ -1,11 +1,11 @@
 //! `itv signed ENVELOPE --keys F --trusted-root F`.
-ghost use Rattle.std.specs.Prelude.{◌≡◌, ◌≢◌, ◌++◌, [], Some, true, IfErr, IfOk, OnOk};
+ghost use Rattle.std.specs.Prelude.{◌≡◌, ◌≢◌, ◌++◌, [], Some, true, IfErr, IfOk, OnErr, OnOk};
 ghost use Rattle.std.specs.Io.KnownBytes.{Appends};
 ghost use Rattle.std.specs.List.{flat_map};
 ghost use Rattle.it_base.specs.Writing.{AppendsBeginning};
 ghost use Rattle.it_command_checks.specs.CommandChecks.{command_checks};
+ghost use Rattle.it_file_commands.specs.BundleNotes.{NotesBundle, bundle_note, bundle_notes};
 ghost use Rattle.it_file_commands.specs.TrustedSigners.{ShowsTrustedSigners};
-ghost use Rattle.it_file_commands.specs.inside.BundleNotes.{bundle_note, bundle_notes};
 
 use it_base::writing::write_all_of;
 use it_command_checks::command_checks::CommandChecks;
@@ -38,6 +38,9 @@ pub(crate) fn run<R: Disk + AllocGlobal, W: Write, N: Write>(
         × ShowsTrustedSigners (R.holdings rt.now) paths.now file.now text status
         × Appends (W.contents out.old) (W.contents out.new) text) }
     ensures nothing { IfErr result (λ fault. fault ≢ Fault.Run RunFault.Write → out.new ≡ out.old) }
+    ensures noted { IfOk result (λ status. NotesBundle (R.holdings rt.now) paths.now file.now status
+        (N.contents notes.old) (N.contents notes.new)) }
+    ensures unnoted { OnErr result (notes.new ≡ notes.old) }
 {
     let alloc = rt.alloc();
     let keys = read_keys(rt, paths.keys.as_str())?;

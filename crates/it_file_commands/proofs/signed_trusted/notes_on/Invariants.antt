@@ -1,6 +1,6 @@
 use Rattle.std.proofs.Common.{◌≡◌, take}
 use Rattle.std.specs.List.{flat_map}
-use Rattle.it_file_commands.specs.inside.BundleNotes.{bundle_note}
+use Rattle.it_file_commands.specs.BundleNotes.{bundle_note}
 use Rattle.it_file_commands.proofs.signed_trusted.notes_on.Given as goal
 
 -- the lines so far

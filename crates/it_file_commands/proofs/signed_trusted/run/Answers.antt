@@ -16,3 +16,12 @@ returns-clause-ok g c =
       },
       shown.2,
     )
+
+pub returns-clause-noted : goal.returns-clause-noted
+returns-clause-noted g c = record {
+  root = c.in_ok-root.root;
+  holds_root = search rules;
+  silent = c.in_ok-vouched.field-0.silent;
+  are_silent = rw c.in_ok-trust.ensures at c.in_ok-vouched.ensures.silent;
+  begins = rw c.as_slice.ensures at c.note_silent.ensures;
+}

@@ -1,6 +1,7 @@
 -- The report as JSON with what is found and noted, and what stands behind it (this profile's
 -- choice).
 use Rattle.std.specs.Prelude.{◌≡◌, ℕ, List, [], ◌++◌, MatchOption, map}
+use Rattle.std.specs.Bool.{OnFalse}
 use Rattle.std.specs.List.{flat_map}
 use Rattle.it_check.specs.FindingName.{name_of}
 use Rattle.it_check.specs.FindingPlace.{document_of, pointer_of}
@@ -54,13 +55,14 @@ pub record AreFindings (panel : Panel) (inputs : Inputs) (findings : List Report
   pub are_shown : findings ≡ all_shown found
 
 -- the text is the report of the verdict, where it accepts with what is found and with what stands
--- behind the delivery, and with some notes
+-- behind the delivery, and with some notes, or with none where it says that they are not all
 pub record IsFullText (panel : Panel) (vouched : List Vouched) (inputs : Inputs)
     (verdict : Verdict) (text : List ℕ) : Type 0 where
   pub beside : Beside
   pub findings : OnAccepted verdict (AreFindings panel inputs beside.findings)
   pub evidence : OnAccepted verdict
       (MatchOption beside.evidence ⊥ (IsBehind panel vouched inputs))
+  pub notes : OnFalse beside.complete (beside.notes ≡ [])
   pub text_is : text ≡ full_json_of verdict beside
 
 -- the text is the output for the verdict in a form

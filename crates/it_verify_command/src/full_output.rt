@@ -1,5 +1,6 @@
 //! The report as JSON, with what is found and noted and what stands behind it.
-ghost use Rattle.std.specs.Prelude.{◌≡◌, IfOk, MatchOption};
+ghost use Rattle.std.specs.Prelude.{◌≡◌, [], IfOk, MatchOption};
+ghost use Rattle.std.specs.Bool.{OnFalse};
 ghost use Rattle.it_evidence.specs.Evidence.{IsBehind};
 ghost use Rattle.it_verify.specs.Verdict.{OnAccepted};
 ghost use Rattle.it_verify_command.specs.FullOutput.{AreFindings, IsFullText};
@@ -45,6 +46,7 @@ fn beside<C: Checks>(
     ensures findings { IfOk result (λ beside. OnAccepted told.now.verdict
         (AreFindings (C.panel asked.now.checks.now) asked.now.inputs.now beside.findings)) }
     ensures evidence { IfOk result (λ beside. beside.evidence ≡ behind) }
+    ensures notes { IfOk result (λ beside. OnFalse beside.complete (beside.notes ≡ [])) }
 {
     let findings = findings(alloc, told)?;
     let (notes, complete) = match notes(alloc, asked, told) {

@@ -7,5 +7,6 @@ returns g c =
       beside = c.in_ok-beside.beside;
       findings = c.in_ok-beside.ensures.findings;
       evidence = rw c.in_ok-beside.ensures.evidence c.requires.behind;
+      notes = c.in_ok-beside.ensures.notes;
       text_is = is;
     }) c.full_json_report.ensures

@@ -1,8 +1,10 @@
 //! A command over files in memory, and what it gives.
-ghost use Rattle.std.specs.Prelude.{◌≡◌, ◌≤◌, IfOk, Ok};
-ghost use Rattle.it_library.specs.Answer.{Gives, IsOutput};
+ghost use Rattle.std.specs.Prelude.{◌≡◌, ◌≤◌, ◌⊎◌, ◌↔◌, [], Err, IfOk, IsErr, IsTrue};
+ghost use Rattle.it_library.specs.Answer.{Gives, HasBegun, IsOutput};
+ghost use Rattle.it_library.specs.inside.Refusal.{IsRefused};
 
 use crate::handed::{Handed, files_in, words_in};
+use it_disk::Fault;
 use it_memory::Memory;
 use it_outcome::{RunFault, Status};
 use it_program::{Remembering, Stop, exit_status, run_to};
@@ -46,9 +48,13 @@ fn run(
     output: &mut Remembering<Vec<u8>>,
     notes: &mut Vec<u8>,
 ) -> Result<Status, Stop>
-    ensures { IfOk result (λ status. IsOutput handed.now.words.now handed.now.paths.now
+    ensures ok { IfOk result (λ status. IsOutput handed.now.words.now handed.now.paths.now
         handed.now.sizes.now handed.now.contents.now output.old.inner.items
         output.new.inner.items status) }
+    ensures stopped { IsErr result → ¬ IsRefused result output.new.error
+        → (output.new.inner ≡ output.old.inner) ⊎ HasBegun handed.now.words.now
+        handed.now.paths.now handed.now.sizes.now handed.now.contents.now
+        output.old.inner.items output.new.inner.items }
 {
     let words = words_in(alloc, handed.words)?;
     let files = files_in(alloc, handed)?;
@@ -56,20 +62,34 @@ fn run(
     run_to(&memory, words.as_slice(), output, notes)
 }
 
-/// The outcome of a command whose output goes to memory: where that was not taken, memory was
-/// refused, and nothing goes out.
+/// The outcome of a command whose output goes to memory: where that was refused, memory was, and
+/// nothing goes out.
 fn written_in_memory(
     outcome: Result<Status, Stop>,
     output: &mut Remembering<Vec<u8>>,
 ) -> Result<Status, Stop>
-    ensures { IfOk result (λ status. (outcome ≡ Ok status)
-        × (output.new.inner.items ≡ output.old.inner.items)) }
+    ensures kept { ¬ IsRefused outcome output.old.error
+        → (result ≡ outcome) × (output.new.inner ≡ output.old.inner) }
+    ensures refused { IsRefused outcome output.old.error
+        → (result ≡ Err (Stop.OfFault (Fault.Run RunFault.OutOfMemory)))
+        × (output.new.inner.items ≡ []) }
 {
-    if outcome.is_err() && output.error.is_some() {
+    if is_refused(&outcome, output) {
         output.inner.clear();
         return Err(Stop::from(RunFault::OutOfMemory));
     }
     outcome
+}
+
+/// Whether the command stopped and its output was refused.
+fn is_refused(outcome: &Result<Status, Stop>, output: &Remembering<Vec<u8>>) -> bool
+    ensures { IsTrue result ↔ IsRefused outcome.now output.now.error }
+{
+    match outcome {
+        Ok(_) => false,
+        Err(Stop::OfFault(Fault::Run(RunFault::Write))) => true,
+        Err(_) => output.error.is_some(),
+    }
 }
 
 /// Adds why the command stopped, where it did, as the program says it, if memory suffices.

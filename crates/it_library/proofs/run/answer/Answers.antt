@@ -1,25 +1,20 @@
-use Rattle.std.proofs.Common.{◌∙◌, ◌≤◌, [], ℕ, List, IfOk, ap, subst, sym}
-use Rattle.it_library.specs.Answer.{IsOutput}
-use Rattle.it_library.proofs.Answered.{gives, most_status, still}
+use Rattle.std.proofs.Common.{◌∙◌, ◌≤◌, ℕ, ap, subst, sym}
+use Rattle.it_library.proofs.Answered.{gives, most_status}
 use Rattle.it_library.proofs.run.answer.Goals as goal
 
 pub returns-clause-gives : goal.returns-clause-gives
 returns-clause-gives c =
-    let words = c.args.handed.now.words.now in
-    let paths = c.args.handed.now.paths.now in
-    let sizes = c.args.handed.now.sizes.now in
-    let contents = c.args.handed.now.contents.now in
-    let ran = c.run-ran.result in
-    let outcome = c.written_in_memory-outcome.result in
-    let went = c.run-ran.new.output.inner.items in
-    let output = c.written_in_memory-outcome.new.output.inner.items in
-    gives words paths sizes contents output outcome c.exit_status-status.result
-    c.exit_status-status.ensures
-    (still outcome ran went output (λ text. IsOutput words paths sizes contents [] text)
-    c.written_in_memory-outcome.ensures
-    (subst (λ (old : List ℕ). IfOk ran (IsOutput words paths sizes contents old went))
+    let handed = c.args.handed.now in
+    let ran = c.run-ran.ensures in
+    let written = c.written_in_memory-outcome.ensures in
+    gives handed.words.now handed.paths.now handed.sizes.now handed.contents.now _
+    c.new-output.result.inner.items c.run-ran.new.output.inner.items
+    c.written_in_memory-outcome.new.output.inner.items c.run-ran.result
+    c.written_in_memory-outcome.result c.run-ran.new.output.error c.exit_status-status.result
     (ap (λ bytes. bytes.items) c.new-output.ensures.inner ∙ c.new-bytes.ensures.items)
-    c.run-ran.ensures))
+    (ap (λ bytes. bytes.items)) ran.ok ran.stopped
+    (λ taken. ((written.kept taken).0, ap (λ bytes. bytes.items) (written.kept taken).1))
+    written.refused c.exit_status-status.ensures
 
 pub returns-clause-most : goal.returns-clause-most
 returns-clause-most c =

@@ -48,6 +48,8 @@ pub extern "C" fn itv_run(
 ) -> u8
     ensures answers { Answers words.now paths.now sizes.now contents.now output.old output.new
         lengths.new.output result }
+    ensures noted { (text : _) × IsShown text notes.old notes.new
+        × (lengths.new.notes ≡ length text) }
     ensures most { result ≤ 3 }
 {
     let handed = Handed {
@@ -57,10 +59,8 @@ pub extern "C" fn itv_run(
         contents,
     };
     let ran = answer(alloc, &handed);
-    fill(output, ran.output.as_slice());
-    fill(notes, ran.notes.as_slice());
-    lengths.output = ran.output.len();
-    lengths.notes = ran.notes.len();
+    lengths.output = fill(output, ran.output.as_slice());
+    lengths.notes = fill(notes, ran.notes.as_slice());
     ran.status
 }
 
@@ -71,14 +71,15 @@ pub extern "C" fn itv_version(output: &mut [u8]) -> usize
     ensures shown { IsShown version_text output.old output.new }
     ensures told { result ≡ length version_text }
 {
-    fill(output, VERSION.as_bytes());
-    VERSION.len()
+    fill(output, VERSION.as_bytes())
 }
 
-/// Copies as many of the bytes as there is room for.
-fn fill(room: &mut [u8], bytes: &[u8])
-    ensures { IsShown bytes.now room.old room.new }
+/// Copies as many of the bytes as there is room for, and tells how many there are.
+fn fill(room: &mut [u8], bytes: &[u8]) -> usize
+    ensures shown { IsShown bytes.now room.old room.new }
+    ensures told { result ≡ length bytes.now }
 {
     let count = room.len().min(bytes.len());
     room[..count].copy_from_slice(&bytes[..count]);
+    bytes.len()
 }

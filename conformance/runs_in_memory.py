@@ -6,7 +6,7 @@ verdict must say what the report says.
 
 import json
 
-from cases_in_memory import folder_of, moment_of
+from cases_in_memory import moment_of
 from cases_on_disk import Difference
 from on_disk import bytes_of
 from report_forms import json_of_lines

@@ -1,11 +1,11 @@
-"""What the scripts for runs on Sigstore bundles share: which of the bundles of sigstore_bundles.py
+"""What the scripts for runs on Sigstore bundles share: which of the bundles of private_sigstore
 are tried and what is said of each, key objects of identities, bundles of a file, and files that are
 no trusted root. Needs the package `cryptography`.
 """
 
 import random
 
-from sigstore_bundles import Made
+from private_sigstore import Made
 
 # What bundles are made of that attest the file of `good` in cases.py.
 APP = {"artifact": b"app"}
@@ -125,7 +125,7 @@ def who(made):
 
 def made_of(seed, beside=None, **options):
     """A bundle that attests `app`, of its own private Sigstore or of that of another bundle."""
-    shared = {} if beside is None else {"inst": beside.inst, "t0": beside.t0}
+    shared = {} if beside is None else {"sigstore": beside.sigstore, "begin": beside.begin}
     return Made(random.Random(f"run {seed}"), **shared, **{**APP, **options})
 
 

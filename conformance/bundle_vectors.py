@@ -1,11 +1,11 @@
 #!/usr/bin/env python3
-"""Writes bundles.jsonl: bundles, trusted roots and identities, and whether the bundle vouches for the
-identity by the root; always the same.
+"""Writes bundles.jsonl: bundles, trusted roots and identities, and whether the bundle vouches for
+the identity by the root; always the same.
 
     conformance/bundle_vectors.py            writes the file
     conformance/bundle_vectors.py --check    fails where it differs
 
-The bundles, and what they do not meet, are those of sigstore_bundles.py.
+The bundles, and what they do not meet, are those of private_sigstore.
 """
 import collections
 import random
@@ -13,7 +13,7 @@ import sys
 
 sys.dont_write_bytecode = True
 import lines
-import sigstore_bundles
+import private_sigstore
 from sigstore_cases import line_of
 
 DATA = lines.TOP / "crates" / "it_bundle_vectors" / "data" / "bundles.jsonl"
@@ -37,7 +37,7 @@ GOOD = """uri email other-name v1-promise-only v1-with-proof v2-chain v3 v3-old-
 def chosen():
     """The names of the cases that are written, in their order."""
     counts = collections.Counter()
-    for name, (condition, _) in sigstore_bundles.CASES.items():
+    for name, (condition, _) in private_sigstore.CASES.items():
         counts[condition] += 1
         most = 3 * MOST if condition in EDGES else MOST
         if name.removeprefix("good-") in GOOD if condition is None else counts[condition] <= most:
@@ -50,13 +50,15 @@ def text(value):
 
 
 def row(name):
-    condition, build = sigstore_bundles.CASES[name]
+    """The row of a case."""
+    condition, build = private_sigstore.CASES[name]
     bundle, root, identity, issuer, *_ = build(random.Random(f"1 {name} 0"))
     return {"name": name, "condition": condition or "", "root": text(root), "line": text(bundle),
             "identity": identity, "issuer": issuer, "vouches": condition is None}
 
 
 def rows():
+    """The rows of the cases that are written."""
     for name in chosen():
         try:
             yield row(name)

@@ -7,7 +7,7 @@ import json
 import random
 from typing import NamedTuple
 
-import sigstore_bundles as private
+import private_sigstore as private
 from bundle_runs import named
 
 # How many random good bundles a seed gives.
@@ -51,7 +51,6 @@ def cases(seed):
     """The cases of a seed: the random ones, and those that have names."""
     for number in range(MANY):
         made = private.Made(random.Random(f"{seed} good {number}"))
-        root = made.inst.trusted_root()
-        yield case(f"random-{number}", None, (made.bundle, root, made.identity, made.issuer))
+        yield case(f"random-{number}", None, made.case())
     for name, (condition, build) in private.CASES.items():
         yield case(name, condition, build(random.Random(f"{seed} {name} 0")))

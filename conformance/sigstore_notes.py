@@ -1,4 +1,4 @@
-"""What `itv verify` notes of a line of provenance that is a case of sigstore_bundles.py, by the
+"""What `itv verify` notes of a line of provenance that is a case of private_sigstore, by the
 condition that it misses."""
 
 import json

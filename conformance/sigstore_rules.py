@@ -1,6 +1,6 @@
 """Where the rules of docs/sigstore.md are on purpose others than those of sigstore-go and cosign.
 
-Each rule has the cases of sigstore_bundles.py that show it.
+Each rule has the cases of private_sigstore that show it.
 """
 
 from typing import NamedTuple

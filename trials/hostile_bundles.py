@@ -1,6 +1,6 @@
 """Sigstore bundles and trusted roots for trials/hostile, which make a verification slow or large.
 
-The bundles are those of a private Sigstore (conformance/sigstore_bundles.py) about the file of a
+The bundles are those of a private Sigstore (conformance/private_sigstore) about the file of a
 small delivery; a stranger may copy a public one, and change what nobody signed.
 """
 
@@ -12,9 +12,9 @@ import random
 import sys
 
 sys.path.insert(0, os.path.join(os.path.dirname(os.path.abspath(__file__)), "..", "conformance"))
-import sigstore_bundles as private
+import private_sigstore as private
+from byte_forms import base64_text
 from deliveries import compact, envelope, statement
-from sigstore_bundles import b64
 
 LIMIT = 8 * 1024 * 1024
 # What is left for the other line of the provenance.
@@ -46,7 +46,7 @@ def filling(line_at):
 
 def trusting(delivery, **listed):
     """Has a delivery trust the private Sigstore, and a builder have these further keys."""
-    delivery.write("trusted-root", line_of(public().inst.trusted_root()))
+    delivery.write("trusted-root", line_of(public().sigstore.trusted_root()))
     with open(delivery.path("policy"), encoding="utf-8") as file:
         policy = json.load(file)
     policy["expectations"][0]["builders"][0]["keys"].update(listed)
@@ -70,14 +70,14 @@ def flooded(line_at):
 def with_signature(bundle, sig):
     """A bundle with another signature, and an entry about it that no log promised."""
     entry, held = bundle["verificationMaterial"]["tlogEntries"][0], bundle["dsseEnvelope"]
-    held["signatures"] = [{"sig": b64(sig)}]
-    entry["canonicalizedBody"] = b64(public().make_body(sig=sig)[0])
+    held["signatures"] = [{"sig": base64_text(sig)}]
+    entry["canonicalizedBody"] = base64_text(public().make_body(signature=sig)[0])
     return bundle
 
 
 def unsigned(number):
     """A bundle that nobody signed, whose entry has the log's id and is about its signature."""
-    sig = public().sig[:-4] + number.to_bytes(4, "big")
+    sig = public().signature[:-4] + number.to_bytes(4, "big")
     return line_of(with_signature(copy.deepcopy(public().bundle), sig))
 
 
@@ -92,12 +92,13 @@ def falsely_witnessed(number):
     Each signature has the log's hint, and the rest of the entry is good.
     """
     bundle = copy.deepcopy(public().bundle)
-    material, hint = bundle["verificationMaterial"], public().inst.rekor.id[:4]
+    material, hint = bundle["verificationMaterial"], public().sigstore.log.id[:4]
     (entry,) = material["tlogEntries"]
     text = entry["inclusionProof"]["checkpoint"]["envelope"].partition("\n\n")[0]
     material["tlogEntries"] = entries = [copy.deepcopy(entry) for _ in range(8)]
     for place, one in enumerate(entries):
-        marks = [b64(hint + wrong_signature(number * 64 + place * 8 + line)) for line in range(8)]
+        marks = [base64_text(hint + wrong_signature(number * 64 + place * 8 + line))
+                 for line in range(8)]
         one["inclusionProof"]["checkpoint"]["envelope"] = text + "\n\n" + "".join(
             f"\u2014 log.example.test {mark}\n" for mark in marks)
     return line_of(bundle)
@@ -105,7 +106,7 @@ def falsely_witnessed(number):
 
 def wrong_signature(number):
     """A signature by nobody, of the form that signatures of P-256 have."""
-    return private.sig_value(2**254 + number, 2**253 + number)
+    return private.signature_value(2**254 + number, 2**253 + number)
 
 
 def beside_bundles(signatures, bundles):
@@ -117,11 +118,11 @@ def beside_bundles(signatures, bundles):
     """
     def change(delivery):
         trusting(delivery, release=signer())
-        sig, bundle = public().sig, copy.deepcopy(public().bundle)
+        sig, bundle = public().signature, copy.deepcopy(public().bundle)
         bundle["dsseEnvelope"]["signatures"][0]["keyid"] = "another"
-        wrong = [{"sig": b64(sig[:-3] + number.to_bytes(3, "big"))}
+        wrong = [{"sig": base64_text(sig[:-3] + number.to_bytes(3, "big"))}
                  for number in range(signatures - 1)]
-        many = envelope(public().payload, [*wrong, {"sig": b64(sig)}])
+        many = envelope(public().payload, [*wrong, {"sig": base64_text(sig)}])
         delivery.write("provenance", "".join(
             line + "\n" for line in [*[line_of(bundle)] * bundles, many]))
     return change
@@ -129,10 +130,12 @@ def beside_bundles(signatures, bundles):
 
 def chain(key, length, rest):
     """The certificates of an authority with the issuing key, whose others have these keys."""
-    inst, keys = public().inst, [key, *rest[:length - 1]]
-    names = [inst.issuer_name, *(private.name(f"authority {n}") for n in range(1, length + 1))]
-    return [inst.ca_cert("hostile", names[n], names[n + 1], keys[n], keys[min(n + 1, length - 1)],
-                         None) for n in range(length)]
+    sigstore, keys = public().sigstore, [key, *rest[:length - 1]]
+    names = [sigstore.issuer_name,
+             *(private.distinguished_name(f"authority {n}") for n in range(1, length + 1))]
+    return [sigstore.authority_certificate("hostile", names[n], names[n + 1], keys[n],
+                                           keys[min(n + 1, length - 1)], None)
+            for n in range(length)]
 
 
 def many_authorities(count, length):
@@ -142,12 +145,13 @@ def many_authorities(count, length):
     """
     def change(delivery):
         trusting(delivery, release=signer())
-        dice, root = random.Random("authorities"), public().inst.trusted_root()
+        dice, sigstore = random.Random("authorities"), public().sigstore
+        root = sigstore.trusted_root()
         rest = [private.Key(dice, "p384") for _ in range(length - 1)]
-        keys = [*(private.Key(dice, "p384") for _ in range(count - 1)), public().inst.issuer_key]
+        keys = [*(private.Key(dice, "p384") for _ in range(count - 1)), sigstore.issuer_key]
         (one,) = root["certificateAuthorities"]
         root["certificateAuthorities"] = [
-            {**one, "certChain": {"certificates": [{"rawBytes": b64(content)}
+            {**one, "certChain": {"certificates": [{"rawBytes": base64_text(content)}
                                                    for content in chain(key, length, rest)]}}
             for key in keys]
         delivery.write("trusted-root", line_of(root))

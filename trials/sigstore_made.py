@@ -8,7 +8,7 @@ import json
 import random
 
 import by_keys
-import sigstore_bundles as private
+import private_sigstore as private
 from bundle_runs import named
 from deliveries import MOMENT, compact, envelope, key_object, layout, signature, signed, step
 from keys_made import Bundle
@@ -86,7 +86,11 @@ class Delivery:
                         "issuer": self.home.issuer}
         elif self.dice.random() < 0.3:
             options[self.dice.choice(["identity", "issuer"])] = "x" * self.dice.choice(LENGTHS)
-        return of_made(private.Made(self.dice, self.home.inst, t0=self.home.t0, **options))
+        return of_made(self.made_at_home(**options))
+
+    def made_at_home(self, **options):
+        """A bundle by the authority and the logs of the first one."""
+        return private.Made(self.dice, self.home.sigstore, begin=self.home.begin, **options)
 
     def spoil(self):
         """Changes some of the bundles that miss no condition yet."""
@@ -191,8 +195,7 @@ class Delivery:
 
     def by_identity(self, body, names, identity, issuer):
         """The envelope of a body by an identity, whose bundle becomes a line in most cases."""
-        made = private.Made(self.dice, self.home.inst, t0=self.home.t0, payload=body, names=names,
-                            identity=identity, issuer=issuer)
+        made = self.made_at_home(payload=body, names=names, identity=identity, issuer=issuer)
         if not self.is_wrong():
             self.others.append(line_of(made.bundle))
         return line_of(made.bundle["dsseEnvelope"]).decode()
@@ -242,7 +245,7 @@ class Delivery:
                     one.pop("keyid", None)
             return line_of(held)
         artifact = self.dice.choice(list(FILES.values()))
-        body = private.statement(self.dice, "", {"artifact": artifact})
+        body = private.statement(self.dice, artifact)
         if self.dice.random() < 0.5:
             return envelope(body, [signature("builder", body)]).encode()
         return by_keys.signed_by(json.loads(body), ("registry", by_keys.p256("registry"))).encode()

@@ -1,22 +1,18 @@
 """What random deliveries with Sigstore bundles are made of: bundles, and small deliveries by them.
 
-The bundles are those of a private Sigstore (conformance/sigstore_bundles.py).
+The bundles are those of a private Sigstore (conformance/private_sigstore).
 """
 
 import hashlib
 
 import by_keys
-import sigstore_bundles as private
+import private_sigstore as private
 from bundle_runs import named
 from deliveries import MOMENT, compact, layout
 from keys_made import Bundle
+from private_sigstore import BUILD_TYPE, BUILDER, WORKFLOW
 
 FILES = {"app": b"an artifact\n", "lib": b"lib\n"}
-# What the Statements of the bundles say.
-BUILDER = "https://github.com/actions/runner/github-hosted"
-BUILD_TYPE = "https://slsa-framework.github.io/github-actions-buildtypes/workflow/v1"
-WORKFLOW = {"ref": "refs/heads/main", "repository": "https://github.com/acme/tool",
-            "path": ".github/workflows/release.yml"}
 
 
 def digests(content, *algorithms):
@@ -49,8 +45,8 @@ def of_case(dice, name):
 
 def of_made(made):
     """The part of a bundle that was just made."""
-    return Part(made.bundle, made.inst.trusted_root(), named(made.identity, made.issuer),
-                made.o["artifact"])
+    bundle, root, *identity = made.case()
+    return Part(bundle, root, named(*identity), made.artifact)
 
 
 class Plain:

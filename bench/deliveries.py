@@ -63,6 +63,12 @@ def key_object():
     return {"keytype": "hmac", "scheme": "hmac-sha256", "keyval": {"public": ""}}
 
 
+def identity(name, issuer):
+    """The key object of an identity."""
+    return {"keytype": "sigstore-oidc", "scheme": "Fulcio",
+            "keyval": {"identity": name, "issuer": issuer}}
+
+
 def signature(who, payload, hint=True, kind=TYPE):
     """Somebody's signature of a payload of a type, with or without the id as a hint."""
     message = f"DSSEv1 {len(kind.encode())} {kind} {len(payload)} ".encode() + payload

@@ -5,15 +5,21 @@ of no bytes. Everybody's secret is their own id, except that of `bobz`, which is
 byte at its end. Envelopes are written as `itv sign` writes them.
 """
 
-import base64
 import hashlib
 import hmac
 import json
 
+from byte_forms import base64_text, pae
+from cases import folder
+
 IN_TOTO = "application/vnd.in-toto+json"
+# The SHA-256 and the SHA-512 of `abc` (FIPS 180-4, NIST's examples).
+DIGITS = "ba7816bf8f01cfea414140de5dae2223b00361a396177a9cb410ff61f20015ad"
+DIGITS_512 = ("ddaf35a193617abacc417349ae20413112e6fa4e89a97ea20a9eeee64b55d39a"
+              "2192992a274fc1a836ba3c23a3feebbd454d4423643ce80e2a9ac94fa54ca49f")
 LETTERS = [
     (":K", ':{"keytype":"hmac","scheme":"hmac-sha256","keyval":{"public":""}}'),
-    ('"A"', '"ba7816bf8f01cfea414140de5dae2223b00361a396177a9cb410ff61f20015ad"'),
+    ('"A"', f'"{DIGITS}"'),
     ('"B"', '"e3b0c44298fc1c149afbf4c8996fb92427ae41e4649b934ca495991b7852b855"'),
 ]
 
@@ -51,7 +57,7 @@ STATEMENT = (
     '"predicate":{"buildDefinition":{"buildType":"https://ci.example/make",'
     '"externalParameters":{"ref":"v1"}},"runDetails":{"builder":{"id":"https://ci.example/1"}}}}')
 
-SUMS = "ba7816bf8f01cfea414140de5dae2223b00361a396177a9cb410ff61f20015ad  app\n"
+SUMS = f"{DIGITS}  app\n"
 MOMENT = "2029-12-31T00:00:00Z"
 ACCEPTED = "accepted\nstep build 1\nfile app\n"
 
@@ -71,10 +77,9 @@ def secret(who):
 def signed(who, body, kind=IN_TOTO):
     """The text of the envelope of a body of this type, signed by somebody."""
     payload = body.encode()
-    message = f"DSSEv1 {len(kind)} {kind} {len(payload)} ".encode() + payload
-    code = hmac.new(secret(who), message, hashlib.sha256).digest()
-    given = {"keyid": who, "sig": base64.b64encode(code).decode()}
-    return json.dumps({"payload": base64.b64encode(payload).decode(), "payloadType": kind,
+    code = hmac.new(secret(who), pae(kind, payload), hashlib.sha256).digest()
+    given = {"keyid": who, "sig": base64_text(code)}
+    return json.dumps({"payload": base64_text(payload), "payloadType": kind,
                        "signatures": [given]}, separators=(",", ":"))
 
 
@@ -102,11 +107,6 @@ def layout(*changes):
 def sublayout(step, who):
     """The body of a layout with one step, without rules, for one functionary."""
     return filled(SUBLAYOUT, ("STEP", step), ("ID", who))
-
-
-def folder(files, folders=()):
-    """A folder of links: files and folders, each list in its order, by their names."""
-    return {"files": [list(file) for file in files], "folders": [list(one) for one in folders]}
 
 
 def base(**changed):

@@ -4,8 +4,13 @@ no trusted root. Needs the package `cryptography`.
 """
 
 import random
+import sys
 
+import lines
 from private_sigstore import Made
+
+sys.path.insert(0, str(lines.TOP / "bench"))
+from deliveries import identity as named
 
 # What bundles are made of that attest the file of `good` in cases.py.
 APP = {"artifact": b"app"}
@@ -110,12 +115,6 @@ def misses(name, condition, bundle):
         count = len(bundle["dsseEnvelope"]["signatures"])
         return f"its envelope has {count} signatures, and a bundle's must have one"
     return next((said for conditions, said in MISSES if condition in conditions.split()), None)
-
-
-def named(identity, issuer):
-    """The key object of an identity."""
-    return {"keytype": "sigstore-oidc", "scheme": "Fulcio",
-            "keyval": {"identity": identity, "issuer": issuer}}
 
 
 def who(made):

@@ -7,23 +7,14 @@ import base64
 import functools
 import json
 
-from cases import DELIVER, case, good
+from byte_forms import base64_text, pae
+from cases import DELIVER, MAKES, case, good
 from deliveries import TYPE, compact, envelope, layout, policy, statement, step
 from signing_keys import Ed25519Key, P256Key, P384Key, RsaKey, pem
 
-PRODUCTS = [["CREATE", "app"], ["DISALLOW", "*"]]
-ACCEPTED = ["accepted", "step build 1", "file app"]
 KINDS = {Ed25519Key: ("ed25519", "ed25519"), P256Key: ("ecdsa", "ecdsa-sha2-nistp256"),
          P384Key: ("ecdsa", "ecdsa-sha2-nistp384"), RsaKey: ("rsa", "rsassa-pss-sha256")}
 
-NO_DIGITS = "its public is not 64 hexadecimal digits"
-NO_ED25519 = "its public is no Ed25519 key: no point, or one of small order"
-NO_PEM = "its public does not read as a PEM text of a public key"
-NO_P256 = "its PEM text is no P-256 key that is taken: an uncompressed point of the curve"
-NO_P384 = "its PEM text is no P-384 key that is taken: an uncompressed point of the curve"
-NO_RSA = "its PEM text is no RSA key that is taken: of 2,048 to 4,096 bits, in whole bytes"
-NO_SECRET = "no ring has the secret of it"
-NOT_ASKED = "a public key, which is checked with --public-keys"
 NO_BUILDER = "provenance line 1: none of the expected builders signed it"
 
 ed25519, p256, p384, rsa = (functools.cache(kind) for kind in KINDS)
@@ -42,14 +33,13 @@ def key(made, text=None, **changed):
 
 
 def message(body):
-    """What is signed for a body: its pre-authentication encoding."""
-    kind = TYPE.encode()
-    return b"DSSEv1 %d %s %d %s" % (len(kind), kind, len(body), body)
+    """What is signed for a body of in-toto's type."""
+    return pae(TYPE, body)
 
 
 def hinted(sig, hint):
     """A signature with its hint."""
-    return {"keyid": hint, "sig": base64.b64encode(sig).decode()}
+    return {"keyid": hint, "sig": base64_text(sig)}
 
 
 def signed_by(document, *signers):
@@ -69,7 +59,7 @@ def with_byte_changed(text, place):
     """An envelope with one byte of its first signature changed."""
     document = json.loads(text)
     first = document["signatures"][0]
-    first["sig"] = base64.b64encode(changed_at(base64.b64decode(first["sig"]), place)).decode()
+    first["sig"] = base64_text(changed_at(base64.b64decode(first["sig"]), place))
     return compact(document).decode()
 
 
@@ -89,7 +79,7 @@ def believing(owners, builders):
 def delivery(name, report, notes, keys, ids, files, threshold=1, **changed):
     """A case whose step `build` has these key objects and ids, and these files."""
     owner, builder = ed25519("owner"), ed25519("builder")
-    body = laid_out(keys, [step("build", ids, [], PRODUCTS, threshold)])
+    body = laid_out(keys, [step("build", ids, [], MAKES, threshold)])
     whole = {"policy": believing({"owner": key(owner)}, {"builder": key(builder)}),
              "layout": signed_by(body, ("owner", owner)),
              "links": {"files": [list(file) for file in files], "folders": []},

@@ -19,12 +19,22 @@ IN_MEMORY = lines.TOP / "crates" / "itv_cases" / "data" / "cases"
 PEOPLE = ["owner", "builder", "alice", "bob", "carol"]
 NO_LEVEL = ("policy no-level /expectations/0/level: expectation 0 asks for level 0, which every "
             "builder reaches")
-DELIVER = [["MATCH", "*", "WITH", "PRODUCTS", "FROM", "build"], ["DISALLOW", "*"]]
+# The report of the good delivery, and the rules that it has: those on what is delivered, and those
+# on what its step makes.
+ACCEPTED = ["accepted", "step build 1", "file app"]
+TIES, CLOSES = ["MATCH", "*", "WITH", "PRODUCTS", "FROM", "build"], ["DISALLOW", "*"]
+DELIVER = [TIES, CLOSES]
+MAKES = [["CREATE", "app"], CLOSES]
 
 
 def ring(people):
     """The ring of these people."""
     return json.dumps([{"id": who, "secret": who.encode().hex()} for who in people])
+
+
+def text(document):
+    """The text of a document; a text is given as it is."""
+    return document if isinstance(document, str) else compact(document).decode()
 
 
 def folder(files, folders=()):
@@ -34,7 +44,7 @@ def folder(files, folders=()):
 
 def good():
     """The smallest delivery, which is accepted: alice builds `app`, and a builder attests it."""
-    body = layout(["alice"], [step("build", ["alice"], [], [["CREATE", "app"], ["DISALLOW", "*"]])])
+    body = layout(["alice"], [step("build", ["alice"], [], MAKES)])
     return {"policy": compact(policy(DELIVER)).decode(), "layout": signed(body, "owner"),
             "links": folder([("build.alice.link", signed(link("build", [], ["app"]), "alice"))]),
             "records": [], "provenance": signed(statement(["app"]), "builder") + "\n",

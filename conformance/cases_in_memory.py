@@ -6,6 +6,7 @@ import json
 import re
 import subprocess
 
+from byte_forms import base64_text
 from cases_on_disk import Difference, can_run, notes
 from on_disk import Answer, bytes_of
 from report_forms import json_of_lines
@@ -105,14 +106,9 @@ class PythonPackage:
                                 "at": refusal.at, **refusal.details}
 
 
-def text_of(content):
-    """Bytes as Go's JSON has them."""
-    return base64.b64encode(content).decode()
-
-
 def texts_of(files):
     """Files as Go's JSON has them."""
-    return {path: text_of(content) for path, content in files.items()}
+    return {path: base64_text(content) for path, content in files.items()}
 
 
 class GoPackage:
@@ -142,13 +138,13 @@ class GoPackage:
         links = files_below(folder_of(case["links"]), "links")
         delivery = {
             **texts_of(documents(case)), "at": f"{moment.replace(tzinfo=None).isoformat()}Z",
-            "links": {path.partition("/")[2]: text_of(one) for path, one in links.items()},
-            "rings": [text_of(bytes_of(ring)) for ring in case["rings"]], "depth": case["depth"],
+            "links": {path.partition("/")[2]: base64_text(one) for path, one in links.items()},
+            "rings": [base64_text(bytes_of(ring)) for ring in case["rings"]], "depth": case["depth"],
             "publicKeys": bool(case.get("public_keys"))}
         if case["records"]:
             delivery["records"] = texts_of(records_of(case))
         if "trusted_root" in case:
-            delivery["trustedRoot"] = text_of(bytes_of(case["trusted_root"]))
+            delivery["trustedRoot"] = base64_text(bytes_of(case["trusted_root"]))
         verdict = self.asked(delivery=delivery)
         report = {name: one for name, one in verdict["Report"].items()
                   if name not in ("findings", "evidence", "notes", "notesComplete")}

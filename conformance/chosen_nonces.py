@@ -4,21 +4,20 @@ The rules are those of FIPS 186-5 (section 6.4) and SP 800-186 (section 3.2.1). 
 is made from its holder's name.
 """
 
-import base64
 import hashlib
 
 import curve_points
-from key_texts import X, Y, der, point
-
-P = 2 ** 256 - 2 ** 224 + 2 ** 192 + 2 ** 96 - 1
-ORDER = 0xFFFFFFFF00000000FFFFFFFFFFFFFFFFBCE6FAADA7179E84F3B9CAC2FC632551
-B = 0x5AC635D8AA3A93E7B3EBBD55769886BC651D06B0CC53B0F63BCE3C3E27D2604B
-BASE = (int(X, 16), int(Y, 16))
+from byte_forms import base64_text, der, integer
+from curve_points import P256_BASE as BASE
+from curve_points import P256_CONSTANT as CONSTANT
+from curve_points import P256_ORDER as ORDER
+from curve_points import P256_PRIME as PRIME
+from key_texts import point
 
 
 def times(number, base):
     """A multiple of a point of the curve."""
-    return curve_points.times(P, number % ORDER, base)
+    return curve_points.times(PRIME, number % ORDER, base)
 
 
 def number_of(message):
@@ -43,15 +42,15 @@ def numbers(who, nonce, message):
 
 
 def accepting(pair, message):
-    """The two keys that accept a signature of a message, of numbers r and s, whose r is below P.
+    """The two keys that accept a signature of a message, of numbers r and s, with r below the prime.
 
     Each follows from one of the two points whose first coordinate is r.
     """
     r, s = pair
-    y = pow(r * r * r - 3 * r + B, (P + 1) // 4, P)
+    y = pow(r * r * r - 3 * r + CONSTANT, (PRIME + 1) // 4, PRIME)
     back = pow(r, -1, ORDER)
     hashed = times(-number_of(message) * back, BASE)
-    return [curve_points.add(P, times(s * back, (r, one)), hashed) for one in (y, P - y)]
+    return [curve_points.add(PRIME, times(s * back, (r, one)), hashed) for one in (y, PRIME - y)]
 
 
 def other_key(who, pair, message):
@@ -69,5 +68,4 @@ def key(public):
 
 def encoded(pair):
     """A signature in DER and base64, as an envelope has it (RFC 3279, section 2.2.3)."""
-    parts = (der(2, one.to_bytes(one.bit_length() // 8 + 1, "big")) for one in pair)
-    return base64.b64encode(der(48, b"".join(parts))).decode()
+    return base64_text(der(48, *map(integer, pair)))

@@ -4,7 +4,7 @@ import sys
 
 sys.dont_write_bytecode = True
 import lines
-from cases import PEOPLE, folder, good, ring
+from cases import CLOSES, MAKES, PEOPLE, TIES, folder, good, ring
 
 sys.path.insert(0, str(lines.TOP / "bench"))
 from deliveries import compact, layout, policy, signed, step
@@ -12,10 +12,12 @@ from deliveries import compact, layout, policy, signed, step
 COMMAND = ("itv verify --policy policy --layout layout --links links --sums sums "
            "--provenance provenance --at 2029-12-31T00:00:00Z --ring ring")
 PARTS = ("policy", "layout", "sums", "sums512", "provenance")
-TIES = ["MATCH", "*", "WITH", "PRODUCTS", "FROM", "build"]
-CLOSES = ["DISALLOW", "*"]
 NONE = [CLOSES]
-MAKES = [["CREATE", "app"], CLOSES]
+TAKES = [["ALLOW", "src"], CLOSES]
+# What is written of the good delivery, and where it is good but for what --strict finds.
+ACCEPTED = "0 accepted\nstep build 1\nfile app\n"
+SENTENCE = "findings stand against the delivery, which would be accepted without --strict"
+STOPPED = "2 " + SENTENCE
 
 
 def text_node(path, content):

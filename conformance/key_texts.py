@@ -1,17 +1,13 @@
-"""Public keys as PEM texts, written by hand in DER."""
+"""Public keys as PEM texts, written by hand in DER, and what notes say of keys that are none."""
 
-import base64
+from byte_forms import armoured, der, integer
+from curve_points import P256_BASE, P384_BASE
 
-# The public key of RFC 8032, section 7.1, test 1, and the base points of P-256 and P-384 (SP 800-186,
-# sections 3.2.1.3 and 3.2.1.4), which are keys like any other points.
+# The public key of RFC 8032, section 7.1, test 1, and the base points of P-256 and P-384, which are
+# keys like any other points.
 DIGITS = "d75a980182b10ab7d54bfed3c964073a0ee172f3daa62325af021a68f707511a"
-X = "6b17d1f2e12c4247f8bce6e563a440f277037d812deb33a0f4a13945d898c296"
-Y = "4fe342e2fe1a7f9b8ee7eb4a7c0f9e162bce33576b315ececbb6406837bf51f5"
-
-X384 = ("aa87ca22be8b05378eb1c71ef320ad746e1d3b628ba79b98"
-        "59f741e082542a385502f25dbf55296c3a545e3872760ab7")
-Y384 = ("3617de4a96262c6f5d9e98bf9292dc29f8f41dbd289a147c"
-        "e9da3113b5f0b8c00a60b1ce1d7e819d7a431d7c90ea0e5f")
+X, Y = (f"{number:064x}" for number in P256_BASE)
+X384, Y384 = (f"{number:096x}" for number in P384_BASE)
 
 # The identifiers of keys in DER: of P-256, P-384 and P-521 (RFC 5480), of secp256k1 (SEC 2), of
 # brainpoolP256r1 (RFC 5639), of RSA (RFC 3279), and of Ed25519 and X25519 (RFC 8410).
@@ -24,20 +20,20 @@ RSA = "300d06092a864886f70d0101010500"
 ED25519 = "300506032b6570"
 X25519 = "300506032b656e"
 
-
-def der(tag, contents):
-    """A value in DER (X.690): its tag, its length, and its contents."""
-    size = len(contents)
-    length = size.to_bytes((size.bit_length() + 7) // 8 or 1, "big")
-    return bytes([tag, *([] if size < 128 else [128 + len(length)]), *length]) + contents
+# What the notes say of key objects that are not known.
+NO_SECRET = "no ring has the secret of it"
+NOT_ASKED = "a public key, which is checked with --public-keys"
+NO_DIGITS = "its public is not 64 hexadecimal digits"
+NO_ED25519 = "its public is no Ed25519 key: no point, or one of small order"
+NO_PEM = "its public does not read as a PEM text of a public key"
+NO_P256 = "its PEM text is no P-256 key that is taken: an uncompressed point of the curve"
+NO_P384 = "its PEM text is no P-384 key that is taken: an uncompressed point of the curve"
+NO_RSA = "its PEM text is no RSA key that is taken: of 2,048 to 4,096 bits, in whole bytes"
 
 
 def pem(algorithm, bits, label="PUBLIC KEY"):
     """The PEM text (RFC 7468) of a SubjectPublicKeyInfo, by its algorithm and its bit string."""
-    info = der(48, bytes.fromhex(algorithm) + der(3, b"\0" + bits))
-    text = base64.b64encode(info).decode()
-    lines = [text[at:at + 64] for at in range(0, len(text), 64)]
-    return "\n".join([f"-----BEGIN {label}-----", *lines, f"-----END {label}-----"])
+    return armoured(der(48, bytes.fromhex(algorithm), der(3, b"\0" + bits)), label)
 
 
 def point(coordinates):
@@ -52,5 +48,4 @@ def point384(coordinates):
 
 def modulus(bits, exponent=65537):
     """The PEM text of an RSA key whose modulus is this many bits, all ones."""
-    numbers = [n.to_bytes(n.bit_length() // 8 + 1, "big") for n in (2 ** bits - 1, exponent)]
-    return pem(RSA, der(48, b"".join(der(2, number) for number in numbers)))
+    return pem(RSA, der(48, integer(2 ** bits - 1), integer(exponent)))

@@ -10,6 +10,7 @@ import collections
 import datetime
 import re
 
+from byte_forms import pae
 from on_disk import bytes_of
 from peer_documents import Inexpressible, document_of, envelope_of
 from peer_keys import Keys, ed25519, owners_of
@@ -229,11 +230,6 @@ class Writer:
             self.keys.id_of(name)
         layout, _ = self.sealed(envelope_of(bytes_of(self.case["layout"])))
         return Delivery(owners, layout, self.folder(self.case["links"]))
-
-
-def pae(kind, payload):
-    """What is signed in an envelope by DSSE."""
-    return b"DSSEv1 %d %s %d %s" % (len(kind.encode()), kind.encode(), len(payload), payload)
 
 
 def delivery_of(case, peer):

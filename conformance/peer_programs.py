@@ -1,13 +1,13 @@
 """Other verifiers of in-toto layouts: the forms that each reads, and how it is run."""
 
-import base64
 import json
 import pathlib
 
 from cryptography.hazmat.primitives import serialization
 
 import by_keys
-from peer_deliveries import TYPE, pae
+from byte_forms import base64_text, pae
+from peer_deliveries import TYPE
 from peer_documents import Inexpressible, canonical, compact
 from signing_keys import Ed25519Key, RsaKey
 
@@ -39,8 +39,8 @@ class Golang:
     @staticmethod
     def envelope(kind, body, signatures):
         """The bytes of an envelope, with the pairs of an id and a signature."""
-        made = [{"keyid": who, "sig": base64.b64encode(sig).decode()} for who, sig in signatures]
-        payload = base64.b64encode(bytes_of_body(body)).decode()
+        made = [{"keyid": who, "sig": base64_text(sig)} for who, sig in signatures]
+        payload = base64_text(bytes_of_body(body))
         return compact({"payload": payload, "payloadType": kind, "signatures": made})
 
     @staticmethod

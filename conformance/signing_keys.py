@@ -1,6 +1,7 @@
 """Keys of four kinds from fixed seeds, whose signatures are the same each time.
 
-The kinds are Ed25519, ECDSA over P-256 with SHA-256 and over P-384 with SHA-384, and RSASSA-PSS. The seed of a key is its holder's name.
+The kinds are Ed25519, ECDSA over P-256 with SHA-256 and over P-384 with SHA-384, and RSASSA-PSS.
+The seed of a key is its holder's name.
 Needs the package `cryptography`, which signs by Ed25519 and by ECDSA (RFC 6979), and checks each
 signature that is made here by RFC 8017.
 """
@@ -11,10 +12,7 @@ from cryptography.hazmat.primitives import hashes, serialization
 from cryptography.hazmat.primitives.asymmetric import ec, padding, rsa, utils
 from cryptography.hazmat.primitives.asymmetric.ed25519 import Ed25519PrivateKey
 
-# The orders of the base points (SP 800-186, sections 3.2.1.3 and 3.2.1.4).
-P256_ORDER = 0xFFFFFFFF00000000FFFFFFFFFFFFFFFFBCE6FAADA7179E84F3B9CAC2FC632551
-P384_ORDER = int("FFFFFFFFFFFFFFFFFFFFFFFFFFFFFFFFFFFFFFFFFFFFFFFF"
-                 "C7634D81F4372DDF581A0DB248B0A77AECEC196ACCC52973", 16)
+from curve_points import P256_ORDER, P384_ORDER
 
 
 def stream(seed, size):

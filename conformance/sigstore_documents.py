@@ -6,6 +6,8 @@ import datetime
 import json
 import re
 
+from curve_points import P256_CONSTANT, P256_PRIME
+
 GREATEST = 2**53 - 1
 VERSIONS = {"application/vnd.dev.sigstore.bundle+json;version=0.1": "V1",
             "application/vnd.dev.sigstore.bundle+json;version=0.2": "V2",
@@ -13,9 +15,7 @@ VERSIONS = {"application/vnd.dev.sigstore.bundle+json;version=0.1": "V1",
             "application/vnd.dev.sigstore.bundle.v0.3+json": "V3"}
 ROOT_TYPES = ["application/vnd.dev.sigstore.trustedroot+json;version=0.1",
               "application/vnd.dev.sigstore.trustedroot.v0.1+json"]
-# The prime and the constant of P-256, and what stands before a point in its encoding.
-PRIME = 2**256 - 2**224 + 2**192 + 2**96 - 1
-CONSTANT = 0x5AC635D8AA3A93E7B3EBBD55769886BC651D06B0CC53B0F63BCE3C3E27D2604B
+# What stands before a point of P-256 in its encoding.
 INFO_PREFIX = bytes.fromhex("3059301306072a8648ce3d020106082a8648ce3d03010703420004")
 
 
@@ -187,7 +187,7 @@ def is_key(info):
     if len(info) != 91 or not info.startswith(INFO_PREFIX):
         return False
     x, y = int.from_bytes(info[27:59], "big"), int.from_bytes(info[59:], "big")
-    return x < PRIME and y < PRIME and (y * y - x**3 + 3 * x - CONSTANT) % PRIME == 0
+    return x < P256_PRIME and y < P256_PRIME and (y * y - x**3 + 3 * x - P256_CONSTANT) % P256_PRIME == 0
 
 
 def log(value):

@@ -14,7 +14,7 @@ import sys
 sys.path.insert(0, os.path.join(os.path.dirname(os.path.abspath(__file__)), "..", "conformance"))
 import private_sigstore as private
 from byte_forms import base64_text
-from deliveries import compact, envelope, statement
+from deliveries import compact, envelope, identity, statement
 
 LIMIT = 8 * 1024 * 1024
 # What is left for the other line of the provenance.
@@ -55,8 +55,7 @@ def trusting(delivery, **listed):
 
 def signer():
     """The key object of the identity that the public bundle vouches for."""
-    return {"keytype": "sigstore-oidc", "scheme": "Fulcio",
-            "keyval": {"identity": public().identity, "issuer": public().issuer}}
+    return identity(public().identity, public().issuer)
 
 
 def flooded(line_at):

@@ -13,10 +13,10 @@ import sys
 
 sys.path[:0] = [str(pathlib.Path(__file__).resolve().parent.parent / name)
                 for name in ("bench", "conformance")]
+from curve_points import P256_ORDER, P384_ORDER
 from deliveries import MOMENT, TYPE, compact, link, statement, step
 from digest_lists import LISTS, digests
-from signing_keys import (P256_ORDER, P384_ORDER, Ed25519Key, P256Key, P384Key, RsaKey,
-                          order_less, pem)
+from signing_keys import Ed25519Key, P256Key, P384Key, RsaKey, order_less, pem
 
 SCHEMES = ["hmac-sha256", "ed25519", "ecdsa-sha2-nistp256", "rsassa-pss-sha256",
            "ecdsa-sha2-nistp384"]
@@ -99,18 +99,26 @@ def damaged(dice, made):
         {"keyval": {"public": text.replace("A", "B", 1)}}, {"keyid": "a"}])}
 
 
-class Dice:
-    """The random choices for one delivery."""
+class Faulty:
+    """What is made at random, and in which something goes wrong as often as was thrown.
 
-    def __init__(self, dice):
-        self.dice = dice
-        # Some deliveries are right or nearly so, others have faults all over.
-        self.wrong = dice.choice([0, 0.01, 0.03, 0.1])
-        self.algorithms = dice.choice(ALGORITHMS)
+    Some deliveries are right or nearly so, others have faults all over.
+    """
+
+    def __init__(self, dice, how_often):
+        self.dice, self.wrong = dice, dice.choice(how_often)
 
     def is_wrong(self, times=1):
         """Whether something goes wrong here."""
         return self.dice.random() < self.wrong * times
+
+
+class Dice(Faulty):
+    """The random choices for one delivery."""
+
+    def __init__(self, dice):
+        super().__init__(dice, [0, 0.01, 0.03, 0.1])
+        self.algorithms = dice.choice(ALGORITHMS)
 
     def keys(self, count):
         """Key objects by their ids, and who holds each."""

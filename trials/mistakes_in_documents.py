@@ -2,6 +2,7 @@
 
 import json
 
+from deliveries import identity
 from mistake import Mistake
 from release_made import moment, rules, taken
 
@@ -116,12 +117,6 @@ def unnamed(release):
     envelope = json.loads(release.signed(release.text("layout.json"), "owner"))
     envelope["signatures"][0]["keyid"] = ""
     return envelope
-
-
-def identity(name, issuer):
-    """The key object of an identity."""
-    return {"keytype": "sigstore-oidc", "scheme": "Fulcio",
-            "keyval": {"identity": name, "issuer": issuer}}
 
 
 def owner_by_identity(release):

@@ -11,7 +11,7 @@ import by_keys
 import private_sigstore as private
 from bundle_runs import named
 from deliveries import MOMENT, compact, envelope, key_object, layout, signature, signed, step
-from keys_made import Bundle
+from keys_made import Bundle, Faulty
 from sigstore_cases import line_of
 from sigstore_parts import (BUILD_TYPE, BUILDER, FILES, WORKFLOW, Plain, digests, of_case, of_made)
 from sigstore_spoiled import Spoiler
@@ -36,15 +36,13 @@ def merged(roots):
     return whole
 
 
-class Delivery:
+class Delivery(Faulty):
     """A delivery, each part of which is a text, or bytes, or None."""
 
     moment, depth = MOMENT, 4
 
     def __init__(self, dice, number):
-        self.dice = dice
-        # Some deliveries are right or nearly so, others have faults all over.
-        self.wrong = dice.choice([0, 0.05, 0.2, 0.5])
+        super().__init__(dice, [0, 0.05, 0.2, 0.5])
         self.home = private.Made(dice, artifact=FILES["app"])
         cases = [CASES[place % len(CASES)] for place in range(EACH * number, EACH * (number + 1))]
         self.parts = [of_made(self.home), *(of_case(dice, name) for name in cases),
@@ -62,10 +60,6 @@ class Delivery:
         self.public_keys = dice.random() < 0.7
         self.ring = self.ring_text() if not self.public_keys or dice.random() < 0.9 else None
         self.root = self.trusted_root()
-
-    def is_wrong(self, times=1):
-        """Whether something goes wrong here."""
-        return self.dice.random() < self.wrong * times
 
     def names(self):
         """The names of the delivered files."""

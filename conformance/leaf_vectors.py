@@ -8,7 +8,6 @@ the leaf and one of the logs promised to log it; always the same.
 The certificates are made by the package `cryptography`, which also says what is signed by a
 certificate log (`tbs_precertificate_bytes`). Each answer is written beside what is changed.
 """
-import base64
 import datetime
 import hashlib
 import sys
@@ -20,6 +19,7 @@ from cryptography.hazmat.primitives import hashes, serialization
 from cryptography.hazmat.primitives.asymmetric import ec
 from cryptography.x509.oid import ExtendedKeyUsageOID, NameOID, ObjectIdentifier
 import lines
+from byte_forms import base64_text, der
 
 DATA = lines.TOP / "crates" / "it_leaf_vectors" / "data" / "leaves.jsonl"
 TIMESTAMPS = ObjectIdentifier("1.3.6.1.4.1.11129.2.4.2")
@@ -28,6 +28,8 @@ CURVES = {"p256": (ec.SECP256R1(), hashes.SHA256()), "p384": (ec.SECP384R1(), ha
 MOMENT = 1_700_000_300
 FIRST, LAST = MOMENT - 300, MOMENT + 300
 YEAR = 365 * 86_400
+# When authorities' certificates are valid.
+YEARS = {"first": MOMENT - YEAR, "last": MOMENT + YEAR}
 
 
 class Key:
@@ -35,26 +37,30 @@ class Key:
 
     def __init__(self, name, curve="p256"):
         self.curve, self.hash = CURVES[curve]
-        seed = hashlib.sha512(name.encode()).digest() + hashlib.sha512(b"more" + name.encode()).digest()
-        self.private = ec.derive_private_key(int.from_bytes(seed[:40], "big") % 2**250 + 1, self.curve)
+        seed = hashlib.sha512(name.encode()).digest()[:40]
+        self.private = ec.derive_private_key(int.from_bytes(seed, "big") % 2**250 + 1, self.curve)
         self.info = self.private.public_key().public_bytes(
             serialization.Encoding.DER, serialization.PublicFormat.SubjectPublicKeyInfo)
         self.id = hashlib.sha256(self.info).digest()
 
     def sign(self, message):
+        """The signature of a message."""
         return self.private.sign(message, ec.ECDSA(self.hash, deterministic_signing=True))
 
 
 def named(text):
+    """A name with this common name."""
     return x509.Name([x509.NameAttribute(NameOID.ORGANIZATION_NAME, "example.test"),
                       x509.NameAttribute(NameOID.COMMON_NAME, text)])
 
 
 def at(seconds):
+    """A moment."""
     return datetime.datetime.fromtimestamp(seconds, datetime.timezone.utc)
 
 
 def usage(**bits):
+    """A key usage of these purposes."""
     names = ("digital_signature", "content_commitment", "key_encipherment", "data_encipherment",
              "key_agreement", "key_cert_sign", "crl_sign", "encipher_only", "decipher_only")
     return x509.KeyUsage(**{name: bits.get(name, False) for name in names})
@@ -73,13 +79,15 @@ class Certificate:
     hash: object = None  # another one than the signer's
 
     def bytes(self, extensions):
+        """The certificate with these extensions, each with whether it is critical."""
         builder = x509.CertificateBuilder().subject_name(named(self.subject))
         builder = builder.issuer_name(named(self.issuer)).public_key(self.key.private.public_key())
         builder = builder.serial_number(int.from_bytes(self.key.id[:8], "big"))
         builder = builder.not_valid_before(at(self.first)).not_valid_after(at(self.last))
         for extension, critical in extensions:
             builder = builder.add_extension(extension, critical)
-        made = builder.sign(self.signer.private, self.hash or self.signer.hash, ecdsa_deterministic=True)
+        made = builder.sign(self.signer.private, self.hash or self.signer.hash,
+                            ecdsa_deterministic=True)
         return made.public_bytes(serialization.Encoding.DER)
 
 
@@ -97,46 +105,46 @@ class Timestamp:
     algorithm: bytes = b"\x04\x03"
 
     def bytes(self, issuer_info, bare):
+        """The timestamp for a leaf without timestamps."""
         signed = (b"\x00\x00" + self.moment.to_bytes(8, "big") + b"\x00\x01"
                   + hashlib.sha256(self.issuer_info or issuer_info).digest()
                   + len(bare).to_bytes(3, "big") + bare + counted(self.extensions))
         told = self.moment if self.moment_told is None else self.moment_told
+        signature = (self.signer or self.log).sign(signed)
         return (bytes([self.version]) + self.log.id + told.to_bytes(8, "big")
-                + counted(self.extensions) + self.algorithm + counted((self.signer or self.log).sign(signed)))
+                + counted(self.extensions) + self.algorithm + counted(signature))
 
 
 def counted(content):
+    """Bytes after their number."""
     return len(content).to_bytes(2, "big") + content
-
-
-def octets(content):
-    size = bytes([len(content)]) if len(content) < 128 else (
-        bytes([0x81, len(content)]) if len(content) < 256 else b"\x82" + len(content).to_bytes(2, "big"))
-    return b"\x04" + size + content
 
 
 def leaf_bytes(leaf, issuer_info, items, place):
     """The leaf, with the items as its timestamps at a place among its extensions."""
+    name = x509.UniformResourceIdentifier("https://example.test/build")
     extensions = [(usage(digital_signature=True), True),
                   (x509.ExtendedKeyUsage([ExtendedKeyUsageOID.CODE_SIGNING]), False),
-                  (x509.SubjectAlternativeName([x509.UniformResourceIdentifier("https://example.test/build")]), True),
+                  (x509.SubjectAlternativeName([name]), True),
                   (x509.UnrecognizedExtension(ISSUER, b"\x0c\x14https://issuer.test/"), False)]
     if items is None:
         return leaf.bytes(extensions)
 
-    def with_value(value):
+    def with_timestamps(listed):
+        value = der(4, counted(b"".join(map(counted, listed))))
         timestamps = (x509.UnrecognizedExtension(TIMESTAMPS, value), False)
         return leaf.bytes(extensions[:place] + [timestamps] + extensions[place:])
 
     # Any list will do to learn the bytes without it, as long as it reads.
-    shape = with_value(octets(counted(counted(Timestamp(KEYS["log"]).bytes(issuer_info, b"")))))
+    shape = with_timestamps([Timestamp(KEYS["log"]).bytes(issuer_info, b"")])
     bare = x509.load_der_x509_certificate(shape).tbs_precertificate_bytes
-    made = b"".join(counted(one if isinstance(one, bytes) else one.bytes(issuer_info, bare)) for one in items)
-    return with_value(octets(counted(made)))
+    return with_timestamps([one if isinstance(one, bytes) else one.bytes(issuer_info, bare)
+                            for one in items])
 
 
 KEYS = {name: Key(name) for name in ("log", "other log", "stranger", "leaf", "root", "middle")}
 BIG = {name: Key(name, "p384") for name in ("root", "middle")}
+STRANGER = KEYS["stranger"]
 
 
 @dataclass(frozen=True)
@@ -163,52 +171,61 @@ class Case:
     def certificates(self):
         """The leaf and the authority's certificates, the issuer's first."""
         curves = [{"p256": KEYS, "p384": BIG}[curve] for curve in self.chain]
-        root = curves[-1]["root"]
-        year = {"first": MOMENT - YEAR, "last": MOMENT + YEAR}
-        anchor = replace(Certificate("root", "root", root, root, **year), **self.anchor)
-        made = [anchor.bytes([(usage(key_cert_sign=True), True), (x509.BasicConstraints(True, 1), True)])]
-        issuer, name = root, "root"
+        chain, issuer, name = [self.anchor_bytes(curves[-1]["root"])], curves[-1]["root"], "root"
         if len(curves) == 2:
             issuer, name = curves[0]["middle"], "middle"
-            middle = replace(Certificate("middle", "root", issuer, root, **year), **self.middle)
-            signs = usage(key_cert_sign=True) if self.middle_signs else usage(digital_signature=True)
-            made.insert(0, middle.bytes([
-                (signs, True), (x509.BasicConstraints(True, self.middle_path), True),
-                (x509.ExtendedKeyUsage([ExtendedKeyUsageOID.CODE_SIGNING]), False)]))
+            chain.insert(0, self.middle_bytes(issuer, curves[-1]["root"]))
         leaf = replace(Certificate("leaf", name, KEYS["leaf"], issuer, FIRST, LAST), **self.leaf)
-        bytes_of_leaf = leaf_bytes(leaf, issuer.info, self.items, self.place)
+        content = leaf_bytes(leaf, issuer.info, self.items, self.place)
         if self.wrong_leaf:
-            bytes_of_leaf = flipped(bytes_of_leaf)
+            content = flipped(content)
         if self.wrong_middle:
-            made[0] = flipped(made[0])
-        return bytes_of_leaf, made
+            chain[0] = flipped(chain[0])
+        return content, chain
+
+    def anchor_bytes(self, key):
+        """The anchor, which is of this key."""
+        anchor = replace(Certificate("root", "root", key, key, **YEARS), **self.anchor)
+        return anchor.bytes([(usage(key_cert_sign=True), True),
+                             (x509.BasicConstraints(True, 1), True)])
+
+    def middle_bytes(self, key, signer):
+        """The issuer's certificate, which is of this key, where that is not the anchor."""
+        middle = replace(Certificate("middle", "root", key, signer, **YEARS), **self.middle)
+        signs = usage(**{"key_cert_sign" if self.middle_signs else "digital_signature": True})
+        return middle.bytes([
+            (signs, True), (x509.BasicConstraints(True, self.middle_path), True),
+            (x509.ExtendedKeyUsage([ExtendedKeyUsageOID.CODE_SIGNING]), False)])
 
     def row(self, name, issued, logged):
+        """The row of the case, with what is to be found."""
         leaf, chain = self.certificates()
         log = {"hashAlgorithm": self.hash_algorithm,
-               "publicKey": {"rawBytes": base64_of(self.log.info), "keyDetails": "PKIX_ECDSA_P256_SHA_256",
+               "publicKey": {"rawBytes": base64_text(self.log.info),
+                             "keyDetails": "PKIX_ECDSA_P256_SHA_256",
                              "validFor": span(self.log_window)},
-               "logId": {"keyId": base64_of(self.log_id or self.log.id)}}
+               "logId": {"keyId": base64_text(self.log_id or self.log.id)}}
+        certificates = [{"rawBytes": base64_text(one)} for one in chain]
         return {"name": name,
-                "authority": {"certChain": {"certificates": [{"rawBytes": base64_of(one)} for one in chain]},
+                "authority": {"certChain": {"certificates": certificates},
                               "validFor": span(self.window)},
-                "logs": [log], "leaf": leaf.hex(), "moment": self.moment, "issued": issued, "logged": logged}
+                "logs": [log], "leaf": leaf.hex(), "moment": self.moment, "issued": issued,
+                "logged": logged}
 
 
 def flipped(data):
+    """Bytes whose last bit is the other one."""
     return data[:-1] + bytes([data[-1] ^ 1])
 
 
-def base64_of(data):
-    return base64.b64encode(data).decode()
-
-
 def span(window):
+    """The times from when and until when something counts, as a trusted root has them."""
     texts = [None if one is None else at(one).strftime("%Y-%m-%dT%H:%M:%SZ") for one in window]
     return {"start": texts[0]} | ({} if texts[1] is None else {"end": texts[1]})
 
 
 def good():
+    """Leaves that their authority issued and a log promised to log."""
     yield "p384", Case()
     yield "p256", Case(chain=("p256", "p256"))
     yield "p256 under p384", Case(chain=("p256", "p384"))
@@ -222,24 +239,31 @@ def good():
     yield "at the log window's start", Case(log_window=(MOMENT, None))
     yield "at the log window's end", Case(log_window=(MOMENT - YEAR, MOMENT))
     yield "the timestamp after its log's time in seconds", Case(
-        log_window=(MOMENT - YEAR, MOMENT + 1), items=(Timestamp(KEYS["log"], moment=MOMENT * 1000 + 999),))
-    yield "an anchor that another signed", Case(anchor={"issuer": "elsewhere", "signer": KEYS["stranger"]})
+        log_window=(MOMENT - YEAR, MOMENT + 1), items=stamped(moment=MOMENT * 1000 + 999))
+    yield "an anchor that another signed", Case(anchor={"issuer": "elsewhere", "signer": STRANGER})
     yield "timestamps first", Case(place=0)
     yield "timestamps in the middle", Case(place=2)
-    yield "a timestamp with extensions", Case(items=(Timestamp(KEYS["log"], extensions=b"more"),))
+    yield "a timestamp with extensions", Case(items=stamped(extensions=b"more"))
     yield "a bad timestamp before the good one", Case(
-        items=(Timestamp(KEYS["log"], signer=KEYS["stranger"]), Timestamp(KEYS["log"])))
-    yield "an item that is no timestamp", Case(items=(b"none", Timestamp(KEYS["log"])))
-    yield "eight timestamps", Case(items=(Timestamp(KEYS["stranger"]),) * 7 + (Timestamp(KEYS["log"]),))
+        items=(*stamped(signer=STRANGER), *stamped()))
+    yield "an item that is no timestamp", Case(items=(b"none", *stamped()))
+    yield "eight timestamps", Case(items=(Timestamp(STRANGER),) * 7 + stamped())
+
+
+def stamped(log="log", **changed):
+    """The one timestamp of a log, with these changes."""
+    return (Timestamp(KEYS[log], **changed),)
 
 
 def not_issued():
+    """Leaves that their authority did not issue, but a log promised to log."""
+    small = {"chain": ("p256", "p256")}
     yield "the leaf's signature is wrong", Case(wrong_leaf=True)
-    yield "the leaf is signed by a stranger", Case(chain=("p256", "p256"), leaf={"signer": KEYS["stranger"]})
+    yield "the leaf is signed by a stranger", Case(**small, leaf={"signer": STRANGER})
     yield "the leaf is signed by the anchor", Case(leaf={"signer": BIG["root"]})
     yield "the leaf names another issuer", Case(leaf={"issuer": "root"})
     yield "p384 with sha256", Case(leaf={"hash": hashes.SHA256()})
-    yield "p256 with sha384", Case(chain=("p256", "p256"), leaf={"hash": hashes.SHA384()})
+    yield "p256 with sha384", Case(**small, leaf={"hash": hashes.SHA384()})
     yield "the leaf expired", Case(moment=LAST + 1)
     yield "before the leaf", Case(moment=FIRST - 1)
     yield "before the window", Case(window=(MOMENT + 1, None))
@@ -249,38 +273,43 @@ def not_issued():
     yield "the anchor expired", Case(anchor={"last": MOMENT - 1})
     yield "before the anchor", Case(anchor={"first": MOMENT + 1})
     yield "the issuer's signature is wrong", Case(wrong_middle=True)
-    yield "the issuer is signed by a stranger", Case(chain=("p384", "p256"), middle={"signer": KEYS["stranger"]})
+    yield "the issuer is signed by a stranger", Case(chain=("p384", "p256"),
+                                                     middle={"signer": STRANGER})
     yield "the issuer names another", Case(middle={"issuer": "elsewhere"})
     yield "the issuer may not issue", Case(middle_signs=False)
 
 
 def not_logged():
+    """Leaves that their authority issued, but no log promised to log."""
+    other = KEYS["other log"]
     yield "no timestamps", Case(items=None)
-    yield "a log that is not known", Case(items=(Timestamp(KEYS["other log"]),))
-    yield "another log's signature", Case(items=(Timestamp(KEYS["log"], signer=KEYS["other log"]),))
-    yield "a log with another id", Case(log_id=KEYS["other log"].id)
-    yield "another moment than was signed", Case(items=(Timestamp(KEYS["log"], moment_told=MOMENT * 1000 + 1),))
-    yield "another issuer's key", Case(items=(Timestamp(KEYS["log"], issuer_info=KEYS["stranger"].info),))
+    yield "a log that is not known", Case(items=stamped("other log"))
+    yield "another log's signature", Case(items=stamped(signer=other))
+    yield "a log with another id", Case(log_id=other.id)
+    yield "another moment than was signed", Case(items=stamped(moment_told=MOMENT * 1000 + 1))
+    yield "another issuer's key", Case(items=stamped(issuer_info=STRANGER.info))
     yield "before the log's window", Case(log_window=(MOMENT + 1, None))
     yield "after the log's window", Case(log_window=(MOMENT - YEAR, MOMENT),
-                                         items=(Timestamp(KEYS["log"], moment=MOMENT * 1000 + 1),))
-    yield "another version", Case(items=(Timestamp(KEYS["log"], version=1),))
-    yield "another algorithm", Case(items=(Timestamp(KEYS["log"], algorithm=b"\x05\x03"),))
+                                         items=stamped(moment=MOMENT * 1000 + 1))
+    yield "another version", Case(items=stamped(version=1))
+    yield "another algorithm", Case(items=stamped(algorithm=b"\x05\x03"))
     yield "a log that is passed over", Case(hash_algorithm="SHA2_512")
-    yield "nine timestamps", Case(items=(Timestamp(KEYS["log"]),) * 9)
+    yield "nine timestamps", Case(items=stamped() * 9)
 
 
 def neither():
-    yield "neither", Case(wrong_leaf=True, items=(Timestamp(KEYS["other log"]),))
+    """A leaf of which neither holds."""
+    yield "neither", Case(wrong_leaf=True, items=stamped("other log"))
 
 
 def rows():
+    """The rows of all leaves."""
     for cases, issued, logged in ((good, True, True), (not_issued, False, True),
                                   (not_logged, True, False), (neither, False, False)):
         for name, case in cases():
             # The timestamps are those of an authority that can be used.
-            usable = not (case.wrong_middle or case.middle.get("signer") or case.middle.get("issuer")
-                          or not case.middle_signs)
+            usable = not (case.wrong_middle or case.middle.get("signer")
+                          or case.middle.get("issuer") or not case.middle_signs)
             yield case.row(name, issued, logged and usable)
 
 

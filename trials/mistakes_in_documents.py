@@ -161,8 +161,8 @@ def other_keyid(release):
     release.write("layout.envelope.json", envelope)
 
 
-def silent():
-    """What would be accepted without `--strict`."""
+def silent_policies():
+    """Policies by which the release would be accepted without `--strict`."""
     return [
         Mistake("an owner is null", null_owner, 2, ("null-owner", "secruity")),
         Mistake("no deliver, another file", tampered_under(removed("deliver")), 2,
@@ -184,6 +184,12 @@ def silent():
         policy(put("expectations", 0, "level", None), 2, "no-level", name="level is null"),
         policy(stricter_behind, 2, "unused-expectation", "/expectations/1",
                name="a stricter expectation behind one of all files"),
+    ]
+
+
+def silent_steps():
+    """Steps, keys and doubled members with which it would be accepted without `--strict`."""
+    return [
         layout(renamed("treshold", "steps", 1, "threshold"), 2, '"treshold"', '"threshold"',
                name="treshold for threshold"),
         layout(renamed("expected_product", "steps", 1, "expected_products"), 2,
@@ -211,9 +217,8 @@ def silent():
     ]
 
 
-def refused():
-    """What is refused."""
-    late = [taken("*", "package"), ["REQUIRE", "hello.tar"]]
+def refused_thresholds():
+    """Thresholds and names of steps that are refused."""
     return [
         layout(put("steps", 1, "threshold", 0), 1, "threshold", "at least 1",
                name="a threshold of 0"),
@@ -225,6 +230,13 @@ def refused():
                "no step or inspection has that name", name="a misspelt step in the layout"),
         policy(put("deliver", rules(taken("*", "pakage"))), 1, "pakage",
                "no step or inspection has that name", name="a misspelt step in deliver"),
+    ]
+
+
+def refused_rules():
+    """Rules on what is delivered that are refused."""
+    late = [taken("*", "package"), ["REQUIRE", "hello.tar"]]
+    return [
         policy(put("deliver", [["DISALLOW", "*"], taken("*", "package")]), 1, "rule 0",
                "DISALLOW *", name="DISALLOW comes first"),
         policy(put("deliver", rules(taken("goodbye.tar", "package"))), 1, "hello.tar",
@@ -235,6 +247,12 @@ def refused():
         policy(put("deliver", [["DISALOW", "*"]]), 1, "DISALOW", name="a misspelt rule"),
         policy(put("deliver", [["MATCH", "*", "WITH", "PRODUCTS"]]), 1, "MATCH", "deliver",
                name="MATCH without FROM"),
+    ]
+
+
+def refused_policies():
+    """Owners and expectations of policies that are refused."""
+    return [
         policy(renamed("owner", "owners"), 1, '"owner"', 'did you mean "owners"', "missing",
                name="owner for owners"),
         policy(put("owners", "owner", "a text"), 1, "owners", name="an owner that is a text"),
@@ -248,6 +266,12 @@ def refused():
                name="another value of a parameter"),
         policy(put("expectations", 0, "builders", 0, "level", 1), 1, "level 1", "level 2",
                name="a builder of too low a level"),
+    ]
+
+
+def refused_texts():
+    """Texts of policies that are refused."""
+    return [
         text(lambda policy: "owners:\n  owner: keys/owner.pub\n", "line 1, column 1",
              name="a policy in YAML"),
         text(lambda policy: policy[:1] + "\n" + policy[1:-1] + ",\n}", "line 3, column 1",
@@ -257,6 +281,12 @@ def refused():
         text(lambda policy: "\ufeff" + policy, "byte order mark", name="a byte order mark"),
         text(lambda policy: policy.encode("utf-16"), "UTF-16", name="a policy in UTF-16"),
         Mistake("policy and layout are swapped", swapped, 1, ("owners", "missing")),
+    ]
+
+
+def refused_layouts():
+    """Layouts, signatures of layouts and keys in them that are refused."""
+    return [
         layout(put("expires", "2030-01-01"), 1, "expires", "T00:00:00Z",
                name="expires is a date"),
         layout(put("expires", moment(-86400)), 1, "30 Expired", moment(-86400)[:10],
@@ -276,4 +306,5 @@ def refused():
     ]
 
 
-MISTAKES = [*silent(), *refused()]
+MISTAKES = [*silent_policies(), *silent_steps(), *refused_thresholds(), *refused_rules(),
+            *refused_policies(), *refused_texts(), *refused_layouts()]

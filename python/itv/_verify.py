@@ -102,6 +102,25 @@ def _moment(at):
     return f"{moment.isoformat()}Z"
 
 
+def _optional(words, files, **documents):
+    """Hands over the documents that are given: adds the files, and the words that name them."""
+    for name, one in documents.items():
+        if one is not None:
+            option = name.replace("_", "-")
+            files[option] = bytes_of(one, name)
+            words.append(f"--{option}={option}")
+
+
+def _judged(words, files):
+    """The verdict of the command."""
+    try:
+        given = run(words, files)
+    except Found as found:
+        found.findings = _findings(json.loads(found.output))
+        raise
+    return _verdict(json.loads(given.output), given.notes)
+
+
 def verify(*, policy: Document, layout: Document, links: Folder, at: datetime.datetime,
            sums: Optional[Document] = None, sums512: Optional[Document] = None,
            rings: Sequence[Document] = (), public_keys: bool = False,
@@ -110,47 +129,34 @@ def verify(*, policy: Document, layout: Document, links: Folder, at: datetime.da
            most_checks: Optional[int] = None) -> Verdict:
     """Whether the files of digest lists were made as the policy and the layout prescribe.
 
-    `policy` says who owns the layout, what may be delivered, and which provenance it needs; `layout`
-    is the layout in its envelope, and `links` are the signed links of its steps, with the folders of
-    sublayouts. `sums` is the digest list of the delivered files by SHA-256, as `digest` makes it, and
-    `sums512` the one by SHA-512, which it makes with `sha512`: one of them is needed, and a path that
-    is in both has both digests. `at` is the moment at which no layout may have expired, a `datetime`
-    with a zone, of which parts of a second are cut off. Signatures are checked by the `rings`, in
-    their order, and then by `public_keys` where that is true; lines of the provenance that are bundles
-    by the `trusted_root` of Sigstore. One of the three is needed. `provenance` has an envelope on each
-    line, or with a `trusted_root` a bundle, and `records` are those of inspections. `depth` is how
-    deep sublayouts may lie, 4 where it is not given; `most_checks` how many signatures are checked by
-    public keys at most, 20,000 where it is not.
+    `policy` says who owns the layout, what may be delivered, and which provenance it needs;
+    `layout` is the layout in its envelope, and `links` are the signed links of its steps, with the
+    folders of sublayouts. `sums` is the digest list of the delivered files by SHA-256, as `digest`
+    makes it, and `sums512` the one by SHA-512, which it makes with `sha512`: one of them is needed,
+    and a path that is in both has both digests. `at` is the moment at which no layout may have
+    expired, a `datetime` with a zone, of which parts of a second are cut off. Signatures are
+    checked by the `rings`, in their order, and then by `public_keys` where that is true; lines of
+    the provenance that are bundles by the `trusted_root` of Sigstore. One of the three is needed.
+    `provenance` has an envelope on each line, or with a `trusted_root` a bundle, and `records` are
+    those of inspections. `depth` is how deep sublayouts may lie, 4 where it is not given;
+    `most_checks` how many signatures are checked by public keys at most, 20,000 where it is not.
 
-    Raises `Stopped` where the command stops; with `strict` a `Found` where something is found in what
-    would be accepted, with these `findings`.
+    Raises `Stopped` where the command stops; with `strict` a `Found` where something is found in
+    what would be accepted, with these `findings`.
     """
     files = {"policy": bytes_of(policy, "policy"), "layout": bytes_of(layout, "layout"),
              **files_of(links, "links", DEPTH if depth is None else min(depth, MOST_DEPTH))}
     words = ["verify", FORM, "--policy=policy", "--layout=layout", "--links=links",
              f"--at={_moment(at)}"]
-    for name, one in {"sums": sums, "sums512": sums512}.items():
-        if one is not None:
-            files[name] = bytes_of(one, name)
-            words.append(f"--{name}={name}")
+    _optional(words, files, sums=sums, sums512=sums512)
     for number, ring in enumerate(rings, 1):
         files[f"ring-{number}"] = bytes_of(ring, "a ring")
         words.append(f"--ring=ring-{number}")
-    if trusted_root is not None:
-        files["trusted-root"] = bytes_of(trusted_root, "trusted_root")
-        words.append("--trusted-root=trusted-root")
-    if provenance is not None:
-        files["provenance"] = bytes_of(provenance, "provenance")
-        words.append("--provenance=provenance")
+    _optional(words, files, trusted_root=trusted_root, provenance=provenance)
     if records is not None:
         files.update(files_of(records, "records", 0))
         words.append("--records=records")
     words += ["--public-keys"] * bool(public_keys) + ["--strict"] * bool(strict)
     given_numbers = {"depth": depth, "most-checks": most_checks}
     words += [f"--{name}={one}" for name, one in given_numbers.items() if one is not None]
-    try:
-        given = run(words, files)
-    except Found as found:
-        found.findings = _findings(json.loads(found.output))
-        raise
-    return _verdict(json.loads(given.output), given.notes)
+    return _judged(words, files)

@@ -10,6 +10,7 @@ X.690 for DER, FIPS 186-5 (section 6.4.2) for signatures. OpenSSL, called throug
 `cryptography`, must give the same, except where it reads what the rules do not: a name with `~`.
 """
 import hashlib
+import itertools
 import sys
 from dataclasses import dataclass
 
@@ -17,7 +18,9 @@ sys.dont_write_bytecode = True
 from cryptography.exceptions import InvalidSignature
 from cryptography.hazmat.primitives import hashes, serialization
 from cryptography.hazmat.primitives.asymmetric import ec, ed25519, rsa, utils
+from cryptography.hazmat.primitives.serialization import Encoding
 import curve_points
+from byte_forms import der, integer
 from vectors import of_key, of_signature, write
 
 
@@ -27,10 +30,10 @@ class Curve:
 
     name: str
     size: int  # bytes of a number
-    p: int
-    n: int
-    b: int
-    g: tuple
+    prime: int
+    order: int  # of the base point
+    constant: int
+    base: tuple
     identifier: bytes  # its object identifier in DER
     sibling: str  # the curve whose identifier ends with 1 instead
     of_openssl: type
@@ -43,13 +46,10 @@ CURVES = {
     "p256": Curve(
         name="p256",
         size=32,
-        p=2**256 - 2**224 + 2**192 + 2**96 - 1,
-        n=0xFFFFFFFF00000000FFFFFFFFFFFFFFFFBCE6FAADA7179E84F3B9CAC2FC632551,
-        b=0x5AC635D8AA3A93E7B3EBBD55769886BC651D06B0CC53B0F63BCE3C3E27D2604B,
-        g=(
-            0x6B17D1F2E12C4247F8BCE6E563A440F277037D812DEB33A0F4A13945D898C296,
-            0x4FE342E2FE1A7F9B8EE7EB4A7C0F9E162BCE33576B315ECECBB6406837BF51F5,
-        ),
+        prime=curve_points.P256_PRIME,
+        order=curve_points.P256_ORDER,
+        constant=curve_points.P256_CONSTANT,
+        base=curve_points.P256_BASE,
         identifier=bytes.fromhex("06082a8648ce3d030107"),
         sibling="p192v1",
         of_openssl=ec.SECP256R1,
@@ -60,13 +60,10 @@ CURVES = {
     "p384": Curve(
         name="p384",
         size=48,
-        p=2**384 - 2**128 - 2**96 + 2**32 - 1,
-        n=0xFFFFFFFFFFFFFFFFFFFFFFFFFFFFFFFFFFFFFFFFFFFFFFFFC7634D81F4372DDF581A0DB248B0A77AECEC196ACCC52973,
-        b=0xB3312FA7E23EE7E4988E056BE3F82D19181D9C6EFE8141120314088F5013875AC656398D8A2ED19D2A85C8EDD3EC2AEF,
-        g=(
-            0xAA87CA22BE8B05378EB1C71EF320AD746E1D3B628BA79B9859F741E082542A385502F25DBF55296C3A545E3872760AB7,
-            0x3617DE4A96262C6F5D9E98BF9292DC29F8F41DBD289A147CE9DA3113B5F0B8C00A60B1CE1D7E819D7A431D7C90EA0E5F,
-        ),
+        prime=curve_points.P384_PRIME,
+        order=curve_points.P384_ORDER,
+        constant=curve_points.P384_CONSTANT,
+        base=curve_points.P384_BASE,
         identifier=bytes.fromhex("06052b81040022"),
         sibling="sect163k1",
         of_openssl=ec.SECP384R1,
@@ -78,24 +75,21 @@ CURVES = {
 CURVE = CURVES.get(sys.argv.pop(1) if len(sys.argv) > 1 else "")
 if CURVE is None:
     sys.exit(f"ecdsa_vectors.py: which curve: {' or '.join(CURVES)}?")
-P, N, B, G, SIZE = CURVE.p, CURVE.n, CURVE.b, CURVE.g, CURVE.size
+PRIME, ORDER, CONSTANT, BASE = CURVE.prime, CURVE.order, CURVE.constant, CURVE.base
+SIZE = CURVE.size
 BITS = 8 * SIZE
 HALF = 2 ** (BITS - 1)
 KIND, DIGEST_KIND = CURVE.name, CURVE.name + "-digest"
 KEY_IDENTIFIER = bytes.fromhex("06072a8648ce3d0201")
 
 
-def tagged(tag, content):
-    count = len(content)
-    length = bytes([count]) if count < 128 else b"\x81" + bytes([count]) if count < 256 else b"\x82" + count.to_bytes(2, "big")
-    return bytes([tag]) + length + content
-
-
 def wrapped(algorithm, point):
-    return tagged(48, tagged(48, algorithm) + tagged(3, b"\0" + point))
+    """A SubjectPublicKeyInfo of an algorithm and the bytes of a point."""
+    return der(48, der(48, algorithm), der(3, b"\0" + point))
 
 
 def rewrapped(point):
+    """A SubjectPublicKeyInfo of the curve and the bytes of a point."""
     return wrapped(KEY_IDENTIFIER + CURVE.identifier, point)
 
 
@@ -107,30 +101,31 @@ PREFIX = rewrapped(bytes(1 + 2 * SIZE))[: -1 - 2 * SIZE]
 
 
 def is_on_curve(point):
+    """Whether two coordinates are those of a point."""
     x, y = point
-    return (y * y - x * x * x + 3 * x - B) % P == 0
+    return (y * y - x * x * x + 3 * x - CONSTANT) % PRIME == 0
 
 
 def add(one, other):
     """The sum of two points of the curve; None is infinity."""
-    return curve_points.add(P, one, other)
+    return curve_points.add(PRIME, one, other)
 
 
 def times(number, point):
     """A multiple of a point of the curve."""
-    return curve_points.times(P, number % N, point)
+    return curve_points.times(PRIME, number % ORDER, point)
 
 
 def root(number):
     """A square root modulo the prime, which is 3 modulo 4, or None."""
-    found = pow(number, (P + 1) // 4, P)
-    return found if found * found % P == number % P else None
+    found = pow(number, (PRIME + 1) // 4, PRIME)
+    return found if found * found % PRIME == number % PRIME else None
 
 
 def first_point_from(x):
     """The point with the smallest first coordinate from x on."""
     while True:
-        y = root((x * x * x - 3 * x + B) % P)
+        y = root((x * x * x - 3 * x + CONSTANT) % PRIME)
         if y is not None:
             return x, y
         x += 1
@@ -144,7 +139,7 @@ def key_of(info):
     if len(info) != INFO_LENGTH or info[: -2 * SIZE] != PREFIX + b"\x04":
         return None
     x, y = (int.from_bytes(half, "big") for half in (info[-2 * SIZE : -SIZE], info[-SIZE:]))
-    if x >= P or y >= P or not is_on_curve((x, y)):
+    if x >= PRIME or y >= PRIME or not is_on_curve((x, y)):
         return None
     return x, y
 
@@ -161,7 +156,9 @@ def integer_of(data):
 
 def numbers_of(signature):
     """ECDSA-Sig-Value in DER."""
-    if len(signature) < 2 or signature[0] != 48 or not signature[1] < 128 or len(signature) != 2 + signature[1]:
+    if len(signature) < 2 or signature[0] != 48 or not signature[1] < 128:
+        return None
+    if len(signature) != 2 + signature[1]:
         return None
     first = integer_of(signature[2:])
     second = first and integer_of(first[1])
@@ -176,48 +173,47 @@ def is_signed(key, digest, signature):
     if numbers is None:
         return False
     r, s = numbers
-    if not (0 < r < N and 0 < s < N):
+    if not (0 < r < ORDER and 0 < s < ORDER):
         return False
-    inverse = pow(s, -1, N)
+    inverse = pow(s, -1, ORDER)
     e = int.from_bytes(digest, "big")
-    point = add(times(e * inverse, G), times(r * inverse, key))
-    return point is not None and point[0] % N == r
+    point = add(times(e * inverse, BASE), times(r * inverse, key))
+    return point is not None and point[0] % ORDER == r
 
 
 # Makers.
 
 
-def integer(number):
-    content = number.to_bytes(number.bit_length() // 8 + 1, "big")
-    return bytes([2, len(content)]) + content
-
-
 def sequence(*parts):
-    return tagged(48, b"".join(parts))
+    """A SEQUENCE of these parts."""
+    return der(48, *parts)
 
 
-def der(r, s):
+def sig_value(r, s):
+    """The signature of two numbers."""
     return sequence(integer(r), integer(s))
 
 
 def info_of(point):
+    """The key of a point."""
     return PREFIX + b"\x04" + b"".join(number.to_bytes(SIZE, "big") for number in point)
 
 
 def seeded(*words):
     """A number from 1 to N - 1 that the words determine."""
     text = " ".join(str(word) for word in words).encode()
-    return int.from_bytes(hashlib.sha512(text).digest(), "big") % (N - 1) + 1
+    return int.from_bytes(hashlib.sha512(text).digest(), "big") % (ORDER - 1) + 1
 
 
 def digest_of(message):
+    """The digest of a message that is signed on this curve."""
     return hashlib.new(CURVE.digest, message).digest()
 
 
 def signed(secret, digest, nonce):
     """FIPS 186-5, section 6.4.1."""
-    r = times(nonce, G)[0] % N
-    s = pow(nonce, -1, N) * (int.from_bytes(digest, "big") + r * secret) % N
+    r = times(nonce, BASE)[0] % ORDER
+    s = pow(nonce, -1, ORDER) * (int.from_bytes(digest, "big") + r * secret) % ORDER
     return r, s
 
 
@@ -228,6 +224,7 @@ HASHES = {"sha256": hashes.SHA256(), "sha384": hashes.SHA384()}
 
 
 def openssl_key(info):
+    """The key of the curve that OpenSSL reads, or None."""
     try:
         key = serialization.load_der_public_key(info)
     except Exception:
@@ -238,6 +235,7 @@ def openssl_key(info):
 
 
 def openssl_answer(kind, info, signature, message):
+    """What OpenSSL says of a signature: `yes`, `no`, or that there is no key."""
     key = openssl_key(info)
     if key is None:
         return "no-key"
@@ -277,24 +275,25 @@ def plain_signatures():
     lengths = CURVE.lengths
     for number in range(8):
         secret = seeded("key", number)
-        info = info_of(times(secret, G))
+        info = info_of(times(secret, BASE))
         for length in lengths:
             message = hashlib.shake_128(f"{number} {length}".encode()).digest(length)
             r, s = signed(secret, digest_of(message), seeded("nonce", number, length))
             name = f"plain-{number}-{length}"
-            put(name, KIND, info, der(r, s), message, "yes")
+            put(name, KIND, info, sig_value(r, s), message, "yes")
             if length == lengths[number]:
-                changed(name, info, der(r, s), message)
-                put(name + "-s-turned", KIND, info, der(r, N - s), message, "yes")
-                put(name + "-r-turned", KIND, info, der(N - r, s), message, "no")
-                put(name + "-swapped", KIND, info, der(s, r), message, "no")
-                other = info_of(times(seeded("key", number + 1), G))
-                put(name + "-other-key", KIND, other, der(r, s), message, "no")
-                turned = info_of(times(N - secret, G))
-                put(name + "-turned-key", KIND, turned, der(r, s), message, "no")
+                changed(name, info, sig_value(r, s), message)
+                put(name + "-s-turned", KIND, info, sig_value(r, ORDER - s), message, "yes")
+                put(name + "-r-turned", KIND, info, sig_value(ORDER - r, s), message, "no")
+                put(name + "-swapped", KIND, info, sig_value(s, r), message, "no")
+                other = info_of(times(seeded("key", number + 1), BASE))
+                put(name + "-other-key", KIND, other, sig_value(r, s), message, "no")
+                turned = info_of(times(ORDER - secret, BASE))
+                put(name + "-turned-key", KIND, turned, sig_value(r, s), message, "no")
 
 
 def changed(name, info, signature, message):
+    """A good signature with one bit changed, and of another message."""
     for place in (4, len(signature) // 2 - 1, len(signature) - 1):
         other = bytearray(signature)
         other[place] ^= 1
@@ -304,265 +303,355 @@ def changed(name, info, signature, message):
         put(f"{name}-message-shorter", KIND, info, signature, message[:-1], "no")
 
 
+# Numbers at the ends of their ranges, by what they are called.
+ENDS = {"0": 0, "1": 1, "n-1": ORDER - 1, "n": ORDER, "n+1": ORDER + 1, "p": PRIME,
+        f"2^{BITS}-1": 2**BITS - 1}
+
+
 def ranges():
     """Numbers at the ends of their ranges."""
     secret = seeded("ranges")
-    info = info_of(times(secret, G))
+    info = info_of(times(secret, BASE))
     message = b"ranges"
     r, s = signed(secret, digest_of(message), seeded("ranges nonce"))
-    ends = {"0": 0, "1": 1, "n-1": N - 1, "n": N, "n+1": N + 1, "p": P, f"2^{BITS}-1": 2**BITS - 1}
-    ends[f"2^{BITS}"] = 2**BITS
-    for label, number in ends.items():
-        put(f"r-is-{label}", KIND, info, der(number, s), message, "no")
-        put(f"s-is-{label}", KIND, info, der(r, number), message, "no")
-    for label, number in {"0": 0, "1": 1, "n-1": N - 1, "n": N}.items():
-        put(f"both-are-{label}", KIND, info, der(number, number), message, "no")
-    put("s-is-s+n", KIND, info, der(r, s + N), message, "no")
-    put("r-is-r+n", KIND, info, der(r + N, s), message, "no")
-    put(f"r-is-r+2^{BITS}", KIND, info, der(r + 2**BITS, s), message, "no")
-    good = {"1": 1, "2": 2, "n-1": N - 1, f"2^{BITS - 1}": HALF, "127": 127, "128": 128}
-    for label, number in good.items():
-        e = int.from_bytes(digest_of(message), "big")
+    for label, number in {**ENDS, f"2^{BITS}": 2**BITS}.items():
+        put(f"r-is-{label}", KIND, info, sig_value(number, s), message, "no")
+        put(f"s-is-{label}", KIND, info, sig_value(r, number), message, "no")
+    for label in ("0", "1", "n-1", "n"):
+        both = sig_value(ENDS[label], ENDS[label])
+        put(f"both-are-{label}", KIND, info, both, message, "no")
+    put("s-is-s+n", KIND, info, sig_value(r, s + ORDER), message, "no")
+    put("r-is-r+n", KIND, info, sig_value(r + ORDER, s), message, "no")
+    put(f"r-is-r+2^{BITS}", KIND, info, sig_value(r + 2**BITS, s), message, "no")
+    given_numbers(message)
+
+
+def given_numbers(message):
+    """Good signatures whose s is given, each by the key that follows from it."""
+    hashed = int.from_bytes(digest_of(message), "big")
+    given = {"1": 1, "2": 2, "n-1": ORDER - 1, f"2^{BITS - 1}": HALF, "127": 127, "128": 128}
+    for label, s in given.items():
         nonce = seeded("given s", label)
-        r = times(nonce, G)[0] % N
-        given = (number * nonce - e) * pow(r, -1, N) % N
-        put(f"good-s-is-{label}", KIND, info_of(times(given, G)), der(r, number), message, "yes")
+        r = times(nonce, BASE)[0] % ORDER
+        info = info_of(times((s * nonce - hashed) * pow(r, -1, ORDER) % ORDER, BASE))
+        put(f"good-s-is-{label}", KIND, info, sig_value(r, s), message, "yes")
 
 
 def wide_points():
     """R with a first coordinate that is not below the order: r is what is left modulo the order."""
     for number in range(6):
-        x, y = first_point_from(N + seeded("wide", number) % (P - N - 1000))
+        x, y = first_point_from(ORDER + seeded("wide", number) % (PRIME - ORDER - 1000))
         message = f"wide {number}".encode()
         e = int.from_bytes(digest_of(message), "big")
-        s, r = seeded("wide s", number), x - N
-        inverse = pow(r, -1, N)
-        key = add(times(s * inverse, (x, y)), times(-e * inverse, G))
-        put(f"x-above-n-{number}", KIND, info_of(key), der(r, s), message, "yes")
-        put(f"x-above-n-{number}-whole", KIND, info_of(key), der(x, s), message, "no")
+        s, r = seeded("wide s", number), x - ORDER
+        inverse = pow(r, -1, ORDER)
+        key = add(times(s * inverse, (x, y)), times(-e * inverse, BASE))
+        put(f"x-above-n-{number}", KIND, info_of(key), sig_value(r, s), message, "yes")
+        put(f"x-above-n-{number}-whole", KIND, info_of(key), sig_value(x, s), message, "no")
 
 
 def digests():
     """Digests that no message is known to have."""
     secret = seeded("digests")
-    info = info_of(times(secret, G))
-    numbers = {"0": 0, "1": 1, "n-1": N - 1, "n": N, "n+1": N + 1, "p": P, f"2^{BITS}-1": 2**BITS - 1}
-    for label, number in numbers.items():
+    info = info_of(times(secret, BASE))
+    for label, number in ENDS.items():
         digest = number.to_bytes(SIZE, "big")
         r, s = signed(secret, digest, seeded("digest", label))
-        put(f"digest-is-{label}", DIGEST_KIND, info, der(r, s), digest, "yes")
-        put(f"digest-is-{label}-s-turned", DIGEST_KIND, info, der(r, N - s), digest, "yes")
+        put(f"digest-is-{label}", DIGEST_KIND, info, sig_value(r, s), digest, "yes")
+        turned = sig_value(r, ORDER - s)
+        put(f"digest-is-{label}-s-turned", DIGEST_KIND, info, turned, digest, "yes")
         other = ((number + 1) % 2**BITS).to_bytes(SIZE, "big")
-        put(f"digest-is-{label}-changed", DIGEST_KIND, info, der(r, s), other, "no")
-    for number in (0, 1, N - 1):
+        put(f"digest-is-{label}-changed", DIGEST_KIND, info, sig_value(r, s), other, "no")
+    for number in (0, 1, ORDER - 1):
         r, s = signed(secret, number.to_bytes(SIZE, "big"), seeded("same", number))
-        if number + N < 2**BITS:
-            other = (number + N).to_bytes(SIZE, "big")
-            put(f"digest-{number}-and-n-more", DIGEST_KIND, info, der(r, s), other, "yes")
+        if number + ORDER < 2**BITS:
+            other = (number + ORDER).to_bytes(SIZE, "big")
+            put(f"digest-{number}-and-n-more", DIGEST_KIND, info, sig_value(r, s), other, "yes")
 
 
 def special_sums():
     """Sums of a point and itself, of a point and its opposite, and small multiples."""
     for number in range(4):
         secret = seeded("sums", number)
-        info = info_of(times(secret, G))
+        info = info_of(times(secret, BASE))
         nonce = seeded("sums nonce", number)
-        r = times(nonce, G)[0] % N
-        e = r * secret % N
-        digest = e.to_bytes(SIZE, "big")
-        put(f"equal-points-{number}", DIGEST_KIND, info, der(r, 2 * e * pow(nonce, -1, N) % N), digest, "yes")
-        opposite = (N - e).to_bytes(SIZE, "big")
-        put(f"infinity-{number}", DIGEST_KIND, info, der(r, seeded("any", number)), opposite, "no")
+        r = times(nonce, BASE)[0] % ORDER
+        hashed = r * secret % ORDER
+        equal = sig_value(r, 2 * hashed * pow(nonce, -1, ORDER) % ORDER)
+        put(f"equal-points-{number}", DIGEST_KIND, info, equal, hashed.to_bytes(SIZE, "big"), "yes")
+        opposite = (ORDER - hashed).to_bytes(SIZE, "big")
+        put(f"infinity-{number}", DIGEST_KIND, info, sig_value(r, seeded("any", number)), opposite,
+            "no")
+    sums_of_a_message()
+    small_keys()
+
+
+def sums_of_a_message():
+    """Sums of a point and its opposite, for the digest of a message."""
     message = b"infinity"
-    e = int.from_bytes(digest_of(message), "big")
+    hashed = int.from_bytes(digest_of(message), "big")
     for number in range(4):
         secret = seeded("infinity", number)
-        r = -e * pow(secret, -1, N) % N
-        put(f"infinity-of-message-{number}", KIND, info_of(times(secret, G)), der(r, seeded(number)), message, "no")
-    for label, secret in {"G": 1, "2G": 2, "3G": 3, "-G": N - 1, "-2G": N - 2, "half": (N + 1) // 2}.items():
-        for other, nonce in {"k1": 1, "k2": 2, "kn-1": N - 1}.items():
+        r = -hashed * pow(secret, -1, ORDER) % ORDER
+        put(f"infinity-of-message-{number}", KIND, info_of(times(secret, BASE)),
+            sig_value(r, seeded(number)), message, "no")
+
+
+def small_keys():
+    """Keys that are small multiples of the base point, with small nonces."""
+    secrets = {"G": 1, "2G": 2, "3G": 3, "-G": ORDER - 1, "-2G": ORDER - 2,
+               "half": (ORDER + 1) // 2}
+    for label, secret in secrets.items():
+        info = info_of(times(secret, BASE))
+        for other, nonce in {"k1": 1, "k2": 2, "kn-1": ORDER - 1}.items():
             message = f"{label} {other}".encode()
-            r, s = signed(secret, digest_of(message), nonce)
-            put(f"key-is-{label}-{other}", KIND, info_of(times(secret, G)), der(r, s), message, "yes")
+            signature = sig_value(*signed(secret, digest_of(message), nonce))
+            put(f"key-is-{label}-{other}", KIND, info, signature, message, "yes")
 
 
 def short_numbers():
     """r and s that need fewer bytes than the order, or one more for the sign."""
-    secret = seeded("short")
-    info = info_of(times(secret, G))
-    wanted = {f"r-{SIZE - 1}": lambda r, s: r < 2 ** (BITS - 8), f"s-{SIZE - 1}": lambda r, s: s < 2 ** (BITS - 8)}
-    wanted["r-first-bit"] = lambda r, s: r >= HALF and s < HALF
-    wanted["s-first-bit"] = lambda r, s: s >= HALF and r < HALF
+    secret, short = seeded("short"), 2 ** (BITS - 8)
+    info = info_of(times(secret, BASE))
+    wanted = {f"r-{SIZE - 1}": lambda r, s: r < short, f"s-{SIZE - 1}": lambda r, s: s < short,
+              "r-first-bit": lambda r, s: r >= HALF and s < HALF,
+              "s-first-bit": lambda r, s: s >= HALF and r < HALF}
     number = 0
     while wanted:
         message = f"short {number}".encode()
         r, s = signed(secret, digest_of(message), seeded("short nonce", number))
         for label in [label for label, test in wanted.items() if test(r, s)]:
-            put(f"short-{label}", KIND, info, der(r, s), message, "yes")
+            put(f"short-{label}", KIND, info, sig_value(r, s), message, "yes")
             del wanted[label]
         number += 1
 
 
+class Good:
+    """A good signature whose r has a byte more for the sign, and whose s has none.
+
+    `whole` is its encoding, and `first` and `second` are those of its numbers.
+    """
+
+    def __init__(self):
+        secret = seeded("der")
+        self.info = info_of(times(secret, BASE))
+        for number in itertools.count():
+            self.message = f"der {number}".encode()
+            nonce = seeded("der nonce", number)
+            self.r, self.s = signed(secret, digest_of(self.message), nonce)
+            if self.r >= HALF and 2 ** (BITS - 8) <= self.s < HALF:
+                break
+        self.first, self.second = integer(self.r), integer(self.s)
+        self.whole = sequence(self.first, self.second)
+        self.bare = self.r.to_bytes(SIZE, "big") + self.s.to_bytes(SIZE, "big")
+
+
 def encodings():
     """Encodings of a good signature that are not DER."""
-    secret = seeded("der")
-    info = info_of(times(secret, G))
-    number = 0
-    while True:
-        message = f"der {number}".encode()
-        r, s = signed(secret, digest_of(message), seeded("der nonce", number))
-        if r >= HALF and s < HALF and s >= 2 ** (BITS - 8):
-            break
-        number += 1
-    good = der(r, s)
-    ir, js = integer(r), integer(s)
+    good = Good()
+    put("der-good", KIND, good.info, good.whole, good.message, "yes")
+    for maker in (odd_numbers, odd_lengths, odd_lengths_of_numbers, odd_parts, odd_tags, cut):
+        for name, signature in maker(good):
+            put("der-" + name, KIND, good.info, signature, good.message, "no")
 
-    def put_der(name, signature):
-        put("der-" + name, KIND, info, signature, message, "no")
 
-    put("der-good", KIND, info, good, message, "yes")
-    padded_s = bytes([2, js[1] + 1, 0]) + js[2:]
-    padded_r = bytes([2, ir[1] + 1, 0]) + ir[2:]
-    put_der("s-padded", sequence(ir, padded_s))
-    put_der("s-padded-twice", sequence(ir, bytes([2, js[1] + 2, 0, 0]) + js[2:]))
-    put_der("r-padded", sequence(padded_r, js))
-    put_der("both-padded", sequence(padded_r, padded_s))
-    put_der("r-negative", sequence(bytes([2, SIZE]) + ir[3:], js))
-    put_der("s-negative", sequence(ir, bytes([2, SIZE + 1, 255]) + js[2:]))
-    put_der("r-all-ones-before", sequence(bytes([2, SIZE + 1, 255]) + ir[3:], js))
-    put_der("r-empty", sequence(b"\x02\x00", js))
-    put_der("s-empty", sequence(ir, b"\x02\x00"))
-    put_der("both-empty", sequence(b"\x02\x00", b"\x02\x00"))
-    put_der("r-zero-byte", sequence(b"\x02\x01\x00", js))
-    put_der("r-zero-bytes", sequence(b"\x02\x02\x00\x00", js))
-    put_der("length-in-two-bytes", bytes([48, 129, len(good) - 2]) + good[2:])
-    put_der("length-in-three-bytes", bytes([48, 130, 0, len(good) - 2]) + good[2:])
-    put_der("length-not-told", b"\x30\x80" + good[2:] + b"\0\0")
-    put_der("length-not-told-nor-ended", b"\x30\x80" + good[2:])
-    put_der("r-length-in-two-bytes", sequence(bytes([2, 129, ir[1]]) + ir[2:], js))
-    put_der("s-length-in-two-bytes", sequence(ir, bytes([2, 129, js[1]]) + js[2:]))
-    put_der("s-length-in-five-bytes", sequence(ir, bytes([2, 132, 0, 0, 0, js[1]]) + js[2:]))
-    put_der("length-one-more", bytes([48, good[1] + 1]) + good[2:])
-    put_der("length-one-less", bytes([48, good[1] - 1]) + good[2:])
-    put_der("length-0", b"\x30\x00" + good[2:])
-    put_der("length-127", b"\x30\x7f" + good[2:])
-    put_der("length-255", b"\x30\xff" + good[2:])
-    put_der("r-length-one-more", sequence(bytes([2, ir[1] + 1]) + ir[2:], js))
-    put_der("r-length-one-less", sequence(bytes([2, ir[1] - 1]) + ir[2:], js))
-    put_der("s-length-one-more", sequence(ir, bytes([2, js[1] + 1]) + js[2:]))
-    put_der("s-length-one-less", sequence(ir, bytes([2, js[1] - 1]) + js[2:]))
-    put_der("r-length-of-all", sequence(bytes([2, ir[1] + len(js)]) + ir[2:], js))
-    put_der("after", good + b"\0")
-    put_der("after-good", good + good)
-    put_der("after-inside", sequence(ir, js, b"\0"))
-    put_der("null-inside", sequence(ir, js, b"\x05\x00"))
-    put_der("three-integers", sequence(ir, js, js))
-    put_der("one-integer", sequence(ir))
-    put_der("no-integer", sequence())
-    put_der("set", b"\x31" + good[1:])
-    put_der("sequence-primitive", b"\x10" + good[1:])
-    put_der("integer-constructed", sequence(b"\x22" + ir[1:], js))
-    put_der("octets", sequence(b"\x04" + ir[1:], js))
-    put_der("enumerated", sequence(ir, b"\x0a" + js[1:]))
-    put_der("class-of-context", sequence(b"\x82" + ir[1:], js))
-    put_der("nested", sequence(good))
-    put_der("bare", good[2:])
-    put_der(f"{2 * SIZE}-bytes", r.to_bytes(SIZE, "big") + s.to_bytes(SIZE, "big"))
-    put_der(f"{2 * SIZE + 1}-bytes", b"\x04" + r.to_bytes(SIZE, "big") + s.to_bytes(SIZE, "big"))
-    put_der("huge-s", sequence(ir, bytes([2, 112 - SIZE, 1]) + bytes(111 - 2 * SIZE) + s.to_bytes(SIZE, "big")))
-    for count in [0, 1, 2, 3, 4, 5, 6, *range(SIZE + 4, SIZE + 9), SIZE + 28, len(good) - 2, len(good) - 1]:
-        put_der(f"cut-{count}", good[:count])
+def odd_numbers(good):
+    """Encodings whose numbers are padded, negative or empty."""
+    first, second = good.first, good.second
+    padded_first = bytes([2, first[1] + 1, 0]) + first[2:]
+    padded_second = bytes([2, second[1] + 1, 0]) + second[2:]
+    yield "s-padded", sequence(first, padded_second)
+    yield "s-padded-twice", sequence(first, bytes([2, second[1] + 2, 0, 0]) + second[2:])
+    yield "r-padded", sequence(padded_first, second)
+    yield "both-padded", sequence(padded_first, padded_second)
+    yield "r-negative", sequence(bytes([2, SIZE]) + first[3:], second)
+    yield "s-negative", sequence(first, bytes([2, SIZE + 1, 255]) + second[2:])
+    yield "r-all-ones-before", sequence(bytes([2, SIZE + 1, 255]) + first[3:], second)
+    yield "r-empty", sequence(b"\x02\x00", second)
+    yield "s-empty", sequence(first, b"\x02\x00")
+    yield "both-empty", sequence(b"\x02\x00", b"\x02\x00")
+    yield "r-zero-byte", sequence(b"\x02\x01\x00", second)
+    yield "r-zero-bytes", sequence(b"\x02\x02\x00\x00", second)
+
+
+def odd_lengths(good):
+    """Encodings whose lengths are written in more bytes, or not told, or wrong."""
+    first, second, whole = good.first, good.second, good.whole
+    yield "length-in-two-bytes", bytes([48, 129, len(whole) - 2]) + whole[2:]
+    yield "length-in-three-bytes", bytes([48, 130, 0, len(whole) - 2]) + whole[2:]
+    yield "length-not-told", b"\x30\x80" + whole[2:] + b"\0\0"
+    yield "length-not-told-nor-ended", b"\x30\x80" + whole[2:]
+    yield "r-length-in-two-bytes", sequence(bytes([2, 129, first[1]]) + first[2:], second)
+    yield "s-length-in-two-bytes", sequence(first, bytes([2, 129, second[1]]) + second[2:])
+    yield "s-length-in-five-bytes", sequence(
+        first, bytes([2, 132, 0, 0, 0, second[1]]) + second[2:])
+    yield "length-one-more", bytes([48, whole[1] + 1]) + whole[2:]
+    yield "length-one-less", bytes([48, whole[1] - 1]) + whole[2:]
+    yield "length-0", b"\x30\x00" + whole[2:]
+    yield "length-127", b"\x30\x7f" + whole[2:]
+    yield "length-255", b"\x30\xff" + whole[2:]
+
+
+def odd_lengths_of_numbers(good):
+    """Encodings in which a number has another length than is told."""
+    first, second = good.first, good.second
+    yield "r-length-one-more", sequence(bytes([2, first[1] + 1]) + first[2:], second)
+    yield "r-length-one-less", sequence(bytes([2, first[1] - 1]) + first[2:], second)
+    yield "s-length-one-more", sequence(first, bytes([2, second[1] + 1]) + second[2:])
+    yield "s-length-one-less", sequence(first, bytes([2, second[1] - 1]) + second[2:])
+    yield "r-length-of-all", sequence(bytes([2, first[1] + len(second)]) + first[2:], second)
+
+
+def odd_parts(good):
+    """Encodings with something more, or with other than two numbers."""
+    first, second = good.first, good.second
+    yield "after", good.whole + b"\0"
+    yield "after-good", good.whole + good.whole
+    yield "after-inside", sequence(first, second, b"\0")
+    yield "null-inside", sequence(first, second, b"\x05\x00")
+    yield "three-integers", sequence(first, second, second)
+    yield "one-integer", sequence(first)
+    yield "no-integer", sequence()
+
+
+def odd_tags(good):
+    """Encodings with other tags, or without any."""
+    first, second, whole = good.first, good.second, good.whole
+    yield "set", b"\x31" + whole[1:]
+    yield "sequence-primitive", b"\x10" + whole[1:]
+    yield "integer-constructed", sequence(b"\x22" + first[1:], second)
+    yield "octets", sequence(b"\x04" + first[1:], second)
+    yield "enumerated", sequence(first, b"\x0a" + second[1:])
+    yield "class-of-context", sequence(b"\x82" + first[1:], second)
+    yield "nested", sequence(whole)
+    yield "bare", whole[2:]
+    yield f"{2 * SIZE}-bytes", good.bare
+    yield f"{2 * SIZE + 1}-bytes", b"\x04" + good.bare
+    huge = bytes([2, 112 - SIZE, 1]) + bytes(111 - 2 * SIZE) + good.s.to_bytes(SIZE, "big")
+    yield "huge-s", sequence(first, huge)
+
+
+def cut(good):
+    """Encodings that are cut."""
+    size = len(good.whole)
+    for count in [*range(7), *range(SIZE + 4, SIZE + 9), SIZE + 28, size - 2, size - 1]:
+        yield f"cut-{count}", good.whole[:count]
 
 
 def keys():
-    """What is no key, or another key."""
+    """What is no key, or another key: a signature is no good one by it."""
     secret = seeded("keys")
-    x, y = times(secret, G)
-    good = info_of((x, y))
+    point = times(secret, BASE)
     message = b"keys"
-    signature = der(*signed(secret, digest_of(message), seeded("keys nonce")))
+    signature = sig_value(*signed(secret, digest_of(message), seeded("keys nonce")))
+    put("key-good", KIND, info_of(point), signature, message, "yes")
+    VECTORS.append(of_key("key-good-alone", KIND, info_of(point), True))
+    for maker in (other_coordinates, other_points, other_infos, other_algorithms, other_kinds):
+        for name, info, *wanted in maker(point, secret):
+            answer = wanted[0] if wanted else "no-key"
+            put("key-" + name, KIND, info, signature, message, answer)
+            if wanted:
+                VECTORS.append(of_key(f"key-{name}-alone", KIND, info, True))
 
-    def put_key(name, info, wanted="no-key"):
-        put("key-" + name, KIND, info, signature, message, wanted)
-        if wanted != "no-key":
-            VECTORS.append(of_key(f"key-{name}-alone", KIND, info, True))
 
-    bare_x, bare_y = x.to_bytes(SIZE, "big"), y.to_bytes(SIZE, "big")
-    put_key("good", good, "yes")
-    put_key("opposite", info_of((x, P - y)), "no")
-    put_key("swapped", info_of((y, x)))
-    put_key("y-one-more", info_of((x, y + 1)))
-    put_key("x-one-more", info_of((x + 1, y)))
-    put_key("zeros", info_of((0, 0)))
-    put_key("ones", info_of((2**BITS - 1, 2**BITS - 1)))
-    put_key("x-is-p", info_of((P, y)))
-    put_key("y-is-p", info_of((x, P)))
-    small = first_point_from(1)
-    put_key("small-x", info_of(small), "no")
-    put_key("small-x-and-p-more", info_of((small[0] + P, small[1])))
-    zero = first_point_from(0)
-    put_key("x-is-0", info_of(zero), "no")
-    put_key("x-is-p-for-0", info_of((P, zero[1])))
-    last = first_point_from(P - 20)
-    put_key("last-x", info_of(last), "no")
-    compressed = bytes([2 + y % 2]) + bare_x
-    put_key("compressed~", rewrapped(compressed))
-    put_key("compressed-other~", rewrapped(bytes([3 - y % 2]) + bare_x))
-    put_key("hybrid~", rewrapped(bytes([6 + y % 2]) + bare_x + bare_y))
-    put_key("hybrid-other", rewrapped(bytes([7 - y % 2]) + bare_x + bare_y))
-    put_key("form-0", rewrapped(b"\0" + bare_x + bare_y))
-    put_key("form-5", rewrapped(b"\5" + bare_x + bare_y))
-    put_key("infinity", rewrapped(b"\0"))
-    put_key("no-point", rewrapped(b""))
-    put_key("bare-point", b"\x04" + bare_x + bare_y)
-    put_key("bare-coordinates", bare_x + bare_y)
-    put_key("none", b"")
-    put_key("cut", good[:-1])
-    put_key("after", good + b"\0")
-    put_key("length-in-two-bytes", bytes([48, 129, good[1]]) + good[2:])
-    put_key("unused-bits", PREFIX[:-1] + b"\x01" + good[len(PREFIX) :])
-    put_key("octets", PREFIX[:-3] + b"\x04" + good[len(PREFIX) - 2 :])
-    put_key("set", b"\x31" + good[1:])
+def other_coordinates(point, _secret):
+    """Keys of other coordinates, of which some are those of points."""
+    x, y = point
+    yield "opposite", info_of((x, PRIME - y)), "no"
+    yield "swapped", info_of((y, x))
+    yield "y-one-more", info_of((x, y + 1))
+    yield "x-one-more", info_of((x + 1, y))
+    yield "zeros", info_of((0, 0))
+    yield "ones", info_of((2**BITS - 1, 2**BITS - 1))
+    yield "x-is-p", info_of((PRIME, y))
+    yield "y-is-p", info_of((x, PRIME))
+    small, zero = first_point_from(1), first_point_from(0)
+    yield "small-x", info_of(small), "no"
+    yield "small-x-and-p-more", info_of((small[0] + PRIME, small[1]))
+    yield "x-is-0", info_of(zero), "no"
+    yield "x-is-p-for-0", info_of((PRIME, zero[1]))
+    yield "last-x", info_of(first_point_from(PRIME - 20)), "no"
+
+
+def coordinates(point):
+    """The coordinates of a point as bytes."""
+    return [number.to_bytes(SIZE, "big") for number in point]
+
+
+def other_points(point, _secret):
+    """Keys whose point is written in another form, or is not there."""
+    x, y = coordinates(point)
+    odd = point[1] % 2
+    yield "compressed~", rewrapped(bytes([2 + odd]) + x)
+    yield "compressed-other~", rewrapped(bytes([3 - odd]) + x)
+    yield "hybrid~", rewrapped(bytes([6 + odd]) + x + y)
+    yield "hybrid-other", rewrapped(bytes([7 - odd]) + x + y)
+    yield "form-0", rewrapped(b"\0" + x + y)
+    yield "form-5", rewrapped(b"\5" + x + y)
+    yield "infinity", rewrapped(b"\0")
+    yield "no-point", rewrapped(b"")
+    yield "bare-point", b"\x04" + x + y
+    yield "bare-coordinates", x + y
+    yield "none", b""
+
+
+def other_infos(point, _secret):
+    """Keys that are cut, or are longer, or have other tags or lengths."""
+    good = info_of(point)
+    yield "cut", good[:-1]
+    yield "after", good + b"\0"
+    yield "length-in-two-bytes", bytes([48, 129, good[1]]) + good[2:]
+    yield "unused-bits", PREFIX[:-1] + b"\x01" + good[len(PREFIX):]
+    yield "octets", PREFIX[:-3] + b"\x04" + good[len(PREFIX) - 2:]
+    yield "set", b"\x31" + good[1:]
+
+
+def other_algorithms(point, _secret):
+    """Keys that say that they are of another algorithm or curve, or of none."""
+    good, bits = info_of(point), b"\x04" + b"".join(coordinates(point))
     named = good.index(CURVE.identifier)
     after = named + len(CURVE.identifier)
-    put_key(f"{CURVE.sibling}-named", good[: after - 1] + b"\x01" + good[after:])
-    put_key("other-algorithm", good[: named - 1] + b"\x02" + good[named:])
-    put_key("curve-null", wrapped(KEY_IDENTIFIER + b"\x05\x00", b"\x04" + bare_x + bare_y))
-    put_key("curve-absent", wrapped(KEY_IDENTIFIER, b"\x04" + bare_x + bare_y))
-    put_key("curve-explicit~", wrapped(KEY_IDENTIFIER + explicit(), b"\x04" + bare_x + bare_y))
+    yield f"{CURVE.sibling}-named", good[:after - 1] + b"\x01" + good[after:]
+    yield "other-algorithm", good[:named - 1] + b"\x02" + good[named:]
+    yield "curve-null", wrapped(KEY_IDENTIFIER + b"\x05\x00", bits)
+    yield "curve-absent", wrapped(KEY_IDENTIFIER, bits)
+    yield "curve-explicit~", wrapped(KEY_IDENTIFIER + explicit(), bits)
+
+
+def other_kinds(_point, secret):
+    """Keys of other curves and kinds, private keys, and a key in PEM."""
     for curve in CURVE.others:
         other = ec.derive_private_key(secret % 2**200, curve()).public_key()
-        put_key(curve.name, public_info(other))
+        yield curve.name, public_info(other)
     other = ed25519.Ed25519PrivateKey.from_private_bytes(bytes(range(32))).public_key()
-    put_key("ed25519", public_info(other))
+    yield "ed25519", public_info(other)
     modulus = int.from_bytes(hashlib.shake_128(b"modulus").digest(256), "big") | 2**2047 | 1
-    put_key("rsa", public_info(rsa.RSAPublicNumbers(65537, modulus).public_key()))
+    yield "rsa", public_info(rsa.RSAPublicNumbers(65537, modulus).public_key())
     private = ec.derive_private_key(secret, CURVE.of_openssl())
-    none = serialization.NoEncryption()
-    form = serialization.PrivateFormat
-    put_key("private", private.private_bytes(serialization.Encoding.DER, form.PKCS8, none))
-    put_key("private-sec1", private.private_bytes(serialization.Encoding.DER, form.TraditionalOpenSSL, none))
-    put_key("pem", private.public_key().public_bytes(
-        serialization.Encoding.PEM, serialization.PublicFormat.SubjectPublicKeyInfo))
+    none, form = serialization.NoEncryption(), serialization.PrivateFormat
+    yield "private", private.private_bytes(Encoding.DER, form.PKCS8, none)
+    yield "private-sec1", private.private_bytes(Encoding.DER, form.TraditionalOpenSSL, none)
+    yield "pem", private.public_key().public_bytes(
+        Encoding.PEM, serialization.PublicFormat.SubjectPublicKeyInfo)
 
 
 def public_info(key):
-    return key.public_bytes(serialization.Encoding.DER, serialization.PublicFormat.SubjectPublicKeyInfo)
+    """The SubjectPublicKeyInfo of a key."""
+    return key.public_bytes(Encoding.DER, serialization.PublicFormat.SubjectPublicKeyInfo)
 
 
 def explicit():
     """The parameters of the curve, written out (SEC 1, section C.2)."""
-    field = tagged(48, bytes.fromhex("06072a8648ce3d0101") + tagged(2, b"\0" + P.to_bytes(SIZE, "big")))
-    curve = tagged(48, tagged(4, (P - 3).to_bytes(SIZE, "big")) + tagged(4, B.to_bytes(SIZE, "big")))
-    base = tagged(4, b"\x04" + b"".join(number.to_bytes(SIZE, "big") for number in G))
-    order = tagged(2, b"\0" + N.to_bytes(SIZE, "big"))
-    return tagged(48, b"\x02\x01\x01" + field + curve + base + order + b"\x02\x01\x01")
+    field = der(48, bytes.fromhex("06072a8648ce3d0101"), integer(PRIME))
+    curve = der(48, *(der(4, number.to_bytes(SIZE, "big")) for number in (PRIME - 3, CONSTANT)))
+    base = der(4, b"\x04", *coordinates(BASE))
+    return der(48, integer(1), field, curve, base, integer(ORDER), integer(1))
 
 
 def main():
     """Writes the file."""
-    makers = (plain_signatures, ranges, wide_points, digests, special_sums, short_numbers, encodings,
-              keys)
+    makers = (plain_signatures, ranges, wide_points, digests, special_sums, short_numbers,
+              encodings, keys)
     for maker in makers:
         maker()
     write(f"{CURVE.name}.jsonl", VECTORS)

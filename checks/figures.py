@@ -89,10 +89,10 @@ RATIOS = [
     ("| `sha256sum` | ", "`digest`, 1 GiB"),
 ]
 # How long ./build took, and what the parts of the gate did, in CONTRIBUTING.md.
-OF_BUILD = re.compile(r"took (\d+) processor minutes and (\d+) minutes elapsed")
-OF_GATE = re.compile(r"its parts took (?P<all>\d+) processor minutes: the libraries (\d+), the second "
-                     r"proofs of the crates with edits (\d+), the edits (\d+), and the programs of "
-                     r"tests (\d+)\.")
+OF_BUILD = re.compile(r"`\./build` from scratch took (\d+) processor minutes")
+OF_GATE = re.compile(r"its parts took (?P<all>\d+) processor minutes: the libraries and the program "
+                     r"(\d+), the edits with the second proofs that they begin with (\d+), and the "
+                     r"programs of tests (\d+)\.")
 # A line of conformance/README.md that names files of cases or vectors and how many each has.
 OF_FILES = re.compile(r"^- (?P<names>`[\w-]+\.jsonl`.*?): (?P<counts>\d+((, | and )\d+)*)", re.M)
 
@@ -144,8 +144,8 @@ def faults_of_times():
     whole, *parts = map(int, gate.groups())
     if whole != sum(parts):
         yield f"CONTRIBUTING.md: the parts of the gate took {sum(parts)} minutes, and not {whole}"
-    processor, elapsed = (round(int(figure), -1) for figure in build[0])
-    wanted = [("README.md", f"about {processor} processor minutes, {elapsed} elapsed on"),
+    processor = round(int(build[0]), -1)
+    wanted = [("README.md", f"| about {processor} processor minutes where other work runs"),
               ("README.md", f"| about {round(whole, -1)} processor minutes where other work runs"),
               ("build", f"about {processor} processor minutes from nothing")]
     for name, words in wanted:

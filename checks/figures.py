@@ -89,10 +89,10 @@ RATIOS = [
     ("| `sha256sum` | ", "`digest`, 1 GiB"),
 ]
 # How long ./build took, and what the parts of the gate did, in CONTRIBUTING.md.
-OF_BUILD = re.compile(r"`\./build` from scratch took (\d+) processor minutes")
-OF_GATE = re.compile(r"its parts took (?P<all>\d+) processor minutes: the libraries and the program "
-                     r"(\d+), the edits with the second proofs that they begin with (\d+), and the "
-                     r"programs of tests (\d+)\.")
+OF_BUILD = re.compile(r"what `\./build` proves and compiles took (\d+) processor minutes")
+OF_GATE = re.compile(r"the gate's parts took (?P<all>\d+) processor minutes: the libraries and the "
+                     r"program (\d+), the edits with the second proofs that they begin with (\d+), "
+                     r"and the programs of tests (\d+)\.")
 # A line of conformance/README.md that names files of cases or vectors and how many each has.
 OF_FILES = re.compile(r"^- (?P<names>`[\w-]+\.jsonl`.*?): (?P<counts>\d+((, | and )\d+)*)", re.M)
 

@@ -13,7 +13,6 @@ use it_digest::compare::DigestSet;
 use it_dsse::checks::Checks;
 use it_json_report::evidence::FileEvidence;
 use it_prov::attestations::Attestations;
-use it_prov::fits::fitting;
 use std::alloc::{AllocError, Global};
 
 /// What stands for the file at a path, or `None` where the file has no provenance.
@@ -34,7 +33,7 @@ pub(crate) fn evidence_of<C: Checks>(
         attestations.now.expectations.now lines.now.vouched.now texts
         attestations.now.envelopes.now (path.now, digests) found) }
 {
-    let Some(place) = fitting(attestations.expectations, path) else {
+    let Some(place) = attestations.fitting(path) else {
         return Ok(None);
     };
     let Some(index) = index_found(alloc, path, digests, attestations)? else {

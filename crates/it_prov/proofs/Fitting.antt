@@ -1,17 +1,21 @@
 -- Some expectation fits a path, or none does.
 use Rattle.std.proofs.Common.{◌≡◌, ◌⊎◌, ◌+◌, ◌<◌, ℕ, List, [], ◌∷◌, ◌++◌, length, get_or, take}
-use Rattle.std.proofs.Common.{drop, Option, Some, None, MatchOption, inl, inr, Contains, refl}
-use Rattle.std.proofs.Common.{sym, ap, subst, arith, ◌∙◌}
-use Rattle.std.specs.List.{AllWithin, HoldsAt}
-use Rattle.std.proofs.lemmas.List.{drop_more, get_or-take, length-take, take-append-drop}
+use Rattle.std.proofs.Common.{drop, option_map, Option, Some, None, MatchOption, inl, inr, Contains}
+use Rattle.std.proofs.Common.{refl, sym, ap, subst, arith, ◌∙◌}
+use Rattle.std.specs.List.{AllWithin, HoldsAt, slice_get}
+use Rattle.std.proofs.lemmas.List.{drop_more, get_or-take, length-map, length-take}
+use Rattle.std.proofs.lemmas.List.{take-append-drop}
 use Rattle.std.proofs.lemmas.List.Elements.{Contains-append_right}
-use Rattle.std.proofs.lemmas.Option.{get_or_from_slice_get, slice_get_cases}
+use Rattle.std.proofs.lemmas.Option.{get_or_from_slice_get, same_Some, slice_get-get_or}
+use Rattle.std.proofs.lemmas.Option.{slice_get-map, slice_get_cases, slice_get_within}
 use Rattle.it_base.proofs.Members.{in_head, in_cases, in_none}
 use Rattle.it_base.proofs.Settled.{Settled, settled_by}
+use Rattle.it_glob.specs.Pattern.{Matches, items_of}
 use Rattle.it_glob.proofs.Decided.{is_match, is_match-Decides}
 use Rattle.it_docs.specs.declared.policy.Expectation.{Expectation}
+use Rattle.it_pattern_index.specs.FirstMatch.{IsFirstMatch, MatchesAt, NoneMatches}
 use Rattle.it_prov.specs.Finding.{NoneFits}
-use Rattle.it_prov.specs.Fits.{SpeaksOf, Fits, FitsAt}
+use Rattle.it_prov.specs.Fits.{SpeaksOf, Fits, FitsAt, patterns_of}
 
 module _ (path : List ℕ) where
   speaks_or_not : (expectation : Expectation) → Settled (SpeaksOf path expectation)
@@ -112,6 +116,47 @@ module _ (path : List ℕ) where
     }
     | inr past ↦ absurd (omega (arith, past.0, h.0))
   ]
+
+  -- an expectation's pattern stands at the expectation's place
+  pattern_at : (expectations : List Expectation) (i : ℕ) (d : Expectation)
+      → i < length expectations
+      → slice_get (patterns_of expectations) i ≡ Some (get_or expectations i d).files
+  pattern_at expectations i d below = slice_get-map (λ (e : Expectation). e.files) expectations i
+      ∙ ap (option_map (λ (e : Expectation). e.files)) (slice_get-get_or expectations i d below)
+
+  matches_at : (expectations : List Expectation) (i : ℕ) (d : Expectation)
+      → i < length expectations → SpeaksOf path (get_or expectations i d)
+      → MatchesAt (patterns_of expectations) path i
+  matches_at expectations i d below speaks = record {
+    pattern = (get_or expectations i d).files;
+    stands = pattern_at expectations i d below;
+    matches = speaks;
+  }
+
+  -- the first of their patterns that matches the path is that of the expectation which fits it
+  pub fits_by_pattern : (expectations : List Expectation) (found : Option ℕ)
+      → MatchOption found (NoneMatches (patterns_of expectations) path)
+      (IsFirstMatch (patterns_of expectations) path)
+      → MatchOption found (NoneFits expectations path) (FitsAt expectations path)
+  fits_by_pattern expectations None none = fits_found expectations None
+      (λ i d low below speaks. none i (matches_at expectations i d below speaks))
+  fits_by_pattern expectations (Some i) first =
+      let patterns = patterns_of expectations in
+      let here = first.here in
+      let within = slice_get_within patterns i here.pattern here.stands in
+      let below : i < length expectations =
+      omega (arith, within, length-map expectations (λ (e : Expectation). e.files)) in
+      fits_found expectations (Some i) (
+        below,
+        λ d. subst (λ t. Matches (items_of t) path) (same_Some here.pattern _
+            (sym here.stands ∙ pattern_at expectations i d below)) here.matches,
+        λ j d low less speaks. omega (
+          arith,
+          less,
+          first.none_before j
+              (matches_at expectations j d (omega (arith, less, below)) speaks),
+        ),
+      )
 
   -- the expectation at the place of the one that fits fits
   pub fits_there : (expectations : List Expectation) (place : ℕ) (default : Expectation)

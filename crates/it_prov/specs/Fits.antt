@@ -1,5 +1,5 @@
 -- Which expectation of a policy speaks of a file (this profile's choice).
-use Rattle.std.specs.Prelude.{◌≡◌, ℕ, List, ◌∷◌, ◌++◌, Some, Contains}
+use Rattle.std.specs.Prelude.{◌≡◌, ℕ, List, ◌∷◌, ◌++◌, Some, Contains, map}
 use Rattle.std.specs.List.{slice_get}
 use Rattle.it_glob.specs.Pattern.{Matches, items_of}
 use Rattle.it_docs.specs.declared.policy.Expectation.{Expectation}
@@ -22,3 +22,7 @@ pub record FitsAt (expectations : List Expectation) (path : List ℕ) (place : �
   pub expectation : Expectation
   pub stands : slice_get expectations place ≡ Some expectation
   pub fits : Fits expectations path expectation
+
+-- the patterns of expectations
+abbrev pub patterns_of : List Expectation → List (List ℕ)
+patterns_of expectations = map (λ expectation. expectation.files) expectations

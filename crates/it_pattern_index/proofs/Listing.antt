@@ -1,0 +1,101 @@
+-- The places of patterns under their literal fronts.
+use Rattle.std.proofs.Common.{◌≡◌, ◌++◌, ◌∷◌, [], ℕ, List, Bool, true, false, Option, Some, None, cond}
+use Rattle.std.proofs.Common.{Contains, Bor, Global, bytes_eq, nat_cmp, length, take, ap, sym, subst, refl}
+use Rattle.std.proofs.Common.{◌∙◌, ◌⊎◌, ◌+◌, ◌<◌, ◌≤◌, inl, inr, arith, unwrap_or}
+use Rattle.std.specs.BTreeMap.{BTreeMap, UpdatesBy, get_by}
+use Rattle.std.specs.Cmp.Lexicographic.{slice_cmp}
+use Rattle.std.specs.List.{slice_get}
+use Rattle.std.specs.declared.vec.Vec.{Vec}
+use Rattle.std.proofs.Math.Seq.{take-append_seam}
+use Rattle.std.proofs.lemmas.Bool.{cases_lt}
+use Rattle.std.proofs.lemmas.List.Elements.{Contains-append_left, Contains-push}
+use Rattle.std.proofs.lemmas.Map.Text.{btree_map_updates_str}
+use Rattle.std.proofs.lemmas.Option.{same_Some, slice_get_within}
+use Rattle.std.proofs.lemmas.Slice.Eq.{bytes_eq-Decides}
+use Rattle.it_glob.specs.Pattern.{BeginsWith, front_of, items_of}
+use Rattle.it_pattern_index.specs.inside.Listed.{AreListed, IsListed, IsPutUnder, IsUnder}
+use Rattle.it_pattern_index.specs.declared.fronts.Fronts.{Fronts}
+
+abbrev Places : Type 0
+Places = BTreeMap (Bor (List ℕ)) (Vec ℕ Global)
+
+abbrev at : List ℕ → Places → Option (Vec ℕ Global)
+at front places = get_by (λ key. slice_cmp nat_cmp front key.now) places
+
+module _ (front : List ℕ) (place : ℕ) (old now new : Places) (before after : Vec ℕ Global)
+    (taken : UpdatesBy (λ (x y : Bor (List ℕ)). slice_cmp nat_cmp x.now y.now)
+    (λ key. slice_cmp nat_cmp front key.now) old now None)
+    (found : Option (Vec ℕ Global)) (none : Vec ℕ Global) (is : found ≡ at front old)
+    (opened : before ≡ unwrap_or found none)
+    (pushed : after.items ≡ before.items ++ place ∷ [])
+    (updated : UpdatesBy (λ (x y : Bor (List ℕ)). slice_cmp nat_cmp x.now y.now)
+    (λ key. slice_cmp nat_cmp front key.now) now new (Some after)) where
+  here : IsUnder new front place
+  here = record {
+    found = after;
+    stands = updated.1;
+    has = subst (λ xs. Contains xs place) (sym pushed) (Contains-push before.items place);
+  }
+
+  kept_by : (f : List ℕ) (p : ℕ) → IsUnder old f p → (b : Bool) → bytes_eq front f ≡ b
+      → at f now ≡ cond b None (at f old) → at f new ≡ cond b (Some after) (at f now)
+      → IsUnder new f p
+  kept_by f p under true e first second =
+      let same : front ≡ f = (bytes_eq-Decides front f).0 e in
+      let known : before ≡ under.found = opened
+      ∙ ap (λ o. unwrap_or o none) (is ∙ ap (λ g. at g old) same ∙ under.stands) in
+      record {
+        found = after;
+        stands = second;
+        has = subst (λ xs. Contains xs p) (sym pushed)
+            (Contains-append_left before.items (place ∷ []) p
+            (subst (λ (v : Vec ℕ Global). Contains v.items p) (sym known) under.has));
+      }
+  kept_by f p under false e first second =
+      record { found = under.found; stands = second ∙ first ∙ under.stands; has = under.has }
+
+  -- a place is put at the end of those that a map has under its front
+  pub put : IsPutUnder front place old new
+  put = record {
+    here = here;
+    kept = λ f p under. kept_by f p under (bytes_eq front f) refl
+        (btree_map_updates_str front old now None taken f)
+        (btree_map_updates_str front now new (Some after) updated f);
+  }
+
+-- the part of a front's length of what begins with it
+pub front_is : (path front : List ℕ) (len : ℕ) → BeginsWith path front → length front ≡ len
+    → take len path ≡ front
+front_is path front len begins long = ap (λ n. take n path) (sym long)
+    ∙ ap (take (length front)) begins.1 ∙ take-append_seam front begins.0
+
+-- each pattern's place below a number is listed under the pattern's front
+abbrev pub AreListedBelow : ℕ → List (List ℕ) → Fronts → Type 0
+AreListedBelow most patterns fronts =
+    (place : ℕ) (pattern : List ℕ) → place < most → slice_get patterns place ≡ Some pattern
+    → IsListed fronts (front_of (items_of pattern)) place
+
+module _ (patterns : List (List ℕ)) where
+  pub listed_none : (fronts : Fronts) → AreListedBelow 0 patterns fronts
+  listed_none fronts place pattern below stands = absurd (omega (arith, below))
+
+  pub listed_more : (i : ℕ) (pattern : List ℕ) (old new : Fronts)
+      → slice_get patterns i ≡ Some pattern → AreListedBelow i patterns old
+      → ((front : List ℕ) (place : ℕ) → IsListed old front place → IsListed new front place)
+      → IsListed new (front_of (items_of pattern)) i → AreListedBelow (i + 1) patterns new
+  listed_more i pattern old new here before kept listed place other below stands =
+      elim (cases_lt place i) [
+        | inl less ↦ kept (front_of (items_of other)) place (before place other less stands)
+        | inr past ↦
+            let same : i ≡ place = omega (arith, below, past) in
+            let text : pattern ≡ other = same_Some pattern other
+            (sym here ∙ ap (slice_get patterns) same ∙ stands) in
+            subst (λ n. IsListed new (front_of (items_of other)) n) same
+            (subst (λ t. IsListed new (front_of (items_of t)) i) text listed)
+      ]
+
+  pub listed_all : (most : ℕ) (fronts : Fronts) → length patterns ≤ most
+      → AreListedBelow most patterns fronts → AreListed patterns fronts
+  listed_all most fronts within below place pattern stands =
+      let inside = slice_get_within patterns place pattern stands in
+      below place pattern (omega (arith, within, inside)) stands

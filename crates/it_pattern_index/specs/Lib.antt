@@ -1,0 +1,2 @@
+pub mod FirstMatch
+pub mod inside

@@ -1,0 +1,83 @@
+//! The places of patterns under their literal fronts.
+ghost use Rattle.std.specs.Prelude.{◌≡◌, List, ℕ, Contains, OnOk, length};
+ghost use Rattle.it_glob.specs.Pattern.{BeginsWith};
+ghost use Rattle.it_pattern_index.specs.inside.Listed.{IsListed, IsPutUnder};
+
+use std::alloc::{AllocError, Global};
+use std::collections::BTreeMap;
+
+/// The places of patterns under their literal fronts, and the lengths of these.
+#[derive(Drop)]
+pub(crate) struct Fronts<'a> {
+    /// The lengths of the fronts in bytes, each once.
+    pub(crate) lengths: Vec<usize>,
+    /// The places of the patterns with each front.
+    pub(crate) places: BTreeMap<&'a [u8], Vec<usize>>,
+}
+
+impl<'a> Fronts<'a> {
+    /// No fronts. Takes no memory.
+    pub(crate) fn new(alloc: Global) -> Fronts<'a> {
+        Fronts {
+            lengths: Vec::new(alloc),
+            places: BTreeMap::new(alloc),
+        }
+    }
+
+    /// Lists a place under a front.
+    pub(crate) fn list(
+        &mut self,
+        alloc: Global,
+        front: &'a [u8],
+        place: usize,
+    ) -> Result<(), AllocError>
+        ensures listed { OnOk result (IsListed self.new front.now place) }
+        ensures kept { OnOk result ((f : List ℕ) (p : ℕ) → IsListed self.old f p
+            → IsListed self.new f p) }
+    {
+        put_length(&mut self.lengths, front.len())?;
+        put_under(alloc, &mut self.places, front, place)?;
+        Ok(())
+    }
+
+    /// The places that are listed under the front of a length that a path begins with.
+    pub(crate) fn under(&self, path: &[u8], len: usize) -> &[usize]
+        ensures { (front : List ℕ) → BeginsWith path.now front → length front ≡ len
+            → (place : ℕ) → IsListed self.now front place → Contains result.now place }
+    {
+        if path.len() < len {
+            return &[];
+        }
+        match self.places.get(&path[..len]) {
+            Some(found) => found.as_slice(),
+            None => &[],
+        }
+    }
+}
+
+/// Puts a length at the end, unless it is there already.
+fn put_length(lengths: &mut Vec<usize>, len: usize) -> Result<(), AllocError>
+    ensures has { OnOk result (Contains lengths.new.items len) }
+    ensures kept { OnOk result ((l : ℕ) → Contains lengths.old.items l
+        → Contains lengths.new.items l) }
+{
+    if !lengths.as_slice().contains(&len) {
+        lengths.push(len)?;
+    }
+    Ok(())
+}
+
+/// Puts a place at the end of those under a front.
+fn put_under<'a>(
+    alloc: Global,
+    places: &mut BTreeMap<&'a [u8], Vec<usize>>,
+    front: &'a [u8],
+    place: usize,
+) -> Result<(), AllocError>
+    ensures { OnOk result (IsPutUnder front.now place places.old places.new) }
+{
+    let mut found = places.remove(front).unwrap_or(Vec::new(alloc));
+    found.push(place)?;
+    places.insert(front, found)?;
+    Ok(())
+}

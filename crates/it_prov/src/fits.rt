@@ -18,12 +18,12 @@ pub fn fitting(expectations: &[Expectation], path: &str) -> Option<usize>
         .position(|expectation| expectation.files.matches(path))
 }
 
-/// The patterns of expectations, in their order.
+/// The patterns of expectations, in their order, indexed by their fronts (this profile's choice).
 ///
 /// # Errors
 ///
 /// `AllocError` where memory was refused.
-pub(crate) fn patterns_in(
+pub fn patterns_in(
     alloc: Global,
     expectations: &[Expectation],
 ) -> Result<PatternIndex<'_>, AllocError>

@@ -1,2 +1,3 @@
+pub mod Existing
 mod Listing
 mod Narrowing

@@ -1,7 +1,7 @@
 -- The places of patterns under their literal fronts.
 use Rattle.std.proofs.Common.{◌≡◌, ◌++◌, ◌∷◌, [], ℕ, List, Bool, true, false, Option, Some, None, cond}
 use Rattle.std.proofs.Common.{Contains, Bor, Global, bytes_eq, nat_cmp, length, take, ap, sym, subst, refl}
-use Rattle.std.proofs.Common.{◌∙◌, ◌⊎◌, ◌+◌, ◌<◌, ◌≤◌, inl, inr, arith, unwrap_or}
+use Rattle.std.proofs.Common.{◌∙◌, ◌+◌, ◌<◌, ◌≤◌, inl, inr, arith, unwrap_or}
 use Rattle.std.specs.BTreeMap.{BTreeMap, UpdatesBy, get_by}
 use Rattle.std.specs.Cmp.Lexicographic.{slice_cmp}
 use Rattle.std.specs.List.{slice_get}

@@ -1,13 +1,13 @@
 -- The search for the first pattern that matches a path.
-use Rattle.std.proofs.Common.{◌≡◌, ◌⊎◌, ◌+◌, ◌<◌, ◌≤◌, ℕ, List, Option, Some, None, IfSome, MatchOption}
-use Rattle.std.proofs.Common.{Contains, inl, inr, length, take, get_or, subst, sym, refl, ◌∙◌, ap}
+use Rattle.std.proofs.Common.{◌≡◌, ◌⊎◌, ◌+◌, ◌<◌, ◌≤◌, ℕ, List, Option, Some, None, MatchOption}
+use Rattle.std.proofs.Common.{Contains, inl, inr, length, take, get_or, subst, sym}
 use Rattle.std.specs.List.{slice_get}
 use Rattle.std.proofs.lemmas.List.{take_more}
 use Rattle.std.proofs.lemmas.List.Elements.{Contains-push_cases}
 use Rattle.std.proofs.lemmas.Option.{same_Some, none-some}
 use Rattle.it_glob.specs.Pattern.{front_of, items_of}
 use Rattle.it_pattern_index.specs.FirstMatch.{IsFirstMatch, MatchesAt, NoneMatches}
-use Rattle.it_pattern_index.specs.inside.Narrowed.{IsNarrowed, IsUpTo}
+use Rattle.it_pattern_index.specs.inside.Narrowed.{IsNarrowed}
 
 -- an element of one more is an element of those before, or the next
 pub next_or_before : {X : Type 0} (xs : List X) (i : ℕ) (d x : X) → i < length xs

@@ -1,7 +1,6 @@
 //! Patterns in an order, looked up by their literal fronts.
 ghost use Rattle.std.specs.Prelude.{◌≡◌, IfOk, MatchOption, map};
 ghost use Rattle.it_pattern_index.specs.FirstMatch.{IsFirstMatch, NoneMatches};
-ghost use Rattle.it_pattern_index.specs.inside.Listed.{AreListed, texts_of};
 
 use crate::earlier::earlier_among;
 use crate::fronts::Fronts;
@@ -36,7 +35,7 @@ impl<'a> PatternIndex<'a> {
     ///
     /// `AllocError` where memory was refused.
     pub fn of(alloc: Global, patterns: Vec<&'a Pattern>) -> Result<PatternIndex<'a>, AllocError>
-        ensures { IfOk result (λ i. i ≡ texts_of patterns.entry.items) }
+        ensures { IfOk result (λ i. i ≡ map (λ p. p.now) patterns.entry.items) }
     {
         let mut fronts = Fronts::new(alloc);
         for (place, pattern) in patterns.as_slice().iter().enumerate() {

@@ -1,4 +1,4 @@
-use Rattle.std.proofs.Common.{◌≡◌, ◌+◌, Contains, ℕ, inl, inr, sym, take}
+use Rattle.std.proofs.Common.{◌+◌, Contains, inl, inr, sym, take}
 use Rattle.it_pattern_index.specs.inside.Listed.{texts_of}
 use Rattle.it_pattern_index.proofs.Narrowing.{narrowed_then, next_or_before}
 use Rattle.it_pattern_index.proofs.earlier.earlier_among.Goals as goal

@@ -1,4 +1,4 @@
-use Rattle.std.proofs.Common.{arith, ◌≡◌, ◌∙◌, ◌+◌, Contains, None, ℕ, List, inl, inr, sym, subst, take, length}
+use Rattle.std.proofs.Common.{arith, ◌∙◌, ◌+◌, Contains, None, inl, inr, sym, subst, take, length}
 use Rattle.std.proofs.lemmas.List.{take_all}
 use Rattle.std.proofs.lemmas.Option.{same_Some}
 use Rattle.it_glob.specs.Pattern.{Matches, front_of, items_of}

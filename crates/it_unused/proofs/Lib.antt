@@ -1,3 +1,3 @@
-pub mod Sharing
-pub mod Taking
-pub mod Unusing
+mod Lending
+mod Unusing
+mod Using

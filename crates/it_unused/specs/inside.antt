@@ -1,1 +1,1 @@
-pub mod Shares
+pub mod Used

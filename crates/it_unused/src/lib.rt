@@ -2,7 +2,8 @@
 //! file to them.
 #![tactic(auto)]
 
-mod shares;
+mod paths;
 mod unused;
+mod used;
 
 pub use unused::unused_expectations;

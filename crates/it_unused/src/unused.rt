@@ -2,15 +2,16 @@
 ghost use Rattle.std.specs.Prelude.{IfOk};
 ghost use Rattle.it_unused.specs.Unused.{AreUnused};
 
-use crate::shares::{paths_of, speaks_of_some, take};
+use crate::paths::{paths_of, speaks_of_some};
+use crate::used::used_places;
 use it_digest::artifacts::Artifacts;
 use it_docs::policy::Expectation;
 use std::alloc::{AllocError, Global};
 
 /// The places, from 0 and in their order, of the expectations that are unused in a delivery: each
 /// speaks of some delivered path, but of each of these an earlier one speaks as well, so that it is
-/// the first for none. One that speaks of no delivered path is not among them. For each expectation
-/// each path is tried twice at most.
+/// the first for none. One that speaks of no delivered path is not among them. A path is tried only
+/// for the expectations with a pattern whose front it begins with.
 ///
 /// # Errors
 ///
@@ -23,13 +24,11 @@ pub fn unused_expectations(
     ensures { IfOk result (λ places.
         AreUnused expectations.now delivered.now places.items) }
 {
+    let paths = paths_of(alloc, delivered)?;
+    let used = used_places(alloc, expectations, paths.as_slice())?;
     let mut unused = Vec::new(alloc);
-    let mut taken = Vec::new(alloc);
-    let mut left = paths_of(alloc, delivered)?;
     for (place, expectation) in expectations.iter().enumerate() {
-        if speaks_of_some(expectation, left.as_slice()) {
-            left = take(alloc, expectation, left.as_slice(), &mut taken)?;
-        } else if speaks_of_some(expectation, taken.as_slice()) {
+        if !used.contains(&place) && speaks_of_some(expectation, paths.as_slice()) {
             unused.push(place)?;
         }
     }

@@ -50,14 +50,14 @@ pub record NamesFoundAgainst (disk : Holdings) (words : List (List ℕ))
   pub are_words : AreWordsOf words command
   pub found : IsFoundAgainst disk command old new
 
--- where it says that more signatures would have to be checked than may be, the command is verify,
--- and its words allow as many as it says
+-- a command that stops since more signatures would have to be checked than may be is verify, and the
+-- number that it stops with is the one that its words allow
 abbrev pub IsAllowed : Words → Stop → Type 0
 IsAllowed (Verify words) (TooManyChecks spent) = spent.most ≡ words.most_checks
 IsAllowed command (TooManyChecks spent) = ⊥
 IsAllowed command stop = Unit {0}
 
--- where it says so, the words name such a command
+-- where a run stops for that reason, the words name such a command
 abbrev pub NamesAllowed : List (List ℕ) → Stop → Type 0
 NamesAllowed words (TooManyChecks spent) =
     (command : Words) × AreWordsOf words command × IsAllowed command (TooManyChecks spent)

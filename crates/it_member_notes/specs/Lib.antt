@@ -1,7 +1,10 @@
 pub mod KeyMembers
 pub mod LayoutNotes
+pub mod MemberLines
 pub mod MemberNotes
+pub mod PlaceWords
 pub mod Places
+pub mod RuleLines
 pub mod RuleListNotes
 pub mod UnreadMembers
 pub mod inside

@@ -1,6 +1,8 @@
 //! Notes on a list of artifact rules, as lines for people.
+ghost use Rattle.std.specs.Prelude.{◌≡◌, ◌++◌, OnOk, codes, decimal};
+ghost use Rattle.it_member_notes.specs.RuleLines.{predicate_form, rule_list_line, subject_form};
 
-use crate::quoted::push_quoted;
+use crate::quoted::{push_text, push_told};
 use crate::rule_list_note::RuleListNote;
 use std::alloc::{AllocError, Global};
 
@@ -11,9 +13,11 @@ impl RuleListNote {
     /// # Errors
     ///
     /// `AllocError` where memory was refused; a part of the line may have been appended then.
-    pub fn push_deliver_line(&self, alloc: Global, out: &mut Vec<u8>) -> Result<(), AllocError> {
+    pub fn push_deliver_line(&self, alloc: Global, out: &mut Vec<u8>) -> Result<(), AllocError>
+        ensures { OnOk result (out.new.items ≡ out.old.items ++ rule_list_line self.now) }
+    {
         self.push_subject(alloc, out, "policy")?;
-        out.extend_from_slice(b" of deliver")?;
+        push_text(out, " of deliver")?;
         self.push_predicate(out)
     }
 
@@ -23,28 +27,34 @@ impl RuleListNote {
         alloc: Global,
         out: &mut Vec<u8>,
         document: &str,
-    ) -> Result<(), AllocError> {
-        let words = match self {
-            RuleListNote::MatchFromNoStep { rule, .. } => {
-                let rule = *rule;
-                format!(in alloc; "{document}: rule {rule}")?
-            }
-            RuleListNote::NoDisallowAtEnd => format!(in alloc; "{document}: the rules")?,
-        };
-        out.extend_from_slice(words.as_bytes())
+    ) -> Result<(), AllocError>
+        ensures { OnOk result
+            (out.new.items ≡ out.old.items ++ subject_form document.now self.now) }
+    {
+        push_text(out, document)?;
+        match self {
+            RuleListNote::MatchFromNoStep { rule, .. } => push_rule(alloc, out, *rule),
+            RuleListNote::NoDisallowAtEnd => push_text(out, ": the rules"),
+        }
     }
 
     /// Appends what the note says about it, and a line feed.
-    pub(crate) fn push_predicate(&self, out: &mut Vec<u8>) -> Result<(), AllocError> {
+    pub(crate) fn push_predicate(&self, out: &mut Vec<u8>) -> Result<(), AllocError>
+        ensures { OnOk result (out.new.items ≡ out.old.items ++ predicate_form self.now) }
+    {
         match self {
             RuleListNote::MatchFromNoStep { name, .. } => {
-                out.extend_from_slice(b" takes from ")?;
-                push_quoted(out, name.as_str())?;
-                out.extend_from_slice(b", and no step or inspection has that name\n")
+                let after = ", and no step or inspection has that name\n";
+                push_told(out, " takes from ", name.as_str(), after)
             }
-            RuleListNote::NoDisallowAtEnd => {
-                out.extend_from_slice(b" do not end with a DISALLOW\n")
-            }
+            RuleListNote::NoDisallowAtEnd => push_text(out, " do not end with a DISALLOW\n"),
         }
     }
+}
+
+fn push_rule(alloc: Global, out: &mut Vec<u8>, rule: usize) -> Result<(), AllocError>
+    ensures { OnOk result (out.new.items ≡ out.old.items ++ codes ": rule " ++ decimal rule) }
+{
+    let words = format!(in alloc; ": rule {rule}")?;
+    push_text(out, words.as_str())
 }

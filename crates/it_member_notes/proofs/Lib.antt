@@ -1,3 +1,4 @@
+mod Appending
 pub mod Names
 pub mod Naming
 pub mod Noting

@@ -36,7 +36,8 @@ fn push_no_key_object(out: &mut Vec<u8>, step: &Text, id: &Text) -> Result<(), A
 {
     push_named(out, "layout: step ", step)?;
     let after = ", and keys has no key object of that id\n";
-    push_told(out, " may be signed for by key ", id.as_str(), after)
+    push_told(out, " may be signed for by key ", id.as_str(), after)?;
+    Ok(())
 }
 
 fn push_side(out: &mut Vec<u8>, side: Side, item: &Item) -> Result<(), AllocError>

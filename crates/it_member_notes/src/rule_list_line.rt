@@ -18,7 +18,8 @@ impl RuleListNote {
     {
         self.push_subject(alloc, out, "policy")?;
         push_text(out, " of deliver")?;
-        self.push_predicate(out)
+        self.push_predicate(out)?;
+        Ok(())
     }
 
     /// Appends the document and what in it the note is about: one rule, or all of them.

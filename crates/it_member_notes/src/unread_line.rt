@@ -21,7 +21,8 @@ impl UnreadMember {
         let after = " that is not looked at";
         push_told(out, " has a member ", self.name.as_str(), after)?;
         push_close(out, self.close)?;
-        push_text(out, "\n")
+        push_text(out, "\n")?;
+        Ok(())
     }
 }
 

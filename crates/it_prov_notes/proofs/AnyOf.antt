@@ -1,5 +1,5 @@
 -- Whether some element is such.
-use Rattle.std.proofs.Common.{◌≡◌, ◌↔◌, ◌<◌, ℕ, List, length, Bool, true, false, inl}
+use Rattle.std.proofs.Common.{◌↔◌, ◌<◌, ℕ, List, length, Bool, true, false, inl}
 use Rattle.std.proofs.Common.{Any, IsTrue, inr, refl, sym, subst, arith}
 use Rattle.std.specs.Bool.{MatchBool}
 use Rattle.std.specs.List.{AllWithin, HoldsAt}

@@ -1,4 +1,16 @@
 //! What a note says to people.
+ghost use Rattle.std.specs.Prelude.{◌≡◌, ◌++◌, OnOk};
+ghost use Rattle.std.specs.Fmt.{signed_decimal};
+ghost use Rattle.std.specs.List.{flat_map};
+ghost use Rattle.it_prov_notes.specs.ProvenanceLines.{difference_form, found_form, hinted_form};
+ghost use Rattle.it_prov_notes.specs.ProvenanceLines.{levels_form, matching_form, member_form};
+ghost use Rattle.it_prov_notes.specs.ProvenanceLines.{not_signed_form, numbering, others_form};
+ghost use Rattle.it_prov_notes.specs.ProvenanceLines.{pair_form, parameter_form, pattern_form};
+ghost use Rattle.it_prov_notes.specs.ProvenanceLines.{patterns_form, patterns_line};
+ghost use Rattle.it_prov_notes.specs.ProvenanceLines.{provenance_line, quoting, shape_form};
+ghost use Rattle.it_prov_notes.specs.ProvenanceLines.{shortfall_form, typed_form, value_form};
+ghost use Rattle.it_prov_notes.specs.ProvenanceLines.{wanted_form};
+
 use crate::note::{Difference, HintedKey, ProvenanceNote, Shape, Shortfall, ValueNote};
 use crate::patterns::PatternsNote;
 use it_base::text::Text;
@@ -7,42 +19,77 @@ use it_report::name::push_cut_name;
 use std::alloc::{AllocError, Global};
 
 impl ProvenanceNote {
-    /// Appends what the note says as one line, with its line feed. Texts from the policy and the
-    /// provenance are in quotation marks, as `push_cut_name` writes a name.
+    /// Appends what the note says as one line, with its line feed: the number of the line of
+    /// provenance, and what that misses. Texts from the policy and the provenance are in quotation
+    /// marks, as `push_cut_name` writes a name.
     ///
     /// # Errors
     ///
     /// `AllocError` where memory was refused; a part of the line may have been appended then.
-    pub fn push_line(&self, text: &mut Vec<u8>) -> Result<(), AllocError> {
-        push_words(text, "provenance line ")?;
-        push_number(text, self.line)?;
-        push_words(text, ": ")?;
+    pub fn push_line(&self, text: &mut Vec<u8>) -> Result<(), AllocError>
+        ensures { OnOk result (text.new.items ≡ text.old.items ++ provenance_line self.now) }
+    {
+        push_numbering(text, "provenance line ", self.line, ": ")?;
         push_shortfall(text, &self.shortfall)?;
         push_words(text, "\n")
     }
 }
 
 impl PatternsNote {
-    /// Appends what the note says as one line, with its line feed, and with patterns as
-    /// `push_cut_name` writes a name.
+    /// Appends what the note says as one line, with its line feed: the patterns, as
+    /// `push_cut_name` writes a name, and whether there are others; or that there is none.
     ///
     /// # Errors
     ///
     /// `AllocError` where memory was refused; a part of the line may have been appended then.
-    pub fn push_line(&self, text: &mut Vec<u8>) -> Result<(), AllocError> {
-        if self.patterns.as_slice().is_empty() {
-            return push_words(text, "policy: it has no expectation\n");
-        }
-        push_words(text, "policy: its expectations are for files that match")?;
-        for pattern in self.patterns.as_slice() {
-            push_words(text, " ")?;
-            push_cut_name(text, pattern.as_str().as_bytes())?;
-        }
-        push_words(text, if self.others { " and others\n" } else { "\n" })
+    pub fn push_line(&self, text: &mut Vec<u8>) -> Result<(), AllocError>
+        ensures { OnOk result (text.new.items ≡ text.old.items ++ patterns_line self.now) }
+    {
+        push_patterns(text, self.patterns.as_slice(), self.others)?;
+        push_words(text, "\n")
     }
 }
 
-fn push_shortfall(text: &mut Vec<u8>, shortfall: &Shortfall) -> Result<(), AllocError> {
+#[tactic(auto, unfolding(crate::specs::ProvenanceLines::patterns_form))]
+fn push_patterns(text: &mut Vec<u8>, patterns: &[Text], others: bool) -> Result<(), AllocError>
+    ensures { OnOk result (text.new.items ≡ text.old.items ++ patterns_form patterns.now others) }
+{
+    if patterns.is_empty() {
+        return push_words(text, "policy: it has no expectation");
+    }
+    push_matching(text, patterns, others)
+}
+
+/// Appends patterns, and whether there are others.
+fn push_matching(text: &mut Vec<u8>, patterns: &[Text], others: bool) -> Result<(), AllocError>
+    ensures { OnOk result (text.new.items ≡ text.old.items ++ matching_form patterns.now others) }
+{
+    push_words(text, "policy: its expectations are for files that match")?;
+    push_each(text, patterns)?;
+    push_words(text, others_words(others))
+}
+
+fn others_words(others: bool) -> &'static str
+    ensures { result.now ≡ others_form others }
+{
+    if others { " and others" } else { "" }
+}
+
+/// Appends patterns, each after a space.
+fn push_each(text: &mut Vec<u8>, patterns: &[Text]) -> Result<(), AllocError>
+    ensures { OnOk result (text.new.items ≡ text.old.items ++ flat_map pattern_form patterns.now) }
+{
+    for pattern in patterns {
+        push_words(text, " ")?;
+        push_cut_name(text, pattern.as_str().as_bytes())?;
+    }
+    Ok(())
+}
+
+#[tactic(auto, unfolding(crate::specs::ProvenanceLines::shortfall_form))]
+fn push_shortfall(text: &mut Vec<u8>, shortfall: &Shortfall) -> Result<(), AllocError>
+    ensures { OnOk result (text.new.items ≡ text.old.items ++ shortfall_form shortfall.now) }
+{
     match shortfall {
         Shortfall::NoEnvelope(shape) => push_shape(text, shape),
         Shortfall::NotSigned(hinted) => push_not_signed(text, hinted),
@@ -77,16 +124,27 @@ fn push_shortfall(text: &mut Vec<u8>, shortfall: &Shortfall) -> Result<(), Alloc
     }
 }
 
-fn push_not_signed(text: &mut Vec<u8>, hinted: &Option<HintedKey>) -> Result<(), AllocError> {
+fn push_not_signed(text: &mut Vec<u8>, hinted: &Option<HintedKey>) -> Result<(), AllocError>
+    ensures { OnOk result (text.new.items ≡ text.old.items ++ not_signed_form hinted.now) }
+{
     push_words(text, "none of the expected builders signed it")?;
-    if let Some(key) = hinted {
-        push_quoting(text, ", but key ", key.id.as_str(), "")?;
-        push_quoting(text, " did under the keyid ", key.keyid.as_str(), "")?;
+    match hinted {
+        None => Ok(()),
+        Some(key) => push_hinted(text, key),
     }
-    Ok(())
 }
 
-fn push_shape(text: &mut Vec<u8>, shape: &Shape) -> Result<(), AllocError> {
+#[tactic(auto, unfolding(crate::specs::ProvenanceLines::hinted_form))]
+fn push_hinted(text: &mut Vec<u8>, key: &HintedKey) -> Result<(), AllocError>
+    ensures { OnOk result (text.new.items ≡ text.old.items ++ hinted_form key.now) }
+{
+    push_quoting(text, ", but key ", key.id.as_str(), "")?;
+    push_quoting(text, " did under the keyid ", key.keyid.as_str(), "")
+}
+
+fn push_shape(text: &mut Vec<u8>, shape: &Shape) -> Result<(), AllocError>
+    ensures { OnOk result (text.new.items ≡ text.old.items ++ shape_form shape.now) }
+{
     match shape {
         Shape::NoDocument => push_words(text, "no envelope, and no JSON on one line"),
         Shape::List => push_words(text, "no envelope, but a JSON array"),
@@ -97,42 +155,78 @@ fn push_shape(text: &mut Vec<u8>, shape: &Shape) -> Result<(), AllocError> {
 }
 
 /// Appends the type of what was found.
-fn push_typed(text: &mut Vec<u8>, what: &str, found: &Text) -> Result<(), AllocError> {
+#[tactic(auto, unfolding(crate::specs::ProvenanceLines::typed_form))]
+fn push_typed(text: &mut Vec<u8>, what: &str, found: &Text) -> Result<(), AllocError>
+    ensures { OnOk result (text.new.items ≡ text.old.items ++ typed_form what.now found.now) }
+{
     push_words(text, what)?;
     push_quoting(text, " of type ", found.as_str(), "")
 }
 
 /// Appends what was found and what is expected.
-fn push_pair(text: &mut Vec<u8>, what: &str, found: &str, wanted: &str) -> Result<(), AllocError> {
+#[tactic(auto, unfolding(crate::specs::ProvenanceLines::pair_form))]
+fn push_pair(text: &mut Vec<u8>, what: &str, found: &str, wanted: &str) -> Result<(), AllocError>
+    ensures { OnOk result (text.new.items
+        ≡ text.old.items ++ pair_form what.now found.now wanted.now) }
+{
     push_words(text, what)?;
     push_quoting(text, " ", found, " where ")?;
     push_quoting(text, "", wanted, " is expected")
 }
 
-fn push_parameter(text: &mut Vec<u8>, name: &str, after: &str) -> Result<(), AllocError> {
+/// Appends an external parameter by its name, with words after it.
+#[tactic(auto, unfolding(crate::specs::ProvenanceLines::parameter_form))]
+fn push_parameter(text: &mut Vec<u8>, name: &str, after: &str) -> Result<(), AllocError>
+    ensures { OnOk result (text.new.items
+        ≡ text.old.items ++ parameter_form name.now after.now) }
+{
     push_quoting(text, "external parameter ", name, after)
 }
 
-/// Appends where two values differ, and what is there.
-fn push_difference(text: &mut Vec<u8>, difference: &Difference) -> Result<(), AllocError> {
-    for name in difference.place.as_slice() {
+/// Appends where two values differ, what is there, and what is expected there.
+fn push_difference(text: &mut Vec<u8>, difference: &Difference) -> Result<(), AllocError>
+    ensures { OnOk result (text.new.items ≡ text.old.items ++ difference_form difference.now) }
+{
+    push_place(text, difference.place.as_slice())?;
+    push_found(text, &difference.found)?;
+    push_wanted(text, &difference.wanted)
+}
+
+/// Appends the names that lead to a place, each in brackets.
+fn push_place(text: &mut Vec<u8>, names: &[Text]) -> Result<(), AllocError>
+    ensures { OnOk result (text.new.items ≡ text.old.items ++ flat_map member_form names.now) }
+{
+    for name in names {
         push_quoting(text, "[", name.as_str(), "]")?;
     }
-    match &difference.found {
-        None => push_words(text, " is missing")?,
-        Some(found) => push_value(text, " is ", found)?,
+    Ok(())
+}
+
+fn push_found(text: &mut Vec<u8>, found: &Option<ValueNote>) -> Result<(), AllocError>
+    ensures { OnOk result (text.new.items ≡ text.old.items ++ found_form found.now) }
+{
+    match found {
+        None => push_words(text, " is missing"),
+        Some(value) => push_value(text, " is ", value),
     }
-    match &difference.wanted {
+}
+
+fn push_wanted(text: &mut Vec<u8>, wanted: &Option<ValueNote>) -> Result<(), AllocError>
+    ensures { OnOk result (text.new.items ≡ text.old.items ++ wanted_form wanted.now) }
+{
+    match wanted {
         None => push_words(text, " where none is expected"),
-        Some(wanted) => {
-            push_value(text, " where ", wanted)?;
+        Some(value) => {
+            push_value(text, " where ", value)?;
             push_words(text, " is expected")
         }
     }
 }
 
 /// Appends a value after some words; of a list and an object only the brackets.
-fn push_value(text: &mut Vec<u8>, before: &str, value: &ValueNote) -> Result<(), AllocError> {
+fn push_value(text: &mut Vec<u8>, before: &str, value: &ValueNote) -> Result<(), AllocError>
+    ensures { OnOk result (text.new.items ≡ text.old.items ++ before.now ++ value_form value.now) }
+{
     push_words(text, before)?;
     match value {
         ValueNote::Null => push_words(text, "null"),
@@ -146,27 +240,27 @@ fn push_value(text: &mut Vec<u8>, before: &str, value: &ValueNote) -> Result<(),
     }
 }
 
-fn push_whole(text: &mut Vec<u8>, number: i128) -> Result<(), AllocError> {
+fn push_whole(text: &mut Vec<u8>, number: i128) -> Result<(), AllocError>
+    ensures { OnOk result (text.new.items ≡ text.old.items ++ signed_decimal number) }
+{
     let alloc: Global = *text.allocator();
     let digits = format!(in alloc; "{number}")?;
     push_words(text, digits.as_str())
 }
 
-fn push_levels(text: &mut Vec<u8>, found: u8, wanted: u8) -> Result<(), AllocError> {
-    push_words(text, "builder of level ")?;
-    push_number(text, u64::from(found))?;
-    push_words(text, " where level ")?;
-    push_number(text, u64::from(wanted))?;
-    push_words(text, " is expected")
+fn push_levels(text: &mut Vec<u8>, found: u8, wanted: u8) -> Result<(), AllocError>
+    ensures { OnOk result (text.new.items ≡ text.old.items ++ levels_form found wanted) }
+{
+    push_numbering(text, "builder of level ", u64::from(found), "")?;
+    push_numbering(text, " where level ", u64::from(wanted), " is expected")
 }
 
 /// Appends a name in quotation marks, with words before and after it.
-fn push_quoting(
-    text: &mut Vec<u8>,
-    before: &str,
-    name: &str,
-    after: &str,
-) -> Result<(), AllocError> {
+#[tactic(auto, unfolding(crate::specs::ProvenanceLines::quoting))]
+fn push_quoting(text: &mut Vec<u8>, before: &str, name: &str, after: &str) -> Result<(), AllocError>
+    ensures { OnOk result
+        (text.new.items ≡ text.old.items ++ quoting before.now name.now after.now) }
+{
     push_words(text, before)?;
     push_words(text, "\"")?;
     push_cut_name(text, name.as_bytes())?;
@@ -174,12 +268,24 @@ fn push_quoting(
     push_words(text, after)
 }
 
-fn push_number(text: &mut Vec<u8>, number: u64) -> Result<(), AllocError> {
+/// Appends a number in decimal digits, with words before and after it.
+#[tactic(auto, unfolding(crate::specs::ProvenanceLines::numbering))]
+fn push_numbering(
+    text: &mut Vec<u8>,
+    before: &str,
+    number: u64,
+    after: &str,
+) -> Result<(), AllocError>
+    ensures { OnOk result
+        (text.new.items ≡ text.old.items ++ numbering before.now number after.now) }
+{
     let alloc: Global = *text.allocator();
-    let digits = format!(in alloc; "{number}")?;
-    push_words(text, digits.as_str())
+    let words = format!(in alloc; "{before}{number}{after}")?;
+    push_words(text, words.as_str())
 }
 
-fn push_words(text: &mut Vec<u8>, words: &str) -> Result<(), AllocError> {
+fn push_words(text: &mut Vec<u8>, words: &str) -> Result<(), AllocError>
+    ensures { OnOk result (text.new.items ≡ text.old.items ++ words.now) }
+{
     text.extend_from_slice(words.as_bytes())
 }

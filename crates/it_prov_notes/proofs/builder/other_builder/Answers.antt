@@ -1,4 +1,4 @@
-use Rattle.std.proofs.Common.{◌≡◌, ◌∙◌, Bor, Contains, true, sym, ap}
+use Rattle.std.proofs.Common.{◌≡◌, ◌∙◌, Contains, true, sym, ap}
 use Rattle.it_docs.specs.declared.policy.Builder.{Builder}
 use Rattle.it_prov_notes.proofs.WhoSigned.{signed_signer, signer_signed}
 use Rattle.it_prov_notes.proofs.builder.other_builder.Goals as goal

@@ -1,4 +1,4 @@
-use Rattle.std.proofs.Common.{◌≡◌, ℕ, List, IfSome, subst}
+use Rattle.std.proofs.Common.{ℕ, List, IfSome, subst}
 use Rattle.it_docs.specs.Statement.{StatementOf}
 use Rattle.it_prov_notes.specs.ProvenanceNotes.{IsDocumentThat, IsTyped}
 use Rattle.it_prov_notes.proofs.envelope.signed_misses.Goals as goal

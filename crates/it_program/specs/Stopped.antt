@@ -50,8 +50,8 @@ pub record NamesFoundAgainst (disk : Holdings) (words : List (List ℕ))
   pub are_words : AreWordsOf words command
   pub found : IsFoundAgainst disk command old new
 
--- a command that stops since more signatures would have to be checked than may be is verify, and the
--- number that it stops with is the one that its words allow
+-- a command that stops since more signatures would have to be checked than may be is verify, and
+-- the number that it stops with is the one that its words allow
 abbrev pub IsAllowed : Words → Stop → Type 0
 IsAllowed (Verify words) (TooManyChecks spent) = spent.most ≡ words.most_checks
 IsAllowed command (TooManyChecks spent) = ⊥

@@ -13,6 +13,7 @@ pub mod note;
 mod notes;
 mod parameters;
 pub mod patterns;
+mod patterns_words;
 mod provenance;
 mod room;
 mod shape;

@@ -3,16 +3,13 @@ ghost use Rattle.std.specs.Prelude.{◌≡◌, ◌++◌, OnOk};
 ghost use Rattle.std.specs.Fmt.{signed_decimal};
 ghost use Rattle.std.specs.List.{flat_map};
 ghost use Rattle.it_prov_notes.specs.ProvenanceLines.{difference_form, found_form, hinted_form};
-ghost use Rattle.it_prov_notes.specs.ProvenanceLines.{levels_form, matching_form, member_form};
-ghost use Rattle.it_prov_notes.specs.ProvenanceLines.{not_signed_form, numbering, others_form};
-ghost use Rattle.it_prov_notes.specs.ProvenanceLines.{pair_form, parameter_form, pattern_form};
-ghost use Rattle.it_prov_notes.specs.ProvenanceLines.{patterns_form, patterns_line};
+ghost use Rattle.it_prov_notes.specs.ProvenanceLines.{levels_form, member_form, not_signed_form};
+ghost use Rattle.it_prov_notes.specs.ProvenanceLines.{numbering, pair_form, parameter_form};
 ghost use Rattle.it_prov_notes.specs.ProvenanceLines.{provenance_line, quoting, shape_form};
 ghost use Rattle.it_prov_notes.specs.ProvenanceLines.{shortfall_form, typed_form, value_form};
 ghost use Rattle.it_prov_notes.specs.ProvenanceLines.{wanted_form};
 
 use crate::note::{Difference, HintedKey, ProvenanceNote, Shape, Shortfall, ValueNote};
-use crate::patterns::PatternsNote;
 use it_base::text::Text;
 use it_dsse::payload_type::IN_TOTO;
 use it_report::name::push_cut_name;
@@ -33,57 +30,6 @@ impl ProvenanceNote {
         push_shortfall(text, &self.shortfall)?;
         push_words(text, "\n")
     }
-}
-
-impl PatternsNote {
-    /// Appends what the note says as one line, with its line feed: the patterns, as
-    /// `push_cut_name` writes a name, and whether there are others; or that there is none.
-    ///
-    /// # Errors
-    ///
-    /// `AllocError` where memory was refused; a part of the line may have been appended then.
-    pub fn push_line(&self, text: &mut Vec<u8>) -> Result<(), AllocError>
-        ensures { OnOk result (text.new.items ≡ text.old.items ++ patterns_line self.now) }
-    {
-        push_patterns(text, self.patterns.as_slice(), self.others)?;
-        push_words(text, "\n")
-    }
-}
-
-#[tactic(auto, unfolding(crate::specs::ProvenanceLines::patterns_form))]
-fn push_patterns(text: &mut Vec<u8>, patterns: &[Text], others: bool) -> Result<(), AllocError>
-    ensures { OnOk result (text.new.items ≡ text.old.items ++ patterns_form patterns.now others) }
-{
-    if patterns.is_empty() {
-        return push_words(text, "policy: it has no expectation");
-    }
-    push_matching(text, patterns, others)
-}
-
-/// Appends patterns, and whether there are others.
-fn push_matching(text: &mut Vec<u8>, patterns: &[Text], others: bool) -> Result<(), AllocError>
-    ensures { OnOk result (text.new.items ≡ text.old.items ++ matching_form patterns.now others) }
-{
-    push_words(text, "policy: its expectations are for files that match")?;
-    push_each(text, patterns)?;
-    push_words(text, others_words(others))
-}
-
-fn others_words(others: bool) -> &'static str
-    ensures { result.now ≡ others_form others }
-{
-    if others { " and others" } else { "" }
-}
-
-/// Appends patterns, each after a space.
-fn push_each(text: &mut Vec<u8>, patterns: &[Text]) -> Result<(), AllocError>
-    ensures { OnOk result (text.new.items ≡ text.old.items ++ flat_map pattern_form patterns.now) }
-{
-    for pattern in patterns {
-        push_words(text, " ")?;
-        push_cut_name(text, pattern.as_str().as_bytes())?;
-    }
-    Ok(())
 }
 
 #[tactic(auto, unfolding(crate::specs::ProvenanceLines::shortfall_form))]
@@ -284,7 +230,7 @@ fn push_numbering(
     push_words(text, words.as_str())
 }
 
-fn push_words(text: &mut Vec<u8>, words: &str) -> Result<(), AllocError>
+pub(crate) fn push_words(text: &mut Vec<u8>, words: &str) -> Result<(), AllocError>
     ensures { OnOk result (text.new.items ≡ text.old.items ++ words.now) }
 {
     text.extend_from_slice(words.as_bytes())

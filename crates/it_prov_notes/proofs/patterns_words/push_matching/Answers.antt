@@ -1,5 +1,5 @@
 use Rattle.std.proofs.Common.{append_assoc}
-use Rattle.it_prov_notes.proofs.words.push_matching.Goals as goal
+use Rattle.it_prov_notes.proofs.patterns_words.push_matching.Goals as goal
 
 pub returns : goal.returns
 returns c = rw append_assoc at (rw append_assoc at (rw (

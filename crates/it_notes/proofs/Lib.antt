@@ -1,3 +1,4 @@
 mod Both
 mod Delivering
+mod Holding
 mod Levels

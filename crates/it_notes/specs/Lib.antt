@@ -6,6 +6,8 @@ pub mod Known
 pub mod LayoutEnvelope
 pub mod Level
 pub mod NotGiven
+pub mod NoteLines
 pub mod Notes
 pub mod PlaceNotes
 pub mod RefusalNotes
+pub mod ShownLines

@@ -7,9 +7,14 @@ ghost use Rattle.it_report.specs.declared.refusal.Fault.TheVariants.{BadPolicy, 
 ghost use Rattle.it_verify.specs.declared.inputs.Inputs.{Inputs};
 ghost use Rattle.it_notes.specs.DigestLists.{bad_line, list_in};
 ghost use Rattle.it_notes.specs.RefusalNotes.{TellsInputs};
+ghost use Rattle.it_part_notes.specs.Moments.{moment_line};
+ghost use Rattle.it_part_notes.specs.PartLines.{part_line};
+ghost use Rattle.it_part_notes.specs.SumLine.{sum_line};
+ghost use Rattle.it_notes.specs.NoteLines.{list_words as list_words_of, no_line, returned_line};
 
 use crate::lines::Line;
 use crate::notes::RefusalNotes;
+use crate::record_note::push_words;
 use it_digest::sums::ListAlgorithm;
 use it_docs::layout_fault::LayoutPart;
 use it_docs::policy_fault::PolicyPart;
@@ -101,18 +106,24 @@ pub(crate) fn layout_told(
 }
 
 impl Line for PartNote {
+    ghost line = { part_line };
+
     fn push_line(&self, text: &mut Vec<u8>) -> Result<(), AllocError> {
         PartNote::push_line(self, text)
     }
 }
 
 impl Line for SumLineNote {
+    ghost line = { sum_line };
+
     fn push_line(&self, text: &mut Vec<u8>) -> Result<(), AllocError> {
         SumLineNote::push_line(self, text)
     }
 }
 
 impl Line for MomentNote {
+    ghost line = { moment_line };
+
     fn push_line(&self, text: &mut Vec<u8>) -> Result<(), AllocError> {
         MomentNote::push_line(self, text)
     }
@@ -123,8 +134,10 @@ impl Line for MomentNote {
 pub(crate) struct NoLine;
 
 impl Line for NoLine {
+    ghost line = { λ note. no_line };
+
     fn push_line(&self, text: &mut Vec<u8>) -> Result<(), AllocError> {
-        text.extend_from_slice(b"digest list: it is empty\n")
+        push_words(text, "digest list: it is empty\n")
     }
 }
 
@@ -135,12 +148,22 @@ pub(crate) struct ReturnedLine {
 }
 
 impl Line for ReturnedLine {
+    ghost line = { λ note. returned_line note.algorithm };
+
     fn push_line(&self, text: &mut Vec<u8>) -> Result<(), AllocError> {
-        text.extend_from_slice(match self.algorithm {
-            ListAlgorithm::Sha256 => b"digest list".as_slice(),
-            ListAlgorithm::Sha512 => b"digest list by SHA-512".as_slice(),
-        })?;
-        text.extend_from_slice(b": line 1 ends with a carriage return, ")?;
-        text.extend_from_slice(b"which belongs to its path\n")
+        push_words(text, list_words(self.algorithm))?;
+        push_words(
+            text,
+            ": line 1 ends with a carriage return, which belongs to its path\n",
+        )
+    }
+}
+
+fn list_words(algorithm: ListAlgorithm) -> &'static str
+    ensures { result.now ≡ list_words_of algorithm }
+{
+    match algorithm {
+        ListAlgorithm::Sha256 => "digest list",
+        ListAlgorithm::Sha512 => "digest list by SHA-512",
     }
 }

@@ -1,5 +1,7 @@
 //! What is found in the policy, in the layout and in the sublayouts of a delivery that is accepted.
 ghost use Rattle.std.specs.Prelude.{◌≤◌, IfOk};
+ghost use Rattle.it_check.specs.FindingLine.{line_of};
+ghost use Rattle.it_strict.specs.BelowText.{placed_line};
 ghost use Rattle.it_verify.specs.Made.{IsMadeBy};
 ghost use Rattle.it_notes.specs.FoundInDocuments.{AreFoundInDocuments};
 
@@ -95,12 +97,16 @@ struct PlacedFinding<'a> {
 }
 
 impl Line for PlacedFinding<'_> {
+    ghost line = { λ placed. placed_line placed.at.now placed.finding.now };
+
     fn push_line(&self, text: &mut Vec<u8>) -> Result<(), AllocError> {
         push_placed_finding(text, self.at, self.finding)
     }
 }
 
 impl Line for Finding {
+    ghost line = { line_of };
+
     fn push_line(&self, text: &mut Vec<u8>) -> Result<(), AllocError> {
         push_finding(text, self)
     }

@@ -47,6 +47,8 @@ impl EnvelopeNote {
 }
 
 impl Line for EnvelopeNote {
+    ghost line = { envelope_line };
+
     fn push_line(&self, text: &mut Vec<u8>) -> Result<(), AllocError> {
         EnvelopeNote::push_line(self, text)
     }

@@ -5,6 +5,7 @@
 mod bad_parts;
 mod delivered;
 mod details;
+mod each_line;
 mod expiry;
 pub mod fault_level;
 pub mod file_detail;

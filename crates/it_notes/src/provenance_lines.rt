@@ -1,6 +1,9 @@
 //! The lines on provenance, expectations and records that are not there.
+ghost use Rattle.it_prov_notes.specs.ProvenanceLines.{patterns_line};
+ghost use Rattle.it_notes.specs.NoteLines.{empty_provenance_line, laid_out_line, record_line};
+
 use crate::lines::Line;
-use crate::record_note::RecordNote;
+use crate::record_note::{RecordNote, push_words};
 use it_prov_notes::patterns::PatternsNote;
 use std::alloc::AllocError;
 
@@ -8,11 +11,15 @@ use std::alloc::AllocError;
 #[derive(Drop)]
 pub(crate) struct LaidOut;
 
+/// What is said of it.
+const LAID_OUT: &str =
+    "provenance: one envelope over several lines, where each line is to be one\n";
+
 impl Line for LaidOut {
+    ghost line = { λ note. laid_out_line };
+
     fn push_line(&self, text: &mut Vec<u8>) -> Result<(), AllocError> {
-        text.extend_from_slice(b"provenance: one envelope over several lines, ")?;
-        text.extend_from_slice(b"where each line is to be one\n")?;
-        Ok(())
+        push_words(text, LAID_OUT)
     }
 }
 
@@ -21,18 +28,24 @@ impl Line for LaidOut {
 pub(crate) struct EmptyProvenance;
 
 impl Line for EmptyProvenance {
+    ghost line = { λ note. empty_provenance_line };
+
     fn push_line(&self, text: &mut Vec<u8>) -> Result<(), AllocError> {
-        text.extend_from_slice(b"no provenance was given\n")
+        push_words(text, "no provenance was given\n")
     }
 }
 
 impl Line for PatternsNote {
+    ghost line = { patterns_line };
+
     fn push_line(&self, text: &mut Vec<u8>) -> Result<(), AllocError> {
         PatternsNote::push_line(self, text)
     }
 }
 
 impl Line for RecordNote {
+    ghost line = { record_line };
+
     fn push_line(&self, text: &mut Vec<u8>) -> Result<(), AllocError> {
         RecordNote::push_line(self, text)
     }

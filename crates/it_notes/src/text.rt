@@ -1,28 +1,22 @@
 //! The notes as lines for people.
+ghost use Rattle.std.specs.Prelude.{IfOk, OnOk, map};
+ghost use Rattle.std.specs.List.{flat_map};
+ghost use Rattle.std.specs.Option.{option_to_list};
+ghost use Rattle.it_notes.specs.NoteLines.{judged_lines, layout_lines, member_lines, note_lines};
+ghost use Rattle.it_notes.specs.NoteLines.{place_lines, refusal_lines, returned_line, rule_lines};
+ghost use Rattle.it_notes.specs.NoteLines.{step_lines};
+ghost use Rattle.it_notes.specs.ShownLines.{Adds, Hold};
+
 use crate::bad_parts::{NoLine, ReturnedLine};
-use crate::file_detail::{DetailedNote, FileDetail};
+use crate::file_detail::DetailedNote;
 use crate::layout_notes::LayoutNotes;
 use crate::lines::{Line, Lines};
 use crate::notes::{Notes, RefusalNotes, RuleNotes};
 use crate::place_notes::PlaceNotes;
 use crate::provenance_lines::{EmptyProvenance, LaidOut};
-use it_key_notes::unknown_key::UnknownKey;
-use it_member_notes::key_member_note::KeyMemberNote;
-use it_member_notes::layout_note::LayoutNote;
+use it_digest::sums::ListAlgorithm;
 use it_member_notes::member_notes::MemberNotes;
-use it_member_notes::rule_list_note::RuleListNote;
-use it_member_notes::unread_member::UnreadMember;
-use it_prov_notes::note::ProvenanceNote;
-use it_rule_notes::cause::CauseNote;
-use it_rule_notes::disagree_note::DisagreeNote;
-use it_rule_notes::expiry_note::ExpiryNote;
-use it_rule_notes::met_note::MetNote;
-use it_rule_notes::owner_note::OwnerNote;
-use it_rule_notes::payloads_note::PayloadsNote;
-use it_rule_notes::rule_note::RuleNote;
-use it_rule_notes::sublayout_note::SublayoutNote;
-use it_step_notes::folder_note::FolderNote;
-use it_step_notes::note::StepNote;
+use it_rule_notes::judged_note::JudgedNote;
 use std::alloc::{AllocError, Global};
 
 impl Notes {
@@ -32,23 +26,52 @@ impl Notes {
     /// # Errors
     ///
     /// `AllocError` where memory was refused.
-    pub fn lines(&self, alloc: Global) -> Result<Lines, AllocError> {
+    pub fn lines(&self, alloc: Global) -> Result<Lines, AllocError>
+        ensures { IfOk result (λ lines. Hold lines (note_lines self.now)) }
+    {
         let mut lines = Lines::new(alloc);
-        if let Some(place) = &self.place {
-            place.add_to(&mut lines)?;
-        }
-        self.refusal.add_to(&mut lines)?;
-        lines.add_all(self.keys.as_slice())?;
-        add_members(&mut lines, &self.policy)?;
-        if let Some(layout) = &self.layout {
-            layout.add_to(&mut lines)?;
-        }
+        self.add_to(&mut lines)?;
         Ok(lines)
+    }
+
+    fn add_to(&self, lines: &mut Lines) -> Result<(), AllocError>
+        ensures { OnOk result (Adds (note_lines self.now) lines.old lines.new) }
+    {
+        add_place(lines, &self.place)?;
+        self.refusal.add_to(lines)?;
+        lines.add_all(self.keys.as_slice())?;
+        add_members(lines, &self.policy)?;
+        add_layout(lines, &self.layout)?;
+        Ok(())
+    }
+}
+
+/// Adds the notes on the place of a sublayout, if there is one.
+fn add_place(lines: &mut Lines, place: &Option<PlaceNotes>) -> Result<(), AllocError>
+    ensures { OnOk result
+        (Adds (flat_map place_lines (option_to_list place.now)) lines.old lines.new) }
+{
+    match place {
+        Some(place) => place.add_to(lines),
+        None => Ok(()),
+    }
+}
+
+/// Adds the notes on a layout, if there is one.
+fn add_layout(lines: &mut Lines, layout: &Option<LayoutNotes>) -> Result<(), AllocError>
+    ensures { OnOk result
+        (Adds (flat_map layout_lines (option_to_list layout.now)) lines.old lines.new) }
+{
+    match layout {
+        Some(layout) => layout.add_to(lines),
+        None => Ok(()),
     }
 }
 
 impl RefusalNotes {
-    fn add_to(&self, lines: &mut Lines) -> Result<(), AllocError> {
+    fn add_to(&self, lines: &mut Lines) -> Result<(), AllocError>
+        ensures { OnOk result (Adds (refusal_lines self.now) lines.old lines.new) }
+    {
         match self {
             RefusalNotes::Nothing => Ok(()),
             RefusalNotes::Part(note) => lines.add(note),
@@ -72,47 +95,74 @@ impl RefusalNotes {
 }
 
 /// Adds the notes on a step, with the details of a file right after its note.
-fn add_step(lines: &mut Lines, notes: &[DetailedNote]) -> Result<(), AllocError> {
+fn add_step(lines: &mut Lines, notes: &[DetailedNote]) -> Result<(), AllocError>
+    ensures { OnOk result (Adds (flat_map step_lines notes.now) lines.old lines.new) }
+{
     for told in notes {
         lines.add(&told.note)?;
-        if let Some(detail) = &told.detail {
-            lines.add(detail)?;
-        }
+        add_some(lines, &told.detail)?;
     }
     Ok(())
 }
 
 impl PlaceNotes {
-    fn add_to(&self, lines: &mut Lines) -> Result<(), AllocError> {
-        if let Some(note) = &self.file {
-            lines.add(note)?;
-        }
-        if let Some(note) = &self.folder {
-            lines.add(note)?;
-        }
-        Ok(())
+    fn add_to(&self, lines: &mut Lines) -> Result<(), AllocError>
+        ensures { OnOk result (Adds (place_lines self.now) lines.old lines.new) }
+    {
+        add_some(lines, &self.file)?;
+        add_some(lines, &self.folder)
     }
 }
 
 impl RuleNotes {
-    fn add_to(&self, lines: &mut Lines) -> Result<(), AllocError> {
+    fn add_to(&self, lines: &mut Lines) -> Result<(), AllocError>
+        ensures { OnOk result (Adds (rule_lines self.now) lines.old lines.new) }
+    {
         lines.add(&self.rule)?;
-        if let Some(note) = &self.met {
-            lines.add(note)?;
-        }
-        if let Some(note) = &self.delivery {
-            lines.add(&note.met)?;
-            lines.add_all(note.causes.as_slice())?;
-        }
-        if let Some(algorithm) = self.returns {
-            lines.add(&ReturnedLine { algorithm })?;
-        }
+        add_some(lines, &self.met)?;
+        add_judged(lines, &self.delivery)?;
+        add_returned(lines, self.returns)?;
         Ok(())
     }
 }
 
+/// Adds the line of a note, if there is one.
+fn add_some<N: Line>(lines: &mut Lines, note: &Option<N>) -> Result<(), AllocError>
+    ensures { OnOk result (Adds (map N.line (option_to_list note.now)) lines.old lines.new) }
+{
+    match note {
+        Some(note) => lines.add(note),
+        None => Ok(()),
+    }
+}
+
+/// Adds what a rule on what is delivered met, and why.
+fn add_judged(lines: &mut Lines, judged: &Option<JudgedNote>) -> Result<(), AllocError>
+    ensures { OnOk result
+        (Adds (flat_map judged_lines (option_to_list judged.now)) lines.old lines.new) }
+{
+    let Some(note) = judged else {
+        return Ok(());
+    };
+    lines.add(&note.met)?;
+    lines.add_all(note.causes.as_slice())
+}
+
+/// Adds that the first line of a digest list ends with a carriage return.
+fn add_returned(lines: &mut Lines, returns: Option<ListAlgorithm>) -> Result<(), AllocError>
+    ensures { OnOk result
+        (Adds (map returned_line (option_to_list returns)) lines.old lines.new) }
+{
+    match returns {
+        Some(algorithm) => lines.add(&ReturnedLine { algorithm }),
+        None => Ok(()),
+    }
+}
+
 impl LayoutNotes {
-    fn add_to(&self, lines: &mut Lines) -> Result<(), AllocError> {
+    fn add_to(&self, lines: &mut Lines) -> Result<(), AllocError>
+        ensures { OnOk result (Adds (layout_lines self.now) lines.old lines.new) }
+    {
         lines.add_all(self.deliver.as_slice())?;
         add_members(lines, &self.members)?;
         lines.add_all(self.rules.as_slice())
@@ -120,114 +170,9 @@ impl LayoutNotes {
 }
 
 /// Adds the notes on members: those on key objects after the others.
-fn add_members(lines: &mut Lines, notes: &MemberNotes) -> Result<(), AllocError> {
+fn add_members(lines: &mut Lines, notes: &MemberNotes) -> Result<(), AllocError>
+    ensures { OnOk result (Adds (member_lines notes.now) lines.old lines.new) }
+{
     lines.add_all(notes.unread.as_slice())?;
     lines.add_all(notes.keys.as_slice())
-}
-
-impl Line for SublayoutNote {
-    fn push_line(&self, text: &mut Vec<u8>) -> Result<(), AllocError> {
-        SublayoutNote::push_line(self, text)
-    }
-}
-
-impl Line for FolderNote {
-    fn push_line(&self, text: &mut Vec<u8>) -> Result<(), AllocError> {
-        FolderNote::push_line(self, text)
-    }
-}
-
-impl Line for StepNote {
-    fn push_line(&self, text: &mut Vec<u8>) -> Result<(), AllocError> {
-        StepNote::push_line(self, text)
-    }
-}
-
-impl Line for FileDetail {
-    fn push_line(&self, text: &mut Vec<u8>) -> Result<(), AllocError> {
-        FileDetail::push_line(self, text)
-    }
-}
-
-impl Line for ProvenanceNote {
-    fn push_line(&self, text: &mut Vec<u8>) -> Result<(), AllocError> {
-        ProvenanceNote::push_line(self, text)
-    }
-}
-
-impl Line for ExpiryNote {
-    fn push_line(&self, text: &mut Vec<u8>) -> Result<(), AllocError> {
-        ExpiryNote::push_line(self, text)
-    }
-}
-
-impl Line for OwnerNote {
-    fn push_line(&self, text: &mut Vec<u8>) -> Result<(), AllocError> {
-        OwnerNote::push_line(self, text)
-    }
-}
-
-impl Line for UnknownKey {
-    fn push_line(&self, text: &mut Vec<u8>) -> Result<(), AllocError> {
-        UnknownKey::push_line(self, text)
-    }
-}
-
-impl Line for RuleNote {
-    fn push_line(&self, text: &mut Vec<u8>) -> Result<(), AllocError> {
-        RuleNote::push_line(self, text)
-    }
-}
-
-impl Line for MetNote {
-    fn push_line(&self, text: &mut Vec<u8>) -> Result<(), AllocError> {
-        MetNote::push_line(self, text)
-    }
-}
-
-impl Line for CauseNote {
-    fn push_line(&self, text: &mut Vec<u8>) -> Result<(), AllocError> {
-        CauseNote::push_line(self, text)
-    }
-}
-
-impl Line for UnreadMember {
-    fn push_line(&self, text: &mut Vec<u8>) -> Result<(), AllocError> {
-        let alloc = *text.allocator();
-        UnreadMember::push_line(self, alloc, text)
-    }
-}
-
-impl Line for KeyMemberNote {
-    fn push_line(&self, text: &mut Vec<u8>) -> Result<(), AllocError> {
-        let alloc = *text.allocator();
-        KeyMemberNote::push_line(self, alloc, text)
-    }
-}
-
-/// Only the policy's rules on what is delivered have such notes of their own.
-impl Line for RuleListNote {
-    fn push_line(&self, text: &mut Vec<u8>) -> Result<(), AllocError> {
-        let alloc = *text.allocator();
-        RuleListNote::push_deliver_line(self, alloc, text)
-    }
-}
-
-impl Line for LayoutNote {
-    fn push_line(&self, text: &mut Vec<u8>) -> Result<(), AllocError> {
-        let alloc = *text.allocator();
-        LayoutNote::push_line(self, alloc, text)
-    }
-}
-
-impl Line for PayloadsNote {
-    fn push_line(&self, text: &mut Vec<u8>) -> Result<(), AllocError> {
-        PayloadsNote::push_line(self, text)
-    }
-}
-
-impl Line for DisagreeNote {
-    fn push_line(&self, text: &mut Vec<u8>) -> Result<(), AllocError> {
-        DisagreeNote::push_line(self, text)
-    }
 }

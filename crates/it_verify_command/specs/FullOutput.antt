@@ -1,7 +1,7 @@
 -- The report as JSON with what is found and noted, and what stands behind it (this profile's
 -- choice).
-use Rattle.std.specs.Prelude.{◌≡◌, ℕ, List, [], ◌++◌, MatchOption, map}
-use Rattle.std.specs.Bool.{OnFalse}
+use Rattle.std.specs.Prelude.{◌≡◌, ℕ, List, [], ◌++◌, ◌-◌, MatchBool, MatchOption, length, map}
+use Rattle.std.specs.Prelude.{take}
 use Rattle.std.specs.List.{flat_map}
 use Rattle.it_check.specs.FindingName.{name_of}
 use Rattle.it_check.specs.FindingPlace.{document_of, pointer_of}
@@ -20,6 +20,10 @@ use Rattle.it_verify.specs.Verdict.{OnAccepted}
 use Rattle.it_verify.specs.declared.inputs.Inputs.{Inputs}
 use Rattle.it_vouched.specs.declared.vouched.Vouched.{Vouched}
 use Rattle.it_notes.specs.FoundInDocuments.{AreFoundInDocuments}
+use Rattle.it_notes.specs.NoteLines.{note_lines}
+use Rattle.it_notes.specs.Notes.{AreTrue}
+use Rattle.it_notes.specs.ShownLines.{shown_lines}
+use Rattle.it_notes.specs.declared.notes.Notes.{Notes}
 use Rattle.it_notes.specs.declared.found_in_documents.FoundInDocuments.{FoundInDocuments}
 use Rattle.it_verify_command.specs.SummaryOutput.{IsSummaryText}
 use Rattle.it_verify_command.specs.declared.output_form.OutputForm.{OutputForm}
@@ -54,15 +58,27 @@ pub record AreFindings (panel : Panel) (inputs : Inputs) (findings : List Report
   pub are_found : AreFoundInDocuments panel inputs found
   pub are_shown : findings ≡ all_shown found
 
+-- a line without its line feed
+abbrev pub without_feed : List ℕ → List ℕ
+without_feed line = take (length line - 1) line
+
+-- these are the lines of notes that are true of the verdict on the inputs, at most forty
+pub record AreNotes (panel : Panel) (inputs : Inputs) (verdict : Verdict) (lines : List (List ℕ))
+    : Type 0 where
+  pub notes : Notes
+  pub are_true : AreTrue panel inputs verdict notes
+  pub lines_are : lines ≡ map without_feed (shown_lines (note_lines notes))
+
 -- the text is the report of the verdict, where it accepts with what is found and with what stands
--- behind the delivery, and with some notes, or with none where it says that they are not all
+-- behind the delivery, and with the lines of notes, or with none where they are said not to be all
 pub record IsFullText (panel : Panel) (vouched : List Vouched) (inputs : Inputs)
     (verdict : Verdict) (text : List ℕ) : Type 0 where
   pub beside : Beside
   pub findings : OnAccepted verdict (AreFindings panel inputs beside.findings)
   pub evidence : OnAccepted verdict
       (MatchOption beside.evidence ⊥ (IsBehind panel vouched inputs))
-  pub notes : OnFalse beside.complete (beside.notes ≡ [])
+  pub notes : MatchBool beside.complete (AreNotes panel inputs verdict beside.notes)
+      (beside.notes ≡ [])
   pub text_is : text ≡ full_json_of verdict beside
 
 -- the text is the output for the verdict in a form

@@ -1,9 +1,9 @@
 //! The report as JSON, with what is found and noted and what stands behind it.
-ghost use Rattle.std.specs.Prelude.{◌≡◌, [], IfOk, MatchOption};
-ghost use Rattle.std.specs.Bool.{OnFalse};
+ghost use Rattle.std.specs.Prelude.{◌≡◌, [], IfOk, MatchBool, MatchOption};
 ghost use Rattle.it_evidence.specs.Evidence.{IsBehind};
 ghost use Rattle.it_verify.specs.Verdict.{OnAccepted};
-ghost use Rattle.it_verify_command.specs.FullOutput.{AreFindings, IsFullText};
+ghost use Rattle.it_verify_command.specs.FullOutput.{AreFindings, AreNotes, IsFullText};
+ghost use Rattle.it_verify_command.specs.FullOutput.{without_feed};
 ghost use Rattle.it_notes.specs.Known.{IsTold};
 
 use crate::shown_findings::shown_in_documents;
@@ -46,7 +46,9 @@ fn beside<C: Checks>(
     ensures findings { IfOk result (λ beside. OnAccepted told.now.verdict
         (AreFindings (C.panel asked.now.checks.now) asked.now.inputs.now beside.findings)) }
     ensures evidence { IfOk result (λ beside. beside.evidence ≡ behind) }
-    ensures notes { IfOk result (λ beside. OnFalse beside.complete (beside.notes ≡ [])) }
+    ensures notes { IfOk result (λ beside. MatchBool beside.complete
+        (AreNotes (C.panel asked.now.checks.now) asked.now.inputs.now told.now.verdict beside.notes)
+        (beside.notes ≡ [])) }
 {
     let findings = findings(alloc, told)?;
     let (notes, complete) = match notes(alloc, asked, told) {
@@ -68,14 +70,25 @@ fn notes<C: Checks>(
     told: &Told,
 ) -> Result<Vec<Sequence<u8>>, AllocError>
     requires { IsTold (C.panel asked.now.checks.now) asked.now.inputs.now told.now }
+    ensures { IfOk result (λ lines. AreNotes (C.panel asked.now.checks.now)
+        asked.now.inputs.now told.now.verdict lines.items) }
 {
-    let lines = Notes::of(alloc, asked.inputs, told, asked.checks)?.lines(alloc)?;
-    let mut notes = Vec::new(alloc);
-    for mut line in lines.into_lines()? {
-        line.pop();
-        notes.push(Sequence::from(line))?;
+    let notes = Notes::of(alloc, asked.inputs, told, asked.checks)?;
+    let kept = notes.lines(alloc)?;
+    let lines = kept.into_lines()?;
+    let mut texts = Vec::with_capacity(alloc, lines.len())?;
+    for line in lines.as_slice() {
+        texts.push(unended(alloc, line.as_slice())?)?;
     }
-    Ok(notes)
+    Ok(texts)
+}
+
+/// A line without its line feed.
+fn unended(alloc: Global, line: &[u8]) -> Result<Sequence<u8>, AllocError>
+    ensures { IfOk result (λ text. text ≡ without_feed line.now) }
+{
+    let end = line.len().saturating_sub(1);
+    Ok(Sequence::from(line[..end].to_vec(alloc)?))
 }
 
 /// What is found in the documents, where the verdict accepts; otherwise nothing.

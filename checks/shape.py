@@ -18,8 +18,8 @@ MOST_LINES = 250
 MOST_COLUMNS = 100
 MOST_BODY_LINES = 35
 MOST_PARAMETERS = 5
-# What checks of signatures are asked, in the form of their trait.
-OF_TRAIT = {"any_valid", "any_valid_in"}
+# What the traits of checks ask, in the form that their callers have.
+OF_TRAIT = {"any_valid"}
 # A line of a proof with nothing but two names, both given by the check.
 ANSWER = re.compile(r"\s*(abbrev )?(pub )?\S+ : goal\.\S+$")
 # A line with nothing but a number, such as those of a curve.

@@ -6,6 +6,7 @@ ghost use Rattle.it_dsse.specs.Panel.{panel_of};
 ghost use Rattle.it_dsse.specs.Signed.{tries_for};
 ghost use Rattle.it_dsse.specs.Vouched.{is_vouched, is_vouched_by, tries_by};
 
+use crate::asked::Asked;
 use crate::check::SignatureCheck;
 use crate::checks::Checks;
 use crate::envelope::Signature;
@@ -49,7 +50,12 @@ impl Checks for Boxed<'_> {
         id: &str,
         meter: &mut Meter,
     ) -> Result<bool, AllocError> {
-        Ok(any_valid_in(self.panel, *key, message, signatures, id, meter))
+        let asked = Asked {
+            message,
+            signatures,
+            id,
+        };
+        Ok(any_valid_in(self.panel, *key, &asked, meter))
     }
 
     fn name(&self, key: &(usize, u32)) -> KeyName {
@@ -76,24 +82,22 @@ pub(crate) fn key_in(
     None
 }
 
-/// Whether one of the signatures is admitted for an id and valid for a key, by the check at the
-/// key's place, for the message that the parts make. The meter counts those that the check tries.
+/// Whether one of the signatures is admitted and valid for a key, by the check at the key's place.
+/// The meter counts those that the check tries.
 pub(crate) fn any_valid_in(
     panel: &[Box<dyn SignatureCheck>],
     key: (usize, u32),
-    message: &[&[u8]],
-    signatures: &[Signature],
-    id: &str,
+    asked: &Asked<'_>,
     meter: &mut Meter,
 ) -> bool
     requires placed { key.0 < length panel.now }
-    ensures answer { result ≡ is_vouched (panel_of (map meaning panel.now)) id.now key
-        (joined message.now) signatures.now }
+    ensures answer { result ≡ is_vouched (panel_of (map meaning panel.now)) asked.now.id.now key
+        (joined asked.now.message.now) asked.now.signatures.now }
     ensures counted { meter.new ≡ raised meter.old (tries_for (panel_of (map meaning panel.now))
-        id.now key (joined message.now) signatures.now) }
+        asked.now.id.now key (joined asked.now.message.now) asked.now.signatures.now) }
 {
     let (place, number) = key;
-    any_valid(&panel[place], number, message, signatures, id, meter)
+    any_valid(&panel[place], number, asked, meter)
 }
 
 /// The number of a key, if the check knows it.
@@ -106,15 +110,13 @@ fn number_of(check: &Box<dyn SignatureCheck>, id: &str, object: &KeyObject) -> O
 fn any_valid(
     check: &Box<dyn SignatureCheck>,
     number: u32,
-    message: &[&[u8]],
-    signatures: &[Signature],
-    id: &str,
+    asked: &Asked<'_>,
     meter: &mut Meter,
 ) -> bool
-    ensures answer { result ≡ is_vouched_by (meaning check.now) id.now number (joined message.now)
-        signatures.now }
-    ensures counted { meter.new ≡ raised meter.old (tries_by (meaning check.now) id.now number
-        (joined message.now) signatures.now) }
+    ensures answer { result ≡ is_vouched_by (meaning check.now) asked.now.id.now number
+        (joined asked.now.message.now) asked.now.signatures.now }
+    ensures counted { meter.new ≡ raised meter.old (tries_by (meaning check.now) asked.now.id.now
+        number (joined asked.now.message.now) asked.now.signatures.now) }
 {
-    check.any_valid(number, message, signatures, id, meter)
+    check.any_valid(number, asked.message, asked.signatures, asked.id, meter)
 }

@@ -1,6 +1,7 @@
 //! DSSE envelopes (DSSE v1.0): reading, writing and signing them, and finding who signed them.
 #![tactic(auto)]
 
+pub mod asked;
 pub mod boxed;
 pub mod check;
 pub mod checks;

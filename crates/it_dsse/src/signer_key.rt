@@ -6,6 +6,7 @@ ghost use Rattle.it_dsse.specs.Panel.{panel_of};
 ghost use Rattle.it_dsse.specs.Signed.{AreThose, IsSigner, Signed, message_of, tries, tries_for};
 ghost use Rattle.it_dsse.specs.Vouched.{is_vouched};
 
+use crate::asked::Asked;
 use crate::boxed::{Boxed, any_valid_in, key_in};
 use crate::check::SignatureCheck;
 use crate::envelope::Envelope;
@@ -64,8 +65,12 @@ fn is_vouched_in(
     let body = envelope.payload.as_slice();
     let mut digits = LengthDigits::new();
     let message = parts_of(kind, body, &mut digits);
-    let signatures = envelope.signatures.as_slice();
-    any_valid_in(panel, key, &message, signatures, id, meter)
+    let asked = Asked {
+        message: &message,
+        signatures: envelope.signatures.as_slice(),
+        id,
+    };
+    any_valid_in(panel, key, &asked, meter)
 }
 
 /// Those of the given ids whose key signed the envelope, in the order given.

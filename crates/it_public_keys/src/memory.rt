@@ -17,6 +17,7 @@ use crate::found_key::FoundKey;
 use crate::named_key::{NamedKey, key_of};
 use crate::question::Question;
 use crate::remembered::Remembered;
+use it_dsse::asked::Asked;
 use it_dsse::envelope::Signature;
 use it_dsse::key_object::KeyObject;
 use it_dsse::meter::Meter;
@@ -89,25 +90,24 @@ impl Memory {
         }
     }
 
-    /// Whether one of the signatures is admitted for `id` and is a valid signature, by the key, of
-    /// the message that the parts make. Each signature is checked the first time.
+    /// Whether one of the signatures is admitted and valid, each checked the first time.
     pub(crate) fn any_valid(
         &self,
         key: &FoundKey,
-        message: &[&[u8]],
-        signatures: &[Signature],
-        id: &str,
+        asked: &Asked<'_>,
         meter: &mut Meter,
     ) -> Result<bool, AllocError>
-        ensures answer { IfOk result (λ valid. valid ≡ is_vouched_by public_key_check id.now
-            (number_of (found_key key.now)) (joined message.now) signatures.now) }
+        ensures answer { IfOk result (λ valid. valid ≡ is_vouched_by public_key_check
+            asked.now.id.now (number_of (found_key key.now)) (joined asked.now.message.now)
+            asked.now.signatures.now) }
         ensures counted { OnOk result (meter.new ≡ raised meter.old (tries_by public_key_check
-            id.now (number_of (found_key key.now)) (joined message.now) signatures.now)) }
+            asked.now.id.now (number_of (found_key key.now)) (joined asked.now.message.now)
+            asked.now.signatures.now)) }
         ensures kept { OnErr result (meter.new ≡ meter.old) }
     {
-        let question = self.question(key, message)?;
+        let question = self.question(key, asked.message)?;
         let mut tried = *meter;
-        let valid = self.any_answered(&question, signatures, id, &mut tried)?;
+        let valid = self.any_answered(&question, asked.signatures, asked.id, &mut tried)?;
         *meter = tried;
         Ok(valid)
     }

@@ -4,7 +4,9 @@ ghost use Rattle.it_dsse.specs.Panel.{panel_of};
 
 use crate::found_key::FoundKey;
 use crate::memory::Memory;
-use crate::rings::{any_valid, key_in};
+use crate::rings::key_in;
+use it_dsse::asked::Asked;
+use it_dsse::check::SignatureCheck;
 use it_dsse::checks::Checks;
 use it_dsse::envelope::Signature;
 use it_dsse::key_name::KeyName;
@@ -101,9 +103,16 @@ impl Checks for OwnChecks {
         match key {
             OwnKey::Ring(place, number) => {
                 let ring = &self.rings[*place];
-                Ok(any_valid(ring, *number, message, signatures, id, meter))
+                Ok(ring.any_valid(*number, message, signatures, id, meter))
             }
-            OwnKey::Public(key) => self.memory.any_valid(key, message, signatures, id, meter),
+            OwnKey::Public(key) => {
+                let asked = Asked {
+                    message,
+                    signatures,
+                    id,
+                };
+                self.memory.any_valid(key, &asked, meter)
+            }
         }
     }
 

@@ -8,8 +8,8 @@ pub returns-clause-answer : goal.returns-clause-answer
 returns-clause-answer c =
     let same = c.in_ok-question.ensures in
     c.in_ok-valid.ensures.answer
-    ∙ (λ i. list_any (λ signature. is_admitted c.args.id.now signature
-    && same signature.sig i) c.args.signatures.now)
+    ∙ (λ i. list_any (λ signature. is_admitted c.args.asked.now.id.now signature
+    && same signature.sig i) c.args.asked.now.signatures.now)
 
 pub returns-clause-counted : goal.returns-clause-counted
 returns-clause-counted c =
@@ -17,4 +17,4 @@ returns-clause-counted c =
     c.in_ok-valid.ensures.counted
     ∙ (λ i. raised c.args.meter.now
     (first_place (λ signature. same signature.sig i)
-    (filter (is_admitted c.args.id.now) c.args.signatures.now)))
+    (filter (is_admitted c.args.asked.now.id.now) c.args.asked.now.signatures.now)))

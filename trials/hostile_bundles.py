@@ -137,6 +137,16 @@ def chain(key, length, rest):
             for n in range(length)]
 
 
+def many_logs(count):
+    """A trusted root that has its log so many times, and 8 MiB of lines that each of these refuses."""
+    def change(delivery):
+        flooded(falsely_witnessed)(delivery)
+        root = public().sigstore.trusted_root()
+        root["tlogs"] *= count
+        delivery.write("trusted-root", line_of(root))
+    return change
+
+
 def many_authorities(count, length):
     """A trusted root of so many authorities of this length: the last one issued the leaf.
 
@@ -169,3 +179,5 @@ INPUTS = [
     ("an envelope of 50,000 signatures beside 400 bundles", beside_bundles(50_000, 400)),
     ("a trusted root of 64 authorities of 8 certificates", many_authorities(64, 8)),
 ]
+# Past the bound of checks for bundles there is no verdict.
+PAST_BOUND = [("8 MiB of 8 x 8 wrong log signatures, by 8 logs of one id", many_logs(8))]

@@ -12,6 +12,7 @@
 
 pub mod check_command;
 pub mod digest_command;
+mod judging;
 pub mod key_command;
 pub mod link_command;
 pub mod match_command;
@@ -25,4 +26,5 @@ pub mod signed_command;
 mod signed_trusted;
 pub mod statement_command;
 
+pub use judging::judged_or_fault;
 pub use remembering::Remembering;

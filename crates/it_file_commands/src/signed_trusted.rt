@@ -7,6 +7,7 @@ ghost use Rattle.it_command_checks.specs.CommandChecks.{command_checks};
 ghost use Rattle.it_file_commands.specs.BundleNotes.{NotesBundle, bundle_note, bundle_notes};
 ghost use Rattle.it_file_commands.specs.TrustedSigners.{ShowsTrustedSigners};
 
+use crate::judging::judged_or_fault;
 use it_base::writing::write_all_of;
 use it_command_checks::command_checks::CommandChecks;
 use it_disk::{Disk, Fault, read_keys, read_trusted_root};
@@ -25,8 +26,9 @@ use std::io::Write;
 ///
 /// # Errors
 ///
-/// The fault of a file that cannot be read, or is not what its option asks for, and `Fault::Run`
-/// where the output could not be written, or memory was refused.
+/// The fault of a file that cannot be read, or is not what its option asks for,
+/// `Fault::TooManyChecks`, and `Fault::Run` where the output could not be written, or memory was
+/// refused.
 pub(crate) fn run<R: Disk + AllocGlobal, W: Write, N: Write>(
     rt: &R,
     paths: &TrustedPaths,
@@ -46,7 +48,8 @@ pub(crate) fn run<R: Disk + AllocGlobal, W: Write, N: Write>(
     let keys = read_keys(rt, paths.keys.as_str())?;
     let root = read_trusted_root(rt, paths.root.as_str())?;
     let trust = Trust::of(alloc, &root)?;
-    let JudgedLines { vouched, silent } = JudgedLines::of_one(alloc, &trust, file)?;
+    let judged = JudgedLines::of_one(alloc, &trust, file);
+    let JudgedLines { vouched, silent } = judged_or_fault(&trust, judged)?;
     let checks = checks_with(alloc, vouched);
     let status = run_signers(alloc, file, &keys, &checks, out)?;
     note_silent(alloc, status, silent.as_slice(), notes);

@@ -8,6 +8,7 @@ ghost use Rattle.it_issued.specs.Issued.{IsUsable};
 ghost use Rattle.it_issued.specs.Signature.{Signs};
 
 use crate::signature::is_signed_by;
+use it_budget::SharedBudget;
 use it_certificate::{Certificate, is_chain, read_certificate};
 use it_log::Window;
 use it_trust_root::{Authority, RawBytes};
@@ -28,11 +29,12 @@ pub struct UsableAuthority<'b> {
 ///
 /// # Errors
 ///
-/// `AllocError` where memory was refused.
-pub fn read_authority(
+/// `AllocError` where memory was refused, or where the budget has no check left.
+pub fn read_authority<'b>(
     alloc: Global,
-    authority: &Authority,
-) -> Result<Option<UsableAuthority<'_>>, AllocError>
+    budget: &SharedBudget,
+    authority: &'b Authority,
+) -> Result<Option<UsableAuthority<'b>>, AllocError>
     ensures { IfOk result (λ found. MatchOption found
         ((certificates : List Facts) → IsUsable authority.now certificates → ⊥)
         (λ usable. IsUsable authority.now (map facts_of usable.certificates.items)
@@ -45,7 +47,7 @@ pub fn read_authority(
     if !is_chain(all) {
         return Ok(None);
     }
-    if !are_signed_in_turn(alloc, all)? {
+    if !are_signed_in_turn(alloc, budget, all)? {
         return Ok(None);
     }
     Ok(Some(UsableAuthority {
@@ -75,13 +77,22 @@ fn certificates_of(
 }
 
 /// Whether each certificate is signed by the key of the next.
-fn are_signed_in_turn(alloc: Global, certificates: &[Certificate<'_>]) -> Result<bool, AllocError>
+fn are_signed_in_turn(
+    alloc: Global,
+    budget: &SharedBudget,
+    certificates: &[Certificate<'_>],
+) -> Result<bool, AllocError>
     requires { All WasRead certificates.now }
     ensures { IfOk result (λ are. IsTrue are
         ↔ AreSignedInTurn Signs (map facts_of certificates.now)) }
 {
     for place in 1..certificates.len() {
-        if !is_signed_by(alloc, &certificates[place - 1], &certificates[place])? {
+        if !is_signed_by(
+            alloc,
+            budget,
+            &certificates[place - 1],
+            &certificates[place],
+        )? {
             return Ok(false);
         }
     }

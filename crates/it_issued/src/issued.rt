@@ -10,6 +10,7 @@ ghost use Rattle.it_log.specs.Window.{LiesIn};
 use crate::authority::UsableAuthority;
 use crate::shortfall::IssueShortfall;
 use crate::signature::is_signed_by;
+use it_budget::SharedBudget;
 use it_certificate::Certificate;
 use it_log::Window;
 use std::alloc::{AllocError, Global};
@@ -24,9 +25,10 @@ const NANOSECONDS: i128 = 1_000_000_000;
 ///
 /// # Errors
 ///
-/// `AllocError` where memory was refused.
+/// `AllocError` where memory was refused, or where the budget has no check left.
 pub fn issue_shortfall(
     alloc: Global,
+    budget: &SharedBudget,
     authority: &UsableAuthority<'_>,
     leaf: &Certificate<'_>,
     moment: u64,
@@ -52,7 +54,7 @@ pub fn issue_shortfall(
     if !are_valid(certificates, moment) {
         return Ok(Some(IssueShortfall::AuthorityTime));
     }
-    if !is_signed_by(alloc, leaf, issuer)? {
+    if !is_signed_by(alloc, budget, leaf, issuer)? {
         return Ok(Some(IssueShortfall::Signature));
     }
     Ok(None)

@@ -2,10 +2,10 @@
 //! certificate log (RFC 6962), or which condition it misses.
 //!
 //! ```
-//! let Some(authority) = read_authority(alloc, listed)? else { .. };
-//! let missed = issue_shortfall(alloc, &authority, &leaf.certificate, moment)?;
+//! let Some(authority) = read_authority(alloc, budget, listed)? else { .. };
+//! let missed = issue_shortfall(alloc, budget, &authority, &leaf.certificate, moment)?;
 //! let issuer = &authority.certificates[0];
-//! let unlogged = log_shortfall(alloc, logs, issuer, &leaf.certificate)?;
+//! let unlogged = log_shortfall(alloc, budget, logs, issuer, &leaf.certificate)?;
 //! ```
 #![tactic(auto)]
 
@@ -13,6 +13,7 @@ mod authority;
 mod issued;
 mod logged;
 mod shortfall;
+mod shown;
 mod signature;
 
 pub use authority::{UsableAuthority, read_authority};

@@ -10,7 +10,9 @@ ghost use Rattle.it_issued.specs.Logged.{IsByLog};
 ghost use Rattle.it_issued.specs.inside.Tied.{AreShort, IsTiedItem, Tied};
 
 use crate::shortfall::LogShortfall;
+use crate::shown::Shown;
 use crate::signature::key_info;
+use it_budget::SharedBudget;
 use it_certificate::{Certificate, TIMESTAMPS, value_of};
 use it_certificate_log::{Timestamp, bare_bytes, items_of, signed_text, timestamp_in};
 use it_log::{Log, Window};
@@ -20,15 +22,6 @@ use std::alloc::{AllocError, Global};
 
 /// Nanoseconds in a millisecond.
 const NANOSECONDS: i128 = 1_000_000;
-
-/// What a log was shown.
-#[derive(Drop)]
-struct Shown<'b> {
-    /// The key of the issuer, as a SubjectPublicKeyInfo.
-    issuer_key: &'b [u8],
-    /// The bytes of the certificate without its timestamps.
-    bare: &'b [u8],
-}
 
 /// What a timestamp may have to do with a log.
 #[derive(Clone, Copy)]
@@ -50,9 +43,10 @@ enum Tie {
 ///
 /// # Errors
 ///
-/// `AllocError` where memory was refused.
+/// `AllocError` where memory was refused, or where the budget has no check left.
 pub fn log_shortfall(
     alloc: Global,
+    budget: &SharedBudget,
     logs: &[RootLog],
     issuer: &Certificate<'_>,
     leaf: &Certificate<'_>,
@@ -72,7 +66,11 @@ pub fn log_shortfall(
     let issuer_key = key.as_slice();
     let bare = bare_bytes(alloc, leaf)?;
     let bare = bare.as_slice();
-    let shown = Shown { issuer_key, bare };
+    let shown = Shown {
+        budget,
+        issuer_key,
+        bare,
+    };
     let items = items.as_slice();
     shortfall_of_items(alloc, logs, &shown, items)
 }
@@ -137,52 +135,80 @@ fn is_tied_item(
         return Ok(false);
     };
     let text = signed_text(alloc, shown.issuer_key, shown.bare, &timestamp)?;
-    Ok(is_tied_to_one(logs, text.as_slice(), &timestamp, tie))
+    is_tied_to_one(shown.budget, logs, text.as_slice(), &timestamp, tie)
 }
 
 /// Whether a timestamp is so tied to one of the logs.
-fn is_tied_to_one(logs: &[RootLog], text: &[u8], timestamp: &Timestamp<'_>, tie: Tie) -> bool
+fn is_tied_to_one(
+    budget: &SharedBudget,
+    logs: &[RootLog],
+    text: &[u8],
+    timestamp: &Timestamp<'_>,
+    tie: Tie,
+) -> Result<bool, AllocError>
     requires { length timestamp.now.moment.now ≡ 8 }
-    ensures { IsTrue result
-        ↔ Any (OfUsable (Tied tie text.now (stamp_of timestamp.now))) logs.now }
+    ensures { IfOk result (λ is. IsTrue is
+        ↔ Any (OfUsable (Tied tie text.now (stamp_of timestamp.now))) logs.now) }
 {
     for log in logs {
-        if is_tied_to_listed(log, text, timestamp, tie) {
-            return true;
+        if is_tied_to_listed(budget, log, text, timestamp, tie)? {
+            return Ok(true);
         }
     }
-    false
+    Ok(false)
 }
 
-fn is_tied_to_listed(log: &RootLog, text: &[u8], timestamp: &Timestamp<'_>, tie: Tie) -> bool
+fn is_tied_to_listed(
+    budget: &SharedBudget,
+    log: &RootLog,
+    text: &[u8],
+    timestamp: &Timestamp<'_>,
+    tie: Tie,
+) -> Result<bool, AllocError>
     requires { length timestamp.now.moment.now ≡ 8 }
-    ensures { IsTrue result ↔ OfUsable (Tied tie text.now (stamp_of timestamp.now)) log.now }
+    ensures { IfOk result (λ is. IsTrue is
+        ↔ OfUsable (Tied tie text.now (stamp_of timestamp.now)) log.now) }
 {
     match log {
-        RootLog::Usable(log) => is_tied(log, text, timestamp, tie),
-        RootLog::PassedOver(_) => false,
+        RootLog::Usable(log) => is_tied(budget, log, text, timestamp, tie),
+        RootLog::PassedOver(_) => Ok(false),
     }
 }
 
-fn is_tied(log: &Log, text: &[u8], timestamp: &Timestamp<'_>, tie: Tie) -> bool
+fn is_tied(
+    budget: &SharedBudget,
+    log: &Log,
+    text: &[u8],
+    timestamp: &Timestamp<'_>,
+    tie: Tie,
+) -> Result<bool, AllocError>
     requires { length timestamp.now.moment.now ≡ 8 }
-    ensures { IsTrue result ↔ Tied tie text.now (stamp_of timestamp.now) log.now }
+    ensures { IfOk result (λ is. IsTrue is
+        ↔ Tied tie text.now (stamp_of timestamp.now) log.now) }
 {
     match tie {
-        Tie::Id => has_id(log, timestamp),
-        Tie::Window => is_in_window(log, timestamp),
-        Tie::Signature => is_by_log(log, text, timestamp),
+        Tie::Id => Ok(has_id(log, timestamp)),
+        Tie::Window => Ok(is_in_window(log, timestamp)),
+        Tie::Signature => is_by_log(budget, log, text, timestamp),
     }
 }
 
-fn is_by_log(log: &Log, text: &[u8], timestamp: &Timestamp<'_>) -> bool
+/// Whether a timestamp is by a log. Its signature is checked last.
+fn is_by_log(
+    budget: &SharedBudget,
+    log: &Log,
+    text: &[u8],
+    timestamp: &Timestamp<'_>,
+) -> Result<bool, AllocError>
     requires { length timestamp.now.moment.now ≡ 8 }
-    ensures { IsTrue result ↔ IsByLog text.now (stamp_of timestamp.now) log.now }
+    ensures { IfOk result (λ is. IsTrue is
+        ↔ IsByLog text.now (stamp_of timestamp.now) log.now) }
 {
     if !is_in_window(log, timestamp) {
-        return false;
+        return Ok(false);
     }
-    is_signature(log.key.key(), &[text], timestamp.signature)
+    budget.take()?;
+    Ok(is_signature(log.key.key(), &[text], timestamp.signature))
 }
 
 fn is_in_window(log: &Log, timestamp: &Timestamp<'_>) -> bool

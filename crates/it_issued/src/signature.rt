@@ -5,6 +5,7 @@ ghost use Rattle.it_certificate.specs.Certificate.{facts_of};
 ghost use Rattle.it_certificate_log.specs.Bare.{WasRead};
 ghost use Rattle.it_issued.specs.Signature.{IsByP256, IsByP384, Signs, SignsFor, key_info};
 
+use it_budget::SharedBudget;
 use it_certificate::{Certificate, Curve, are_tied};
 use it_der::append_element;
 use std::alloc::{AllocError, Global};
@@ -17,9 +18,10 @@ const SEQUENCE: u8 = 48;
 ///
 /// # Errors
 ///
-/// `AllocError` where memory was refused.
+/// `AllocError` where memory was refused, or where the budget has no check left.
 pub fn is_signed_by(
     alloc: Global,
+    budget: &SharedBudget,
     certificate: &Certificate<'_>,
     issuer: &Certificate<'_>,
 ) -> Result<bool, AllocError>
@@ -32,6 +34,7 @@ pub fn is_signed_by(
         return Ok(false);
     }
     let info = key_info(alloc, issuer)?;
+    budget.take()?;
     Ok(is_by(
         issuer.key.curve,
         info.as_slice(),

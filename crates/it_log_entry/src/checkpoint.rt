@@ -9,6 +9,7 @@ ghost use Rattle.it_log_entry.specs.CheckpointMisses.{AreTreeLines};
 ghost use Rattle.it_log_entry.specs.inside.Lines.{IsSignedBy, texts_of};
 ghost use Rattle.it_log_entry.specs.inside.NoCheckpoint.{IsNoCheckpoint};
 
+use crate::counted_log::CountedLog;
 use crate::note::{cut_at_empty, ended_lines, note_lines};
 use crate::note_shortfall::NoteShortfall;
 use crate::number::is_size_line;
@@ -22,17 +23,17 @@ use sha2::{Digest, Sha256};
 use std::alloc::{AllocError, Global};
 
 /// What keeps a note from being a checkpoint of a tree with `size` entries and this root of which
-/// one signature is the key's; `None` where it is one.
+/// one signature is the log's; `None` where it is one.
 pub(crate) fn checkpoint_shortfall(
     alloc: Global,
-    key: &LogKey,
+    log: &CountedLog<'_>,
     note: &str,
     size: u64,
     root: &[u8; 32],
 ) -> Result<Option<NoteShortfall>, AllocError>
     ensures { IfOk result (λ missed. MatchOption missed
-        (IsSignedCheckpoint key.now note.now size root.now)
-        (IsNoCheckpoint key.now note.now size root.now)) }
+        (IsSignedCheckpoint log.now.log.now.key note.now size root.now)
+        (IsNoCheckpoint log.now.log.now.key note.now size root.now)) }
 {
     let Some(all) = note_lines(alloc, note.as_bytes())? else {
         return Ok(Some(NoteShortfall::Form));
@@ -49,7 +50,7 @@ pub(crate) fn checkpoint_shortfall(
     if !is_checkpoint(alloc, lines, size, root)? {
         return Ok(Some(NoteShortfall::Root));
     }
-    if !is_signed_by(alloc, key, lines, signatures.as_slice())? {
+    if !is_signed_by(alloc, log, lines, signatures.as_slice())? {
         return Ok(Some(NoteShortfall::Signature));
     }
     Ok(None)
@@ -97,33 +98,41 @@ fn is_of_root(alloc: Global, line: &[u8], root: &[u8; 32]) -> Result<bool, Alloc
     Ok(line == text.as_bytes())
 }
 
-/// Whether one of the signatures of a note is the key's.
+/// Whether one of the signatures of a note is the log's.
 fn is_signed_by(
     alloc: Global,
-    key: &LogKey,
+    log: &CountedLog<'_>,
     lines: &[&[u8]],
     signatures: &[Sequence<u8>],
 ) -> Result<bool, AllocError>
     ensures { IfOk result (λ is. IsTrue is
-        ↔ IsSignedBy key.now (texts_of lines.now) signatures.now) }
+        ↔ IsSignedBy log.now.log.now.key (texts_of lines.now) signatures.now) }
 {
     let text = ended_lines(alloc, lines)?;
     for signature in signatures {
-        if is_note_signature(key, text.as_slice(), signature.as_slice()) {
+        if is_note_signature(log, text.as_slice(), signature.as_slice())? {
             return Ok(true);
         }
     }
     Ok(false)
 }
 
-/// Whether a signature of a note is the key's.
-fn is_note_signature(key: &LogKey, text: &[u8], signature: &[u8]) -> bool
-    ensures { IsTrue result ↔ IsNoteSignature key.now text.now signature.now }
+/// Whether a signature of a note is the log's. Without the hint about its key it is not, and is not
+/// checked.
+fn is_note_signature(
+    log: &CountedLog<'_>,
+    text: &[u8],
+    signature: &[u8],
+) -> Result<bool, AllocError>
+    ensures { IfOk result (λ is. IsTrue is
+        ↔ IsNoteSignature log.now.log.now.key text.now signature.now) }
 {
+    let key = &log.log.key;
     if !has_hint(key, signature) {
-        return false;
+        return Ok(false);
     }
-    is_signature(key.key(), &[text], &signature[4..])
+    log.budget.take()?;
+    Ok(is_signature(key.key(), &[text], &signature[4..]))
 }
 
 /// Whether a signature of a note has at least 4 bytes, and they are the hint about the key.

@@ -8,6 +8,7 @@ mod body_parts;
 mod body_shortfall;
 mod certificate_text;
 mod checkpoint;
+mod counted_log;
 mod encoded;
 mod entry;
 mod hash;
@@ -26,6 +27,7 @@ mod stamp;
 mod vouching;
 
 pub use body_shortfall::BodyShortfall;
+pub use counted_log::CountedLog;
 pub use entry::LogEntry;
 pub use inclusion_proof::InclusionProof;
 pub use kind::EntryKind;

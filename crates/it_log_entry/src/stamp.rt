@@ -2,21 +2,24 @@
 ghost use Rattle.std.specs.Prelude.{◌↔◌, ◌≡◌, ◌++◌, IfOk, OnOk, IsTrue, string_bytes, decimal};
 ghost use Rattle.it_log_entry.specs.Stamp.{IsPromised, stamp_text};
 
+use crate::counted_log::CountedLog;
 use crate::entry::LogEntry;
 use it_base::base64_text::base64_text_of;
-use it_p256::{PublicKey, is_signature};
+use it_p256::is_signature;
 use std::alloc::{AllocError, Global};
 
-/// Whether the promise of an entry is by the key: its signature of the entry's body, time, log and
+/// Whether the promise of an entry is by the log: its signature of the entry's body, time, log and
 /// index.
 pub(crate) fn is_promised(
     alloc: Global,
-    key: &PublicKey,
+    log: &CountedLog<'_>,
     entry: &LogEntry,
 ) -> Result<bool, AllocError>
-    ensures { IfOk result (λ is. IsTrue is ↔ IsPromised key.now entry.now) }
+    ensures { IfOk result (λ is. IsTrue is ↔ IsPromised log.now.log.now.key entry.now) }
 {
     let text = stamp(alloc, entry)?;
+    log.budget.take()?;
+    let key = log.log.key.key();
     Ok(is_signature(key, &[text.as_slice()], entry.promise.as_slice()))
 }
 

@@ -7,12 +7,13 @@ ghost use Rattle.it_log_entry.specs.inside.ProofMisses.{ProofMisses};
 
 use crate::agreement::body_shortfall;
 use crate::checkpoint::checkpoint_shortfall;
+use crate::counted_log::CountedLog;
 use crate::entry::LogEntry;
 use crate::logged::Logged;
 use crate::read_kind::is_read_kind;
 use crate::shortfall::EntryShortfall;
 use crate::stamp::is_promised;
-use it_log::{Log, LogKey, Window};
+use it_log::{Log, Window};
 use it_merkle::{leads, leaf_hash};
 use std::alloc::{AllocError, Global};
 
@@ -25,22 +26,23 @@ const NANOSECONDS: i128 = 1_000_000_000;
 ///
 /// # Errors
 ///
-/// `AllocError` where memory was refused.
+/// `AllocError` where memory was refused, or where the budget has no check left.
 pub fn entry_shortfall(
     alloc: Global,
-    log: &Log,
+    log: &CountedLog<'_>,
     needs_proof: bool,
     entry: &LogEntry,
     logged: &Logged<'_>,
 ) -> Result<Option<EntryShortfall>, AllocError>
     ensures { IfOk result (λ missed. MatchOption missed
-        (EntryVouches log.now needs_proof entry.now logged.now)
-        (EntryMisses log.now needs_proof entry.now logged.now)) }
+        (EntryVouches log.now.log.now needs_proof entry.now logged.now)
+        (EntryMisses log.now.log.now needs_proof entry.now logged.now)) }
 {
-    if !is_of(log, entry) {
+    let of = log.log;
+    if !is_of(of, entry) {
         return Ok(Some(EntryShortfall::Log));
     }
-    if !counts(&log.window, entry.time) {
+    if !counts(&of.window, entry.time) {
         return Ok(Some(EntryShortfall::Time));
     }
     if !is_read_kind(&entry.kind) {
@@ -49,10 +51,10 @@ pub fn entry_shortfall(
     if let Some(part) = body_shortfall(alloc, &entry.kind, entry.body.as_slice(), logged)? {
         return Ok(Some(EntryShortfall::Body(part)));
     }
-    if let Some(missed) = proof_shortfall(alloc, &log.key, needs_proof, entry)? {
+    if let Some(missed) = proof_shortfall(alloc, log, needs_proof, entry)? {
         return Ok(Some(missed));
     }
-    if !is_promised(alloc, log.key.key(), entry)? {
+    if !is_promised(alloc, log, entry)? {
         return Ok(Some(EntryShortfall::Promise));
     }
     Ok(None)
@@ -63,17 +65,17 @@ pub fn entry_shortfall(
 ///
 /// # Errors
 ///
-/// `AllocError` where memory was refused.
+/// `AllocError` where memory was refused, or where the budget has no check left.
 #[tactic(auto, using(crate::proofs::Shortfalls::none_where_vouching))]
 pub fn vouches(
     alloc: Global,
-    log: &Log,
+    log: &CountedLog<'_>,
     needs_proof: bool,
     entry: &LogEntry,
     logged: &Logged<'_>,
 ) -> Result<bool, AllocError>
     ensures { IfOk result (λ vouches. IsTrue vouches
-        ↔ EntryVouches log.now needs_proof entry.now logged.now) }
+        ↔ EntryVouches log.now.log.now needs_proof entry.now logged.now) }
 {
     let missed = entry_shortfall(alloc, log, needs_proof, entry, logged)?;
     Ok(missed.is_none())
@@ -96,12 +98,13 @@ fn counts(window: &Window, time: u64) -> bool
 /// The condition on its proof that an entry misses.
 fn proof_shortfall(
     alloc: Global,
-    key: &LogKey,
+    log: &CountedLog<'_>,
     needs_proof: bool,
     entry: &LogEntry,
 ) -> Result<Option<EntryShortfall>, AllocError>
-    ensures { IfOk result (λ missed. MatchOption missed (IsIncluded key.now needs_proof entry.now)
-        (ProofMisses key.now needs_proof entry.now)) }
+    ensures { IfOk result (λ missed. MatchOption missed
+        (IsIncluded log.now.log.now.key needs_proof entry.now)
+        (ProofMisses log.now.log.now.key needs_proof entry.now)) }
 {
     let proof = match &entry.proof {
         Some(proof) => proof,
@@ -114,7 +117,7 @@ fn proof_shortfall(
         return Ok(Some(EntryShortfall::Inclusion));
     }
     let checkpoint = proof.checkpoint.as_str();
-    match checkpoint_shortfall(alloc, key, checkpoint, proof.size, root)? {
+    match checkpoint_shortfall(alloc, log, checkpoint, proof.size, root)? {
         Some(missed) => Ok(Some(EntryShortfall::Checkpoint(missed))),
         None => Ok(None),
     }

@@ -6,6 +6,7 @@ ghost use Rattle.it_program.specs.inside.SilentNotes.{AreSilentBy, AreSilentIn};
 use it_base::sequence::Sequence;
 use it_base::text::Text;
 use it_disk::{Disk, Fault, LeftOut, bytes_if_given, read_trusted_root};
+use it_file_commands::judged_or_fault;
 use it_limits::lines_within_limit;
 use it_unwrapped::unwrapped_lines;
 use it_vouched::{JudgedLines, SilentLine, VouchedLines};
@@ -69,7 +70,8 @@ fn judge<R: Disk + AllocGlobal>(rt: &R, path: &Option<Text>, read: &[u8]) -> Res
     };
     let root = read_trusted_root(rt, path.as_str())?;
     let trust = Trust::of(rt.alloc(), &root)?;
-    let JudgedLines { vouched, silent } = JudgedLines::of(rt.alloc(), &trust, read)?;
+    let judged = JudgedLines::of(rt.alloc(), &trust, read);
+    let JudgedLines { vouched, silent } = judged_or_fault(&trust, judged)?;
     Ok(Judged {
         vouched: Some(vouched),
         silent,

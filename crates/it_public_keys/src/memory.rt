@@ -11,18 +11,18 @@ ghost use Rattle.it_public_keys.specs.OwnKeys.{found_key};
 ghost use Rattle.it_public_keys.specs.Validity.{is_signature_with};
 ghost use Rattle.it_public_keys.specs.inside.Questions.{check_of};
 
-use crate::budget::Budget;
 use crate::for_many::ForMany;
 use crate::found_key::FoundKey;
 use crate::named_key::{NamedKey, key_of};
 use crate::question::Question;
 use crate::remembered::Remembered;
+use it_budget::SharedBudget;
 use it_dsse::asked::Asked;
 use it_dsse::envelope::Signature;
 use it_dsse::key_object::KeyObject;
 use it_dsse::meter::Meter;
 use std::alloc::{AllocError, Global};
-use std::cell::{Cell, RefCell};
+use std::cell::RefCell;
 use std::rc::Rc;
 
 /// Remembers keys and answers, and counts the answers that are computed. Where there is no more
@@ -31,7 +31,7 @@ use std::rc::Rc;
 pub(crate) struct Memory {
     alloc: Global,
     remembered: RefCell<Remembered>,
-    budget: Cell<Budget>,
+    budget: SharedBudget,
     for_many: ForMany,
 }
 
@@ -41,7 +41,7 @@ impl Memory {
         Memory {
             alloc,
             remembered: RefCell::new(Remembered::new(alloc)),
-            budget: Cell::new(Budget::new(most_checks)),
+            budget: SharedBudget::new(most_checks),
             for_many: ForMany::new(),
         }
     }
@@ -168,25 +168,15 @@ impl Memory {
         if let Some(valid) = self.answer(question, sig) {
             return Ok(valid);
         }
-        if !self.take_check() {
-            return Err(AllocError);
-        }
+        self.budget.take()?;
         let valid = question.check(sig);
         self.keep_answer(question, sig, valid);
         Ok(valid)
     }
 
-    /// Takes one check from the budget, and tells whether there was one left to take.
-    fn take_check(&self) -> bool {
-        let mut budget = self.budget.get();
-        let is_left = budget.take();
-        self.budget.set(budget);
-        is_left
-    }
-
     /// Whether a check was refused because the budget had none left.
     pub(crate) fn is_spent(&self) -> bool {
-        self.budget.get().is_spent()
+        self.budget.is_spent()
     }
 
     /// What signatures of the message by the key are asked.

@@ -6,22 +6,11 @@ ghost use Rattle.it_vouches.specs.inside.Shows.{AllShow, EntryShows, ListedShows
 
 use crate::attestation::Attestation;
 use crate::entry_log::shortfall_by_logs;
+use crate::question::Question;
 use crate::trust::Trust;
 use it_bundle::ListedEntry;
-use it_certificate::Certificate;
-use it_log_entry::{LogEntry, Logged};
+use it_log_entry::LogEntry;
 use std::alloc::{AllocError, Global};
-
-/// What is to be attested.
-#[derive(Drop)]
-pub(crate) struct Question<'q> {
-    /// What an entry is to be about.
-    pub(crate) logged: Logged<'q>,
-    /// Whether it needs an inclusion proof.
-    pub(crate) needs_proof: bool,
-    /// The certificate of the key that signed.
-    pub(crate) leaf: &'q Certificate<'q>,
-}
 
 /// How far a leaf comes by the entries: whether, by one of them, a log vouches for what is logged,
 /// and at which such entry's time the leaf was issued and promised to be logged; otherwise the
@@ -29,7 +18,7 @@ pub(crate) struct Question<'q> {
 ///
 /// # Errors
 ///
-/// `AllocError` where memory was refused.
+/// `AllocError` where memory was refused, or where the budget has no check left.
 pub(crate) fn attestation_by(
     alloc: Global,
     trust: &Trust<'_>,
@@ -77,9 +66,7 @@ fn attestation_by_entry(
     ensures { IfOk result (EntryShows trust.now question.now.needs_proof question.now.logged
         (facts_of question.now.leaf.now) entry.now) }
 {
-    let logs = trust.logs();
-    let needs_proof = question.needs_proof;
-    if let Some(missed) = shortfall_by_logs(alloc, logs, needs_proof, entry, &question.logged)? {
+    if let Some(missed) = shortfall_by_logs(alloc, trust.budget(), trust.logs(), question, entry)? {
         return Ok(Attestation::NoLog(missed));
     }
     if let Some(missed) = trust.issuer_shortfall(alloc, question.leaf, entry.time)? {

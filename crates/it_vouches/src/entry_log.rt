@@ -6,7 +6,9 @@ ghost use Rattle.it_vouches.specs.Logged.{VouchesBy};
 ghost use Rattle.it_vouches.specs.inside.Further.{IsFurther};
 ghost use Rattle.it_vouches.specs.inside.Shows.{LacksLog};
 
-use it_log_entry::{EntryShortfall, LogEntry, Logged, entry_shortfall};
+use crate::question::Question;
+use it_budget::SharedBudget;
+use it_log_entry::{CountedLog, EntryShortfall, LogEntry, entry_shortfall};
 use it_trust_root::RootLog;
 use std::alloc::{AllocError, Global};
 
@@ -16,21 +18,21 @@ use std::alloc::{AllocError, Global};
 ///
 /// # Errors
 ///
-/// `AllocError` where memory was refused.
+/// `AllocError` where memory was refused, or where the budget has no check left.
 pub(crate) fn shortfall_by_logs(
     alloc: Global,
+    budget: &SharedBudget,
     logs: &[RootLog],
-    needs_proof: bool,
+    question: &Question<'_>,
     entry: &LogEntry,
-    logged: &Logged<'_>,
 ) -> Result<Option<EntryShortfall>, AllocError>
     ensures { IfOk result (λ missed. MatchOption missed
-        (Any (VouchesBy needs_proof entry.now logged.now) logs.now)
-        (LacksLog logs.now needs_proof logged.now entry.now)) }
+        (Any (VouchesBy question.now.needs_proof entry.now question.now.logged) logs.now)
+        (LacksLog logs.now question.now.needs_proof question.now.logged entry.now)) }
 {
     let mut furthest = EntryShortfall::Log;
     for log in logs {
-        match shortfall_by_listed(alloc, log, needs_proof, entry, logged)? {
+        match shortfall_by_listed(alloc, budget, log, question, entry)? {
             Some(missed) => furthest = further(furthest, missed),
             None => return Ok(None),
         }
@@ -40,17 +42,20 @@ pub(crate) fn shortfall_by_logs(
 
 fn shortfall_by_listed(
     alloc: Global,
+    budget: &SharedBudget,
     log: &RootLog,
-    needs_proof: bool,
+    question: &Question<'_>,
     entry: &LogEntry,
-    logged: &Logged<'_>,
 ) -> Result<Option<EntryShortfall>, AllocError>
     ensures { IfOk result (λ missed. MatchOption missed
-        (VouchesBy needs_proof entry.now logged.now log.now)
-        (MissesWith needs_proof entry.now logged.now log.now)) }
+        (VouchesBy question.now.needs_proof entry.now question.now.logged log.now)
+        (MissesWith question.now.needs_proof entry.now question.now.logged log.now)) }
 {
     match log {
-        RootLog::Usable(log) => entry_shortfall(alloc, log, needs_proof, entry, logged),
+        RootLog::Usable(log) => {
+            let log = CountedLog { log, budget };
+            entry_shortfall(alloc, &log, question.needs_proof, entry, &question.logged)
+        }
         RootLog::PassedOver(_) => Ok(Some(EntryShortfall::Log)),
     }
 }

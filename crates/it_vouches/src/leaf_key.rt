@@ -3,6 +3,7 @@ ghost use Rattle.std.specs.Prelude.{◌≡◌, ◌↔◌, IfOk, IsTrue};
 ghost use Rattle.it_certificate_log.specs.Bare.{WasRead};
 ghost use Rattle.it_issued.specs.Signature.{IsByP256, key_info};
 
+use it_budget::SharedBudget;
 use it_certificate::Certificate;
 use it_der::append_element;
 use it_p256::{PublicKey, is_signature};
@@ -16,9 +17,10 @@ const SEQUENCE: u8 = 48;
 ///
 /// # Errors
 ///
-/// `AllocError` where memory was refused.
+/// `AllocError` where memory was refused, or where the budget has no check left.
 pub(crate) fn is_by_leaf(
     alloc: Global,
+    budget: &SharedBudget,
     leaf: &Certificate<'_>,
     text: &[u8],
     signature: &[u8],
@@ -30,6 +32,7 @@ pub(crate) fn is_by_leaf(
 {
     let mut info = Vec::new(alloc);
     append_element(&mut info, SEQUENCE, leaf.parts.key)?;
+    budget.take()?;
     Ok(is_by(info.as_slice(), text, signature))
 }
 

@@ -9,11 +9,16 @@ ghost use Rattle.it_vouches.specs.inside.Usable.{AreUsable};
 
 use crate::issuer_shortfall::IssuerShortfall;
 use it_base::optional::push_some;
+use it_budget::SharedBudget;
 use it_certificate::Certificate;
 use it_issued::{IssueShortfall, UsableAuthority, issue_shortfall, log_shortfall, read_authority};
 use it_trust_root::{Authority, RootLog, TrustedRoot};
 use std::alloc::{AllocError, Global};
 use std::marker::Model;
+
+/// How many signatures are checked with a trusted root at most: for all bundles, and for the
+/// certificates of its authorities. Of a bundle that vouches they are five, where it has one entry.
+pub const MOST_CHECKS: u64 = 50_000;
 
 /// A trusted root, with those of its authorities that can be used: their certificates are read and
 /// their signatures checked once, whatever number of bundles is looked at. To a contract it is the
@@ -22,6 +27,7 @@ use std::marker::Model;
 pub struct Trust<'r> {
     root: &'r TrustedRoot,
     authorities: Vec<UsableAuthority<'r>>,
+    budget: SharedBudget,
 }
 
 impl<'r> Model for Trust<'r> {
@@ -36,7 +42,7 @@ impl<'r> Model for Trust<'r> {
 }
 
 impl<'r> Trust<'r> {
-    /// The trusted root, with its authorities read.
+    /// The trusted root, with its authorities read, and leave to check `MOST_CHECKS` signatures.
     ///
     /// # Errors
     ///
@@ -44,8 +50,38 @@ impl<'r> Trust<'r> {
     pub fn of(alloc: Global, root: &'r TrustedRoot) -> Result<Trust<'r>, AllocError>
         ensures { IfOk result (λ trust. trust ≡ root.now) }
     {
-        let authorities = usable_authorities(alloc, root.authorities.as_slice())?;
-        Ok(Trust { root, authorities })
+        Trust::within(alloc, root, MOST_CHECKS)
+    }
+
+    /// The trusted root, with its authorities read, and leave to check `most_checks` signatures.
+    ///
+    /// # Errors
+    ///
+    /// `AllocError` where memory was refused, or where its authorities have more certificates.
+    pub fn within(
+        alloc: Global,
+        root: &'r TrustedRoot,
+        most_checks: u64,
+    ) -> Result<Trust<'r>, AllocError>
+        ensures { IfOk result (λ trust. trust ≡ root.now) }
+    {
+        let budget = SharedBudget::new(most_checks);
+        let authorities = usable_authorities(alloc, &budget, root.authorities.as_slice())?;
+        Ok(Trust {
+            root,
+            authorities,
+            budget,
+        })
+    }
+
+    /// Whether more signatures would have had to be checked than may be. Takes no memory.
+    pub fn is_spent(&self) -> bool {
+        self.budget.is_spent()
+    }
+
+    /// The budget, of which each check of a signature takes one. Takes no memory.
+    pub(crate) fn budget(&self) -> &SharedBudget {
+        &self.budget
     }
 
     /// The logs of entries. Takes no memory.
@@ -60,7 +96,7 @@ impl<'r> Trust<'r> {
     ///
     /// # Errors
     ///
-    /// `AllocError` where memory was refused.
+    /// `AllocError` where memory was refused, or where the budget has no check left.
     pub(crate) fn issuer_shortfall(
         &self,
         alloc: Global,
@@ -72,43 +108,61 @@ impl<'r> Trust<'r> {
             (IsAttested self.now (facts_of leaf.now) moment)
             (LacksIssuer self.now (facts_of leaf.now) moment)) }
     {
-        let logs = self.root.certificate_logs.as_slice();
-        shortfall_by_authorities(alloc, self.authorities.as_slice(), logs, leaf, moment)
+        let issuers = Issuers {
+            authorities: self.authorities.as_slice(),
+            logs: self.root.certificate_logs.as_slice(),
+            budget: &self.budget,
+        };
+        shortfall_by_authorities(alloc, &issuers, leaf, moment)
     }
 }
 
 /// The authorities that can be used, in their order.
-fn usable_authorities(
+fn usable_authorities<'r>(
     alloc: Global,
-    listed: &[Authority],
-) -> Result<Vec<UsableAuthority<'_>>, AllocError>
+    budget: &SharedBudget,
+    listed: &'r [Authority],
+) -> Result<Vec<UsableAuthority<'r>>, AllocError>
     ensures { IfOk result (λ usable. AreUsable listed.now usable.items) }
 {
     let mut usable = Vec::new(alloc);
     for authority in listed {
-        push_some(&mut usable, read_authority(alloc, authority)?)?;
+        push_some(&mut usable, read_authority(alloc, budget, authority)?)?;
     }
     Ok(usable)
+}
+
+/// Who may have issued a leaf.
+#[derive(Drop)]
+struct Issuers<'t, 'r> {
+    /// The authorities.
+    authorities: &'t [UsableAuthority<'r>],
+    /// The certificate logs, one of which must have promised to log it.
+    logs: &'t [RootLog],
+    /// The budget, of which each check of a signature takes one.
+    budget: &'t SharedBudget,
 }
 
 /// The furthest condition that a leaf misses where none of the authorities issued it and was
 /// promised that it is logged.
 fn shortfall_by_authorities(
     alloc: Global,
-    authorities: &[UsableAuthority<'_>],
-    logs: &[RootLog],
+    issuers: &Issuers<'_, '_>,
     leaf: &Certificate<'_>,
     moment: u64,
 ) -> Result<Option<IssuerShortfall>, AllocError>
-    requires authorities_read { All (λ a. All WasRead a.certificates.items) authorities.now }
+    requires authorities_read { All (λ a. All WasRead a.certificates.items)
+        issuers.now.authorities.now }
     requires leaf_read { WasRead leaf.now }
     ensures { IfOk result (λ missed. MatchOption missed
-        (Any (IsIssuedBy logs.now (facts_of leaf.now) moment) authorities.now)
-        (IsMissedByEach logs.now (facts_of leaf.now) moment authorities.now)) }
+        (Any (IsIssuedBy issuers.now.logs.now (facts_of leaf.now) moment)
+        issuers.now.authorities.now)
+        (IsMissedByEach issuers.now.logs.now (facts_of leaf.now) moment
+        issuers.now.authorities.now)) }
 {
     let mut furthest = IssuerShortfall::Issue(IssueShortfall::Name);
-    for authority in authorities {
-        match shortfall_by(alloc, authority, logs, leaf, moment)? {
+    for authority in issuers.authorities {
+        match shortfall_by(alloc, issuers, authority, leaf, moment)? {
             Some(missed) => furthest = furthest.further(missed),
             None => return Ok(None),
         }
@@ -119,24 +173,24 @@ fn shortfall_by_authorities(
 /// The condition that a leaf misses with an authority, if it misses one.
 fn shortfall_by(
     alloc: Global,
+    issuers: &Issuers<'_, '_>,
     authority: &UsableAuthority<'_>,
-    logs: &[RootLog],
     leaf: &Certificate<'_>,
     moment: u64,
 ) -> Result<Option<IssuerShortfall>, AllocError>
     requires authority_read { All WasRead authority.now.certificates.items }
     requires leaf_read { WasRead leaf.now }
     ensures { IfOk result (λ missed. MatchOption missed
-        (IsIssuedBy logs.now (facts_of leaf.now) moment authority.now)
-        (IsMissedBy logs.now (facts_of leaf.now) moment authority.now)) }
+        (IsIssuedBy issuers.now.logs.now (facts_of leaf.now) moment authority.now)
+        (IsMissedBy issuers.now.logs.now (facts_of leaf.now) moment authority.now)) }
 {
     let Some(issuer) = authority.certificates.as_slice().first() else {
         return Ok(Some(IssuerShortfall::Issue(IssueShortfall::Name)));
     };
-    if let Some(missed) = issue_shortfall(alloc, authority, leaf, moment)? {
+    if let Some(missed) = issue_shortfall(alloc, issuers.budget, authority, leaf, moment)? {
         return Ok(Some(IssuerShortfall::Issue(missed)));
     }
-    if let Some(missed) = log_shortfall(alloc, logs, issuer, leaf)? {
+    if let Some(missed) = log_shortfall(alloc, issuers.budget, issuers.logs, issuer, leaf)? {
         return Ok(Some(IssuerShortfall::Log(missed)));
     }
     Ok(None)

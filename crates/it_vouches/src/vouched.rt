@@ -12,13 +12,15 @@ ghost use Rattle.it_vouches.specs.inside.Brought.{brought_of};
 ghost use Rattle.it_vouches.specs.inside.Shows.{ClaimShows};
 
 use crate::attestation::Attestation;
-use crate::attested::{Question, attestation_by};
+use crate::attested::attestation_by;
 use crate::claim::{Claim, claim_of, needs_proof};
 use crate::judgement::Judged;
 use crate::leaf_key::is_by_leaf;
+use crate::question::Question;
 use crate::shortfall::Shortfall;
 use crate::trust::Trust;
 use crate::voucher::Voucher;
+use it_budget::SharedBudget;
 use it_bundle::SigstoreBundle;
 use it_certificate::{Certificate, read_leaf};
 use it_dsse::envelope::Envelope;
@@ -31,7 +33,7 @@ use std::alloc::{AllocError, Global};
 ///
 /// # Errors
 ///
-/// `AllocError` where memory was refused.
+/// `AllocError` where memory was refused, or where no check of a signature is left (`MOST_CHECKS`).
 pub fn vouched_identity(
     alloc: Global,
     trust: &Trust<'_>,
@@ -52,7 +54,7 @@ pub fn vouched_identity(
 ///
 /// # Errors
 ///
-/// `AllocError` where memory was refused.
+/// `AllocError` where memory was refused, or where no check of a signature is left (`MOST_CHECKS`).
 pub fn judged(
     alloc: Global,
     trust: &Trust<'_>,
@@ -77,7 +79,14 @@ pub fn judged(
         Attestation::NoIssuer(missed) => return Ok(Judged::Misses(Shortfall::Issuer(missed))),
         Attestation::Attested(time) => time,
     };
-    if !is_envelope_signed(alloc, &bundle.envelope, &leaf.certificate, claim.signature)? {
+    let signature = claim.signature;
+    if !is_envelope_signed(
+        alloc,
+        trust.budget(),
+        &bundle.envelope,
+        &leaf.certificate,
+        signature,
+    )? {
         return Ok(Judged::Misses(Shortfall::Signature));
     }
     Ok(Judged::For(Voucher { identity, time }))
@@ -106,6 +115,7 @@ fn attestation_of_claim(
 /// Whether a signature of an envelope is by the key of a leaf.
 fn is_envelope_signed(
     alloc: Global,
+    budget: &SharedBudget,
     envelope: &Envelope,
     leaf: &Certificate<'_>,
     signature: &[u8],
@@ -120,7 +130,7 @@ fn is_envelope_signed(
         envelope.payload_type.as_str(),
         envelope.payload.as_slice(),
     )?;
-    is_by_leaf(alloc, leaf, message.as_slice(), signature)
+    is_by_leaf(alloc, budget, leaf, message.as_slice(), signature)
 }
 
 /// What an entry is to be about: the signature of the envelope, and what it was made with.

@@ -1,4 +1,4 @@
-use Rattle.std.proofs.Common.{◌↔◌, IsTrue, sym, subst}
+use Rattle.std.proofs.Common.{◌↔◌, IfOk, IsTrue, sym, subst}
 use Rattle.it_certificate_log.specs.Timestamp.{stamp_of}
 use Rattle.it_issued.specs.declared.logged.Tie.{Tie}
 use Rattle.it_issued.specs.inside.Tied.{Tied}
@@ -11,5 +11,6 @@ returns-in-Window c =
 
 pub returns-in-Signature : goal.returns-in-Signature
 returns-in-Signature c =
-    subst (λ (t : Tie). IsTrue c.is_by_log.result ↔ Tied t c.args.text.now (stamp_of c.args.timestamp.now) c.args.log.now)
+    subst (λ (t : Tie). IfOk c.is_by_log.result (λ is. IsTrue is
+    ↔ Tied t c.args.text.now (stamp_of c.args.timestamp.now) c.args.log.now))
     (sym c.in-Signature.is) c.is_by_log.ensures

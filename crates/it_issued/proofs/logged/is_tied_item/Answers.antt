@@ -1,4 +1,5 @@
 use Rattle.std.proofs.Common.{◌∙◌}
+use Rattle.std.proofs.lemmas.Result.{IfOk-weaker}
 use Rattle.it_certificate_log.specs.Timestamp.{stamp_of}
 use Rattle.it_issued.proofs.Logging.{no_stamp, tied_is}
 use Rattle.it_issued.proofs.logged.is_tied_item.Goals as goal
@@ -15,6 +16,7 @@ is_tied_to_one-requires c = c.in-Some.ensures.moment_size
 
 pub returns : goal.returns
 returns c =
+    IfOk-weaker c.is_tied_to_one.result _ _ (λ is test.
     tied_is c.args.logs.now c.args.shown.now.issuer_key.now c.args.shown.now.bare.now c.args.item.now c.as_slice.result.now
-    c.args.tie (stamp_of c.in-Some.timestamp) c.is_tied_to_one.result c.in-Some.ensures
-    (c.as_slice.ensures.value ∙ c.in_ok-text.ensures) c.is_tied_to_one.ensures
+    c.args.tie (stamp_of c.in-Some.timestamp) is c.in-Some.ensures
+    (c.as_slice.ensures.value ∙ c.in_ok-text.ensures) test) c.is_tied_to_one.ensures

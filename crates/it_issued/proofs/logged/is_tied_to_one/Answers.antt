@@ -12,7 +12,7 @@ loop-log-preserved c =
     let Of = OfUsable (Tied c.args.tie c.args.text.now (stamp_of c.args.timestamp.now)) in
     All-more (λ log. ¬ OfUsable (Tied c.args.tie c.args.text.now (stamp_of c.args.timestamp.now)) log) c.args.logs.now
     c.loop-log.log-index c.log-item.result c.loop-log-test.true c.loop-log.invariant
-    (λ is. let yes = c.is_tied_to_listed.ensures.1 (subst Of (sym c.log-item.is) is) in cc)
+    (λ is. let yes = c.in_ok-is_tied_to_listed.ensures.1 (subst Of (sym c.log-item.is) is) in cc)
 
 pub returns : goal.returns
 returns c =

@@ -11,11 +11,11 @@ pub loop-signature-preserved : goal.loop-signature-preserved
 loop-signature-preserved c =
     let text = ended (texts_of c.args.lines.now) in
     let test = rw (c.as_slice.ensures.value, c.in_ok-text.ensures, c.as_slice-in-loop-signature.ensures)
-    at c.is_note_signature.ensures in
-    All-more (λ signature. ¬ IsNoteSignature c.args.key.now text signature) c.args.signatures.now
+    at c.in_ok-is_note_signature.ensures in
+    All-more (λ signature. ¬ IsNoteSignature c.args.log.now.log.now.key text signature) c.args.signatures.now
     c.loop-signature.signature-index c.signature-item.result c.loop-signature-test.true
     c.loop-signature.invariant
-    (λ is. let yes = test.1 (subst (IsNoteSignature c.args.key.now text) (sym c.signature-item.is) is) in
+    (λ is. let yes = test.1 (subst (IsNoteSignature c.args.log.now.log.now.key text) (sym c.signature-item.is) is) in
     cc)
 
 pub returns : goal.returns
@@ -25,4 +25,4 @@ returns c =
     take_all c.loop-signature.signature-index c.args.signatures.now (omega arith) in
     let none = rw all at c.loop-signature.invariant in
     refused _ (λ any. none any.0 any.1 any.2
-    (subst (IsNoteSignature c.args.key.now text) (sym any.3) any.4))
+    (subst (IsNoteSignature c.args.log.now.log.now.key text) (sym any.3) any.4))

@@ -8,5 +8,5 @@ use Rattle.it_log_entry.proofs.checkpoint.is_signed_by.Given as goal
 -- none of the signatures so far is the key's
 abbrev pub invariant-loop-signature : goal.invariant-loop-signature
 invariant-loop-signature l =
-    All (λ signature. ¬ IsNoteSignature l.fn.key (ended (texts_of l.fn.lines)) signature)
+    All (λ signature. ¬ IsNoteSignature l.fn.log.log.now.key (ended (texts_of l.fn.lines)) signature)
     (take l.signature-index l.signatures)

@@ -9,33 +9,33 @@ use Rattle.it_vouches.proofs.entry_log.shortfall_by_logs.Goals as goal
 
 pub loop-log-init : goal.loop-log-init
 loop-log-init c = (
-  none_first (VouchesBy c.args.needs_proof c.args.entry.now c.args.logged.now),
-  furthest_first place_of shortfalls.Log (MissesWith c.args.needs_proof c.args.entry.now c.args.logged.now),
+  none_first (VouchesBy c.args.question.now.needs_proof c.args.entry.now c.args.question.now.logged),
+  furthest_first place_of shortfalls.Log (MissesWith c.args.question.now.needs_proof c.args.entry.now c.args.question.now.logged),
 )
 
 pub loop-log-preserved : goal.loop-log-preserved
 loop-log-preserved c =
     let log = c.log-item.result in
     let misses = rw c.in-Some.is at c.in_ok-missed.ensures in (
-      none_more (VouchesBy c.args.needs_proof c.args.entry.now c.args.logged.now) c.args.logs.now c.loop-log.log-index log
-          c.loop-log-test.true c.log-item.is (none_by c.args.needs_proof c.args.entry.now c.args.logged.now log c.in-Some.missed misses)
+      none_more (VouchesBy c.args.question.now.needs_proof c.args.entry.now c.args.question.now.logged) c.args.logs.now c.loop-log.log-index log
+          c.loop-log-test.true c.log-item.is (none_by c.args.question.now.needs_proof c.args.entry.now c.args.question.now.logged log c.in-Some.missed misses)
           c.loop-log.invariant.0,
-      furthest_next place_of shortfalls.Log (MissesWith c.args.needs_proof c.args.entry.now c.args.logged.now) c.args.logs.now
+      furthest_next place_of shortfalls.Log (MissesWith c.args.question.now.needs_proof c.args.entry.now c.args.question.now.logged) c.args.logs.now
           c.loop-log.log-index log c.loop-log.furthest c.in-Some.missed c.further-furthest.result c.loop-log-test.true c.log-item.is
           c.loop-log.invariant.1 misses
-          (λ t other. one_with c.args.needs_proof c.args.entry.now c.args.logged.now log c.in-Some.missed t misses other)
+          (λ t other. one_with c.args.question.now.needs_proof c.args.entry.now c.args.question.now.logged log c.in-Some.missed t misses other)
           c.further-furthest.ensures,
     )
 
 pub returns-in-None : goal.returns-in-None
 returns-in-None c =
-    any_at (VouchesBy c.args.needs_proof c.args.entry.now c.args.logged.now) c.args.logs.now c.loop-log.log-index
+    any_at (VouchesBy c.args.question.now.needs_proof c.args.entry.now c.args.question.now.logged) c.args.logs.now c.loop-log.log-index
     c.log-item.result c.loop-log-test.true c.log-item.is (rw c.in-None.is at c.in_ok-missed.ensures)
 
 pub returns : goal.returns
 returns c = record {
-  no_log = not_any (VouchesBy c.args.needs_proof c.args.entry.now c.args.logged.now) c.args.logs.now c.loop-log.log-index
+  no_log = not_any (VouchesBy c.args.question.now.needs_proof c.args.entry.now c.args.question.now.logged) c.args.logs.now c.loop-log.log-index
       c.loop-log-test.false c.loop-log.invariant.0;
-  furthest = furthest_all place_of shortfalls.Log (MissesWith c.args.needs_proof c.args.entry.now c.args.logged.now)
+  furthest = furthest_all place_of shortfalls.Log (MissesWith c.args.question.now.needs_proof c.args.entry.now c.args.question.now.logged)
       c.args.logs.now c.loop-log.log-index c.loop-log.furthest c.loop-log-test.false c.loop-log.invariant.1;
 }

@@ -9,5 +9,5 @@ use Rattle.it_vouches.proofs.entry_log.shortfall_by_logs.Given as goal
 -- none of the logs so far vouches, and this is the furthest condition that the entry misses
 abbrev pub invariant-loop-log : goal.invariant-loop-log
 invariant-loop-log l =
-    NoneIn (VouchesBy l.needs_proof l.entry l.logged) (take l.log-index l.logs)
-    × IsFurthest place_of (MissesWithOne (take l.log-index l.logs) l.needs_proof l.entry l.logged) l.furthest
+    NoneIn (VouchesBy l.question.needs_proof l.entry l.question.logged) (take l.log-index l.logs)
+    × IsFurthest place_of (MissesWithOne (take l.log-index l.logs) l.question.needs_proof l.entry l.question.logged) l.furthest

@@ -5,7 +5,7 @@ use Rattle.it_vouches.proofs.trust.shortfall_by.Goals as goal
 
 pub returns-in_default : goal.returns-in_default
 returns-in_default c =
-    no_certificate c.args.logs.now (facts_of c.args.leaf.now) c.args.moment c.args.authority.now
+    no_certificate c.args.issuers.now.logs.now (facts_of c.args.leaf.now) c.args.moment c.args.authority.now
     (rw c.as_slice.ensures.value at c.in_default.ensures.value)
 
 pub issue_shortfall-requires : goal.issue_shortfall-requires
@@ -25,12 +25,12 @@ log_shortfall-requires c =
 pub returns-in-Some-3 : goal.returns-in-Some-3
 returns-in-Some-3 c =
     let first = rw c.as_slice.ensures.value at c.in-Some.ensures.value in
-    log_missed_by c.args.logs.now (facts_of c.args.leaf.now) c.args.moment c.args.authority.now c.in-Some.issuer.now
+    log_missed_by c.args.issuers.now.logs.now (facts_of c.args.leaf.now) c.args.moment c.args.authority.now c.in-Some.issuer.now
     c.in-Some-3.missed first (rw c.in_default-2.is at c.in_ok-missed.ensures)
     (rw c.in-Some-3.is at c.in_ok-missed-2.ensures)
 
 pub returns : goal.returns
 returns c =
     let first = rw c.as_slice.ensures.value at c.in-Some.ensures.value in
-    issued_by_is c.args.logs.now (facts_of c.args.leaf.now) c.args.moment c.args.authority.now c.in-Some.issuer.now first
+    issued_by_is c.args.issuers.now.logs.now (facts_of c.args.leaf.now) c.args.moment c.args.authority.now c.in-Some.issuer.now first
     (rw c.in_default-2.is at c.in_ok-missed.ensures) (rw c.in_default-3.is at c.in_ok-missed-2.ensures)

@@ -11,8 +11,8 @@ use Rattle.it_vouches.proofs.trust.shortfall_by_authorities.Goals as goal
 pub loop-authority-init : goal.loop-authority-init
 loop-authority-init c =
     let leaf = facts_of c.args.leaf.now in (
-      none_first (IsIssuedBy c.args.logs.now leaf c.args.moment),
-      furthest_first issuer_place (Issue Name) (IsMissedBy c.args.logs.now leaf c.args.moment),
+      none_first (IsIssuedBy c.args.issuers.now.logs.now leaf c.args.moment),
+      furthest_first issuer_place (Issue Name) (IsMissedBy c.args.issuers.now.logs.now leaf c.args.moment),
     )
 
 pub loop-authority-preserved : goal.loop-authority-preserved
@@ -20,19 +20,19 @@ loop-authority-preserved c =
     let leaf = facts_of c.args.leaf.now in
     let authority = c.authority-item.result in
     let misses = rw c.in-Some.is at c.in_ok-missed.ensures in (
-      none_more (IsIssuedBy c.args.logs.now leaf c.args.moment) c.args.authorities.now c.loop-authority.authority-index authority
+      none_more (IsIssuedBy c.args.issuers.now.logs.now leaf c.args.moment) c.args.issuers.now.authorities.now c.loop-authority.authority-index authority
           c.loop-authority-test.true c.authority-item.is
-          (none_issued_by c.args.logs.now leaf c.args.moment authority c.in-Some.missed misses) c.loop-authority.invariant.0,
-      furthest_next issuer_place (Issue Name) (IsMissedBy c.args.logs.now leaf c.args.moment) c.args.authorities.now
+          (none_issued_by c.args.issuers.now.logs.now leaf c.args.moment authority c.in-Some.missed misses) c.loop-authority.invariant.0,
+      furthest_next issuer_place (Issue Name) (IsMissedBy c.args.issuers.now.logs.now leaf c.args.moment) c.args.issuers.now.authorities.now
           c.loop-authority.authority-index authority c.loop-authority.furthest c.in-Some.missed c.further-furthest.result
           c.loop-authority-test.true c.authority-item.is c.loop-authority.invariant.1 misses
-          (λ t other. one_missed_by c.args.logs.now leaf c.args.moment authority c.in-Some.missed t misses other)
+          (λ t other. one_missed_by c.args.issuers.now.logs.now leaf c.args.moment authority c.in-Some.missed t misses other)
           c.further-furthest.ensures,
     )
 
 pub returns-in-None : goal.returns-in-None
 returns-in-None c =
-    any_at (IsIssuedBy c.args.logs.now (facts_of c.args.leaf.now) c.args.moment) c.args.authorities.now
+    any_at (IsIssuedBy c.args.issuers.now.logs.now (facts_of c.args.leaf.now) c.args.moment) c.args.issuers.now.authorities.now
     c.loop-authority.authority-index c.authority-item.result c.loop-authority-test.true c.authority-item.is
     (rw c.in-None.is at c.in_ok-missed.ensures)
 
@@ -40,8 +40,8 @@ pub returns : goal.returns
 returns c =
     let leaf = facts_of c.args.leaf.now in
     record {
-      none = not_any (IsIssuedBy c.args.logs.now leaf c.args.moment) c.args.authorities.now c.loop-authority.authority-index
+      none = not_any (IsIssuedBy c.args.issuers.now.logs.now leaf c.args.moment) c.args.issuers.now.authorities.now c.loop-authority.authority-index
           c.loop-authority-test.false c.loop-authority.invariant.0;
-      furthest = furthest_all issuer_place (Issue Name) (IsMissedBy c.args.logs.now leaf c.args.moment) c.args.authorities.now
+      furthest = furthest_all issuer_place (Issue Name) (IsMissedBy c.args.issuers.now.logs.now leaf c.args.moment) c.args.issuers.now.authorities.now
           c.loop-authority.authority-index c.loop-authority.furthest c.loop-authority-test.false c.loop-authority.invariant.1;
     }

@@ -11,6 +11,6 @@ use Rattle.it_vouches.proofs.trust.shortfall_by_authorities.Given as goal
 -- none of the authorities so far issued the leaf, and this is the furthest condition that it misses
 abbrev pub invariant-loop-authority : goal.invariant-loop-authority
 invariant-loop-authority l =
-    NoneIn (IsIssuedBy l.logs (facts_of l.leaf) l.moment) (take l.authority-index l.authorities)
+    NoneIn (IsIssuedBy l.issuers.logs.now (facts_of l.leaf) l.moment) (take l.authority-index l.issuers.authorities.now)
     × IsFurthest issuer_place
-    (IsMissedByOne (Issue Name) (IsMissedBy l.logs (facts_of l.leaf) l.moment) (take l.authority-index l.authorities)) l.furthest
+    (IsMissedByOne (Issue Name) (IsMissedBy l.issuers.logs.now (facts_of l.leaf) l.moment) (take l.authority-index l.issuers.authorities.now)) l.furthest

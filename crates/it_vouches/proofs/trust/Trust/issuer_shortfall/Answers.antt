@@ -14,4 +14,4 @@ returns c =
     let all = c.self.inside in
     rw (← c.self.view_is) (IfOk-weaker c.shortfall_by_authorities.result _ _ (λ o test.
     attested_is all.root.now all.authorities.items (facts_of c.args.leaf.now) c.args.moment c.self.invariant o
-    (rw (c.as_slice-logs.ensures, c.as_slice.ensures.value) at test)) c.shortfall_by_authorities.ensures)
+    (rw (c.as_slice-2.ensures, c.as_slice.ensures.value) at test)) c.shortfall_by_authorities.ensures)

@@ -1,10 +1,10 @@
-//! How many signatures are checked at most.
+//! Budgets of checks.
 ghost use Rattle.std.specs.Bool.{OnFalse, OnTrue};
 ghost use Rattle.std.specs.Prelude.{◌≡◌, ◌↔◌, ◌+◌, ◌<◌, ◌≤◌, IsTrue, false, true};
 
-/// How many signatures were checked in a run, and how many may be.
+/// How many signatures were checked in a run, and how many may be: never more than that.
 #[derive(Clone, Copy)]
-pub(crate) struct Budget {
+pub struct Budget {
     /// How many may be checked.
     most: u64,
     /// How many were checked.
@@ -16,7 +16,7 @@ pub(crate) struct Budget {
 
 impl Budget {
     /// A budget of which nothing is spent.
-    pub(crate) fn new(most: u64) -> Budget
+    pub fn new(most: u64) -> Budget
         ensures most { result.most ≡ most }
         ensures none { result.checked ≡ 0 }
         ensures left { result.spent ≡ false }
@@ -29,7 +29,7 @@ impl Budget {
     }
 
     /// Takes one check, and tells whether there was one left to take.
-    pub(crate) fn take(&mut self) -> bool
+    pub fn take(&mut self) -> bool
         ensures answer { IsTrue result ↔ (self.old.checked < self.old.most) }
         ensures most { self.new.most ≡ self.old.most }
         ensures taken { OnTrue result (self.new.checked ≡ self.old.checked + 1) }
@@ -47,7 +47,7 @@ impl Budget {
     }
 
     /// Whether a check was refused.
-    pub(crate) fn is_spent(&self) -> bool
+    pub fn is_spent(&self) -> bool
         ensures { result ≡ self.now.spent }
     {
         self.spent

@@ -43,7 +43,8 @@ MISSES = [
     ("certificate-base64", "its certificate has no bytes, or not in base64"),
     ("no-entry", "it has no entry of a transparency log"),
     ("many-entries", "it has more than 8 entries"),
-    ("certificate-form certificate-critical", "its certificate is not read"),
+    ("certificate-critical",
+     "its certificate is not read: a critical extension of it is not known"),
     ("leaf-key", "its certificate has a key of another curve"),
     ("leaf-usage", "its certificate is not for signatures"),
     ("leaf-purpose", "its certificate is not for code signing"),
@@ -79,9 +80,13 @@ MISSES = [
     ("sct-signature", "that log did not sign the certificate's timestamp"),
     ("envelope-signature", "the certificate's key did not sign the envelope"),
 ]
-# What it says of some cases: a list has no members, and a chain of none has no first certificate.
+# What it says of some cases: of certificates that are not read, by where; a list has no members, and
+# a chain of none has no first certificate.
 NO_IDENTITY = "its certificate's name or issuer is empty or has more than 512 bytes"
-SAID = {"material-is-a-list": "it has no certificate",
+SAID = {"extension-twice": "its certificate is not read: it has an extension twice",
+        "usage-zeros-at-the-end": "its certificate is not read: its usage, constraints or purposes "
+                                  "have another form",
+        "material-is-a-list": "it has no certificate",
         "empty-chain": "its certificate has no bytes, or not in base64",
         "name-empty": NO_IDENTITY, "issuer-empty": NO_IDENTITY}
 # The type of a trusted root, and files that are none, with what is said of each.

@@ -20,6 +20,8 @@ CODE_SIGNING, ANY_PURPOSE = map(identifier, ["1.3.6.1.5.5.7.3.3", "2.5.29.37.0"]
 SIGNS, SIGNS_CERTIFICATES = 0x80, 0x04
 TRUE = bytes.fromhex("0101ff")
 MOST_TIMESTAMPS = 8
+# What is said of a certificate before what keeps it from being read.
+UNREAD = "its certificate is not read: "
 
 
 class Extension(NamedTuple):
@@ -42,14 +44,16 @@ def extension(part):
 
 def extensions(part):
     """The extensions that the last part of a certificate holds."""
-    need(part.tag == 0xA3, "no extensions")
-    found = [extension(one) for one in elements(content_of(part.content, 0x30))]
+    return [extension(one) for one in elements(content_of(part.content, 0x30))]
+
+
+def check_extensions(found):
+    """Refuses extensions that a certificate may not have."""
     names = [one.name for one in found]
-    need(len(set(names)) == len(names), "an extension comes twice")
-    need(NAME_CONSTRAINTS not in names, "name constraints")
+    need(NAME_CONSTRAINTS not in names, UNREAD + "it constrains names")
     need(all(one.name in (USAGE, BASIC, PURPOSES, NAME) for one in found if one.is_critical),
-         "a critical extension that is not known")
-    return found
+         UNREAD + "a critical extension of it is not known")
+    need(len(set(names)) == len(names), UNREAD + "it has an extension twice")
 
 
 def usage_of(value):
@@ -100,34 +104,45 @@ def time_of(part):
 
 
 class Certificate:
-    """A certificate: its parts, and what its extensions say."""
+    """A certificate: its parts, and what its extensions say. Where it is none, Unfit says what it
+    misses first, in the words of docs/sigstore.md.
+    """
 
     def __init__(self, content):
+        algorithm, validity, last = saying(
+            UNREAD + "it does not have the parts of one of version 3", self.read_parts, content)
+        need(algorithm in ALGORITHMS, UNREAD + "its signature has another algorithm")
+        self.curve_of_signer = ALGORITHMS[algorithm]
+        saying(UNREAD + "its validity has another form", self.read_validity, validity)
+        self.curve = saying(UNREAD + "its key is of another kind or form", curve_of, self.info)
+        self.extensions = saying(UNREAD + "its extensions have another form", extensions, last)
+        check_extensions(self.extensions)
+        saying(UNREAD + "its usage, constraints or purposes have another form",
+               self.read_extensions)
+
+    def read_parts(self, content):
+        """Reads the parts, and answers the algorithm, the validity and the last part."""
         parts = elements(content_of(content, 0x30))
         need([one.tag for one in parts] == [0x30, 0x30, 3], "a certificate of another form")
         signed, algorithm, sig = parts
-        need(algorithm.whole in ALGORITHMS, "an algorithm that is not known")
         need(sig.content[:1] == b"\0", "a signature of unused bits")
         self.signed, self.sig = signed.whole, sig.content[1:]
-        self.curve_of_signer = ALGORITHMS[algorithm.whole]
-        self.parts = elements(signed.content)
-        need(len(self.parts) == 8, "not eight parts")
-        self.read_parts(algorithm)
-        self.extensions = extensions(self.parts[7])
-        self.read_extensions()
-
-    def read_parts(self, algorithm):
-        """Reads the parts before the extensions."""
-        version, serial, inner, issuer, validity, subject, key, _ = self.parts
+        inside = elements(signed.content)
+        need(len(inside) == 8, "not eight parts")
+        version, serial, inner, issuer, validity, subject, key, last = inside
         need(version.whole == bytes.fromhex("a003020102"), "another version")
         need(serial.tag == 2 and serial.content, "no serial number")
         need(inner.whole == algorithm.whole, "two algorithms")
-        need([issuer.tag, validity.tag, subject.tag] == [0x30] * 3, "a part of another tag")
+        need([one.tag for one in (issuer, validity, subject, key, last)]
+             == [0x30, 0x30, 0x30, 0x30, 0xA3], "a part of another tag")
         self.issuer, self.subject, self.info = issuer.whole, subject.whole, key.whole
-        times = elements(validity.content)
+        return algorithm.whole, validity, last
+
+    def read_validity(self, part):
+        """Reads the two times of its validity."""
+        times = elements(part.content)
         need(len(times) == 2, "not two times")
         self.first, self.last = map(time_of, times)
-        self.curve = curve_of(self.info)
 
     def read_extensions(self):
         """Reads the extensions that every certificate may have."""
@@ -182,7 +197,7 @@ class Leaf(Certificate):
     """
 
     def __init__(self, content):
-        saying("its certificate is not read", super().__init__, content)
+        super().__init__(content)
         need(self.curve == P256, "its certificate has a key of another curve")
         need(self.has_usage(SIGNS), "its certificate is not for signatures")
         need(CODE_SIGNING in (self.purposes or ()), "its certificate is not for code signing")

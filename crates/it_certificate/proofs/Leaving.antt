@@ -1,15 +1,18 @@
 -- Leaves, by their certificates.
 use Rattle.std.proofs.Common.{ℕ, List, refl, subst, inl, inr}
 use Rattle.it_certificate.specs.Certificate.{CertificateOf, Facts}
+use Rattle.it_certificate.specs.CertificateMissed.{BytesMiss}
 use Rattle.it_certificate.specs.Leaf.{IsLeaf, LeafOf}
 use Rattle.it_certificate.specs.LeafMisses.{CertificateMisses, IsNoLeaf, LeafMisses}
 use Rattle.it_certificate.specs.declared.leaf_shortfall.LeafShortfall.{LeafShortfall}
 use Rattle.it_certificate.specs.declared.leaf_shortfall.LeafShortfall.TheVariants as shortfalls
+use Rattle.it_certificate.specs.declared.shortfall.CertificateShortfall.{CertificateShortfall}
 use Rattle.it_certificate.proofs.OneFacts.{one_facts}
+use Rattle.it_certificate.proofs.Short.{no_certificate}
 
 -- a certificate that misses a condition is no leaf
 misses_leaf : (f : Facts) (missed : LeafShortfall) → CertificateMisses f missed → (name issuer : List ℕ) → IsLeaf f name issuer → ⊥
-misses_leaf f shortfalls.Form m name issuer is = m
+misses_leaf f (shortfalls.Certificate missed) m name issuer is = m
 misses_leaf f shortfalls.Key m name issuer is = m is.signs_code.curve
 misses_leaf f shortfalls.Usage m name issuer is = m.1 is.signs_code.signs
 misses_leaf f shortfalls.Purpose m name issuer is = m.2 is.signs_code.for_code
@@ -27,5 +30,7 @@ no_leaf bytes read missed is m = (
 )
 
 -- bytes that are no certificate
-pub no_certificate : (bytes : List ℕ) → ((f : Facts) → CertificateOf bytes f → ⊥) → IsNoLeaf bytes × LeafMisses bytes shortfalls.Form
-no_certificate bytes none = (λ f name issuer leaf. none f leaf.certificate, inl (refl, none))
+pub missed_certificate : (bytes : List ℕ) (missed : CertificateShortfall) → BytesMiss bytes missed
+    → IsNoLeaf bytes × LeafMisses bytes (shortfalls.Certificate missed)
+missed_certificate bytes missed m =
+    (λ f name issuer leaf. no_certificate bytes missed m f leaf.certificate, inl (missed, refl, m))

@@ -8,7 +8,7 @@ pub mod Within
 pub mod Times
 pub mod Using
 pub mod Naming
-pub mod Whole
+pub mod Short
 pub mod OneFacts
 pub mod Leaving
 pub mod Chaining

@@ -2,10 +2,12 @@
 -- this profile's choice.
 use Rattle.std.specs.Prelude.{◌≡◌, ◌≢◌, ◌⊎◌, ℕ, List}
 use Rattle.it_certificate.specs.Certificate.{Facts, CertificateOf}
+use Rattle.it_certificate.specs.CertificateMissed.{BytesMiss}
 use Rattle.it_certificate.specs.Leaf.{HasName, IsForCode, IsNoAuthority, LeafOf, NamesIssuer}
 use Rattle.it_certificate.specs.Leaf.{Signs, SignsCode}
 use Rattle.it_certificate.specs.declared.leaf_shortfall.LeafShortfall.{LeafShortfall}
 use Rattle.it_certificate.specs.declared.leaf_shortfall.LeafShortfall.TheVariants as shortfalls
+use Rattle.it_certificate.specs.declared.shortfall.CertificateShortfall.{CertificateShortfall}
 use Rattle.it_certificate.specs.declared.subject_key.Curve.TheVariants.{P256}
 
 -- the bytes are no leaf
@@ -14,7 +16,7 @@ IsNoLeaf bytes = (f : Facts) (name issuer : List ℕ) → ¬ LeafOf bytes f name
 
 -- a certificate misses this condition, and none before
 abbrev pub CertificateMisses : Facts → LeafShortfall → Type 0
-CertificateMisses f shortfalls.Form = ⊥
+CertificateMisses f (shortfalls.Certificate missed) = ⊥
 CertificateMisses f shortfalls.Key = f.curve ≢ P256
 CertificateMisses f shortfalls.Usage = (f.curve ≡ P256) × ¬ Signs f
 CertificateMisses f shortfalls.Purpose = (f.curve ≡ P256) × Signs f × ¬ IsForCode f
@@ -24,8 +26,8 @@ CertificateMisses f shortfalls.Name = SignsCode f × ((name : List ℕ) → ¬ H
 CertificateMisses f shortfalls.Issuer =
     SignsCode f × ((name : List ℕ) × HasName f name) × ((issuer : List ℕ) → ¬ NamesIssuer f issuer)
 
--- bytes miss this condition: they are no certificate, or one that misses it
+-- bytes miss this condition: they are no certificate, for this reason, or one that misses it
 abbrev pub LeafMisses : List ℕ → LeafShortfall → Type 0
 LeafMisses bytes missed =
-    ((missed ≡ shortfalls.Form) × ((f : Facts) → ¬ CertificateOf bytes f))
+    ((part : CertificateShortfall) × (missed ≡ shortfalls.Certificate part) × BytesMiss bytes part)
     ⊎ ((f : Facts) × CertificateOf bytes f × CertificateMisses f missed)

@@ -17,6 +17,7 @@ pub mod Known
 pub mod Permitted
 pub mod Allowed
 pub mod Certificate
+pub mod CertificateMissed
 pub mod Leaf
 pub mod LeafMisses
 pub mod Authority

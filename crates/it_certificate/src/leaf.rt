@@ -7,7 +7,7 @@ ghost use Rattle.it_certificate.specs.LeafMisses.{CertificateMisses, IsNoLeaf, L
 ghost use Rattle.it_certificate.specs.Parts.{parts_of, signed_bytes};
 ghost use Rattle.it_certificate.specs.declared.subject_key.Curve.TheVariants.{P256};
 
-use crate::certificate::{Certificate, read_certificate};
+use crate::certificate::{Certificate, certificate_or_shortfall};
 use crate::constraints::Constraints;
 use crate::identifiers::{NEW_ISSUER, OLD_ISSUER, SUBJECT_NAME};
 use crate::issuer::issuer_of;
@@ -49,8 +49,9 @@ pub fn read_leaf(alloc: Global, bytes: &[u8]) -> Result<Result<Leaf<'_>, LeafSho
         × (l.certificate.parts.signed.now ≡ signed_bytes (parts_of l.certificate.parts)))
         (λ missed. IsNoLeaf bytes.now × LeafMisses bytes.now missed)) }
 {
-    let Some(certificate) = read_certificate(alloc, bytes)? else {
-        return Ok(Err(LeafShortfall::Form));
+    let certificate = match certificate_or_shortfall(alloc, bytes)? {
+        Ok(certificate) => certificate,
+        Err(missed) => return Ok(Err(LeafShortfall::Certificate(missed))),
     };
     match identity_of(alloc, &certificate)? {
         Ok(identity) => Ok(Ok(Leaf {

@@ -1,10 +1,11 @@
 //! Why a certificate is no leaf.
+use crate::shortfall::CertificateShortfall;
 
 /// The condition that a certificate misses where it is no leaf: the first of these that is true.
 #[derive(Clone, Copy, Debug, PartialEq, Eq)]
 pub enum LeafShortfall {
-    /// It is no certificate of the form that is read.
-    Form,
+    /// It is no certificate that is read, since it misses this condition.
+    Certificate(CertificateShortfall),
     /// Its key is not one of P-256.
     Key,
     /// It is not for signatures.

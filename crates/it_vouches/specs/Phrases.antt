@@ -4,6 +4,10 @@ use Rattle.it_bundle.specs.declared.certificate.NoCertificate.{NoCertificate}
 use Rattle.it_bundle.specs.declared.certificate.NoCertificate.TheVariants as reasons
 use Rattle.it_certificate.specs.declared.leaf_shortfall.LeafShortfall.{LeafShortfall}
 use Rattle.it_certificate.specs.declared.leaf_shortfall.LeafShortfall.TheVariants as leaves
+use Rattle.it_certificate.specs.declared.shortfall.CertificateShortfall.{CertificateShortfall}
+use Rattle.it_certificate.specs.declared.shortfall.CertificateShortfall.TheVariants as unread
+use Rattle.it_certificate.specs.declared.shortfall.ExtensionsShortfall.{ExtensionsShortfall}
+use Rattle.it_certificate.specs.declared.shortfall.ExtensionsShortfall.TheVariants as listed
 use Rattle.it_issued.specs.declared.shortfall.IssueShortfall.{IssueShortfall}
 use Rattle.it_issued.specs.declared.shortfall.IssueShortfall.TheVariants as issues
 use Rattle.it_issued.specs.declared.shortfall.LogShortfall.{LogShortfall}
@@ -28,9 +32,34 @@ certificate_phrase_of reasons.Chain =
     codes "bundles of version 0.3 have one certificate, not a chain"
 certificate_phrase_of reasons.Unreadable = codes "its certificate has no bytes, or not in base64"
 
+-- why the extensions of its certificate are not read
+abbrev pub extensions_phrase_of : ExtensionsShortfall → List ℕ
+extensions_phrase_of listed.Form =
+    codes "its certificate is not read: its extensions have another form"
+extensions_phrase_of listed.NameConstraints =
+    codes "its certificate is not read: it constrains names"
+extensions_phrase_of listed.Critical =
+    codes "its certificate is not read: a critical extension of it is not known"
+extensions_phrase_of listed.Twice =
+    codes "its certificate is not read: it has an extension twice"
+extensions_phrase_of listed.Values =
+    codes "its certificate is not read: its usage, constraints or purposes have another form"
+
+-- why its certificate is not read
+abbrev pub unread_phrase_of : CertificateShortfall → List ℕ
+unread_phrase_of unread.Parts =
+    codes "its certificate is not read: it does not have the parts of one of version 3"
+unread_phrase_of unread.Algorithm =
+    codes "its certificate is not read: its signature has another algorithm"
+unread_phrase_of unread.Validity =
+    codes "its certificate is not read: its validity has another form"
+unread_phrase_of unread.Key =
+    codes "its certificate is not read: its key is of another kind or form"
+unread_phrase_of (unread.Extensions missed) = extensions_phrase_of missed
+
 -- why its certificate is no leaf
 abbrev pub leaf_phrase_of : LeafShortfall → List ℕ
-leaf_phrase_of leaves.Form = codes "its certificate is not read"
+leaf_phrase_of (leaves.Certificate missed) = unread_phrase_of missed
 leaf_phrase_of leaves.Key = codes "its certificate has a key of another curve"
 leaf_phrase_of leaves.Usage = codes "its certificate is not for signatures"
 leaf_phrase_of leaves.Purpose = codes "its certificate is not for code signing"

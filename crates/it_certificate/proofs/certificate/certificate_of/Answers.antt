@@ -1,7 +1,22 @@
 use Rattle.it_certificate.proofs.certificate.certificate_of.Goals as goal
 
 pub returns-in_default-2 : goal.returns-in_default-2
-returns-in_default-2 c = λ f is. (rw c.in_default-2.is at c.in_ok-validity.ensures) f.validity is.validity
+returns-in_default-2 c = (
+  (c.in-Some.algorithm, c.in-Some.ensures),
+  rw c.in_default-2.is at c.in_ok-validity.ensures,
+)
 
-pub returns-in_default-3 : goal.returns-in_default-3
-returns-in_default-3 c = λ f is. (rw c.in_default-3.is at c.in_ok-allowed.ensures) f.extensions f.known is.extensions
+pub returns-in_default-key_in : goal.returns-in_default-key_in
+returns-in_default-key_in c = (
+  (c.in-Some.algorithm, c.in-Some.ensures),
+  (c.in-Some-2.validity, rw c.in-Some-2.is at c.in_ok-validity.ensures),
+  c.in_default-key_in.ensures,
+)
+
+pub returns-in-Err : goal.returns-in-Err
+returns-in-Err c = (
+  (c.in-Some.algorithm, c.in-Some.ensures),
+  (c.in-Some-2.validity, rw c.in-Some-2.is at c.in_ok-validity.ensures),
+  (c.in-Some-key_in.key.curve, c.in-Some-key_in.key.coordinates.now, c.in-Some-key_in.ensures),
+  rw c.in-Err.is at c.in_ok-allowed.ensures,
+)

@@ -1,10 +1,6 @@
-use Rattle.it_certificate.proofs.Whole.{whole_found_if_ok}
+use Rattle.it_certificate.proofs.Short.{no_certificate}
 use Rattle.it_certificate.proofs.certificate.read_certificate.Goals as goal
 
-pub returns-in-Some : goal.returns-in-Some
-returns-in-Some c =
-    let read = rw c.in-Some.is at c.in_ok-parts.ensures in
-    whole_found_if_ok c.args.bytes.now c.in-Some.parts c.certificate_of.result read.0 read.1 c.certificate_of.ensures
-
-pub returns-in-None : goal.returns-in-None
-returns-in-None c = λ f is. (rw c.in-None.is at c.in_ok-parts.ensures) f.parts f.signature is.parts
+pub returns-in-Err : goal.returns-in-Err
+returns-in-Err c =
+    no_certificate c.args.bytes.now c.in-Err.field-0 (rw c.in-Err.is at c.in_ok-certificate.ensures)

@@ -1,2 +1,3 @@
+pub mod PassedOver
 pub mod SilentNotes
 pub mod Spent

@@ -7,6 +7,7 @@ ghost use Rattle.it_disk.specs.Reading.{AreLimited, HoldsIfGiven, HoldsRing};
 ghost use Rattle.it_limits.specs.Limit.{IsWithinLimit};
 ghost use Rattle.it_program.specs.Commands.{AreGiven};
 ghost use Rattle.it_program.specs.Inputs.{AreInputs};
+ghost use Rattle.it_program.specs.inside.PassedOver.{NotesRoot};
 ghost use Rattle.it_program.specs.inside.SilentNotes.{AreSilentIn};
 
 use crate::provenance::read_provenance;
@@ -34,6 +35,8 @@ pub(crate) struct Given {
     pub(crate) left_out: Vec<LeftOut>,
     /// The lines of the provenance that are bundles and vouch for nobody.
     pub(crate) silent: Sequence<SilentLine>,
+    /// What is noted of the trusted root, where one is given.
+    pub(crate) passed_over: Vec<u8>,
 }
 
 /// What is at the paths of the words. An input without a path is empty. With public keys, links and
@@ -44,12 +47,15 @@ pub(crate) fn read_given<R: Disk + AllocGlobal>(rt: &R, words: &VerifyWords) -> 
         given.checks.own.public_keys given.checks.vouched)) }
     ensures silent { IfOk result
         (λ given. AreSilentIn (R.holdings rt.now) words.now given.silent) }
+    ensures passed_over { IfOk result (λ given. NotesRoot (R.holdings rt.now)
+        words.now.trusted_root given.passed_over.items) }
 {
     let Read {
         inputs,
         vouched,
         left_out,
         silent,
+        passed_over,
     } = read_inputs(rt, words)?;
     let rings = read_rings(rt, words.rings.as_slice())?;
     let own = OwnChecks::new(rt.alloc(), rings, words.public_keys, words.most_checks);
@@ -58,6 +64,7 @@ pub(crate) fn read_given<R: Disk + AllocGlobal>(rt: &R, words: &VerifyWords) -> 
         checks: CommandChecks::new(own, vouched),
         left_out,
         silent,
+        passed_over,
     })
 }
 
@@ -68,6 +75,7 @@ struct Read {
     vouched: Option<VouchedLines>,
     left_out: Vec<LeftOut>,
     silent: Sequence<SilentLine>,
+    passed_over: Vec<u8>,
 }
 
 /// Reads the inputs in their order.
@@ -75,6 +83,8 @@ fn read_inputs<R: Disk + AllocGlobal>(rt: &R, words: &VerifyWords) -> Result<Rea
     ensures inputs { IfOk result
         (λ read. AreInputs (R.holdings rt.now) words.now read.inputs read.vouched) }
     ensures silent { IfOk result (λ read. AreSilentIn (R.holdings rt.now) words.now read.silent) }
+    ensures passed_over { IfOk result (λ read. NotesRoot (R.holdings rt.now)
+        words.now.trusted_root read.passed_over.items) }
 {
     let mut left_out = Vec::new(rt.alloc());
     let moment = String::from_str(rt.alloc(), words.at.as_str())?;
@@ -99,6 +109,7 @@ fn read_inputs<R: Disk + AllocGlobal>(rt: &R, words: &VerifyWords) -> Result<Rea
         vouched: provenance.vouched,
         left_out,
         silent: provenance.silent,
+        passed_over: provenance.passed_over,
     })
 }
 

@@ -14,6 +14,7 @@
 mod asked;
 mod command_line;
 mod given;
+mod passed_over;
 mod provenance;
 mod running;
 mod silent_notes;

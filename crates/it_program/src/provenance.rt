@@ -1,6 +1,7 @@
 //! The provenance of a verification.
 ghost use Rattle.std.specs.Prelude.{◌≡◌, IfOk};
 ghost use Rattle.it_program.specs.Inputs.{AreEnvelopes, AreLookedAt, AreVouchedBy, IsProvenance};
+ghost use Rattle.it_program.specs.inside.PassedOver.{NotesRoot};
 ghost use Rattle.it_program.specs.inside.SilentNotes.{AreSilentBy, AreSilentIn};
 
 use it_base::sequence::Sequence;
@@ -8,6 +9,7 @@ use it_base::text::Text;
 use it_disk::{Disk, Fault, LeftOut, bytes_if_given, read_trusted_root};
 use it_file_commands::judged_or_fault;
 use it_limits::lines_within_limit;
+use it_root_notes::notes_on_logs;
 use it_unwrapped::unwrapped_lines;
 use it_vouched::{JudgedLines, SilentLine, VouchedLines};
 use it_vouches::Trust;
@@ -23,6 +25,8 @@ pub(crate) struct Provenance {
     pub(crate) vouched: Option<VouchedLines>,
     /// The lines that are bundles and vouch for nobody.
     pub(crate) silent: Sequence<SilentLine>,
+    /// What is noted of the trusted root, where one is given.
+    pub(crate) passed_over: Vec<u8>,
 }
 
 /// The provenance that the words name, or none where they name no file. With public keys its lines
@@ -36,15 +40,22 @@ pub(crate) fn read_provenance<R: Disk + AllocGlobal>(
         provenance.lines provenance.vouched) }
     ensures silent { IfOk result
         (λ provenance. AreSilentIn (R.holdings rt.now) words.now provenance.silent) }
+    ensures passed_over { IfOk result (λ provenance. NotesRoot (R.holdings rt.now)
+        words.now.trusted_root provenance.passed_over.items) }
 {
     let read = bytes_if_given(rt, &words.provenance)?;
-    let Judged { vouched, silent } = judge(rt, &words.trusted_root, read.as_slice())?;
+    let Judged {
+        vouched,
+        silent,
+        passed_over,
+    } = judge(rt, &words.trusted_root, read.as_slice())?;
     let envelopes = envelopes(rt.alloc(), &words.trusted_root, read)?;
     let lines = looked_at(rt.alloc(), words.public_keys, envelopes, left_out)?;
     Ok(Provenance {
         lines,
         vouched,
         silent,
+        passed_over,
     })
 }
 
@@ -53,6 +64,7 @@ pub(crate) fn read_provenance<R: Disk + AllocGlobal>(
 struct Judged {
     vouched: Option<VouchedLines>,
     silent: Sequence<SilentLine>,
+    passed_over: Vec<u8>,
 }
 
 /// Judges the lines by the trusted root at the path, where one is given.
@@ -61,11 +73,14 @@ fn judge<R: Disk + AllocGlobal>(rt: &R, path: &Option<Text>, read: &[u8]) -> Res
         (λ judged. AreVouchedBy (R.holdings rt.now) path.now read.now judged.vouched) }
     ensures silent { IfOk result
         (λ judged. AreSilentBy (R.holdings rt.now) path.now read.now judged.silent) }
+    ensures passed_over { IfOk result
+        (λ judged. NotesRoot (R.holdings rt.now) path.now judged.passed_over.items) }
 {
     let Some(path) = path else {
         return Ok(Judged {
             vouched: None,
             silent: Sequence::from(Vec::new(rt.alloc())),
+            passed_over: Vec::new(rt.alloc()),
         });
     };
     let root = read_trusted_root(rt, path.as_str())?;
@@ -75,6 +90,7 @@ fn judge<R: Disk + AllocGlobal>(rt: &R, path: &Option<Text>, read: &[u8]) -> Res
     Ok(Judged {
         vouched: Some(vouched),
         silent,
+        passed_over: notes_on_logs(rt.alloc(), &root)?,
     })
 }
 

@@ -10,6 +10,7 @@ ghost use Rattle.it_words.specs.declared.words.Words.TheVariants.{Verify};
 
 use crate::asked::Asked;
 use crate::given::{Given, read_given};
+use crate::passed_over::note_passed_over;
 use crate::silent_notes::note_silent;
 use crate::spent::Spent;
 use crate::stop::Stop;
@@ -26,11 +27,11 @@ use it_words::words::verify_words::VerifyWords;
 use std::alloc::Global;
 use std::io::Write;
 
-/// Reads all files and folders and the rings, notes what is left out, and writes the report of the
-/// verdict and then the notes on it. With `--strict` it stops where something is found in what it
-/// would accept: with `--json=2` that goes out, and otherwise its lines go to `notes`. With
-/// `--summary` the summary is written in place of a report that accepts, and a report that refuses
-/// goes to `notes`.
+/// Reads all files and folders and the rings, notes what is left out and which logs of the trusted
+/// root are passed over, and writes the report of the verdict and then the notes on it. With
+/// `--strict` it stops where something is found in what it would accept: with `--json=2` that goes
+/// out, and otherwise its lines go to `notes`. With `--summary` the summary is written in place of
+/// a report that accepts, and a report that refuses goes to `notes`.
 pub(crate) fn run<R: Disk + AllocGlobal, W: Write, N: Write>(
     rt: &R,
     words: &VerifyWords,
@@ -53,6 +54,7 @@ pub(crate) fn run<R: Disk + AllocGlobal, W: Write, N: Write>(
     let asked = Asked::by(alloc, words)?;
     let given = read_given(rt, words)?;
     note_left_out(alloc, given.left_out.as_slice(), notes);
+    note_passed_over(given.passed_over.as_slice(), notes);
     let verification = Verification {
         inputs: &given.inputs,
         checks: &given.checks,

@@ -43,8 +43,6 @@ MISSES = [
     ("certificate-base64", "its certificate has no bytes, or not in base64"),
     ("no-entry", "it has no entry of a transparency log"),
     ("many-entries", "it has more than 8 entries"),
-    ("certificate-critical",
-     "its certificate is not read: a critical extension of it is not known"),
     ("leaf-key", "its certificate has a key of another curve"),
     ("leaf-usage", "its certificate is not for signatures"),
     ("leaf-purpose", "its certificate is not for code signing"),
@@ -80,13 +78,37 @@ MISSES = [
     ("sct-signature", "that log did not sign the certificate's timestamp"),
     ("envelope-signature", "the certificate's key did not sign the envelope"),
 ]
-# What it says of some cases: of certificates that are not read, by where; a list has no members, and
-# a chain of none has no first certificate.
+# What it says of the cases of certificates that are not read.
+UNREAD = {
+    "it does not have the parts of one of version 3": """
+        certificate-byte-after certificate-cut certificate-empty certificate-is-garbage
+        tbs-length-too-long version-2 version-missing version-4 algorithms-differ issuer-unique-id
+        after-extensions serial-empty serial-no-integer leaf-signature-of-unused-bits
+        certificate-of-65536 signature-length-in-two-bytes""",
+    "its signature has another algorithm": "algorithm-with-null algorithm-sha512",
+    "its validity has another form": """
+        generalized-time-before-2050 utc-time-without-seconds generalized-time-with-fraction
+        time-with-offset month-13 february-29 leap-second validity-of-three validity-of-one hour-24
+        minute-60 day-0 utc-time-of-14 utc-time-with-letter time-of-another-tag""",
+    "its key is of another kind or form": """
+        leaf-key-compressed leaf-key-ed25519 leaf-key-of-another-curve-name
+        leaf-key-of-another-kind leaf-key-of-unused-bits leaf-key-hybrid-point""",
+    "its extensions have another form": """
+        critical-false-written extension-of-another-tag extension-with-two-values
+        extension-in-other-order extension-without-value extension-critical-01""",
+    "it constrains names": "name-constraints",
+    "a critical extension of it is not known":
+        "critical-unknown critical-issuer critical-timestamps critical-policies",
+    "it has an extension twice": "extension-twice san-twice",
+    "its usage, constraints or purposes have another form": """
+        usage-unused-bits usage-empty usage-zeros-at-the-end usage-second-byte-of-zeros
+        basic-false-written purposes-empty purposes-length-in-two-bytes
+        purposes-length-in-three-bytes purposes-of-128-in-one-byte purposes-indefinite purposes-cut
+        purposes-byte-after purposes-of-another-tag""",
+}
+# What it says of some cases: a list has no members, and a chain of none has no first certificate.
 NO_IDENTITY = "its certificate's name or issuer is empty or has more than 512 bytes"
-SAID = {"extension-twice": "its certificate is not read: it has an extension twice",
-        "usage-zeros-at-the-end": "its certificate is not read: its usage, constraints or purposes "
-                                  "have another form",
-        "material-is-a-list": "it has no certificate",
+SAID = {"material-is-a-list": "it has no certificate",
         "empty-chain": "its certificate has no bytes, or not in base64",
         "name-empty": NO_IDENTITY, "issuer-empty": NO_IDENTITY}
 # The type of a trusted root, and files that are none, with what is said of each.
@@ -114,6 +136,9 @@ def misses(name, condition, bundle):
     another identity."""
     if name in SAID:
         return SAID[name]
+    for said, names in UNREAD.items():
+        if name in names.split():
+            return f"its certificate is not read: {said}"
     if condition == "sct-form" and name.startswith("timestamp-"):
         condition = "sct-log"  # the list reads, and what is no timestamp is one of no log
     if condition == "one-signature":

@@ -1,1 +1,5 @@
+pub mod Chains
 pub mod Lines
+pub mod Standing
+pub mod Unread
+pub mod Zipping

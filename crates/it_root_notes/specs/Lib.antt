@@ -1,2 +1,5 @@
+pub mod AuthorityMisses
+pub mod AuthorityText
 pub mod Front
 pub mod LogText
+pub mod Missing

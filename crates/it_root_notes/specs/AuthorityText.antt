@@ -1,0 +1,49 @@
+-- What is said of the authorities of a trusted root (this project's words).
+use Rattle.std.specs.Prelude.{◌≡◌, ℕ, Option, Some, None, List, [], ◌++◌, codes, decimal}
+use Rattle.std.specs.List.{AllZip, enumerate_from, flat_map}
+use Rattle.it_root_notes.specs.AuthorityMisses.{IsAuthorityShortfall}
+use Rattle.it_root_notes.specs.Front.{front_text}
+use Rattle.it_root_notes.specs.declared.shortfall.AuthorityShortfall.{AuthorityShortfall}
+use Rattle.it_root_notes.specs.declared.shortfall.AuthorityShortfall.TheVariants.{Unread, Chain}
+use Rattle.it_root_notes.specs.declared.shortfall.ChainShortfall.{ChainShortfall}
+use Rattle.it_root_notes.specs.declared.shortfall.ChainShortfall.TheVariants.{Empty, OtherIssuer}
+use Rattle.it_root_notes.specs.declared.shortfall.ChainShortfall.TheVariants.{MayNotIssue, Unsigned}
+use Rattle.it_trust_root.specs.declared.root.TrustedRoot.{TrustedRoot}
+
+-- a certificate by its place, counted from 0, and what is said of it
+abbrev pub certificate_text : ℕ → List ℕ → List ℕ
+certificate_text place after = codes "its certificate " ++ decimal place ++ after
+
+-- what its certificates miss
+abbrev pub chain_phrase_of : ChainShortfall → List ℕ
+chain_phrase_of Empty = codes "it has no certificate"
+chain_phrase_of (OtherIssuer place) =
+    certificate_text place (codes " has another issuer than the next one's subject")
+chain_phrase_of (MayNotIssue place) = certificate_text place (codes " may not issue others")
+chain_phrase_of (Unsigned place) = certificate_text place (codes " is not signed by the next one")
+
+-- why an authority is not used
+abbrev pub phrase_of : AuthorityShortfall → List ℕ
+phrase_of (Unread place) = certificate_text place (codes " is not read")
+phrase_of (Chain missed) = chain_phrase_of missed
+
+-- the line of a note on an authority that is not used
+unfoldable pub unusable_text : ℕ → AuthorityShortfall → List ℕ
+unusable_text place missed =
+    front_text (codes "certificateAuthorities") place ++ phrase_of missed ++ codes "\n"
+
+-- the same of any authority, by its place and what it misses, of which there is no note where it
+-- misses nothing
+abbrev pub authority_text : ℕ × Option AuthorityShortfall → List ℕ
+authority_text (place, None) = []
+authority_text (place, Some missed) = unusable_text place missed
+
+-- the lines on authorities, by what each misses, in their order
+abbrev pub authority_lines : List (Option AuthorityShortfall) → List ℕ
+authority_lines shortfalls = flat_map authority_text (enumerate_from 0 shortfalls)
+
+-- the notes on the authorities of a trusted root: the lines on them, by what each of them misses
+pub record AreAuthorityNotes (root : TrustedRoot) (text : List ℕ) : Type 0 where
+  pub shortfalls : List (Option AuthorityShortfall)
+  pub are : AllZip IsAuthorityShortfall root.authorities shortfalls
+  pub text_is : text ≡ authority_lines shortfalls

@@ -1,0 +1,58 @@
+//! Notes on the authorities of a trusted root.
+ghost use Rattle.std.specs.Prelude.{◌≡◌, IfOk};
+ghost use Rattle.std.specs.List.{AllZip};
+ghost use Rattle.it_root_notes.specs.AuthorityMisses.{IsAuthorityShortfall};
+ghost use Rattle.it_root_notes.specs.AuthorityText.{AreAuthorityNotes, authority_lines};
+
+use crate::authority::authority_shortfall;
+use crate::authority_line::push_authority;
+use crate::shortfall::AuthorityShortfall;
+use it_budget::SharedBudget;
+use it_trust_root::{Authority, TrustedRoot};
+use std::alloc::{AllocError, Global};
+
+/// The notes on the authorities of a trusted root: a line for each that cannot be used, with its
+/// place among them, from 0, and the first condition that it misses.
+///
+/// # Errors
+///
+/// `AllocError` where memory was refused, or where the budget has no check left.
+pub fn notes_on_authorities(
+    alloc: Global,
+    budget: &SharedBudget,
+    root: &TrustedRoot,
+) -> Result<Vec<u8>, AllocError>
+    ensures { IfOk result (λ text. AreAuthorityNotes root.now text.items) }
+{
+    let shortfalls = shortfalls_of(alloc, budget, root.authorities.as_slice())?;
+    let text = lines_of(alloc, shortfalls.as_slice())?;
+    Ok(text)
+}
+
+/// What each of the authorities misses, if it misses something.
+fn shortfalls_of(
+    alloc: Global,
+    budget: &SharedBudget,
+    authorities: &[Authority],
+) -> Result<Vec<Option<AuthorityShortfall>>, AllocError>
+    ensures { IfOk result (λ shortfalls.
+        AllZip IsAuthorityShortfall authorities.now shortfalls.items) }
+{
+    let mut shortfalls = Vec::new(alloc);
+    for authority in authorities {
+        let missed = authority_shortfall(alloc, budget, authority)?;
+        shortfalls.push(missed)?;
+    }
+    Ok(shortfalls)
+}
+
+/// A line for each that misses something.
+fn lines_of(alloc: Global, shortfalls: &[Option<AuthorityShortfall>]) -> Result<Vec<u8>, AllocError>
+    ensures { IfOk result (λ text. text.items ≡ authority_lines shortfalls.now) }
+{
+    let mut text = Vec::new(alloc);
+    for (place, missed) in shortfalls.iter().enumerate() {
+        push_authority(&mut text, place, *missed)?;
+    }
+    Ok(text)
+}

@@ -1,0 +1,84 @@
+//! What certificates that are read lack to be those of an authority.
+ghost use Rattle.std.specs.Prelude.{◌≡◌, ◌↔◌, All, IfOk, IsTrue, MatchOption, map};
+ghost use Rattle.it_certificate.specs.Authority.{
+  AreLinked,
+  AreSignedInTurn,
+  IsSignedBy,
+  MayIssue,
+  MayIssueFrom,
+};
+ghost use Rattle.it_certificate.specs.Certificate.{facts_of};
+ghost use Rattle.it_certificate_log.specs.Bare.{WasRead};
+ghost use Rattle.it_issued.specs.Signature.{Signs};
+ghost use Rattle.it_root_notes.specs.AuthorityMisses.{Names};
+ghost use Rattle.it_root_notes.specs.Missing.{MissesFrom, MissesNext};
+
+use it_budget::SharedBudget;
+use it_certificate::{Certificate, is_chain};
+use it_issued::is_signed_by;
+use std::alloc::{AllocError, Global};
+
+/// The place of the first certificate that names another issuer than the next one's subject. Takes
+/// no memory.
+pub(crate) fn first_other_issuer(certificates: &[Certificate<'_>]) -> Option<usize>
+    ensures { MatchOption result (AreLinked (map facts_of certificates.now))
+        (MissesNext Names (map facts_of certificates.now)) }
+{
+    for place in 1..certificates.len() {
+        if !names_next(&certificates[place - 1], &certificates[place]) {
+            return Some(place - 1);
+        }
+    }
+    None
+}
+
+/// Whether a certificate names another as its issuer.
+fn names_next(certificate: &Certificate<'_>, next: &Certificate<'_>) -> bool
+    ensures { IsTrue result ↔ Names (facts_of certificate.now) (facts_of next.now) }
+{
+    certificate.parts.issuer == next.parts.subject
+}
+
+/// The place of the first certificate that may not issue others, of certificates that each name the
+/// next one as their issuer: those up to it are no chain. An authority has few of them. Takes no
+/// memory.
+pub(crate) fn first_barred(certificates: &[Certificate<'_>]) -> Option<usize>
+    requires { AreLinked (map facts_of certificates.now) }
+    ensures { MatchOption result (MayIssueFrom 0 (map facts_of certificates.now))
+        (MissesFrom MayIssue 0 (map facts_of certificates.now)) }
+{
+    for place in 0..certificates.len() {
+        if !is_chain(&certificates[..place + 1]) {
+            return Some(place);
+        }
+    }
+    None
+}
+
+/// The place of the first certificate that is not signed by the key of the next one.
+///
+/// # Errors
+///
+/// `AllocError` where memory was refused, or where the budget has no check left.
+pub(crate) fn first_unsigned(
+    alloc: Global,
+    budget: &SharedBudget,
+    certificates: &[Certificate<'_>],
+) -> Result<Option<usize>, AllocError>
+    requires { All WasRead certificates.now }
+    ensures { IfOk result (λ found. MatchOption found
+        (AreSignedInTurn Signs (map facts_of certificates.now))
+        (MissesNext (IsSignedBy Signs) (map facts_of certificates.now))) }
+{
+    for place in 1..certificates.len() {
+        if !is_signed_by(
+            alloc,
+            budget,
+            &certificates[place - 1],
+            &certificates[place],
+        )? {
+            return Ok(Some(place - 1));
+        }
+    }
+    Ok(None)
+}

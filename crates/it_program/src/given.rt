@@ -48,7 +48,7 @@ pub(crate) fn read_given<R: Disk + AllocGlobal>(rt: &R, words: &VerifyWords) -> 
     ensures silent { IfOk result
         (λ given. AreSilentIn (R.holdings rt.now) words.now given.silent) }
     ensures passed_over { IfOk result (λ given. NotesRoot (R.holdings rt.now)
-        words.now.trusted_root given.passed_over.items) }
+        words.now.trusted_root given.silent given.passed_over.items) }
 {
     let Read {
         inputs,
@@ -84,7 +84,7 @@ fn read_inputs<R: Disk + AllocGlobal>(rt: &R, words: &VerifyWords) -> Result<Rea
         (λ read. AreInputs (R.holdings rt.now) words.now read.inputs read.vouched) }
     ensures silent { IfOk result (λ read. AreSilentIn (R.holdings rt.now) words.now read.silent) }
     ensures passed_over { IfOk result (λ read. NotesRoot (R.holdings rt.now)
-        words.now.trusted_root read.passed_over.items) }
+        words.now.trusted_root read.silent read.passed_over.items) }
 {
     let mut left_out = Vec::new(rt.alloc());
     let moment = String::from_str(rt.alloc(), words.at.as_str())?;

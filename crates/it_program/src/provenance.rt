@@ -1,18 +1,20 @@
 //! The provenance of a verification.
 ghost use Rattle.std.specs.Prelude.{◌≡◌, IfOk};
 ghost use Rattle.it_program.specs.Inputs.{AreEnvelopes, AreLookedAt, AreVouchedBy, IsProvenance};
-ghost use Rattle.it_program.specs.inside.PassedOver.{NotesRoot};
+ghost use Rattle.it_program.specs.inside.PassedOver.{NotesAuthorities, NotesRoot, NotesWhole};
 ghost use Rattle.it_program.specs.inside.SilentNotes.{AreSilentBy, AreSilentIn};
 
 use it_base::sequence::Sequence;
 use it_base::text::Text;
+use it_budget::SharedBudget;
 use it_disk::{Disk, Fault, LeftOut, bytes_if_given, read_trusted_root};
 use it_file_commands::judged_or_fault;
 use it_limits::lines_within_limit;
-use it_root_notes::notes_on_logs;
+use it_root_notes::{notes_on_authorities, notes_on_logs};
+use it_trust_root::TrustedRoot;
 use it_unwrapped::unwrapped_lines;
 use it_vouched::{JudgedLines, SilentLine, VouchedLines};
-use it_vouches::Trust;
+use it_vouches::{MOST_CHECKS, Trust};
 use it_words::words::verify_words::VerifyWords;
 use std::alloc::{AllocError, Global};
 
@@ -41,7 +43,7 @@ pub(crate) fn read_provenance<R: Disk + AllocGlobal>(
     ensures silent { IfOk result
         (λ provenance. AreSilentIn (R.holdings rt.now) words.now provenance.silent) }
     ensures passed_over { IfOk result (λ provenance. NotesRoot (R.holdings rt.now)
-        words.now.trusted_root provenance.passed_over.items) }
+        words.now.trusted_root provenance.silent provenance.passed_over.items) }
 {
     let read = bytes_if_given(rt, &words.provenance)?;
     let Judged {
@@ -73,8 +75,8 @@ fn judge<R: Disk + AllocGlobal>(rt: &R, path: &Option<Text>, read: &[u8]) -> Res
         (λ judged. AreVouchedBy (R.holdings rt.now) path.now read.now judged.vouched) }
     ensures silent { IfOk result
         (λ judged. AreSilentBy (R.holdings rt.now) path.now read.now judged.silent) }
-    ensures passed_over { IfOk result
-        (λ judged. NotesRoot (R.holdings rt.now) path.now judged.passed_over.items) }
+    ensures passed_over { IfOk result (λ judged. NotesRoot (R.holdings rt.now) path.now
+        judged.silent judged.passed_over.items) }
 {
     let Some(path) = path else {
         return Ok(Judged {
@@ -87,11 +89,41 @@ fn judge<R: Disk + AllocGlobal>(rt: &R, path: &Option<Text>, read: &[u8]) -> Res
     let trust = Trust::of(rt.alloc(), &root)?;
     let judged = JudgedLines::of(rt.alloc(), &trust, read);
     let JudgedLines { vouched, silent } = judged_or_fault(&trust, judged)?;
+    let passed_over = notes_on_root(rt.alloc(), &root, silent.as_slice())?;
     Ok(Judged {
         vouched: Some(vouched),
         silent,
-        passed_over: notes_on_logs(rt.alloc(), &root)?,
+        passed_over,
     })
+}
+
+/// What is noted of a trusted root, by the lines that are bundles and vouch for nobody.
+fn notes_on_root(
+    alloc: Global,
+    root: &TrustedRoot,
+    silent: &[SilentLine],
+) -> Result<Vec<u8>, AllocError>
+    ensures { IfOk result (λ text. NotesWhole root.now silent.now text.items) }
+{
+    let mut text = notes_on_logs(alloc, root)?;
+    let mut authorities = authorities_noted(alloc, root, silent)?;
+    text.append(&mut authorities)?;
+    Ok(text)
+}
+
+/// What is noted of the authorities, whose signatures are checked again for it: nothing where no
+/// line is a bundle that vouches for nobody.
+fn authorities_noted(
+    alloc: Global,
+    root: &TrustedRoot,
+    silent: &[SilentLine],
+) -> Result<Vec<u8>, AllocError>
+    ensures { IfOk result (λ text. NotesAuthorities root.now silent.now text.items) }
+{
+    match silent {
+        [] => Ok(Vec::new(alloc)),
+        [..] => notes_on_authorities(alloc, &SharedBudget::new(MOST_CHECKS), root),
+    }
 }
 
 /// The lines as envelopes: where a trusted root is given, that of each bundle in its place.

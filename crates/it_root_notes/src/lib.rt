@@ -12,6 +12,7 @@ mod authority_notes;
 mod certificates;
 mod chain;
 mod front;
+pub mod laws;
 mod log_line;
 mod log_notes;
 mod shortfall;

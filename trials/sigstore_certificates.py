@@ -127,9 +127,9 @@ class Certificate:
         signed, algorithm, sig = parts
         need(sig.content[:1] == b"\0", "a signature of unused bits")
         self.signed, self.sig = signed.whole, sig.content[1:]
-        inside = elements(signed.content)
-        need(len(inside) == 8, "not eight parts")
-        version, serial, inner, issuer, validity, subject, key, last = inside
+        self.parts = elements(signed.content)
+        need(len(self.parts) == 8, "not eight parts")
+        version, serial, inner, issuer, validity, subject, key, last = self.parts
         need(version.whole == bytes.fromhex("a003020102"), "another version")
         need(serial.tag == 2 and serial.content, "no serial number")
         need(inner.whole == algorithm.whole, "two algorithms")

@@ -16,6 +16,7 @@ use it_docs::policy_fault::PolicyFault;
 use it_docs::policy_reading::read_policy;
 use it_dsse::envelope::Envelope;
 use it_dsse::payload_type::IN_TOTO;
+use it_findings::document_text::DocumentText;
 use it_findings::member_finding::MemberFinding;
 use it_findings::null_key::NullKey;
 use it_findings::{layout_members, layout_nulls, no_thresholds, policy_members, policy_nulls};
@@ -97,11 +98,14 @@ fn policy_reading(alloc: Global, bytes: &[u8]) -> Result<PolicyReading, AllocErr
     ensures { IfOk result (IsPolicyReading bytes.now) }
 {
     match read_policy(alloc, bytes) {
-        Ok(policy) => Ok(PolicyReading::Read {
-            policy,
-            nulls: Sequence::from(policy_nulls(alloc, bytes)?),
-            members: Sequence::from(policy_members(alloc, bytes)?),
-        }),
+        Ok(policy) => {
+            let text = DocumentText::read(alloc, bytes)?;
+            Ok(PolicyReading::Read {
+                policy,
+                nulls: Sequence::from(policy_nulls(alloc, &text)?),
+                members: Sequence::from(policy_members(alloc, &text)?),
+            })
+        }
         Err(PolicyFault::BadPolicy(part)) => {
             Ok(PolicyReading::Bad(whole(alloc, Fault::BadPolicy(part))))
         }
@@ -148,12 +152,15 @@ fn body_reading(alloc: Global, body: &[u8]) -> Result<LayoutReading, AllocError>
     ensures { IfOk result (IsBodyReading body.now) }
 {
     match read_layout(alloc, body) {
-        Ok(layout) => Ok(LayoutReading::Read {
-            layout,
-            nulls: Sequence::from(layout_nulls(alloc, body)?),
-            places: Sequence::from(no_thresholds(alloc, body)?),
-            members: Sequence::from(layout_members(alloc, body)?),
-        }),
+        Ok(layout) => {
+            let text = DocumentText::read(alloc, body)?;
+            Ok(LayoutReading::Read {
+                layout,
+                nulls: Sequence::from(layout_nulls(alloc, &text)?),
+                places: Sequence::from(no_thresholds(alloc, &text)?),
+                members: Sequence::from(layout_members(alloc, &text)?),
+            })
+        }
         Err(LayoutFault::BadLayout(part)) => {
             Ok(LayoutReading::Bad(whole(alloc, Fault::BadLayout(part))))
         }

@@ -8,4 +8,5 @@ pub mod NullLists
 pub mod Reaching
 pub mod Saying
 pub mod SeenIds
+pub mod Texts
 pub mod Unmet

@@ -3,6 +3,7 @@
 #![tactic(auto)]
 
 mod closed;
+pub mod document_text;
 pub mod finding;
 mod identity_findings;
 mod in_expectations;

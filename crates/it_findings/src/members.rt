@@ -7,6 +7,7 @@ ghost use Rattle.it_findings.specs.Members.{LayoutMembers, MembersOfLayout, Memb
 ghost use Rattle.it_findings.specs.Members.{OthersIn, PolicyMembers, StepMembers};
 ghost use Rattle.it_findings.specs.NullKeys.{list_at, listed};
 
+use crate::document_text::DocumentText;
 use crate::key_members::key_list_members;
 use crate::member_finding::MemberFinding;
 use crate::null_key::KeyList;
@@ -14,58 +15,68 @@ use crate::null_keys::items_at;
 use crate::place::Place;
 use crate::repeated::repeated_in;
 use crate::unread::unread_members;
-use it_base::document::read_document;
 use it_repeats::root::Root;
 use serde_json::Value;
 use std::alloc::{AllocError, Global};
 
 /// What is found in the members of the document that is a policy: first those that come again, in
 /// the order of the text, and then the others: in the policy itself, in its owners, and then in
-/// each expectation and its builders in order. Nothing is found where the bytes are no document.
+/// each expectation and its builders in order. Nothing is found where the text is no document.
 ///
 /// # Errors
 ///
 /// `AllocError` where memory was refused.
-pub fn policy_members(alloc: Global, bytes: &[u8]) -> Result<Vec<MemberFinding>, AllocError>
-    ensures { IfOk result (λ found. MembersOfPolicy bytes.now found.items) }
+pub fn policy_members(
+    alloc: Global,
+    text: &DocumentText<'_>,
+) -> Result<Vec<MemberFinding>, AllocError>
+    ensures { IfOk result (λ found. MembersOfPolicy text.now found.items) }
 {
-    let mut found = repeated_in(alloc, Root::Policy, bytes)?;
-    let mut others = others_in_policy(alloc, bytes)?;
+    let mut found = repeated_in(alloc, Root::Policy, text.bytes)?;
+    let mut others = others_in_policy(alloc, text)?;
     found.append(&mut others)?;
     Ok(found)
 }
 
 /// What is found in the members of the document that is the body of a layout: first those that come
 /// again, in the order of the text, and then the others: in the layout itself, in its keys, and
-/// then in its steps and its inspections in order. Nothing is found where the bytes are no
-/// document.
+/// then in its steps and its inspections in order. Nothing is found where the text is no document.
 ///
 /// # Errors
 ///
 /// `AllocError` where memory was refused.
-pub fn layout_members(alloc: Global, body: &[u8]) -> Result<Vec<MemberFinding>, AllocError>
-    ensures { IfOk result (λ found. MembersOfLayout body.now found.items) }
+pub fn layout_members(
+    alloc: Global,
+    text: &DocumentText<'_>,
+) -> Result<Vec<MemberFinding>, AllocError>
+    ensures { IfOk result (λ found. MembersOfLayout text.now found.items) }
 {
-    let mut found = repeated_in(alloc, Root::Layout, body)?;
-    let mut others = others_in_layout(alloc, body)?;
+    let mut found = repeated_in(alloc, Root::Layout, text.bytes)?;
+    let mut others = others_in_layout(alloc, text)?;
     found.append(&mut others)?;
     Ok(found)
 }
 
-fn others_in_policy(alloc: Global, bytes: &[u8]) -> Result<Vec<MemberFinding>, AllocError>
-    ensures { IfOk result (λ found. OthersIn PolicyMembers bytes.now found.items) }
+fn others_in_policy(
+    alloc: Global,
+    text: &DocumentText<'_>,
+) -> Result<Vec<MemberFinding>, AllocError>
+    ensures { IfOk result (λ found. OthersIn PolicyMembers text.now found.items) }
 {
-    match read_document(alloc, bytes)? {
-        Some(document) => members_in_policy(alloc, &document),
+    match &text.document {
+        Some(document) => members_in_policy(alloc, document),
         None => Ok(Vec::new(alloc)),
     }
 }
 
-fn others_in_layout(alloc: Global, body: &[u8]) -> Result<Vec<MemberFinding>, AllocError>
-    ensures { IfOk result (λ found. OthersIn LayoutMembers body.now found.items) }
+fn others_in_layout(
+    alloc: Global,
+    text: &DocumentText<'_>,
+) -> Result<Vec<MemberFinding>, AllocError>
+    ensures { IfOk result (λ found. OthersIn LayoutMembers text.now found.items) }
 {
-    match read_document(alloc, body)? {
-        Some(document) => members_in_layout(alloc, &document),
+    match &text.document {
+        Some(document) => members_in_layout(alloc, document),
         None => Ok(Vec::new(alloc)),
     }
 }

@@ -6,22 +6,23 @@ ghost use Rattle.it_findings.specs.Joined.{Joined};
 ghost use Rattle.it_findings.specs.NoThresholds.{NoThreshold, NoThresholds, NoThresholdsOf};
 ghost use Rattle.it_findings.specs.NullKeys.{listed};
 
+use crate::document_text::DocumentText;
 use crate::null_keys::items_at;
-use it_base::document::{member, read_document};
+use it_base::document::member;
 use serde_json::Value;
 use std::alloc::{AllocError, Global};
 
 /// The places of the steps without a threshold in the document that is the body of a layout. There
-/// are none where the bytes are no document.
+/// are none where the text is no document.
 ///
 /// # Errors
 ///
 /// `AllocError` where memory was refused.
-pub fn no_thresholds(alloc: Global, body: &[u8]) -> Result<Vec<usize>, AllocError>
-    ensures { IfOk result (λ places. NoThresholdsOf body.now places.items) }
+pub fn no_thresholds(alloc: Global, text: &DocumentText<'_>) -> Result<Vec<usize>, AllocError>
+    ensures { IfOk result (λ places. NoThresholdsOf text.now places.items) }
 {
-    match read_document(alloc, body)? {
-        Some(document) => places_in(alloc, &document),
+    match &text.document {
+        Some(document) => places_in(alloc, document),
         None => Ok(Vec::new(alloc)),
     }
 }

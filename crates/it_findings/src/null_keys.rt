@@ -10,38 +10,39 @@ ghost use Rattle.it_findings.specs.NullKeys.{BuilderNulls, ExpectationNulls, Lay
 ghost use Rattle.it_findings.specs.NullKeys.{NullsOf, PolicyNulls, list_at, listed, null_ids};
 ghost use Rattle.it_findings.specs.NullKeys.{null_key};
 
+use crate::document_text::DocumentText;
 use crate::null_key::{KeyList, NullKey};
-use it_base::document::{member, read_document};
+use it_base::document::member;
 use it_base::text::Text;
 use serde_json::{Map, Value};
 use std::alloc::{AllocError, Global};
 
 /// The key objects that are null in the document that is a policy: in its owners, and then in the
-/// builders of each expectation in order. There are none where the bytes are no document.
+/// builders of each expectation in order. There are none where the text is no document.
 ///
 /// # Errors
 ///
 /// `AllocError` where memory was refused.
-pub fn policy_nulls(alloc: Global, bytes: &[u8]) -> Result<Vec<NullKey>, AllocError>
-    ensures { IfOk result (λ found. NullsOf PolicyNulls bytes.now found.items) }
+pub fn policy_nulls(alloc: Global, text: &DocumentText<'_>) -> Result<Vec<NullKey>, AllocError>
+    ensures { IfOk result (λ found. NullsOf PolicyNulls text.now found.items) }
 {
-    match read_document(alloc, bytes)? {
-        Some(document) => nulls_in_policy(alloc, &document),
+    match &text.document {
+        Some(document) => nulls_in_policy(alloc, document),
         None => Ok(Vec::new(alloc)),
     }
 }
 
 /// The key objects that are null in the document that is the body of a layout. There are none where
-/// the bytes are no document.
+/// the text is no document.
 ///
 /// # Errors
 ///
 /// `AllocError` where memory was refused.
-pub fn layout_nulls(alloc: Global, body: &[u8]) -> Result<Vec<NullKey>, AllocError>
-    ensures { IfOk result (λ found. NullsOf LayoutNulls body.now found.items) }
+pub fn layout_nulls(alloc: Global, text: &DocumentText<'_>) -> Result<Vec<NullKey>, AllocError>
+    ensures { IfOk result (λ found. NullsOf LayoutNulls text.now found.items) }
 {
-    match read_document(alloc, body)? {
-        Some(document) => null_keys(alloc, KeyList::OfLayout, &document, "keys"),
+    match &text.document {
+        Some(document) => null_keys(alloc, KeyList::OfLayout, document, "keys"),
         None => Ok(Vec::new(alloc)),
     }
 }

@@ -10,6 +10,7 @@ use it_chain::chain::StepResult;
 use it_check::findings_in_layout;
 use it_docs::layout::Layout;
 use it_docs::rule::Side;
+use it_findings::document_text::DocumentText;
 use it_findings::finding::{Finding, RuleList};
 use it_findings::{layout_members, layout_nulls, no_thresholds};
 use it_rules::item::Item;
@@ -30,9 +31,10 @@ pub(crate) fn counting_findings(
     ensures { IfOk result (λ counting.
         LayoutCounting payload.now layout.now steps.now counting.items) }
 {
-    let members = layout_members(alloc, payload)?;
-    let nulls = layout_nulls(alloc, payload)?;
-    let places = no_thresholds(alloc, payload)?;
+    let text = DocumentText::read(alloc, payload)?;
+    let members = layout_members(alloc, &text)?;
+    let nulls = layout_nulls(alloc, &text)?;
+    let places = no_thresholds(alloc, &text)?;
     let all = findings_in_layout(
         alloc,
         layout,

@@ -19,6 +19,7 @@ use it_base::sequence::Sequence;
 use it_base::text::Text;
 use it_check::{findings_in_policy, push_findings};
 use it_dsse::checks::Checks;
+use it_findings::document_text::DocumentText;
 use it_findings::finding::Finding;
 use it_findings::{policy_members, policy_nulls};
 use it_nonces::SharedNonce;
@@ -100,8 +101,9 @@ pub fn found_in_policy(
 ) -> Result<Vec<Finding>, AllocError>
     ensures { IfOk result (λ found. PolicyFound bytes.now documents.now found.items) }
 {
-    let members = policy_members(alloc, bytes)?;
-    let nulls = policy_nulls(alloc, bytes)?;
+    let text = DocumentText::read(alloc, bytes)?;
+    let members = policy_members(alloc, &text)?;
+    let nulls = policy_nulls(alloc, &text)?;
     let (members, nulls) = (members.as_slice(), nulls.as_slice());
     let layout = Some(&documents.layout);
     let mut found = findings_in_policy(alloc, layout, &documents.policy, members, nulls)?;

@@ -1,16 +1,15 @@
-use Rattle.std.proofs.Common.{subst}
 use Rattle.std.proofs.lemmas.Result.{IfOk-weaker}
 use Rattle.serde_json.specs.View.{view}
-use Rattle.it_base.proofs.Documents.{same_document}
 use Rattle.it_findings.specs.Members.{OthersIn, PolicyMembers}
+use Rattle.it_findings.proofs.Texts.{in_each_document}
 use Rattle.it_findings.proofs.members.others_in_policy.Goals as goal
 
 pub returns-in-Some : goal.returns-in-Some
 returns-in-Some c =
-    let read = rw c.in-Some.is at c.in_ok-document.ensures in
-    IfOk-weaker c.members_in_policy.result
+    let bytes = c.text.inside.bytes.now in
+    let read = rw c.in-Some.is at c.text.invariant in
+    rw (← c.text.view_is) (IfOk-weaker c.members_in_policy.result
     (λ found. PolicyMembers (view c.in-Some.document) found.items)
-    (λ found. OthersIn PolicyMembers c.args.bytes.now found.items)
-    (λ found h d is. subst (λ x. PolicyMembers x found.items)
-    (same_document c.args.bytes.now (view c.in-Some.document) d read is) h)
-    c.members_in_policy.ensures
+    (λ found. OthersIn PolicyMembers bytes found.items)
+    (λ found h. in_each_document PolicyMembers bytes (view c.in-Some.document) found.items read h)
+    c.members_in_policy.ensures)

@@ -1,15 +1,15 @@
-use Rattle.std.proofs.Common.{subst}
 use Rattle.std.proofs.lemmas.Result.{IfOk-weaker}
 use Rattle.serde_json.specs.View.{view}
-use Rattle.it_base.proofs.Documents.{same_document}
-use Rattle.it_findings.specs.NullKeys.{PolicyNulls, NullsOf}
+use Rattle.it_findings.specs.NullKeys.{NullsOf, PolicyNulls}
+use Rattle.it_findings.proofs.Texts.{in_each_document}
 use Rattle.it_findings.proofs.null_keys.policy_nulls.Goals as goal
 
 pub returns-in-Some : goal.returns-in-Some
 returns-in-Some c =
-    let read = rw c.in-Some.is at c.in_ok-document.ensures in
-    IfOk-weaker c.nulls_in_policy.result (λ found. PolicyNulls (view c.in-Some.document) found.items)
-    (λ found. NullsOf PolicyNulls c.args.bytes.now found.items)
-    (λ found h d is. subst (λ x. PolicyNulls x found.items)
-    (same_document c.args.bytes.now (view c.in-Some.document) d read is) h)
-    c.nulls_in_policy.ensures
+    let bytes = c.text.inside.bytes.now in
+    let read = rw c.in-Some.is at c.text.invariant in
+    rw (← c.text.view_is) (IfOk-weaker c.nulls_in_policy.result
+    (λ found. PolicyNulls (view c.in-Some.document) found.items)
+    (λ found. NullsOf PolicyNulls bytes found.items)
+    (λ found h. in_each_document PolicyNulls bytes (view c.in-Some.document) found.items read h)
+    c.nulls_in_policy.ensures)

@@ -10,7 +10,8 @@ import re
 import by_keys
 from on_disk import bytes_of
 from peer_documents import document_of, envelope_of
-from peer_keys import known_key, secrets_of
+from peer_keys import known_key, known_keys, owners_of, secrets_of
+from signing_keys import P384Key
 
 DIGITS = re.compile("[0-9a-fA-F]{64}")
 # The members of layouts and of steps by in-toto 1.0.
@@ -93,6 +94,13 @@ def has_mixed_object(case):
                for one in objects_of(case) if one.get("scheme") != "hmac-sha256")
 
 
+def has_other_curve(case):
+    """Whether a key object has the scheme of one curve and a key of another."""
+    keys = [(known_keys().get(one["keyval"]["public"].strip()), one.get("scheme"))
+            for one in objects_of(case)]
+    return any(key and by_keys.key(key)["scheme"] != scheme for key, scheme in keys)
+
+
 def has_odd_pem(case):
     """Whether the PEM text of a key has more around it, or another label."""
     texts = [one["keyval"]["public"] for one in objects_of(case)]
@@ -115,6 +123,16 @@ def has_other_keyid(case):
     """Whether a key object has a `keyid` that is not the id under which it is listed."""
     return any(thing.get("keyid", who) != who for _, keys in steps_of(case)
                for who, thing in keys.items() if isinstance(thing, dict))
+
+
+def has_null_key(case):
+    """Whether null stands in place of a key object."""
+    return any(thing is None for _, keys in steps_of(case) for thing in keys.values())
+
+
+def has_owner_by_p384(case):
+    """Whether an owner has a key of P-384."""
+    return any(isinstance(known_key(thing), P384Key) for thing in owners_of(case).values())
 
 
 def has_slash_behind(case):
@@ -164,6 +182,7 @@ ODD = [
     (33, has_odd_pem, "The PEM text of a key has a line before it, an empty line behind it or "
      "another label."),
     (33, has_mixed_object, MIXED),
+    (33, has_other_curve, "A key object has the scheme of one curve and a key of another."),
     (33, has_one_key_twice, "Two ids of a step have one key, and count as two."),
     (34, has_links_apart, "Links of a step differ whose threshold is 1; the definitions compare "
      "all that count."),
@@ -173,6 +192,9 @@ ODD = [
      "is signed with the others, and the definitions ignore it."),
     (None, has_other_keyid, "A key object has a `keyid` that is not the id under which the layout "
      "lists it; the definitions go by the latter."),
+    (None, has_null_key, "A key object is null, which the definitions take as missing."),
+    (None, has_owner_by_p384, "An owner has a key of P-384, whose PEM text the command takes as one "
+     "of P-256, which has another id."),
     (None, has_slash_behind, "A path ends in `/`, and what is said names it without."),
     (None, has_caret, "A pattern has a set that begins with `^`, in which the definitions take it "
      "as a character like others."),

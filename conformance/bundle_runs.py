@@ -40,7 +40,7 @@ MISSES = [
     ("no-certificate", "it has no certificate"),
     ("two-forms", "it has both a certificate and a chain"),
     ("chain-in-0.3", "bundles of version 0.3 have one certificate, not a chain"),
-    ("certificate-base64", "its certificate has no bytes, or not in base64"),
+    ("certificate-base64", "its certificate is empty, or not in base64"),
     ("no-entry", "it has no entry of a transparency log"),
     ("many-entries", "it has more than 8 entries"),
     ("leaf-key", "its certificate has a key of another curve"),
@@ -53,7 +53,7 @@ MISSES = [
     ("entry-form entry-promise proof-form",
      "its entry has a member that is missing or of another form"),
     ("entry-log", "its entry is of no log of the trusted root that is used"),
-    ("entry-log-window", "its entry's time is outside the time of that log"),
+    ("entry-log-window", "its entry is from a time at which its log was not trusted"),
     ("entry-kind", "its entry is of another kind than dsse 0.0.1 and intoto 0.0.2"),
     ("body-form", "its entry's body does not read"),
     ("body-payload", "its entry is not about its payload"),
@@ -67,15 +67,17 @@ MISSES = [
     ("checkpoint-signature", "the log did not sign the checkpoint of its inclusion proof"),
     ("entry-timestamp", "the log did not sign its entry's time"),
     ("authority-name", "no authority that is used has the name of the certificate's issuer"),
-    ("authority-window", "that authority did not count at the time of its entry"),
+    ("authority-window", "the certificate's issuer was not trusted at the time of its entry"),
     ("leaf-time", "the certificate was not valid at the time of its entry"),
-    ("authority-time", "a certificate of that authority was not valid at the time of its entry"),
-    ("authority-signature", "that authority did not sign the certificate"),
+    ("authority-time",
+     "a certificate of the certificate's issuer was not valid at the time of its entry"),
+    ("authority-signature",
+     "the certificate is not signed by its issuer with the digest for the issuer's key"),
     ("sct-missing", "the certificate has no timestamp of a certificate log"),
     ("sct-form", "its timestamps do not read"),
     ("sct-log", "none of its timestamps is of a log of the trusted root that is used"),
-    ("sct-window", "its timestamp is outside the time of that log"),
-    ("sct-signature", "that log did not sign the certificate's timestamp"),
+    ("sct-window", "its timestamp is from a time at which its log was not trusted"),
+    ("sct-signature", "its log did not sign the certificate's timestamp"),
     ("envelope-signature", "the certificate's key did not sign the envelope"),
 ]
 # What it says of the cases of certificates that are not read.
@@ -109,7 +111,7 @@ UNREAD = {
 # What it says of some cases: a list has no members, and a chain of none has no first certificate.
 NO_IDENTITY = "its certificate's name or issuer is empty or has more than 512 bytes"
 SAID = {"material-is-a-list": "it has no certificate",
-        "empty-chain": "its certificate has no bytes, or not in base64",
+        "empty-chain": "its certificate is empty, or not in base64",
         "name-empty": NO_IDENTITY, "issuer-empty": NO_IDENTITY}
 # The type of a trusted root, and files that are none, with what is said of each.
 TYPE = {"mediaType": "application/vnd.dev.sigstore.trustedroot+json;version=0.1"}

@@ -287,6 +287,6 @@ def check_logged(leaf, info, logs):
     found = [(one, log) for one in timestamps_in(items) for log in logs if one.log == log.id]
     need(found, "none of its timestamps is of a log of the trusted root that is used")
     found = [(one, log) for one, log in found if one.is_in_window(log)]
-    need(found, "its timestamp is outside the time of that log")
+    need(found, "its timestamp is from a time at which its log was not trusted")
     need(any(is_valid(log.info, signed_by_log(leaf, info, one), one.sig) for one, log in found),
-         "that log did not sign the certificate's timestamp")
+         "its log did not sign the certificate's timestamp")

@@ -68,12 +68,12 @@ class Authority(NamedTuple):
         """Raises Unfit where it did not issue a leaf at a moment in seconds."""
         need(leaf.issuer == self.certificates[0].subject, OF_NOBODY)
         need(self.window.holds(moment * 10**9),
-             "that authority did not count at the time of its entry")
+             "the certificate's issuer was not trusted at the time of its entry")
         need(leaf.is_valid_at(moment), "the certificate was not valid at the time of its entry")
         need(all(one.is_valid_at(moment) for one in self.certificates),
-             "a certificate of that authority was not valid at the time of its entry")
+             "a certificate of the certificate's issuer was not valid at the time of its entry")
         need(leaf.is_signed_by(self.certificates[0].info),
-             "that authority did not sign the certificate")
+             "the certificate is not signed by its issuer with the digest for the issuer's key")
 
 
 def authority_in(value):
@@ -216,7 +216,7 @@ class Entry:
         """Raises Unfit where it does not vouch, by a log, for what must be signed."""
         need(self.log == log.id, OF_NO_LOG)
         need(log.window.holds(self.moment * 10**9),
-             "its entry's time is outside the time of that log")
+             "its entry is from a time at which its log was not trusted")
         need(self.kind in (DSSE, INTOTO),
              "its entry is of another kind than dsse 0.0.1 and intoto 0.0.2")
         self.check_body(signed)

@@ -95,7 +95,7 @@ class Bundle:
         need(alone is None or chain is None, "it has both a certificate and a chain")
         need(chain is None or self.version < 3,
              "bundles of version 0.3 have one certificate, not a chain")
-        return saying("its certificate has no bytes, or not in base64", raw_bytes, alone, chain)
+        return saying("its certificate is empty, or not in base64", raw_bytes, alone, chain)
 
     def entries(self):
         """The elements that are to be entries of a transparency log."""

@@ -31,9 +31,8 @@ pub struct Certificate<'b> {
     pub known: Known,
 }
 
-/// The certificate that the bytes are. `None` where they are none, or one that is refused: for its
-/// algorithm, its key, an extension twice, a critical extension that is not known, or name
-/// constraints.
+/// The certificate that the bytes are. `None` where they are none, or one that is refused:
+/// `CertificateShortfall` has the conditions.
 ///
 /// # Errors
 ///

@@ -93,8 +93,8 @@ pub enum Fault {
     /// An envelope that a signature is to be added to has another payload type.
     #[error("{path} has another payload type than {kind}")]
     OtherType { path: Shown, kind: Shown },
-    /// More signatures would have to be checked for Sigstore bundles than this.
-    #[error("more than {limit} signatures would have to be checked for Sigstore bundles")]
+    /// More signatures would have to be checked with a trusted root than this.
+    #[error("more than {limit} signatures would have to be checked with the trusted root")]
     TooManyChecks { limit: u64 },
     /// The output cannot be written, for this reason.
     #[error("cannot write the output: {reason}")]

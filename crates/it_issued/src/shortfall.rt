@@ -44,9 +44,9 @@ pub enum LogShortfall {
     Form,
     /// None of them has the id of a log that is trusted.
     Log,
-    /// None of those that have is from a moment at which that log was trusted.
+    /// None that has one is from a moment at which its log was trusted.
     Window,
-    /// None of those that are is signed by that log.
+    /// None that has one, and is from such a moment, is signed by its log.
     Signature,
 }
 

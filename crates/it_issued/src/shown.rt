@@ -1,7 +1,7 @@
 //! What certificate logs were shown.
 use it_budget::SharedBudget;
 
-/// What a log was shown, and the budget of the checks whether it was.
+/// What a log was shown, and the budget of the checks of what it signed.
 #[derive(Drop)]
 pub(crate) struct Shown<'b> {
     /// The budget, of which each check of a timestamp's signature takes one.

@@ -21,7 +21,7 @@ MissesWith needs_proof entry logged (Usable log) missed =
     EntryMisses log needs_proof entry logged missed
 MissesWith needs_proof entry logged (PassedOver reason) missed = missed ≡ shortfalls.Log
 
--- with one of these logs; where there is none, the entry is of another log
+-- with one of these logs, or the first condition, that the entry is of one of them
 abbrev pub MissesWithOne : List RootLog → Bool → LogEntry → Logged → EntryShortfall → Type 0
 MissesWithOne logs needs_proof entry logged missed =
     IsMissedByOne shortfalls.Log (MissesWith needs_proof entry logged) logs missed

@@ -35,7 +35,7 @@ pub record IsMissedByAuthority (logs : List RootLog) (leaf : Facts) (moment : �
   pub usable : IsUsable authority certificates
   pub misses : MissesWith logs leaf moment authority.window certificates missed
 
--- with one of the authorities of a root; where there is none, the leaf names another
+-- with one of the authorities of a root, or the first condition, that one has its issuer's name
 abbrev pub IsMissedByLeaf : TrustedRoot → Facts → ℕ → IssuerShortfall → Type 0
 IsMissedByLeaf root leaf moment missed =
     IsMissedByOne (Issue Name) (IsMissedByAuthority root.certificate_logs leaf moment)

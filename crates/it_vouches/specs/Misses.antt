@@ -1,5 +1,5 @@
 -- Which condition a bundle misses that vouches for nobody: the first that it does not meet, in an
--- order that is this profile's choice. It meets those before, and what is said of each says so.
+-- order that is this profile's choice. It meets those before it.
 use Rattle.std.specs.Prelude.{◌≡◌, ◌≢◌, ℕ, List, None, MatchOption, Any, Contains, length}
 use Rattle.it_bundle.specs.declared.bundle.SigstoreBundle.{SigstoreBundle}
 use Rattle.it_bundle.specs.declared.certificate.BundleCertificate.TheVariants.{Bytes, Lacks}

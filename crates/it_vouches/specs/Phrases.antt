@@ -30,7 +30,7 @@ certificate_phrase_of reasons.Missing = codes "it has no certificate"
 certificate_phrase_of reasons.TwoForms = codes "it has both a certificate and a chain"
 certificate_phrase_of reasons.Chain =
     codes "bundles of version 0.3 have one certificate, not a chain"
-certificate_phrase_of reasons.Unreadable = codes "its certificate has no bytes, or not in base64"
+certificate_phrase_of reasons.Unreadable = codes "its certificate is empty, or not in base64"
 
 -- why the extensions of its certificate are not read
 abbrev pub extensions_phrase_of : ExtensionsShortfall → List ℕ
@@ -87,7 +87,7 @@ checkpoint_phrase_of checkpoints.Signature =
 -- why no log vouches by an entry
 abbrev pub entry_phrase_of : EntryShortfall → List ℕ
 entry_phrase_of entries.Log = codes "its entry is of no log of the trusted root that is used"
-entry_phrase_of entries.Time = codes "its entry's time is outside the time of that log"
+entry_phrase_of entries.Time = codes "its entry is from a time at which its log was not trusted"
 entry_phrase_of entries.Kind =
     codes "its entry is of another kind than dsse 0.0.1 and intoto 0.0.2"
 entry_phrase_of (entries.Body part) = body_phrase_of part
@@ -100,19 +100,22 @@ entry_phrase_of entries.Promise = codes "the log did not sign its entry's time"
 abbrev pub issue_phrase_of : IssueShortfall → List ℕ
 issue_phrase_of issues.Name =
     codes "no authority that is used has the name of the certificate's issuer"
-issue_phrase_of issues.Window = codes "that authority did not count at the time of its entry"
+issue_phrase_of issues.Window =
+    codes "the certificate's issuer was not trusted at the time of its entry"
 issue_phrase_of issues.LeafTime = codes "the certificate was not valid at the time of its entry"
 issue_phrase_of issues.AuthorityTime =
-    codes "a certificate of that authority was not valid at the time of its entry"
-issue_phrase_of issues.Signature = codes "that authority did not sign the certificate"
+    codes "a certificate of the certificate's issuer was not valid at the time of its entry"
+issue_phrase_of issues.Signature =
+    codes "the certificate is not signed by its issuer with the digest for the issuer's key"
 
 -- why no certificate log promised to log it
 abbrev pub log_phrase_of : LogShortfall → List ℕ
 log_phrase_of logs.Missing = codes "the certificate has no timestamp of a certificate log"
 log_phrase_of logs.Form = codes "its timestamps do not read"
 log_phrase_of logs.Log = codes "none of its timestamps is of a log of the trusted root that is used"
-log_phrase_of logs.Window = codes "its timestamp is outside the time of that log"
-log_phrase_of logs.Signature = codes "that log did not sign the certificate's timestamp"
+log_phrase_of logs.Window =
+    codes "its timestamp is from a time at which its log was not trusted"
+log_phrase_of logs.Signature = codes "its log did not sign the certificate's timestamp"
 
 abbrev pub issuer_phrase_of : IssuerShortfall → List ℕ
 issuer_phrase_of (Issue missed) = issue_phrase_of missed

@@ -21,7 +21,7 @@ pub(crate) fn certificate_phrase(reason: NoCertificate) -> &'static str
         NoCertificate::Missing => "it has no certificate",
         NoCertificate::TwoForms => "it has both a certificate and a chain",
         NoCertificate::Chain => "bundles of version 0.3 have one certificate, not a chain",
-        NoCertificate::Unreadable => "its certificate has no bytes, or not in base64",
+        NoCertificate::Unreadable => "its certificate is empty, or not in base64",
     }
 }
 
@@ -89,7 +89,7 @@ pub(crate) fn entry_phrase(missed: EntryShortfall) -> &'static str
 {
     match missed {
         EntryShortfall::Log => "its entry is of no log of the trusted root that is used",
-        EntryShortfall::Time => "its entry's time is outside the time of that log",
+        EntryShortfall::Time => "its entry is from a time at which its log was not trusted",
         EntryShortfall::Kind => { "its entry is of another kind than dsse 0.0.1 and intoto 0.0.2" }
         EntryShortfall::Body(part) => body_phrase(part),
         EntryShortfall::NoProof => "its entry has no inclusion proof",
@@ -140,12 +140,14 @@ fn issue_phrase(missed: IssueShortfall) -> &'static str
         IssueShortfall::Name => {
             "no authority that is used has the name of the certificate's issuer"
         }
-        IssueShortfall::Window => "that authority did not count at the time of its entry",
+        IssueShortfall::Window =>
+            "the certificate's issuer was not trusted at the time of its entry",
         IssueShortfall::LeafTime => "the certificate was not valid at the time of its entry",
         IssueShortfall::AuthorityTime => {
-            "a certificate of that authority was not valid at the time of its entry"
+            "a certificate of the certificate's issuer was not valid at the time of its entry"
         }
-        IssueShortfall::Signature => "that authority did not sign the certificate",
+        IssueShortfall::Signature =>
+            "the certificate is not signed by its issuer with the digest for the issuer's key",
     }
 }
 
@@ -156,7 +158,7 @@ fn log_phrase(missed: LogShortfall) -> &'static str
         LogShortfall::Missing => "the certificate has no timestamp of a certificate log",
         LogShortfall::Form => "its timestamps do not read",
         LogShortfall::Log => "none of its timestamps is of a log of the trusted root that is used",
-        LogShortfall::Window => "its timestamp is outside the time of that log",
-        LogShortfall::Signature => "that log did not sign the certificate's timestamp",
+        LogShortfall::Window => "its timestamp is from a time at which its log was not trusted",
+        LogShortfall::Signature => "its log did not sign the certificate's timestamp",
     }
 }

@@ -31,9 +31,10 @@ pub enum Shortfall {
     /// None of its entries is about its signature and by a log of the trusted root. Of all entries
     /// and logs, this is the furthest condition that is missed.
     Log(EntryShortfall),
-    /// At the time of none of the entries that are, an authority of the trusted root issued its
-    /// certificate, and was promised by a certificate log that it is logged. Of all these entries
-    /// and all authorities, this is the furthest condition that is missed.
+    /// Some of its entries are about its signature and by a log of the trusted root, but at none of
+    /// their times an authority of the trusted root issued its certificate and was promised by a
+    /// certificate log that it is logged. Of all these entries and all authorities, this is the
+    /// furthest condition that is missed.
     Issuer(IssuerShortfall),
     /// The certificate's key did not sign the envelope.
     Signature,

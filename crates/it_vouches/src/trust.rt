@@ -17,7 +17,8 @@ use std::alloc::{AllocError, Global};
 use std::marker::Model;
 
 /// How many signatures are checked with a trusted root at most: for all bundles, and for the
-/// certificates of its authorities. Of a bundle that vouches they are five, where it has one entry.
+/// certificates of its authorities. Of a public bundle that vouches they are five: it has one
+/// entry, with one signature line.
 pub const MOST_CHECKS: u64 = 50_000;
 
 /// A trusted root, with those of its authorities that can be used: their certificates are read and
@@ -57,7 +58,8 @@ impl<'r> Trust<'r> {
     ///
     /// # Errors
     ///
-    /// `AllocError` where memory was refused, or where its authorities have more certificates.
+    /// `AllocError` where memory was refused, or where the certificates of its authorities have
+    /// more signatures to check.
     pub fn within(
         alloc: Global,
         root: &'r TrustedRoot,

@@ -48,9 +48,8 @@ pub fn vouched_identity(
 }
 
 /// Whom a bundle vouches for, by a trusted root, and by an entry of which time, or the first
-/// condition that it misses. What costs
-/// no signature is looked at first; then the entries, the leaf's issuer, its timestamps and last
-/// the signature of the envelope.
+/// condition that it misses. What costs no signature is looked at first; then the entries, the
+/// leaf's issuer, its timestamps and last the signature of the envelope.
 ///
 /// # Errors
 ///

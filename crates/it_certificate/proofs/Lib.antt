@@ -13,3 +13,5 @@ pub mod OneFacts
 pub mod Leaving
 pub mod Chaining
 pub mod OneLeaf
+pub mod OneShortfall
+pub mod OneIssuing

@@ -14,6 +14,12 @@ use Rattle.it_certificate.specs.declared.constraints.Constraints.TheVariants.{Au
 use Rattle.it_certificate.specs.declared.subject_key.Curve.{Curve}
 use Rattle.it_certificate.specs.declared.subject_key.Curve.TheVariants.{P256, P384}
 
+-- an authority's
+abbrev pub IsOfAuthority : Option Constraints → Type 0
+IsOfAuthority None = ⊥
+IsOfAuthority (Some NoAuthority) = ⊥
+IsOfAuthority (Some (Authority length)) = ⊤
+
 -- an authority's, with a path length, if it has one, of at least so many
 abbrev pub IsAuthorityOver : ℕ → Option Constraints → Type 0
 IsAuthorityOver place None = ⊥
@@ -21,11 +27,19 @@ IsAuthorityOver place (Some NoAuthority) = ⊥
 IsAuthorityOver place (Some (Authority None)) = ⊤
 IsAuthorityOver place (Some (Authority (Some most))) = place ≤ most
 
+-- its key usage is for certificates
+abbrev pub SignsCertificates : Facts → Type 0
+SignsCertificates f = MatchOption f.known.usage ⊥ (λ u. u.signs_certificates ≡ true)
+
+-- where it has purposes, code signing or any purpose is among them
+abbrev pub MayBeForCode : Facts → Type 0
+MayBeForCode f = MatchOption f.known.purposes ⊤ (λ p. (p.code_signing || p.any) ≡ true)
+
 -- the certificate may issue others, with so many certificates of the authority before it
 pub record MayIssue (place : ℕ) (f : Facts) : Type 0 where
   pub authority : IsAuthorityOver place f.known.constraints
-  pub signs : MatchOption f.known.usage ⊥ (λ u. u.signs_certificates ≡ true)
-  pub for_code : MatchOption f.known.purposes ⊤ (λ p. (p.code_signing || p.any) ≡ true)
+  pub signs : SignsCertificates f
+  pub for_code : MayBeForCode f
 
 -- each may, the first with so many before it
 abbrev pub MayIssueFrom : ℕ → List Facts → Type 0

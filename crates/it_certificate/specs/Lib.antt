@@ -21,4 +21,5 @@ pub mod CertificateMissed
 pub mod Leaf
 pub mod LeafMisses
 pub mod Authority
+pub mod IssuingMisses
 pub mod Laws

@@ -6,7 +6,7 @@ ghost use Rattle.it_certificate.specs.Certificate.{facts_of};
 
 use crate::algorithm::Algorithm;
 use crate::certificate::Certificate;
-use crate::constraints::Constraints;
+use crate::issuing::issuing_shortfall;
 use crate::subject_key::Curve;
 
 /// Whether the certificates may be those of an authority: there is one, each may issue certificates
@@ -50,21 +50,7 @@ fn may_issue_in_turn(certificates: &[Certificate<'_>]) -> bool
 fn may_issue(certificate: &Certificate<'_>, place: usize) -> bool
     ensures { IsTrue result ↔ MayIssue place (facts_of certificate.now) }
 {
-    let Some(Constraints::Authority(length)) = certificate.known.constraints else {
-        return false;
-    };
-    if let Some(most) = length
-        && usize::from(most) < place
-    {
-        return false;
-    }
-    let Some(usage) = certificate.known.usage else {
-        return false;
-    };
-    match certificate.known.purposes {
-        Some(purposes) => usage.signs_certificates && (purposes.code_signing || purposes.any),
-        None => usage.signs_certificates,
-    }
+    issuing_shortfall(certificate, place).is_none()
 }
 
 fn are_linked(certificates: &[Certificate<'_>]) -> bool
@@ -79,7 +65,7 @@ fn are_linked(certificates: &[Certificate<'_>]) -> bool
 }
 
 /// Whether a certificate names another as its issuer.
-fn names_next(certificate: &Certificate<'_>, next: &Certificate<'_>) -> bool
+pub fn names_next(certificate: &Certificate<'_>, next: &Certificate<'_>) -> bool
     ensures { IsTrue result ↔ (certificate.now.parts.issuer.now ≡ next.now.parts.subject.now) }
 {
     certificate.parts.issuer == next.parts.subject

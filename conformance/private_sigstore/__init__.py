@@ -9,6 +9,7 @@ written by hand here, and signatures made by the package `cryptography` and by a
 each byte can be wrong.
 """
 
+from .authority import Sigstore
 from .bundles import Made
 from .cases import CASES
 from .keys import Key, pem

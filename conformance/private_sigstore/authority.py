@@ -73,8 +73,9 @@ class Sigstore:
         def turned(word, usual):
             return self.knobs.get(f"{which}_{word}", usual)
 
-        subject = Subject(key.info, turned("signer", signer), turned("issuer", issuer),
-                          turned("first", self.first), turned("last", self.last), name)
+        subject = Subject(turned("info", key.info), turned("signer", signer),
+                          turned("issuer", issuer), turned("first", self.first),
+                          turned("last", self.last), name)
         constraints = der(0x30, YES, *([] if path is None else [integer(path)]))
         usage, constraints = turned("usage", SIGNS_CERTIFICATES), turned("basic", constraints)
         purposes, extensions = turned("purposes", purposes), []

@@ -6,7 +6,7 @@ use Rattle.it_certificate.specs.Authority.{MayIssue, MayIssueFrom}
 use Rattle.it_certificate.specs.Certificate.{Facts, facts_of}
 use Rattle.it_certificate.specs.declared.certificate.Certificate.{Certificate}
 use Rattle.it_issued.specs.Signature.{Signs}
-use Rattle.it_root_notes.specs.AuthorityMisses.{Names}
+use Rattle.it_root_notes.specs.AuthorityMisses.{IsBarred, Names}
 use Rattle.it_root_notes.specs.Missing.{MissesFrom}
 use Rattle.it_root_notes.proofs.Standing.{MeetNext}
 
@@ -38,7 +38,7 @@ signed (f ∷ g ∷ fs) all = (all.0, signed (g ∷ fs) all.1)
 
 -- ---- who may issue others
 pub none_barred : (number : ℕ) (fs : List Facts) (n : ℕ) → MayIssueFrom number fs
-    → ¬ MissesFrom MayIssue number fs n
+    → ¬ MissesFrom MayIssue IsBarred number fs n
 none_barred number [] n all = λ misses. misses
 none_barred number (f ∷ fs) zero all = λ misses. misses all.0
 none_barred number (f ∷ fs) (suc n) all = λ misses.
@@ -62,7 +62,7 @@ some_front n (x ∷ xs) some none = cc
 
 barred_last : (number i : ℕ) (xs : List Certificate) → i < length xs
     → MayIssueFrom number (front i xs) → ¬ MayIssueFrom number (front (suc i) xs)
-    → MissesFrom MayIssue number (map facts_of xs) i
+    → MissesFrom MayIssue IsBarred number (map facts_of xs) i
 barred_last number i [] below before none = absurd (omega arith)
 barred_last number zero (x ∷ xs) below before none = λ may. none (may, tt)
 barred_last number (suc i) (x ∷ xs) below before none =
@@ -71,7 +71,7 @@ barred_last number (suc i) (x ∷ xs) below before none =
 -- the certificates up to a place are no chain, and those before it may issue others
 pub one_barred : (i : ℕ) (xs : List Certificate) → i < length xs → AreLinked (map facts_of xs)
     → MayIssueFrom 0 (front i xs) → ¬ IsChain (front (i + 1) xs)
-    → MissesFrom MayIssue 0 (map facts_of xs) i
+    → MissesFrom MayIssue IsBarred 0 (map facts_of xs) i
 one_barred i xs below all before none =
     let none_here = subst (λ (n : ℕ). ¬ IsChain (front n xs)) (add-one i) none in
     barred_last 0 i xs below before (λ may. none_here (record {

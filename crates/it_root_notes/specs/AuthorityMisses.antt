@@ -4,6 +4,8 @@ use Rattle.std.specs.Prelude.{◌≡◌, ℕ, Option, List, []}
 use Rattle.std.specs.List.{AllZip}
 use Rattle.it_certificate.specs.Authority.{AreLinked, IsChain, IsSignedBy, MayIssue}
 use Rattle.it_certificate.specs.Certificate.{CertificateOf, Facts}
+use Rattle.it_certificate.specs.CertificateMissed.{BytesMiss}
+use Rattle.it_certificate.specs.declared.shortfall.CertificateShortfall.{CertificateShortfall}
 use Rattle.it_issued.specs.Issued.{IsUsable}
 use Rattle.it_issued.specs.Misses.{IsShortfall}
 use Rattle.it_issued.specs.Signature.{Signs}
@@ -19,16 +21,24 @@ use Rattle.it_trust_root.specs.declared.authority.Authority.{Authority}
 abbrev pub IsRead : ℕ → List ℕ → Type 0
 IsRead number bytes = (facts : Facts) × CertificateOf bytes facts
 
+-- they are none, for this reason
+abbrev pub IsUnread : CertificateShortfall → ℕ → List ℕ → Type 0
+IsUnread reason number bytes = BytesMiss bytes reason
+
 -- a certificate names the next one as its issuer
 abbrev pub Names : Facts → Facts → Type 0
 Names f next = f.parts.issuer ≡ next.parts.subject
+
+-- a certificate with so many before it may not issue others
+abbrev pub IsBarred : ℕ → Facts → Type 0
+IsBarred number f = ¬ MayIssue number f
 
 -- the certificates miss this condition, and meet those before it
 abbrev pub ChainMisses : List Facts → ChainShortfall → Type 0
 ChainMisses certificates Empty = certificates ≡ []
 ChainMisses certificates (OtherIssuer place) = MissesNext Names certificates place
 ChainMisses certificates (MayNotIssue place) =
-    AreLinked certificates × MissesFrom MayIssue 0 certificates place
+    AreLinked certificates × MissesFrom MayIssue IsBarred 0 certificates place
 ChainMisses certificates (Unsigned place) =
     IsChain certificates × MissesNext (IsSignedBy Signs) certificates place
 
@@ -40,7 +50,8 @@ pub record ReadMisses (authority : Authority) (missed : ChainShortfall) : Type 0
 
 -- the authority misses this condition, and meets those before it
 abbrev pub AuthorityMisses : Authority → AuthorityShortfall → Type 0
-AuthorityMisses authority (Unread place) = MissesFrom IsRead 0 authority.certificates place
+AuthorityMisses authority (Unread place reason) =
+    MissesFrom IsRead (IsUnread reason) 0 authority.certificates place
 AuthorityMisses authority (Chain missed) = ReadMisses authority missed
 
 -- the authority can be used, or cannot, and misses this condition

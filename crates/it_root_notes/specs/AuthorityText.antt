@@ -9,6 +9,7 @@ use Rattle.it_root_notes.specs.declared.shortfall.ChainShortfall.{ChainShortfall
 use Rattle.it_root_notes.specs.declared.shortfall.ChainShortfall.TheVariants.{Empty, OtherIssuer}
 use Rattle.it_root_notes.specs.declared.shortfall.ChainShortfall.TheVariants.{MayNotIssue, Unsigned}
 use Rattle.it_trust_root.specs.declared.root.TrustedRoot.{TrustedRoot}
+use Rattle.it_vouches.specs.Phrases.{unread_reason_of}
 
 -- a certificate by its place, counted from 0, and what is said of it
 abbrev pub certificate_text : ℕ → List ℕ → List ℕ
@@ -24,7 +25,8 @@ chain_phrase_of (Unsigned place) = certificate_text place (codes " is not signed
 
 -- why an authority is not used
 abbrev pub phrase_of : AuthorityShortfall → List ℕ
-phrase_of (Unread place) = certificate_text place (codes " is not read")
+phrase_of (Unread place reason) =
+    certificate_text place (codes " is not read: " ++ unread_reason_of reason)
 phrase_of (Chain missed) = chain_phrase_of missed
 
 -- the line of a note on an authority that is not used

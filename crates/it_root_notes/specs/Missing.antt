@@ -3,11 +3,12 @@ use Rattle.std.specs.Prelude.{ℕ, zero, suc, List, [], ◌∷◌}
 
 -- the element at this place of the list misses it, and those before it meet it, where the elements
 -- have numbers that count on from this one
-abbrev pub MissesFrom : {X : Type 0} → (ℕ → X → Type 0) → ℕ → List X → ℕ → Type 0
-MissesFrom Meets number [] place = ⊥
-MissesFrom Meets number (x ∷ xs) zero = ¬ Meets number x
-MissesFrom Meets number (x ∷ xs) (suc place) =
-    Meets number x × MissesFrom Meets (suc number) xs place
+abbrev pub MissesFrom : {X : Type 0} → (ℕ → X → Type 0) → (ℕ → X → Type 0) → ℕ → List X → ℕ
+    → Type 0
+MissesFrom Meets Misses number [] place = ⊥
+MissesFrom Meets Misses number (x ∷ xs) zero = Misses number x
+MissesFrom Meets Misses number (x ∷ xs) (suc place) =
+    Meets number x × MissesFrom Meets Misses (suc number) xs place
 
 -- the element at this place of the list misses it with the next one, and those before it meet it
 -- with theirs

@@ -31,7 +31,12 @@ pub fn authority_shortfall(
 {
     let certificates = match certificates_of(alloc, authority.certificates.as_slice())? {
         Ok(certificates) => certificates,
-        Err(place) => return Ok(Some(AuthorityShortfall::Unread(place))),
+        Err(unread) => {
+            return Ok(Some(AuthorityShortfall::Unread {
+                place: unread.place,
+                reason: unread.reason,
+            }));
+        }
     };
     match chain_shortfall(alloc, budget, certificates.as_slice())? {
         Some(missed) => Ok(Some(AuthorityShortfall::Chain(missed))),

@@ -7,9 +7,12 @@ ghost use Rattle.it_root_notes.specs.AuthorityText.{
   phrase_of,
   unusable_text,
 };
+ghost use Rattle.it_root_notes.specs.declared.shortfall.AuthorityShortfall.TheVariants.{Unread};
 
 use crate::front::push_front;
 use crate::shortfall::{AuthorityShortfall, ChainShortfall};
+use it_certificate::CertificateShortfall;
+use it_vouches::unread_reason;
 use std::alloc::AllocError;
 
 /// Appends the line of a note on the authority at a place, which ends with a line feed, where the
@@ -51,9 +54,23 @@ fn push_phrase(text: &mut Vec<u8>, missed: AuthorityShortfall) -> Result<(), All
     ensures { OnOk result (text.new.items ≡ text.old.items ++ phrase_of missed) }
 {
     match missed {
-        AuthorityShortfall::Unread(place) => push_certificate(text, place, " is not read"),
+        AuthorityShortfall::Unread { place, reason } => push_unread(text, place, reason),
         AuthorityShortfall::Chain(missed) => push_chain_phrase(text, missed),
     }
+}
+
+/// Appends that a certificate is not read, and why.
+fn push_unread(
+    text: &mut Vec<u8>,
+    place: usize,
+    reason: CertificateShortfall,
+) -> Result<(), AllocError>
+    ensures { OnOk result (text.new.items ≡ text.old.items ++ phrase_of (Unread place reason)) }
+{
+    let alloc = *text.allocator();
+    let said = unread_reason(reason);
+    let words = format!(in alloc; "its certificate {place} is not read: {said}")?;
+    text.extend_from_slice(words.as_bytes())
 }
 
 /// Appends what its certificates miss.

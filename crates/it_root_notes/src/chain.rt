@@ -1,5 +1,5 @@
 //! What certificates that are read lack to be those of an authority.
-ghost use Rattle.std.specs.Prelude.{◌≡◌, ◌↔◌, All, IfOk, IsTrue, MatchOption, map};
+ghost use Rattle.std.specs.Prelude.{All, IfOk, MatchOption, map};
 ghost use Rattle.it_certificate.specs.Authority.{
   AreLinked,
   AreSignedInTurn,
@@ -10,11 +10,11 @@ ghost use Rattle.it_certificate.specs.Authority.{
 ghost use Rattle.it_certificate.specs.Certificate.{facts_of};
 ghost use Rattle.it_certificate_log.specs.Bare.{WasRead};
 ghost use Rattle.it_issued.specs.Signature.{Signs};
-ghost use Rattle.it_root_notes.specs.AuthorityMisses.{Names};
+ghost use Rattle.it_root_notes.specs.AuthorityMisses.{IsBarred, Names};
 ghost use Rattle.it_root_notes.specs.Missing.{MissesFrom, MissesNext};
 
 use it_budget::SharedBudget;
-use it_certificate::{Certificate, is_chain};
+use it_certificate::{Certificate, is_chain, names_next};
 use it_issued::is_signed_by;
 use std::alloc::{AllocError, Global};
 
@@ -32,20 +32,13 @@ pub(crate) fn first_other_issuer(certificates: &[Certificate<'_>]) -> Option<usi
     None
 }
 
-/// Whether a certificate names another as its issuer.
-fn names_next(certificate: &Certificate<'_>, next: &Certificate<'_>) -> bool
-    ensures { IsTrue result ↔ Names (facts_of certificate.now) (facts_of next.now) }
-{
-    certificate.parts.issuer == next.parts.subject
-}
-
 /// The place of the first certificate that may not issue others, of certificates that each name the
 /// next one as their issuer: those up to it are no chain. An authority has few of them. Takes no
 /// memory.
 pub(crate) fn first_barred(certificates: &[Certificate<'_>]) -> Option<usize>
     requires { AreLinked (map facts_of certificates.now) }
     ensures { MatchOption result (MayIssueFrom 0 (map facts_of certificates.now))
-        (MissesFrom MayIssue 0 (map facts_of certificates.now)) }
+        (MissesFrom MayIssue IsBarred 0 (map facts_of certificates.now)) }
 {
     for place in 0..certificates.len() {
         if !is_chain(&certificates[..place + 1]) {

@@ -1,4 +1,5 @@
 //! What an authority misses.
+use it_certificate::CertificateShortfall;
 
 /// The condition that the certificates of an authority miss: the first of these. Certificates have
 /// their places, from 0.
@@ -17,8 +18,13 @@ pub enum ChainShortfall {
 /// The condition that an authority misses where it cannot be used: the first of these.
 #[derive(Clone, Copy)]
 pub enum AuthorityShortfall {
-    /// Its certificate at this place, from 0, does not read.
-    Unread(usize),
+    /// One of its certificates is not read.
+    Unread {
+        /// The place of the first of them, from 0.
+        place: usize,
+        /// The condition that its bytes miss.
+        reason: CertificateShortfall,
+    },
     /// Its certificates all read, and miss this.
     Chain(ChainShortfall),
 }

@@ -32,30 +32,26 @@ certificate_phrase_of reasons.Chain =
     codes "bundles of version 0.3 have one certificate, not a chain"
 certificate_phrase_of reasons.Unreadable = codes "its certificate is empty, or not in base64"
 
--- why the extensions of its certificate are not read
-abbrev pub extensions_phrase_of : ExtensionsShortfall → List ℕ
-extensions_phrase_of listed.Form =
-    codes "its certificate is not read: its extensions have another form"
-extensions_phrase_of listed.NameConstraints =
-    codes "its certificate is not read: it constrains names"
-extensions_phrase_of listed.Critical =
-    codes "its certificate is not read: a critical extension of it is not known"
-extensions_phrase_of listed.Twice =
-    codes "its certificate is not read: it has an extension twice"
-extensions_phrase_of listed.Values =
-    codes "its certificate is not read: its usage, constraints or purposes have another form"
+-- why the extensions of a certificate are not read
+abbrev pub extensions_reason_of : ExtensionsShortfall → List ℕ
+extensions_reason_of listed.Form = codes "its extensions have another form"
+extensions_reason_of listed.NameConstraints = codes "it constrains names"
+extensions_reason_of listed.Critical = codes "a critical extension of it is not known"
+extensions_reason_of listed.Twice = codes "it has an extension twice"
+extensions_reason_of listed.Values =
+    codes "its usage, constraints or purposes have another form"
 
--- why its certificate is not read
+-- why a certificate is not read
+abbrev pub unread_reason_of : CertificateShortfall → List ℕ
+unread_reason_of unread.Parts = codes "it does not have the parts of one of version 3"
+unread_reason_of unread.Algorithm = codes "its signature has another algorithm"
+unread_reason_of unread.Validity = codes "its validity has another form"
+unread_reason_of unread.Key = codes "its key is of another kind or form"
+unread_reason_of (unread.Extensions missed) = extensions_reason_of missed
+
+-- the same of its certificate
 abbrev pub unread_phrase_of : CertificateShortfall → List ℕ
-unread_phrase_of unread.Parts =
-    codes "its certificate is not read: it does not have the parts of one of version 3"
-unread_phrase_of unread.Algorithm =
-    codes "its certificate is not read: its signature has another algorithm"
-unread_phrase_of unread.Validity =
-    codes "its certificate is not read: its validity has another form"
-unread_phrase_of unread.Key =
-    codes "its certificate is not read: its key is of another kind or form"
-unread_phrase_of (unread.Extensions missed) = extensions_phrase_of missed
+unread_phrase_of missed = codes "its certificate is not read: " ++ unread_reason_of missed
 
 -- why its certificate is no leaf
 abbrev pub leaf_phrase_of : LeafShortfall → List ℕ

@@ -18,6 +18,7 @@ mod issuer_shortfall;
 mod judgement;
 pub mod laws;
 mod leaf_key;
+mod leaf_phrases;
 mod phrases;
 mod question;
 mod shortfall;
@@ -27,6 +28,7 @@ mod voucher;
 
 pub use issuer_shortfall::IssuerShortfall;
 pub use judgement::Judged;
+pub use leaf_phrases::unread_reason;
 pub use shortfall::Shortfall;
 pub use trust::{MOST_CHECKS, Trust};
 pub use vouched::{judged, vouched_identity};

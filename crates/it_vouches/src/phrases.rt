@@ -2,13 +2,10 @@
 ghost use Rattle.std.specs.Prelude.{◌≡◌};
 ghost use Rattle.it_vouches.specs.Phrases.{body_phrase_of, certificate_phrase_of};
 ghost use Rattle.it_vouches.specs.Phrases.{checkpoint_phrase_of, entry_phrase_of};
-ghost use Rattle.it_vouches.specs.Phrases.{extensions_phrase_of, unread_phrase_of};
-ghost use Rattle.it_vouches.specs.Phrases.{issue_phrase_of, issuer_phrase_of, leaf_phrase_of};
-ghost use Rattle.it_vouches.specs.Phrases.{log_phrase_of};
+ghost use Rattle.it_vouches.specs.Phrases.{issue_phrase_of, issuer_phrase_of, log_phrase_of};
 
 use crate::issuer_shortfall::IssuerShortfall;
 use it_bundle::NoCertificate;
-use it_certificate::{CertificateShortfall, ExtensionsShortfall, LeafShortfall};
 use it_issued::{IssueShortfall, LogShortfall};
 use it_log_entry::{BodyShortfall, EntryShortfall, NoteShortfall};
 
@@ -22,64 +19,6 @@ pub(crate) fn certificate_phrase(reason: NoCertificate) -> &'static str
         NoCertificate::TwoForms => "it has both a certificate and a chain",
         NoCertificate::Chain => "bundles of version 0.3 have one certificate, not a chain",
         NoCertificate::Unreadable => "its certificate is empty, or not in base64",
-    }
-}
-
-/// Why its certificate is no leaf.
-pub(crate) fn leaf_phrase(missed: LeafShortfall) -> &'static str
-    ensures { result.now ≡ leaf_phrase_of missed }
-{
-    match missed {
-        LeafShortfall::Certificate(missed) => unread_phrase(missed),
-        LeafShortfall::Key => "its certificate has a key of another curve",
-        LeafShortfall::Usage => "its certificate is not for signatures",
-        LeafShortfall::Purpose => "its certificate is not for code signing",
-        LeafShortfall::Authority => "its certificate is that of an authority",
-        LeafShortfall::Name => {
-            "its certificate does not have exactly one name of a URI, an address or Fulcio's own \
-             kind"
-        }
-        LeafShortfall::Issuer => "its certificate does not name one issuer",
-    }
-}
-
-/// Why its certificate is not read.
-fn unread_phrase(missed: CertificateShortfall) -> &'static str
-    ensures { result.now ≡ unread_phrase_of missed }
-{
-    match missed {
-        CertificateShortfall::Parts => {
-            "its certificate is not read: it does not have the parts of one of version 3"
-        }
-        CertificateShortfall::Algorithm => {
-            "its certificate is not read: its signature has another algorithm"
-        }
-        CertificateShortfall::Validity => {
-            "its certificate is not read: its validity has another form"
-        }
-        CertificateShortfall::Key => {
-            "its certificate is not read: its key is of another kind or form"
-        }
-        CertificateShortfall::Extensions(missed) => extensions_phrase(missed),
-    }
-}
-
-/// Why the extensions of its certificate are not read.
-fn extensions_phrase(missed: ExtensionsShortfall) -> &'static str
-    ensures { result.now ≡ extensions_phrase_of missed }
-{
-    match missed {
-        ExtensionsShortfall::Form => {
-            "its certificate is not read: its extensions have another form"
-        }
-        ExtensionsShortfall::NameConstraints => "its certificate is not read: it constrains names",
-        ExtensionsShortfall::Critical => {
-            "its certificate is not read: a critical extension of it is not known"
-        }
-        ExtensionsShortfall::Twice => "its certificate is not read: it has an extension twice",
-        ExtensionsShortfall::Values => {
-            "its certificate is not read: its usage, constraints or purposes have another form"
-        }
     }
 }
 

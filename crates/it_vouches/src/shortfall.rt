@@ -3,7 +3,8 @@ ghost use Rattle.std.specs.Prelude.{◌≡◌, ◌++◌, OnOk};
 ghost use Rattle.it_vouches.specs.Phrases.{phrase_of};
 
 use crate::issuer_shortfall::IssuerShortfall;
-use crate::phrases::{certificate_phrase, entry_phrase, issuer_phrase, leaf_phrase};
+use crate::leaf_phrases::push_leaf_phrase;
+use crate::phrases::{certificate_phrase, entry_phrase, issuer_phrase};
 use it_bundle::NoCertificate;
 use it_certificate::LeafShortfall;
 use it_log_entry::EntryShortfall;
@@ -55,7 +56,7 @@ impl Shortfall {
             Shortfall::Certificate(reason) => push(text, certificate_phrase(*reason)),
             Shortfall::NoEntry => push(text, "it has no entry of a transparency log"),
             Shortfall::ManyEntries => push(text, "it has more than 8 entries"),
-            Shortfall::Leaf(missed) => push(text, leaf_phrase(*missed)),
+            Shortfall::Leaf(missed) => push_leaf_phrase(text, *missed),
             Shortfall::Identity => push(
                 text,
                 "its certificate's name or issuer is empty or has more than 512 bytes",

@@ -10,7 +10,8 @@ pub returns-in-Err : goal.returns-in-Err
 returns-in-Err c =
     let listed = c.args.authority.now.certificates in
     let misses = rw (c.in-Err.is, c.as_slice.ensures) at c.in_ok-certificates.ensures in (
-      λ usable. none_unread 0 listed usable.0 c.in-Err.place usable.1.read misses,
+      λ usable. none_unread c.in-Err.unread.reason 0 listed usable.0 c.in-Err.unread.place
+          usable.1.read misses,
       misses,
     )
 

@@ -10,19 +10,21 @@ loop-place-init c = record {
   all = rw c.new-certificates.ensures.items (All-nil WasRead);
 }
 
-pub returns-in_default : goal.returns-in_default
-returns-in_default c =
-    one_unread 0 c.loop-place.place c.args.listed.now _ c.index-listed-place.result
-    c.loop-place-test.true c.index-listed-place.is c.loop-place.invariant.each
-    (rw (c.in_default.is, c.as_slice.ensures) at c.in_ok-certificate.ensures)
+pub returns-in-Err : goal.returns-in-Err
+returns-in-Err c =
+    one_unread c.in-Err.reason 0 c.loop-place.place c.args.listed.now _
+    c.index-listed-place.result c.loop-place-test.true c.index-listed-place.is
+    c.loop-place.invariant.each
+    (rw (c.in-Err.is, c.as_slice.ensures) at c.in_ok-certificate.ensures)
 
 pub loop-place-preserved : goal.loop-place-preserved
 loop-place-preserved c =
-    let read = rw (c.in-Some.is, c.as_slice.ensures) at c.in_ok-certificate.ensures in
+    let read =
+    rw (c.in-Ok.is, c.as_slice.ensures) at c.in_ok-certificate.ensures in
     read_more c.args.listed.now c.loop-place.place c.index-listed-place.result
-    c.loop-place.certificates.items c.push.new.self.items c.in-Some.certificate
+    c.loop-place.certificates.items c.push.new.self.items c.in-Ok.certificate
     c.loop-place-test.true c.index-listed-place.is c.loop-place.invariant read.0 read.1
-    c.in_ok-push.ensures.items
+    c.in_ok-push-in-Ok.ensures.items
 
 pub returns : goal.returns
 returns c =

@@ -1,10 +1,12 @@
 -- What certificates lack to be a chain.
-use Rattle.std.proofs.Common.{◌≢◌, ◌+◌, ◌<◌, ℕ, zero, suc, List, [], ◌∷◌, arith}
-use Rattle.std.proofs.Common.{add-one, length, map, subst, take}
-use Rattle.it_certificate.specs.Authority.{AreLinked, AreSignedInTurn, IsChain, IsSignedBy}
+use Rattle.std.proofs.Common.{◌≡◌, ◌≢◌, ◌+◌, ◌<◌, ℕ, zero, suc, List, [], ◌∷◌, arith}
+use Rattle.std.proofs.Common.{add-one, get_or, length, map, subst, take}
+use Rattle.it_certificate.proofs.OneIssuing.{not_issuing}
+use Rattle.it_certificate.specs.Authority.{AreLinked, AreSignedInTurn, IsSignedBy}
 use Rattle.it_certificate.specs.Authority.{MayIssue, MayIssueFrom}
 use Rattle.it_certificate.specs.Certificate.{Facts, facts_of}
 use Rattle.it_certificate.specs.declared.certificate.Certificate.{Certificate}
+use Rattle.it_certificate.specs.declared.issuing.IssuingShortfall.{IssuingShortfall}
 use Rattle.it_issued.specs.Signature.{Signs}
 use Rattle.it_root_notes.specs.AuthorityMisses.{IsBarred, Names}
 use Rattle.it_root_notes.specs.Missing.{MissesFrom}
@@ -37,45 +39,56 @@ signed (f ∷ []) all = tt
 signed (f ∷ g ∷ fs) all = (all.0, signed (g ∷ fs) all.1)
 
 -- ---- who may issue others
-pub none_barred : (number : ℕ) (fs : List Facts) (n : ℕ) → MayIssueFrom number fs
-    → ¬ MissesFrom MayIssue IsBarred number fs n
-none_barred number [] n all = λ misses. misses
-none_barred number (f ∷ fs) zero all = λ misses. misses all.0
-none_barred number (f ∷ fs) (suc n) all = λ misses.
-    none_barred (suc number) fs n all.1 misses.1
+pub none_barred : (reason : IssuingShortfall) (number : ℕ) (fs : List Facts) (n : ℕ)
+    → MayIssueFrom number fs → ¬ MissesFrom MayIssue (IsBarred reason) number fs n
+none_barred reason number [] n all = λ misses. misses
+none_barred reason number (f ∷ fs) zero all = λ misses. not_issuing number f reason misses all.0
+none_barred reason number (f ∷ fs) (suc n) all = λ misses.
+    none_barred reason (suc number) fs n all.1 misses.1
 
 -- the first ones
 abbrev pub front : ℕ → List Certificate → List Facts
 front n xs = map facts_of (take n xs)
 
-linked_front : (n : ℕ) (xs : List Certificate) → AreLinked (map facts_of xs)
-    → AreLinked (front n xs)
-linked_front zero xs all = tt
-linked_front (suc n) [] all = tt
-linked_front (suc zero) (x ∷ xs) all = tt
-linked_front (suc (suc n)) (x ∷ []) all = tt
-linked_front (suc (suc n)) (x ∷ y ∷ xs) all = (all.0, linked_front (suc n) (y ∷ xs) all.1)
+barred_at : (reason : IssuingShortfall) (number i place : ℕ) (xs : List Certificate)
+    (x : Certificate) → place ≡ number + i → i < length xs → x ≡ get_or xs i x
+    → MayIssueFrom number (front i xs) → IsBarred reason place (facts_of x)
+    → MissesFrom MayIssue (IsBarred reason) number (map facts_of xs) i
+barred_at reason number i place [] x here below is before misses = absurd (omega arith)
+barred_at reason number zero place (y ∷ xs) x here below is before misses =
+    let same : place ≡ number = omega arith in
+    subst (λ (n : ℕ). IsBarred reason n (facts_of y)) same
+    (subst (λ (z : Certificate). IsBarred reason place (facts_of z)) is misses)
+barred_at reason number (suc i) place (y ∷ xs) x here below is before misses = (
+  before.0,
+  barred_at reason (suc number) i place xs x (omega arith) (omega arith) is before.1 misses,
+)
 
-some_front : (n : ℕ) (xs : List Certificate) → 0 < length xs → front (suc n) xs ≢ []
-some_front n [] some none = omega arith
-some_front n (x ∷ xs) some none = cc
+-- those before a place may issue others, and the one there may not
+pub one_barred : (reason : IssuingShortfall) (i : ℕ) (xs : List Certificate) (x : Certificate)
+    → i < length xs → x ≡ get_or xs i x → MayIssueFrom 0 (front i xs)
+    → IsBarred reason i (facts_of x) → MissesFrom MayIssue (IsBarred reason) 0 (map facts_of xs) i
+one_barred reason i xs x below is before misses =
+    barred_at reason 0 i i xs x (omega arith) below is before misses
 
-barred_last : (number i : ℕ) (xs : List Certificate) → i < length xs
-    → MayIssueFrom number (front i xs) → ¬ MayIssueFrom number (front (suc i) xs)
-    → MissesFrom MayIssue IsBarred number (map facts_of xs) i
-barred_last number i [] below before none = absurd (omega arith)
-barred_last number zero (x ∷ xs) below before none = λ may. none (may, tt)
-barred_last number (suc i) (x ∷ xs) below before none =
-    (before.0, barred_last (suc number) i xs (omega arith) before.1 (λ rest. none (before.0, rest)))
+issues_at : (number i place : ℕ) (xs : List Certificate) (x : Certificate) → place ≡ number + i
+    → i < length xs → x ≡ get_or xs i x → MayIssueFrom number (front i xs)
+    → MayIssue place (facts_of x) → MayIssueFrom number (front (suc i) xs)
+issues_at number i place [] x here below is before may = absurd (omega arith)
+issues_at number zero place (y ∷ xs) x here below is before may =
+    let same : place ≡ number = omega arith in (
+      subst (λ (n : ℕ). MayIssue n (facts_of y)) same
+          (subst (λ (z : Certificate). MayIssue place (facts_of z)) is may),
+      tt,
+    )
+issues_at number (suc i) place (y ∷ xs) x here below is before may = (
+  before.0,
+  issues_at (suc number) i place xs x (omega arith) (omega arith) is before.1 may,
+)
 
--- the certificates up to a place are no chain, and those before it may issue others
-pub one_barred : (i : ℕ) (xs : List Certificate) → i < length xs → AreLinked (map facts_of xs)
-    → MayIssueFrom 0 (front i xs) → ¬ IsChain (front (i + 1) xs)
-    → MissesFrom MayIssue IsBarred 0 (map facts_of xs) i
-one_barred i xs below all before none =
-    let none_here = subst (λ (n : ℕ). ¬ IsChain (front n xs)) (add-one i) none in
-    barred_last 0 i xs below before (λ may. none_here (record {
-      some = some_front i xs (omega arith);
-      may_issue = may;
-      linked = linked_front (suc i) xs all;
-    }))
+-- one more may issue others
+pub one_issues : (i : ℕ) (xs : List Certificate) (x : Certificate) → i < length xs
+    → x ≡ get_or xs i x → MayIssueFrom 0 (front i xs) → MayIssue i (facts_of x)
+    → MayIssueFrom 0 (front (i + 1) xs)
+one_issues i xs x below is before may =
+    rw (add-one i) (issues_at 0 i i xs x (omega arith) below is before may)

@@ -1,8 +1,10 @@
 -- An authority misses at most one condition.
 use Rattle.std.proofs.Common.{◌≡◌, ◌∙◌, ℕ, zero, suc, List, [], ◌∷◌, ap, refl, subst, sym}
+use Rattle.it_certificate.proofs.OneIssuing.{not_issuing, one_issuing_shortfall}
 use Rattle.it_certificate.proofs.OneShortfall.{one_shortfall}
 use Rattle.it_certificate.specs.Authority.{IsSignedBy, MayIssue}
 use Rattle.it_certificate.specs.Certificate.{Facts}
+use Rattle.it_certificate.specs.declared.issuing.IssuingShortfall.{IssuingShortfall}
 use Rattle.it_certificate.specs.declared.shortfall.CertificateShortfall.{CertificateShortfall}
 use Rattle.it_issued.proofs.Reading.{one_way}
 use Rattle.it_issued.specs.Signature.{Signs}
@@ -31,15 +33,6 @@ module _ {X R : Type 0} (Meets : ℕ → X → Type 0) (Misses : R → ℕ → X
   from_once number (x ∷ xs) (suc m) (suc n) r s one two =
       let same = from_once (suc number) xs m n r s one.1 two.1 in (ap suc same.0, same.1)
 
-barred_once : (number : ℕ) (fs : List Facts) (m n : ℕ)
-    → MissesFrom MayIssue IsBarred number fs m → MissesFrom MayIssue IsBarred number fs n → m ≡ n
-barred_once number [] m n one two = absurd one
-barred_once number (f ∷ fs) zero zero one two = refl
-barred_once number (f ∷ fs) zero (suc n) one two = absurd (one two.0)
-barred_once number (f ∷ fs) (suc m) zero one two = absurd (two one.0)
-barred_once number (f ∷ fs) (suc m) (suc n) one two =
-    ap suc (barred_once (suc number) fs m n one.1 two.1)
-
 module _ (Meets : Facts → Facts → Type 0) where
   next_once : (fs : List Facts) (m n : ℕ) → MissesNext Meets fs m → MissesNext Meets fs n → m ≡ n
   next_once [] m n one two = absurd one
@@ -54,28 +47,32 @@ none_at : (fs : List Facts) (t : ChainShortfall) → fs ≡ [] → ChainMisses f
 none_at fs Empty none misses = refl
 none_at fs (OtherIssuer n) none misses =
     absurd (subst (λ (l : List Facts). MissesNext Names l n) none misses)
-none_at fs (MayNotIssue n) none misses =
-    absurd (subst (λ (l : List Facts). MissesFrom MayIssue IsBarred 0 l n) none misses.1)
+none_at fs (MayNotIssue n r) none misses =
+    absurd (subst (λ (l : List Facts). MissesFrom MayIssue (IsBarred r) 0 l n) none misses.1)
 none_at fs (Unsigned n) none misses = absurd (misses.0.some none)
 
 chain_once : (fs : List Facts) (s t : ChainShortfall) → ChainMisses fs s → ChainMisses fs t → s ≡ t
 chain_once fs Empty t one two = none_at fs t one two
 chain_once fs s Empty one two = sym (none_at fs s two one)
 chain_once fs (OtherIssuer m) (OtherIssuer n) one two = ap OtherIssuer (next_once Names fs m n one two)
-chain_once fs (OtherIssuer m) (MayNotIssue n) one two =
+chain_once fs (OtherIssuer m) (MayNotIssue n r) one two =
     absurd (none_misses Names fs m (names fs two.0) one)
 chain_once fs (OtherIssuer m) (Unsigned n) one two =
     absurd (none_misses Names fs m (names fs two.0.linked) one)
-chain_once fs (MayNotIssue m) (OtherIssuer n) one two =
+chain_once fs (MayNotIssue m r) (OtherIssuer n) one two =
     absurd (none_misses Names fs n (names fs one.0) two)
-chain_once fs (MayNotIssue m) (MayNotIssue n) one two =
-    ap MayNotIssue (barred_once 0 fs m n one.1 two.1)
-chain_once fs (MayNotIssue m) (Unsigned n) one two =
-    absurd (none_barred 0 fs m two.0.may_issue one.1)
+chain_once fs (MayNotIssue m r) (MayNotIssue n s) one two =
+    let same =
+    from_once MayIssue IsBarred (λ number f r. not_issuing number f r)
+    (λ number f. one_issuing_shortfall number f) 0 fs m n r s one.1 two.1 in
+    ap (λ (k : ℕ). MayNotIssue k r) same.0
+    ∙ ap (λ (x : IssuingShortfall). MayNotIssue n x) same.1
+chain_once fs (MayNotIssue m r) (Unsigned n) one two =
+    absurd (none_barred r 0 fs m two.0.may_issue one.1)
 chain_once fs (Unsigned m) (OtherIssuer n) one two =
     absurd (none_misses Names fs n (names fs one.0.linked) two)
-chain_once fs (Unsigned m) (MayNotIssue n) one two =
-    absurd (none_barred 0 fs n one.0.may_issue two.1)
+chain_once fs (Unsigned m) (MayNotIssue n r) one two =
+    absurd (none_barred r 0 fs n one.0.may_issue two.1)
 chain_once fs (Unsigned m) (Unsigned n) one two =
     ap Unsigned (next_once (IsSignedBy Signs) fs m n one.1 two.1)
 

@@ -5,6 +5,8 @@ use Rattle.std.specs.List.{AllZip}
 use Rattle.it_certificate.specs.Authority.{AreLinked, IsChain, IsSignedBy, MayIssue}
 use Rattle.it_certificate.specs.Certificate.{CertificateOf, Facts}
 use Rattle.it_certificate.specs.CertificateMissed.{BytesMiss}
+use Rattle.it_certificate.specs.IssuingMisses.{IssuingMisses}
+use Rattle.it_certificate.specs.declared.issuing.IssuingShortfall.{IssuingShortfall}
 use Rattle.it_certificate.specs.declared.shortfall.CertificateShortfall.{CertificateShortfall}
 use Rattle.it_issued.specs.Issued.{IsUsable}
 use Rattle.it_issued.specs.Misses.{IsShortfall}
@@ -29,16 +31,16 @@ IsUnread reason number bytes = BytesMiss bytes reason
 abbrev pub Names : Facts → Facts → Type 0
 Names f next = f.parts.issuer ≡ next.parts.subject
 
--- a certificate with so many before it may not issue others
-abbrev pub IsBarred : ℕ → Facts → Type 0
-IsBarred number f = ¬ MayIssue number f
+-- a certificate with so many before it may not issue others, for this reason
+abbrev pub IsBarred : IssuingShortfall → ℕ → Facts → Type 0
+IsBarred reason number f = IssuingMisses number f reason
 
 -- the certificates miss this condition, and meet those before it
 abbrev pub ChainMisses : List Facts → ChainShortfall → Type 0
 ChainMisses certificates Empty = certificates ≡ []
 ChainMisses certificates (OtherIssuer place) = MissesNext Names certificates place
-ChainMisses certificates (MayNotIssue place) =
-    AreLinked certificates × MissesFrom MayIssue IsBarred 0 certificates place
+ChainMisses certificates (MayNotIssue place reason) =
+    AreLinked certificates × MissesFrom MayIssue (IsBarred reason) 0 certificates place
 ChainMisses certificates (Unsigned place) =
     IsChain certificates × MissesNext (IsSignedBy Signs) certificates place
 

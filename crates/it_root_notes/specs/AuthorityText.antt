@@ -1,6 +1,8 @@
 -- What is said of the authorities of a trusted root (this project's words).
 use Rattle.std.specs.Prelude.{◌≡◌, ℕ, Option, Some, None, List, [], ◌++◌, codes, decimal}
 use Rattle.std.specs.List.{AllZip, enumerate_from, flat_map}
+use Rattle.it_certificate.specs.declared.issuing.IssuingShortfall.{IssuingShortfall}
+use Rattle.it_certificate.specs.declared.issuing.IssuingShortfall.TheVariants as barred
 use Rattle.it_root_notes.specs.AuthorityMisses.{IsAuthorityShortfall}
 use Rattle.it_root_notes.specs.Front.{front_text}
 use Rattle.it_root_notes.specs.declared.shortfall.AuthorityShortfall.{AuthorityShortfall}
@@ -15,12 +17,19 @@ use Rattle.it_vouches.specs.Phrases.{unread_reason_of}
 abbrev pub certificate_text : ℕ → List ℕ → List ℕ
 certificate_text place after = codes "its certificate " ++ decimal place ++ after
 
+-- why a certificate may not issue others
+abbrev pub barred_text : IssuingShortfall → List ℕ
+barred_text barred.Authority = codes " is not that of an authority"
+barred_text barred.Length = codes " allows fewer certificates below it"
+barred_text barred.Usage = codes " is not for signing certificates"
+barred_text barred.Purpose = codes " is not for code signing"
+
 -- what its certificates miss
 abbrev pub chain_phrase_of : ChainShortfall → List ℕ
 chain_phrase_of Empty = codes "it has no certificate"
 chain_phrase_of (OtherIssuer place) =
     certificate_text place (codes " has another issuer than the next one's subject")
-chain_phrase_of (MayNotIssue place) = certificate_text place (codes " may not issue others")
+chain_phrase_of (MayNotIssue place reason) = certificate_text place (barred_text reason)
 chain_phrase_of (Unsigned place) = certificate_text place (codes " is not signed by the next one")
 
 -- why an authority is not used

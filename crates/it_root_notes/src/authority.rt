@@ -60,8 +60,11 @@ fn chain_shortfall(
     if let Some(place) = first_other_issuer(certificates) {
         return Ok(Some(ChainShortfall::OtherIssuer(place)));
     }
-    if let Some(place) = first_barred(certificates) {
-        return Ok(Some(ChainShortfall::MayNotIssue(place)));
+    if let Some(barred) = first_barred(certificates) {
+        return Ok(Some(ChainShortfall::MayNotIssue {
+            place: barred.place,
+            reason: barred.reason,
+        }));
     }
     match first_unsigned(alloc, budget, certificates)? {
         Some(place) => Ok(Some(ChainShortfall::Unsigned(place))),

@@ -2,6 +2,7 @@
 ghost use Rattle.std.specs.Prelude.{◌≡◌, ◌++◌, OnOk};
 ghost use Rattle.it_root_notes.specs.AuthorityText.{
   authority_text,
+  barred_text,
   certificate_text,
   chain_phrase_of,
   phrase_of,
@@ -11,7 +12,7 @@ ghost use Rattle.it_root_notes.specs.declared.shortfall.AuthorityShortfall.TheVa
 
 use crate::front::push_front;
 use crate::shortfall::{AuthorityShortfall, ChainShortfall};
-use it_certificate::CertificateShortfall;
+use it_certificate::{CertificateShortfall, IssuingShortfall};
 use it_vouches::unread_reason;
 use std::alloc::AllocError;
 
@@ -86,14 +87,24 @@ fn push_chain_phrase(text: &mut Vec<u8>, missed: ChainShortfall) -> Result<(), A
                 " has another issuer than the next one's subject",
             )
         }
-        ChainShortfall::MayNotIssue(place) => push_certificate(
-            text,
-            place,
-            " may not issue others",
-        ),
+        ChainShortfall::MayNotIssue { place, reason } => {
+            push_certificate(text, place, barred_words(reason))
+        }
         ChainShortfall::Unsigned(place) => {
             push_certificate(text, place, " is not signed by the next one")
         }
+    }
+}
+
+/// Why a certificate may not issue others.
+fn barred_words(reason: IssuingShortfall) -> &'static str
+    ensures { result.now ≡ barred_text reason }
+{
+    match reason {
+        IssuingShortfall::Authority => " is not that of an authority",
+        IssuingShortfall::Length => " allows fewer certificates below it",
+        IssuingShortfall::Usage => " is not for signing certificates",
+        IssuingShortfall::Purpose => " is not for code signing",
     }
 }
 

@@ -14,9 +14,18 @@ ghost use Rattle.it_root_notes.specs.AuthorityMisses.{IsBarred, Names};
 ghost use Rattle.it_root_notes.specs.Missing.{MissesFrom, MissesNext};
 
 use it_budget::SharedBudget;
-use it_certificate::{Certificate, is_chain, names_next};
+use it_certificate::{Certificate, IssuingShortfall, issuing_shortfall, names_next};
 use it_issued::is_signed_by;
 use std::alloc::{AllocError, Global};
+
+/// A certificate that may not issue others.
+#[derive(Clone, Copy)]
+pub(crate) struct BarredCertificate {
+    /// Its place among those of its authority, from 0.
+    pub place: usize,
+    /// The condition that it misses.
+    pub reason: IssuingShortfall,
+}
 
 /// The place of the first certificate that names another issuer than the next one's subject. Takes
 /// no memory.
@@ -32,17 +41,15 @@ pub(crate) fn first_other_issuer(certificates: &[Certificate<'_>]) -> Option<usi
     None
 }
 
-/// The place of the first certificate that may not issue others, of certificates that each name the
-/// next one as their issuer: those up to it are no chain. An authority has few of them. Takes no
-/// memory.
-pub(crate) fn first_barred(certificates: &[Certificate<'_>]) -> Option<usize>
-    requires { AreLinked (map facts_of certificates.now) }
+/// The first certificate that may not issue others, each with those before it. Takes no memory.
+pub(crate) fn first_barred(certificates: &[Certificate<'_>]) -> Option<BarredCertificate>
     ensures { MatchOption result (MayIssueFrom 0 (map facts_of certificates.now))
-        (MissesFrom MayIssue IsBarred 0 (map facts_of certificates.now)) }
+        (λ barred. MissesFrom MayIssue (IsBarred barred.reason) 0
+        (map facts_of certificates.now) barred.place) }
 {
-    for place in 0..certificates.len() {
-        if !is_chain(&certificates[..place + 1]) {
-            return Some(place);
+    for (place, certificate) in certificates.iter().enumerate() {
+        if let Some(reason) = issuing_shortfall(certificate, place) {
+            return Some(BarredCertificate { place, reason });
         }
     }
     None

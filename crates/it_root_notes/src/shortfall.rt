@@ -1,5 +1,5 @@
 //! What an authority misses.
-use it_certificate::CertificateShortfall;
+use it_certificate::{CertificateShortfall, IssuingShortfall};
 
 /// The condition that the certificates of an authority miss: the first of these. Certificates have
 /// their places, from 0.
@@ -9,8 +9,13 @@ pub enum ChainShortfall {
     Empty,
     /// The one at this place names another issuer than the next one's subject.
     OtherIssuer(usize),
-    /// The one at this place may not issue others.
-    MayNotIssue(usize),
+    /// One of them may not issue others.
+    MayNotIssue {
+        /// The place of the first of these.
+        place: usize,
+        /// The condition that it misses.
+        reason: IssuingShortfall,
+    },
     /// The one at this place is not signed by the key of the next one.
     Unsigned(usize),
 }

@@ -22,7 +22,8 @@ returns-in-Some-first_barred c =
     let facts = map facts_of c.args.certificates.now in
     let linked = rw c.in_default.is at c.first_other_issuer.ensures in
     let misses = rw c.in-Some-first_barred.is at c.first_barred.ensures in (
-      λ authority. none_barred 0 facts c.in-Some-first_barred.place authority.chain.may_issue misses,
+      λ authority. none_barred c.in-Some-first_barred.barred.reason 0 facts
+          c.in-Some-first_barred.barred.place authority.chain.may_issue misses,
       (linked, misses),
     )
 

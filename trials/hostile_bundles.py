@@ -13,7 +13,7 @@ import sys
 
 sys.path.insert(0, os.path.join(os.path.dirname(os.path.abspath(__file__)), "..", "conformance"))
 import private_sigstore as private
-from byte_forms import base64_text
+from byte_forms import base64_text, der
 from deliveries import compact, envelope, identity, statement
 
 LIMIT = 8 * 1024 * 1024
@@ -90,7 +90,12 @@ def falsely_witnessed(number):
 
     Each signature has the log's hint, and the rest of the entry is good.
     """
-    bundle = copy.deepcopy(public().bundle)
+    return line_of(with_wrong_marks(public().bundle, number, "log.example.test"))
+
+
+def with_wrong_marks(made, number, name):
+    """A bundle with eight entries, each with eight wrong signatures on its checkpoint."""
+    bundle = copy.deepcopy(made)
     material, hint = bundle["verificationMaterial"], public().sigstore.log.id[:4]
     (entry,) = material["tlogEntries"]
     text = entry["inclusionProof"]["checkpoint"]["envelope"].partition("\n\n")[0]
@@ -99,8 +104,44 @@ def falsely_witnessed(number):
         marks = [base64_text(hint + wrong_signature(number * 64 + place * 8 + line))
                  for line in range(8)]
         one["inclusionProof"]["checkpoint"]["envelope"] = text + "\n\n" + "".join(
-            f"\u2014 log.example.test {mark}\n" for mark in marks)
-    return line_of(bundle)
+            f"\u2014 {name} {mark}\n" for mark in marks)
+    return bundle
+
+
+class Unsigned:
+    """Who signs certificates with no signature."""
+
+    algorithm = public().sigstore.issuer_key.algorithm
+
+    @staticmethod
+    def sign(*_):
+        """No signature."""
+        return b""
+
+
+@functools.cache
+def shortest():
+    """About the shortest bundle of which a checkpoint's signatures are looked at.
+
+    Its certificate is a leaf, its entry has the log's id and is about its signature, and its
+    inclusion proof leads to its root.
+    """
+    left_out = dict.fromkeys(["subject_key", "authority_key", "trigger"])
+    made = private.Made(
+        random.Random("shortest"), public().sigstore, payload=b"{}", payload_type="a", version=3,
+        kind="dsse", moment=public().moment, unlogged=True, leaf_signer=Unsigned,
+        leaf_issuer_name=der(0x30), serial=der(2, b"\x01"), issuers="old", old_issuer=b"a",
+        name_values=der(0x86, b"a"), names_critical=False, extensions=left_out,
+        sign_envelope=lambda _: b"a",
+        body={"edit": lambda body: body["spec"].pop("envelopeHash")},
+        entry={"index": 0, "proof": {"size": 1, "checkpoint": {"origin": "a", "more": []}},
+               "over": {"inclusionPromise": {"signedEntryTimestamp": "YQ=="}}})
+    return made.bundle
+
+
+def shortly_witnessed(number):
+    """The shortest bundle with eight entries, each with eight wrong signatures on its checkpoint."""
+    return line_of(with_wrong_marks(shortest(), number, "a"))
 
 
 def wrong_signature(number):
@@ -172,6 +213,7 @@ def many_authorities(count, length):
 FLOODS = [
     ("8 MiB of bundles that nobody signed", flooded(unsigned)),
     ("8 MiB of bundles of 8 x 8 wrong log signatures", flooded(falsely_witnessed)),
+    ("8 MiB of the shortest bundles of 8 x 8 wrong log signatures", flooded(shortly_witnessed)),
 ]
 INPUTS = [
     *FLOODS,

@@ -13,9 +13,9 @@ returns c =
       nulls = c.in_ok-nulls.nulls.items;
       places = c.in_ok-places.places.items;
       all = c.in_ok-all.all.items;
-      are_members = c.in_ok-members.ensures;
-      are_nulls = c.in_ok-nulls.ensures;
-      are_places = c.in_ok-places.ensures;
+      are_members = rw c.in_ok-text.ensures at c.in_ok-members.ensures;
+      are_nulls = rw c.in_ok-text.ensures at c.in_ok-nulls.ensures;
+      are_places = rw c.in_ok-text.ensures at c.in_ok-places.ensures;
       are_all = rw (c.as_slice.ensures.value, c.as_slice-2.ensures.value, c.as_slice-3.ensures.value) at c.in_ok-all.ensures;
       are_counting = counts;
     })

@@ -1,7 +1,8 @@
 //! Bundles that are judged, within a number of checks of signatures.
-ghost use Rattle.std.specs.Prelude.{◌≡◌, Ok, IfOk};
+ghost use Rattle.std.specs.Prelude.{◌≡◌, ◌⊎◌, Ok, IfErr, IfOk, IsErr};
 
 use it_disk::Fault;
+use it_outcome::RunFault;
 use it_vouched::JudgedLines;
 use it_vouches::{MOST_CHECKS, Trust};
 use std::alloc::AllocError;
@@ -16,7 +17,9 @@ pub fn judged_or_fault(
     trust: &Trust<'_>,
     judged: Result<JudgedLines, AllocError>,
 ) -> Result<JudgedLines, Fault>
-    ensures { IfOk result (λ lines. judged ≡ Ok lines) }
+    ensures judged { IfOk result (λ lines. judged ≡ Ok lines) }
+    ensures refused { IfErr result (λ fault. IsErr judged × ((fault ≡ Fault.TooManyChecks 50000)
+        ⊎ (fault ≡ Fault.Run RunFault.OutOfMemory))) }
 {
     match judged {
         Err(_) if trust.is_spent() => Err(Fault::TooManyChecks { limit: MOST_CHECKS }),

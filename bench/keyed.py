@@ -26,9 +26,9 @@ def payload_in(text):
     return json.loads(base64.b64decode(json.loads(text)["payload"]))
 
 
-def by_keys(folder, kind, steps, people, files):
+def by_keys(folder, kind, steps, people, files, statements=1):
     """A chain in which the owner, the builder and each of these people have a key of this kind."""
-    delivery = chain(folder, steps, people, files)
+    delivery = chain(folder, steps, people, files, statements)
     keys = {who: KINDS[kind](who) for who in ("owner", "builder", *delivery.people)}
     body = payload_in(pathlib.Path(delivery.path("layout")).read_text(encoding="utf-8"))
     body.update(readme="", keys=tool.keys(*map(keys.get, delivery.people)))
@@ -44,8 +44,9 @@ def by_keys(folder, kind, steps, people, files):
     policy["owners"] = tool.keys(keys["owner"])
     policy["expectations"][0]["builders"][0]["keys"] = tool.keys(keys["builder"])
     delivery.write("policy", json.dumps(policy))
-    line = pathlib.Path(delivery.path("provenance")).read_bytes()
-    delivery.write("provenance", tool.sealed(payload_in(line), keys["builder"]) + "\n")
+    lines = pathlib.Path(delivery.path("provenance")).read_bytes().splitlines()
+    delivery.write("provenance", "".join(
+        tool.sealed(payload_in(line), keys["builder"]) + "\n" for line in lines))
     delivery.owner = keys["owner"]
     return delivery
 

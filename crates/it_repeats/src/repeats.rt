@@ -125,9 +125,12 @@ fn one_repeats(
     if again {
         return one(alloc, RepeatedMember::at(alloc, place.as_slice(), name)?);
     }
+    let Some(inner) = part.member(name) else {
+        return Ok(Vec::new(alloc));
+    };
     let depth = place.len();
     place.push(Segment::Member(Text::copy(alloc, name)?))?;
-    let found = repeats_in(alloc, part.member(name), place, &member.1)?;
+    let found = repeats_in(alloc, Some(inner), place, &member.1)?;
     place.truncate(depth);
     Ok(found)
 }

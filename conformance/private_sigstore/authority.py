@@ -32,7 +32,8 @@ class Sigstore:
     """The keys of an authority and of its logs, and the authority's certificates.
 
     `knobs` turns one thing of it: how many certificates there are in the `chain`, or something of
-    a certificate, by its name (`root`, `middle` or `low`) and a word.
+    a certificate, by its name (`root`, `middle` or `low`) and a word; `wrong` are parts in place of
+    its own.
     """
 
     def __init__(self, dice, begin, **knobs):
@@ -86,7 +87,7 @@ class Sigstore:
         if constraints is not None:
             extensions.append(extension(CONSTRAINTS, constraints, True))
         extensions += [extension(SUBJECT_KEY, der(4, key.id[:20])), *turned("more", [])]
-        return certificate(subject, serial_number(self.dice), extensions)
+        return certificate(subject, serial_number(self.dice), extensions, **turned("wrong", {}))
 
     def trusted_log(self, key, window, details="PKIX_ECDSA_P256_SHA_256"):
         """A log as a trusted root has it."""

@@ -30,7 +30,9 @@ chain_phrase_of Empty = codes "it has no certificate"
 chain_phrase_of (OtherIssuer place) =
     certificate_text place (codes " has another issuer than the next one's subject")
 chain_phrase_of (MayNotIssue place reason) = certificate_text place (barred_text reason)
-chain_phrase_of (Unsigned place) = certificate_text place (codes " is not signed by the next one")
+chain_phrase_of (Unsigned place) =
+    certificate_text place
+    (codes " is not signed by the next one with the digest for that one's key")
 
 -- why an authority is not used
 abbrev pub phrase_of : AuthorityShortfall → List ℕ

@@ -91,7 +91,11 @@ fn push_chain_phrase(text: &mut Vec<u8>, missed: ChainShortfall) -> Result<(), A
             push_certificate(text, place, barred_words(reason))
         }
         ChainShortfall::Unsigned(place) => {
-            push_certificate(text, place, " is not signed by the next one")
+            push_certificate(
+                text,
+                place,
+                " is not signed by the next one with the digest for that one's key",
+            )
         }
     }
 }

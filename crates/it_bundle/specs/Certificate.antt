@@ -9,7 +9,6 @@ use Rattle.it_base.specs.List.{items_at}
 use Rattle.it_base.specs.Parts.{IsPart}
 use Rattle.it_bundle.specs.declared.certificate.BundleCertificate.{BundleCertificate}
 use Rattle.it_bundle.specs.declared.certificate.BundleCertificate.TheVariants.{Bytes, Lacks}
-use Rattle.it_bundle.specs.declared.certificate.NoCertificate.{NoCertificate}
 use Rattle.it_bundle.specs.declared.certificate.NoCertificate.TheVariants.{PublicKey, Missing}
 use Rattle.it_bundle.specs.declared.certificate.NoCertificate.TheVariants.{TwoForms, Chain}
 use Rattle.it_bundle.specs.declared.certificate.NoCertificate.TheVariants.{Unreadable}

@@ -1,5 +1,5 @@
 -- The entries of transparency logs that a bundle has (Sigstore's `VerificationMaterial`).
-use Rattle.std.specs.Prelude.{◌≡◌, ℕ, ◌<◌, ◌≤◌, List, [], length, codes}
+use Rattle.std.specs.Prelude.{◌≡◌, ◌<◌, ◌≤◌, List, [], length, codes}
 use Rattle.serde_json.specs.Data.{Data}
 use Rattle.it_base.specs.Parts.{IsPart}
 use Rattle.it_base.specs.Sequence.{IsList}

@@ -1,5 +1,5 @@
 -- What is found of a vector, by what was read of it.
-use Rattle.std.proofs.Common.{◌≡◌, ◌↔◌, ℕ, Bool, true, false, IsTrue, List, refl, sym, subst, ◌∙◌, ap}
+use Rattle.std.proofs.Common.{◌≡◌, ◌↔◌, Bool, true, false, IsTrue, refl, sym, subst, ◌∙◌, ap}
 use Rattle.it_bundle.specs.Bundle.{BundleOf}
 use Rattle.it_bundle.specs.declared.bundle.SigstoreBundle.{SigstoreBundle}
 use Rattle.it_bundle.proofs.Same.{bundle_same}

@@ -2,7 +2,7 @@
 use Rattle.std.proofs.Common.{ℕ, List, refl, subst, inl, inr}
 use Rattle.it_certificate.specs.Certificate.{CertificateOf, Facts}
 use Rattle.it_certificate.specs.CertificateMissed.{BytesMiss}
-use Rattle.it_certificate.specs.Leaf.{IsLeaf, LeafOf}
+use Rattle.it_certificate.specs.Leaf.{IsLeaf}
 use Rattle.it_certificate.specs.LeafMisses.{CertificateMisses, IsNoLeaf, LeafMisses}
 use Rattle.it_certificate.specs.declared.leaf_shortfall.LeafShortfall.{LeafShortfall}
 use Rattle.it_certificate.specs.declared.leaf_shortfall.LeafShortfall.TheVariants as shortfalls

@@ -149,38 +149,6 @@ long_found content century digits (Some m) long c d least found = record {
   text_is = found;
 }
 
--- what is too short is no time
-pub short_has_two : (content : List ℕ) (m : ℤ) → length content < 2 → ShortTime content m → ⊥
-short_has_two content m few is = let long = ap length is.content_is in omega arith
-
-pub long_has_four : (content : List ℕ) (m : ℤ) → length content < 4 → LongTime content m → ⊥
-long_has_four content m few is = let long = ap length is.content_is in omega arith
-
--- the digits of the year are digits
-pub short_digits : (content : List ℕ) (m : ℤ) → (is : ShortTime content m) → HasNumber content 0 1 is.digits
-short_digits content m is =
-    (is.below, ap (λ (l : List ℕ). get_or l 0 0) is.content_is, ap (λ (l : List ℕ). get_or l 1 0) is.content_is)
-
-pub long_century : (content : List ℕ) (m : ℤ) → (is : LongTime content m) → HasNumber content 0 1 (is.year / 100)
-long_century content m is =
-    let until = is.until in
-    (omega arith, ap (λ (l : List ℕ). get_or l 0 0) is.content_is, ap (λ (l : List ℕ). get_or l 1 0) is.content_is)
-
-pub long_digits : (content : List ℕ) (m : ℤ) → (is : LongTime content m) → HasNumber content 2 3 (is.year % 100)
-long_digits content m is =
-    (omega arith, ap (λ (l : List ℕ). get_or l 2 0) is.content_is, ap (λ (l : List ℕ). get_or l 3 0) is.content_is)
-
--- a year before 2050 has two digits
-pub long_is_late : (content : List ℕ) (century digits : ℕ) (m : ℤ) → HasNumber content 0 1 century → HasNumber content 2 3 digits
-    → 100 * century + digits < 2050 → LongTime content m → ⊥
-long_is_late content century digits m c d early is =
-    let one = long_century content m is in
-    let two = long_digits content m is in
-    let since = is.since in
-    let high : is.year / 100 ≡ century = omega (arith, one, c) in
-    let low : is.year % 100 ≡ digits = omega (arith, two, d) in
-    omega arith
-
 -- a time by its tag
 not_short : (tag : ℕ) (content : List ℕ) (m : ℤ) → tag ≡ 23 → (ShortTime content m → ⊥) → TimeOf tag content m → ⊥
 not_short tag content m is none (inl p) = none p.1

@@ -17,9 +17,6 @@ one_counted bytes content content' rest rest' one two =
     let tails : content ++ rest ≡ content' ++ rest' = cc in
     same_front content content' rest rest' (omega arith) tails
 
-pub too_few : (bytes content rest : List ℕ) → length bytes < 2 → BeginsCounted bytes content rest → ⊥
-too_few bytes content rest few is = let long = ap length is.written in omega arith
-
 counted_is : (bytes front rest : List ℕ) → 2 ≤ length bytes → get_or bytes 1 0 < 256
     → length front ≡ 256 * get_or bytes 0 0 + get_or bytes 1 0 → drop 2 bytes ≡ front ++ rest → bytes ≡ counted front ++ rest
 counted_is [] front rest long low size tail = absurd (omega arith)

@@ -63,13 +63,6 @@ module _ (files : List File) (place : ℕ) (file : File)
 abbrev HasEnvelope : File → ℕ → Type 0
 HasEnvelope file = CostsIfFound (EnvelopeOf file.bytes) HasSignatures
 
-pub none_yet : AreRead [] []
-none_yet = record {
-  each = λ e among. absurd (in_none e among);
-  all = λ file e among. absurd (in_none file among);
-  most = λ n h. omega arith;
-}
-
 module _ (files : List File) (file : File) (found : List Envelope) (are : AreRead files found) where
   passed_all : ((envelope : Envelope) → ¬ IsCandidate file.bytes envelope) → (f : File)
       (envelope : Envelope) → Contains (files ++ file ∷ []) f → IsCandidate f.bytes envelope

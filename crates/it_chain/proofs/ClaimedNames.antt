@@ -85,10 +85,6 @@ before_ending : (step name front : List ℕ) → name ≡ front ++ codes ".link"
 before_ending step name front e h = append_cancel_right front (step ++ codes "." ++ h.middle)
     (codes ".link") (sym e ∙ h.name_is) ∙ append_assoc step (codes ".") h.middle
 
-pub no_ending : (name : List ℕ) → ((front : List ℕ) → name ≢ front ++ codes ".link")
-    → (step : List ℕ) → ¬ IsClaimed step name
-no_ending name none step h = none (step ++ codes "." ++ h.middle) h.name_is
-
 module _ (name front : List ℕ) (ending : name ≡ front ++ codes ".link") where
   pub no_stop : ¬ Contains front 46 → (step : List ℕ) → ¬ IsClaimed step name
   no_stop none step h =

@@ -1,6 +1,6 @@
 -- What was answered for a sublayout holds again for each further key id whose body is the same, and
 -- whose folder is.
-use Rattle.std.proofs.Common.{◌≡◌, ℕ, List, [], ◌≤◌, Option, None, Some, Result, Ok, Err, IfOk}
+use Rattle.std.proofs.Common.{◌≡◌, ℕ, List, ◌≤◌, Option, None, Some, Result, Ok, Err, IfOk}
 use Rattle.std.proofs.Common.{Bool, true, false, cond, bytes_eq, refl, sym, ap, subst, ◌∙◌}
 use Rattle.std.proofs.Common.{arith}
 use Rattle.std.proofs.lemmas.Option.{same_Some}

@@ -1,5 +1,5 @@
 -- What is read under one name more of a folder.
-use Rattle.std.proofs.Common.{◌≡◌, ◌∙◌, ◌-◌, ◌≤◌, ◌++◌, ◌∷◌, ◌↔◌, [], ℕ, List, Bool, Contains, IsTrue}
+use Rattle.std.proofs.Common.{◌≡◌, ◌∙◌, ◌-◌, ◌++◌, ◌∷◌, ◌↔◌, [], ℕ, List, Bool, Contains, IsTrue}
 use Rattle.std.proofs.Common.{MatchBool, None, Option, Some, append-nil, ap, arith, codes, false, length}
 use Rattle.std.proofs.Common.{lit<, map, refl, subst, sym, take, true}
 use Rattle.std.proofs.lemmas.Grind.{get_or_default_zero}
@@ -7,7 +7,7 @@ use Rattle.std.proofs.lemmas.List.{map-append}
 use Rattle.std.proofs.lemmas.Str.Pattern.{contains_char}
 use Rattle.std.specs.Str.Pattern.{FindsChar, FindsTextSuffix, HasMatch, HasSuffixMatch}
 use Rattle.std.specs.Path.{path_join}
-use Rattle.it_disk.specs.Walks.{AreRead, IsRead, IsReadable, Seen, and_name, entry_of}
+use Rattle.it_disk.specs.Walks.{AreRead, IsRead, IsReadable, Seen, and_name}
 use Rattle.it_disk.specs.declared.entries.Readable.{Readable}
 use Rattle.it_disk.specs.declared.folders.Kind.{Kind}
 use Rattle.it_disk.specs.declared.folders.Kind.TheVariants.{File, Folder}

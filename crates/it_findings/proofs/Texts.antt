@@ -1,5 +1,5 @@
 -- What is found in the document of a text is found in each document that the text is.
-use Rattle.std.proofs.Common.{◌≡◌, ℕ, List, Option, subst}
+use Rattle.std.proofs.Common.{ℕ, List, subst}
 use Rattle.serde_json.specs.Data.{Data}
 use Rattle.it_base.specs.Document.{IsDocument}
 use Rattle.it_base.proofs.Documents.{same_document}

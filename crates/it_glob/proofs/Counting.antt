@@ -66,21 +66,6 @@ pub record Counts (whole : Place) (items : List Item) (cs : List ℕ) (restart :
   pub at_least : plain_count whole.0 ≤ steps + plain_count items
   pub at_least_again : IfSome restart (λ p. plain_count whole.0 ≤ steps + plain_count p.0)
 
-pub counts_begin : (items : List Item) (cs : List ℕ) → Counts (items, cs) items cs None 0
-counts_begin items cs = record {
-  before = 0;
-  skipped = 0;
-  done = 0;
-  items_before = omega arith;
-  characters_skipped = omega arith;
-  items_done = omega arith;
-  characters_done = omega arith;
-  run_done = omega arith;
-  at_most = omega arith;
-  at_least = omega arith;
-  at_least_again = tt;
-}
-
 -- a run that is done took at most each of its items for each character
 run_product : (skipped done n : ℕ) → skipped + done ≤ n → skipped * done + done ≤ done * n
 run_product skipped zero n h = omega arith

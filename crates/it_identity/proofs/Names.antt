@@ -36,9 +36,6 @@ told a b c d a' b' c' d' xs ys e =
 same_count : (m n : ℕ) → m / 256 ≡ n / 256 → m % 256 ≡ n % 256 → m ≡ n
 same_count m n high low = omega arith
 
-zeros_after : Identity → List ℕ
-zeros_after identity = replicate (1024 - (length identity.name + length identity.issuer)) 0
-
 name_tells : (one other : Identity) → identity_name one ≡ identity_name other → one ≡ other
 unfolding identity_name
 name_tells one other e =

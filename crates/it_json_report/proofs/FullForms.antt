@@ -1,11 +1,10 @@
 -- Objects in two parts.
 use Rattle.std.proofs.Common.{◌≡◌, ◌∙◌, ℕ, List, [], ◌∷◌, ◌++◌, ap, append-nil, append_assoc, codes}
-use Rattle.std.proofs.Common.{drop, sym}
+use Rattle.std.proofs.Common.{sym}
 use Rattle.std.proofs.lemmas.Grind.{flat_map-append}
 use Rattle.it_report.specs.declared.verdict.Verdict.{Verdict}
 use Rattle.it_report.specs.declared.verdict.Verdict.TheVariants.{Accepted, Refused}
 use Rattle.it_json_report.specs.Json.{further, json_object, json_text, member, opened}
-use Rattle.it_json_report.specs.JsonReport.{members_of}
 
 -- further members behind some are the members of both
 goes_on : (first : List ℕ × List ℕ) (members more : List (List ℕ × List ℕ))
@@ -66,11 +65,3 @@ opened_by old name value next =
 abbrev first_of : Verdict → List ℕ × List ℕ
 first_of (Accepted steps files) = (codes "verdict", json_text (codes "accepted"))
 first_of (Refused refusal) = (codes "verdict", json_text (codes "refused"))
-
--- further members behind those of a verdict
-pub verdict_goes_on : (verdict : Verdict) (more : List (List ℕ × List ℕ))
-    → opened (members_of verdict) ++ further member more ≡ opened (members_of verdict ++ more)
-verdict_goes_on (Accepted steps files) more =
-    goes_on (first_of (Accepted steps files)) (drop 1 (members_of (Accepted steps files))) more
-verdict_goes_on (Refused refusal) more =
-    goes_on (first_of (Refused refusal)) (drop 1 (members_of (Refused refusal))) more

@@ -1,5 +1,5 @@
 -- The file of the key object of an identity.
-use Rattle.std.proofs.Common.{◌≡◌, ℕ, List, [], ◌∷◌, Option, arith, refl, ap, subst}
+use Rattle.std.proofs.Common.{◌≡◌, ℕ, List, [], ◌∷◌, Option, arith, refl, subst}
 use Rattle.it_base.specs.Table.{IsTable, Named}
 use Rattle.it_docs.proofs.Same.{document_same, keys_same}
 use Rattle.it_dsse.specs.KeyObject.{IsKeyObject}

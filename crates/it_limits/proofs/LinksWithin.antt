@@ -8,7 +8,7 @@ use Rattle.std.specs.declared.cmp.Ordering.{Ordering}
 use Rattle.std.specs.declared.cmp.Ordering.TheVariants.{Less, Equal, Greater}
 use Rattle.it_base.proofs.Members.{in_none}
 use Rattle.it_chain.specs.AllFiles.{all_files, folder_files}
-use Rattle.it_chain.specs.Contents.{Contents, contents_of, Folders, no_folders, folder, empty, put}
+use Rattle.it_chain.specs.Contents.{Contents, contents_of, Folders, no_folders, folder, put}
 use Rattle.it_chain.specs.Contents.{with_file, with_folder}
 use Rattle.it_chain.specs.declared.bundle.File.{File}
 use Rattle.it_limits.specs.Limit.{IsWithinLimit}
@@ -34,9 +34,6 @@ one_within file within other among =
     ⊎_elim (λ none. absurd (in_none other none))
     (λ same. subst (λ (f : File). IsWithinLimit f.bytes) same within)
     (Contains-push_cases [] file other among)
-
-pub none_within : AreFilesWithin empty
-none_within file none = absurd (in_none file none)
 
 pub file_within : (file : File) (links : Contents) → IsWithinLimit file.bytes
     → AreFilesWithin links → AreFilesWithin (with_file file links)

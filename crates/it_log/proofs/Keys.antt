@@ -1,5 +1,5 @@
 -- How long the encoding of a key is.
-use Rattle.std.proofs.Common.{◌≡◌, ℕ, ◌+◌, length, length-append, arith}
+use Rattle.std.proofs.Common.{◌≡◌, length, length-append, arith}
 use Rattle.it_numbers.specs.Bytes.{big_bytes}
 use Rattle.it_numbers.proofs.Big.{length-big_bytes}
 use Rattle.it_p256.specs.Key.{Key, info_of}

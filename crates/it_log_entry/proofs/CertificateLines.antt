@@ -47,15 +47,6 @@ parts_are lines body first last certificate cut is =
     let rest = push_same body is.body last end_mark tail in
     (head, rest.1, rest.0)
 
--- too few lines
-pub none_of_none : (certificate : List ℕ) → ¬ IsCertificateOf [] certificate
-none_of_none certificate is = let clash : [] ≡ begin_mark ∷ (is.body ++ end_mark ∷ []) = is.lines_are in cc
-
-pub none_of_one : (first certificate : List ℕ) → ¬ IsCertificateOf (first ∷ []) certificate
-none_of_one first certificate is =
-    let long : 1 ≡ length (begin_mark ∷ (is.body ++ end_mark ∷ [])) = ap length is.lines_are in
-    omega (arith, length-append is.body (end_mark ∷ []))
-
 -- the text between the marks decides
 pub decided : (lines body : List (List ℕ)) (first last certificate joined : List ℕ) (b : Bool)
     → lines ≡ first ∷ (body ++ last ∷ []) → first ≡ begin_mark → last ≡ end_mark

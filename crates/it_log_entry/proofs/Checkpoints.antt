@@ -164,17 +164,6 @@ checkpoint_lines (x ∷ y ∷ z ∷ rest) d e size root b long second test = (
     third : (x y z o p q : List ℕ) (r s : List (List ℕ)) → x ∷ y ∷ z ∷ r ≡ o ∷ p ∷ q ∷ s → z ≡ q
     third x y z o p q r s e = cc
 
-pub other_size : (lines : List (Bor (List ℕ))) (d : Bor (List ℕ)) (size : ℕ) (root : List ℕ)
-    → ¬ ((get_or lines 1 d).now ≡ decimal size) → ¬ IsCheckpoint (texts_of lines) size root
-other_size [] d size root other is = let e = is.lines_are in cc
-other_size (x ∷ []) d size root other is = let e = is.lines_are in cc
-other_size (x ∷ y ∷ rest) d size root other is =
-    other (second x.now y.now is.origin (decimal size) (texts_of rest)
-    (base64_encoded root ∷ is.others) is.lines_are)
-  where
-    second : (x y o p : List ℕ) (r s : List (List ℕ)) → x ∷ y ∷ r ≡ o ∷ p ∷ s → y ≡ p
-    second x y o p r s e = cc
-
 -- a signature of a note, from its parts
 pub note_signature : (key : Key) (text signature rest : List ℕ) (b : Bool)
     → take 4 signature ≡ take 4 (sha256 (info_of key)) → rest ≡ drop 4 signature
@@ -209,9 +198,3 @@ tree_lines (x ∷ y ∷ z ∷ rest) d b long test = (
   where
     second : (x y o p : List ℕ) (r s : List (List ℕ)) → x ∷ y ∷ r ≡ o ∷ p ∷ s → y ≡ p
     second x y o p r s e = cc
-
-pub few_lines : (lines : List (Bor (List ℕ))) → length lines < 3 → ¬ AreTreeLines (texts_of lines)
-few_lines [] few are = let e = are.lines_are in cc
-few_lines (x ∷ []) few are = let e = are.lines_are in cc
-few_lines (x ∷ y ∷ []) few are = let e = are.lines_are in cc
-few_lines (x ∷ y ∷ z ∷ rest) few are = absurd (omega arith)

@@ -4,7 +4,6 @@ pub mod Checkpoints
 pub mod Entries
 pub mod Finding
 pub mod First
-pub mod Hashes
 pub mod Items
 pub mod Notes
 pub mod Numbers

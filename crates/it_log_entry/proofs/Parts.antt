@@ -1,15 +1,15 @@
 -- The parts of the bodies of entries: each body has one list of them at most, and is about what
 -- they say.
-use Rattle.std.proofs.Common.{◌≡◌, ◌∙◌, ◌↔◌, ◌⊎◌, ℕ, List, [], ◌∷◌, Option, Some, None, MatchOption, codes, inl, inr, refl, sym, subst}
+use Rattle.std.proofs.Common.{◌≡◌, ◌∙◌, ◌⊎◌, ℕ, List, [], ◌∷◌, Option, Some, None, MatchOption, codes, inl, inr, refl, sym, subst}
 use Rattle.std.proofs.lemmas.Option.{same_Some}
 use Rattle.serde_json.specs.Data.{Data, Items, no_items, item}
 use Rattle.serde_json.specs.Find.{as_array}
-use Rattle.it_base.specs.Document.{IsDocument, member_at}
+use Rattle.it_base.specs.Document.{member_at}
 use Rattle.it_base.specs.Parts.{IsPart}
 use Rattle.it_base.specs.Sequence.{AreEach, IsList}
 use Rattle.it_base.specs.Text.{IsText}
 use Rattle.it_base.proofs.Documents.{same_document}
-use Rattle.it_log_entry.specs.Agreement.{BodyAgrees, IsBody, IsOfKind, IsSpec}
+use Rattle.it_log_entry.specs.Agreement.{BodyAgrees, IsOfKind, IsSpec}
 use Rattle.it_log_entry.specs.BodyMisses.{BodyMisses, BodySays, SaysCertificate, SaysPayload, SaysSignature, SaysType}
 use Rattle.it_log_entry.specs.BodyParts.{AreDsseParts, AreIntotoParts, ArePartsOf, BodyParts, HasParts, Parts}
 use Rattle.it_log_entry.specs.DsseBody.{IsDsseBody, IsDsseSignature}

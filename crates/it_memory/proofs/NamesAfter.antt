@@ -1,6 +1,6 @@
 -- The names that follow a front of paths: one for a path at most, and those of one path more.
 use Rattle.std.proofs.Common.{◌≡◌, ◌∙◌, ◌+◌, ◌-◌, ◌<◌, ◌≤◌, ◌++◌, ◌∷◌, ◌↔◌, ◌⊎◌, ◌≢◌, [], ℕ, List, Bor}
-use Rattle.std.proofs.Common.{Contains, Some, ap, append-nil, append_assoc, arith, drop, get_or, inl, inr, length, refl, subst}
+use Rattle.std.proofs.Common.{Contains, ap, append-nil, append_assoc, arith, drop, get_or, inl, inr, length, refl, subst}
 use Rattle.std.proofs.Common.{sym, take}
 use Rattle.std.specs.List.{slice_range}
 use Rattle.std.specs.Str.{byte}

@@ -1,7 +1,7 @@
 -- The lines that are kept of all lines, one line after another.
 use Rattle.std.proofs.Common.{◌≡◌, ◌++◌, ◌∷◌, ◌+◌, ◌-◌, ◌<◌, ◌≤◌, ◌^◌, ◌∙◌, [], ℕ, List, Vec, Global}
 use Rattle.std.proofs.Common.{ap, arith, length, map, min, nat_le, refl, sym, take, Bool, true, false}
-use Rattle.std.proofs.Common.{append_assoc, append-nil, subst}
+use Rattle.std.proofs.Common.{append_assoc, subst}
 use Rattle.std.proofs.Common.{if◌then◌else◌}
 use Rattle.std.proofs.lemmas.Bool.Decides.{nat_tests}
 use Rattle.std.proofs.lemmas.List.{length-append, map-append}
@@ -80,10 +80,6 @@ module _ (all : List (List ℕ)) (held : Lines) (h : Hold held all) where
 -- how many are not kept, where one makes room for the line that says so
 pub further : (count : ℕ) → 40 < count → count - 40 + 1 ≡ count - 39
 further count more = omega (arith, more)
-
--- where nothing is added
-pub adds_none : (lines : Lines) → Adds [] lines lines
-adds_none lines = λ all h. subst (Hold lines) (sym (append-nil all)) h
 
 -- one part after another
 pub adds_then : (first second : List (List ℕ)) (old now new : Lines) → Adds first old now

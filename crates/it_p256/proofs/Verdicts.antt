@@ -8,7 +8,7 @@ use Rattle.it_p256_point.specs.declared.point.Point.{Point}
 use Rattle.it_p256_point.specs.Points.{affine, base, sum_of_multiples, first_coordinate}
 use Rattle.it_p256.specs.Key.{Key}
 use Rattle.it_p256.specs.Signature.{IsInRange, combination_of, Agrees, IsSigned}
-use Rattle.it_p256.proofs.Tests.{is_less, less_test, same_of, same_test, other_of, clash}
+use Rattle.it_p256.proofs.Tests.{is_less, less_test, same_of, same_test, other_of}
 
 pub zero_refused : (n z : ℕ) (t : Bool) → z ≡ 0 → t ≡ nat_eq n z → t ≡ true → IsTrue false ↔ IsInRange n
 zero_refused n z t at e h =
@@ -45,12 +45,6 @@ combination_by key e r s sn w en p1 u1 rn p2 u2 k b total lr ls hs hw he hp1 hu1
     ∙ ap (λ (p : Point). sum_of_multiples 256 first second p k) hb
     ∙ ap (λ (p : Point). sum_of_multiples 256 first second base p) hk
 
-pub infinity_refused : (key : Key) (e r s : ℕ) (p : Point) (t : Bool) → p ≡ combination_of key e r s → t ≡ nat_eq p.z 0 → t ≡ true
-    → IsTrue false ↔ Agrees key e r s
-infinity_refused key e r s p t at eq h =
-    let none : (combination_of key e r s).z ≡ 0 = sym (ap (λ (q : Point). q.z) at) ∙ same_of p.z 0 t eq h in
-    (λ (no : false ≡ true). cc, λ good. absurd (good.finite none))
-
 pub agreement : (key : Key) (e r s f fl n nl : ℕ) (p : Point) (t v : Bool) → p ≡ combination_of key e r s → t ≡ nat_eq p.z 0 → t ≡ false
     → f ≡ first_coordinate p → fl ≡ f → n ≡ fl % group_order → nl ≡ n → v ≡ nat_eq nl r
     → IsTrue v ↔ Agrees key e r s
@@ -61,12 +55,6 @@ agreement key e r s f fl n nl p t v at eq h hf hfl hn hnl hv =
       λ yes. record { finite = some; same = sym is ∙ same_of nl r v hv yes },
       λ good. same_test nl r v hv (is ∙ good.same),
     )
-
-pub r_refused : (key : Key) (e r s : ℕ) (t : Bool) → IsTrue t ↔ IsInRange r → t ≡ false → IsTrue false ↔ IsSigned key e r s
-r_refused key e r s t h f = (λ (no : false ≡ true). cc, λ signed. clash t (h.1 signed.r_good) f)
-
-pub s_refused : (key : Key) (e r s : ℕ) (t : Bool) → IsTrue t ↔ IsInRange s → t ≡ false → IsTrue false ↔ IsSigned key e r s
-s_refused key e r s t h f = (λ (no : false ≡ true). cc, λ signed. clash t (h.1 signed.s_good) f)
 
 pub judged : (key : Key) (e r s : ℕ) (t u v : Bool) → IsTrue t ↔ IsInRange r → t ≡ true → IsTrue u ↔ IsInRange s → u ≡ true
     → IsTrue v ↔ Agrees key e r s → IsTrue v ↔ IsSigned key e r s

@@ -1,13 +1,11 @@
 -- The lines of a digest list, one after another, and what is read of each.
-use Rattle.std.proofs.Common.{◌≡◌, ◌≢◌, ◌≤◌, ◌==◌, ℕ, ◌+◌, suc, true, false, List, [], ◌∷◌, ◌++◌}
-use Rattle.std.proofs.Common.{length, take, drop, Some, None, refl, sym, ap, append_assoc, arith}
-use Rattle.std.proofs.Common.{◌∙◌, take-append-drop, length-take-le}
-use Rattle.std.proofs.Math.Seq.{take-append_seam}
+use Rattle.std.proofs.Common.{◌≡◌, ◌≢◌, ◌==◌, ℕ, ◌+◌, suc, true, false, List, [], ◌∷◌, ◌++◌}
+use Rattle.std.proofs.Common.{length, refl, sym, ap, append_assoc, arith}
+use Rattle.std.proofs.Common.{◌∙◌}
 use Rattle.std.proofs.lemmas.List.{length-append}
 use Rattle.std.specs.List.{slice_get}
 use Rattle.std.specs.Str.{IsUtf8}
 use Rattle.it_base.proofs.Elements.{at_length}
-use Rattle.it_base.specs.HexadecimalText.{hexadecimal_decoded}
 use Rattle.it_digest.specs.DigestSet.{Algorithm}
 use Rattle.it_digest.specs.Sums.{lines_of}
 use Rattle.it_part_notes.specs.SumLine.{FollowsDigits, GivesPath, IsLine, IsMarked}

@@ -1,17 +1,16 @@
 -- How far a meter was raised.
-use Rattle.std.proofs.Common.{◌≡◌, ℕ, ◌+◌, ◌*◌, ◌<◌, ◌≤◌, List, ◌∷◌, true, length, get_or, drop}
-use Rattle.std.proofs.Common.{Option, Some, None, is_some, sym, ap, arith, ◌∙◌}
+use Rattle.std.proofs.Common.{◌≡◌, ℕ, ◌+◌, ◌*◌, ◌<◌, ◌≤◌, List, ◌∷◌, length, get_or, drop}
+use Rattle.std.proofs.Common.{sym, ap, arith, ◌∙◌}
 use Rattle.std.specs.FinMap.{len}
 use Rattle.std.specs.List.{sum_by}
 use Rattle.std.proofs.lemmas.List.Sums.{sum_by-drop_more}
-use Rattle.it_base.specs.Finds.{Finds}
-use Rattle.it_dsse.specs.Panel.{KeyNumber, Panel}
+use Rattle.it_dsse.specs.Panel.{Panel}
 use Rattle.it_dsse.specs.Meter.{RaisedBy, raised}
-use Rattle.it_dsse.specs.Signed.{Signed, tries}
+use Rattle.it_dsse.specs.Signed.{tries}
 use Rattle.it_dsse.specs.declared.envelope.Envelope.{Envelope}
 use Rattle.it_dsse.specs.declared.key_object.KeyObject.{KeyObject}
 use Rattle.it_dsse.specs.declared.meter.Meter.{Meter}
-use Rattle.it_dsse.proofs.Tries.{signed_tries, tries_at_most}
+use Rattle.it_dsse.proofs.Tries.{tries_at_most}
 use Rattle.it_dsse.proofs.Trying.{raised-zero, raised_more}
 use Rattle.it_docs.specs.declared.policy.Builder.{Builder}
 use Rattle.it_prov.specs.Asked.{AtLeast}
@@ -108,12 +107,3 @@ module _ (panel : Panel) (envelope : Envelope) (id : List ℕ) (object : KeyObje
     (tries panel envelope id object, p, omega arith),
     counted,
   )
-
--- where the key signed, a signature is tried
-pub tries_at_least : (panel : Panel) (envelope : Envelope) (id : List ℕ) (object : KeyObject)
-    (found : Option KeyNumber) → Finds (Signed panel envelope id object) found
-    → is_some found ≡ true
-    → 1 ≤ tries panel envelope id object
-tries_at_least panel envelope id object None none e = cc
-tries_at_least panel envelope id object (Some n) signed e =
-    signed_tries panel envelope id object n signed

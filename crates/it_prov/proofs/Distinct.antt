@@ -1,12 +1,11 @@
 -- Places of builders with the same keys.
-use Rattle.std.proofs.Common.{◌≡◌, ◌∙◌, ◌+◌, ◌<◌, ◌⊎◌, ◌++◌, ℕ, zero, suc, List, [], ◌∷◌, Some}
-use Rattle.std.proofs.Common.{inl, inr, Contains, length, get_or, take, refl, sym, ap, subst, arith}
-use Rattle.std.proofs.Common.{append_assoc, append-nil, length-append, option_map}
+use Rattle.std.proofs.Common.{◌≡◌, ◌∙◌, ◌+◌, ◌<◌, ◌++◌, ℕ, zero, suc, List, [], ◌∷◌, Some}
+use Rattle.std.proofs.Common.{inl, inr, Contains, length, get_or, take, sym, ap, subst}
+use Rattle.std.proofs.Common.{append_assoc}
 use Rattle.std.specs.Borrow.{Bor}
-use Rattle.std.proofs.lemmas.Bool.{cases_lt}
 use Rattle.std.proofs.lemmas.List.Elements.{Contains-append_left, Contains-push}
 use Rattle.it_base.specs.Table.{Named}
-use Rattle.it_base.proofs.Elements.{at_length, zip_more}
+use Rattle.it_base.proofs.Elements.{zip_more}
 use Rattle.it_dsse.specs.declared.key_object.KeyObject.{KeyObject}
 use Rattle.it_docs.specs.declared.policy.Builder.{Builder}
 use Rattle.it_docs.specs.declared.policy.Expectation.{Expectation}
@@ -34,36 +33,8 @@ all_stay old more = zip_each (λ (e : Expectation) places. HaveSameAt old e.buil
     (λ e places. same_stay old more e.builders places)
 
 -- ---- one builder
-below_or : (n k : ℕ) → k < n + 1 → (k < n) ⊎ (k ≡ n)
-below_or n k below = elim (cases_lt k n) [ inl less ↦ inl less | inr more ↦ inr (omega arith) ]
-
-pub placed_known : (old : List (Bor Builder)) (builder : Builder) (place : ℕ)
-    → HasSameAt old builder place → IsPlaced old old builder place
-placed_known old builder place same = record {
-  more = [];
-  grown = sym (append-nil old);
-  same = same;
-  used = λ other below. inl below;
-}
-
-pub placed_last : (old : List (Bor Builder)) (builder : Bor Builder)
-    → IsPlaced old (old ++ builder ∷ []) builder.now (length old)
-placed_last old builder = record {
-  more = builder ∷ [];
-  grown = refl;
-  same = ap (option_map (λ (b : Bor Builder). b.now.keys)) (at_length old builder []);
-  used = λ other below. below_or (length old) other
-      (let long = length-append old (builder ∷ []) in omega (arith, below, long));
-}
 
 -- ---- builders, one after another
-pub placed_none : (old : List (Bor Builder)) → ArePlaced old old [] []
-placed_none old = record {
-  more = [];
-  grown = sym (append-nil old);
-  same = tt;
-  used = λ other below. inl below;
-}
 
 pub placed_more : (old now new : List (Bor Builder)) (builders : List Builder) (i : ℕ)
     (builder : Builder) (places : List ℕ) (place : ℕ) → i < length builders
@@ -87,8 +58,6 @@ placed_more old now new builders i builder places place below here h k = record 
 }
 
 -- ---- expectations, one after another
-pub asked_none : AreAsked [] [] []
-asked_none = record { same = tt; used = λ place below. absurd (omega arith) }
 
 pub asked_more : (now new : List (Bor Builder)) (expectations : List Expectation) (i : ℕ)
     (expectation : Expectation) (lists : List (List ℕ)) (places : List ℕ)

@@ -79,11 +79,6 @@ module _ (digest : List ℕ) (entry : Entry) (old new : Entries) (found : Option
   pub put_under : IsAddedUnder (Some digest) entry old new
   put_under = record { lists_more = λ d test place. put d test place (bytes_eq d digest) refl }
 
--- where there is no digest, nothing is put
-pub none_under : (entry : Entry) (old : Entries) → IsAddedUnder None entry old old
-none_under entry old =
-    record { lists_more = λ d test place. sym (or-false (lists old d test place)) }
-
 pub put_each : (entry : Entry) (old new : Index)
     → IsAddedUnder entry.subject.sha256 entry old.by_sha256 new.by_sha256
     → IsAddedUnder entry.subject.sha384 entry old.by_sha384 new.by_sha384

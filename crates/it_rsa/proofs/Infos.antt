@@ -1,5 +1,5 @@
 -- A SubjectPublicKeyInfo, byte by byte.
-use Rattle.std.proofs.Common.{◌≡◌, Bool, true, false, not, nat_eq, ℕ, ◌+◌, ◌-◌, ◌*◌, ◌/◌, ◌%◌, ◌^◌, ◌<◌, ◌≤◌, List, [], ◌∷◌, ◌++◌, length, take, drop, arith, sym, ap, ◌∙◌, refl, get_or, length-append, length-drop}
+use Rattle.std.proofs.Common.{◌≡◌, Bool, true, false, not, nat_eq, ℕ, ◌+◌, ◌-◌, ◌*◌, ◌/◌, ◌≤◌, List, [], ◌∷◌, ◌++◌, length, take, drop, arith, sym, ap, ◌∙◌, refl, get_or, length-append, length-drop}
 use Rattle.std.specs.Cmp.Lexicographic.{pointwise}
 use Rattle.std.proofs.lemmas.Bool.Decides.{Decides-eqb}
 use Rattle.std.proofs.lemmas.List.{take_all, drop_all, take-append-le, drop-append-le, take-append-drop, drop-drop, length-take-le, take_rest}

@@ -1,5 +1,5 @@
 -- Public keys (RFC 8017, section 3.1).
-use Rattle.std.specs.Prelude.{◌≡◌, ℕ, ◌*◌, ◌%◌, ◌^◌, ◌<◌, ◌≤◌, List, length, slice_index}
+use Rattle.std.specs.Prelude.{◌≡◌, ℕ, ◌%◌, ◌^◌, ◌<◌, ◌≤◌, List, length, slice_index}
 use Rattle.it_numbers.specs.Bytes.{big}
 
 -- the modulus in its bytes, highest first, and the exponent

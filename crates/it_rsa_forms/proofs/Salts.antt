@@ -70,14 +70,6 @@ module _ (digest db hash rest again : List ℕ) (mark : ℕ) (first : IsMark db 
 low : (em : List ℕ) → 0 < length em → low_bits em (8 * length em - 1) ≡ 7
 low em some = omega arith
 
--- the first bit of an encoded message is clear
-pub not_clear : (em : List ℕ) (salt : ℕ) (digest : List ℕ) → 34 ≤ length em → 128 ≤ get_or em 0 0
-    → IsEncodedOfSalt salt digest em (8 * length em - 1) → ⊥
-not_clear em salt digest room high encoded =
-    let top : get_or em 0 0 < 2 ^ 7 =
-    subst (λ (n : ℕ). get_or em 0 0 < 2 ^ n) (low em (omega (arith, room))) encoded.top_clear in
-    omega (arith, top, high)
-
 module _ (digest em db copy hash : List ℕ) (room : 34 ≤ length em)
     (copy_is : copy ≡ take (length em - 33) em)
     (hash_is : hash ≡ take (length em - 33 + 32 - (length em - 33)) (drop (length em - 33) em))

@@ -1,5 +1,5 @@
 -- Where MATCH rules look for paths.
-use Rattle.std.proofs.Common.{◌≡◌, ◌∙◌, ℕ, List, ◌++◌, Bool, false, Option, Some, None, ap, subst}
+use Rattle.std.proofs.Common.{◌≡◌, ◌∙◌, ℕ, List, ◌++◌, false, Option, Some, None, ap, subst}
 use Rattle.std.proofs.Common.{is_some, refl, sym}
 use Rattle.it_base.specs.Finds.{Finds}
 use Rattle.it_docs.specs.declared.rule.Rule.TheVariants.{Match}

@@ -1,5 +1,5 @@
 -- Where no nonce is shared, signatures with the same number r are by one key.
-use Rattle.std.proofs.Common.{◌≡◌, ◌∙◌, ◌++◌, ◌∷◌, [], ℕ, zero, suc, List, Bool, true, false}
+use Rattle.std.proofs.Common.{◌≡◌, ◌∙◌, ◌++◌, ◌∷◌, [], zero, suc, List, Bool, true, false}
 use Rattle.std.proofs.Common.{◌&&◌, Option, Some, Contains, nat_eq, if◌then◌else◌, cond, find}
 use Rattle.std.proofs.Common.{ap, arith, eq-eqb, refl, subst, sym}
 use Rattle.std.specs.List.{flat_map}

@@ -1,8 +1,7 @@
 -- Where nothing is found, two digest lists name the same paths.
 use Rattle.std.proofs.Common.{◌≡◌, ◌≢◌, ℕ, List, [], Bool, true, false, Contains, IsTrue, refl}
-use Rattle.std.proofs.Common.{subst, sym}
+use Rattle.std.proofs.Common.{subst}
 use Rattle.std.specs.FinMap.{contains_key}
-use Rattle.it_digest.specs.Artifacts.{ArtifactMap}
 use Rattle.it_digest.specs.DigestSet.{in_sha256, in_sha512}
 use Rattle.it_digest.specs.declared.sums.ListAlgorithm.{ListAlgorithm}
 use Rattle.it_digest.specs.declared.sums.ListAlgorithm.TheVariants.{Sha256, Sha512}

@@ -1,14 +1,14 @@
 -- Fractions of a second and their digits.
-use Rattle.std.proofs.Common.{◌≡◌, ◌≢◌, ℕ, zero, suc, ◌-◌, ◌^◌, ◌<◌, ◌≤◌, List, [], ◌∷◌, ◌++◌, length}
+use Rattle.std.proofs.Common.{◌≡◌, ℕ, zero, suc, ◌-◌, ◌^◌, ◌<◌, ◌≤◌, List, [], ◌∷◌, ◌++◌, length}
 use Rattle.std.proofs.Common.{replicate, get_or, Option, Some, None, MatchOption, Result, Ok, Err}
-use Rattle.std.proofs.Common.{arith, sym, subst, refl}
+use Rattle.std.proofs.Common.{arith, sym, subst}
 use Rattle.std.specs.Result.{OkIff, result_ok}
 use Rattle.std.specs.Int.{IsInRange}
 use Rattle.std.specs.Str.{IsAscii, IsUtf8}
 use Rattle.std.specs.Str.Parse.{AllDigits, ParsesUnsigned, digits_value}
 use Rattle.std.proofs.lemmas.Str.{IsUtf8-from_ascii}
 use Rattle.std.proofs.lemmas.Str.Ascii.{IsAscii-cons, IsAscii-nil}
-use Rattle.std.proofs.lemmas.Str.Parse.{IsNumeralModel, digit_at, digit_from_value, digits_value_short}
+use Rattle.std.proofs.lemmas.Str.Parse.{IsNumeralModel, digit_from_value, digits_value_short}
 use Rattle.std.proofs.lemmas.Str.Parse.{numerals_by_value, parse_plain, tells_digits}
 use Rattle.it_base.specs.Finds.{Finds}
 use Rattle.it_trust_root.specs.Time.{AreFractionDigits, IsFraction, nine_digits}
@@ -21,10 +21,6 @@ ascii_digits (c ∷ cs) h =
 
 pub digits_are_text : (digits : List ℕ) → AllDigits 10 digits → IsUtf8 digits
 digits_are_text digits h = IsUtf8-from_ascii digits (ascii_digits digits h)
-
-pub first_is_digit : (digits : List ℕ) → AllDigits 10 digits → 0 < length digits
-    → IsInRange 48 57 (get_or digits 0 0)
-first_is_digit digits h some = digit_at digits 0 h some
 
 own : IsNumeralModel (AllDigits 10) (digits_value 10)
 own = numerals_by_value (AllDigits 10) tells_digits
@@ -71,17 +67,8 @@ number_found digits (Some n) some few h = record {
   number_is = h.1;
 }
 
--- a fraction without and with a mark
-pub no_fraction : (fraction : List ℕ) → length fraction ≡ 0 → IsFraction fraction 0
-no_fraction [] none = refl
-no_fraction (x ∷ xs) none = absurd (omega arith)
-
 pub after_mark : (fraction digits : List ℕ) (mark : ℕ) (found : Option ℕ) → fraction ≡ mark ∷ digits
     → mark ≡ 46 → Finds (AreFractionDigits digits) found → Finds (IsFraction fraction) found
 after_mark fraction digits mark None is mark_is h = λ n k. h n (subst (λ f. IsFraction f n) is k).1
 after_mark fraction digits mark (Some n) is mark_is h =
     subst (λ f. IsFraction f n) (sym is) (mark_is, h)
-
-pub other_mark : (fraction digits : List ℕ) (mark n : ℕ) → fraction ≡ mark ∷ digits → mark ≢ 46
-    → ¬ IsFraction fraction n
-other_mark fraction digits mark n is other k = other (subst (λ f. IsFraction f n) is k).0

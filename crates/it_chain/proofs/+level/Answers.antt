@@ -1,5 +1,5 @@
 use Rattle.std.proofs.Common.{IfOk, ◌≡◌, ◌∙◌, ◌<ℤ◌, ◌-◌, [], ◌∷◌, Option, None, Some}
-use Rattle.std.proofs.Common.{Contains, map, zip, Err, flat_map, rules, refl, sym, ap}
+use Rattle.std.proofs.Common.{Contains, map, Err, flat_map, rules, refl, sym, ap}
 use Rattle.std.proofs.Common.{subst, unwrap_or, length, take, take_all, string_bytes, arith}
 use Rattle.it_dsse.specs.Meter.{raised}
 use Rattle.it_docs.specs.Layout.{LayoutOf}
@@ -19,7 +19,6 @@ use Rattle.it_chain.specs.Fewest.{StepFewest}
 use Rattle.it_chain.specs.Sublayouts.{folder_name, folder_of}
 use Rattle.it_chain.specs.First.{step_places, at_id, at_records, at_threshold, here}
 use Rattle.it_chain.specs.Level.{StepHolds}
-use Rattle.it_chain.specs.StepRules.{links_in}
 use Rattle.it_chain.specs.Signers.{entry_of}
 use Rattle.it_chain.specs.Body.{as_body}
 use Rattle.it_chain.specs.inside.Candidates.{AreCandidates}

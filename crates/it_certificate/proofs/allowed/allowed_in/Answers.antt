@@ -1,5 +1,3 @@
-use Rattle.std.proofs.Common.{map}
-use Rattle.it_certificate.specs.Extension.{stated_of}
 use Rattle.it_certificate.proofs.allowed.allowed_in.Goals as goal
 
 pub returns-in_default : goal.returns-in_default

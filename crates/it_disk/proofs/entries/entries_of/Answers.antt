@@ -1,7 +1,7 @@
-use Rattle.std.proofs.Common.{◌≡◌, ◌∙◌, ◌∷◌, [], ap, append_assoc, option_map, rules, string_bytes, subst}
+use Rattle.std.proofs.Common.{◌≡◌, ◌∙◌, ◌∷◌, [], ap, append_assoc, rules, string_bytes}
 use Rattle.std.specs.Vec.Iter.{into_iter_items}
 use Rattle.std.proofs.lemmas.List.Elements.{All-nil, All-push}
-use Rattle.it_disk.specs.Walks.{IsRead, no_name}
+use Rattle.it_disk.specs.Walks.{no_name}
 use Rattle.it_disk.specs.inside.Entries.{IsEntryIn, shown}
 use Rattle.it_disk.proofs.EntriesRead.{passed_over, taken}
 use Rattle.it_disk.proofs.entries.entries_of.Goals as goal

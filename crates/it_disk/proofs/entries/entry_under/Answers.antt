@@ -1,4 +1,4 @@
-use Rattle.std.proofs.Common.{◌≡◌, ◌∙◌, None, Some, ap, string_bytes, subst}
+use Rattle.std.proofs.Common.{◌≡◌, ◌∙◌, None, ap, string_bytes, subst}
 use Rattle.std.specs.Path.{path_join}
 use Rattle.it_disk.specs.inside.Entries.{IsTold}
 use Rattle.it_disk.proofs.EntriesRead.{not_readable, other_there}

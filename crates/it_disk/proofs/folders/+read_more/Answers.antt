@@ -1,4 +1,4 @@
-use Rattle.std.proofs.Common.{◌≡◌, ◌∙◌, ◌+◌, ◌-◌, ◌∷◌, [], ap, append_assoc, arith, length, map, refl, rules}
+use Rattle.std.proofs.Common.{◌≡◌, ◌∙◌, ◌+◌, ◌-◌, ◌∷◌, [], ap, append_assoc, arith, map, refl, rules}
 use Rattle.std.proofs.Common.{string_bytes, subst}
 use Rattle.std.specs.Path.{path_join}
 use Rattle.std.specs.Vec.Iter.{into_iter_items}

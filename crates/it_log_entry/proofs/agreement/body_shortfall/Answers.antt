@@ -1,4 +1,3 @@
-use Rattle.std.proofs.Common.{codes}
 use Rattle.serde_json.specs.View.{view}
 use Rattle.it_log_entry.specs.inside.Said.{said_by}
 use Rattle.it_log_entry.proofs.Bodies.{mapped}

@@ -1,5 +1,5 @@
 use Rattle.std.proofs.Common.{◌≡◌, ◌∙◌, ◌+◌, ◌↔◌, ◌++◌, ◌∷◌, [], ℕ, List, Bor, Contains, ap}
-use Rattle.std.proofs.Common.{get_or, map, string_bytes, subst, sym, take}
+use Rattle.std.proofs.Common.{get_or, map, string_bytes, subst, take}
 use Rattle.std.proofs.lemmas.List.{map-append, take_all, take_more}
 use Rattle.it_memory.specs.inside.Names.{HasNameAfter}
 use Rattle.it_memory.proofs.NamesAfter.{none_more, one_more}

@@ -1,4 +1,4 @@
-use Rattle.std.proofs.Common.{◌≡◌, ◌+◌, ◌*◌, ◌-◌, ◌≤◌, length, get_or, sym, arith, refl, ◌∙◌}
+use Rattle.std.proofs.Common.{◌≡◌, ◌+◌, ◌-◌, ◌≤◌, length, sym, arith, refl, ◌∙◌}
 use Rattle.std.proofs.lemmas.List.{length-take-le, take_rest}
 use Rattle.it_rsa.proofs.Infos.{read_of, after_modulus, other_head, parts_judged}
 use Rattle.it_rsa.proofs.info.key_parts.Goals as goal

@@ -1,4 +1,4 @@
-use Rattle.std.proofs.Common.{◌≡◌, ◌+◌, ◌*◌, ◌^◌, ◌<◌, ◌∙◌, sym, ap, arith, rules, get_or}
+use Rattle.std.proofs.Common.{◌+◌, ◌*◌, ◌<◌, ◌∙◌, sym, ap, arith, rules, get_or}
 use Rattle.it_numbers.proofs.Big.{big_none, big_more, big_all}
 use Rattle.it_rsa.proofs.Keys.{one_byte_more}
 use Rattle.it_rsa.proofs.key.exponent_number.Goals as goal

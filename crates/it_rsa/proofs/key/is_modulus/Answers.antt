@@ -1,4 +1,3 @@
-use Rattle.std.proofs.Common.{length}
 use Rattle.it_numbers.proofs.Big.{big_parity}
 use Rattle.it_rsa.proofs.Keys.{modulus_judged}
 use Rattle.it_rsa.proofs.key.is_modulus.Goals as goal

@@ -1,4 +1,4 @@
-use Rattle.std.proofs.Common.{◌≡◌, ◌<◌, ◌≤◌, length, arith, rules, sym, ◌∙◌, ap}
+use Rattle.std.proofs.Common.{◌≡◌, ◌≤◌, length, arith, rules, sym, ◌∙◌, ap}
 use Rattle.it_numbers.specs.Bytes.{big_bytes}
 use Rattle.it_numbers.proofs.Big.{length-big_bytes}
 use Rattle.it_rsa.specs.Signature.{representative}

@@ -1,4 +1,4 @@
-use Rattle.std.proofs.Common.{◌≡◌, All, arith, refl, subst, sym, true}
+use Rattle.std.proofs.Common.{All, arith, refl, subst, sym, true}
 use Rattle.std.proofs.lemmas.List.{take_all}
 use Rattle.std.proofs.lemmas.List.Elements.{All-get_or, All-more, All-nil}
 use Rattle.it_rule_notes.specs.Delivery.{LooksAtSteps}

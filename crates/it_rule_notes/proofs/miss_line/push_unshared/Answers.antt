@@ -1,4 +1,4 @@
-use Rattle.std.proofs.Common.{[], ◌++◌, codes}
+use Rattle.std.proofs.Common.{◌++◌, codes}
 use Rattle.it_rule_notes.specs.Cause.{unshared_form}
 use Rattle.it_rule_notes.specs.DigestWords.{algorithms_form}
 use Rattle.it_rule_notes.specs.Line.{told_form}

@@ -1,4 +1,4 @@
-use Rattle.std.proofs.Common.{◌≡◌, ◌∙◌, ap, refl, rules, subst, true}
+use Rattle.std.proofs.Common.{◌≡◌, ◌∙◌, ap, rules, subst, true}
 use Rattle.it_docs.specs.Layout.{LayoutOf}
 use Rattle.it_dsse.specs.Envelope.{EnvelopeOf}
 use Rattle.it_dsse.specs.declared.envelope.Envelope.{Envelope}

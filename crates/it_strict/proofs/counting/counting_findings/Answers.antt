@@ -16,7 +16,8 @@ returns c =
       are_members = rw c.in_ok-text.ensures at c.in_ok-members.ensures;
       are_nulls = rw c.in_ok-text.ensures at c.in_ok-nulls.ensures;
       are_places = rw c.in_ok-text.ensures at c.in_ok-places.ensures;
-      are_all = rw (c.as_slice.ensures.value, c.as_slice-2.ensures.value, c.as_slice-3.ensures.value) at c.in_ok-all.ensures;
+      are_all = rw (c.as_slice.ensures.value, c.as_slice-2.ensures.value, c.as_slice-3.ensures.value)
+          at c.in_ok-all.ensures;
       are_counting = counts;
     })
     c.counting_of.ensures

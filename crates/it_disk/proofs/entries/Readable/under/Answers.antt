@@ -1,4 +1,4 @@
-use Rattle.std.proofs.Common.{◌↔◌, codes}
+use Rattle.std.proofs.Common.{codes}
 use Rattle.it_disk.proofs.EntriesRead.{ends_so, has_stop}
 use Rattle.it_disk.proofs.entries.Readable.under.Goals as goal
 

@@ -1,6 +1,5 @@
-use Rattle.std.proofs.Common.{◌≡◌, length, ap, sym, ◌∙◌, arith}
+use Rattle.std.proofs.Common.{◌≡◌, length, ap, ◌∙◌, arith}
 use Rattle.std.proofs.lemmas.List.{take_all}
-use Rattle.it_p256.specs.Key.{info_of}
 use Rattle.it_log.proofs.Keys.{length-info}
 use Rattle.it_log.proofs.key.LogKey.from_info.Goals as goal
 

@@ -1,6 +1,7 @@
 //! Budgets of checks.
-ghost use Rattle.std.specs.Bool.{OnFalse, OnTrue};
-ghost use Rattle.std.specs.Prelude.{◌≡◌, ◌↔◌, ◌+◌, ◌<◌, ◌≤◌, IsTrue, false, true};
+ghost use Rattle.std.specs.Prelude.{◌≡◌, ◌↔◌, ◌+◌, ◌<◌, ◌≤◌, IsOk, OnErr, OnOk, false, true};
+
+use std::alloc::AllocError;
 
 /// How many signatures were checked in a run, and how many may be: never more than that.
 #[derive(Clone, Copy)]
@@ -28,22 +29,25 @@ impl Budget {
         }
     }
 
-    /// Takes one check, and tells whether there was one left to take.
-    pub fn take(&mut self) -> bool
-        ensures answer { IsTrue result ↔ (self.old.checked < self.old.most) }
+    /// Takes one check. Whoever checks a signature takes it first. Takes no memory.
+    ///
+    /// # Errors
+    ///
+    /// `AllocError` where no check is left to take, so that the signature must not be checked.
+    pub fn take(&mut self) -> Result<(), AllocError>
+        ensures answer { IsOk result ↔ (self.old.checked < self.old.most) }
         ensures most { self.new.most ≡ self.old.most }
-        ensures taken { OnTrue result (self.new.checked ≡ self.old.checked + 1) }
-        ensures kept { OnFalse result (self.new.checked ≡ self.old.checked) }
-        ensures spent { OnFalse result (self.new.spent ≡ true) }
-        ensures left { OnTrue result (self.new.spent ≡ self.old.spent) }
+        ensures taken { OnOk result (self.new.checked ≡ self.old.checked + 1) }
+        ensures kept { OnErr result (self.new.checked ≡ self.old.checked) }
+        ensures spent { OnErr result (self.new.spent ≡ true) }
+        ensures left { OnOk result (self.new.spent ≡ self.old.spent) }
     {
-        let is_left = self.checked < self.most;
-        if is_left {
+        if self.checked < self.most {
             self.checked += 1;
-        } else {
-            self.spent = true;
+            return Ok(());
         }
-        is_left
+        self.spent = true;
+        Err(AllocError)
     }
 
     /// Whether a check was refused.

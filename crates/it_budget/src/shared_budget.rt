@@ -26,9 +26,9 @@ impl SharedBudget {
     /// `AllocError` where no check is left to take, so that the signature must not be checked.
     pub fn take(&self) -> Result<(), AllocError> {
         let mut budget = self.budget.get();
-        let is_left = budget.take();
+        let taken = budget.take();
         self.budget.set(budget);
-        if is_left { Ok(()) } else { Err(AllocError) }
+        taken
     }
 
     /// Whether a check was refused because none was left. Takes no memory.

@@ -13,10 +13,14 @@ pub record IsCheckpoint (lines : List (List ℕ)) (size : ℕ) (root : List ℕ)
   pub others : List (List ℕ)
   pub lines_are : lines ≡ origin ∷ decimal size ∷ base64_encoded root ∷ others
 
--- a signature of a note is the key's: it begins with a hint, the first bytes of the SHA-256 of the
--- key, and goes on with the key's signature of the text
+-- a signature of a note begins with the hint about the key, the first bytes of its SHA-256
+abbrev pub HasHint : Key → List ℕ → Type 0
+HasHint key signature = take 4 signature ≡ take 4 (sha256 (info_of key))
+
+-- a signature of a note is the key's: it begins with the hint about the key, and goes on with the
+-- key's signature of the text
 pub record IsNoteSignature (key : Key) (text signature : List ℕ) : Type 0 where
-  pub hint_is : take 4 signature ≡ take 4 (sha256 (info_of key))
+  pub hint_is : HasHint key signature
   pub signed : IsSignature key text (drop 4 signature)
 
 -- a note is a checkpoint of this tree, and one of its signatures is the key's

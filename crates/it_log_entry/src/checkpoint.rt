@@ -1,15 +1,16 @@
 //! Checkpoints, and what keeps a text from being one.
-ghost use Rattle.std.specs.Prelude.{◌↔◌, ◌≡◌, ◌≤◌, IfOk, IsTrue, MatchOption, decimal};
-ghost use Rattle.std.specs.Prelude.{length, take};
+ghost use Rattle.std.specs.Prelude.{◌↔◌, ◌≡◌, ◌+◌, ◌≤◌, IfOk, IsTrue, MatchOption, OnErr, OnOk};
+ghost use Rattle.std.specs.Prelude.{decimal, length, take};
 ghost use Rattle.sha2.specs.Sha256.{sha256};
 ghost use Rattle.it_base.specs.Base64Text.{base64_encoded};
 ghost use Rattle.it_p256.specs.Key.{info_of};
-ghost use Rattle.it_log_entry.specs.Checkpoint.{IsCheckpoint, IsNoteSignature, IsSignedCheckpoint};
+ghost use Rattle.it_log_entry.specs.Checkpoint.{HasHint, IsCheckpoint, IsNoteSignature};
+ghost use Rattle.it_log_entry.specs.Checkpoint.{IsSignedCheckpoint};
 ghost use Rattle.it_log_entry.specs.CheckpointMisses.{AreTreeLines};
 ghost use Rattle.it_log_entry.specs.inside.Lines.{IsSignedBy, texts_of};
 ghost use Rattle.it_log_entry.specs.inside.NoCheckpoint.{IsNoCheckpoint};
 
-use crate::counted_log::CountedLog;
+use crate::inclusion_proof::InclusionProof;
 use crate::note::{cut_at_empty, ended_lines, note_lines};
 use crate::note_shortfall::NoteShortfall;
 use crate::number::is_size_line;
@@ -17,24 +18,28 @@ use crate::signature_line::signatures_in;
 use crate::stamp::decimal_text;
 use it_base::base64_text::base64_text_of;
 use it_base::sequence::Sequence;
-use it_log::LogKey;
+use it_budget::Budget;
+use it_log::{Log, LogKey};
 use it_p256::is_signature;
 use sha2::{Digest, Sha256};
 use std::alloc::{AllocError, Global};
 
-/// What keeps a note from being a checkpoint of a tree with `size` entries and this root of which
-/// one signature is the log's; `None` where it is one.
+/// What keeps the note beside an inclusion proof from being a checkpoint of the proof's tree and
+/// root of which one signature is the log's; `None` where it is one.
 pub(crate) fn checkpoint_shortfall(
     alloc: Global,
-    log: &CountedLog<'_>,
-    note: &str,
-    size: u64,
-    root: &[u8; 32],
+    budget: &mut Budget,
+    log: &Log,
+    proof: &InclusionProof,
 ) -> Result<Option<NoteShortfall>, AllocError>
-    ensures { IfOk result (λ missed. MatchOption missed
-        (IsSignedCheckpoint log.now.log.now.key note.now size root.now)
-        (IsNoCheckpoint log.now.log.now.key note.now size root.now)) }
+    ensures answer { IfOk result (λ missed. MatchOption missed
+        (IsSignedCheckpoint log.now.key proof.now.checkpoint proof.now.size proof.now.root)
+        (IsNoCheckpoint log.now.key proof.now.checkpoint proof.now.size proof.now.root)) }
+    ensures most { budget.new.most ≡ budget.old.most }
+    ensures grows { budget.old.checked ≤ budget.new.checked }
 {
+    let size = proof.size;
+    let note = proof.checkpoint.as_str();
     let Some(all) = note_lines(alloc, note.as_bytes())? else {
         return Ok(Some(NoteShortfall::Form));
     };
@@ -47,10 +52,10 @@ pub(crate) fn checkpoint_shortfall(
     if !are_tree_lines(alloc, lines)? {
         return Ok(Some(NoteShortfall::Form));
     }
-    if !is_checkpoint(alloc, lines, size, root)? {
+    if !is_checkpoint(alloc, lines, size, &proof.root)? {
         return Ok(Some(NoteShortfall::Root));
     }
-    if !is_signed_by(alloc, log, lines, signatures.as_slice())? {
+    if !is_signed_by(alloc, budget, log, lines, signatures.as_slice())? {
         return Ok(Some(NoteShortfall::Signature));
     }
     Ok(None)
@@ -101,43 +106,54 @@ fn is_of_root(alloc: Global, line: &[u8], root: &[u8; 32]) -> Result<bool, Alloc
 /// Whether one of the signatures of a note is the log's.
 fn is_signed_by(
     alloc: Global,
-    log: &CountedLog<'_>,
+    budget: &mut Budget,
+    log: &Log,
     lines: &[&[u8]],
     signatures: &[Sequence<u8>],
 ) -> Result<bool, AllocError>
-    ensures { IfOk result (λ is. IsTrue is
-        ↔ IsSignedBy log.now.log.now.key (texts_of lines.now) signatures.now) }
+    ensures answer { IfOk result (λ is. IsTrue is
+        ↔ IsSignedBy log.now.key (texts_of lines.now) signatures.now) }
+    ensures most { budget.new.most ≡ budget.old.most }
+    ensures grows { budget.old.checked ≤ budget.new.checked }
 {
     let text = ended_lines(alloc, lines)?;
     for signature in signatures {
-        if is_note_signature(log, text.as_slice(), signature.as_slice())? {
+        if is_note_signature(budget, log, text.as_slice(), signature.as_slice())? {
             return Ok(true);
         }
     }
     Ok(false)
 }
 
-/// Whether a signature of a note is the log's. Without the hint about its key it is not, and is not
-/// checked.
+/// Whether a signature of a note is the log's, which takes one check. Without the hint about its
+/// key it is not, and is not checked.
 fn is_note_signature(
-    log: &CountedLog<'_>,
+    budget: &mut Budget,
+    log: &Log,
     text: &[u8],
     signature: &[u8],
 ) -> Result<bool, AllocError>
-    ensures { IfOk result (λ is. IsTrue is
-        ↔ IsNoteSignature log.now.log.now.key text.now signature.now) }
+    ensures answer { IfOk result (λ is. IsTrue is
+        ↔ IsNoteSignature log.now.key text.now signature.now) }
+    ensures most { budget.new.most ≡ budget.old.most }
+    ensures grows { budget.old.checked ≤ budget.new.checked }
+    ensures checked { HasHint log.now.key signature.now
+        → OnOk result (budget.new.checked ≡ budget.old.checked + 1) }
+    ensures kept { OnErr result (budget.new.checked ≡ budget.old.checked) }
+    ensures without { ¬ HasHint log.now.key signature.now
+        → budget.new.checked ≡ budget.old.checked }
 {
-    let key = &log.log.key;
+    let key = &log.key;
     if !has_hint(key, signature) {
         return Ok(false);
     }
-    log.budget.take()?;
+    budget.take()?;
     Ok(is_signature(key.key(), &[text], &signature[4..]))
 }
 
 /// Whether a signature of a note has at least 4 bytes, and they are the hint about the key.
 fn has_hint(key: &LogKey, signature: &[u8]) -> bool
-    ensures hint { IsTrue result ↔ (take 4 signature.now ≡ take 4 (sha256 (info_of key.now))) }
+    ensures hint { IsTrue result ↔ HasHint key.now signature.now }
     ensures long { IsTrue result → 4 ≤ length signature.now }
 {
     let digest = Sha256::digest(key.info());

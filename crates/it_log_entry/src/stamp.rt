@@ -1,25 +1,31 @@
 //! Signed entry timestamps.
-ghost use Rattle.std.specs.Prelude.{◌↔◌, ◌≡◌, ◌++◌, IfOk, OnOk, IsTrue, string_bytes, decimal};
+ghost use Rattle.std.specs.Prelude.{◌↔◌, ◌≡◌, ◌+◌, ◌++◌, IfOk, IsTrue, OnErr, OnOk};
+ghost use Rattle.std.specs.Prelude.{decimal, string_bytes};
 ghost use Rattle.it_log_entry.specs.Stamp.{IsPromised, stamp_text};
 
-use crate::counted_log::CountedLog;
 use crate::entry::LogEntry;
 use it_base::base64_text::base64_text_of;
+use it_budget::Budget;
+use it_log::Log;
 use it_p256::is_signature;
 use std::alloc::{AllocError, Global};
 
 /// Whether the promise of an entry is by the log: its signature of the entry's body, time, log and
-/// index.
+/// index. It takes one check.
 pub(crate) fn is_promised(
     alloc: Global,
-    log: &CountedLog<'_>,
+    budget: &mut Budget,
+    log: &Log,
     entry: &LogEntry,
 ) -> Result<bool, AllocError>
-    ensures { IfOk result (λ is. IsTrue is ↔ IsPromised log.now.log.now.key entry.now) }
+    ensures answer { IfOk result (λ is. IsTrue is ↔ IsPromised log.now.key entry.now) }
+    ensures most { budget.new.most ≡ budget.old.most }
+    ensures checked { OnOk result (budget.new.checked ≡ budget.old.checked + 1) }
+    ensures kept { OnErr result (budget.new.checked ≡ budget.old.checked) }
 {
     let text = stamp(alloc, entry)?;
-    log.budget.take()?;
-    let key = log.log.key.key();
+    budget.take()?;
+    let key = log.key.key();
     Ok(is_signature(key, &[text.as_slice()], entry.promise.as_slice()))
 }
 

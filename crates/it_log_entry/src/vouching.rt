@@ -1,5 +1,5 @@
 //! Whether an entry vouches for a signature, or which condition it misses.
-ghost use Rattle.std.specs.Prelude.{◌↔◌, ◌*◌, pos, IfOk, IsTrue, MatchOption};
+ghost use Rattle.std.specs.Prelude.{◌≡◌, ◌↔◌, ◌*◌, ◌≤◌, pos, IfOk, IsTrue, MatchOption};
 ghost use Rattle.it_log.specs.Window.{LiesIn};
 ghost use Rattle.it_log_entry.specs.EntryMisses.{EntryMisses, IsIncluded, IsOf};
 ghost use Rattle.it_log_entry.specs.Vouching.{EntryVouches};
@@ -7,12 +7,12 @@ ghost use Rattle.it_log_entry.specs.inside.ProofMisses.{ProofMisses};
 
 use crate::agreement::body_shortfall;
 use crate::checkpoint::checkpoint_shortfall;
-use crate::counted_log::CountedLog;
 use crate::entry::LogEntry;
-use crate::logged::Logged;
+use crate::entry_question::EntryQuestion;
 use crate::read_kind::is_read_kind;
 use crate::shortfall::EntryShortfall;
 use crate::stamp::is_promised;
+use it_budget::Budget;
 use it_log::{Log, Window};
 use it_merkle::{leads, leaf_hash};
 use std::alloc::{AllocError, Global};
@@ -29,32 +29,34 @@ const NANOSECONDS: i128 = 1_000_000_000;
 /// `AllocError` where memory was refused, or where the budget has no check left.
 pub fn entry_shortfall(
     alloc: Global,
-    log: &CountedLog<'_>,
-    needs_proof: bool,
+    budget: &mut Budget,
+    log: &Log,
+    question: &EntryQuestion<'_>,
     entry: &LogEntry,
-    logged: &Logged<'_>,
 ) -> Result<Option<EntryShortfall>, AllocError>
-    ensures { IfOk result (λ missed. MatchOption missed
-        (EntryVouches log.now.log.now needs_proof entry.now logged.now)
-        (EntryMisses log.now.log.now needs_proof entry.now logged.now)) }
+    ensures answer { IfOk result (λ missed. MatchOption missed
+        (EntryVouches log.now question.now.needs_proof entry.now question.now.logged.now)
+        (EntryMisses log.now question.now.needs_proof entry.now question.now.logged.now)) }
+    ensures most { budget.new.most ≡ budget.old.most }
+    ensures grows { budget.old.checked ≤ budget.new.checked }
 {
-    let of = log.log;
-    if !is_of(of, entry) {
+    if !is_of(log, entry) {
         return Ok(Some(EntryShortfall::Log));
     }
-    if !counts(&of.window, entry.time) {
+    if !counts(&log.window, entry.time) {
         return Ok(Some(EntryShortfall::Time));
     }
     if !is_read_kind(&entry.kind) {
         return Ok(Some(EntryShortfall::Kind));
     }
-    if let Some(part) = body_shortfall(alloc, &entry.kind, entry.body.as_slice(), logged)? {
+    let body = entry.body.as_slice();
+    if let Some(part) = body_shortfall(alloc, &entry.kind, body, question.logged)? {
         return Ok(Some(EntryShortfall::Body(part)));
     }
-    if let Some(missed) = proof_shortfall(alloc, log, needs_proof, entry)? {
+    if let Some(missed) = proof_shortfall(alloc, budget, log, question.needs_proof, entry)? {
         return Ok(Some(missed));
     }
-    if !is_promised(alloc, log, entry)? {
+    if !is_promised(alloc, budget, log, entry)? {
         return Ok(Some(EntryShortfall::Promise));
     }
     Ok(None)
@@ -69,15 +71,17 @@ pub fn entry_shortfall(
 #[tactic(auto, using(crate::proofs::Shortfalls::none_where_vouching))]
 pub fn vouches(
     alloc: Global,
-    log: &CountedLog<'_>,
-    needs_proof: bool,
+    budget: &mut Budget,
+    log: &Log,
+    question: &EntryQuestion<'_>,
     entry: &LogEntry,
-    logged: &Logged<'_>,
 ) -> Result<bool, AllocError>
-    ensures { IfOk result (λ vouches. IsTrue vouches
-        ↔ EntryVouches log.now.log.now needs_proof entry.now logged.now) }
+    ensures answer { IfOk result (λ vouches. IsTrue vouches
+        ↔ EntryVouches log.now question.now.needs_proof entry.now question.now.logged.now) }
+    ensures most { budget.new.most ≡ budget.old.most }
+    ensures grows { budget.old.checked ≤ budget.new.checked }
 {
-    let missed = entry_shortfall(alloc, log, needs_proof, entry, logged)?;
+    let missed = entry_shortfall(alloc, budget, log, question, entry)?;
     Ok(missed.is_none())
 }
 
@@ -98,13 +102,16 @@ fn counts(window: &Window, time: u64) -> bool
 /// The condition on its proof that an entry misses.
 fn proof_shortfall(
     alloc: Global,
-    log: &CountedLog<'_>,
+    budget: &mut Budget,
+    log: &Log,
     needs_proof: bool,
     entry: &LogEntry,
 ) -> Result<Option<EntryShortfall>, AllocError>
-    ensures { IfOk result (λ missed. MatchOption missed
-        (IsIncluded log.now.log.now.key needs_proof entry.now)
-        (ProofMisses log.now.log.now.key needs_proof entry.now)) }
+    ensures answer { IfOk result (λ missed. MatchOption missed
+        (IsIncluded log.now.key needs_proof entry.now)
+        (ProofMisses log.now.key needs_proof entry.now)) }
+    ensures most { budget.new.most ≡ budget.old.most }
+    ensures grows { budget.old.checked ≤ budget.new.checked }
 {
     let proof = match &entry.proof {
         Some(proof) => proof,
@@ -112,12 +119,11 @@ fn proof_shortfall(
         None => return Ok(None),
     };
     let hash = leaf_hash(entry.body.as_slice());
-    let root = &proof.root;
-    if !leads(&hash, proof.index, proof.size, proof.path.as_slice(), root) {
+    let path = proof.path.as_slice();
+    if !leads(&hash, proof.index, proof.size, path, &proof.root) {
         return Ok(Some(EntryShortfall::Inclusion));
     }
-    let checkpoint = proof.checkpoint.as_str();
-    match checkpoint_shortfall(alloc, log, checkpoint, proof.size, root)? {
+    match checkpoint_shortfall(alloc, budget, log, proof)? {
         Some(missed) => Ok(Some(EntryShortfall::Checkpoint(missed))),
         None => Ok(None),
     }

@@ -1,5 +1,5 @@
 //! The authorities of a trusted root.
-ghost use Rattle.std.specs.Prelude.{◌≡◌, ◌↔◌, List, MatchOption, IfOk, IsTrue, All, map};
+ghost use Rattle.std.specs.Prelude.{◌≡◌, ◌↔◌, ◌≤◌, List, MatchOption, IfOk, IsTrue, All, map};
 ghost use Rattle.std.specs.List.{AllZip};
 ghost use Rattle.it_certificate.specs.Authority.{AreSignedInTurn};
 ghost use Rattle.it_certificate.specs.Certificate.{CertificateOf, Facts, facts_of};
@@ -8,7 +8,7 @@ ghost use Rattle.it_issued.specs.Issued.{IsUsable};
 ghost use Rattle.it_issued.specs.Signature.{Signs};
 
 use crate::signature::is_signed_by;
-use it_budget::SharedBudget;
+use it_budget::Budget;
 use it_certificate::{Certificate, is_chain, read_certificate};
 use it_log::Window;
 use it_trust_root::{Authority, RawBytes};
@@ -32,13 +32,15 @@ pub struct UsableAuthority<'b> {
 /// `AllocError` where memory was refused, or where the budget has no check left.
 pub fn read_authority<'b>(
     alloc: Global,
-    budget: &SharedBudget,
+    budget: &mut Budget,
     authority: &'b Authority,
 ) -> Result<Option<UsableAuthority<'b>>, AllocError>
-    ensures { IfOk result (λ found. MatchOption found
+    ensures answer { IfOk result (λ found. MatchOption found
         ((certificates : List Facts) → IsUsable authority.now certificates → ⊥)
         (λ usable. IsUsable authority.now (map facts_of usable.certificates.items)
         × All WasRead usable.certificates.items × (usable.window ≡ authority.now.window))) }
+    ensures most { budget.new.most ≡ budget.old.most }
+    ensures grows { budget.old.checked ≤ budget.new.checked }
 {
     let Some(certificates) = certificates_of(alloc, authority.certificates.as_slice())? else {
         return Ok(None);
@@ -79,12 +81,14 @@ fn certificates_of(
 /// Whether each certificate is signed by the key of the next.
 fn are_signed_in_turn(
     alloc: Global,
-    budget: &SharedBudget,
+    budget: &mut Budget,
     certificates: &[Certificate<'_>],
 ) -> Result<bool, AllocError>
     requires { All WasRead certificates.now }
-    ensures { IfOk result (λ are. IsTrue are
+    ensures answer { IfOk result (λ are. IsTrue are
         ↔ AreSignedInTurn Signs (map facts_of certificates.now)) }
+    ensures most { budget.new.most ≡ budget.old.most }
+    ensures grows { budget.old.checked ≤ budget.new.checked }
 {
     for place in 1..certificates.len() {
         if !is_signed_by(

@@ -1,5 +1,5 @@
 //! Whether an authority issued a leaf, or which condition the leaf misses.
-ghost use Rattle.std.specs.Prelude.{◌≡◌, ◌↔◌, ◌*◌, pos, IfOk, IsTrue, All, map};
+ghost use Rattle.std.specs.Prelude.{◌≡◌, ◌↔◌, ◌*◌, ◌≤◌, pos, IfOk, IsTrue, All, map};
 ghost use Rattle.std.specs.List.{AllByRecursion};
 ghost use Rattle.it_certificate.specs.Authority.{IsValidAt};
 ghost use Rattle.it_certificate.specs.Certificate.{facts_of};
@@ -10,7 +10,7 @@ ghost use Rattle.it_log.specs.Window.{LiesIn};
 use crate::authority::UsableAuthority;
 use crate::shortfall::IssueShortfall;
 use crate::signature::is_signed_by;
-use it_budget::SharedBudget;
+use it_budget::Budget;
 use it_certificate::Certificate;
 use it_log::Window;
 use std::alloc::{AllocError, Global};
@@ -28,15 +28,18 @@ const NANOSECONDS: i128 = 1_000_000_000;
 /// `AllocError` where memory was refused, or where the budget has no check left.
 pub fn issue_shortfall(
     alloc: Global,
-    budget: &SharedBudget,
+    budget: &mut Budget,
     authority: &UsableAuthority<'_>,
     leaf: &Certificate<'_>,
     moment: u64,
 ) -> Result<Option<IssueShortfall>, AllocError>
     requires authority_read { All WasRead authority.now.certificates.items }
     requires leaf_read { WasRead leaf.now }
-    ensures { IfOk result (IsIssueShortfall (map facts_of authority.now.certificates.items)
-        authority.now.window (facts_of leaf.now) moment) }
+    ensures answer { IfOk result (IsIssueShortfall
+        (map facts_of authority.now.certificates.items) authority.now.window (facts_of leaf.now)
+        moment) }
+    ensures most { budget.new.most ≡ budget.old.most }
+    ensures grows { budget.old.checked ≤ budget.new.checked }
 {
     let certificates = authority.certificates.as_slice();
     let Some(issuer) = certificates.first() else {

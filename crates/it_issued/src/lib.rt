@@ -10,6 +10,7 @@
 #![tactic(auto)]
 
 mod authority;
+mod by_log;
 mod issued;
 mod logged;
 mod shortfall;

@@ -1,11 +1,11 @@
 //! What certificate logs were shown.
-use it_budget::SharedBudget;
+use it_trust_root::RootLog;
 
-/// What a log was shown, and the budget of the checks of what it signed.
+/// Certificate logs, and what they were shown.
 #[derive(Drop)]
 pub(crate) struct Shown<'b> {
-    /// The budget, of which each check of a timestamp's signature takes one.
-    pub(crate) budget: &'b SharedBudget,
+    /// The logs.
+    pub(crate) logs: &'b [RootLog],
     /// The key of the issuer, as a SubjectPublicKeyInfo.
     pub(crate) issuer_key: &'b [u8],
     /// The bytes of the certificate without its timestamps.

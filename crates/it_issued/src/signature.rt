@@ -1,11 +1,11 @@
 //! Signatures of certificates.
-ghost use Rattle.std.specs.Prelude.{◌≡◌, ◌↔◌, IfOk, IsTrue};
-ghost use Rattle.it_certificate.specs.Authority.{IsSignedBy};
+ghost use Rattle.std.specs.Prelude.{◌≡◌, ◌↔◌, ◌+◌, ◌≤◌, IfOk, IsTrue, OnErr, OnOk};
+ghost use Rattle.it_certificate.specs.Authority.{AreTied, IsSignedBy};
 ghost use Rattle.it_certificate.specs.Certificate.{facts_of};
 ghost use Rattle.it_certificate_log.specs.Bare.{WasRead};
 ghost use Rattle.it_issued.specs.Signature.{IsByP256, IsByP384, Signs, SignsFor, key_info};
 
-use it_budget::SharedBudget;
+use it_budget::Budget;
 use it_certificate::{Certificate, Curve, are_tied};
 use it_der::append_element;
 use std::alloc::{AllocError, Global};
@@ -14,21 +14,28 @@ const SEQUENCE: u8 = 48;
 
 /// Whether a certificate is signed by the key of another (RFC 5280, section 4.1.1.3): with SHA-256
 /// by one of P-256, and with SHA-384 by one of P-384. A key whose point is not on its curve signed
-/// nothing.
+/// nothing. It takes one check, and none where the key's curve is not that of the algorithm.
 ///
 /// # Errors
 ///
 /// `AllocError` where memory was refused, or where the budget has no check left.
 pub fn is_signed_by(
     alloc: Global,
-    budget: &SharedBudget,
+    budget: &mut Budget,
     certificate: &Certificate<'_>,
     issuer: &Certificate<'_>,
 ) -> Result<bool, AllocError>
     requires certificate_read { WasRead certificate.now }
     requires issuer_read { WasRead issuer.now }
-    ensures { IfOk result (λ is. IsTrue is
+    ensures answer { IfOk result (λ is. IsTrue is
         ↔ IsSignedBy Signs (facts_of certificate.now) (facts_of issuer.now)) }
+    ensures most { budget.new.most ≡ budget.old.most }
+    ensures grows { budget.old.checked ≤ budget.new.checked }
+    ensures checked { AreTied issuer.now.key.curve certificate.now.algorithm
+        → OnOk result (budget.new.checked ≡ budget.old.checked + 1) }
+    ensures kept { OnErr result (budget.new.checked ≡ budget.old.checked) }
+    ensures untied { ¬ AreTied issuer.now.key.curve certificate.now.algorithm
+        → budget.new.checked ≡ budget.old.checked }
 {
     if !are_tied(issuer.key.curve, certificate.algorithm) {
         return Ok(false);

@@ -2,7 +2,7 @@ use Rattle.std.proofs.Common.{◌∙◌, ap, arith}
 use Rattle.std.proofs.lemmas.List.{take_all}
 use Rattle.std.specs.Int.{w64, from_be_bytes}
 use Rattle.it_issued.proofs.Logging.{number_is}
-use Rattle.it_issued.proofs.logged.milliseconds.Goals as goal
+use Rattle.it_issued.proofs.by_log.milliseconds.Goals as goal
 
 pub returns-in-Some : goal.returns-in-Some
 returns-in-Some c =

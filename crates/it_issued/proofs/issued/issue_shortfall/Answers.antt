@@ -6,31 +6,31 @@ use Rattle.it_issued.proofs.IssueMissing.{all_met, below_authority_time, below_l
 use Rattle.it_issued.proofs.Tests.{is_not}
 use Rattle.it_issued.proofs.issued.issue_shortfall.Goals as goal
 
-pub returns-in_default : goal.returns-in_default
-returns-in_default c =
+pub returns-in_default-clause-answer : goal.returns-in_default-clause-answer
+returns-in_default-clause-answer c =
     let xs = c.args.authority.now.certificates.items in
     let none = rw c.as_slice-certificates.ensures.value at c.in_default.ensures.value in
     missed (map facts_of xs) c.args.authority.now.window (facts_of c.args.leaf.now) c.args.moment shortfalls.Name
     (below_name _ _ _ _) (of_none _ xs none)
 
-pub returns-then-not-is_named : goal.returns-then-not-is_named
-returns-then-not-is_named c =
+pub returns-then-not-is_named-clause-answer : goal.returns-then-not-is_named-clause-answer
+returns-then-not-is_named-clause-answer c =
     let xs = c.args.authority.now.certificates.items in
     let first = rw c.as_slice-certificates.ensures.value at c.in-Some.ensures.value in
     missed (map facts_of xs) c.args.authority.now.window (facts_of c.args.leaf.now) c.args.moment shortfalls.Name
     (below_name _ _ _ _)
     (λ of. is_not _ c.is_named.result c.is_named.ensures c.if-not-is_named.true ((of_first _ xs c.in-Some.issuer.now first).0 of))
 
-pub returns-then-not-is_trusted : goal.returns-then-not-is_trusted
-returns-then-not-is_trusted c =
+pub returns-then-not-is_trusted-clause-answer : goal.returns-then-not-is_trusted-clause-answer
+returns-then-not-is_trusted-clause-answer c =
     let xs = c.args.authority.now.certificates.items in
     let first = rw c.as_slice-certificates.ensures.value at c.in-Some.ensures.value in
     missed (map facts_of xs) c.args.authority.now.window (facts_of c.args.leaf.now) c.args.moment shortfalls.Window
     (below_window _ _ _ _ ((of_first _ xs c.in-Some.issuer.now first).1 (c.is_named.ensures.0 c.if-not-is_named.false)))
     (is_not _ c.is_trusted.result c.is_trusted.ensures c.if-not-is_trusted.true)
 
-pub returns-then-not-is_valid : goal.returns-then-not-is_valid
-returns-then-not-is_valid c =
+pub returns-then-not-is_valid-clause-answer : goal.returns-then-not-is_valid-clause-answer
+returns-then-not-is_valid-clause-answer c =
     let xs = c.args.authority.now.certificates.items in
     let first = rw c.as_slice-certificates.ensures.value at c.in-Some.ensures.value in
     missed (map facts_of xs) c.args.authority.now.window (facts_of c.args.leaf.now) c.args.moment shortfalls.LeafTime
@@ -38,8 +38,8 @@ returns-then-not-is_valid c =
     (c.is_trusted.ensures.0 c.if-not-is_trusted.false))
     (is_not _ c.is_valid.result c.is_valid.ensures c.if-not-is_valid.true)
 
-pub returns-then-not-are_valid : goal.returns-then-not-are_valid
-returns-then-not-are_valid c =
+pub returns-then-not-are_valid-clause-answer : goal.returns-then-not-are_valid-clause-answer
+returns-then-not-are_valid-clause-answer c =
     let xs = c.args.authority.now.certificates.items in
     let first = rw c.as_slice-certificates.ensures.value at c.in-Some.ensures.value in
     let all = rw c.as_slice-certificates.ensures.value at c.are_valid.ensures in
@@ -56,8 +56,8 @@ is_signed_by-requires c =
       issuer_read = first_read c.args.authority.now.certificates.items c.in-Some.issuer.now c.requires.authority_read first;
     }
 
-pub returns-then-not-branch : goal.returns-then-not-branch
-returns-then-not-branch c =
+pub returns-then-not-branch-clause-answer : goal.returns-then-not-branch-clause-answer
+returns-then-not-branch-clause-answer c =
     let xs = c.args.authority.now.certificates.items in
     let first = rw c.as_slice-certificates.ensures.value at c.in-Some.ensures.value in
     let all = rw c.as_slice-certificates.ensures.value at c.are_valid.ensures in
@@ -65,10 +65,10 @@ returns-then-not-branch c =
     (below_signature _ _ _ _ ((of_first _ xs c.in-Some.issuer.now first).1 (c.is_named.ensures.0 c.if-not-is_named.false))
     (c.is_trusted.ensures.0 c.if-not-is_trusted.false) (c.is_valid.ensures.0 c.if-not-is_valid.false)
     (all.0 c.if-not-are_valid.false))
-    (λ of. is_not _ _ c.in_ok-is_signed_by.ensures c.if-not-branch.true ((of_first _ xs c.in-Some.issuer.now first).0 of))
+    (λ of. is_not _ _ c.in_ok-is_signed_by.ensures.answer c.if-not-branch.true ((of_first _ xs c.in-Some.issuer.now first).0 of))
 
-pub returns : goal.returns
-returns c =
+pub returns-clause-answer : goal.returns-clause-answer
+returns-clause-answer c =
     let xs = c.args.authority.now.certificates.items in
     let first = rw c.as_slice-certificates.ensures.value at c.in-Some.ensures.value in
     let all = rw c.as_slice-certificates.ensures.value at c.are_valid.ensures in
@@ -76,4 +76,4 @@ returns c =
     ((of_first _ xs c.in-Some.issuer.now first).1 (c.is_named.ensures.0 c.if-not-is_named.false))
     (c.is_trusted.ensures.0 c.if-not-is_trusted.false) (c.is_valid.ensures.0 c.if-not-is_valid.false)
     (all.0 c.if-not-are_valid.false)
-    ((of_first _ xs c.in-Some.issuer.now first).1 (c.in_ok-is_signed_by.ensures.0 c.if-not-branch.false))
+    ((of_first _ xs c.in-Some.issuer.now first).1 (c.in_ok-is_signed_by.ensures.answer.0 c.if-not-branch.false))

@@ -1,5 +1,5 @@
 //! How far the entries of a bundle and the authorities of a trusted root attest a leaf.
-ghost use Rattle.std.specs.Prelude.{IfOk};
+ghost use Rattle.std.specs.Prelude.{◌≡◌, ◌≤◌, IfOk};
 ghost use Rattle.it_certificate.specs.Certificate.{facts_of};
 ghost use Rattle.it_certificate_log.specs.Bare.{WasRead};
 ghost use Rattle.it_vouches.specs.inside.Shows.{AllShow, EntryShows, ListedShows};
@@ -8,6 +8,7 @@ use crate::attestation::Attestation;
 use crate::entry_log::shortfall_by_logs;
 use crate::question::Question;
 use crate::trust::Trust;
+use it_budget::Budget;
 use it_bundle::ListedEntry;
 use it_log_entry::LogEntry;
 use std::alloc::{AllocError, Global};
@@ -21,17 +22,20 @@ use std::alloc::{AllocError, Global};
 /// `AllocError` where memory was refused, or where the budget has no check left.
 pub(crate) fn attestation_by(
     alloc: Global,
+    budget: &mut Budget,
     trust: &Trust<'_>,
     question: &Question<'_>,
     entries: &[ListedEntry],
 ) -> Result<Attestation, AllocError>
     requires { WasRead question.now.leaf.now }
-    ensures { IfOk result (AllShow (ListedShows trust.now question.now.needs_proof
+    ensures answer { IfOk result (AllShow (ListedShows trust.now question.now.needs_proof
         question.now.logged (facts_of question.now.leaf.now)) entries.now) }
+    ensures most { budget.new.most ≡ budget.old.most }
+    ensures grows { budget.old.checked ≤ budget.new.checked }
 {
     let mut furthest = Attestation::NoEntry;
     for listed in entries {
-        let found = attestation_by_listed(alloc, trust, question, listed)?;
+        let found = attestation_by_listed(alloc, budget, trust, question, listed)?;
         if let Attestation::Attested(time) = found {
             return Ok(Attestation::Attested(time));
         }
@@ -42,34 +46,40 @@ pub(crate) fn attestation_by(
 
 fn attestation_by_listed(
     alloc: Global,
+    budget: &mut Budget,
     trust: &Trust<'_>,
     question: &Question<'_>,
     listed: &ListedEntry,
 ) -> Result<Attestation, AllocError>
     requires { WasRead question.now.leaf.now }
-    ensures { IfOk result (ListedShows trust.now question.now.needs_proof question.now.logged
+    ensures answer { IfOk result (ListedShows trust.now question.now.needs_proof question.now.logged
         (facts_of question.now.leaf.now) listed.now) }
+    ensures most { budget.new.most ≡ budget.old.most }
+    ensures grows { budget.old.checked ≤ budget.new.checked }
 {
     match listed {
-        ListedEntry::Entry(entry) => attestation_by_entry(alloc, trust, question, entry),
+        ListedEntry::Entry(entry) => attestation_by_entry(alloc, budget, trust, question, entry),
         ListedEntry::Unreadable => Ok(Attestation::NoEntry),
     }
 }
 
 fn attestation_by_entry(
     alloc: Global,
+    budget: &mut Budget,
     trust: &Trust<'_>,
     question: &Question<'_>,
     entry: &LogEntry,
 ) -> Result<Attestation, AllocError>
     requires { WasRead question.now.leaf.now }
-    ensures { IfOk result (EntryShows trust.now question.now.needs_proof question.now.logged
+    ensures answer { IfOk result (EntryShows trust.now question.now.needs_proof question.now.logged
         (facts_of question.now.leaf.now) entry.now) }
+    ensures most { budget.new.most ≡ budget.old.most }
+    ensures grows { budget.old.checked ≤ budget.new.checked }
 {
-    if let Some(missed) = shortfall_by_logs(alloc, trust.budget(), trust.logs(), question, entry)? {
+    if let Some(missed) = shortfall_by_logs(alloc, budget, trust.logs(), question, entry)? {
         return Ok(Attestation::NoLog(missed));
     }
-    if let Some(missed) = trust.issuer_shortfall(alloc, question.leaf, entry.time)? {
+    if let Some(missed) = trust.issuer_shortfall(alloc, budget, question.leaf, entry.time)? {
         return Ok(Attestation::NoIssuer(missed));
     }
     Ok(Attestation::Attested(entry.time))

@@ -1,5 +1,5 @@
 //! The logs of a trusted root, by an entry.
-ghost use Rattle.std.specs.Prelude.{Any, IfOk, MatchOption};
+ghost use Rattle.std.specs.Prelude.{◌≡◌, ◌≤◌, Any, IfOk, MatchOption};
 ghost use Rattle.it_log_entry.specs.Place.{place_of};
 ghost use Rattle.it_vouches.specs.EntryMissed.{MissesWith};
 ghost use Rattle.it_vouches.specs.Logged.{VouchesBy};
@@ -7,8 +7,8 @@ ghost use Rattle.it_vouches.specs.inside.Further.{IsFurther};
 ghost use Rattle.it_vouches.specs.inside.Shows.{LacksLog};
 
 use crate::question::Question;
-use it_budget::SharedBudget;
-use it_log_entry::{CountedLog, EntryShortfall, LogEntry, entry_shortfall};
+use it_budget::Budget;
+use it_log_entry::{EntryQuestion, EntryShortfall, LogEntry, entry_shortfall};
 use it_trust_root::RootLog;
 use std::alloc::{AllocError, Global};
 
@@ -21,14 +21,16 @@ use std::alloc::{AllocError, Global};
 /// `AllocError` where memory was refused, or where the budget has no check left.
 pub(crate) fn shortfall_by_logs(
     alloc: Global,
-    budget: &SharedBudget,
+    budget: &mut Budget,
     logs: &[RootLog],
     question: &Question<'_>,
     entry: &LogEntry,
 ) -> Result<Option<EntryShortfall>, AllocError>
-    ensures { IfOk result (λ missed. MatchOption missed
+    ensures answer { IfOk result (λ missed. MatchOption missed
         (Any (VouchesBy question.now.needs_proof entry.now question.now.logged) logs.now)
         (LacksLog logs.now question.now.needs_proof question.now.logged entry.now)) }
+    ensures most { budget.new.most ≡ budget.old.most }
+    ensures grows { budget.old.checked ≤ budget.new.checked }
 {
     let mut furthest = EntryShortfall::Log;
     for log in logs {
@@ -42,19 +44,24 @@ pub(crate) fn shortfall_by_logs(
 
 fn shortfall_by_listed(
     alloc: Global,
-    budget: &SharedBudget,
+    budget: &mut Budget,
     log: &RootLog,
     question: &Question<'_>,
     entry: &LogEntry,
 ) -> Result<Option<EntryShortfall>, AllocError>
-    ensures { IfOk result (λ missed. MatchOption missed
+    ensures answer { IfOk result (λ missed. MatchOption missed
         (VouchesBy question.now.needs_proof entry.now question.now.logged log.now)
         (MissesWith question.now.needs_proof entry.now question.now.logged log.now)) }
+    ensures most { budget.new.most ≡ budget.old.most }
+    ensures grows { budget.old.checked ≤ budget.new.checked }
 {
     match log {
         RootLog::Usable(log) => {
-            let log = CountedLog { log, budget };
-            entry_shortfall(alloc, &log, question.needs_proof, entry, &question.logged)
+            let asked = EntryQuestion {
+                logged: &question.logged,
+                needs_proof: question.needs_proof,
+            };
+            entry_shortfall(alloc, budget, log, &asked, entry)
         }
         RootLog::PassedOver(_) => Ok(Some(EntryShortfall::Log)),
     }

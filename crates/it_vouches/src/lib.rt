@@ -2,8 +2,9 @@
 //! why nobody.
 //!
 //! ```
-//! let trust = Trust::of(alloc, &root)?;
-//! match judged(alloc, &trust, &bundle)? {
+//! let mut budget = Budget::new(MOST_CHECKS);
+//! let trust = Trust::of(alloc, &mut budget, &root)?;
+//! match judged(alloc, &mut budget, &trust, &bundle)? {
 //!     Judged::For(voucher) => ..,
 //!     Judged::Misses(shortfall) => shortfall.push_phrase(&mut text)?,
 //! }

@@ -1,5 +1,5 @@
 //! Trusted roots with their authorities read.
-ghost use Rattle.std.specs.Prelude.{◌≡◌, All, Any, IfOk, MatchOption};
+ghost use Rattle.std.specs.Prelude.{◌≡◌, ◌≤◌, All, Any, IfOk, MatchOption};
 ghost use Rattle.it_certificate.specs.Certificate.{facts_of};
 ghost use Rattle.it_certificate_log.specs.Bare.{WasRead};
 ghost use Rattle.it_vouches.specs.Vouches.{IsAttested};
@@ -9,14 +9,14 @@ ghost use Rattle.it_vouches.specs.inside.Usable.{AreUsable};
 
 use crate::issuer_shortfall::IssuerShortfall;
 use it_base::optional::push_some;
-use it_budget::SharedBudget;
+use it_budget::Budget;
 use it_certificate::Certificate;
 use it_issued::{IssueShortfall, UsableAuthority, issue_shortfall, log_shortfall, read_authority};
 use it_trust_root::{Authority, RootLog, TrustedRoot};
 use std::alloc::{AllocError, Global};
 use std::marker::Model;
 
-/// How many signatures are checked with a trusted root at most: for all bundles, and for the
+/// How many signatures a run checks with a trusted root at most: for all bundles, and for the
 /// certificates of its authorities. Of a public bundle that vouches they are five: it has one
 /// entry, with one signature line.
 pub const MOST_CHECKS: u64 = 50_000;
@@ -28,7 +28,6 @@ pub const MOST_CHECKS: u64 = 50_000;
 pub struct Trust<'r> {
     root: &'r TrustedRoot,
     authorities: Vec<UsableAuthority<'r>>,
-    budget: SharedBudget,
 }
 
 impl<'r> Model for Trust<'r> {
@@ -43,47 +42,23 @@ impl<'r> Model for Trust<'r> {
 }
 
 impl<'r> Trust<'r> {
-    /// The trusted root, with its authorities read, and leave to check `MOST_CHECKS` signatures.
+    /// The trusted root, with its authorities read. Each check of a signature of their certificates
+    /// takes one of the budget.
     ///
     /// # Errors
     ///
-    /// `AllocError` where memory was refused.
-    pub fn of(alloc: Global, root: &'r TrustedRoot) -> Result<Trust<'r>, AllocError>
-        ensures { IfOk result (λ trust. trust ≡ root.now) }
-    {
-        Trust::within(alloc, root, MOST_CHECKS)
-    }
-
-    /// The trusted root, with its authorities read, and leave to check `most_checks` signatures.
-    ///
-    /// # Errors
-    ///
-    /// `AllocError` where memory was refused, or where the certificates of its authorities have
-    /// more signatures to check.
-    pub fn within(
+    /// `AllocError` where memory was refused, or where the budget has no check left.
+    pub fn of(
         alloc: Global,
+        budget: &mut Budget,
         root: &'r TrustedRoot,
-        most_checks: u64,
     ) -> Result<Trust<'r>, AllocError>
-        ensures { IfOk result (λ trust. trust ≡ root.now) }
+        ensures answer { IfOk result (λ trust. trust ≡ root.now) }
+        ensures most { budget.new.most ≡ budget.old.most }
+        ensures grows { budget.old.checked ≤ budget.new.checked }
     {
-        let budget = SharedBudget::new(most_checks);
-        let authorities = usable_authorities(alloc, &budget, root.authorities.as_slice())?;
-        Ok(Trust {
-            root,
-            authorities,
-            budget,
-        })
-    }
-
-    /// Whether more signatures would have had to be checked than may be. Takes no memory.
-    pub fn is_spent(&self) -> bool {
-        self.budget.is_spent()
-    }
-
-    /// The budget, of which each check of a signature takes one. Takes no memory.
-    pub(crate) fn budget(&self) -> &SharedBudget {
-        &self.budget
+        let authorities = usable_authorities(alloc, budget, root.authorities.as_slice())?;
+        Ok(Trust { root, authorities })
     }
 
     /// The logs of entries. Takes no memory.
@@ -102,30 +77,35 @@ impl<'r> Trust<'r> {
     pub(crate) fn issuer_shortfall(
         &self,
         alloc: Global,
+        budget: &mut Budget,
         leaf: &Certificate<'_>,
         moment: u64,
     ) -> Result<Option<IssuerShortfall>, AllocError>
         requires { WasRead leaf.now }
-        ensures { IfOk result (λ missed. MatchOption missed
+        ensures answer { IfOk result (λ missed. MatchOption missed
             (IsAttested self.now (facts_of leaf.now) moment)
             (LacksIssuer self.now (facts_of leaf.now) moment)) }
+        ensures most { budget.new.most ≡ budget.old.most }
+        ensures grows { budget.old.checked ≤ budget.new.checked }
     {
-        let issuers = Issuers {
-            authorities: self.authorities.as_slice(),
+        let asked = IssueQuestion {
             logs: self.root.certificate_logs.as_slice(),
-            budget: &self.budget,
+            leaf,
+            moment,
         };
-        shortfall_by_authorities(alloc, &issuers, leaf, moment)
+        shortfall_by_authorities(alloc, budget, self.authorities.as_slice(), &asked)
     }
 }
 
 /// The authorities that can be used, in their order.
 fn usable_authorities<'r>(
     alloc: Global,
-    budget: &SharedBudget,
+    budget: &mut Budget,
     listed: &'r [Authority],
 ) -> Result<Vec<UsableAuthority<'r>>, AllocError>
-    ensures { IfOk result (λ usable. AreUsable listed.now usable.items) }
+    ensures answer { IfOk result (λ usable. AreUsable listed.now usable.items) }
+    ensures most { budget.new.most ≡ budget.old.most }
+    ensures grows { budget.old.checked ≤ budget.new.checked }
 {
     let mut usable = Vec::new(alloc);
     for authority in listed {
@@ -134,37 +114,38 @@ fn usable_authorities<'r>(
     Ok(usable)
 }
 
-/// Who may have issued a leaf.
+/// What is asked of the authorities.
 #[derive(Drop)]
-struct Issuers<'t, 'r> {
-    /// The authorities.
-    authorities: &'t [UsableAuthority<'r>],
-    /// The certificate logs, one of which must have promised to log it.
-    logs: &'t [RootLog],
-    /// The budget, of which each check of a signature takes one.
-    budget: &'t SharedBudget,
+struct IssueQuestion<'q> {
+    /// The certificate logs, one of which must have promised to log the leaf.
+    logs: &'q [RootLog],
+    /// The leaf that one of them is to have issued.
+    leaf: &'q Certificate<'q>,
+    /// When, in seconds.
+    moment: u64,
 }
 
 /// The furthest condition that a leaf misses where none of the authorities issued it and was
 /// promised that it is logged.
 fn shortfall_by_authorities(
     alloc: Global,
-    issuers: &Issuers<'_, '_>,
-    leaf: &Certificate<'_>,
-    moment: u64,
+    budget: &mut Budget,
+    authorities: &[UsableAuthority<'_>],
+    asked: &IssueQuestion<'_>,
 ) -> Result<Option<IssuerShortfall>, AllocError>
-    requires authorities_read { All (λ a. All WasRead a.certificates.items)
-        issuers.now.authorities.now }
-    requires leaf_read { WasRead leaf.now }
-    ensures { IfOk result (λ missed. MatchOption missed
-        (Any (IsIssuedBy issuers.now.logs.now (facts_of leaf.now) moment)
-        issuers.now.authorities.now)
-        (IsMissedByEach issuers.now.logs.now (facts_of leaf.now) moment
-        issuers.now.authorities.now)) }
+    requires authorities_read { All (λ a. All WasRead a.certificates.items) authorities.now }
+    requires leaf_read { WasRead asked.now.leaf.now }
+    ensures answer { IfOk result (λ missed. MatchOption missed
+        (Any (IsIssuedBy asked.now.logs.now (facts_of asked.now.leaf.now) asked.now.moment)
+        authorities.now)
+        (IsMissedByEach asked.now.logs.now (facts_of asked.now.leaf.now) asked.now.moment
+        authorities.now)) }
+    ensures most { budget.new.most ≡ budget.old.most }
+    ensures grows { budget.old.checked ≤ budget.new.checked }
 {
     let mut furthest = IssuerShortfall::Issue(IssueShortfall::Name);
-    for authority in issuers.authorities {
-        match shortfall_by(alloc, issuers, authority, leaf, moment)? {
+    for authority in authorities {
+        match shortfall_by(alloc, budget, authority, asked)? {
             Some(missed) => furthest = furthest.further(missed),
             None => return Ok(None),
         }
@@ -175,24 +156,28 @@ fn shortfall_by_authorities(
 /// The condition that a leaf misses with an authority, if it misses one.
 fn shortfall_by(
     alloc: Global,
-    issuers: &Issuers<'_, '_>,
+    budget: &mut Budget,
     authority: &UsableAuthority<'_>,
-    leaf: &Certificate<'_>,
-    moment: u64,
+    asked: &IssueQuestion<'_>,
 ) -> Result<Option<IssuerShortfall>, AllocError>
     requires authority_read { All WasRead authority.now.certificates.items }
-    requires leaf_read { WasRead leaf.now }
-    ensures { IfOk result (λ missed. MatchOption missed
-        (IsIssuedBy issuers.now.logs.now (facts_of leaf.now) moment authority.now)
-        (IsMissedBy issuers.now.logs.now (facts_of leaf.now) moment authority.now)) }
+    requires leaf_read { WasRead asked.now.leaf.now }
+    ensures answer { IfOk result (λ missed. MatchOption missed
+        (IsIssuedBy asked.now.logs.now (facts_of asked.now.leaf.now) asked.now.moment
+        authority.now)
+        (IsMissedBy asked.now.logs.now (facts_of asked.now.leaf.now) asked.now.moment
+        authority.now)) }
+    ensures most { budget.new.most ≡ budget.old.most }
+    ensures grows { budget.old.checked ≤ budget.new.checked }
 {
+    let leaf = asked.leaf;
     let Some(issuer) = authority.certificates.as_slice().first() else {
         return Ok(Some(IssuerShortfall::Issue(IssueShortfall::Name)));
     };
-    if let Some(missed) = issue_shortfall(alloc, issuers.budget, authority, leaf, moment)? {
+    if let Some(missed) = issue_shortfall(alloc, budget, authority, leaf, asked.moment)? {
         return Ok(Some(IssuerShortfall::Issue(missed)));
     }
-    if let Some(missed) = log_shortfall(alloc, issuers.budget, issuers.logs, issuer, leaf)? {
+    if let Some(missed) = log_shortfall(alloc, budget, asked.logs, issuer, leaf)? {
         return Ok(Some(IssuerShortfall::Log(missed)));
     }
     Ok(None)

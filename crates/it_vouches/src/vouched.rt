@@ -1,5 +1,5 @@
 //! Whom a bundle vouches for, or why for nobody.
-ghost use Rattle.std.specs.Prelude.{◌↔◌, IfOk, IsTrue};
+ghost use Rattle.std.specs.Prelude.{◌≡◌, ◌↔◌, ◌≤◌, IfOk, IsTrue};
 ghost use Rattle.it_base.specs.Finds.{Finds};
 ghost use Rattle.it_certificate.specs.Certificate.{facts_of};
 ghost use Rattle.it_certificate_log.specs.Bare.{WasRead};
@@ -20,7 +20,7 @@ use crate::question::Question;
 use crate::shortfall::Shortfall;
 use crate::trust::Trust;
 use crate::voucher::Voucher;
-use it_budget::SharedBudget;
+use it_budget::Budget;
 use it_bundle::SigstoreBundle;
 use it_certificate::{Certificate, read_leaf};
 use it_dsse::envelope::Envelope;
@@ -33,15 +33,18 @@ use std::alloc::{AllocError, Global};
 ///
 /// # Errors
 ///
-/// `AllocError` where memory was refused, or where no check of a signature is left (`MOST_CHECKS`).
+/// `AllocError` where memory was refused, or where the budget has no check left.
 pub fn vouched_identity(
     alloc: Global,
+    budget: &mut Budget,
     trust: &Trust<'_>,
     bundle: &SigstoreBundle,
 ) -> Result<Option<Identity>, AllocError>
-    ensures { IfOk result (Finds (Vouches trust.now bundle.now)) }
+    ensures answer { IfOk result (Finds (Vouches trust.now bundle.now)) }
+    ensures most { budget.new.most ≡ budget.old.most }
+    ensures grows { budget.old.checked ≤ budget.new.checked }
 {
-    match judged(alloc, trust, bundle)? {
+    match judged(alloc, budget, trust, bundle)? {
         Judged::For(voucher) => Ok(Some(voucher.identity)),
         Judged::Misses(_) => Ok(None),
     }
@@ -53,13 +56,16 @@ pub fn vouched_identity(
 ///
 /// # Errors
 ///
-/// `AllocError` where memory was refused, or where no check of a signature is left (`MOST_CHECKS`).
+/// `AllocError` where memory was refused, or where the budget has no check left.
 pub fn judged(
     alloc: Global,
+    budget: &mut Budget,
     trust: &Trust<'_>,
     bundle: &SigstoreBundle,
 ) -> Result<Judged, AllocError>
-    ensures { IfOk result (IsJudged trust.now bundle.now) }
+    ensures answer { IfOk result (IsJudged trust.now bundle.now) }
+    ensures most { budget.new.most ≡ budget.old.most }
+    ensures grows { budget.old.checked ≤ budget.new.checked }
 {
     let claim = match claim_of(bundle) {
         Ok(claim) => claim,
@@ -72,63 +78,70 @@ pub fn judged(
     let Some(identity) = Identity::of(alloc, leaf.identity.name, leaf.identity.issuer)? else {
         return Ok(Judged::Misses(Shortfall::Identity));
     };
-    let time = match attestation_of_claim(alloc, trust, bundle, &claim, &leaf.certificate)? {
+    let claimed = Claimed { bundle, claim };
+    let time = match attestation_of_claim(alloc, budget, trust, &claimed, &leaf.certificate)? {
         Attestation::NoEntry => return Ok(Judged::Misses(Shortfall::Entry)),
         Attestation::NoLog(missed) => return Ok(Judged::Misses(Shortfall::Log(missed))),
         Attestation::NoIssuer(missed) => return Ok(Judged::Misses(Shortfall::Issuer(missed))),
         Attestation::Attested(time) => time,
     };
-    let signature = claim.signature;
-    if !is_envelope_signed(
-        alloc,
-        trust.budget(),
-        &bundle.envelope,
-        &leaf.certificate,
-        signature,
-    )? {
+    if !is_envelope_signed(alloc, budget, &claimed, &leaf.certificate)? {
         return Ok(Judged::Misses(Shortfall::Signature));
     }
     Ok(Judged::For(Voucher { identity, time }))
 }
 
+/// A bundle, and what it brings.
+#[derive(Clone, Copy)]
+struct Claimed<'b> {
+    bundle: &'b SigstoreBundle,
+    claim: Claim<'b>,
+}
+
 /// How far the entries and the authorities attest what a bundle claims.
 fn attestation_of_claim(
     alloc: Global,
+    budget: &mut Budget,
     trust: &Trust<'_>,
-    bundle: &SigstoreBundle,
-    claim: &Claim<'_>,
+    claimed: &Claimed<'_>,
     leaf: &Certificate<'_>,
 ) -> Result<Attestation, AllocError>
     requires { WasRead leaf.now }
-    ensures { IfOk result (ClaimShows trust.now bundle.now (brought_of claim.now)
-        (facts_of leaf.now)) }
+    ensures answer { IfOk result (ClaimShows trust.now claimed.now.bundle.now
+        (brought_of claimed.now.claim) (facts_of leaf.now)) }
+    ensures most { budget.new.most ≡ budget.old.most }
+    ensures grows { budget.old.checked ≤ budget.new.checked }
 {
+    let bundle = claimed.bundle;
     let question = Question {
-        logged: logged_of(&bundle.envelope, claim),
+        logged: logged_of(&bundle.envelope, &claimed.claim),
         needs_proof: needs_proof(bundle.version),
         leaf,
     };
-    attestation_by(alloc, trust, &question, claim.entries)
+    attestation_by(alloc, budget, trust, &question, claimed.claim.entries)
 }
 
-/// Whether a signature of an envelope is by the key of a leaf.
+/// Whether the signature of an envelope is by the key of a leaf.
 fn is_envelope_signed(
     alloc: Global,
-    budget: &SharedBudget,
-    envelope: &Envelope,
+    budget: &mut Budget,
+    claimed: &Claimed<'_>,
     leaf: &Certificate<'_>,
-    signature: &[u8],
 ) -> Result<bool, AllocError>
     requires { WasRead leaf.now }
-    ensures { IfOk result (λ is. IsTrue is
+    ensures answer { IfOk result (λ is. IsTrue is
         ↔ IsByP256 (key_info leaf.now.key.curve leaf.now.key.coordinates.now)
-        (message_of envelope.now) signature.now) }
+        (message_of claimed.now.bundle.now.envelope) claimed.now.claim.signature.now) }
+    ensures most { budget.new.most ≡ budget.old.most }
+    ensures grows { budget.old.checked ≤ budget.new.checked }
 {
+    let envelope = &claimed.bundle.envelope;
     let message = pae(
         alloc,
         envelope.payload_type.as_str(),
         envelope.payload.as_slice(),
     )?;
+    let signature = claimed.claim.signature;
     is_by_leaf(alloc, budget, leaf, message.as_slice(), signature)
 }
 

@@ -3,16 +3,16 @@ use Rattle.it_issued.proofs.Issuing.{first_read}
 use Rattle.it_vouches.proofs.Authorities.{issued_by_is, log_missed_by, no_certificate}
 use Rattle.it_vouches.proofs.trust.shortfall_by.Goals as goal
 
-pub returns-in_default : goal.returns-in_default
-returns-in_default c =
-    no_certificate c.args.issuers.now.logs.now (facts_of c.args.leaf.now) c.args.moment c.args.authority.now
+pub returns-in_default-clause-answer : goal.returns-in_default-clause-answer
+returns-in_default-clause-answer c =
+    no_certificate c.args.asked.now.logs.now (facts_of c.args.asked.now.leaf.now) c.args.asked.now.moment c.args.authority.now
     (rw c.as_slice.ensures.value at c.in_default.ensures.value)
 
 pub issue_shortfall-requires : goal.issue_shortfall-requires
 issue_shortfall-requires c = record { authority_read = c.requires.authority_read; leaf_read = c.requires.leaf_read }
 
-pub returns-in-Some-2 : goal.returns-in-Some-2
-returns-in-Some-2 c = rw c.in-Some-2.is at c.in_ok-missed.ensures
+pub returns-in-Some-2-clause-answer : goal.returns-in-Some-2-clause-answer
+returns-in-Some-2-clause-answer c = rw c.in-Some-2.is at c.in_ok-missed.ensures.answer
 
 pub log_shortfall-requires : goal.log_shortfall-requires
 log_shortfall-requires c =
@@ -22,15 +22,15 @@ log_shortfall-requires c =
       leaf_read = c.requires.leaf_read;
     }
 
-pub returns-in-Some-3 : goal.returns-in-Some-3
-returns-in-Some-3 c =
+pub returns-in-Some-3-clause-answer : goal.returns-in-Some-3-clause-answer
+returns-in-Some-3-clause-answer c =
     let first = rw c.as_slice.ensures.value at c.in-Some.ensures.value in
-    log_missed_by c.args.issuers.now.logs.now (facts_of c.args.leaf.now) c.args.moment c.args.authority.now c.in-Some.issuer.now
-    c.in-Some-3.missed first (rw c.in_default-2.is at c.in_ok-missed.ensures)
-    (rw c.in-Some-3.is at c.in_ok-missed-2.ensures)
+    log_missed_by c.args.asked.now.logs.now (facts_of c.args.asked.now.leaf.now) c.args.asked.now.moment c.args.authority.now c.in-Some.issuer.now
+    c.in-Some-3.missed first (rw c.in_default-2.is at c.in_ok-missed.ensures.answer)
+    (rw c.in-Some-3.is at c.in_ok-missed-2.ensures.answer)
 
-pub returns : goal.returns
-returns c =
+pub returns-clause-answer : goal.returns-clause-answer
+returns-clause-answer c =
     let first = rw c.as_slice.ensures.value at c.in-Some.ensures.value in
-    issued_by_is c.args.issuers.now.logs.now (facts_of c.args.leaf.now) c.args.moment c.args.authority.now c.in-Some.issuer.now first
-    (rw c.in_default-2.is at c.in_ok-missed.ensures) (rw c.in_default-3.is at c.in_ok-missed-2.ensures)
+    issued_by_is c.args.asked.now.logs.now (facts_of c.args.asked.now.leaf.now) c.args.asked.now.moment c.args.authority.now c.in-Some.issuer.now first
+    (rw c.in_default-2.is at c.in_ok-missed.ensures.answer) (rw c.in_default-3.is at c.in_ok-missed-2.ensures.answer)

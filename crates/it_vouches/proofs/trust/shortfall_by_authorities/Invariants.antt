@@ -1,4 +1,4 @@
-use Rattle.std.proofs.Common.{take}
+use Rattle.std.proofs.Common.{◌≡◌, ◌≤◌, take}
 use Rattle.it_certificate.specs.Certificate.{facts_of}
 use Rattle.it_issued.specs.declared.shortfall.IssueShortfall.TheVariants.{Name}
 use Rattle.it_vouches.specs.Furthest.{IsFurthest, IsMissedByOne}
@@ -8,9 +8,16 @@ use Rattle.it_vouches.specs.inside.Attested.{IsIssuedBy, IsMissedBy}
 use Rattle.it_vouches.proofs.Loops.{NoneIn}
 use Rattle.it_vouches.proofs.trust.shortfall_by_authorities.Given as goal
 
--- none of the authorities so far issued the leaf, and this is the furthest condition that it misses
+-- none of the authorities so far issued the leaf, and this is the furthest condition that it
+-- misses; the budget is the one that was given
 abbrev pub invariant-loop-authority : goal.invariant-loop-authority
 invariant-loop-authority l =
-    NoneIn (IsIssuedBy l.issuers.logs.now (facts_of l.leaf) l.moment) (take l.authority-index l.issuers.authorities.now)
-    × IsFurthest issuer_place
-    (IsMissedByOne (Issue Name) (IsMissedBy l.issuers.logs.now (facts_of l.leaf) l.moment) (take l.authority-index l.issuers.authorities.now)) l.furthest
+    let asked = l.asked in
+    record {
+      none : NoneIn (IsIssuedBy asked.logs.now (facts_of asked.leaf.now) asked.moment) (take l.authority-index l.authorities);
+      furthest : IsFurthest issuer_place
+          (IsMissedByOne (Issue Name) (IsMissedBy asked.logs.now (facts_of asked.leaf.now) asked.moment)
+          (take l.authority-index l.authorities)) l.furthest;
+      most : l.budget.most ≡ l.fn.budget.most;
+      grows : l.fn.budget.checked ≤ l.budget.checked;
+    }

@@ -5,11 +5,11 @@ use Rattle.it_vouches.proofs.Missing.{entry_missed, issuer_missed, judged_short,
 use Rattle.it_vouches.proofs.Vouching.{names_of, vouches_then}
 use Rattle.it_vouches.proofs.vouched.judged.Goals as goal
 
-pub returns-in-Err : goal.returns-in-Err
-returns-in-Err c = judged_short c.args.trust.now c.args.bundle.now c.in-Err.missed (c.in-Err.ensures c.args.trust.now)
+pub returns-in-Err-clause-answer : goal.returns-in-Err-clause-answer
+returns-in-Err-clause-answer c = judged_short c.args.trust.now c.args.bundle.now c.in-Err.missed (c.in-Err.ensures c.args.trust.now)
 
-pub returns-in-Err-2 : goal.returns-in-Err-2
-returns-in-Err-2 c =
+pub returns-in-Err-2-clause-answer : goal.returns-in-Err-2-clause-answer
+returns-in-Err-2-clause-answer c =
     let read = rw c.in-Err-2.is at c.in_ok-leaf.ensures in
     judged_short c.args.trust.now c.args.bundle.now (shortfalls.Leaf c.in-Err-2.missed) (record {
       brought = brought_of c.in-Ok.claim;
@@ -18,8 +18,8 @@ returns-in-Err-2 c =
       misses = read.1;
     })
 
-pub returns-in_default : goal.returns-in_default
-returns-in_default c =
+pub returns-in_default-clause-answer : goal.returns-in_default-clause-answer
+returns-in_default-clause-answer c =
     let leaf = c.in-Ok-2.leaf in
     let read = rw c.in-Ok-2.is at c.in_ok-leaf.ensures in
     judged_short c.args.trust.now c.args.bundle.now shortfalls.Identity (record {
@@ -32,8 +32,8 @@ returns-in_default c =
       not_short = not_short leaf.identity.name.now leaf.identity.issuer.now (rw c.in_default.is at c.in_ok-identity.ensures);
     })
 
-pub returns-in-NoEntry : goal.returns-in-NoEntry
-returns-in-NoEntry c =
+pub returns-in-NoEntry-clause-answer : goal.returns-in-NoEntry-clause-answer
+returns-in-NoEntry-clause-answer c =
     let leaf = c.in-Ok-2.leaf in
     let read = rw c.in-Ok-2.is at c.in_ok-leaf.ensures in
     let names = rw c.in-Some.is at c.in_ok-identity.ensures in
@@ -41,10 +41,10 @@ returns-in-NoEntry c =
     c.in-Some.identity
     (names_of c.args.bundle.now (brought_of c.in-Ok.claim) (facts_of c.in-Ok-2.leaf.certificate) leaf.identity.name.now
     leaf.identity.issuer.now c.in-Some.identity c.in-Ok.ensures read.0 names)
-    (rw c.in-NoEntry.is at c.in_ok-attestation_of_claim.ensures)
+    (rw c.in-NoEntry.is at c.in_ok-attestation_of_claim.ensures.answer)
 
-pub returns-in-NoLog : goal.returns-in-NoLog
-returns-in-NoLog c =
+pub returns-in-NoLog-clause-answer : goal.returns-in-NoLog-clause-answer
+returns-in-NoLog-clause-answer c =
     let leaf = c.in-Ok-2.leaf in
     let read = rw c.in-Ok-2.is at c.in_ok-leaf.ensures in
     let names = rw c.in-Some.is at c.in_ok-identity.ensures in
@@ -52,10 +52,10 @@ returns-in-NoLog c =
     c.in-Some.identity c.in-NoLog.missed
     (names_of c.args.bundle.now (brought_of c.in-Ok.claim) (facts_of c.in-Ok-2.leaf.certificate) leaf.identity.name.now
     leaf.identity.issuer.now c.in-Some.identity c.in-Ok.ensures read.0 names)
-    (rw c.in-NoLog.is at c.in_ok-attestation_of_claim.ensures)
+    (rw c.in-NoLog.is at c.in_ok-attestation_of_claim.ensures.answer)
 
-pub returns-in-NoIssuer : goal.returns-in-NoIssuer
-returns-in-NoIssuer c =
+pub returns-in-NoIssuer-clause-answer : goal.returns-in-NoIssuer-clause-answer
+returns-in-NoIssuer-clause-answer c =
     let leaf = c.in-Ok-2.leaf in
     let read = rw c.in-Ok-2.is at c.in_ok-leaf.ensures in
     let names = rw c.in-Some.is at c.in_ok-identity.ensures in
@@ -63,10 +63,10 @@ returns-in-NoIssuer c =
     c.in-Some.identity c.in-NoIssuer.missed
     (names_of c.args.bundle.now (brought_of c.in-Ok.claim) (facts_of c.in-Ok-2.leaf.certificate) leaf.identity.name.now
     leaf.identity.issuer.now c.in-Some.identity c.in-Ok.ensures read.0 names)
-    (rw c.in-NoIssuer.is at c.in_ok-attestation_of_claim.ensures)
+    (rw c.in-NoIssuer.is at c.in_ok-attestation_of_claim.ensures.answer)
 
-pub returns-then-not-branch : goal.returns-then-not-branch
-returns-then-not-branch c =
+pub returns-then-not-branch-clause-answer : goal.returns-then-not-branch-clause-answer
+returns-then-not-branch-clause-answer c =
     let leaf = c.in-Ok-2.leaf in
     let read = rw c.in-Ok-2.is at c.in_ok-leaf.ensures in
     let names = rw c.in-Some.is at c.in_ok-identity.ensures in
@@ -74,10 +74,10 @@ returns-then-not-branch c =
     c.in-Some.identity c.in_ok-is_envelope_signed.field-0
     (names_of c.args.bundle.now (brought_of c.in-Ok.claim) (facts_of c.in-Ok-2.leaf.certificate) leaf.identity.name.now
     leaf.identity.issuer.now c.in-Some.identity c.in-Ok.ensures read.0 names)
-    (rw c.in-Attested.is at c.in_ok-attestation_of_claim.ensures).has_issuer c.in_ok-is_envelope_signed.ensures c.if-not-branch.true
+    (rw c.in-Attested.is at c.in_ok-attestation_of_claim.ensures.answer).has_issuer c.in_ok-is_envelope_signed.ensures.answer c.if-not-branch.true
 
-pub returns : goal.returns
-returns c =
+pub returns-clause-answer : goal.returns-clause-answer
+returns-clause-answer c =
     let leaf = c.in-Ok-2.leaf in
     let read = rw c.in-Ok-2.is at c.in_ok-leaf.ensures in
     let names = rw c.in-Some.is at c.in_ok-identity.ensures in
@@ -85,4 +85,4 @@ returns c =
     c.in-Some.identity c.in-Attested.time
     (names_of c.args.bundle.now (brought_of c.in-Ok.claim) (facts_of c.in-Ok-2.leaf.certificate) leaf.identity.name.now
     leaf.identity.issuer.now c.in-Some.identity c.in-Ok.ensures read.0 names)
-    (rw c.in-Attested.is at c.in_ok-attestation_of_claim.ensures) (c.in_ok-is_envelope_signed.ensures.0 c.if-not-branch.false)
+    (rw c.in-Attested.is at c.in_ok-attestation_of_claim.ensures.answer) (c.in_ok-is_envelope_signed.ensures.answer.0 c.if-not-branch.false)

@@ -1,5 +1,5 @@
 //! Whether an authority of a trusted root can be used, or which condition it misses.
-ghost use Rattle.std.specs.Prelude.{All, IfOk, map};
+ghost use Rattle.std.specs.Prelude.{◌≡◌, ◌≤◌, All, IfOk, map};
 ghost use Rattle.it_certificate.specs.Authority.{AreAuthority};
 ghost use Rattle.it_certificate.specs.Certificate.{facts_of};
 ghost use Rattle.it_certificate_log.specs.Bare.{WasRead};
@@ -10,7 +10,7 @@ ghost use Rattle.it_root_notes.specs.AuthorityMisses.{ChainMisses, IsAuthoritySh
 use crate::certificates::certificates_of;
 use crate::chain::{first_barred, first_other_issuer, first_unsigned};
 use crate::shortfall::{AuthorityShortfall, ChainShortfall};
-use it_budget::SharedBudget;
+use it_budget::Budget;
 use it_certificate::Certificate;
 use it_trust_root::Authority;
 use std::alloc::{AllocError, Global};
@@ -24,10 +24,12 @@ use std::alloc::{AllocError, Global};
 /// `AllocError` where memory was refused, or where the budget has no check left.
 pub fn authority_shortfall(
     alloc: Global,
-    budget: &SharedBudget,
+    budget: &mut Budget,
     authority: &Authority,
 ) -> Result<Option<AuthorityShortfall>, AllocError>
-    ensures { IfOk result (IsAuthorityShortfall authority.now) }
+    ensures answer { IfOk result (IsAuthorityShortfall authority.now) }
+    ensures most { budget.new.most ≡ budget.old.most }
+    ensures grows { budget.old.checked ≤ budget.new.checked }
 {
     let certificates = match certificates_of(alloc, authority.certificates.as_slice())? {
         Ok(certificates) => certificates,
@@ -47,12 +49,14 @@ pub fn authority_shortfall(
 /// The condition that certificates miss to be those of an authority.
 fn chain_shortfall(
     alloc: Global,
-    budget: &SharedBudget,
+    budget: &mut Budget,
     certificates: &[Certificate<'_>],
 ) -> Result<Option<ChainShortfall>, AllocError>
     requires { All WasRead certificates.now }
-    ensures { IfOk result (IsShortfall (AreAuthority Signs (map facts_of certificates.now))
+    ensures answer { IfOk result (IsShortfall (AreAuthority Signs (map facts_of certificates.now))
         (ChainMisses (map facts_of certificates.now))) }
+    ensures most { budget.new.most ≡ budget.old.most }
+    ensures grows { budget.old.checked ≤ budget.new.checked }
 {
     if certificates.is_empty() {
         return Ok(Some(ChainShortfall::Empty));

@@ -1,5 +1,5 @@
 //! Notes on the authorities of a trusted root.
-ghost use Rattle.std.specs.Prelude.{◌≡◌, IfOk};
+ghost use Rattle.std.specs.Prelude.{◌≡◌, ◌≤◌, IfOk};
 ghost use Rattle.std.specs.List.{AllZip};
 ghost use Rattle.it_root_notes.specs.AuthorityMisses.{IsAuthorityShortfall};
 ghost use Rattle.it_root_notes.specs.AuthorityText.{AreAuthorityNotes, authority_lines};
@@ -7,7 +7,7 @@ ghost use Rattle.it_root_notes.specs.AuthorityText.{AreAuthorityNotes, authority
 use crate::authority::authority_shortfall;
 use crate::authority_line::push_authority;
 use crate::shortfall::AuthorityShortfall;
-use it_budget::SharedBudget;
+use it_budget::Budget;
 use it_trust_root::{Authority, TrustedRoot};
 use std::alloc::{AllocError, Global};
 
@@ -19,10 +19,12 @@ use std::alloc::{AllocError, Global};
 /// `AllocError` where memory was refused, or where the budget has no check left.
 pub fn notes_on_authorities(
     alloc: Global,
-    budget: &SharedBudget,
+    budget: &mut Budget,
     root: &TrustedRoot,
 ) -> Result<Vec<u8>, AllocError>
-    ensures { IfOk result (λ text. AreAuthorityNotes root.now text.items) }
+    ensures answer { IfOk result (λ text. AreAuthorityNotes root.now text.items) }
+    ensures most { budget.new.most ≡ budget.old.most }
+    ensures grows { budget.old.checked ≤ budget.new.checked }
 {
     let shortfalls = shortfalls_of(alloc, budget, root.authorities.as_slice())?;
     let text = lines_of(alloc, shortfalls.as_slice())?;
@@ -32,11 +34,13 @@ pub fn notes_on_authorities(
 /// What each of the authorities misses, if it misses something.
 fn shortfalls_of(
     alloc: Global,
-    budget: &SharedBudget,
+    budget: &mut Budget,
     authorities: &[Authority],
 ) -> Result<Vec<Option<AuthorityShortfall>>, AllocError>
-    ensures { IfOk result (λ shortfalls.
+    ensures answer { IfOk result (λ shortfalls.
         AllZip IsAuthorityShortfall authorities.now shortfalls.items) }
+    ensures most { budget.new.most ≡ budget.old.most }
+    ensures grows { budget.old.checked ≤ budget.new.checked }
 {
     let mut shortfalls = Vec::new(alloc);
     for authority in authorities {

@@ -1,5 +1,5 @@
 //! What certificates that are read lack to be those of an authority.
-ghost use Rattle.std.specs.Prelude.{All, IfOk, MatchOption, map};
+ghost use Rattle.std.specs.Prelude.{◌≡◌, ◌≤◌, All, IfOk, MatchOption, map};
 ghost use Rattle.it_certificate.specs.Authority.{
   AreLinked,
   AreSignedInTurn,
@@ -13,7 +13,7 @@ ghost use Rattle.it_issued.specs.Signature.{Signs};
 ghost use Rattle.it_root_notes.specs.AuthorityMisses.{IsBarred, Names};
 ghost use Rattle.it_root_notes.specs.Missing.{MissesFrom, MissesNext};
 
-use it_budget::SharedBudget;
+use it_budget::Budget;
 use it_certificate::{Certificate, IssuingShortfall, issuing_shortfall, names_next};
 use it_issued::is_signed_by;
 use std::alloc::{AllocError, Global};
@@ -62,13 +62,15 @@ pub(crate) fn first_barred(certificates: &[Certificate<'_>]) -> Option<BarredCer
 /// `AllocError` where memory was refused, or where the budget has no check left.
 pub(crate) fn first_unsigned(
     alloc: Global,
-    budget: &SharedBudget,
+    budget: &mut Budget,
     certificates: &[Certificate<'_>],
 ) -> Result<Option<usize>, AllocError>
     requires { All WasRead certificates.now }
-    ensures { IfOk result (λ found. MatchOption found
+    ensures answer { IfOk result (λ found. MatchOption found
         (AreSignedInTurn Signs (map facts_of certificates.now))
         (MissesNext (IsSignedBy Signs) (map facts_of certificates.now))) }
+    ensures most { budget.new.most ≡ budget.old.most }
+    ensures grows { budget.old.checked ≤ budget.new.checked }
 {
     for place in 1..certificates.len() {
         if !is_signed_by(

@@ -2,7 +2,7 @@
 //!
 //! ```
 //! let logs = notes_on_logs(alloc, &root)?;
-//! let authorities = notes_on_authorities(alloc, &budget, &root)?;
+//! let authorities = notes_on_authorities(alloc, &mut budget, &root)?;
 //! ```
 #![tactic(auto)]
 

@@ -1,5 +1,5 @@
 //! Lines of provenance, judged by a trusted root.
-ghost use Rattle.std.specs.Prelude.{◌≡◌, [], ◌∷◌, IfOk, MatchOption};
+ghost use Rattle.std.specs.Prelude.{◌≡◌, ◌≤◌, [], ◌∷◌, IfOk, MatchOption};
 ghost use Rattle.it_digest.specs.Sums.{lines_of};
 ghost use Rattle.it_vouched.specs.Line.{AreVouched};
 ghost use Rattle.it_vouched.specs.Silent.{AreSilent};
@@ -9,6 +9,7 @@ use crate::vouched::{Vouched, judged_line};
 use crate::vouched_lines::VouchedLines;
 use it_base::optional::push_some;
 use it_base::sequence::Sequence;
+use it_budget::Budget;
 use it_digest::sums::split_line;
 use it_vouches::{Shortfall, Trust};
 use std::alloc::{AllocError, Global};
@@ -28,9 +29,10 @@ impl JudgedLines {
     ///
     /// # Errors
     ///
-    /// `AllocError` where memory was refused.
+    /// `AllocError` where memory was refused, or where the budget has no check left.
     pub fn of(
         alloc: Global,
+        budget: &mut Budget,
         trust: &Trust<'_>,
         provenance: &[u8],
     ) -> Result<JudgedLines, AllocError>
@@ -38,8 +40,10 @@ impl JudgedLines {
             (λ judged. AreVouched trust.now (lines_of provenance.now) judged.vouched) }
         ensures silent { IfOk result
             (λ judged. AreSilent trust.now (lines_of provenance.now) judged.silent) }
+        ensures most { budget.new.most ≡ budget.old.most }
+        ensures grows { budget.old.checked ≤ budget.new.checked }
     {
-        let Judging { all, silent } = judging_of(alloc, trust, provenance)?;
+        let Judging { all, silent } = judging_of(alloc, budget, trust, provenance)?;
         Ok(JudgedLines {
             vouched: VouchedLines::new(all),
             silent: Sequence::from(silent),
@@ -51,16 +55,23 @@ impl JudgedLines {
     ///
     /// # Errors
     ///
-    /// `AllocError` where memory was refused.
-    pub fn of_one(alloc: Global, trust: &Trust<'_>, bytes: &[u8]) -> Result<JudgedLines, AllocError>
+    /// `AllocError` where memory was refused, or where the budget has no check left.
+    pub fn of_one(
+        alloc: Global,
+        budget: &mut Budget,
+        trust: &Trust<'_>,
+        bytes: &[u8],
+    ) -> Result<JudgedLines, AllocError>
         ensures vouched { IfOk result
             (λ judged. AreVouched trust.now (bytes.now ∷ []) judged.vouched) }
         ensures silent { IfOk result
             (λ judged. AreSilent trust.now (bytes.now ∷ []) judged.silent) }
+        ensures most { budget.new.most ≡ budget.old.most }
+        ensures grows { budget.old.checked ≤ budget.new.checked }
     {
         let mut all = Vec::new(alloc);
         let mut silent = Vec::new(alloc);
-        let judged = judged_line(alloc, trust, bytes)?;
+        let judged = judged_line(alloc, budget, trust, bytes)?;
         push_some(&mut all, judged.vouched)?;
         push_some(&mut silent, silent_line(1, judged.shortfall))?;
         Ok(JudgedLines {
@@ -77,11 +88,18 @@ struct Judging {
     silent: Vec<SilentLine>,
 }
 
-fn judging_of(alloc: Global, trust: &Trust<'_>, provenance: &[u8]) -> Result<Judging, AllocError>
+fn judging_of(
+    alloc: Global,
+    budget: &mut Budget,
+    trust: &Trust<'_>,
+    provenance: &[u8],
+) -> Result<Judging, AllocError>
     ensures vouched { IfOk result
         (λ judging. AreVouched trust.now (lines_of provenance.now) judging.all.items) }
     ensures silent { IfOk result
         (λ judging. AreSilent trust.now (lines_of provenance.now) judging.silent.items) }
+    ensures most { budget.new.most ≡ budget.old.most }
+    ensures grows { budget.old.checked ≤ budget.new.checked }
 {
     let mut all = Vec::new(alloc);
     let mut silent = Vec::new(alloc);
@@ -90,7 +108,7 @@ fn judging_of(alloc: Global, trust: &Trust<'_>, provenance: &[u8]) -> Result<Jud
     while !rest.is_empty() {
         let (line, after) = split_line(rest);
         number += 1;
-        let judged = judged_line(alloc, trust, line)?;
+        let judged = judged_line(alloc, budget, trust, line)?;
         push_some(&mut all, judged.vouched)?;
         push_some(&mut silent, silent_line(number, judged.shortfall))?;
         rest = after;

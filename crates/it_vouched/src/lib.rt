@@ -2,7 +2,7 @@
 //! envelopes, and which signatures are so valid.
 //!
 //! ```
-//! let judged = JudgedLines::of(alloc, &trust, provenance)?;
+//! let judged = CountedLines::of(alloc, &root, provenance).judged?;
 //! if let Some(key) = IdentityKey::in_object(&object) {
 //!     let valid = judged.vouched.is_valid(&key, &[message], signature);
 //! }
@@ -10,6 +10,7 @@
 #![tactic(auto)]
 
 mod asked;
+mod counted_lines;
 mod describing;
 mod identity_key;
 mod joining;
@@ -20,6 +21,7 @@ mod silent_notes;
 mod vouched;
 mod vouched_lines;
 
+pub use counted_lines::CountedLines;
 pub use describing::describes;
 pub use identity_key::IdentityKey;
 pub use judged_lines::JudgedLines;

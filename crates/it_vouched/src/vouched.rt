@@ -1,11 +1,12 @@
 //! What a line vouches for.
-ghost use Rattle.std.specs.Prelude.{◌≡◌, [], ◌∷◌, IfOk, MatchOption, ℕ, List, map};
+ghost use Rattle.std.specs.Prelude.{◌≡◌, ◌≤◌, [], ◌∷◌, IfOk, MatchOption, ℕ, List, map};
 ghost use Rattle.it_base.specs.Finds.{Finds};
 ghost use Rattle.it_dsse.specs.Signed.{message_of};
 ghost use Rattle.it_vouched.specs.Line.{IsVouched};
 ghost use Rattle.it_vouched.specs.Silent.{LineMisses, MissesNothing};
 
 use it_base::sequence::Sequence;
+use it_budget::Budget;
 use it_bundle::{SigstoreBundle, read_bundle};
 use it_dsse::envelope::{Envelope, Signature};
 use it_dsse::pae;
@@ -40,9 +41,10 @@ pub(crate) struct LineJudged {
 ///
 /// # Errors
 ///
-/// `AllocError` where memory was refused.
+/// `AllocError` where memory was refused, or where the budget has no check left.
 pub(crate) fn judged_line(
     alloc: Global,
+    budget: &mut Budget,
     trust: &Trust<'_>,
     line: &[u8],
 ) -> Result<LineJudged, AllocError>
@@ -50,6 +52,8 @@ pub(crate) fn judged_line(
         (λ judged. Finds (IsVouched trust.now line.now) judged.vouched) }
     ensures misses { IfOk result (λ judged. MatchOption judged.shortfall
         (MissesNothing trust.now line.now) (LineMisses trust.now line.now)) }
+    ensures most { budget.new.most ≡ budget.old.most }
+    ensures grows { budget.old.checked ≤ budget.new.checked }
 {
     let Some(bundle) = read_bundle(alloc, line)? else {
         return Ok(LineJudged {
@@ -57,7 +61,7 @@ pub(crate) fn judged_line(
             shortfall: None,
         });
     };
-    match judged(alloc, trust, &bundle)? {
+    match judged(alloc, budget, trust, &bundle)? {
         Judged::For(voucher) => Ok(LineJudged {
             vouched: vouched_with(alloc, &bundle, voucher)?,
             shortfall: None,

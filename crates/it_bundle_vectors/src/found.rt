@@ -3,10 +3,11 @@ ghost use Rattle.std.specs.Prelude.{◌≡◌, ◌↔◌, IfOk, IsTrue};
 ghost use Rattle.it_bundle_vectors.specs.Agreement.{IsVouchedFor};
 
 use crate::vector::Vector;
+use it_budget::Budget;
 use it_bundle::read_bundle;
 use it_identity::Identity;
 use it_trust_root::read_root;
-use it_vouches::{Trust, vouched_identity};
+use it_vouches::{MOST_CHECKS, Trust, vouched_identity};
 use std::alloc::{AllocError, Global};
 
 /// Whether the line of a vector is a bundle that vouches, by the vector's trusted root, for its
@@ -24,8 +25,9 @@ pub(crate) fn is_vouched_for(alloc: Global, vector: &Vector) -> Result<bool, All
     let Some(bundle) = read_bundle(alloc, vector.line.as_str().as_bytes())? else {
         return Ok(false);
     };
-    let trust = Trust::of(alloc, &root)?;
-    let Some(identity) = vouched_identity(alloc, &trust, &bundle)? else {
+    let mut budget = Budget::new(MOST_CHECKS);
+    let trust = Trust::of(alloc, &mut budget, &root)?;
+    let Some(identity) = vouched_identity(alloc, &mut budget, &trust, &bundle)? else {
         return Ok(false);
     };
     Ok(is_wanted(&identity, vector))

@@ -3,9 +3,8 @@ ghost use Rattle.std.specs.Prelude.{◌≡◌, ◌⊎◌, Ok, IfErr, IfOk, IsErr
 
 use it_disk::Fault;
 use it_outcome::RunFault;
-use it_vouched::JudgedLines;
-use it_vouches::{MOST_CHECKS, Trust};
-use std::alloc::AllocError;
+use it_vouched::{CountedLines, JudgedLines};
+use it_vouches::MOST_CHECKS;
 
 /// What was judged by a trusted root.
 ///
@@ -13,16 +12,14 @@ use std::alloc::AllocError;
 ///
 /// `Fault::TooManyChecks` where more signatures would have had to be checked than `MOST_CHECKS`,
 /// and `Fault::Run` where memory was refused.
-pub fn judged_or_fault(
-    trust: &Trust<'_>,
-    judged: Result<JudgedLines, AllocError>,
-) -> Result<JudgedLines, Fault>
-    ensures judged { IfOk result (λ lines. judged ≡ Ok lines) }
-    ensures refused { IfErr result (λ fault. IsErr judged × ((fault ≡ Fault.TooManyChecks 50000)
-        ⊎ (fault ≡ Fault.Run RunFault.OutOfMemory))) }
+pub fn judged_or_fault(counted: CountedLines) -> Result<JudgedLines, Fault>
+    ensures judged { IfOk result (λ lines. counted.judged ≡ Ok lines) }
+    ensures refused { IfErr result (λ fault. IsErr counted.judged
+        × ((fault ≡ Fault.TooManyChecks 50000) ⊎ (fault ≡ Fault.Run RunFault.OutOfMemory))) }
 {
-    match judged {
-        Err(_) if trust.is_spent() => Err(Fault::TooManyChecks { limit: MOST_CHECKS }),
+    let is_spent = counted.budget.is_spent();
+    match counted.judged {
+        Err(_) if is_spent => Err(Fault::TooManyChecks { limit: MOST_CHECKS }),
         judged => Ok(judged?),
     }
 }

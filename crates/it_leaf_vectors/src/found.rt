@@ -3,7 +3,7 @@ ghost use Rattle.std.specs.Prelude.{◌≡◌, ◌↔◌, IfOk, IsTrue};
 ghost use Rattle.it_leaf_vectors.specs.Agreement.{Issues, Promises};
 
 use crate::vector::{Vector, Wanted};
-use it_budget::SharedBudget;
+use it_budget::Budget;
 use it_certificate::read_certificate;
 use it_issued::{issue_shortfall, log_shortfall, read_authority};
 use std::alloc::{AllocError, Global};
@@ -41,8 +41,8 @@ pub(crate) fn find(alloc: Global, vector: &Vector) -> Result<Found, AllocError>
         issued: false,
         logged: false,
     };
-    let budget = SharedBudget::new(u64::MAX);
-    let Some(authority) = read_authority(alloc, &budget, &vector.authority)? else {
+    let mut budget = Budget::new(u64::MAX);
+    let Some(authority) = read_authority(alloc, &mut budget, &vector.authority)? else {
         return Ok(neither);
     };
     let bytes = vector.leaf.as_slice();
@@ -53,9 +53,10 @@ pub(crate) fn find(alloc: Global, vector: &Vector) -> Result<Found, AllocError>
     let Some(issuer) = certificates.first() else {
         return Ok(neither);
     };
-    let not_issued = issue_shortfall(alloc, &budget, &authority, &leaf, vector.wanted.moment)?;
+    let moment = vector.wanted.moment;
+    let not_issued = issue_shortfall(alloc, &mut budget, &authority, &leaf, moment)?;
     let logs = vector.logs.as_slice();
-    let not_logged = log_shortfall(alloc, &budget, logs, issuer, &leaf)?;
+    let not_logged = log_shortfall(alloc, &mut budget, logs, issuer, &leaf)?;
     Ok(Found {
         issued: not_issued.is_none(),
         logged: not_logged.is_none(),

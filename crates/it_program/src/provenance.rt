@@ -6,15 +6,15 @@ ghost use Rattle.it_program.specs.inside.SilentNotes.{AreSilentBy, AreSilentIn};
 
 use it_base::sequence::Sequence;
 use it_base::text::Text;
-use it_budget::SharedBudget;
+use it_budget::Budget;
 use it_disk::{Disk, Fault, LeftOut, bytes_if_given, read_trusted_root};
 use it_file_commands::judged_or_fault;
 use it_limits::lines_within_limit;
 use it_root_notes::{notes_on_authorities, notes_on_logs};
 use it_trust_root::TrustedRoot;
 use it_unwrapped::unwrapped_lines;
-use it_vouched::{JudgedLines, SilentLine, VouchedLines};
-use it_vouches::{MOST_CHECKS, Trust};
+use it_vouched::{CountedLines, JudgedLines, SilentLine, VouchedLines};
+use it_vouches::MOST_CHECKS;
 use it_words::words::verify_words::VerifyWords;
 use std::alloc::{AllocError, Global};
 
@@ -86,9 +86,8 @@ fn judge<R: Disk + AllocGlobal>(rt: &R, path: &Option<Text>, read: &[u8]) -> Res
         });
     };
     let root = read_trusted_root(rt, path.as_str())?;
-    let trust = Trust::of(rt.alloc(), &root)?;
-    let judged = JudgedLines::of(rt.alloc(), &trust, read);
-    let JudgedLines { vouched, silent } = judged_or_fault(&trust, judged)?;
+    let counted = CountedLines::of(rt.alloc(), &root, read);
+    let JudgedLines { vouched, silent } = judged_or_fault(counted)?;
     let passed_over = notes_on_root(rt.alloc(), &root, silent.as_slice())?;
     Ok(Judged {
         vouched: Some(vouched),
@@ -111,8 +110,8 @@ fn notes_on_root(
     Ok(text)
 }
 
-/// What is noted of the authorities, whose signatures are checked again for it: nothing where no
-/// line is a bundle that vouches for nobody.
+/// What is noted of the authorities, whose signatures are checked again for it, with a budget of
+/// their own: nothing where no line is a bundle that vouches for nobody.
 fn authorities_noted(
     alloc: Global,
     root: &TrustedRoot,
@@ -122,7 +121,7 @@ fn authorities_noted(
 {
     match silent {
         [] => Ok(Vec::new(alloc)),
-        [..] => notes_on_authorities(alloc, &SharedBudget::new(MOST_CHECKS), root),
+        [..] => notes_on_authorities(alloc, &mut Budget::new(MOST_CHECKS), root),
     }
 }
 

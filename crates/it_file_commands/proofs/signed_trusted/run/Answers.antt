@@ -11,7 +11,7 @@ returns-clause-ok g c =
         root = c.in_ok-root.root;
         holds_root = search rules;
         vouched = c.in_ok-vouched.field-0.vouched;
-        are_vouched = rw (c.in_ok-trust.ensures, c.in_ok-vouched.ensures.judged) at c.of_one-judged.ensures.vouched;
+        are_vouched = rw c.in_ok-vouched.ensures.judged at c.of_one-counted.ensures.vouched;
         is_output = rw c.checks_with-checks.ensures at shown.1;
       },
       shown.2,
@@ -22,6 +22,6 @@ returns-clause-noted g c = record {
   root = c.in_ok-root.root;
   holds_root = search rules;
   silent = c.in_ok-vouched.field-0.silent;
-  are_silent = rw (c.in_ok-trust.ensures, c.in_ok-vouched.ensures.judged) at c.of_one-judged.ensures.silent;
+  are_silent = rw c.in_ok-vouched.ensures.judged at c.of_one-counted.ensures.silent;
   begins = rw c.as_slice.ensures at c.note_silent.ensures;
 }

@@ -10,7 +10,7 @@ use Rattle.it_leaf_vectors.proofs.Finding.{issues_is, no_issuer, no_leaf, promis
 use Rattle.it_leaf_vectors.proofs.found.find.Goals as goal
 
 pub returns-in_default : goal.returns-in_default
-returns-in_default c = unusable c.args.vector.now (rw c.in_default.is at c.in_ok-authority.ensures)
+returns-in_default c = unusable c.args.vector.now (rw c.in_default.is at c.in_ok-authority.ensures.answer)
 
 pub returns-in_default-2 : goal.returns-in_default-2
 returns-in_default-2 c =
@@ -18,13 +18,13 @@ returns-in_default-2 c =
 
 pub returns-in_default-first : goal.returns-in_default-first
 returns-in_default-first c =
-    let read = rw c.in-Some.is at c.in_ok-authority.ensures in
+    let read = rw c.in-Some.is at c.in_ok-authority.ensures.answer in
     no_issuer c.args.vector.now c.in-Some.authority.certificates.items
     (rw c.as_slice-certificates.ensures.value at c.in_default-first.ensures.value) read.0
 
 pub issue_shortfall-requires : goal.issue_shortfall-requires
 issue_shortfall-requires c =
-    let read = rw c.in-Some.is at c.in_ok-authority.ensures in
+    let read = rw c.in-Some.is at c.in_ok-authority.ensures.answer in
     let leaf = rw c.in-Some-2.is at c.in_ok-leaf.ensures in
     record {
       authority_read = read.1;
@@ -33,7 +33,7 @@ issue_shortfall-requires c =
 
 pub log_shortfall-requires : goal.log_shortfall-requires
 log_shortfall-requires c =
-    let read = rw c.in-Some.is at c.in_ok-authority.ensures in
+    let read = rw c.in-Some.is at c.in_ok-authority.ensures.answer in
     let leaf = rw c.in-Some-2.is at c.in_ok-leaf.ensures in
     let first = rw c.as_slice-certificates.ensures.value at c.in-Some-first.ensures.value in
     record {
@@ -46,17 +46,17 @@ returns c =
     let v = c.args.vector.now in
     let xs = c.in-Some.authority.certificates.items in
     let issuer = c.in-Some-first.issuer.now in
-    let read = rw c.in-Some.is at c.in_ok-authority.ensures in
+    let read = rw c.in-Some.is at c.in_ok-authority.ensures.answer in
     let leaf = rw (c.in-Some-2.is, c.as_slice-bytes.ensures) at c.in_ok-leaf.ensures in
     let first = rw c.as_slice-certificates.ensures.value at c.in-Some-first.ensures.value in
     let named = subst (λ (cs : List Facts). IsUsable c.args.vector.now.authority cs)
     (first_facts c.in-Some.authority.certificates.items c.in-Some-first.issuer.now first) read.0 in
     let issued = whole_is (IsIssued (map facts_of xs) c.in-Some.authority.window (facts_of c.in-Some-2.leaf) v.wanted.moment)
     (IssueMisses (map facts_of xs) c.in-Some.authority.window (facts_of c.in-Some-2.leaf) v.wanted.moment)
-    c.in_ok-not_issued.not_issued c.is_none.result c.is_none.ensures c.in_ok-not_issued.ensures in
+    c.in_ok-not_issued.not_issued c.is_none.result c.is_none.ensures c.in_ok-not_issued.ensures.answer in
     let logged = whole_is (IsLogged c.args.vector.now.logs (facts_of issuer) (facts_of c.in-Some-2.leaf))
     (LogMisses c.args.vector.now.logs (facts_of issuer) (facts_of c.in-Some-2.leaf)) c.in_ok-not_logged.not_logged
-    c.is_none-2.result c.is_none-2.ensures (rw c.as_slice-logs.ensures at c.in_ok-not_logged.ensures) in (
+    c.is_none-2.result c.is_none-2.ensures (rw c.as_slice-logs.ensures at c.in_ok-not_logged.ensures.answer) in (
       issues_is v (map facts_of xs) (facts_of c.in-Some-2.leaf) c.in-Some.authority.window c.is_none.result read.0 leaf.0
           read.2 issued,
       promises_is v (facts_of issuer) (map facts_of (drop 1 xs)) (facts_of c.in-Some-2.leaf) c.is_none-2.result named leaf.0 logged,

@@ -17,9 +17,9 @@ pub fn judged_or_fault(counted: CountedLines) -> Result<JudgedLines, Fault>
     ensures refused { IfErr result (λ fault. IsErr counted.judged
         × ((fault ≡ Fault.TooManyChecks 50000) ⊎ (fault ≡ Fault.Run RunFault.OutOfMemory))) }
 {
-    let is_spent = counted.budget.is_spent();
-    match counted.judged {
-        Err(_) if is_spent => Err(Fault::TooManyChecks { limit: MOST_CHECKS }),
+    let CountedLines { judged, budget } = counted;
+    match judged {
+        Err(_) if budget.is_spent() => Err(Fault::TooManyChecks { limit: MOST_CHECKS }),
         judged => Ok(judged?),
     }
 }

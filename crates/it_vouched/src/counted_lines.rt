@@ -32,7 +32,7 @@ impl CountedLines {
         ensures most { result.budget.most ≡ 50_000 }
         ensures checked { result.budget.checked ≤ 50_000 }
     {
-        let mut budget = Budget::new(MOST_CHECKS);
+        let mut budget = whole_budget();
         let judged = judged_of(alloc, &mut budget, root, provenance);
         CountedLines { judged, budget }
     }
@@ -47,10 +47,18 @@ impl CountedLines {
         ensures most { result.budget.most ≡ 50_000 }
         ensures checked { result.budget.checked ≤ 50_000 }
     {
-        let mut budget = Budget::new(MOST_CHECKS);
+        let mut budget = whole_budget();
         let judged = judged_of_one(alloc, &mut budget, root, bytes);
         CountedLines { judged, budget }
     }
+}
+
+/// The budget of a run, of which nothing is taken.
+fn whole_budget() -> Budget
+    ensures most { result.most ≡ 50_000 }
+    ensures none { result.checked ≡ 0 }
+{
+    Budget::new(MOST_CHECKS)
 }
 
 fn judged_of(

@@ -121,7 +121,10 @@ fn authorities_noted(
 {
     match silent {
         [] => Ok(Vec::new(alloc)),
-        [..] => notes_on_authorities(alloc, &mut Budget::new(MOST_CHECKS), root),
+        [..] => {
+            let mut budget = Budget::new(MOST_CHECKS);
+            notes_on_authorities(alloc, &mut budget, root)
+        }
     }
 }
 

@@ -1,12 +1,11 @@
 -- What attests a leaf, by the authorities of a trusted root.
-use Rattle.std.proofs.Common.{◌≡◌, ℕ, List, ◌∷◌, Any, Option, Some, None, MatchOption, map, inl, inr, sym, subst}
+use Rattle.std.proofs.Common.{ℕ, List, ◌∷◌, Any, Option, Some, None, MatchOption, map, inl, inr, sym, subst}
 use Rattle.it_certificate.specs.Certificate.{Facts, facts_of}
 use Rattle.it_issued.specs.Issued.{IsIssued, IsUsable}
 use Rattle.it_issued.specs.declared.authority.UsableAuthority.{UsableAuthority}
 use Rattle.it_issued.specs.declared.shortfall.IssueShortfall.TheVariants.{Name}
 use Rattle.it_issued.proofs.Reading.{one_way}
 use Rattle.it_log.specs.declared.window.Window.{Window}
-use Rattle.it_trust_root.specs.declared.authority.Authority.{Authority}
 use Rattle.it_trust_root.specs.declared.root.TrustedRoot.{TrustedRoot}
 use Rattle.it_vouches.specs.Furthest.{IsMissedByOne}
 use Rattle.it_vouches.specs.IssuerMissed.{IsMissedByAuthority, IsMissedByLeaf, MissesWith}

@@ -1,9 +1,9 @@
 -- What a leaf misses with an authority, as it was read.
-use Rattle.std.proofs.Common.{◌≡◌, ℕ, List, [], ◌∷◌, map, drop, Some, None, slice_get, ap, sym, subst, ◌∙◌}
+use Rattle.std.proofs.Common.{◌≡◌, ℕ, List, [], ◌∷◌, map, drop, Some, None, slice_get, ap, sym, subst}
 use Rattle.it_certificate.specs.Certificate.{Facts, facts_of}
 use Rattle.it_certificate.specs.declared.certificate.Certificate.{Certificate}
 use Rattle.it_issued.specs.Issued.{IsIssued}
-use Rattle.it_issued.specs.IssueMisses.{IsIssueShortfall, OfIssuer}
+use Rattle.it_issued.specs.IssueMisses.{OfIssuer}
 use Rattle.it_issued.specs.Logged.{IsLogged}
 use Rattle.it_issued.specs.LogMisses.{IsLogShortfall}
 use Rattle.it_issued.specs.declared.authority.UsableAuthority.{UsableAuthority}

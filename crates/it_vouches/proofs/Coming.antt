@@ -1,5 +1,5 @@
 -- How far a leaf comes by what a bundle brings.
-use Rattle.std.proofs.Common.{◌≡◌, ℕ, ◌+◌, ◌≤◌, Bool, List, All, Any, inl, inr, sym, subst, arith, ◌∙◌}
+use Rattle.std.proofs.Common.{ℕ, ◌≤◌, Bool, List, All, Any, inl, inr, subst, arith}
 use Rattle.std.specs.List.{Contains}
 use Rattle.it_bundle.specs.declared.bundle.SigstoreBundle.{SigstoreBundle}
 use Rattle.it_bundle.specs.declared.listed_entry.ListedEntry.{ListedEntry}
@@ -21,7 +21,7 @@ use Rattle.it_vouches.specs.declared.attestation.Attestation.{Attestation}
 use Rattle.it_vouches.specs.declared.attestation.Attestation.TheVariants.{Attested, NoEntry, NoIssuer, NoLog}
 use Rattle.it_vouches.specs.declared.issuer_shortfall.IssuerShortfall.{IssuerShortfall}
 use Rattle.it_vouches.specs.inside.Shows.{AllShow, ClaimShows, ComesFurthest, ComesUpTo, EntryShows, HasIssuerAt, ListedShows, attestation_place}
-use Rattle.it_vouches.proofs.Loops.{any_of_contains, contains_of_any}
+use Rattle.it_vouches.proofs.Loops.{contains_of_any}
 use Rattle.it_vouches.proofs.Places.{entry_low, issuer_low}
 use Rattle.it_vouches.proofs.SameLogged.{by_log_same, missed_same}
 use Rattle.it_vouches.proofs.Vouching.{about_same}

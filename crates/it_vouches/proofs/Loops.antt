@@ -1,5 +1,5 @@
 -- Loops that look for an element.
-use Rattle.std.proofs.Common.{◌≡◌, ℕ, ◌+◌, ◌<◌, ◌≤◌, ◌↔◌, Bool, true, false, true≢false, IsTrue, List, [], ◌∷◌, length, get_or, take, All, Any}
+use Rattle.std.proofs.Common.{◌≡◌, ℕ, ◌+◌, ◌<◌, ◌≤◌, ◌↔◌, true, false, true≢false, IsTrue, List, [], ◌∷◌, length, get_or, take, All, Any}
 use Rattle.std.proofs.Common.{refl, sym, subst, arith, ◌⊎◌, inl, inr, suc, zero}
 use Rattle.std.specs.List.{Contains}
 use Rattle.std.proofs.lemmas.List.{take_all}

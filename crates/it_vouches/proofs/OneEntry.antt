@@ -1,5 +1,5 @@
 -- With a log, an entry misses at most one condition first.
-use Rattle.std.proofs.Common.{◌≡◌, ℕ, zero, suc, ◌+◌, ◌<◌, Bool, false, true≢false, List, Option, Some, None, MatchOption, codes, ◌⊎◌, inl, inr, ⊎_elim, refl, sym, ap, subst, ◌∙◌}
+use Rattle.std.proofs.Common.{◌≡◌, ℕ, zero, suc, ◌+◌, Bool, false, true≢false, List, Option, Some, None, MatchOption, codes, ◌⊎◌, inl, inr, ⊎_elim, refl, sym, ap, subst, ◌∙◌}
 use Rattle.it_issued.specs.Misses.{IsFirstMissed}
 use Rattle.it_issued.proofs.Missed.{HaveOwnPlaces, MetBelow, none_below, one_missed, one_more}
 use Rattle.it_log.specs.declared.log.Log.{Log}

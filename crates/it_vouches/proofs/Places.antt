@@ -1,5 +1,5 @@
 -- How far conditions can come.
-use Rattle.std.proofs.Common.{ℕ, ◌≤◌, ◌+◌, arith}
+use Rattle.std.proofs.Common.{◌≤◌, arith}
 use Rattle.it_issued.specs.IssueMisses.{issue_place}
 use Rattle.it_issued.specs.LogMisses.{log_place}
 use Rattle.it_issued.specs.declared.shortfall.IssueShortfall.{IssueShortfall}

@@ -1,5 +1,5 @@
 -- How far a leaf comes by entries, step by step. Nothing here is trusted.
-use Rattle.std.specs.Prelude.{◌≡◌, ℕ, ◌+◌, ◌≤◌, Bool, List, All, Any, Contains}
+use Rattle.std.specs.Prelude.{◌≡◌, ℕ, ◌+◌, ◌≤◌, Bool, List, All, Any}
 use Rattle.it_bundle.specs.declared.bundle.SigstoreBundle.{SigstoreBundle}
 use Rattle.it_bundle.specs.declared.listed_entry.ListedEntry.{ListedEntry}
 use Rattle.it_bundle.specs.declared.listed_entry.ListedEntry.TheVariants.{Entry, Unreadable}

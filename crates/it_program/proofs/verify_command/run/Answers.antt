@@ -1,4 +1,4 @@
-use Rattle.std.proofs.Common.{◌≡◌, ◌≢◌, ◌∙◌, Err, IfOk, IsErrOf, Ok, Result, inl, inr, rules, sym}
+use Rattle.std.proofs.Common.{◌≡◌, ◌≢◌, ◌∙◌, Err, IfOk, IsErrOf, Ok, Result, inl, inr, sym}
 use Rattle.it_disk.specs.declared.fault.Fault.TheVariants.{Run}
 use Rattle.it_outcome.specs.declared.outcome.RunFault.TheVariants.{OutOfMemory, Write}
 use Rattle.it_program.specs.declared.spent.Spent.{Spent}

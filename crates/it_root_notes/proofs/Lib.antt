@@ -4,4 +4,5 @@ pub mod Once
 pub mod Standing
 pub mod Unread
 pub mod Used
+pub mod UsedAuthority
 pub mod Zipping

@@ -1,10 +1,11 @@
 -- What is said of the authorities of a trusted root (this project's words).
-use Rattle.std.specs.Prelude.{◌≡◌, ℕ, Option, Some, None, List, [], ◌++◌, codes, decimal}
-use Rattle.std.specs.List.{AllZip, enumerate_from, flat_map}
+use Rattle.std.specs.Prelude.{◌≡◌, ℕ, Bool, true, false, Option, Some, None, List, [], ◌++◌}
+use Rattle.std.specs.Prelude.{codes, decimal, if◌then◌else◌}
+use Rattle.std.specs.List.{AllZip, enumerate_from, flat_map, list_any}
 use Rattle.it_certificate.specs.declared.issuing.IssuingShortfall.{IssuingShortfall}
 use Rattle.it_certificate.specs.declared.issuing.IssuingShortfall.TheVariants as barred
 use Rattle.it_root_notes.specs.AuthorityMisses.{IsAuthorityShortfall}
-use Rattle.it_root_notes.specs.Front.{front_text}
+use Rattle.it_root_notes.specs.Front.{front_text, none_used_text}
 use Rattle.it_root_notes.specs.declared.shortfall.AuthorityShortfall.{AuthorityShortfall}
 use Rattle.it_root_notes.specs.declared.shortfall.AuthorityShortfall.TheVariants.{Unread, Chain}
 use Rattle.it_root_notes.specs.declared.shortfall.ChainShortfall.{ChainShortfall}
@@ -55,8 +56,20 @@ authority_text (place, Some missed) = unusable_text place missed
 abbrev pub authority_lines : List (Option AuthorityShortfall) → List ℕ
 authority_lines shortfalls = flat_map authority_text (enumerate_from 0 shortfalls)
 
--- the notes on the authorities of a trusted root: the lines on them, by what each of them misses
+-- an authority that misses nothing is used
+abbrev pub is_usable : Option AuthorityShortfall → Bool
+is_usable None = true
+is_usable (Some missed) = false
+
+-- the lines, and that no authority is used where that is so
+abbrev pub authority_notes : List (Option AuthorityShortfall) → List ℕ
+authority_notes shortfalls =
+    authority_lines shortfalls
+    ++ (if list_any is_usable shortfalls then []
+    else none_used_text (codes "certificateAuthorities"))
+
+-- the notes on the authorities of a trusted root, by what each of them misses
 pub record AreAuthorityNotes (root : TrustedRoot) (text : List ℕ) : Type 0 where
   pub shortfalls : List (Option AuthorityShortfall)
   pub are : AllZip IsAuthorityShortfall root.authorities shortfalls
-  pub text_is : text ≡ authority_lines shortfalls
+  pub text_is : text ≡ authority_notes shortfalls

@@ -9,7 +9,7 @@ use Rattle.it_trust_root.specs.declared.root_log.RootLog.TheVariants.{Usable, Pa
 use Rattle.it_trust_root.specs.declared.root_log.Unusable.{Unusable}
 use Rattle.it_trust_root.specs.declared.root_log.Unusable.TheVariants.{HashAlgorithm, KeyDetails}
 use Rattle.it_trust_root.specs.declared.root_log.Unusable.TheVariants.{IdLength}
-use Rattle.it_root_notes.specs.Front.{front_text}
+use Rattle.it_root_notes.specs.Front.{front_text, none_used_text}
 
 -- how many bytes
 abbrev pub bytes_text : ℕ → List ℕ
@@ -38,12 +38,6 @@ log_lines list logs = flat_map (log_text list) (enumerate_from 0 logs)
 abbrev pub is_used : RootLog → Bool
 is_used (Usable log) = true
 is_used (PassedOver reason) = false
-
--- none of the logs of a list is used
-abbrev pub none_used_text : List ℕ → List ℕ
-none_used_text list =
-    codes "the trusted root has no " ++ list
-    ++ codes " that are used, so no bundle vouches for anybody\n"
 
 -- the notes on a list of logs
 abbrev pub list_notes : List ℕ → List RootLog → List ℕ

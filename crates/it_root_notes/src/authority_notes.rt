@@ -1,18 +1,25 @@
 //! Notes on the authorities of a trusted root.
 ghost use Rattle.std.specs.Prelude.{◌≡◌, ◌≤◌, IfOk};
-ghost use Rattle.std.specs.List.{AllZip};
+ghost use Rattle.std.specs.List.{AllZip, list_any};
 ghost use Rattle.it_root_notes.specs.AuthorityMisses.{IsAuthorityShortfall};
-ghost use Rattle.it_root_notes.specs.AuthorityText.{AreAuthorityNotes, authority_lines};
+ghost use Rattle.it_root_notes.specs.AuthorityText.{
+  AreAuthorityNotes,
+  authority_lines,
+  authority_notes,
+  is_usable,
+};
 
 use crate::authority::authority_shortfall;
 use crate::authority_line::push_authority;
+use crate::front::push_none_used;
 use crate::shortfall::AuthorityShortfall;
 use it_budget::Budget;
 use it_trust_root::{Authority, TrustedRoot};
 use std::alloc::{AllocError, Global};
 
 /// The notes on the authorities of a trusted root: a line for each that cannot be used, with its
-/// place among them, from 0, and the first condition that it misses.
+/// place among them, from 0, and the first condition that it misses; and one that no bundle vouches
+/// for anybody where none of them can be used.
 ///
 /// # Errors
 ///
@@ -27,7 +34,7 @@ pub fn notes_on_authorities(
     ensures grows { budget.old.checked ≤ budget.new.checked }
 {
     let shortfalls = shortfalls_of(alloc, budget, root.authorities.as_slice())?;
-    let text = lines_of(alloc, shortfalls.as_slice())?;
+    let text = notes_of(alloc, shortfalls.as_slice())?;
     Ok(text)
 }
 
@@ -50,6 +57,17 @@ fn shortfalls_of(
     Ok(shortfalls)
 }
 
+/// A line for each that misses something, and one where each does.
+fn notes_of(alloc: Global, shortfalls: &[Option<AuthorityShortfall>]) -> Result<Vec<u8>, AllocError>
+    ensures { IfOk result (λ text. text.items ≡ authority_notes shortfalls.now) }
+{
+    let mut text = lines_of(alloc, shortfalls)?;
+    if !has_usable(shortfalls) {
+        push_none_used(&mut text, "certificateAuthorities")?;
+    }
+    Ok(text)
+}
+
 /// A line for each that misses something.
 fn lines_of(alloc: Global, shortfalls: &[Option<AuthorityShortfall>]) -> Result<Vec<u8>, AllocError>
     ensures { IfOk result (λ text. text.items ≡ authority_lines shortfalls.now) }
@@ -59,4 +77,16 @@ fn lines_of(alloc: Global, shortfalls: &[Option<AuthorityShortfall>]) -> Result<
         push_authority(&mut text, place, *missed)?;
     }
     Ok(text)
+}
+
+/// Whether one of them misses nothing.
+fn has_usable(shortfalls: &[Option<AuthorityShortfall>]) -> bool
+    ensures { result ≡ list_any is_usable shortfalls.now }
+{
+    for missed in shortfalls {
+        if missed.is_none() {
+            return true;
+        }
+    }
+    false
 }

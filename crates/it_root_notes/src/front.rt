@@ -1,6 +1,6 @@
-//! How the line of a note begins.
+//! How the line of a note begins, and the line on a whole list.
 ghost use Rattle.std.specs.Prelude.{◌≡◌, ◌++◌, OnOk};
-ghost use Rattle.it_root_notes.specs.Front.{front_text, place_text};
+ghost use Rattle.it_root_notes.specs.Front.{front_text, none_used_text, place_text};
 
 use std::alloc::AllocError;
 
@@ -21,4 +21,15 @@ fn push_place(text: &mut Vec<u8>, place: usize) -> Result<(), AllocError>
     let alloc = *text.allocator();
     let words = format!(in alloc; " {place} is not used: ")?;
     text.extend_from_slice(words.as_bytes())
+}
+
+/// Appends that nothing of a list of the trusted root is used.
+pub(crate) fn push_none_used(text: &mut Vec<u8>, list: &str) -> Result<(), AllocError>
+    ensures { OnOk result (text.new.items ≡ text.old.items ++ none_used_text list.now) }
+{
+    let alloc = *text.allocator();
+    let line = format!(in alloc;
+        "the trusted root has no {list} that are used, so no bundle vouches for anybody\n"
+    )?;
+    text.extend_from_slice(line.as_bytes())
 }

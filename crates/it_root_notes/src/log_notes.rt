@@ -1,14 +1,9 @@
 //! Notes on the logs of a trusted root.
 ghost use Rattle.std.specs.Prelude.{◌≡◌, ◌++◌, IfOk, OnOk};
 ghost use Rattle.std.specs.List.{list_any};
-ghost use Rattle.it_root_notes.specs.LogText.{
-  is_used,
-  list_notes,
-  log_lines,
-  log_notes,
-  none_used_text,
-};
+ghost use Rattle.it_root_notes.specs.LogText.{is_used, list_notes, log_lines, log_notes};
 
+use crate::front::push_none_used;
 use crate::log_line::push_log;
 use it_trust_root::{RootLog, TrustedRoot};
 use std::alloc::{AllocError, Global};
@@ -60,15 +55,4 @@ fn has_used(logs: &[RootLog]) -> bool
         }
     }
     false
-}
-
-/// Appends that none of the logs of a list is used.
-fn push_none_used(text: &mut Vec<u8>, list: &str) -> Result<(), AllocError>
-    ensures { OnOk result (text.new.items ≡ text.old.items ++ none_used_text list.now) }
-{
-    let alloc = *text.allocator();
-    let line = format!(in alloc;
-        "the trusted root has no {list} that are used, so no bundle vouches for anybody\n"
-    )?;
-    text.extend_from_slice(line.as_bytes())
 }

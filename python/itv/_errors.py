@@ -21,8 +21,9 @@ class Stopped(ItvError):
 class Found(Stopped):
     """A strict verification found something in a delivery that it would have accepted.
 
-    `findings` are what `verify` found, each a `Finding`; `notes` are those on links that are left
-    out. Where `run` is given other words than `--json=2`, the notes say what is found.
+    `findings` are what `verify` found, each a `Finding`; `notes` are those on what is left out and
+    on what of the trusted root is not used. Where `run` is given other words than `--json=2`, the
+    notes say what is found.
     """
 
     findings = ()

@@ -25,8 +25,9 @@ use std::io::Write;
 ///
 /// # Errors
 ///
-/// The fault of a file that cannot be read, or is not what its option asks for, and `Fault::Run`
-/// where the output could not be written, or memory was refused.
+/// The fault of a file that cannot be read, or is not what its option asks for,
+/// `Fault::TooManyChecks` with a trusted root, and `Fault::Run` where the output could not be
+/// written, or memory was refused.
 pub fn run<R: Disk + AllocGlobal, W: Write, N: Write>(
     rt: &R,
     words: &SignedWords,

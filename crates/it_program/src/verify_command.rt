@@ -27,11 +27,11 @@ use it_words::words::verify_words::VerifyWords;
 use std::alloc::Global;
 use std::io::Write;
 
-/// Reads all files and folders and the rings, notes what is left out and which logs of the trusted
-/// root are passed over, and writes the report of the verdict and then the notes on it. With
-/// `--strict` it stops where something is found in what it would accept: with `--json=2` that goes
-/// out, and otherwise its lines go to `notes`. With `--summary` the summary is written in place of
-/// a report that accepts, and a report that refuses goes to `notes`.
+/// Reads all files and folders and the rings, notes what is left out and what of the trusted root
+/// is not used, and writes the report of the verdict and then the notes on it. With `--strict` it
+/// stops where something is found in what it would accept: with `--json=2` that goes out, and
+/// otherwise its lines go to `notes`. With `--summary` the summary is written in place of a report
+/// that accepts, and a report that refuses goes to `notes`.
 pub(crate) fn run<R: Disk + AllocGlobal, W: Write, N: Write>(
     rt: &R,
     words: &VerifyWords,

@@ -38,7 +38,7 @@ def filling(line_at):
     lines, room = [], LIMIT - SPARE
     while True:
         line = line_at(len(lines))
-        room -= len(line) + 1
+        room -= len(line.encode()) + 1
         if room < 0:
             return lines
         lines.append(line)
@@ -90,19 +90,22 @@ def falsely_witnessed(number):
 
     Each signature has the log's hint, and the rest of the entry is good.
     """
-    return line_of(with_wrong_marks(public().bundle, number, "log.example.test"))
+    return line_of(with_wrong_marks(public().bundle, "log.example.test",
+                                    lambda place: wrong_signature(number * 64 + place)))
 
 
-def with_wrong_marks(made, number, name):
-    """A bundle with eight entries, each with eight wrong signatures on its checkpoint."""
+def with_wrong_marks(made, name, signature):
+    """A bundle with eight entries, each with eight wrong signatures on its checkpoint.
+
+    `signature` makes each of the 64 by its place.
+    """
     bundle = copy.deepcopy(made)
     material, hint = bundle["verificationMaterial"], public().sigstore.log.id[:4]
     (entry,) = material["tlogEntries"]
     text = entry["inclusionProof"]["checkpoint"]["envelope"].partition("\n\n")[0]
     material["tlogEntries"] = entries = [copy.deepcopy(entry) for _ in range(8)]
     for place, one in enumerate(entries):
-        marks = [base64_text(hint + wrong_signature(number * 64 + place * 8 + line))
-                 for line in range(8)]
+        marks = [base64_text(hint + signature(place * 8 + line)) for line in range(8)]
         one["inclusionProof"]["checkpoint"]["envelope"] = text + "\n\n" + "".join(
             f"\u2014 {name} {mark}\n" for mark in marks)
     return bundle
@@ -124,7 +127,7 @@ def shortest():
     """About the shortest bundle of which a checkpoint's signatures are looked at.
 
     Its certificate is a leaf, its entry has the log's id and is about its signature, and its
-    inclusion proof leads to its root.
+    inclusion proof leads to its root. Numbers that are 0 and lists that are empty are left out.
     """
     left_out = dict.fromkeys(["subject_key", "authority_key", "trigger"])
     made = private.Made(
@@ -136,12 +139,20 @@ def shortest():
         body={"edit": lambda body: body["spec"].pop("envelopeHash")},
         entry={"index": 0, "proof": {"size": 1, "checkpoint": {"origin": "a", "more": []}},
                "over": {"inclusionPromise": {"signedEntryTimestamp": "YQ=="}}})
+    (entry,) = made.bundle["verificationMaterial"]["tlogEntries"]
+    for part, name in ((entry, "logIndex"), (entry["inclusionProof"], "logIndex"),
+                       (entry["inclusionProof"], "hashes")):
+        del part[name]
     return made.bundle
 
 
-def shortly_witnessed(number):
-    """The shortest bundle with eight entries, each with eight wrong signatures on its checkpoint."""
-    return line_of(with_wrong_marks(shortest(), number, "a"))
+@functools.cache
+def shortly_witnessed(_):
+    """The shortest bundle with eight entries, each with eight wrong signatures on its checkpoint,
+    of numbers of one byte, which take as long to check as large ones."""
+    line = line_of(with_wrong_marks(
+        shortest(), "a", lambda place: private.signature_value(1 + place, 127)))
+    return line.replace("\\u2014", "\u2014")
 
 
 def wrong_signature(number):

@@ -58,11 +58,11 @@ def signer():
     return identity(public().identity, public().issuer)
 
 
-def flooded(line_at):
-    """Fills the provenance with lines in front of its own."""
+def flooded(line_at, count=None):
+    """Puts lines in front of those of the provenance: so many, or as many as a file may have."""
     def change(delivery):
         trusting(delivery, release=signer())
-        delivery.add_lines(filling(line_at))
+        delivery.add_lines(filling(line_at) if count is None else list(map(line_at, range(count))))
     return change
 
 
@@ -224,13 +224,17 @@ def many_authorities(count, length):
 FLOODS = [
     ("8 MiB of bundles that nobody signed", flooded(unsigned)),
     ("8 MiB of bundles of 8 x 8 wrong log signatures", flooded(falsely_witnessed)),
-    ("8 MiB of the shortest bundles of 8 x 8 wrong log signatures", flooded(shortly_witnessed)),
 ]
 INPUTS = [
     *FLOODS,
+    ("312 of the shortest bundles of 8 x 8 wrong log signatures", flooded(shortly_witnessed, 312)),
     ("one good public bundle repeated to 8 MiB", flooded(repeated)),
     ("an envelope of 50,000 signatures beside 400 bundles", beside_bundles(50_000, 400)),
     ("a trusted root of 64 authorities of 8 certificates", many_authorities(64, 8)),
 ]
-# Past the bound of checks for bundles there is no verdict.
-PAST_BOUND = [("8 MiB of 8 x 8 wrong log signatures, by 8 logs of one id", many_logs(8))]
+# Past the bound of 20,000 checks for bundles there is no verdict.
+PAST_BOUND = [
+    ("313 of the shortest bundles of 8 x 8 wrong log signatures", flooded(shortly_witnessed, 313)),
+    ("8 MiB of the shortest bundles of 8 x 8 wrong log signatures", flooded(shortly_witnessed)),
+    ("8 MiB of 8 x 8 wrong log signatures, by 8 logs of one id", many_logs(8)),
+]

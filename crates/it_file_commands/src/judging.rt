@@ -1,5 +1,5 @@
 //! Bundles that are judged, within a number of checks of signatures.
-ghost use Rattle.std.specs.Prelude.{◌≡◌, ◌⊎◌, Ok, IfErr, IfOk, IsErr};
+ghost use Rattle.std.specs.Prelude.{◌≡◌, Ok, IfErr, IfOk, IsErr, false, true};
 
 use it_disk::Fault;
 use it_outcome::RunFault;
@@ -11,11 +11,14 @@ use it_vouches::MOST_CHECKS;
 /// # Errors
 ///
 /// `Fault::TooManyChecks` where more signatures would have had to be checked than `MOST_CHECKS`,
-/// and `Fault::Run` where memory was refused.
+/// so that the budget is spent, and `Fault::Run` where memory was refused.
 pub fn judged_or_fault(counted: CountedLines) -> Result<JudgedLines, Fault>
     ensures judged { IfOk result (λ lines. counted.judged ≡ Ok lines) }
-    ensures refused { IfErr result (λ fault. IsErr counted.judged
-        × ((fault ≡ Fault.TooManyChecks 50000) ⊎ (fault ≡ Fault.Run RunFault.OutOfMemory))) }
+    ensures refused { IfErr result (λ _. IsErr counted.judged) }
+    ensures spent { IfErr result (λ fault. counted.budget.spent ≡ true
+        → fault ≡ Fault.TooManyChecks 20000) }
+    ensures memory { IfErr result (λ fault. counted.budget.spent ≡ false
+        → fault ≡ Fault.Run RunFault.OutOfMemory) }
 {
     let CountedLines { judged, budget } = counted;
     match judged {

@@ -18,13 +18,13 @@ use it_base::text::Text;
 use it_report::verdict::Verdict;
 use std::alloc::{AllocError, Global};
 
-/// Something that is found in a policy or a layout.
+/// Something that is found in a policy, a layout or a list of digests.
 #[derive(Drop)]
 pub struct ReportFinding {
-    /// The document: `policy` or `layout`.
+    /// The document: `policy`, `layout`, or `sums` and `sums512` for the lists of digests.
     pub document: Text,
     /// The sublayouts down to the layout that it is in, the outermost first, as a refusal has them.
-    /// Empty for a policy and for the outermost layout.
+    /// Empty for every other document, and for the outermost layout.
     pub at: Sequence<(Text, Text)>,
     /// The name of the finding.
     pub name: Text,

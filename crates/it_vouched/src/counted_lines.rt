@@ -29,8 +29,8 @@ impl CountedLines {
             (λ lines. AreVouched root.now (lines_of provenance.now) lines.vouched) }
         ensures silent { IfOk result.judged
             (λ lines. AreSilent root.now (lines_of provenance.now) lines.silent) }
-        ensures most { result.budget.most ≡ 50_000 }
-        ensures checked { result.budget.checked ≤ 50_000 }
+        ensures most { result.budget.most ≡ 20_000 }
+        ensures checked { result.budget.checked ≤ 20_000 }
     {
         let mut budget = whole_budget();
         let judged = judged_of(alloc, &mut budget, root, provenance);
@@ -44,8 +44,8 @@ impl CountedLines {
             (λ lines. AreVouched root.now (bytes.now ∷ []) lines.vouched) }
         ensures silent { IfOk result.judged
             (λ lines. AreSilent root.now (bytes.now ∷ []) lines.silent) }
-        ensures most { result.budget.most ≡ 50_000 }
-        ensures checked { result.budget.checked ≤ 50_000 }
+        ensures most { result.budget.most ≡ 20_000 }
+        ensures checked { result.budget.checked ≤ 20_000 }
     {
         let mut budget = whole_budget();
         let judged = judged_of_one(alloc, &mut budget, root, bytes);
@@ -55,7 +55,7 @@ impl CountedLines {
 
 /// The budget of a run, of which nothing is taken.
 fn whole_budget() -> Budget
-    ensures most { result.most ≡ 50_000 }
+    ensures most { result.most ≡ 20_000 }
     ensures none { result.checked ≡ 0 }
 {
     Budget::new(MOST_CHECKS)

@@ -19,7 +19,7 @@ use std::marker::Model;
 /// How many signatures a run checks with a trusted root at most: for all bundles, and for the
 /// certificates of its authorities. Of a public bundle that vouches they are five: it has one
 /// entry, with one signature line.
-pub const MOST_CHECKS: u64 = 50_000;
+pub const MOST_CHECKS: u64 = 20_000;
 
 /// A trusted root, with those of its authorities that can be used: their certificates are read and
 /// their signatures checked once, whatever number of bundles is looked at. To a contract it is the

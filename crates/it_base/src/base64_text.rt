@@ -57,28 +57,28 @@ fn standard_text(alloc: Global, bytes: &[u8]) -> Result<String, AllocError>
     STANDARD.encode(alloc, bytes)
 }
 
-fn base64_bytes(alloc: Global, value: &Value) -> Result<Option<Sequence<u8>>, AllocError>
+/// The bytes that a value encodes, or `None` where it is not text, or is not base64 with padding
+/// (RFC 4648 sections 4 and 5).
+///
+/// # Errors
+///
+/// `AllocError` where memory was refused.
+pub fn base64_bytes(alloc: Global, value: &Value) -> Result<Option<Sequence<u8>>, AllocError>
     ensures { IfOk result (Finds (IsBase64 (view value.now))) }
 {
     match value.as_str() {
         None => Ok(None),
-        Some(text) => decode(alloc, text),
+        Some(text) => decode_base64(alloc, text.as_bytes()),
     }
 }
 
-/// Whether a text has a mark of the URL-safe alphabet. It reads every byte instead of stopping at
-/// the first mark, so that many bytes can be checked at once.
-fn has_url_mark(text: &str) -> bool
-    ensures { result ≡ list_any is_url_mark text.now }
-{
-    let mut found = false;
-    for byte in text.as_bytes() {
-        found |= (*byte == b'-') | (*byte == b'_');
-    }
-    found
-}
-
-fn decode(alloc: Global, text: &str) -> Result<Option<Sequence<u8>>, AllocError>
+/// The bytes that a text encodes with padding, or `None` where it is not base64. One mark of the
+/// alphabet for URLs (RFC 4648 section 5) selects that for the whole text.
+///
+/// # Errors
+///
+/// `AllocError` where memory was refused.
+pub fn decode_base64(alloc: Global, text: &[u8]) -> Result<Option<Sequence<u8>>, AllocError>
     ensures { IfOk result (λ found. found ≡ base64_decoded text.now) }
 {
     if has_url_mark(text) {
@@ -88,16 +88,34 @@ fn decode(alloc: Global, text: &str) -> Result<Option<Sequence<u8>>, AllocError>
     }
 }
 
-fn decode_url_safe(alloc: Global, text: &str) -> Result<Option<Sequence<u8>>, AllocError>
-    ensures { IfOk result (λ found. found ≡ decoded_of url_safe text.now) }
+/// Whether a text has a mark of the URL-safe alphabet. It reads every byte instead of stopping at
+/// the first mark, so that many bytes can be checked at once.
+fn has_url_mark(text: &[u8]) -> bool
+    ensures { result ≡ list_any is_url_mark text.now }
 {
-    settled(url_safe_outcome(alloc, text.as_bytes()))
+    let mut found = false;
+    for byte in text {
+        found |= (*byte == b'-') | (*byte == b'_');
+    }
+    found
 }
 
-fn decode_standard(alloc: Global, text: &str) -> Result<Option<Sequence<u8>>, AllocError>
+fn decode_url_safe(alloc: Global, text: &[u8]) -> Result<Option<Sequence<u8>>, AllocError>
+    ensures { IfOk result (λ found. found ≡ decoded_of url_safe text.now) }
+{
+    settled(url_safe_outcome(alloc, text))
+}
+
+/// The bytes that a text encodes in the standard alphabet with padding (RFC 4648 section 4), or
+/// `None` where it encodes none.
+///
+/// # Errors
+///
+/// `AllocError` where memory was refused.
+pub fn decode_standard(alloc: Global, text: &[u8]) -> Result<Option<Sequence<u8>>, AllocError>
     ensures { IfOk result (λ found. found ≡ decoded_of standard text.now) }
 {
-    settled(standard_outcome(alloc, text.as_bytes()))
+    settled(standard_outcome(alloc, text))
 }
 
 #[tactic(auto, unfolding(base64::specs::GeneralPurpose::decoded_of))]

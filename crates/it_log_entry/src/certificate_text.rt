@@ -11,8 +11,7 @@ ghost use Rattle.it_pem.specs.PublicKeyText.{is_body_line};
 ghost use Rattle.it_log_entry.specs.CertificateText.{IsCertificateText, IsEncodedCertificate};
 ghost use Rattle.it_log_entry.specs.inside.Lines.{IsBetweenMarks, IsCertificateOf, texts_of};
 
-use crate::base64_bytes::standard_decoded;
-use it_base::base64_text::base64_part;
+use it_base::base64_text::{base64_part, decode_standard};
 use serde_json::Value;
 use std::alloc::{AllocError, Global};
 use std::str;
@@ -120,7 +119,7 @@ fn join(alloc: Global, lines: &[&str]) -> Result<Vec<u8>, AllocError>
 fn encodes(alloc: Global, text: &[u8], bytes: &[u8]) -> Result<bool, AllocError>
     ensures { IfOk result (λ is. IsTrue is ↔ (decoded_of standard text.now ≡ Some bytes.now)) }
 {
-    match standard_decoded(alloc, text)? {
+    match decode_standard(alloc, text)? {
         Some(found) => Ok(found.as_slice() == bytes),
         None => Ok(false),
     }

@@ -5,8 +5,7 @@ ghost use Rattle.it_base.specs.Base64Text.{IsBase64, base64_decoded};
 ghost use Rattle.it_base.specs.Parts.{IsPart};
 ghost use Rattle.it_log_entry.specs.IntotoBody.{IsTwiceBase64};
 
-use crate::base64_bytes::decoded;
-use it_base::base64_text::base64_part;
+use it_base::base64_text::{base64_part, decode_base64};
 use serde_json::Value;
 use std::alloc::{AllocError, Global};
 
@@ -46,7 +45,7 @@ pub(crate) fn has_twice_encoded(
 fn encodes(alloc: Global, text: &[u8], bytes: &[u8]) -> Result<bool, AllocError>
     ensures { IfOk result (λ is. IsTrue is ↔ (base64_decoded text.now ≡ Some bytes.now)) }
 {
-    match decoded(alloc, text)? {
+    match decode_base64(alloc, text)? {
         Some(found) => Ok(found.as_slice() == bytes),
         None => Ok(false),
     }

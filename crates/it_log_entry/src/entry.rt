@@ -1,6 +1,7 @@
 //! Entries.
 ghost use Rattle.std.specs.Prelude.{◌<◌, IfOk, codes};
 ghost use Rattle.serde_json.specs.View.{view};
+ghost use Rattle.it_base.specs.Base64Text.{IsBase64};
 ghost use Rattle.it_base.specs.Document.{member_at};
 ghost use Rattle.it_base.specs.Finds.{Finds};
 ghost use Rattle.it_base.specs.Parts.{IsPart};
@@ -9,7 +10,6 @@ ghost use Rattle.it_log_entry.specs.InclusionProof.{IsInclusionProof};
 ghost use Rattle.it_log_entry.specs.LogEntry.{IsLogEntry};
 ghost use Rattle.it_log_entry.specs.Number.{IsNumber};
 
-use crate::base64_bytes::base64_below;
 use crate::inclusion_proof::InclusionProof;
 use crate::kind::EntryKind;
 use crate::number::Number;
@@ -101,5 +101,20 @@ fn proof_of(alloc: Global, value: &Value) -> Result<Option<Option<InclusionProof
     match InclusionProof::from_document(alloc, found)? {
         Some(proof) => Ok(Some(Some(proof))),
         None => Ok(None),
+    }
+}
+
+/// The bytes that a member of a member encodes; `None` where there is none, or it is not base64.
+fn base64_below(
+    alloc: Global,
+    value: &Value,
+    outer: &str,
+    inner: &str,
+) -> Result<Option<Sequence<u8>>, AllocError>
+    ensures { IfOk result (Finds (IsPart (IsPart IsBase64 inner.now) outer.now (view value.now))) }
+{
+    match member(value, outer) {
+        None => Ok(None),
+        Some(found) => base64_part(alloc, found, inner),
     }
 }

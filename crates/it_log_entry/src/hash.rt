@@ -6,7 +6,7 @@ ghost use Rattle.it_base.specs.Parts.{IsPart};
 ghost use Rattle.it_base.specs.Sequence.{AreEach, IsList};
 ghost use Rattle.it_log_entry.specs.InclusionProof.{IsHash};
 
-use crate::base64_bytes::base64_bytes;
+use it_base::base64_text::base64_bytes;
 use it_base::document::member;
 use it_base::sequence::Sequence;
 use serde_json::Value;

@@ -3,7 +3,6 @@
 #![tactic(auto)]
 
 mod agreement;
-mod base64_bytes;
 mod body_parts;
 mod body_shortfall;
 mod certificate_text;

@@ -5,7 +5,7 @@ ghost use Rattle.it_base.specs.Finds.{Finds, FindsAs};
 ghost use Rattle.it_log_entry.specs.Note.{IsNamed, IsSignatureLine, signature_mark};
 ghost use Rattle.it_log_entry.specs.inside.Lines.{AreSignatures, texts_of};
 
-use crate::base64_bytes::standard_decoded;
+use it_base::base64_text::decode_standard;
 use it_base::sequence::Sequence;
 use std::alloc::{AllocError, Global};
 
@@ -61,7 +61,7 @@ fn signature_in(alloc: Global, line: &[u8]) -> Result<Option<Sequence<u8>>, Allo
     let Some((_, encoded)) = cut_after_name(named) else {
         return Ok(None);
     };
-    let Some(signature) = standard_decoded(alloc, encoded)? else {
+    let Some(signature) = decode_standard(alloc, encoded)? else {
         return Ok(None);
     };
     if signature.as_slice().len() < FEWEST_BYTES {

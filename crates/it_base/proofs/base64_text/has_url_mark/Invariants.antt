@@ -4,4 +4,4 @@ use Rattle.it_base.specs.Base64Text.{is_url_mark}
 use Rattle.it_base.proofs.base64_text.has_url_mark.Given as goal
 
 abbrev pub invariant-loop-byte : goal.invariant-loop-byte
-invariant-loop-byte l = l.found ≡ list_any is_url_mark (take l.byte-index l.byte-items)
+invariant-loop-byte l = l.found ≡ list_any is_url_mark (take l.byte-index l.text)

@@ -1,5 +1,5 @@
 use Rattle.it_base.specs.Base64Text.{base64_decoded}
-use Rattle.it_base.proofs.base64_text.decode.Goals as goal
+use Rattle.it_base.proofs.base64_text.decode_base64.Goals as goal
 
 pub returns-then-has_url_mark : goal.returns-then-has_url_mark
 unfolding base64_decoded

@@ -14,9 +14,9 @@ use crate::made_signature::MadeSignature;
 use crate::rsa_form::form_flaw;
 use crate::signer::is_valid_for;
 use crate::two_numbers::signature_form;
-use base64::DecodeAllocError;
-use base64::engine::general_purpose::STANDARD;
 use hex::FromHexError;
+use it_base::base64_text::decode_standard;
+use it_base::sequence::Sequence;
 use it_dsse::key_object::KeyObject;
 use it_dsse::pae;
 use it_dsse::payload_type::IN_TOTO;
@@ -143,17 +143,11 @@ fn without_space(alloc: Global, text: &[u8]) -> Result<Vec<u8>, AllocError>
 }
 
 /// The bytes of a base64 text, whatever white space is in it.
-#[tactic(auto, unfolding(base64::specs::GeneralPurpose::decoded_of))]
-fn base64_bytes(alloc: Global, text: &[u8]) -> Result<Option<Vec<u8>>, AllocError>
-    ensures { IfOk result (λ found. IfSome found
-        (λ bytes. decoded_of standard (without_space text.now) ≡ Some bytes.items)) }
+fn base64_bytes(alloc: Global, text: &[u8]) -> Result<Option<Sequence<u8>>, AllocError>
+    ensures { IfOk result (λ found. found ≡ decoded_of standard (without_space text.now)) }
 {
     let digits = without_space(alloc, text)?;
-    match STANDARD.decode(alloc, digits.as_slice()) {
-        Ok(bytes) => Ok(Some(bytes)),
-        Err(DecodeAllocError::OutOfMemory) => Err(AllocError),
-        Err(DecodeAllocError::DecodeError(_)) => Ok(None),
-    }
+    decode_standard(alloc, digits.as_slice())
 }
 
 /// The bytes of a hexadecimal text, whatever white space is in it.

@@ -87,8 +87,8 @@ impl PublicKey {
     }
 }
 
-/// The number of at most four bytes.
-fn exponent_number(bytes: &[u8]) -> u32
+/// The number of at most four bytes, the first of which counts most.
+pub fn exponent_number(bytes: &[u8]) -> u32
     requires { length bytes.now ≤ 4 }
     ensures { result ≡ big bytes.now }
 {

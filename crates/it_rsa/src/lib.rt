@@ -19,7 +19,8 @@ mod mask;
 mod signature;
 
 pub use digest::message_digest;
-pub use key::PublicKey;
+pub use key::{PublicKey, exponent_number};
+pub use mask::unmask;
 pub use signature::{is_signature, is_signature_of_digest};
 
 /// The most bytes that a modulus, and so a signature, may have.

@@ -24,8 +24,8 @@ fn mask_block(seed: &[u8], counter: u8) -> [u8; 32]
     digest_of_parts(seed, &bytes)
 }
 
-/// Applies the mask of a seed, or removes it.
-pub(crate) fn unmask(bytes: &mut [u8], seed: &[u8])
+/// Applies the mask of a seed to at most 512 bytes, or removes it. Takes no memory.
+pub fn unmask(bytes: &mut [u8], seed: &[u8])
     requires { length bytes.old ≤ 512 }
     ensures { bytes.new ≡ xored bytes.old (mgf1 seed.now (length bytes.old)) }
 {

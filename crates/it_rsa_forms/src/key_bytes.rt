@@ -1,9 +1,9 @@
 //! The numbers of a key, at their places in its SubjectPublicKeyInfo.
-ghost use Rattle.std.specs.Prelude.{◌≡◌, ◌≤◌, ℕ, length};
-ghost use Rattle.it_numbers.specs.Bytes.{big};
+ghost use Rattle.std.specs.Prelude.{◌≡◌, length};
 ghost use Rattle.it_rsa.specs.Key.{Key};
 ghost use Rattle.it_rsa_forms.specs.Info.{IsInfoOf};
 
+use it_rsa::exponent_number;
 use it_rsa_number::modulus::Modulus;
 
 /// How many bytes come before those of the modulus.
@@ -30,17 +30,5 @@ pub(crate) fn exponent_in(info: &[u8], size: usize) -> u32
     requires { (key : Key) × IsInfoOf info.now key × (size ≡ length key.modulus) }
     ensures { (key : Key) → IsInfoOf info.now key → result ≡ key.exponent }
 {
-    number_of(&info[HEAD_SIZE + size + 2..])
-}
-
-/// The number of at most four bytes.
-fn number_of(bytes: &[u8]) -> u32
-    requires { length bytes.now ≤ 4 }
-    ensures { result ≡ big bytes.now }
-{
-    let mut number: u64 = 0;
-    for i in 0..bytes.len() {
-        number = 256 * number + bytes[i] as u64;
-    }
-    number as u32
+    exponent_number(&info[HEAD_SIZE + size + 2..])
 }

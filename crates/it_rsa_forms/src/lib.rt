@@ -11,7 +11,6 @@
 mod encoded_message;
 mod key_bytes;
 pub mod laws;
-mod mask;
 mod pkcs1;
 mod pss;
 

@@ -8,8 +8,7 @@ ghost use Rattle.it_rsa_forms.specs.Info.{IsInfoOf};
 ghost use Rattle.it_rsa_forms.specs.Pss.{IsEncodedOfSalt, IsOpenedOfSalt, IsPssOfSalt};
 
 use crate::encoded_message::encoded_message;
-use crate::mask::unmask;
-use it_rsa::message_digest;
+use it_rsa::{message_digest, unmask};
 use std::alloc::{AllocError, Global};
 
 /// The last byte of an encoded message.

@@ -4,6 +4,7 @@ ghost use Rattle.std.specs.Option.{IfSome};
 ghost use Rattle.it_library.specs.Handed.{AreEnded};
 ghost use Rattle.it_library.specs.inside.Cuts.{IsFirst};
 
+use memchr::memchr;
 use std::alloc::{AllocError, Global};
 
 /// The texts, or `None` where the last is not ended.
@@ -30,6 +31,6 @@ pub(crate) fn texts_in<'a>(
 fn first_in(bytes: &[u8]) -> Option<(&[u8], &[u8])>
     ensures { IfSome result (λ parts. IsFirst bytes.now parts.0.now parts.1.now) }
 {
-    let end = bytes.iter().position(|byte| *byte == 0)?;
+    let end = memchr(0, bytes)?;
     Some((&bytes[..end], &bytes[end + 1..]))
 }

@@ -43,7 +43,7 @@ fn next_path<'a>(alloc: Global, paths: &[&str], file: &File<'a>) -> Result<&'a s
 
 /// Whether a path has a part without a byte.
 fn has_empty_part(path: &str) -> bool {
-    path.is_empty() || path.starts_with('/') || path.ends_with('/') || path.contains("//")
+    path.split('/').any(str::is_empty)
 }
 
 /// What the paths below a folder begin with: its own path and a slash.

@@ -85,6 +85,11 @@ def repeated(_):
     return line_of(public().bundle)
 
 
+def respaced(number):
+    """The public bundle, before blanks that no other number has."""
+    return repeated(number) + format(number, "b").replace("0", " ").replace("1", "\t")
+
+
 def falsely_witnessed(number):
     """The public bundle with eight entries, each with eight wrong signatures on its checkpoint.
 
@@ -146,12 +151,12 @@ def shortest():
     return made.bundle
 
 
-@functools.cache
-def shortly_witnessed(_):
+def shortly_witnessed(number):
     """The shortest bundle with eight entries, each with eight wrong signatures on its checkpoint,
     of numbers of one byte, which take as long to check as large ones."""
+    first, second = divmod(number, 127)
     line = line_of(with_wrong_marks(
-        shortest(), "a", lambda place: private.signature_value(1 + place, 127)))
+        shortest(), "a", lambda place: private.signature_value(1 + first + place, 1 + second)))
     return line.replace("\\u2014", "\u2014")
 
 
@@ -229,6 +234,7 @@ INPUTS = [
     *FLOODS,
     ("312 of the shortest bundles of 8 x 8 wrong log signatures", flooded(shortly_witnessed, 312)),
     ("one good public bundle repeated to 8 MiB", flooded(repeated)),
+    ("one good public bundle to 8 MiB, with other blanks each time", flooded(respaced)),
     ("an envelope of 50,000 signatures beside 400 bundles", beside_bundles(50_000, 400)),
     ("a trusted root of 64 authorities of 8 certificates", many_authorities(64, 8)),
 ]

@@ -6,7 +6,7 @@ use Rattle.it_numbers.specs.Modular.{power_mod}
 use Rattle.it_ecdsa_der.specs.Der.{IsSignatureValue}
 use Rattle.it_p384_order.specs.Order.{group_order}
 use Rattle.it_p384_point.specs.declared.point.Point.{Point}
-use Rattle.it_p384_point.specs.Points.{affine, base, sum_of, multiple_of, first_coordinate}
+use Rattle.it_p384_point.specs.Points.{affine, base, sum_of_multiples, first_coordinate}
 use Rattle.it_p384.specs.Key.{Key}
 
 -- one of the two numbers of a signature (step 1)
@@ -19,9 +19,8 @@ pub record IsInRange (n : ℕ) : Type 0 where
 unfoldable pub combination_of : Key → ℕ → ℕ → ℕ → Point
 combination_of key e r s =
     let inverse = power_mod s (group_order - 2) group_order in
-    sum_of
-    (multiple_of 384 ((e * inverse) % group_order) base)
-    (multiple_of 384 ((r * inverse) % group_order) (affine key.x key.y))
+    sum_of_multiples 384 ((e * inverse) % group_order) ((r * inverse) % group_order) base
+    (affine key.x key.y)
 
 -- that point is not infinity, and its first coordinate is r modulo the order (steps 6 to 8)
 pub record Agrees (key : Key) (e r s : ℕ) : Type 0 where

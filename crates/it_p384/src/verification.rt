@@ -51,7 +51,5 @@ fn combination(key: &PublicKey, e: &[u64; 6], r: &[u64; 6], s: &[u64; 6]) -> Poi
     let inverse = Scalar::from_limbs(s).inverse();
     let first = Scalar::from_limbs(e).multiply(&inverse).to_limbs();
     let second = Scalar::from_limbs(r).multiply(&inverse).to_limbs();
-    Point::base()
-        .multiply(&first)
-        .add(&key.point().multiply(&second))
+    Point::base().sum_of_multiples(&first, &key.point(), &second)
 }

@@ -1,44 +1,47 @@
 -- Steps of double and add.
-use Rattle.std.proofs.Common.{◌≡◌, ℕ, suc, ◌+◌, ◌-◌, ◌/◌, ◌^◌, ◌<◌, if◌then◌else◌, Bool, true, false, sym, ap, ◌∙◌, arith}
+use Rattle.std.proofs.Common.{◌≡◌, ℕ, suc, ◌+◌, ◌-◌, ◌/◌, ◌^◌, ◌<◌, Bool, sym, ap, ◌∙◌, arith, refl}
 use Rattle.it_numbers.specs.Modular.{is_odd}
 use Rattle.it_numbers.proofs.Bits.{place_more}
 use Rattle.it_p384_point.specs.declared.point.Point.{Point}
-use Rattle.it_p384_point.specs.Points.{infinity, sum_of, double_of, multiple_of}
+use Rattle.it_p384_point.specs.Points.{added_by, infinity, double_of, sum_of_multiples}
 
-one_bit : (bits n : ℕ) (p : Point) (t : Bool) → is_odd n ≡ t
-    → multiple_of (suc bits) n p
-    ≡ (if t then sum_of (double_of (multiple_of bits (n / 2) p)) p else double_of (multiple_of bits (n / 2) p))
-unfolding multiple_of
-one_bit bits n p t e =
-    ap (λ (v : Bool). if v then sum_of (double_of (multiple_of bits (n / 2) p)) p else double_of (multiple_of bits (n / 2) p)) e
+module _ (p q : Point) where
+  one_bit : (bits n m : ℕ) → sum_of_multiples (suc bits) n m p q
+      ≡ added_by (is_odd n) (is_odd m) p q (double_of (sum_of_multiples bits (n / 2) (m / 2) p q))
+  unfolding sum_of_multiples
+  one_bit bits n m = refl
 
-moved : (n i : ℕ) (p r : Point) → i < 384 → r ≡ multiple_of i (n / 2 ^ (384 - i)) p → r ≡ multiple_of i (n / 2 ^ (383 - i) / 2) p
-moved n i p r below e = e ∙ ap (λ (k : ℕ). multiple_of i k p) (place_more 384 n i below)
+  -- the sum over the bits above those at a place
+  abbrev sum_above : ℕ → ℕ → ℕ → Point
+  sum_above n m i = sum_of_multiples i (n / 2 ^ (384 - i)) (m / 2 ^ (384 - i)) p q
 
-pub odd_place : (n i : ℕ) (p r s u : Point) (t : Bool) → i < 384 → t ≡ is_odd (n / 2 ^ (383 - i)) → t ≡ true
-    → r ≡ multiple_of i (n / 2 ^ (384 - i)) p → s ≡ double_of r → u ≡ sum_of s p
-    → u ≡ multiple_of (i + 1) (n / 2 ^ (384 - (i + 1))) p
-odd_place n i p r s u t below test h e f g =
-    let to : 384 - (i + 1) ≡ 383 - i = omega arith in
-    let up : i + 1 ≡ suc i = omega arith in
-    rw (to, up) (g ∙ ap (λ (q : Point). sum_of q p) (f ∙ ap double_of (moved n i p r below e))
-    ∙ sym (one_bit i (n / 2 ^ (383 - i)) p true (sym test ∙ h)))
+  moved : (n m i : ℕ) → i < 384
+      → sum_above n m i ≡ sum_of_multiples i (n / 2 ^ (383 - i) / 2) (m / 2 ^ (383 - i) / 2) p q
+  moved n m i below = ap (λ k. sum_of_multiples i k (m / 2 ^ (384 - i)) p q) (place_more 384 n i below)
+      ∙ ap (λ k. sum_of_multiples i (n / 2 ^ (383 - i) / 2) k p q) (place_more 384 m i below)
 
-pub even_place : (n i : ℕ) (p r s : Point) (t : Bool) → i < 384 → t ≡ is_odd (n / 2 ^ (383 - i)) → t ≡ false
-    → r ≡ multiple_of i (n / 2 ^ (384 - i)) p → s ≡ double_of r
-    → s ≡ multiple_of (i + 1) (n / 2 ^ (384 - (i + 1))) p
-even_place n i p r s t below test h e f =
-    let to : 384 - (i + 1) ≡ 383 - i = omega arith in
-    let up : i + 1 ≡ suc i = omega arith in
-    rw (to, up) (f ∙ ap double_of (moved n i p r below e)
-    ∙ sym (one_bit i (n / 2 ^ (383 - i)) p false (sym test ∙ h)))
+  pub next_place : (n m i : ℕ) (a b : Bool) (r s u : Point) → i < 384
+      → a ≡ is_odd (n / 2 ^ (383 - i)) → b ≡ is_odd (m / 2 ^ (383 - i))
+      → r ≡ sum_above n m i → s ≡ double_of r → u ≡ added_by a b p q s
+      → u ≡ sum_above n m (i + 1)
+  next_place n m i a b r s u below first second h f g =
+      let to : 384 - (i + 1) ≡ 383 - i = omega arith in
+      let up : i + 1 ≡ suc i = omega arith in
+      let twice = double_of (sum_of_multiples i (n / 2 ^ (383 - i) / 2) (m / 2 ^ (383 - i) / 2) p q) in
+      rw (to, up) (g ∙ ap (added_by a b p q) (f ∙ ap double_of (h ∙ moved n m i below))
+      ∙ ap (λ t. added_by t b p q twice) first
+      ∙ ap (λ t. added_by (is_odd (n / 2 ^ (383 - i))) t p q twice) second
+      ∙ sym (one_bit i (n / 2 ^ (383 - i)) (m / 2 ^ (383 - i))))
 
-pub no_place : (n : ℕ) (p r : Point) → r ≡ infinity → r ≡ multiple_of 0 (n / 2 ^ (384 - 0)) p
-unfolding multiple_of
-no_place n p r e = e
+  pub no_place : (n m : ℕ) (r : Point) → r ≡ infinity → r ≡ sum_above n m 0
+  unfolding sum_of_multiples
+  no_place n m r e = e
 
-pub all_places : (n i : ℕ) (p r : Point) → i ≡ 384 → r ≡ multiple_of i (n / 2 ^ (384 - i)) p → r ≡ multiple_of 384 n p
-all_places n i p r e h =
-    let at : 384 - i ≡ 0 = omega arith in
-    let whole : n / 2 ^ (384 - i) ≡ n = rw at (let one : n / 1 ≡ n = omega arith in one) in
-    h ∙ ap (λ (k : ℕ). multiple_of i k p) whole ∙ ap (λ (k : ℕ). multiple_of k n p) e
+  pub all_places : (n m i : ℕ) (r : Point) → i ≡ 384 → r ≡ sum_above n m i
+      → r ≡ sum_of_multiples 384 n m p q
+  all_places n m i r e h =
+      let at : 384 - i ≡ 0 = omega arith in
+      let whole : (k : ℕ) → k / 2 ^ (384 - i) ≡ k = λ k. rw at (let one : k / 1 ≡ k = omega arith in one) in
+      h ∙ ap (λ k. sum_of_multiples i k (m / 2 ^ (384 - i)) p q) (whole n)
+      ∙ ap (λ k. sum_of_multiples i n k p q) (whole m)
+      ∙ ap (λ k. sum_of_multiples k n m p q) e

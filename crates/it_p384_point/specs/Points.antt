@@ -1,6 +1,6 @@
 -- Points of P-384 in homogeneous coordinates: x / z and y / z are the coordinates, and z is 0 at
 -- infinity.
-use Rattle.std.specs.Prelude.{◌≡◌, ℕ, zero, suc, ◌-◌, ◌/◌, true, if◌then◌else◌, refl}
+use Rattle.std.specs.Prelude.{◌≡◌, ℕ, zero, suc, ◌-◌, ◌/◌, Bool, true, false, refl}
 use Rattle.it_numbers.specs.Modular.{is_odd, power_mod}
 use Rattle.it_p384_field.specs.Prime.{prime, plus_mod, minus_mod, times_mod}
 use Rattle.it_p384_point.specs.declared.point.Point.{Point}
@@ -80,12 +80,20 @@ double_of p =
       z = plus_mod w2 w2;
     }
 
--- n times a point, for a number n of so many bits, by double and add from the highest bit on
-unfoldable pub multiple_of : ℕ → ℕ → Point → Point
-multiple_of zero n p = infinity
-multiple_of (suc bits) n p =
-    let twice = double_of (multiple_of bits (n / 2) p) in
-    if is_odd n then sum_of twice p else twice
+-- a total, plus a point where the first bit is 1, and plus another where the second one is: plus
+-- their sum where both are
+abbrev pub added_by : Bool → Bool → Point → Point → Point → Point
+added_by true true p q total = sum_of total (sum_of p q)
+added_by true false p q total = sum_of total p
+added_by false true p q total = sum_of total q
+added_by false false p q total = total
+
+-- n times a point plus m times another, for numbers of so many bits, by double and add over the
+-- bits of both from the highest on
+unfoldable pub sum_of_multiples : ℕ → ℕ → ℕ → Point → Point → Point
+sum_of_multiples zero n m p q = infinity
+sum_of_multiples (suc bits) n m p q =
+    added_by (is_odd n) (is_odd m) p q (double_of (sum_of_multiples bits (n / 2) (m / 2) p q))
 
 -- the first coordinate x / z, of a point other than infinity: the inverse is a power, by Fermat's
 -- little theorem

@@ -4,7 +4,7 @@ ghost use Rattle.std.specs.Prelude.{◌≡◌, ◌+◌, ◌%◌, nat_eq};
 ghost use Rattle.it_limb_slices.specs.Limbs.{number_of};
 ghost use Rattle.it_p384_field.specs.Prime.{prime};
 ghost use Rattle.it_p384_point.specs.Points.{cross_of, infinity, affine, base, sum_of, double_of};
-ghost use Rattle.it_p384_point.specs.Points.{multiple_of, first_coordinate};
+ghost use Rattle.it_p384_point.specs.Points.{added_by, first_coordinate, sum_of_multiples};
 
 use crate::curve::curve_constant;
 use it_limb_slices::bit_at;
@@ -134,18 +134,48 @@ impl Point {
         }
     }
 
-    /// `n` times the point; `n` is in limbs, lowest first.
-    pub fn multiply(&self, n: &[u64; 6]) -> Point
-        ensures { result ≡ multiple_of 384 (number_of n.now) self.now }
+    /// `n` times the point plus `m` times the other, by double and add over the bits of both
+    /// numbers at once; the numbers are in limbs, lowest first.
+    pub fn sum_of_multiples(&self, n: &[u64; 6], other: &Point, m: &[u64; 6]) -> Point
+        ensures { result ≡ sum_of_multiples 384 (number_of n.now) (number_of m.now) self.now
+            other.now }
     {
+        let sums = Sums {
+            first: self,
+            second: other,
+            both: &self.add(other),
+        };
         let mut total = Point::infinity();
         for i in 0..384 {
-            total = total.double();
-            if bit_at(n, 383 - i) {
-                total = total.add(self);
-            }
+            let (first, second) = (bit_at(n, 383 - i), bit_at(m, 383 - i));
+            total = sums.added_to(total.double(), first, second);
         }
         total
+    }
+}
+
+/// Two points, and their sum.
+#[derive(Drop)]
+struct Sums<'a> {
+    first: &'a Point,
+    second: &'a Point,
+    both: &'a Point,
+}
+
+impl Sums<'_> {
+    /// The total, plus the first point where the first bit is 1, and plus the second where the
+    /// second one is.
+    #[inline(always)]
+    fn added_to(&self, total: Point, first: bool, second: bool) -> Point
+        requires { self.now.both.now ≡ sum_of self.now.first.now self.now.second.now }
+        ensures { result ≡ added_by first second self.now.first.now self.now.second.now total }
+    {
+        match (first, second) {
+            (true, true) => total.add(self.both),
+            (true, false) => total.add(self.first),
+            (false, true) => total.add(self.second),
+            (false, false) => total,
+        }
     }
 }
 

@@ -4,3 +4,4 @@ pub mod Line
 pub mod ObjectIdentity
 pub mod Silent
 pub mod SilentText
+pub mod inside

@@ -4,6 +4,7 @@ ghost use Rattle.it_digest.specs.Sums.{lines_of};
 ghost use Rattle.it_vouched.specs.Line.{AreVouched};
 ghost use Rattle.it_vouched.specs.Silent.{AreSilent};
 
+use crate::known_lines::KnownLines;
 use crate::silent_line::SilentLine;
 use crate::vouched::{Vouched, judged_line};
 use crate::vouched_lines::VouchedLines;
@@ -24,8 +25,8 @@ pub struct JudgedLines {
 }
 
 impl JudgedLines {
-    /// The lines of provenance, each judged once, by a trusted root. One that is no bundle is
-    /// passed over.
+    /// The lines of provenance, by a trusted root. A bundle that stands on several of them is
+    /// judged once, and a line that is no bundle is passed over.
     ///
     /// # Errors
     ///
@@ -104,11 +105,12 @@ fn judging_of(
     let mut all = Vec::new(alloc);
     let mut silent = Vec::new(alloc);
     let mut number = 0;
+    let mut known = KnownLines::new(alloc);
     let mut rest = provenance;
     while !rest.is_empty() {
         let (line, after) = split_line(rest);
         number += 1;
-        let judged = judged_line(alloc, budget, trust, line)?;
+        let judged = known.judged(alloc, budget, trust, line)?;
         push_some(&mut all, judged.vouched)?;
         push_some(&mut silent, silent_line(number, judged.shortfall))?;
         rest = after;

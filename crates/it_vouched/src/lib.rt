@@ -15,6 +15,7 @@ mod describing;
 mod identity_key;
 mod joining;
 mod judged_lines;
+mod known_lines;
 pub mod laws;
 mod silent_line;
 mod silent_notes;

@@ -28,6 +28,30 @@ pub struct Vouched {
     pub time: u64,
 }
 
+impl Vouched {
+    /// A copy, in memory from `alloc`.
+    fn copy(&self, alloc: Global) -> Result<Vouched, AllocError>
+        ensures { IfOk result (λ copy. copy ≡ self.now) }
+    {
+        let identity = Identity {
+            name: copied(alloc, &self.identity.name)?,
+            issuer: copied(alloc, &self.identity.issuer)?,
+        };
+        Ok(Vouched {
+            identity,
+            message: copied(alloc, &self.message)?,
+            signature: copied(alloc, &self.signature)?,
+            time: self.time,
+        })
+    }
+}
+
+fn copied(alloc: Global, bytes: &Sequence<u8>) -> Result<Sequence<u8>, AllocError>
+    ensures { IfOk result (λ copy. copy ≡ bytes.now) }
+{
+    Ok(Sequence::from(Vec::from_slice(alloc, bytes.as_slice())?))
+}
+
 /// What is judged of a line.
 #[derive(Drop)]
 pub(crate) struct LineJudged {
@@ -35,6 +59,22 @@ pub(crate) struct LineJudged {
     pub(crate) vouched: Option<Vouched>,
     /// The condition that it misses, where it is a bundle that vouches for nobody.
     pub(crate) shortfall: Option<Shortfall>,
+}
+
+impl LineJudged {
+    /// A copy, in memory from `alloc`.
+    pub(crate) fn copy(&self, alloc: Global) -> Result<LineJudged, AllocError>
+        ensures { IfOk result (λ copy. copy ≡ self.now) }
+    {
+        let vouched = match &self.vouched {
+            None => None,
+            Some(vouched) => Some(vouched.copy(alloc)?),
+        };
+        Ok(LineJudged {
+            vouched,
+            shortfall: self.shortfall,
+        })
+    }
 }
 
 /// What is judged of a line, by a trusted root.

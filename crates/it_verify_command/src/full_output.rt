@@ -7,13 +7,13 @@ ghost use Rattle.it_verify_command.specs.FullOutput.{without_feed};
 ghost use Rattle.it_notes.specs.Known.{IsTold};
 
 use crate::shown_findings::shown_in_documents;
+use crate::told_lines::told_lines;
 use crate::verification::Verification;
 use it_base::sequence::Sequence;
 use it_dsse::checks::Checks;
 use it_json_report::evidence::Evidence;
 use it_json_report::full::{Beside, ReportFinding, full_json_report};
 use it_notes::known::Told;
-use it_notes::notes::Notes;
 use it_report::verdict::Verdict;
 use std::alloc::{AllocError, Global};
 
@@ -73,9 +73,7 @@ fn notes<C: Checks>(
     ensures { IfOk result (λ lines. AreNotes (C.panel asked.now.checks.now)
         asked.now.inputs.now told.now.verdict lines.items) }
 {
-    let notes = Notes::of(alloc, asked.inputs, told, asked.checks)?;
-    let kept = notes.lines(alloc)?;
-    let lines = kept.into_lines()?;
+    let lines = told_lines(alloc, asked, told)?.into_lines()?;
     let mut texts = Vec::with_capacity(alloc, lines.len())?;
     for line in lines.as_slice() {
         texts.push(unended(alloc, line.as_slice())?)?;

@@ -14,6 +14,7 @@ mod strict_answer;
 pub mod strict_fault;
 mod summary_text;
 mod telling;
+mod told_lines;
 pub mod verification;
 pub mod verify_strictly;
 pub mod verify_with_notes;

@@ -3,19 +3,15 @@ ghost use Rattle.std.specs.Prelude.{◌≡◌, IfErr, IfOk};
 ghost use Rattle.std.specs.Io.KnownBytes.{Appends};
 ghost use Rattle.it_base.specs.Writing.{AppendsBeginning};
 ghost use Rattle.it_notes.specs.Known.{IsTold};
-ghost use Rattle.it_notes.specs.NoteLines.{note_lines};
-ghost use Rattle.it_notes.specs.Notes.{AreTrue};
-ghost use Rattle.it_notes.specs.ShownLines.{Hold};
 
 use crate::answer::Answer;
 use crate::signer_notes::note_signers;
+use crate::told_lines::told_lines;
 use crate::verification::Verification;
 use it_base::writing::write_all_of;
 use it_dsse::checks::Checks;
 use it_notes::found_in_documents::add_found;
 use it_notes::known::Told;
-use it_notes::lines::Lines;
-use it_notes::notes::Notes;
 use it_outcome::output::put;
 use it_outcome::{RunFault, Status};
 use std::alloc::{AllocError, Global};
@@ -80,18 +76,4 @@ fn notes_text<C: Checks>(
     let mut lines = told_lines(alloc, asked, told)?;
     add_found(&mut lines, told)?;
     lines.into_text()
-}
-
-/// The lines of the notes on what was told.
-fn told_lines<C: Checks>(
-    alloc: Global,
-    asked: &Verification<C>,
-    told: &Told,
-) -> Result<Lines, AllocError>
-    requires { IsTold (C.panel asked.now.checks.now) asked.now.inputs.now told.now }
-    ensures { IfOk result (λ lines. (notes : _) × AreTrue (C.panel asked.now.checks.now)
-        asked.now.inputs.now told.now.verdict notes × Hold lines (note_lines notes)) }
-{
-    let notes = Notes::of(alloc, asked.inputs, told, asked.checks)?;
-    notes.lines(alloc)
 }

@@ -9,15 +9,14 @@ pub returns : goal.returns
 returns g c =
     let lines = c.as_slice-line-items.result.now in
     let bytes = λ (line : Vec ℕ Global). line.items in
-    let notes = c.in_ok-notes.notes in
+    let told = c.in_ok-told_lines.ensures in
     record {
-      notes = notes;
-      are_true = c.in_ok-notes.ensures;
+      notes = told.notes;
+      are_true = told.are_true;
       lines_are = c.loop-line.invariant
           ∙ ap (map (λ (line : Vec ℕ Global). without_feed line.items))
           (take_all c.loop-line.line-index lines c.loop-line-test.false
           ∙ c.as_slice-line-items.ensures.value)
           ∙ sym (map-map without_feed bytes c.in_ok-lines.lines.items)
-          ∙ ap (map without_feed)
-          (c.in_ok-lines.ensures (note_lines notes) c.in_ok-kept.ensures);
+          ∙ ap (map without_feed) (c.in_ok-lines.ensures (note_lines told.notes) told.hold);
     }

@@ -48,7 +48,7 @@ pub fn body_in(alloc: Global, step: &str, payload: &[u8]) -> Result<Option<Body>
 pub fn link_in(alloc: Global, bytes: &[u8]) -> Result<Option<Link>, AllocError>
     ensures { IfOk result (Finds (LinkOf bytes.now)) }
 {
-    from_bytes(alloc, bytes)
+    it_borrowed::parts::from_bytes(alloc, bytes)
 }
 
 /// Reads a payload as a layout (in-toto 1.0 section 4.3), or `None` where it is not a layout.

@@ -1,6 +1,8 @@
 pub mod ArtifactsLemmas
 pub mod Decided
+mod DigitPairs
 pub mod ListedDecided
 pub mod ListedLemmas
+mod NumbersFound
 pub mod SumsDecided
 pub mod SumsLemmas

@@ -1,2 +1,3 @@
+pub mod DigitNumbers
 pub mod Rest
 pub mod SumLines

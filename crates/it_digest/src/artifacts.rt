@@ -11,9 +11,9 @@ ghost use Rattle.it_digest.specs.Digest.{IsDigestSet};
 ghost use Rattle.it_digest.specs.Listed.{AreTogether};
 
 use crate::compare::DigestSet;
-use it_base::parts::FromDocument;
 use it_base::table::Table;
-use serde_json::Value;
+use it_borrowed::parts::FromBorrowed;
+use json::Value;
 use std::alloc::{AllocError, Global};
 use std::collections::BTreeMap;
 use std::collections::btree_map::{Iter, Keys};
@@ -127,13 +127,13 @@ impl Artifacts {
     }
 }
 
-impl FromDocument for Artifacts {
+impl FromBorrowed for Artifacts {
     ghost is_of = { IsTable IsDigestSet };
 
     /// The artifacts of a JSON object from path to digest set (in-toto 1.0 section 4.4). A
     /// member whose value is null counts as missing.
-    fn from_document(alloc: Global, value: &Value) -> Result<Option<Artifacts>, AllocError> {
-        match Table::<DigestSet>::from_document(alloc, value)? {
+    fn from_borrowed(alloc: Global, value: &Value<'_>) -> Result<Option<Artifacts>, AllocError> {
+        match Table::<DigestSet>::from_borrowed(alloc, value)? {
             None => Ok(None),
             Some(by_path) => Ok(Some(Artifacts { by_path })),
         }

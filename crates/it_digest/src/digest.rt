@@ -5,6 +5,7 @@ ghost use Rattle.it_base.specs.Finds.{Finds};
 ghost use Rattle.it_digest.specs.Digest.{HasDigest, IsDigest, IsDigestSet};
 
 use crate::compare::DigestSet;
+use crate::digits::bytes_of;
 use it_base::document::member;
 use it_base::parts::FromDocument;
 use serde_json::Value;
@@ -42,12 +43,7 @@ fn digest_at<const N: usize>(value: &Value, name: &str) -> Option<Option<[u8; N]
 fn digest<const N: usize>(value: &Value) -> Option<[u8; N]>
     ensures { Finds (IsDigest N (view value.now)) result }
 {
-    let text = value.as_str()?;
-    let mut bytes = [0; N];
-    match hex::decode_to_slice(text, &mut bytes) {
-        Ok(()) => Some(bytes),
-        Err(_) => None,
-    }
+    bytes_of(value.as_str()?)
 }
 
 impl FromDocument for DigestSet {

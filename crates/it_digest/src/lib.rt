@@ -3,8 +3,10 @@
 #![tactic(auto)]
 
 pub mod artifacts;
+mod borrowed;
 pub mod compare;
 pub mod digest;
+mod digits;
 pub mod listed;
 pub mod reader;
 pub mod sums;

@@ -1,14 +1,14 @@
 //! Links: the materials and products of a step (in-toto 1.0 section 4.4).
 ghost use Rattle.std.specs.Prelude.{◌≡◌, ◌↔◌, IfOk, IsErrOf, IsTrue};
-ghost use Rattle.serde_json.specs.View.{view};
 ghost use Rattle.it_base.specs.Finds.{Finds};
 ghost use Rattle.it_docs.specs.Link.{IsLink, LinkOf};
 
 use crate::fault::DocumentFault;
-use it_base::parts::{FromDocument, from_bytes, part, part_or};
-use it_base::text::{Text, has_text};
+use it_base::text::Text;
+use it_borrowed::parts::{FromBorrowed, from_bytes, part, part_or};
+use it_borrowed::text::has_text;
 use it_digest::artifacts::Artifacts;
-use serde_json::Value;
+use json::Value;
 use std::alloc::{AllocError, Global};
 
 /// The materials and products of a step.
@@ -36,10 +36,10 @@ pub fn read_link(alloc: Global, bytes: &[u8]) -> Result<Link, DocumentFault>
     from_bytes::<Link>(alloc, bytes)?.ok_or(DocumentFault::BadDocument)
 }
 
-impl FromDocument for Link {
+impl FromBorrowed for Link {
     ghost is_of = { IsLink };
 
-    fn from_document(alloc: Global, value: &Value) -> Result<Option<Link>, AllocError> {
+    fn from_borrowed(alloc: Global, value: &Value<'_>) -> Result<Option<Link>, AllocError> {
         if !has_text(value, "_type", "link") {
             return Ok(None);
         }

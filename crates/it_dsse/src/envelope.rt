@@ -7,7 +7,7 @@ ghost use Rattle.it_dsse.specs.Envelope.{EnvelopeOf, IsEnvelope, IsSignature};
 ghost use Rattle.it_dsse.specs.Signed.{is_admitted};
 
 use it_base::base64_text::base64_part;
-use it_base::parts::{FromDocument, from_bytes, part, part_or};
+use it_base::parts::{FromDocument, part, part_or};
 use it_base::sequence::Sequence;
 use it_base::text::Text;
 use serde_json::Value;
@@ -73,7 +73,7 @@ impl Envelope {
         ensures bad { IsErrOf result EnvelopeFault.BadEnvelope
             → (envelope : _) → ¬ EnvelopeOf bytes.now envelope }
     {
-        from_bytes::<Envelope>(alloc, bytes)?.ok_or(EnvelopeFault::BadEnvelope)
+        it_borrowed::parts::from_bytes::<Envelope>(alloc, bytes)?.ok_or(EnvelopeFault::BadEnvelope)
     }
 
     /// The envelope of a body of type `kind`, such as `application/vnd.in-toto+json`, with one

@@ -2,6 +2,7 @@
 #![tactic(auto)]
 
 pub mod asked;
+mod borrowed;
 pub mod boxed;
 pub mod check;
 pub mod checks;

@@ -14,7 +14,7 @@ use it_base::sequence::Sequence;
 use it_base::table::Table;
 use it_base::text::Text;
 use it_base::tree::Members;
-use it_digest::artifacts::Artifacts;
+use it_digest::compare::DigestSet;
 use it_docs::moment::read_moment;
 use it_docs::policy::Builder;
 use it_dsse::envelope::Signature;
@@ -46,7 +46,7 @@ pub(crate) fn is_fit(alloc: Global, value: &Value, kind: Kind) -> Result<bool, A
         Kind::Base64 => Ok(is_text(value)),
         Kind::Signatures => reads::<Sequence<Signature>>(alloc, value),
         Kind::LinkWord => Ok(is_link_word(value)),
-        Kind::Artifacts => reads::<Artifacts>(alloc, value),
+        Kind::Artifacts => reads::<Table<DigestSet>>(alloc, value),
     }
 }
 

@@ -1,0 +1,5 @@
+mod Gathered
+mod Items
+mod Looked
+mod Ranges
+mod Trees

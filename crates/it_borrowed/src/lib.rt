@@ -1,0 +1,11 @@
+//! JSON documents as trees whose texts are borrowed from the bytes that they were read from:
+//! reading one, its members, and what they hold.
+#![tactic(auto)]
+
+pub mod base64_text;
+pub mod document;
+mod numbers;
+pub mod parts;
+mod sequence;
+mod table;
+pub mod text;

@@ -8,7 +8,7 @@ ghost use Rattle.it_chain.specs.inside.Candidates.{AreRead, IsCandidateAt};
 
 use crate::held_file::HeldFile;
 use it_base::optional::push_some;
-use it_base::parts::from_bytes;
+use it_borrowed::parts::from_bytes;
 use it_dsse::envelope::Envelope;
 use it_dsse::payload_type::IN_TOTO;
 use std::alloc::{AllocError, Global};

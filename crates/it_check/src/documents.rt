@@ -6,8 +6,8 @@ ghost use Rattle.it_check.specs.Documents.{IsBare, IsBareDocument, IsBodyReading
 ghost use Rattle.it_check.specs.Documents.{IsPolicyReading, ReadsAs, whole};
 
 use it_base::document::{member, read_document};
-use it_base::parts::from_bytes;
 use it_base::sequence::Sequence;
+use it_borrowed::parts::from_bytes;
 use it_docs::layout::Layout;
 use it_docs::layout_fault::LayoutFault;
 use it_docs::layout_reading::read_layout;

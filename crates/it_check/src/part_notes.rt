@@ -1,8 +1,8 @@
 //! What is wrong with documents that do not read, as notes.
 use crate::documents::{LayoutReading, PolicyReading, layout_given, policy_given};
 use crate::writing::{push_quoted, push_text};
-use it_base::parts::from_bytes;
 use it_base::sequence::Sequence;
+use it_borrowed::parts::from_bytes;
 use it_dsse::envelope::Envelope;
 use it_dsse::payload_type::IN_TOTO;
 use it_part_notes::envelope_part_note::envelope_part_note;

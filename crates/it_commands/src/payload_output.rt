@@ -6,7 +6,7 @@ ghost use Rattle.it_outcome.specs.Outcome.{IsOutputFault};
 ghost use Rattle.it_commands.specs.PayloadOutput.{IsPayloadOutput};
 
 use crate::no_envelope::no_envelope_output;
-use it_base::parts::from_bytes;
+use it_borrowed::parts::from_bytes;
 use it_dsse::envelope::Envelope;
 use it_outcome::output::{Output, put};
 use it_outcome::{RunFault, Status};

@@ -7,7 +7,7 @@ ghost use Rattle.it_dsse.specs.Envelope.{EnvelopeOf};
 ghost use Rattle.it_commands.specs.SignOntoOutput.{IsSignOntoFault, IsSignOntoOutput};
 
 use crate::sign_output::put_line;
-use it_base::parts::from_bytes;
+use it_borrowed::parts::from_bytes;
 use it_dsse::envelope::Envelope;
 use it_dsse::signing::{CountersignFault, NewSignature, countersign};
 use it_outcome::{RunFault, Status};

@@ -14,8 +14,8 @@ ghost use Rattle.it_commands.specs.SignedOutput.{
 };
 
 use crate::no_envelope::no_envelope_output;
-use it_base::parts::from_bytes;
 use it_base::text::Text;
+use it_borrowed::parts::from_bytes;
 use it_dsse::boxed::Boxed;
 use it_dsse::check::SignatureCheck;
 use it_dsse::checks::Checks;

@@ -9,8 +9,8 @@ ghost use Rattle.it_key_commands.specs.inside.BodyFaults.{IsBodyFault};
 
 use crate::fault::KeyFault;
 use crate::made_signature::MadeSignature;
-use it_base::parts::from_bytes;
 use it_base::table::Table;
+use it_borrowed::parts::from_bytes;
 use it_commands::put_line;
 use it_dsse::envelope::Envelope;
 use it_dsse::key_object::KeyObject;

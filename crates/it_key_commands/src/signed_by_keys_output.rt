@@ -8,8 +8,8 @@ ghost use Rattle.it_key_commands.specs.inside.SignerNames.{AreSignerNames};
 ghost use Rattle.it_outcome.specs.Outcome.{IsOutputFault};
 
 use crate::signer::is_signed_under;
-use it_base::parts::from_bytes;
 use it_base::table::Table;
+use it_borrowed::parts::from_bytes;
 use it_commands::{names_output, no_envelope_output};
 use it_dsse::envelope::{Envelope, Signature};
 use it_dsse::key_object::KeyObject;

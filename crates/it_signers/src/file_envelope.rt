@@ -3,7 +3,7 @@ ghost use Rattle.std.specs.Prelude.{IfOk};
 ghost use Rattle.it_base.specs.Finds.{Finds};
 ghost use Rattle.it_signers.specs.FileEnvelope.{HasEnvelope};
 
-use it_base::parts::from_bytes;
+use it_borrowed::parts::from_bytes;
 use it_bundle::{SigstoreBundle, read_bundle};
 use it_dsse::envelope::Envelope;
 use std::alloc::{AllocError, Global};

@@ -1,6 +1,6 @@
 //! Bundles.
 ghost use Rattle.std.specs.Prelude.{IfOk, codes};
-ghost use Rattle.serde_json.specs.View.{view};
+ghost use Rattle.it_borrowed.specs.Tree.{as_data};
 ghost use Rattle.it_base.specs.Document.{member_at};
 ghost use Rattle.it_base.specs.Finds.{Finds};
 ghost use Rattle.it_base.specs.Table.{Stands};
@@ -9,10 +9,10 @@ ghost use Rattle.it_bundle.specs.Material.{IsMaterial};
 
 use crate::material::{Material, material_of};
 use crate::version::BundleVersion;
-use it_base::document::member;
-use it_base::parts::{FromDocument, from_bytes, part};
+use it_borrowed::document::member;
+use it_borrowed::parts::{FromBorrowed, from_bytes, part};
 use it_dsse::envelope::Envelope;
-use serde_json::Value;
+use json::Value;
 use std::alloc::{AllocError, Global};
 
 /// A bundle: an envelope with proof of who signed it.
@@ -38,11 +38,14 @@ pub fn read_bundle(alloc: Global, bytes: &[u8]) -> Result<Option<SigstoreBundle>
     from_bytes::<SigstoreBundle>(alloc, bytes)
 }
 
-impl FromDocument for SigstoreBundle {
+impl FromBorrowed for SigstoreBundle {
     ghost is_of = { IsSigstoreBundle };
 
-    fn from_document(alloc: Global, value: &Value) -> Result<Option<SigstoreBundle>, AllocError> {
-        let None = Envelope::from_document(alloc, value)? else {
+    fn from_borrowed(
+        alloc: Global,
+        value: &Value<'_>,
+    ) -> Result<Option<SigstoreBundle>, AllocError> {
+        let None = Envelope::from_borrowed(alloc, value)? else {
             return Ok(None);
         };
         let Some(version) = part::<BundleVersion>(alloc, value, "mediaType")? else {
@@ -64,10 +67,10 @@ impl FromDocument for SigstoreBundle {
 fn material_in(
     alloc: Global,
     version: BundleVersion,
-    value: &Value,
+    value: &Value<'_>,
 ) -> Result<Option<Material>, AllocError>
     ensures { IfOk result (Stands (IsMaterial version)
-        (member_at (codes "verificationMaterial") (view value.now))) }
+        (member_at (codes "verificationMaterial") (as_data value.now))) }
 {
     match member(value, "verificationMaterial") {
         None => Ok(None),

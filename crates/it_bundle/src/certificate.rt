@@ -1,15 +1,16 @@
 //! The certificate of a bundle.
 ghost use Rattle.std.specs.Prelude.{◌≡◌, IfOk, MatchOption};
-ghost use Rattle.serde_json.specs.View.{view};
+ghost use Rattle.it_borrowed.specs.Tree.{as_data};
 ghost use Rattle.it_base.specs.Finds.{Finds, FindsAs};
 ghost use Rattle.it_bundle.specs.Certificate.{IsBundleCertificate, IsChain, IsFirstOf};
 ghost use Rattle.it_bundle.specs.Certificate.{IsInChain, IsRawBytes, IsRead};
 
 use crate::version::BundleVersion;
-use it_base::base64_text::base64_part;
-use it_base::document::member;
 use it_base::sequence::Sequence;
-use serde_json::Value;
+use it_borrowed::base64_text::base64_part;
+use it_borrowed::document::member;
+use it_log_entry::items_of;
+use json::Value;
 use std::alloc::{AllocError, Global};
 
 /// Why a bundle has no certificate: the first of these that is true.
@@ -44,9 +45,9 @@ pub enum BundleCertificate {
 pub(crate) fn certificate_of(
     alloc: Global,
     version: BundleVersion,
-    material: &Value,
+    material: &Value<'_>,
 ) -> Result<BundleCertificate, AllocError>
-    ensures { IfOk result (IsBundleCertificate version (view material.now)) }
+    ensures { IfOk result (IsBundleCertificate version (as_data material.now)) }
 {
     let key = member(material, "publicKey");
     let alone = member(material, "certificate");
@@ -60,8 +61,8 @@ pub(crate) fn certificate_of(
     }
 }
 
-fn certificate_alone(alloc: Global, alone: &Value) -> Result<BundleCertificate, AllocError>
-    ensures { IfOk result (IsRead (IsRawBytes (view alone.now))) }
+fn certificate_alone(alloc: Global, alone: &Value<'_>) -> Result<BundleCertificate, AllocError>
+    ensures { IfOk result (IsRead (IsRawBytes (as_data alone.now))) }
 {
     Ok(read(base64_part(alloc, alone, "rawBytes")?))
 }
@@ -69,9 +70,9 @@ fn certificate_alone(alloc: Global, alone: &Value) -> Result<BundleCertificate, 
 fn certificate_in_chain(
     alloc: Global,
     version: BundleVersion,
-    chain: &Value,
+    chain: &Value<'_>,
 ) -> Result<BundleCertificate, AllocError>
-    ensures { IfOk result (IsInChain version (view chain.now)) }
+    ensures { IfOk result (IsInChain version (as_data chain.now)) }
 {
     match version {
         BundleVersion::V1 | BundleVersion::V2 => Ok(read(first_of_chain(alloc, chain)?)),
@@ -91,8 +92,8 @@ fn read(bytes: Option<Sequence<u8>>) -> BundleCertificate
 }
 
 /// The bytes of the first certificate of a chain.
-fn first_of_chain(alloc: Global, chain: &Value) -> Result<Option<Sequence<u8>>, AllocError>
-    ensures { IfOk result (Finds (IsChain (view chain.now))) }
+fn first_of_chain(alloc: Global, chain: &Value<'_>) -> Result<Option<Sequence<u8>>, AllocError>
+    ensures { IfOk result (Finds (IsChain (as_data chain.now))) }
 {
     match first_in(chain) {
         None => Ok(None),
@@ -100,8 +101,8 @@ fn first_of_chain(alloc: Global, chain: &Value) -> Result<Option<Sequence<u8>>, 
     }
 }
 
-fn first_in(chain: &Value) -> Option<&Value>
-    ensures { FindsAs (λ item. view item.now) (IsFirstOf (view chain.now)) result }
+fn first_in<'v, 't>(chain: &'v Value<'t>) -> Option<&'v Value<'t>>
+    ensures { FindsAs (λ item. as_data item.now) (IsFirstOf (as_data chain.now)) result }
 {
-    member(chain, "certificates")?.as_array()?.first()
+    items_of(member(chain, "certificates")?)?.first()
 }

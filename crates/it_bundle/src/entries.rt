@@ -1,12 +1,12 @@
 //! The entries of a bundle.
 ghost use Rattle.std.specs.Prelude.{IfOk};
-ghost use Rattle.serde_json.specs.View.{view};
+ghost use Rattle.it_borrowed.specs.Tree.{as_data};
 ghost use Rattle.it_bundle.specs.Entries.{IsEntries};
 
 use crate::listed_entry::ListedEntry;
-use it_base::parts::part;
 use it_base::sequence::Sequence;
-use serde_json::Value;
+use it_borrowed::parts::part;
+use json::Value;
 use std::alloc::{AllocError, Global};
 
 /// The most entries that a bundle may have.
@@ -28,8 +28,8 @@ pub enum BundleEntries {
 /// # Errors
 ///
 /// `AllocError` where memory was refused.
-pub(crate) fn entries_of(alloc: Global, material: &Value) -> Result<BundleEntries, AllocError>
-    ensures { IfOk result (IsEntries (view material.now)) }
+pub(crate) fn entries_of(alloc: Global, material: &Value<'_>) -> Result<BundleEntries, AllocError>
+    ensures { IfOk result (IsEntries (as_data material.now)) }
 {
     let Some(entries) = part::<Sequence<ListedEntry>>(alloc, material, "tlogEntries")? else {
         return Ok(BundleEntries::Missing);

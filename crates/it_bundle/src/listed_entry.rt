@@ -1,9 +1,9 @@
 //! Elements of the list of entries.
 ghost use Rattle.it_bundle.specs.Entries.{IsListedEntry};
 
-use it_base::parts::FromDocument;
+use it_borrowed::parts::FromBorrowed;
 use it_log_entry::LogEntry;
-use serde_json::Value;
+use json::Value;
 use std::alloc::{AllocError, Global};
 
 /// An element of the list of entries. One that is no entry says nothing of the others.
@@ -15,11 +15,11 @@ pub enum ListedEntry {
     Unreadable,
 }
 
-impl FromDocument for ListedEntry {
+impl FromBorrowed for ListedEntry {
     ghost is_of = { IsListedEntry };
 
-    fn from_document(alloc: Global, value: &Value) -> Result<Option<ListedEntry>, AllocError> {
-        match LogEntry::from_document(alloc, value)? {
+    fn from_borrowed(alloc: Global, value: &Value<'_>) -> Result<Option<ListedEntry>, AllocError> {
+        match LogEntry::from_borrowed(alloc, value)? {
             Some(entry) => Ok(Some(ListedEntry::Entry(entry))),
             None => Ok(Some(ListedEntry::Unreadable)),
         }

@@ -1,12 +1,12 @@
 //! What a bundle holds besides its envelope.
 ghost use Rattle.std.specs.Prelude.{IfOk};
-ghost use Rattle.serde_json.specs.View.{view};
+ghost use Rattle.it_borrowed.specs.Tree.{as_data};
 ghost use Rattle.it_bundle.specs.Material.{IsMaterial};
 
 use crate::certificate::{BundleCertificate, certificate_of};
 use crate::entries::{BundleEntries, entries_of};
 use crate::version::BundleVersion;
-use serde_json::Value;
+use json::Value;
 use std::alloc::{AllocError, Global};
 
 /// The proof of who signed an envelope.
@@ -26,9 +26,9 @@ pub struct Material {
 pub(crate) fn material_of(
     alloc: Global,
     version: BundleVersion,
-    value: &Value,
+    value: &Value<'_>,
 ) -> Result<Material, AllocError>
-    ensures { IfOk result (IsMaterial version (view value.now)) }
+    ensures { IfOk result (IsMaterial version (as_data value.now)) }
 {
     Ok(Material {
         certificate: certificate_of(alloc, version, value)?,

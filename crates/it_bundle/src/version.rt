@@ -2,8 +2,9 @@
 ghost use Rattle.it_base.specs.Finds.{Finds};
 ghost use Rattle.it_bundle.specs.Version.{IsMediaType, IsVersion};
 
-use it_base::parts::FromDocument;
-use serde_json::Value;
+use it_borrowed::parts::FromBorrowed;
+use it_borrowed::text::text_of;
+use json::Value;
 use std::alloc::{AllocError, Global};
 
 /// The version of a bundle, by its media type.
@@ -17,11 +18,14 @@ pub enum BundleVersion {
     V3,
 }
 
-impl FromDocument for BundleVersion {
+impl FromBorrowed for BundleVersion {
     ghost is_of = { IsVersion };
 
-    fn from_document(_alloc: Global, value: &Value) -> Result<Option<BundleVersion>, AllocError> {
-        match value.as_str() {
+    fn from_borrowed(
+        _alloc: Global,
+        value: &Value<'_>,
+    ) -> Result<Option<BundleVersion>, AllocError> {
+        match text_of(value) {
             None => Ok(None),
             Some(text) => Ok(version_of(text)),
         }

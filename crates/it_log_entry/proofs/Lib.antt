@@ -4,7 +4,7 @@ pub mod Checkpoints
 pub mod Entries
 pub mod Finding
 pub mod First
-pub mod Items
+pub mod ItemsRead
 pub mod Notes
 pub mod Numbers
 pub mod Parts

@@ -13,8 +13,9 @@ use crate::kind::EntryKind;
 use crate::logged::Logged;
 use crate::payload_hash::is_payload_hash;
 use crate::read_kind::{is_dsse, is_intoto};
-use it_base::document::read_document;
-use it_base::text::has_text;
+use it_borrowed::document::read_document;
+use it_borrowed::text::has_text;
+use json::Scratch;
 use std::alloc::{AllocError, Global};
 
 /// The first part of a body of this kind that is not about this signature; `None` where the body
@@ -29,7 +30,8 @@ pub(crate) fn body_shortfall(
         (BodyAgrees kind.now body.now logged.now)
         (BodyMisses kind.now body.now logged.now)) }
 {
-    let Some(document) = read_document(alloc, body)? else {
+    let mut scratch = Scratch::new(alloc);
+    let Some(document) = read_document(alloc, body, &mut scratch)? else {
         return Ok(Some(BodyShortfall::Form));
     };
     let Some(parts) = parts_in(kind, &document) else {
@@ -42,7 +44,7 @@ pub(crate) fn body_shortfall(
 fn parts_shortfall(
     alloc: Global,
     kind: &EntryKind,
-    parts: &BodyParts<'_>,
+    parts: &BodyParts<'_, '_>,
     logged: &Logged<'_>,
 ) -> Result<Option<BodyShortfall>, AllocError>
     ensures { IfOk result (λ missed. MatchOption missed
@@ -64,7 +66,7 @@ fn parts_shortfall(
     Ok(None)
 }
 
-fn is_type(parts: &BodyParts<'_>, logged: &Logged<'_>) -> bool
+fn is_type(parts: &BodyParts<'_, '_>, logged: &Logged<'_>) -> bool
     ensures { IsTrue result ↔ SaysType logged.now (said_by parts.now) }
 {
     match parts.envelope {
@@ -76,7 +78,7 @@ fn is_type(parts: &BodyParts<'_>, logged: &Logged<'_>) -> bool
 fn is_about_signature(
     alloc: Global,
     kind: &EntryKind,
-    parts: &BodyParts<'_>,
+    parts: &BodyParts<'_, '_>,
     logged: &Logged<'_>,
 ) -> Result<bool, AllocError>
     ensures { IfOk result (λ is. IsTrue is
@@ -94,7 +96,7 @@ fn is_about_signature(
 fn is_about_certificate(
     alloc: Global,
     kind: &EntryKind,
-    parts: &BodyParts<'_>,
+    parts: &BodyParts<'_, '_>,
     logged: &Logged<'_>,
 ) -> Result<bool, AllocError>
     ensures { IfOk result (λ is. IsTrue is

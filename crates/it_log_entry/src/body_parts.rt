@@ -1,5 +1,5 @@
 //! The parts of the body of an entry that say what the entry is about.
-ghost use Rattle.serde_json.specs.View.{view};
+ghost use Rattle.it_borrowed.specs.Tree.{as_data};
 ghost use Rattle.it_base.specs.Finds.{FindsAs};
 ghost use Rattle.it_log_entry.specs.BodyParts.{AreDsseParts, AreIntotoParts, ArePartsOf, HasParts};
 ghost use Rattle.it_log_entry.specs.inside.Said.{said_by};
@@ -7,24 +7,27 @@ ghost use Rattle.it_log_entry.specs.inside.Said.{said_by};
 use crate::kind::EntryKind;
 use crate::only_item::only_item;
 use crate::read_kind::{is_dsse, is_intoto};
-use it_base::document::member;
-use it_base::text::has_text;
-use serde_json::Value;
+use it_borrowed::document::member;
+use it_borrowed::text::has_text;
+use json::Value;
 
 /// The parts of a body that say what its entry is about.
 #[derive(Clone, Copy, Drop)]
-pub(crate) struct BodyParts<'v> {
+pub(crate) struct BodyParts<'v, 't> {
     /// The hash of the payload.
-    pub(crate) hash: &'v Value,
+    pub(crate) hash: &'v Value<'t>,
     /// The envelope, which bodies of kind `intoto` alone have.
-    pub(crate) envelope: Option<&'v Value>,
+    pub(crate) envelope: Option<&'v Value<'t>>,
     /// The only signature, with its certificate.
-    pub(crate) signature: &'v Value,
+    pub(crate) signature: &'v Value<'t>,
 }
 
 /// The parts of a body of this kind.
-pub(crate) fn parts_in<'v>(kind: &EntryKind, document: &'v Value) -> Option<BodyParts<'v>>
-    ensures { FindsAs said_by (HasParts kind.now (view document.now)) result }
+pub(crate) fn parts_in<'v, 't>(
+    kind: &EntryKind,
+    document: &'v Value<'t>,
+) -> Option<BodyParts<'v, 't>>
+    ensures { FindsAs said_by (HasParts kind.now (as_data document.now)) result }
 {
     if !has_text(document, "kind", kind.kind.as_str()) {
         return None;
@@ -36,8 +39,8 @@ pub(crate) fn parts_in<'v>(kind: &EntryKind, document: &'v Value) -> Option<Body
 }
 
 /// The parts of the `spec` of a body of this kind.
-fn parts_of<'v>(kind: &EntryKind, spec: &'v Value) -> Option<BodyParts<'v>>
-    ensures { FindsAs said_by (ArePartsOf kind.now (view spec.now)) result }
+fn parts_of<'v, 't>(kind: &EntryKind, spec: &'v Value<'t>) -> Option<BodyParts<'v, 't>>
+    ensures { FindsAs said_by (ArePartsOf kind.now (as_data spec.now)) result }
 {
     if is_dsse(kind) {
         return dsse_parts(spec);
@@ -48,8 +51,8 @@ fn parts_of<'v>(kind: &EntryKind, spec: &'v Value) -> Option<BodyParts<'v>>
     None
 }
 
-fn dsse_parts(spec: &Value) -> Option<BodyParts<'_>>
-    ensures { FindsAs said_by (AreDsseParts (view spec.now)) result }
+fn dsse_parts<'v, 't>(spec: &'v Value<'t>) -> Option<BodyParts<'v, 't>>
+    ensures { FindsAs said_by (AreDsseParts (as_data spec.now)) result }
 {
     let hash = member(spec, "payloadHash")?;
     let signature = only_item(spec, "signatures")?;
@@ -60,8 +63,8 @@ fn dsse_parts(spec: &Value) -> Option<BodyParts<'_>>
     })
 }
 
-fn intoto_parts(spec: &Value) -> Option<BodyParts<'_>>
-    ensures { FindsAs said_by (AreIntotoParts (view spec.now)) result }
+fn intoto_parts<'v, 't>(spec: &'v Value<'t>) -> Option<BodyParts<'v, 't>>
+    ensures { FindsAs said_by (AreIntotoParts (as_data spec.now)) result }
 {
     let content = member(spec, "content")?;
     let envelope = member(content, "envelope")?;

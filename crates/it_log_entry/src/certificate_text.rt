@@ -2,7 +2,7 @@
 ghost use Rattle.std.specs.Prelude.{◌≡◌, ◌↔◌, Some, All, IfOk, IsTrue};
 ghost use Rattle.std.specs.List.{concat};
 ghost use Rattle.std.specs.Str.Lines.{lines};
-ghost use Rattle.serde_json.specs.View.{view};
+ghost use Rattle.it_borrowed.specs.Tree.{as_data};
 ghost use Rattle.base64.specs.Engines.{standard};
 ghost use Rattle.base64.specs.GeneralPurpose.{decoded_of};
 ghost use Rattle.it_base.specs.Finds.{FindsAs};
@@ -11,8 +11,9 @@ ghost use Rattle.it_pem.specs.PublicKeyText.{is_body_line};
 ghost use Rattle.it_log_entry.specs.CertificateText.{IsCertificateText, IsEncodedCertificate};
 ghost use Rattle.it_log_entry.specs.inside.Lines.{IsBetweenMarks, IsCertificateOf, texts_of};
 
-use it_base::base64_text::{base64_part, decode_standard};
-use serde_json::Value;
+use it_base::base64_text::decode_standard;
+use it_borrowed::base64_text::base64_part;
+use json::Value;
 use std::alloc::{AllocError, Global};
 use std::str;
 
@@ -25,12 +26,12 @@ const END: &str = "-----END CERTIFICATE-----";
 /// Whether the member of this name is base64 of a PEM text of the certificate.
 pub(crate) fn has_certificate(
     alloc: Global,
-    value: &Value,
+    value: &Value<'_>,
     name: &str,
     certificate: &[u8],
 ) -> Result<bool, AllocError>
     ensures { IfOk result (λ has. IsTrue has
-        ↔ IsPart IsEncodedCertificate name.now (view value.now) certificate.now) }
+        ↔ IsPart IsEncodedCertificate name.now (as_data value.now) certificate.now) }
 {
     let Some(bytes) = base64_part(alloc, value, name)? else {
         return Ok(false);

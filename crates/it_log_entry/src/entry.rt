@@ -1,6 +1,6 @@
 //! Entries.
 ghost use Rattle.std.specs.Prelude.{◌<◌, IfOk, codes};
-ghost use Rattle.serde_json.specs.View.{view};
+ghost use Rattle.it_borrowed.specs.Tree.{as_data};
 ghost use Rattle.it_base.specs.Base64Text.{IsBase64};
 ghost use Rattle.it_base.specs.Document.{member_at};
 ghost use Rattle.it_base.specs.Finds.{Finds};
@@ -13,11 +13,11 @@ ghost use Rattle.it_log_entry.specs.Number.{IsNumber};
 use crate::inclusion_proof::InclusionProof;
 use crate::kind::EntryKind;
 use crate::number::Number;
-use it_base::base64_text::base64_part;
-use it_base::document::member;
-use it_base::parts::{FromDocument, part, part_or};
 use it_base::sequence::Sequence;
-use serde_json::Value;
+use it_borrowed::base64_text::base64_part;
+use it_borrowed::document::member;
+use it_borrowed::parts::{FromBorrowed, part, part_or};
+use json::Value;
 use std::alloc::{AllocError, Global};
 
 /// An entry of a transparency log.
@@ -39,10 +39,10 @@ pub struct LogEntry {
     pub body: Sequence<u8>,
 }
 
-impl FromDocument for LogEntry {
+impl FromBorrowed for LogEntry {
     ghost is_of = { IsLogEntry };
 
-    fn from_document(alloc: Global, value: &Value) -> Result<Option<LogEntry>, AllocError> {
+    fn from_borrowed(alloc: Global, value: &Value<'_>) -> Result<Option<LogEntry>, AllocError> {
         let Some(log_id) = base64_below(alloc, value, "logId", "keyId")? else {
             return Ok(None);
         };
@@ -77,9 +77,9 @@ impl FromDocument for LogEntry {
     }
 }
 
-fn time_of(alloc: Global, value: &Value) -> Result<Option<u64>, AllocError>
+fn time_of(alloc: Global, value: &Value<'_>) -> Result<Option<u64>, AllocError>
     ensures { IfOk result (Finds (λ time.
-        IsPart IsNumber (codes "integratedTime") (view value.now) time × (0 < time))) }
+        IsPart IsNumber (codes "integratedTime") (as_data value.now) time × (0 < time))) }
 {
     let Some(time) = part::<Number>(alloc, value, "integratedTime")? else {
         return Ok(None);
@@ -91,14 +91,14 @@ fn time_of(alloc: Global, value: &Value) -> Result<Option<u64>, AllocError>
 }
 
 /// The proof, or that there is none; `None` where there is one that does not read.
-fn proof_of(alloc: Global, value: &Value) -> Result<Option<Option<InclusionProof>>, AllocError>
+fn proof_of(alloc: Global, value: &Value<'_>) -> Result<Option<Option<InclusionProof>>, AllocError>
     ensures { IfOk result (Finds
-        (Stands IsInclusionProof (member_at (codes "inclusionProof") (view value.now)))) }
+        (Stands IsInclusionProof (member_at (codes "inclusionProof") (as_data value.now)))) }
 {
     let Some(found) = member(value, "inclusionProof") else {
         return Ok(Some(None));
     };
-    match InclusionProof::from_document(alloc, found)? {
+    match InclusionProof::from_borrowed(alloc, found)? {
         Some(proof) => Ok(Some(Some(proof))),
         None => Ok(None),
     }
@@ -107,11 +107,12 @@ fn proof_of(alloc: Global, value: &Value) -> Result<Option<Option<InclusionProof
 /// The bytes that a member of a member encodes; `None` where there is none, or it is not base64.
 fn base64_below(
     alloc: Global,
-    value: &Value,
+    value: &Value<'_>,
     outer: &str,
     inner: &str,
 ) -> Result<Option<Sequence<u8>>, AllocError>
-    ensures { IfOk result (Finds (IsPart (IsPart IsBase64 inner.now) outer.now (view value.now))) }
+    ensures { IfOk result (Finds
+        (IsPart (IsPart IsBase64 inner.now) outer.now (as_data value.now))) }
 {
     match member(value, outer) {
         None => Ok(None),

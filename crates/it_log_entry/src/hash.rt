@@ -1,24 +1,27 @@
 //! Hashes in documents.
 ghost use Rattle.std.specs.Prelude.{◌≡◌, IfOk, length};
-ghost use Rattle.serde_json.specs.View.{view, items_view};
+ghost use Rattle.json.specs.Value.{items_view};
+ghost use Rattle.it_borrowed.specs.Tree.{as_data, data_of_items};
 ghost use Rattle.it_base.specs.Finds.{Finds};
 ghost use Rattle.it_base.specs.Parts.{IsPart};
 ghost use Rattle.it_base.specs.Sequence.{AreEach, IsList};
 ghost use Rattle.it_log_entry.specs.InclusionProof.{IsHash};
 
-use it_base::base64_text::base64_bytes;
-use it_base::document::member;
+use crate::items::items_of;
+use it_base::base64_text::decode_base64;
 use it_base::sequence::Sequence;
-use serde_json::Value;
+use it_borrowed::document::member;
+use it_borrowed::text::text_of;
+use json::Value;
 use std::alloc::{AllocError, Global};
 
 /// The hash in the member of this name; `None` where it is missing or no hash.
 pub(crate) fn hash_part(
     alloc: Global,
-    value: &Value,
+    value: &Value<'_>,
     name: &str,
 ) -> Result<Option<[u8; 32]>, AllocError>
-    ensures { IfOk result (Finds (IsPart IsHash name.now (view value.now))) }
+    ensures { IfOk result (Finds (IsPart IsHash name.now (as_data value.now))) }
 {
     match member(value, name) {
         None => Ok(None),
@@ -29,18 +32,21 @@ pub(crate) fn hash_part(
 /// The hashes of a list.
 pub(crate) fn hashes_in(
     alloc: Global,
-    value: &Value,
+    value: &Value<'_>,
 ) -> Result<Option<Sequence<[u8; 32]>>, AllocError>
-    ensures { IfOk result (Finds (IsList IsHash (view value.now))) }
+    ensures { IfOk result (Finds (IsList IsHash (as_data value.now))) }
 {
-    match value.as_array() {
+    match items_of(value) {
         None => Ok(None),
         Some(items) => read_hashes(alloc, items),
     }
 }
 
-fn read_hashes(alloc: Global, items: &Vec<Value>) -> Result<Option<Sequence<[u8; 32]>>, AllocError>
-    ensures { IfOk result (Finds (AreEach IsHash (items_view items.now.items))) }
+fn read_hashes(
+    alloc: Global,
+    items: &Vec<Value<'_>>,
+) -> Result<Option<Sequence<[u8; 32]>>, AllocError>
+    ensures { IfOk result (Finds (AreEach IsHash (data_of_items (items_view items.now.items)))) }
 {
     let mut hashes = Vec::new(alloc);
     for item in items {
@@ -52,10 +58,13 @@ fn read_hashes(alloc: Global, items: &Vec<Value>) -> Result<Option<Sequence<[u8;
     Ok(Some(Sequence::from(hashes)))
 }
 
-fn hash_in(alloc: Global, value: &Value) -> Result<Option<[u8; 32]>, AllocError>
-    ensures { IfOk result (Finds (IsHash (view value.now))) }
+fn hash_in(alloc: Global, value: &Value<'_>) -> Result<Option<[u8; 32]>, AllocError>
+    ensures { IfOk result (Finds (IsHash (as_data value.now))) }
 {
-    let Some(bytes) = base64_bytes(alloc, value)? else {
+    let Some(text) = text_of(value) else {
+        return Ok(None);
+    };
+    let Some(bytes) = decode_base64(alloc, text.as_bytes())? else {
         return Ok(None);
     };
     Ok(array_of(bytes.as_slice()))

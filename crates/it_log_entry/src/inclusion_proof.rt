@@ -1,6 +1,6 @@
 //! Inclusion proofs.
 ghost use Rattle.std.specs.Prelude.{[], IfOk, codes};
-ghost use Rattle.serde_json.specs.View.{view};
+ghost use Rattle.it_borrowed.specs.Tree.{as_data};
 ghost use Rattle.it_base.specs.Finds.{Finds};
 ghost use Rattle.it_base.specs.Parts.{IsPart, IsPartOr};
 ghost use Rattle.it_base.specs.Sequence.{IsList};
@@ -9,11 +9,11 @@ ghost use Rattle.it_log_entry.specs.InclusionProof.{IsHash, IsInclusionProof};
 
 use crate::hash::{hash_part, hashes_in};
 use crate::number::Number;
-use it_base::document::member;
-use it_base::parts::{FromDocument, part, part_or};
 use it_base::sequence::Sequence;
 use it_base::text::Text;
-use serde_json::Value;
+use it_borrowed::document::member;
+use it_borrowed::parts::{FromBorrowed, part, part_or};
+use json::Value;
 use std::alloc::{AllocError, Global};
 
 /// The most hashes that a proof may have.
@@ -35,10 +35,13 @@ pub struct InclusionProof {
     pub checkpoint: Text,
 }
 
-impl FromDocument for InclusionProof {
+impl FromBorrowed for InclusionProof {
     ghost is_of = { IsInclusionProof };
 
-    fn from_document(alloc: Global, value: &Value) -> Result<Option<InclusionProof>, AllocError> {
+    fn from_borrowed(
+        alloc: Global,
+        value: &Value<'_>,
+    ) -> Result<Option<InclusionProof>, AllocError> {
         let Some(index) = part_or(alloc, value, "logIndex", Number::zero())? else {
             return Ok(None);
         };
@@ -67,9 +70,9 @@ impl FromDocument for InclusionProof {
     }
 }
 
-fn path_of(alloc: Global, value: &Value) -> Result<Option<Sequence<[u8; 32]>>, AllocError>
+fn path_of(alloc: Global, value: &Value<'_>) -> Result<Option<Sequence<[u8; 32]>>, AllocError>
     ensures { IfOk result
-        (Finds (IsPartOr (IsList IsHash) [] (codes "hashes") (view value.now))) }
+        (Finds (IsPartOr (IsList IsHash) [] (codes "hashes") (as_data value.now))) }
 {
     match member(value, "hashes") {
         None => Ok(Some(Sequence::from(Vec::new(alloc)))),
@@ -77,9 +80,9 @@ fn path_of(alloc: Global, value: &Value) -> Result<Option<Sequence<[u8; 32]>>, A
     }
 }
 
-fn checkpoint_of(alloc: Global, value: &Value) -> Result<Option<Text>, AllocError>
+fn checkpoint_of(alloc: Global, value: &Value<'_>) -> Result<Option<Text>, AllocError>
     ensures { IfOk result (Finds
-        (IsPart (IsPart IsText (codes "envelope")) (codes "checkpoint") (view value.now))) }
+        (IsPart (IsPart IsText (codes "envelope")) (codes "checkpoint") (as_data value.now))) }
 {
     match member(value, "checkpoint") {
         None => Ok(None),

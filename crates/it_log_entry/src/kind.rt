@@ -1,9 +1,9 @@
 //! Kinds of entries.
 ghost use Rattle.it_log_entry.specs.LogEntry.{IsKind};
 
-use it_base::parts::{FromDocument, part};
 use it_base::text::Text;
-use serde_json::Value;
+use it_borrowed::parts::{FromBorrowed, part};
+use json::Value;
 use std::alloc::{AllocError, Global};
 
 /// What kind of body an entry has.
@@ -15,10 +15,10 @@ pub struct EntryKind {
     pub version: Text,
 }
 
-impl FromDocument for EntryKind {
+impl FromBorrowed for EntryKind {
     ghost is_of = { IsKind };
 
-    fn from_document(alloc: Global, value: &Value) -> Result<Option<EntryKind>, AllocError> {
+    fn from_borrowed(alloc: Global, value: &Value<'_>) -> Result<Option<EntryKind>, AllocError> {
         let Some(kind) = part::<Text>(alloc, value, "kind")? else {
             return Ok(None);
         };

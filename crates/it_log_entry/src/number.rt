@@ -5,8 +5,9 @@ ghost use Rattle.it_log_entry.specs.CheckpointMisses.{IsSize};
 ghost use Rattle.it_log_entry.specs.Number.{IsNumber, IsNumberText};
 
 use crate::stamp::decimal_text;
-use it_base::parts::FromDocument;
-use serde_json::Value;
+use it_borrowed::parts::FromBorrowed;
+use it_borrowed::text::text_of;
+use json::Value;
 use std::alloc::{AllocError, Global};
 use std::marker::Model;
 use std::str;
@@ -44,11 +45,11 @@ impl Number {
     }
 }
 
-impl FromDocument for Number {
+impl FromBorrowed for Number {
     ghost is_of = { IsNumber };
 
-    fn from_document(alloc: Global, value: &Value) -> Result<Option<Number>, AllocError> {
-        match value.as_str() {
+    fn from_borrowed(alloc: Global, value: &Value<'_>) -> Result<Option<Number>, AllocError> {
+        match text_of(value) {
             None => Ok(None),
             Some(text) => number_in(alloc, text),
         }

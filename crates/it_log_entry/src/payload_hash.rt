@@ -1,20 +1,20 @@
 //! The hash of a payload in the body of an entry.
 ghost use Rattle.std.specs.Prelude.{◌↔◌, IfOk, IsTrue};
-ghost use Rattle.serde_json.specs.View.{view};
+ghost use Rattle.it_borrowed.specs.Tree.{as_data};
 ghost use Rattle.it_log_entry.specs.PayloadHash.{IsPayloadHash};
 
-use it_base::text::has_text;
-use serde_json::Value;
+use it_borrowed::text::has_text;
+use json::Value;
 use sha2::{Digest, Sha256};
 use std::alloc::{AllocError, Global};
 
 /// Whether a value is the hash of the payload.
 pub(crate) fn is_payload_hash(
     alloc: Global,
-    value: &Value,
+    value: &Value<'_>,
     payload: &[u8],
 ) -> Result<bool, AllocError>
-    ensures { IfOk result (λ is. IsTrue is ↔ IsPayloadHash (view value.now) payload.now) }
+    ensures { IfOk result (λ is. IsTrue is ↔ IsPayloadHash (as_data value.now) payload.now) }
 {
     let digest = Sha256::digest(payload);
     let digits = hex::encode(alloc, digest.as_slice())?;

@@ -1,7 +1,7 @@
 -- What the parts of a body say, and which is the first that is not about a signature. Nothing here
 -- is trusted.
 use Rattle.std.specs.Prelude.{option_map}
-use Rattle.serde_json.specs.View.{view}
+use Rattle.it_borrowed.specs.Tree.{as_data}
 use Rattle.it_log_entry.specs.BodyMisses.{SaysCertificate, SaysPayload, SaysSignature, SaysType}
 use Rattle.it_log_entry.specs.BodyParts.{Parts}
 use Rattle.it_log_entry.specs.declared.body_parts.BodyParts.{BodyParts}
@@ -13,9 +13,9 @@ use Rattle.it_log_entry.specs.declared.logged.Logged.{Logged}
 -- what parts that were read show
 abbrev pub said_by : BodyParts → Parts
 said_by found = record {
-  hash = view found.hash.now;
-  envelope = option_map (λ value. view value.now) found.envelope;
-  signature = view found.signature.now;
+  hash = as_data found.hash.now;
+  envelope = option_map (λ value. as_data value.now) found.envelope;
+  signature = as_data found.signature.now;
 }
 
 -- all of them are about this signature

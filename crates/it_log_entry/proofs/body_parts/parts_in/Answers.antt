@@ -1,5 +1,5 @@
 use Rattle.std.proofs.Common.{codes, sym}
-use Rattle.serde_json.specs.View.{view}
+use Rattle.it_borrowed.specs.Tree.{as_data}
 use Rattle.it_log_entry.specs.BodyParts.{ArePartsOf, HasParts}
 use Rattle.it_log_entry.specs.inside.Said.{said_by}
 use Rattle.it_log_entry.proofs.Finding.{found_as}
@@ -9,8 +9,8 @@ use Rattle.it_log_entry.proofs.body_parts.parts_in.Goals as goal
 pub returns : goal.returns
 returns c =
     let kind = c.args.kind.now in
-    let document = view c.args.document.now in
-    let spec = view c.in_ok-member.field-0.now in
+    let document = as_data c.args.document.now in
+    let spec = as_data c.in_ok-member.field-0.now in
     let is = rw c.in_ok-member.was at c.member.ensures in
     found_as said_by (ArePartsOf kind spec) (HasParts kind document)
     (λ said are. record {

@@ -1,4 +1,4 @@
-use Rattle.it_log_entry.proofs.entry.LogEntryFromDocument.from_document.Goals as goal
+use Rattle.it_log_entry.proofs.entry.LogEntryFromBorrowed.from_borrowed.Goals as goal
 
 pub returns-in_default-5 : goal.returns-in_default-5
 returns-in_default-5 c = λ entry is.

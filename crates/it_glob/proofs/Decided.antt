@@ -1,27 +1,23 @@
 -- Whether a pattern matches a text, as an answer.
-use Rattle.std.proofs.Common.{◌≡◌, ℕ, ◌≤◌, ◌⊎◌, inl, inr, Bool, true, false, ◌&&◌, ◌||◌, not, eqb}
-use Rattle.std.proofs.Common.{leb, cond, List, [], ◌∷◌, refl, true≢false, sym, Decides, MatchBool}
-use Rattle.std.proofs.Common.{eqb-true, eq-eqb, leb-true, le-leb}
+use Rattle.std.proofs.Common.{◌≡◌, ℕ, ◌⊎◌, inl, inr, Bool, true, false, ◌&&◌, ◌||◌, not, eqb, cond}
+use Rattle.std.proofs.Common.{List, [], ◌∷◌, refl, true≢false, sym, Decides, MatchBool, eqb-true}
+use Rattle.std.proofs.Common.{eq-eqb}
 use Rattle.std.proofs.lemmas.Bool.Decides.{Decides-and, Decides-like, Decides-not, Decides-or}
 use Rattle.std.specs.Str.{chars}
-use Rattle.it_glob.specs.Pattern.{InBody, Matches, MatchesChars, Takes, items_of}
+use Rattle.it_glob.specs.Pattern.{Matches, MatchesChars, Takes, items_of}
 use Rattle.it_glob.specs.declared.item.Item.{Item}
 use Rattle.it_glob.specs.declared.item.Item.TheVariants.{Star, Any, OneOf, Exactly}
+use Rattle.it_glob.specs.inside.Ranges.{is_in_some, written_ranges}
+use Rattle.it_glob.proofs.Bodies.{written-Decides}
 use Rattle.it_glob.proofs.Steps.{MatchesLater, star_over, star_takes}
-
--- decides `InBody`
-abbrev is_in_body : List ℕ → ℕ → Bool
-is_in_body [] c = false
-is_in_body (x ∷ []) c = eqb c x
-is_in_body (x ∷ y ∷ []) c = eqb c x || eqb c y
-is_in_body (x ∷ y ∷ z ∷ rest) c = cond (eqb y 45) ((leb x c && leb c z) || is_in_body rest c)
-    (eqb c x || is_in_body (y ∷ z ∷ rest) c)
 
 -- decides `Takes`
 abbrev is_taken : Item → ℕ → Bool
 is_taken Star c = false
 is_taken Any c = true
-is_taken (OneOf negated body) c = cond negated (not (is_in_body body c)) (is_in_body body c)
+is_taken (OneOf negated body) c =
+    let has = is_in_some (written_ranges body) c in
+    cond negated (not has) has
 is_taken (Exactly d) c = eqb c d
 
 -- whether what is left passes a test after some first characters, or none
@@ -55,34 +51,18 @@ never none = (λ e. absurd (true≢false (sym e)), λ p. absurd (none p))
 equal-Decides : (c d : ℕ) → Decides (eqb c d) (c ≡ d)
 equal-Decides c d = (eqb-true c d, eq-eqb c d)
 
-at_most-Decides : (a b : ℕ) → Decides (leb a b) (a ≤ b)
-at_most-Decides a b = (leb-true a b, le-leb a b)
-
 either-Decides : {P Q : Type 0} (b r s : Bool) → Decides r P → Decides s Q
     → Decides (cond b r s) (MatchBool b P Q)
 either-Decides true r s h k = h
 either-Decides false r s h k = k
 
-is_in_body-Decides : (body : List ℕ) (c : ℕ) → Decides (is_in_body body c) (InBody body c)
-is_in_body-Decides [] c = never (λ h. h)
-is_in_body-Decides (x ∷ []) c = equal-Decides c x
-is_in_body-Decides (x ∷ y ∷ []) c = Decides-or (eqb c x) (eqb c y) (equal-Decides c x)
-    (equal-Decides c y)
-is_in_body-Decides (x ∷ y ∷ z ∷ rest) c =
-    either-Decides (eqb y 45) ((leb x c && leb c z) || is_in_body rest c)
-    (eqb c x || is_in_body (y ∷ z ∷ rest) c)
-    (Decides-or (leb x c && leb c z) (is_in_body rest c)
-    (Decides-and (leb x c) (leb c z) (at_most-Decides x c) (at_most-Decides c z))
-    (is_in_body-Decides rest c))
-    (Decides-or (eqb c x) (is_in_body (y ∷ z ∷ rest) c) (equal-Decides c x)
-    (is_in_body-Decides (y ∷ z ∷ rest) c))
-
 is_taken-Decides : (item : Item) (c : ℕ) → Decides (is_taken item c) (Takes item c)
 is_taken-Decides Star c = never (λ h. h)
 is_taken-Decides Any c = (λ _. tt, λ _. refl)
 is_taken-Decides (OneOf negated body) c =
-    either-Decides negated (not (is_in_body body c)) (is_in_body body c)
-    (Decides-not (is_in_body body c) (is_in_body-Decides body c)) (is_in_body-Decides body c)
+    let has = is_in_some (written_ranges body) c in
+    either-Decides negated (not has) has (Decides-not has (written-Decides body c))
+    (written-Decides body c)
 is_taken-Decides (Exactly d) c = equal-Decides c d
 
 some_rest-Decides : (items : List Item) (test : List ℕ → Bool)

@@ -2,5 +2,8 @@ pub mod Bodies
 pub mod Counting
 pub mod Decided
 pub mod Fronts
+pub mod Searched
 pub mod Sets
 pub mod Steps
+pub mod Tests
+pub mod Widened

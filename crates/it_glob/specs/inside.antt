@@ -1,2 +1,3 @@
 pub mod FirstRange
+pub mod Ranges
 pub mod Restarts

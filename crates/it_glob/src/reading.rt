@@ -4,7 +4,8 @@ ghost use Rattle.std.specs.Prelude.{if◌then◌else◌};
 ghost use Rattle.it_glob.specs.Pattern.{items_of, items_after, item_at, plain_item, set_at};
 ghost use Rattle.it_glob.specs.Pattern.{negation_of, body_len, is_close};
 
-use crate::item::{Body, Item};
+use crate::body::Body;
+use crate::item::Item;
 use std::alloc::{AllocError, Global};
 
 /// The items of a pattern's text.
@@ -69,7 +70,7 @@ fn set(alloc: Global, after: &[char]) -> Result<Option<(Item, usize)>, AllocErro
     let Some(len) = len_of_body(characters) else {
         return Ok(None);
     };
-    let body = Body::new(characters[..len].to_vec(alloc)?);
+    let body = Body::new(alloc, characters[..len].to_vec(alloc)?)?;
     let taken = if negated { len + 2 } else { len + 1 };
     Ok(Some((Item::OneOf { negated, body }, taken)))
 }

@@ -1,8 +1,8 @@
 -- The ranges of a set, one after another.
-use Rattle.std.specs.Prelude.{ℕ, ◌≤◌, ◌<◌, ◌⊎◌, ◌↔◌, List, length}
-use Rattle.it_glob.specs.Pattern.{InBody}
+use Rattle.std.specs.Prelude.{◌≡◌, ℕ, ◌<◌, List, ◌∷◌, length}
+use Rattle.it_glob.specs.inside.Ranges.{range_between, written_ranges}
 
--- a body has the characters from the first to the last, and those of the rest
+-- a body begins with the range from the first character to the last, and the rest follows
 pub record IsFirstRange (body : List ℕ) (first last : ℕ) (rest : List ℕ) : Type 0 where
-  pub splits : (c : ℕ) → InBody body c ↔ (((first ≤ c) × (c ≤ last)) ⊎ InBody rest c)
+  pub splits : written_ranges body ≡ range_between first last ∷ written_ranges rest
   pub shorter : length rest < length body

@@ -1,11 +1,11 @@
 use Rattle.std.proofs.Common.{◌≢◌, ◌≤◌, length, get_or, arith, sym, ◌∙◌}
 use Rattle.std.proofs.lemmas.List.{take_rest, get_or_read}
 use Rattle.it_glob.proofs.Bodies.{from_range, from_character}
-use Rattle.it_glob.proofs.item.split_first_range.Goals as goal
-use Rattle.it_glob.proofs.item.split_first_range.Goals.{
+use Rattle.it_glob.proofs.ranges.split_first_range.Goals as goal
+use Rattle.it_glob.proofs.ranges.split_first_range.Goals.{
   else-others-ge2-via-then-others-ge2+else-others-eq45,
 }
-use Rattle.it_glob.proofs.item.split_first_range.Goals.{else-others-ge2-via-else-others-ge2}
+use Rattle.it_glob.proofs.ranges.split_first_range.Goals.{else-others-ge2-via-else-others-ge2}
 
 pub returns-then-others-eq45 : goal.returns-then-others-eq45
 returns-then-others-eq45 c =

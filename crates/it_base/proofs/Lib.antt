@@ -15,5 +15,5 @@ pub mod TableDecided
 pub mod TableLemmas
 pub mod TableMade
 pub mod TreeLengths
-pub mod TreesRead
+pub mod TreesFound
 pub mod Unique

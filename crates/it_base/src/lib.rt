@@ -13,5 +13,4 @@ pub mod sequence;
 pub mod table;
 pub mod text;
 pub mod tree;
-mod tree_reading;
 pub mod writing;

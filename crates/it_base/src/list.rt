@@ -1,7 +1,6 @@
 //! Lists in a document; a missing one is empty.
-ghost use Rattle.std.specs.Prelude.{◌≡◌, [], IfOk, MatchResult};
+ghost use Rattle.std.specs.Prelude.{◌≡◌, [], MatchResult};
 ghost use Rattle.serde_json.specs.View.{view, items_view};
-ghost use Rattle.it_base.specs.Finds.{Finds};
 ghost use Rattle.it_base.specs.Parts.{IsPartOr};
 ghost use Rattle.it_base.specs.Sequence.{AreEach, IsList};
 ghost use Rattle.it_base.specs.declared.list.ListFault.TheVariants.{OutOfMemory};
@@ -9,7 +8,7 @@ ghost use Rattle.it_base.specs.List.{IsListFault};
 ghost use Rattle.it_base.specs.inside.ItemFaults.{IsItemFault};
 
 use crate::document::member;
-use crate::parts::{FromDocument, part_or};
+use crate::parts::FromDocument;
 use crate::sequence::Sequence;
 use serde_json::Value;
 use std::alloc::{AllocError, AllocFailed, Global};
@@ -39,18 +38,6 @@ impl<T: Drop> From<AllocFailed<T>> for ListFault {
     fn from(_e: AllocFailed<T>) -> ListFault {
         ListFault::OutOfMemory
     }
-}
-
-/// The values of a list, empty where the member is missing. `None` where the member is not a list
-/// of such values.
-pub fn list_or_empty<T: FromDocument>(
-    alloc: Global,
-    value: &Value,
-    name: &str,
-) -> Result<Option<Sequence<T>>, AllocError>
-    ensures { IfOk result (Finds (IsPartOr (IsList T.is_of) [] name.now (view value.now))) }
-{
-    part_or(alloc, value, name, Sequence::from(Vec::new(alloc)))
 }
 
 /// The values of a list, empty where the member is missing.

@@ -1,5 +1,8 @@
 mod Gathered
-mod Items
+pub mod ListItems
+mod Listed
 mod Looked
+mod Numerals
 mod Ranges
 mod Trees
+mod TreesRead

@@ -3,11 +3,11 @@ use Rattle.std.proofs.Common.{◌≡◌, ℕ, List, Bool, true, false, ◌&&◌,
 use Rattle.std.proofs.Common.{option_map, option_and_then, is_some, sym, refl, ap, ◌∙◌}
 use Rattle.std.specs.Prelude.{unwrap_or}
 use Rattle.json.specs.Json as json
-use Rattle.serde_json.specs.Data.{Num, unsigned, Data, number, array, object}
+use Rattle.serde_json.specs.Data.{Num, Data, number, array, object}
 use Rattle.serde_json.specs.Data.{Items, item, Members, no_members, put}
 use Rattle.serde_json.specs.Read.{number_of, of_json, of_items, of_members, read}
 use Rattle.it_base.specs.Document.{IsDocument}
-use Rattle.it_borrowed.specs.Tree.{data_of, data_of_items, data_of_members}
+use Rattle.it_borrowed.specs.Tree.{data_of, data_of_items, data_of_members, no_number}
 use Rattle.it_borrowed.specs.inside.Json.{IsJson}
 use Rattle.it_borrowed.specs.inside.InRange.{in_range, items_in_range, members_in_range}
 
@@ -15,7 +15,7 @@ abbrev only_if : {A : Type 0} → Bool → A → Option A
 only_if b a = cond b (Some a) None
 
 number_is : (o : Option Num)
-    → option_map number o ≡ only_if (is_some o) (number (unwrap_or o (unsigned 0)))
+    → option_map number o ≡ only_if (is_some o) (number (unwrap_or o no_number))
 number_is None = refl
 number_is (Some n) = refl
 

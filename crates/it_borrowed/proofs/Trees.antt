@@ -1,19 +1,19 @@
 -- The members of a tree, beside those of the document that it stands for.
-use Rattle.std.proofs.Common.{◌≡◌, ℕ, List, [], ◌∷◌, ◌++◌, true, false, cond, Option, Some}
+use Rattle.std.proofs.Common.{◌≡◌, ℕ, zero, suc, List, [], ◌∷◌, ◌++◌, true, false, cond, Option, Some}
 use Rattle.std.proofs.Common.{None, option_map, bytes_eq, true≢false, refl, sym, ap}
 use Rattle.std.proofs.Common.{◌∙◌, Bor}
 use Rattle.std.proofs.lemmas.Slice.Eq.{bytes_eq-Decides}
 use Rattle.std.specs.declared.alloc.Global.{Global}
 use Rattle.json.specs.Json as json
 use Rattle.json.specs.Find as tree
-use Rattle.json.specs.Value.{members_view}
+use Rattle.json.specs.Value.{members_view, value_view}
 use Rattle.json.specs.declared.value.Value.{Value}
 use Rattle.serde_json.specs.Data.{Data}
 use Rattle.serde_json.specs.Data.{Members, no_members, put}
-use Rattle.serde_json.specs.Find.{get, get_member}
+use Rattle.serde_json.specs.Find.{at, get, get_item, get_member}
 use Rattle.serde_json.proofs.Views.{get_member-put, get_member-put_other}
 use Rattle.it_base.specs.Document.{present}
-use Rattle.it_borrowed.specs.Tree.{as_data, data_of, data_of_members}
+use Rattle.it_borrowed.specs.Tree.{as_data, data_of, data_of_items, data_of_members}
 
 abbrev later : Option Data → Option Data → Option Data
 later None earlier = earlier
@@ -76,6 +76,33 @@ pub present-other : (j : json.Json) → tree.is_null j ≡ false
     → present (data_of j) ≡ Some (data_of j)
 present-other json.null e = absurd (cc)
 present-other j e = refl
+
+-- and what it has at a place
+item-data_of : (n : ℕ) (js : json.Items)
+    → get_item n (data_of_items js) ≡ option_map data_of (tree.get_item n js)
+item-data_of n json.no_items = refl
+item-data_of zero (json.item j js) = refl
+item-data_of (suc n) (json.item j js) = item-data_of n js
+
+at-data_of : (n : ℕ) (j : json.Json) → at n (data_of j) ≡ option_map data_of (tree.at n j)
+at-data_of n json.null = refl
+at-data_of n (json.boolean b) = refl
+at-data_of n (json.number s) = refl
+at-data_of n (json.string s) = refl
+at-data_of n (json.array js) = item-data_of n js
+at-data_of n (json.object ms) = refl
+
+as_data-of : (found : Option (Bor (Value Global)))
+    → option_map (λ v. as_data v.now) found
+    ≡ option_map data_of (option_map (λ v. value_view v.now) found)
+as_data-of None = refl
+as_data-of (Some v) = refl
+
+pub found_at_place : (n : ℕ) (j : json.Json) (found : Option (Bor (Value Global)))
+    → option_map (λ v. value_view v.now) found ≡ tree.at n j
+    → option_map (λ v. as_data v.now) found ≡ at n (data_of j)
+found_at_place n j found is =
+    as_data-of found ∙ ap (option_map data_of) is ∙ sym (at-data_of n j)
 
 -- one more member goes in after the others
 pub data_of_members-push : (ms : List (Bor (List ℕ) × Value Global))

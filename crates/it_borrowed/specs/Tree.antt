@@ -1,16 +1,22 @@
 -- The document that a tree whose texts are borrowed stands for.
-use Rattle.std.specs.Prelude.{ℕ, List, unwrap_or}
+use Rattle.std.specs.Prelude.{ℕ, pos, List, unwrap_or}
+use Rattle.std.specs.Float.{binary64}
+use Rattle.std.specs.Float.Ieee.{of_int}
 use Rattle.std.specs.declared.alloc.Global.{Global}
 use Rattle.json.specs.Json as json
 use Rattle.json.specs.Value.{value_view}
 use Rattle.json.specs.declared.value.Value.{Value}
-use Rattle.serde_json.specs.Data.{Num, unsigned, Data, null, boolean, number, string, array, object}
+use Rattle.serde_json.specs.Data.{Num, float, Data, null, boolean, number, string, array, object}
 use Rattle.serde_json.specs.Data.{Items, no_items, item, Members, no_members, put}
 use Rattle.serde_json.specs.Read.{number_of}
 
--- the number that a text writes; what is out of range, which no document has, counts as 0
+-- what counts for a number out of range, which no document has
+abbrev pub no_number : Num
+no_number = float (of_int binary64 (pos 0))
+
+-- the number that a text writes
 abbrev pub number_in : List ℕ → Num
-number_in s = unwrap_or (number_of s) (unsigned 0)
+number_in s = unwrap_or (number_of s) no_number
 
 -- the members go in one after another, so the last value of a name stays
 abbrev mutual

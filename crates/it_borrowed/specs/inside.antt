@@ -1,3 +1,4 @@
 pub mod InRange
 pub mod Json
 pub mod Last
+pub mod Whole

@@ -4,8 +4,12 @@
 
 pub mod base64_text;
 pub mod document;
+pub mod items;
+pub mod list;
 mod numbers;
+mod parameters;
 pub mod parts;
 mod sequence;
 mod table;
 pub mod text;
+pub mod whole;

@@ -60,7 +60,7 @@ fn is_in_range(text: &str) -> bool
     }
 }
 
-fn has_minus(bytes: &[u8]) -> bool
+pub(crate) fn has_minus(bytes: &[u8]) -> bool
     ensures value { result ≡ (slice_index bytes.now 0 == 45) }
     ensures len { IsTrue result → 0 < length bytes.now }
 {

@@ -5,6 +5,7 @@ ghost use Rattle.it_base.specs.Finds.{Finds};
 ghost use Rattle.it_base.specs.Sequence.{AreEach, IsList};
 ghost use Rattle.it_borrowed.specs.Tree.{data_of_items};
 
+use crate::items::items_of;
 use crate::parts::FromBorrowed;
 use it_base::sequence::Sequence;
 use json::Value;
@@ -15,10 +16,9 @@ impl<T: FromBorrowed> FromBorrowed for Sequence<T> {
 
     /// The values of a JSON list's items, where the part is a list and each item is such a value.
     fn from_borrowed(alloc: Global, value: &Value<'_>) -> Result<Option<Sequence<T>>, AllocError> {
-        match value {
-            Value::Array(items) => read_each(alloc, items),
-            Value::Null | Value::Bool(_) | Value::Number(_) | Value::String(_) | Value::Object(_) =>
-                Ok(None),
+        match items_of(value) {
+            None => Ok(None),
+            Some(items) => read_each(alloc, items),
         }
     }
 }

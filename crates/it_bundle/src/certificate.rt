@@ -9,7 +9,7 @@ use crate::version::BundleVersion;
 use it_base::sequence::Sequence;
 use it_borrowed::base64_text::base64_part;
 use it_borrowed::document::member;
-use it_log_entry::items_of;
+use it_borrowed::items::items_of;
 use json::Value;
 use std::alloc::{AllocError, Global};
 

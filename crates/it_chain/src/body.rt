@@ -6,7 +6,7 @@ ghost use Rattle.it_docs.specs.Link.{LinkOf};
 ghost use Rattle.it_chain.specs.Body.{as_body};
 ghost use Rattle.it_chain.specs.CountedBodies.{BodyOf};
 
-use it_base::parts::from_bytes;
+use it_borrowed::parts::from_bytes;
 use it_docs::layout::Layout;
 use it_docs::link::Link;
 use std::alloc::{AllocError, Global};
@@ -48,7 +48,7 @@ pub fn body_in(alloc: Global, step: &str, payload: &[u8]) -> Result<Option<Body>
 pub fn link_in(alloc: Global, bytes: &[u8]) -> Result<Option<Link>, AllocError>
     ensures { IfOk result (Finds (LinkOf bytes.now)) }
 {
-    it_borrowed::parts::from_bytes(alloc, bytes)
+    from_bytes(alloc, bytes)
 }
 
 /// Reads a payload as a layout (in-toto 1.0 section 4.3), or `None` where it is not a layout.

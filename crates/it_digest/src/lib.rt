@@ -3,7 +3,6 @@
 #![tactic(auto)]
 
 pub mod artifacts;
-mod borrowed;
 pub mod compare;
 pub mod digest;
 mod digits;

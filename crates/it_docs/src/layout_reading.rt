@@ -2,7 +2,7 @@
 ghost use Rattle.std.specs.Prelude.{◌≡◌, [], IfOk, IfErr, MatchOption, MatchResult, codes, map};
 ghost use Rattle.std.specs.List.{IsDistinct};
 ghost use Rattle.std.specs.Str.{bytes_eq};
-ghost use Rattle.serde_json.specs.View.{view};
+ghost use Rattle.it_borrowed.specs.Tree.{as_data};
 ghost use Rattle.it_base.specs.Parts.{IsPartOr};
 ghost use Rattle.it_base.specs.Sequence.{IsList};
 ghost use Rattle.it_docs.specs.Layout.{IsLayout, LayoutOf};
@@ -18,14 +18,16 @@ use crate::layout_fault::{LayoutFault, LayoutPart};
 use crate::moment::moment_at;
 use crate::repeats::first_repeat;
 use crate::step::{Inspection, Step};
-use it_base::document::read_document;
-use it_base::list::{ListFault, numbered_list};
-use it_base::parts::{FromDocument, part_or};
+use it_base::list::ListFault;
 use it_base::sequence::Sequence;
 use it_base::table::Table;
-use it_base::text::{Text, has_text};
+use it_base::text::Text;
+use it_borrowed::document::{is_object, read_document};
+use it_borrowed::list::numbered_list;
+use it_borrowed::parts::{FromBorrowed, part_or};
+use it_borrowed::text::has_text;
 use it_dsse::key_object::KeyObject;
-use serde_json::Value;
+use json::{Scratch, Value};
 use std::alloc::{AllocError, Global};
 
 /// Reads a layout: the body of a layout's envelope. `readme`, the commands of steps and
@@ -39,17 +41,18 @@ pub fn read_layout(alloc: Global, bytes: &[u8]) -> Result<Layout, LayoutFault>
     ensures bad { IfErr result (λ e. (part : Part) → e ≡ LayoutFault.BadLayout part
         → LayoutPartOf bytes.now part) }
 {
-    match read_document(alloc, bytes)? {
+    let mut scratch = Scratch::new(alloc);
+    match read_document(alloc, bytes, &mut scratch)? {
         Some(document) => layout_of(alloc, &document),
         None => Err(LayoutFault::BadLayout(LayoutPart::Json)),
     }
 }
 
-impl FromDocument for Layout {
+impl FromBorrowed for Layout {
     ghost is_of = { IsLayout };
 
     /// The layout, where no part of it fails.
-    fn from_document(alloc: Global, value: &Value) -> Result<Option<Layout>, AllocError> {
+    fn from_borrowed(alloc: Global, value: &Value<'_>) -> Result<Option<Layout>, AllocError> {
         match layout_of(alloc, value) {
             Ok(layout) => Ok(Some(layout)),
             Err(LayoutFault::BadLayout(_)) => Ok(None),
@@ -58,11 +61,11 @@ impl FromDocument for Layout {
     }
 }
 
-fn layout_of(alloc: Global, document: &Value) -> Result<Layout, LayoutFault>
-    ensures { MatchResult result (IsLayout (view document.now))
-        (IsLayoutFault (view document.now)) }
+fn layout_of(alloc: Global, document: &Value<'_>) -> Result<Layout, LayoutFault>
+    ensures { MatchResult result (IsLayout (as_data document.now))
+        (IsLayoutFault (as_data document.now)) }
 {
-    if !document.is_object() {
+    if !is_object(document) {
         return Err(LayoutFault::BadLayout(LayoutPart::Json));
     }
     if !has_text(document, "_type", "layout") {
@@ -88,9 +91,10 @@ fn layout_of(alloc: Global, document: &Value) -> Result<Layout, LayoutFault>
     })
 }
 
-fn steps_of(alloc: Global, document: &Value) -> Result<Sequence<Step>, LayoutFault>
-    ensures { MatchResult result (IsPartOr (IsList IsStep) [] (codes "steps") (view document.now))
-        (IsStepsFault (view document.now)) }
+fn steps_of(alloc: Global, document: &Value<'_>) -> Result<Sequence<Step>, LayoutFault>
+    ensures { MatchResult result
+        (IsPartOr (IsList IsStep) [] (codes "steps") (as_data document.now))
+        (IsStepsFault (as_data document.now)) }
 {
     match numbered_list(alloc, document, "steps") {
         Ok(steps) => Ok(steps),
@@ -100,10 +104,10 @@ fn steps_of(alloc: Global, document: &Value) -> Result<Sequence<Step>, LayoutFau
     }
 }
 
-fn inspections_of(alloc: Global, document: &Value) -> Result<Sequence<Inspection>, LayoutFault>
+fn inspections_of(alloc: Global, document: &Value<'_>) -> Result<Sequence<Inspection>, LayoutFault>
     ensures { MatchResult result
-        (IsPartOr (IsList IsInspection) [] (codes "inspect") (view document.now))
-        (IsInspectionsFault (view document.now)) }
+        (IsPartOr (IsList IsInspection) [] (codes "inspect") (as_data document.now))
+        (IsInspectionsFault (as_data document.now)) }
 {
     match numbered_list(alloc, document, "inspect") {
         Ok(inspections) => Ok(inspections),

@@ -1,13 +1,14 @@
 //! Moments in UTC, written as 20 bytes.
 ghost use Rattle.std.specs.Prelude.{MatchResult, ℤ};
-ghost use Rattle.serde_json.specs.View.{view};
+ghost use Rattle.it_borrowed.specs.Tree.{as_data};
 ghost use Rattle.it_base.specs.Finds.{Finds};
 ghost use Rattle.it_base.specs.Parts.{IsPart};
 ghost use Rattle.it_docs.specs.Moment.{IsMoment, MomentOf};
 
-use it_base::document::member;
+use it_borrowed::document::member;
+use it_borrowed::text::text_of;
 use it_calendar::{day_number, second_of_day, two_digits};
-use serde_json::Value;
+use json::Value;
 
 /// The text is not a moment.
 #[derive(Clone, Copy, Debug, PartialEq, Eq)]
@@ -33,16 +34,16 @@ pub fn read_moment(text: &str) -> Result<i64, BadMoment>
 }
 
 /// The moment in the member of this name, or `None` where it is missing or not a moment.
-pub(crate) fn moment_at(value: &Value, name: &str) -> Option<i64>
-    ensures { Finds (IsPart IsMoment name.now (view value.now)) result }
+pub(crate) fn moment_at(value: &Value<'_>, name: &str) -> Option<i64>
+    ensures { Finds (IsPart IsMoment name.now (as_data value.now)) result }
 {
     moment_in(member(value, name)?)
 }
 
-fn moment_in(value: &Value) -> Option<i64>
-    ensures { Finds (IsMoment (view value.now)) result }
+fn moment_in(value: &Value<'_>) -> Option<i64>
+    ensures { Finds (IsMoment (as_data value.now)) result }
 {
-    moment_of(value.as_str()?.as_bytes())
+    moment_of(text_of(value)?.as_bytes())
 }
 
 fn moment_of(text: &[u8]) -> Option<i64>

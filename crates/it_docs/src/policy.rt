@@ -1,23 +1,25 @@
 //! Policies: who owns a layout, and what is expected of a delivery (this profile's choice).
 ghost use Rattle.std.specs.Prelude.{◌≡◌, ◌≢◌, IfOk};
 ghost use Rattle.std.specs.FinMap.{empty};
-ghost use Rattle.serde_json.specs.View.{view};
+ghost use Rattle.it_borrowed.specs.Tree.{as_data};
 ghost use Rattle.it_base.specs.Finds.{Finds};
 ghost use Rattle.it_base.specs.Parts.{IsPart};
 ghost use Rattle.it_base.specs.Text.{IsText};
 ghost use Rattle.it_docs.specs.Level.{IsLevel, IsLevelPart};
 
 use crate::rule::Rule;
-use it_base::document::member;
-use it_base::list::list_or_empty;
-use it_base::parts::{FromDocument, part, part_or};
 use it_base::sequence::Sequence;
 use it_base::table::Table;
 use it_base::text::Text;
 use it_base::tree::Members;
+use it_borrowed::document::member;
+use it_borrowed::list::list_or_empty;
+use it_borrowed::parts::{FromBorrowed, part, part_or};
+use it_borrowed::text::text_of;
+use it_borrowed::whole::unsigned_of;
 use it_dsse::key_object::KeyObject;
 use it_glob::Pattern;
-use serde_json::Value;
+use json::Value;
 use std::alloc::{AllocError, Global};
 
 /// A builder whose provenance is trusted.
@@ -61,12 +63,12 @@ pub struct Policy {
     pub ghost some_owner: { owners ≢ empty },
 }
 
-impl FromDocument for Builder {
+impl FromBorrowed for Builder {
     ghost use Rattle.it_docs.specs.Policy.{IsBuilderOf};
 
     ghost is_of = { IsBuilderOf };
 
-    fn from_document(alloc: Global, value: &Value) -> Result<Option<Builder>, AllocError> {
+    fn from_borrowed(alloc: Global, value: &Value<'_>) -> Result<Option<Builder>, AllocError> {
         let Some(id) = part::<Text>(alloc, value, "id")? else {
             return Ok(None);
         };
@@ -80,12 +82,12 @@ impl FromDocument for Builder {
     }
 }
 
-impl FromDocument for Expectation {
+impl FromBorrowed for Expectation {
     ghost use Rattle.it_docs.specs.Policy.{IsExpectation};
 
     ghost is_of = { IsExpectation };
 
-    fn from_document(alloc: Global, value: &Value) -> Result<Option<Expectation>, AllocError> {
+    fn from_borrowed(alloc: Global, value: &Value<'_>) -> Result<Option<Expectation>, AllocError> {
         let Some(files) = pattern_at(alloc, value, "files")? else {
             return Ok(None);
         };
@@ -117,8 +119,8 @@ impl FromDocument for Expectation {
 }
 
 /// The pattern in the member of this name, or `None` where it is missing or not a text.
-fn pattern_at(alloc: Global, value: &Value, name: &str) -> Result<Option<Pattern>, AllocError>
-    ensures { IfOk result (Finds (IsPart IsText name.now (view value.now))) }
+fn pattern_at(alloc: Global, value: &Value<'_>, name: &str) -> Result<Option<Pattern>, AllocError>
+    ensures { IfOk result (Finds (IsPart IsText name.now (as_data value.now))) }
 {
     match member(value, name) {
         None => Ok(None),
@@ -126,10 +128,10 @@ fn pattern_at(alloc: Global, value: &Value, name: &str) -> Result<Option<Pattern
     }
 }
 
-fn pattern_of(alloc: Global, value: &Value) -> Result<Option<Pattern>, AllocError>
-    ensures { IfOk result (Finds (IsText (view value.now))) }
+fn pattern_of(alloc: Global, value: &Value<'_>) -> Result<Option<Pattern>, AllocError>
+    ensures { IfOk result (Finds (IsText (as_data value.now))) }
 {
-    match value.as_str() {
+    match text_of(value) {
         None => Ok(None),
         Some(text) => Ok(Some(Pattern::read(alloc, text)?)),
     }
@@ -137,8 +139,8 @@ fn pattern_of(alloc: Global, value: &Value) -> Result<Option<Pattern>, AllocErro
 
 /// The level of a builder or an expectation: 0 where it is missing, and `None` where it is not a
 /// whole number from 0 to 3.
-fn level(value: &Value) -> Option<u8>
-    ensures { Finds (IsLevelPart (view value.now)) result }
+fn level(value: &Value<'_>) -> Option<u8>
+    ensures { Finds (IsLevelPart (as_data value.now)) result }
 {
     match member(value, "level") {
         None => Some(0),
@@ -146,9 +148,9 @@ fn level(value: &Value) -> Option<u8>
     }
 }
 
-fn whole_level(value: &Value) -> Option<u8>
-    ensures { Finds (IsLevel (view value.now)) result }
+fn whole_level(value: &Value<'_>) -> Option<u8>
+    ensures { Finds (IsLevel (as_data value.now)) result }
 {
-    let level = value.as_u64()?;
+    let level = unsigned_of(value)?;
     if level > 3 { None } else { Some(level as u8) }
 }

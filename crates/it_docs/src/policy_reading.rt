@@ -1,6 +1,6 @@
 //! Reading policies (this profile's choice).
 ghost use Rattle.std.specs.Prelude.{◌≡◌, [], IfOk, IfErr, MatchResult, codes};
-ghost use Rattle.serde_json.specs.View.{view};
+ghost use Rattle.it_borrowed.specs.Tree.{as_data};
 ghost use Rattle.it_base.specs.Finds.{Finds};
 ghost use Rattle.it_base.specs.Parts.{IsPartOr};
 ghost use Rattle.it_base.specs.Sequence.{IsList};
@@ -12,13 +12,14 @@ ghost use Rattle.it_docs.specs.declared.policy_fault.PolicyPart.{PolicyPart as P
 use crate::policy::{Expectation, Policy};
 use crate::policy_fault::{PolicyFault, PolicyPart};
 use crate::rule::Rule;
-use it_base::document::read_document;
-use it_base::list::{ListFault, list_or_empty, numbered_list};
-use it_base::parts::{FromDocument, part};
+use it_base::list::ListFault;
 use it_base::sequence::Sequence;
 use it_base::table::Table;
+use it_borrowed::document::{is_object, read_document};
+use it_borrowed::list::{list_or_empty, numbered_list};
+use it_borrowed::parts::{FromBorrowed, part};
 use it_dsse::key_object::KeyObject;
-use serde_json::Value;
+use json::{Scratch, Value};
 use std::alloc::{AllocError, Global};
 
 /// Reads a policy.
@@ -31,17 +32,18 @@ pub fn read_policy(alloc: Global, bytes: &[u8]) -> Result<Policy, PolicyFault>
     ensures bad { IfErr result (λ e. (part : Part) → e ≡ PolicyFault.BadPolicy part
         → PolicyPartOf bytes.now part) }
 {
-    match read_document(alloc, bytes)? {
+    let mut scratch = Scratch::new(alloc);
+    match read_document(alloc, bytes, &mut scratch)? {
         Some(document) => policy_of(alloc, &document),
         None => Err(PolicyFault::BadPolicy(PolicyPart::Json)),
     }
 }
 
-impl FromDocument for Policy {
+impl FromBorrowed for Policy {
     ghost is_of = { IsPolicy };
 
     /// The policy, where no part of it fails.
-    fn from_document(alloc: Global, value: &Value) -> Result<Option<Policy>, AllocError> {
+    fn from_borrowed(alloc: Global, value: &Value<'_>) -> Result<Option<Policy>, AllocError> {
         match policy_of(alloc, value) {
             Ok(policy) => Ok(Some(policy)),
             Err(PolicyFault::BadPolicy(_)) => Ok(None),
@@ -50,11 +52,11 @@ impl FromDocument for Policy {
     }
 }
 
-fn policy_of(alloc: Global, document: &Value) -> Result<Policy, PolicyFault>
-    ensures { MatchResult result (IsPolicy (view document.now))
-        (IsPolicyFault (view document.now)) }
+fn policy_of(alloc: Global, document: &Value<'_>) -> Result<Policy, PolicyFault>
+    ensures { MatchResult result (IsPolicy (as_data document.now))
+        (IsPolicyFault (as_data document.now)) }
 {
-    if !document.is_object() {
+    if !is_object(document) {
         return Err(PolicyFault::BadPolicy(PolicyPart::Json));
     }
     let Some(owners) = owners_of(alloc, document)? else {
@@ -71,8 +73,8 @@ fn policy_of(alloc: Global, document: &Value) -> Result<Policy, PolicyFault>
     })
 }
 
-fn owners_of(alloc: Global, document: &Value) -> Result<Option<Table<KeyObject>>, AllocError>
-    ensures { IfOk result (Finds (HasOwners (view document.now))) }
+fn owners_of(alloc: Global, document: &Value<'_>) -> Result<Option<Table<KeyObject>>, AllocError>
+    ensures { IfOk result (Finds (HasOwners (as_data document.now))) }
 {
     let Some(owners) = part::<Table<KeyObject>>(alloc, document, "owners")? else {
         return Ok(None);
@@ -83,10 +85,13 @@ fn owners_of(alloc: Global, document: &Value) -> Result<Option<Table<KeyObject>>
     Ok(Some(owners))
 }
 
-fn expectations_of(alloc: Global, document: &Value) -> Result<Sequence<Expectation>, PolicyFault>
+fn expectations_of(
+    alloc: Global,
+    document: &Value<'_>,
+) -> Result<Sequence<Expectation>, PolicyFault>
     ensures { MatchResult result
-        (IsPartOr (IsList IsExpectation) [] (codes "expectations") (view document.now))
-        (IsExpectationsFault (view document.now)) }
+        (IsPartOr (IsList IsExpectation) [] (codes "expectations") (as_data document.now))
+        (IsExpectationsFault (as_data document.now)) }
 {
     match numbered_list(alloc, document, "expectations") {
         Ok(expectations) => Ok(expectations),

@@ -1,17 +1,17 @@
 //! Artifact rules and their texts (in-toto 1.0, section 4.3.3).
 ghost use Rattle.std.specs.Prelude.{◌≡◌, ◌∷◌, [], IfOk, map, string_bytes};
-ghost use Rattle.serde_json.specs.View.{view};
+ghost use Rattle.it_borrowed.specs.Tree.{as_data};
 ghost use Rattle.it_base.specs.Finds.{Finds};
 ghost use Rattle.it_docs.specs.Rule.{IsRule, RuleOf, is_keyword as is_this_keyword};
 ghost use Rattle.it_docs.specs.inside.RuleAnswer.{is_match as is_match_of, match_of};
 ghost use Rattle.it_docs.specs.inside.RuleAnswer.{prefixed_of, rule_of};
 ghost use Rattle.it_docs.specs.inside.RuleAnswer.{short_of, side_of as side_at};
 
-use it_base::parts::FromDocument;
 use it_base::sequence::Sequence;
 use it_base::text::Text;
+use it_borrowed::parts::FromBorrowed;
 use it_glob::Pattern;
-use serde_json::Value;
+use json::Value;
 use std::alloc::{AllocError, Global};
 
 /// A side of a step: what went in, or what came out.
@@ -71,12 +71,12 @@ impl<'a> Prefixes<'a> {
     }
 }
 
-impl FromDocument for Rule {
+impl FromBorrowed for Rule {
     ghost is_of = { IsRule };
 
     /// Reads a rule from a list of texts.
-    fn from_document(alloc: Global, value: &Value) -> Result<Option<Rule>, AllocError> {
-        match Sequence::<Text>::from_document(alloc, value)? {
+    fn from_borrowed(alloc: Global, value: &Value<'_>) -> Result<Option<Rule>, AllocError> {
+        match Sequence::<Text>::from_borrowed(alloc, value)? {
             None => Ok(None),
             Some(texts) => found_rule(alloc, texts.as_slice()),
         }

@@ -1,6 +1,7 @@
 //! Statements and their provenance (in-toto Attestation Statement v1, SLSA Provenance v1).
 ghost use Rattle.std.specs.Prelude.{◌≡◌, IfOk, IsErrOf};
-ghost use Rattle.serde_json.specs.View.{view, items_view};
+ghost use Rattle.json.specs.Value.{items_view};
+ghost use Rattle.it_borrowed.specs.Tree.{as_data, data_of_items};
 ghost use Rattle.it_base.specs.Finds.{Finds};
 ghost use Rattle.it_base.specs.Parts.{IsPart};
 ghost use Rattle.it_base.specs.Sequence.{AreEach, IsList};
@@ -8,14 +9,16 @@ ghost use Rattle.it_docs.specs.Statement.{IsBuilder, IsProvenance, IsProvenanceO
 ghost use Rattle.it_docs.specs.Statement.{IsSubject, IsSubjects, StatementOf};
 
 use crate::fault::DocumentFault;
-use it_base::document::member;
-use it_base::parts::{FromDocument, from_bytes, part, part_or};
 use it_base::sequence::Sequence;
-use it_base::text::{Text, has_text};
+use it_base::text::Text;
 use it_base::tree::Members;
+use it_borrowed::document::{is_object, member};
+use it_borrowed::items::items_of;
+use it_borrowed::parts::{FromBorrowed, from_bytes, part, part_or};
+use it_borrowed::text::has_text;
 use it_digest::compare::DigestSet;
 use it_digest::digest::digest_set;
-use serde_json::Value;
+use json::Value;
 use std::alloc::{AllocError, Global};
 
 /// How an artifact was built.
@@ -54,10 +57,10 @@ pub fn read_statement(alloc: Global, bytes: &[u8]) -> Result<Statement, Document
     from_bytes::<Statement>(alloc, bytes)?.ok_or(DocumentFault::BadDocument)
 }
 
-impl FromDocument for Statement {
+impl FromBorrowed for Statement {
     ghost is_of = { IsStatement };
 
-    fn from_document(alloc: Global, value: &Value) -> Result<Option<Statement>, AllocError> {
+    fn from_borrowed(alloc: Global, value: &Value<'_>) -> Result<Option<Statement>, AllocError> {
         if !has_text(value, "_type", "https://in-toto.io/Statement/v1") {
             return Ok(None);
         }
@@ -76,10 +79,10 @@ impl FromDocument for Statement {
     }
 }
 
-impl FromDocument for Provenance {
+impl FromBorrowed for Provenance {
     ghost is_of = { IsProvenance };
 
-    fn from_document(alloc: Global, value: &Value) -> Result<Option<Provenance>, AllocError> {
+    fn from_borrowed(alloc: Global, value: &Value<'_>) -> Result<Option<Provenance>, AllocError> {
         let Some(definition) = member(value, "buildDefinition") else {
             return Ok(None);
         };
@@ -102,8 +105,8 @@ impl FromDocument for Provenance {
     }
 }
 
-fn builder_id(alloc: Global, value: &Value) -> Result<Option<Text>, AllocError>
-    ensures { IfOk result (Finds (IsBuilder (view value.now))) }
+fn builder_id(alloc: Global, value: &Value<'_>) -> Result<Option<Text>, AllocError>
+    ensures { IfOk result (Finds (IsBuilder (as_data value.now))) }
 {
     let Some(details) = member(value, "runDetails") else {
         return Ok(None);
@@ -114,8 +117,8 @@ fn builder_id(alloc: Global, value: &Value) -> Result<Option<Text>, AllocError>
     part::<Text>(alloc, builder, "id")
 }
 
-fn read_provenance(alloc: Global, value: &Value) -> Result<Option<Provenance>, AllocError>
-    ensures { IfOk result (Finds (IsProvenanceOf (view value.now))) }
+fn read_provenance(alloc: Global, value: &Value<'_>) -> Result<Option<Provenance>, AllocError>
+    ensures { IfOk result (Finds (IsProvenanceOf (as_data value.now))) }
 {
     if !has_text(value, "predicateType", "https://slsa.dev/provenance/v1") {
         return Ok(None);
@@ -123,10 +126,10 @@ fn read_provenance(alloc: Global, value: &Value) -> Result<Option<Provenance>, A
     part::<Provenance>(alloc, value, "predicate")
 }
 
-fn subjects_of(alloc: Global, value: &Value) -> Result<Option<Sequence<DigestSet>>, AllocError>
-    ensures { IfOk result (Finds (IsSubjects (view value.now))) }
+fn subjects_of(alloc: Global, value: &Value<'_>) -> Result<Option<Sequence<DigestSet>>, AllocError>
+    ensures { IfOk result (Finds (IsSubjects (as_data value.now))) }
 {
-    match member(value, "subject").and_then(Value::as_array) {
+    match member(value, "subject").and_then(items_of) {
         None => Ok(None),
         Some(items) => read_subjects(alloc, items),
     }
@@ -134,9 +137,9 @@ fn subjects_of(alloc: Global, value: &Value) -> Result<Option<Sequence<DigestSet
 
 fn read_subjects(
     alloc: Global,
-    items: &Vec<Value>,
+    items: &Vec<Value<'_>>,
 ) -> Result<Option<Sequence<DigestSet>>, AllocError>
-    ensures { IfOk result (Finds (AreEach IsSubject (items_view items.now.items))) }
+    ensures { IfOk result (Finds (AreEach IsSubject (data_of_items (items_view items.now.items)))) }
 {
     let mut subjects = Vec::new(alloc);
     for item in items {
@@ -149,10 +152,10 @@ fn read_subjects(
 }
 
 /// The digests of a subject, empty where it has no digest set.
-fn subject(value: &Value) -> Option<DigestSet>
-    ensures { Finds (IsSubject (view value.now)) result }
+fn subject(value: &Value<'_>) -> Option<DigestSet>
+    ensures { Finds (IsSubject (as_data value.now)) result }
 {
-    if !value.is_object() {
+    if !is_object(value) {
         return None;
     }
     match member(value, "digest") {

@@ -1,16 +1,17 @@
 //! Steps and inspections of layouts (in-toto 1.0 section 4.3).
 ghost use Rattle.std.specs.Prelude.{◌≡◌, ◌≢◌, ◌≤◌, All, Contains, IfOk, IfErr, IfSome, MatchOption};
-ghost use Rattle.serde_json.specs.View.{view};
+ghost use Rattle.it_borrowed.specs.Tree.{as_data};
 ghost use Rattle.it_base.specs.Finds.{Finds};
 ghost use Rattle.it_docs.specs.Threshold.{IsThreshold, IsThresholdPart};
 
 use crate::rule::Rule;
-use it_base::document::member;
-use it_base::list::list_or_empty;
-use it_base::parts::{FromDocument, part};
 use it_base::sequence::Sequence;
 use it_base::text::Text;
-use serde_json::Value;
+use it_borrowed::document::member;
+use it_borrowed::list::list_or_empty;
+use it_borrowed::parts::{FromBorrowed, part};
+use it_borrowed::whole::unsigned_of;
+use json::Value;
 use std::alloc::{AllocError, Global};
 
 /// A step that a layout asks for.
@@ -54,12 +55,12 @@ pub fn step_named<'a>(steps: &'a [Step], name: &str) -> Option<&'a Step>
     None
 }
 
-impl FromDocument for Step {
+impl FromBorrowed for Step {
     ghost use Rattle.it_docs.specs.Step.{IsStep};
 
     ghost is_of = { IsStep };
 
-    fn from_document(alloc: Global, value: &Value) -> Result<Option<Step>, AllocError> {
+    fn from_borrowed(alloc: Global, value: &Value<'_>) -> Result<Option<Step>, AllocError> {
         let Some(name) = part::<Text>(alloc, value, "name")? else {
             return Ok(None);
         };
@@ -87,12 +88,12 @@ impl FromDocument for Step {
     }
 }
 
-impl FromDocument for Inspection {
+impl FromBorrowed for Inspection {
     ghost use Rattle.it_docs.specs.Step.{IsInspection};
 
     ghost is_of = { IsInspection };
 
-    fn from_document(alloc: Global, value: &Value) -> Result<Option<Inspection>, AllocError> {
+    fn from_borrowed(alloc: Global, value: &Value<'_>) -> Result<Option<Inspection>, AllocError> {
         let Some(name) = part::<Text>(alloc, value, "name")? else {
             return Ok(None);
         };
@@ -114,8 +115,8 @@ impl FromDocument for Inspection {
 
 /// The threshold of a step: 1 where it is missing, and `None` where it is not a whole number above
 /// 0 that fits 64 bits.
-fn threshold(value: &Value) -> Option<u64>
-    ensures { Finds (IsThresholdPart (view value.now)) result }
+fn threshold(value: &Value<'_>) -> Option<u64>
+    ensures { Finds (IsThresholdPart (as_data value.now)) result }
 {
     match member(value, "threshold") {
         None => Some(1),
@@ -123,10 +124,10 @@ fn threshold(value: &Value) -> Option<u64>
     }
 }
 
-fn whole_threshold(value: &Value) -> Option<u64>
-    ensures { Finds (IsThreshold (view value.now)) result }
+fn whole_threshold(value: &Value<'_>) -> Option<u64>
+    ensures { Finds (IsThreshold (as_data value.now)) result }
 {
-    let threshold = value.as_u64()?;
+    let threshold = unsigned_of(value)?;
     if threshold == 0 {
         None
     } else {

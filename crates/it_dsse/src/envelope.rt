@@ -1,16 +1,15 @@
 //! Envelopes, and reading them.
 ghost use Rattle.std.specs.Prelude.{◌≡◌, ◌∷◌, ◌++◌, [], IfOk, IsErrOf};
-ghost use Rattle.serde_json.specs.View.{view};
 ghost use Rattle.it_base.specs.Finds.{Finds};
 ghost use Rattle.it_dsse.specs.declared.envelope.EnvelopeFault.TheVariants.{OutOfMemory};
 ghost use Rattle.it_dsse.specs.Envelope.{EnvelopeOf, IsEnvelope, IsSignature};
 ghost use Rattle.it_dsse.specs.Signed.{is_admitted};
 
-use it_base::base64_text::base64_part;
-use it_base::parts::{FromDocument, part, part_or};
 use it_base::sequence::Sequence;
 use it_base::text::Text;
-use serde_json::Value;
+use it_borrowed::base64_text::base64_part;
+use it_borrowed::parts::{FromBorrowed, from_bytes, part, part_or};
+use json::Value;
 use std::alloc::{AllocError, Global};
 
 /// A signature of an envelope (DSSE v1.0, "Envelope").
@@ -73,7 +72,7 @@ impl Envelope {
         ensures bad { IsErrOf result EnvelopeFault.BadEnvelope
             → (envelope : _) → ¬ EnvelopeOf bytes.now envelope }
     {
-        it_borrowed::parts::from_bytes::<Envelope>(alloc, bytes)?.ok_or(EnvelopeFault::BadEnvelope)
+        from_bytes::<Envelope>(alloc, bytes)?.ok_or(EnvelopeFault::BadEnvelope)
     }
 
     /// The envelope of a body of type `kind`, such as `application/vnd.in-toto+json`, with one
@@ -125,10 +124,10 @@ impl Envelope {
     }
 }
 
-impl FromDocument for Envelope {
+impl FromBorrowed for Envelope {
     ghost is_of = { IsEnvelope };
 
-    fn from_document(alloc: Global, value: &Value) -> Result<Option<Envelope>, AllocError> {
+    fn from_borrowed(alloc: Global, value: &Value<'_>) -> Result<Option<Envelope>, AllocError> {
         let Some(payload) = base64_part(alloc, value, "payload")? else {
             return Ok(None);
         };
@@ -146,10 +145,10 @@ impl FromDocument for Envelope {
     }
 }
 
-impl FromDocument for Signature {
+impl FromBorrowed for Signature {
     ghost is_of = { IsSignature };
 
-    fn from_document(alloc: Global, value: &Value) -> Result<Option<Signature>, AllocError> {
+    fn from_borrowed(alloc: Global, value: &Value<'_>) -> Result<Option<Signature>, AllocError> {
         let Some(sig) = base64_part(alloc, value, "sig")? else {
             return Ok(None);
         };

@@ -1,13 +1,14 @@
 //! What a document says about a key.
 ghost use Rattle.std.specs.Prelude.{◌≡◌, IfOk, option_map};
-ghost use Rattle.serde_json.specs.View.{view};
+ghost use Rattle.it_borrowed.specs.Tree.{as_data};
 ghost use Rattle.it_base.specs.Finds.{Finds};
 ghost use Rattle.it_dsse.specs.KeyObject.{IsKeyObject, text_at};
 
-use it_base::document::member;
-use it_base::parts::FromDocument;
 use it_base::text::Text;
-use serde_json::Value;
+use it_borrowed::document::{is_object, member};
+use it_borrowed::parts::FromBorrowed;
+use it_borrowed::text::text_of;
+use json::Value;
 use std::alloc::{AllocError, Global};
 
 /// A key, as a layout or a policy describes it (in-toto 1.0 section 4.2). Which key it is, if any,
@@ -26,12 +27,12 @@ pub struct KeyObject {
     pub issuer: Text,
 }
 
-impl FromDocument for KeyObject {
+impl FromBorrowed for KeyObject {
     ghost is_of = { IsKeyObject };
 
     /// The key object, where the part is a JSON object. A member that is not text reads as empty.
-    fn from_document(alloc: Global, value: &Value) -> Result<Option<KeyObject>, AllocError> {
-        if !value.is_object() {
+    fn from_borrowed(alloc: Global, value: &Value<'_>) -> Result<Option<KeyObject>, AllocError> {
+        if !is_object(value) {
             return Ok(None);
         }
         let keyval = member(value, "keyval");
@@ -45,12 +46,12 @@ impl FromDocument for KeyObject {
     }
 }
 
-fn text_or_empty(alloc: Global, value: Option<&Value>, name: &str) -> Result<Text, AllocError>
+fn text_or_empty(alloc: Global, value: Option<&Value<'_>>, name: &str) -> Result<Text, AllocError>
     ensures { IfOk result
-        (λ text. text ≡ text_at name.now (option_map (λ v. view v.now) value.entry)) }
+        (λ text. text ≡ text_at name.now (option_map (λ v. as_data v.now) value.entry)) }
 {
     let text = value
         .and_then(|object| member(object, name))
-        .and_then(Value::as_str);
+        .and_then(text_of);
     Text::copy(alloc, text.unwrap_or(""))
 }

@@ -2,7 +2,6 @@
 #![tactic(auto)]
 
 pub mod asked;
-mod borrowed;
 pub mod boxed;
 pub mod check;
 pub mod checks;

@@ -4,9 +4,9 @@ pub mod Checkpoints
 pub mod Entries
 pub mod Finding
 pub mod First
-pub mod ItemsRead
 pub mod Notes
 pub mod Numbers
+pub mod OneItem
 pub mod Parts
 pub mod Same
 pub mod Shortfalls

@@ -7,10 +7,10 @@ ghost use Rattle.it_base.specs.Parts.{IsPart};
 ghost use Rattle.it_base.specs.Sequence.{AreEach, IsList};
 ghost use Rattle.it_log_entry.specs.InclusionProof.{IsHash};
 
-use crate::items::items_of;
 use it_base::base64_text::decode_base64;
 use it_base::sequence::Sequence;
 use it_borrowed::document::member;
+use it_borrowed::items::items_of;
 use it_borrowed::text::text_of;
 use json::Value;
 use std::alloc::{AllocError, Global};

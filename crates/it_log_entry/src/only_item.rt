@@ -6,8 +6,8 @@ ghost use Rattle.it_base.specs.Finds.{FindsAs};
 ghost use Rattle.it_base.specs.Sequence.{AreEach, IsList};
 ghost use Rattle.it_log_entry.specs.OnlyItem.{IsOnlyItem};
 
-use crate::items::items_of;
 use it_borrowed::document::member;
+use it_borrowed::items::items_of;
 use json::Value;
 
 /// The item of the list in the member of this name, where it has one item alone.

@@ -1,16 +1,16 @@
 //! The item of a list of rules that is not a rule.
 ghost use Rattle.std.specs.Prelude.{IfOk, IfSome};
-ghost use Rattle.serde_json.specs.View.{view};
+ghost use Rattle.it_borrowed.specs.Tree.{as_data};
 ghost use Rattle.it_part_notes.specs.PartNotes.{HasBadRule};
 
 use crate::fit::reads;
 use crate::item_at::{count_at, item_at};
 use crate::part_note::BadRule;
-use it_base::parts::FromDocument;
 use it_base::sequence::Sequence;
 use it_base::text::Text;
+use it_borrowed::parts::FromBorrowed;
 use it_docs::rule::Rule;
-use serde_json::Value;
+use json::Value;
 use std::alloc::{AllocError, Global};
 
 /// The first item that is not a rule, in the list that is the member of this name.
@@ -20,10 +20,10 @@ use std::alloc::{AllocError, Global};
 /// `AllocError` where memory was refused.
 pub(crate) fn bad_rule(
     alloc: Global,
-    object: &Value,
+    object: &Value<'_>,
     name: &str,
 ) -> Result<Option<BadRule>, AllocError>
-    ensures { IfOk result (λ found. IfSome found (HasBadRule (view object.now) name.now)) }
+    ensures { IfOk result (λ found. IfSome found (HasBadRule (as_data object.now) name.now)) }
 {
     for number in 0..count_at(object, name) {
         let found = bad_rule_at(alloc, object, name, number)?;
@@ -37,11 +37,11 @@ pub(crate) fn bad_rule(
 /// The item with this number, if it is not a rule.
 fn bad_rule_at(
     alloc: Global,
-    object: &Value,
+    object: &Value<'_>,
     name: &str,
     number: usize,
 ) -> Result<Option<BadRule>, AllocError>
-    ensures { IfOk result (λ found. IfSome found (HasBadRule (view object.now) name.now)) }
+    ensures { IfOk result (λ found. IfSome found (HasBadRule (as_data object.now) name.now)) }
 {
     let Some(item) = item_at(object, name, number) else {
         return Ok(None);
@@ -49,6 +49,6 @@ fn bad_rule_at(
     if reads::<Rule>(alloc, item)? {
         return Ok(None);
     }
-    let words = Sequence::<Text>::from_document(alloc, item)?;
+    let words = Sequence::<Text>::from_borrowed(alloc, item)?;
     Ok(Some(BadRule { number, words }))
 }

@@ -6,7 +6,8 @@ use crate::instead::instead_of;
 use crate::members::envelope_members;
 use crate::part_note::{PartNote, PartPlace, Problem};
 use crate::problem::part_note;
-use it_base::document::read_document;
+use it_borrowed::document::read_document;
+use json::Scratch;
 use std::alloc::{AllocError, Global};
 
 /// Says what is wrong with `bytes` that were read as an envelope (DSSE v1.0): they are not a JSON
@@ -33,7 +34,8 @@ pub fn envelope_part_note(alloc: Global, bytes: &[u8]) -> Result<Option<PartNote
 fn instead_note(alloc: Global, bytes: &[u8]) -> Result<Option<PartNote>, AllocError>
     ensures { IfOk result (λ found. IfSome found (TellsEnvelope bytes.now)) }
 {
-    let Some(document) = read_document(alloc, bytes)? else {
+    let mut scratch = Scratch::new(alloc);
+    let Some(document) = read_document(alloc, bytes, &mut scratch)? else {
         return Ok(None);
     };
     let Some(instead) = instead_of(alloc, &document)? else {

@@ -1,12 +1,12 @@
 //! What an object is that is no envelope.
 ghost use Rattle.std.specs.Prelude.{IfOk, IfSome};
-ghost use Rattle.serde_json.specs.View.{view};
+ghost use Rattle.it_borrowed.specs.Tree.{as_data};
 ghost use Rattle.it_part_notes.specs.Instead.{IsInstead};
 
-use it_base::document::member;
-use it_base::parts::part;
 use it_base::text::Text;
-use serde_json::Value;
+use it_borrowed::document::member;
+use it_borrowed::parts::part;
+use json::Value;
 use std::alloc::{AllocError, Global};
 
 /// What an object is that stands in place of an envelope.
@@ -27,8 +27,8 @@ pub enum Instead {
 /// # Errors
 ///
 /// `AllocError` where memory was refused.
-pub(crate) fn instead_of(alloc: Global, object: &Value) -> Result<Option<Instead>, AllocError>
-    ensures { IfOk result (λ found. IfSome found (IsInstead (view object.now))) }
+pub(crate) fn instead_of(alloc: Global, object: &Value<'_>) -> Result<Option<Instead>, AllocError>
+    ensures { IfOk result (λ found. IfSome found (IsInstead (as_data object.now))) }
 {
     if member(object, "dsseEnvelope").is_some() {
         return Ok(Some(Instead::Bundle));
@@ -40,8 +40,8 @@ pub(crate) fn instead_of(alloc: Global, object: &Value) -> Result<Option<Instead
 }
 
 /// Which body of an envelope an object is.
-fn body_of(alloc: Global, object: &Value) -> Result<Option<Instead>, AllocError>
-    ensures { IfOk result (λ found. IfSome found (IsInstead (view object.now))) }
+fn body_of(alloc: Global, object: &Value<'_>) -> Result<Option<Instead>, AllocError>
+    ensures { IfOk result (λ found. IfSome found (IsInstead (as_data object.now))) }
 {
     let Some(found) = part::<Text>(alloc, object, "_type")? else {
         return Ok(None);

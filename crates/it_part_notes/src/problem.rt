@@ -1,6 +1,6 @@
 //! What is wrong with a part of a document.
 ghost use Rattle.std.specs.Prelude.{◌≡◌, IfOk, IfSome, IsTrue, is_some, map, true};
-ghost use Rattle.serde_json.specs.View.{view};
+ghost use Rattle.it_borrowed.specs.Tree.{as_data};
 ghost use Rattle.it_base.specs.Document.{member_at};
 ghost use Rattle.it_part_notes.specs.Members.{shown};
 ghost use Rattle.it_part_notes.specs.PartNotes.{IsWhole, TellsFault, TellsPart, TellsProblem};
@@ -12,9 +12,9 @@ use crate::item_at::object_at;
 use crate::member::{Kind, Member};
 use crate::part_note::{Fault, PartNote, PartPlace, Problem};
 use crate::shape::shape_of;
-use it_base::base64_text::base64_part;
-use it_base::document::{member, read_document};
-use serde_json::Value;
+use it_borrowed::base64_text::base64_part;
+use it_borrowed::document::{is_object, member, read_document};
+use json::{Scratch, Value};
 use std::alloc::{AllocError, Global};
 
 /// The note on the object at a place of a document: on the first of these members that is wrong.
@@ -31,7 +31,8 @@ pub(crate) fn part_note(
     ensures { IfOk result (λ found.
         IfSome found (TellsPart bytes.now place (map shown members.now))) }
 {
-    let Some(document) = read_document(alloc, bytes)? else {
+    let mut scratch = Scratch::new(alloc);
+    let Some(document) = read_document(alloc, bytes, &mut scratch)? else {
         let flaw = flaw_of(alloc, bytes)?;
         return Ok(no_document(place, flaw));
     };
@@ -60,13 +61,13 @@ fn no_document(place: PartPlace, flaw: Option<Flaw>) -> Option<PartNote>
 
 fn problem_of(
     alloc: Global,
-    object: &Value,
+    object: &Value<'_>,
     members: &[Member],
 ) -> Result<Option<Problem>, AllocError>
     ensures { IfOk result (λ found.
-        IfSome found (TellsProblem (map shown members.now) (view object.now))) }
+        IfSome found (TellsProblem (map shown members.now) (as_data object.now))) }
 {
-    if !object.is_object() {
+    if !is_object(object) {
         return Ok(Some(Problem::NoObject(shape_of(object))));
     }
     for member in members {
@@ -77,9 +78,9 @@ fn problem_of(
     Ok(None)
 }
 
-fn fault_of(alloc: Global, object: &Value, looked: Member) -> Result<Option<Fault>, AllocError>
+fn fault_of(alloc: Global, object: &Value<'_>, looked: Member) -> Result<Option<Fault>, AllocError>
     ensures { IfOk result (λ found.
-        IfSome found (TellsFault (view object.now) (shown looked))) }
+        IfSome found (TellsFault (as_data object.now) (shown looked))) }
 {
     let Some(value) = member(object, looked.name()) else {
         return Ok(missing(looked));
@@ -106,10 +107,14 @@ fn missing(looked: Member) -> Option<Fault>
     }
 }
 
-fn rule_fault(alloc: Global, object: &Value, looked: Member) -> Result<Option<Fault>, AllocError>
+fn rule_fault(
+    alloc: Global,
+    object: &Value<'_>,
+    looked: Member,
+) -> Result<Option<Fault>, AllocError>
     requires { (shown looked).kind ≡ Kind.Rules }
     ensures { IfOk result (λ found.
-        IfSome found (TellsFault (view object.now) (shown looked))) }
+        IfSome found (TellsFault (as_data object.now) (shown looked))) }
 {
     let Some(bad) = bad_rule(alloc, object, looked.name())? else {
         return Ok(None);
@@ -118,11 +123,15 @@ fn rule_fault(alloc: Global, object: &Value, looked: Member) -> Result<Option<Fa
 }
 
 /// The fault of a member that is there, if it is not a text in base64.
-fn base64_fault(alloc: Global, object: &Value, looked: Member) -> Result<Option<Fault>, AllocError>
+fn base64_fault(
+    alloc: Global,
+    object: &Value<'_>,
+    looked: Member,
+) -> Result<Option<Fault>, AllocError>
     requires kind { (shown looked).kind ≡ Kind.Base64 }
-    requires there { IsTrue (is_some (member_at (shown looked).name (view object.now))) }
+    requires there { IsTrue (is_some (member_at (shown looked).name (as_data object.now))) }
     ensures { IfOk result (λ found.
-        IfSome found (TellsFault (view object.now) (shown looked))) }
+        IfSome found (TellsFault (as_data object.now) (shown looked))) }
 {
     match base64_part(alloc, object, looked.name())? {
         Some(_) => Ok(None),

@@ -1,9 +1,9 @@
 //! What a value is that is no object.
 ghost use Rattle.std.specs.Prelude.{IfSome};
-ghost use Rattle.serde_json.specs.View.{view};
+ghost use Rattle.it_borrowed.specs.Tree.{as_data};
 ghost use Rattle.it_part_notes.specs.PartNotes.{IsShape};
 
-use serde_json::Value;
+use json::Value;
 
 /// What a JSON value is that is no object, and not true, false or null.
 #[derive(Clone, Copy, Debug, Drop, PartialEq, Eq)]
@@ -17,17 +17,13 @@ pub enum Shape {
 }
 
 /// Whether a value is a list, a text or a number. Takes no memory.
-pub(crate) fn shape_of(value: &Value) -> Option<Shape>
-    ensures { IfSome result (IsShape (view value.now)) }
+pub(crate) fn shape_of(value: &Value<'_>) -> Option<Shape>
+    ensures { IfSome result (IsShape (as_data value.now)) }
 {
-    if value.is_array() {
-        return Some(Shape::List);
+    match value {
+        Value::Array(_) => Some(Shape::List),
+        Value::String(_) => Some(Shape::Text),
+        Value::Number(_) => Some(Shape::Number),
+        Value::Null | Value::Bool(_) | Value::Object(_) => None,
     }
-    if value.is_string() {
-        return Some(Shape::Text);
-    }
-    if value.is_number() {
-        return Some(Shape::Number);
-    }
-    None
 }

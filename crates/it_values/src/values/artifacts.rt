@@ -27,9 +27,9 @@ pub(crate) fn answer(alloc: Global, call: &str, row: &Value) -> Result<String, R
 }
 
 /// The path and the digests of an entry.
-fn entry_of(entry: &Value) -> Result<(&str, DigestSet), RowFault> {
+fn entry_of(alloc: Global, entry: &Value) -> Result<(&str, DigestSet), RowFault> {
     let path = text_in(entry, "path")?;
-    Ok((path, digests::digests_in(entry, "digests")?))
+    Ok((path, digests::digests_in(alloc, entry, "digests")?))
 }
 
 /// Puts an entry into the map, and returns what was under its path before.
@@ -38,7 +38,7 @@ fn put_entry(
     map: &mut Artifacts,
     entry: &Value,
 ) -> Result<Option<DigestSet>, RowFault> {
-    let (path, digests) = entry_of(entry)?;
+    let (path, digests) = entry_of(alloc, entry)?;
     let path = String::from_str(alloc, path)?;
     Ok(map.insert(path, digests)?)
 }

@@ -1,7 +1,7 @@
 //! Digests: how sets of them compare, and the SHA-256 and the SHA-512 of what a reader gives.
 use it_base::document::member;
+use it_borrowed::parts::from_bytes;
 use it_digest::compare::DigestSet;
-use it_digest::digest::digest_set;
 use it_digest::reader::{DigestFault, sha256_of_reader, sha512_of_reader};
 use it_tables::RowFault;
 use it_tables::devices::Source;
@@ -12,7 +12,11 @@ use std::alloc::{AllocError, Global};
 /// What a call on digests answers.
 pub(crate) fn answer(alloc: Global, call: &str, row: &Value) -> Result<String, RowFault> {
     match call {
-        "compare" => compare(alloc, digests_in(row, "one")?, digests_in(row, "other")?),
+        "compare" => compare(
+            alloc,
+            digests_in(alloc, row, "one")?,
+            digests_in(alloc, row, "other")?,
+        ),
         "compare filled" => compare(alloc, filled_in(row, "one")?, filled_in(row, "other")?),
         "of bytes" => of_bytes(alloc, row),
         "by SHA-512 of bytes" => by_sha512_of_bytes(alloc, row),
@@ -26,8 +30,13 @@ pub(crate) fn answer(alloc: Global, call: &str, row: &Value) -> Result<String, R
 /// # Errors
 ///
 /// `BadMember` where it is none.
-pub(crate) fn digests_in(row: &Value, name: &'static str) -> Result<DigestSet, RowFault> {
-    digest_set(member_in(row, name)?).ok_or(RowFault::BadMember(name))
+pub(crate) fn digests_in(
+    alloc: Global,
+    row: &Value,
+    name: &'static str,
+) -> Result<DigestSet, RowFault> {
+    let text = member_in(row, name)?.to_string(alloc)?;
+    from_bytes::<DigestSet>(alloc, text.as_bytes())?.ok_or(RowFault::BadMember(name))
 }
 
 /// The digest set in which each digest is filled with the byte that the member gives.

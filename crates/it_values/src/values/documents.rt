@@ -1,8 +1,8 @@
 //! JSON documents, and the moments and texts that they hold.
 use crate::values::told::text_or_none;
 use it_base::document::{member, read_document};
-use it_base::parts::from_bytes;
 use it_base::text::Text;
+use it_borrowed::parts::from_bytes;
 use it_docs::moment::read_moment;
 use it_tables::RowFault;
 use it_tables::devices::nested;

@@ -2,7 +2,7 @@
 use crate::values::rings::known_ring;
 use crate::values::told::text_or_none;
 use crate::values::writing::full_in;
-use it_base::parts::from_bytes;
+use it_borrowed::parts::from_bytes;
 use it_dsse::envelope::{Envelope, Signature};
 use it_dsse::key_object::KeyObject;
 use it_dsse::signing::sign;

@@ -1,6 +1,5 @@
 //! Which trees are equal, and what small types lend.
-use it_base::document::read_document;
-use it_base::parts::FromDocument;
+use it_borrowed::parts::from_bytes;
 use it_docs::table::Table;
 use it_docs::tree::{Members, Tree, Trees};
 use it_tables::RowFault;
@@ -24,8 +23,7 @@ pub(crate) fn answer(alloc: Global, call: &str, row: &Value) -> Result<String, R
 /// The tree in the text of a member.
 fn tree_in(alloc: Global, row: &Value, name: &'static str) -> Result<Tree, RowFault> {
     let text = text_in(row, name)?.as_bytes();
-    let document = read_document(alloc, text)?.ok_or(RowFault::BadMember(name))?;
-    Tree::from_document(alloc, &document)?.ok_or(RowFault::BadMember(name))
+    from_bytes::<Tree>(alloc, text)?.ok_or(RowFault::BadMember(name))
 }
 
 fn equal(alloc: Global, row: &Value) -> Result<String, RowFault> {

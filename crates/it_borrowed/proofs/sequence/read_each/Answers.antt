@@ -1,4 +1,4 @@
-use Rattle.it_borrowed.proofs.Items.{each_more, each_none}
+use Rattle.it_borrowed.proofs.ListItems.{each_more, each_none}
 use Rattle.it_borrowed.proofs.sequence.read_each.Goals as goal
 
 pub returns-in_default : goal.returns-in_default

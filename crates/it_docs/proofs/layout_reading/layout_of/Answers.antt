@@ -1,12 +1,12 @@
 use Rattle.std.proofs.Common.{rules}
 use Rattle.std.proofs.lemmas.Result.{err_from_is_err_and}
-use Rattle.serde_json.specs.View.{view}
+use Rattle.it_borrowed.specs.Tree.{as_data}
 use Rattle.it_docs.proofs.LayoutParts.{IsHead, steps_fault, inspections_fault, duplicate_fault}
 use Rattle.it_docs.proofs.layout_reading.layout_of.Goals as goal
 
 pub returns-in_err-steps : goal.returns-in_err-steps
 returns-in_err-steps c =
-    let d = view c.args.document.now in
+    let d = as_data c.args.document.now in
     let p = err_from_is_err_and c.from_residual-in_err-steps.result
     c.from_residual-in_err-steps.ensures.1 in
     let head : IsHead d = record {
@@ -19,7 +19,7 @@ returns-in_err-steps c =
 
 pub returns-in_err-inspections : goal.returns-in_err-inspections
 returns-in_err-inspections c =
-    let d = view c.args.document.now in
+    let d = as_data c.args.document.now in
     let p = err_from_is_err_and c.from_residual-in_err-inspections.result
     c.from_residual-in_err-inspections.ensures.1 in
     let head : IsHead d = record {
@@ -33,7 +33,7 @@ returns-in_err-inspections c =
 
 pub returns-in-Some-3 : goal.returns-in-Some-3
 returns-in-Some-3 c =
-    let d = view c.args.document.now in
+    let d = as_data c.args.document.now in
     let head : IsHead d = record {
       json = search rules;
       wrong_type = search rules;

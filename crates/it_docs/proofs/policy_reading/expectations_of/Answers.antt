@@ -1,5 +1,5 @@
 use Rattle.std.proofs.Common.{codes, inl, inr, refl}
-use Rattle.serde_json.specs.View.{view}
+use Rattle.it_borrowed.specs.Tree.{as_data}
 use Rattle.it_docs.specs.Policy.{IsExpectation}
 use Rattle.it_base.proofs.Lists.{item_fault}
 use Rattle.it_docs.proofs.policy_reading.expectations_of.Goals as goal
@@ -12,4 +12,4 @@ pub returns-in-Err-NoItem : goal.returns-in-Err-NoItem
 returns-in-Err-NoItem c =
     let bad = rw c.in-Err-NoItem.field-0-is at c.in-Err-NoItem.ensures in
     let n = c.in-Err-NoItem.n in
-    inr (n, refl, item_fault IsExpectation (codes "expectations") (view c.args.document.now) n bad)
+    inr (n, refl, item_fault IsExpectation (codes "expectations") (as_data c.args.document.now) n bad)

@@ -1,4 +1,4 @@
-use Rattle.it_base.proofs.Items.{each_more, each_none}
+use Rattle.it_borrowed.proofs.ListItems.{each_more, each_none}
 use Rattle.it_docs.specs.Statement.{IsSubject}
 use Rattle.it_docs.proofs.statement.read_subjects.Goals as goal
 

@@ -1,4 +1,4 @@
-use Rattle.it_log_entry.proofs.ItemsRead.{each_more, each_none}
+use Rattle.it_borrowed.proofs.ListItems.{each_more, each_none}
 use Rattle.it_log_entry.specs.InclusionProof.{IsHash}
 use Rattle.it_log_entry.proofs.hash.read_hashes.Goals as goal
 

@@ -1,7 +1,7 @@
 use Rattle.std.proofs.Common.{◌∙◌, ap, option_map}
 use Rattle.it_base.specs.JsonView.{json_of}
 use Rattle.it_base.specs.TreeOf.{field_at}
-use Rattle.it_base.proofs.TreesRead.{json_of_ref, json_of-lookup}
+use Rattle.it_base.proofs.TreesFound.{json_of_ref, json_of-lookup}
 use Rattle.it_base.proofs.tree.Members.get.Goals as goal
 
 pub returns : goal.returns

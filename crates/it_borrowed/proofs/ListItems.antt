@@ -1,19 +1,13 @@
--- Lists of a document, read item by item, and lists of one item.
-use Rattle.std.proofs.Common.{◌≡◌, ◌≢◌, ℕ, zero, suc, ◌+◌, ◌<◌, List, [], ◌∷◌, ◌++◌, length, take}
-use Rattle.std.proofs.Common.{get_or, refl, sym, ap, subst, arith, ◌∙◌}
-use Rattle.std.specs.declared.alloc.Global.{Global}
+-- Lists of a document, read item by item.
+use Rattle.std.proofs.Common.{◌≡◌, ℕ, zero, suc, ◌+◌, ◌<◌, List, [], ◌∷◌, ◌++◌, length, take}
+use Rattle.std.proofs.Common.{get_or, sym, ap, subst, arith, ◌∙◌}
 use Rattle.std.proofs.lemmas.List.{take_more}
+use Rattle.std.specs.declared.alloc.Global.{Global}
 use Rattle.json.specs.Value.{items_view}
 use Rattle.json.specs.declared.value.Value.{Value}
 use Rattle.serde_json.specs.Data.{Data}
 use Rattle.it_base.specs.Sequence.{AreEach}
 use Rattle.it_borrowed.specs.Tree.{as_data, data_of_items}
-
-pub not_one : (items : List (Value Global)) (only : Data) → length items ≢ 1
-    → ¬ AreEach (λ item x. item ≡ x) (data_of_items (items_view items)) (only ∷ [])
-not_one [] only other is = absurd is
-not_one (first ∷ []) only other is = other refl
-not_one (first ∷ second ∷ rest) only other is = absurd is.1
 
 module _ {X : Type 0} (P : Data → X → Type 0) where
   each_push : (vs : List (Value Global)) (xs : List X) (v : Value Global) (x : X)

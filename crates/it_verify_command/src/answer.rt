@@ -7,7 +7,8 @@ ghost use Rattle.it_verify.specs.RefusedFor.{RefusedFor};
 ghost use Rattle.it_verify.specs.Verdict.{OnAccepted};
 ghost use Rattle.it_notes.specs.FoundInDocuments.{AreFoundInDocuments};
 ghost use Rattle.it_notes.specs.Known.{IsTold};
-ghost use Rattle.it_verify_command.specs.inside.Answer.{IsAnswer, IsBehindIn};
+ghost use Rattle.it_verify_command.specs.FullOutput.{IsTextIn};
+ghost use Rattle.it_verify_command.specs.inside.Answer.{IsAnswer, IsBehindIn, before_notes};
 
 use crate::before_notes::text_before_notes;
 use crate::behind::behind_in;
@@ -116,13 +117,43 @@ fn answer_on<'a, C: Checks>(
         asked.now.vouched.now asked.now.inputs.now) }
     ensures verdict { IfOk result (λ answer. answer.told.verdict ≡ told.entry.verdict) }
 {
-    let text = text_in(alloc, asked, &told, behind)?;
-    let before_notes = text_before_notes(alloc, &told.verdict, asked.form)?;
+    let Texts { text, before_notes } = texts_on(alloc, asked, &told, behind)?;
     let status = status_of(&told.verdict);
     Ok(Answer {
         told,
         output: Output { text, status },
         noted: asked.form.is_noted(),
         before_notes,
+    })
+}
+
+/// The texts of an answer.
+#[derive(Drop)]
+struct Texts {
+    /// The output on the verdict.
+    text: Vec<u8>,
+    /// What goes before the notes.
+    before_notes: Vec<u8>,
+}
+
+/// The texts of the answer on what was told.
+fn texts_on<C: Checks>(
+    alloc: Global,
+    asked: &Verification<C>,
+    told: &Told,
+    behind: Option<Evidence>,
+) -> Result<Texts, AllocError>
+    requires told { IsTold (C.panel asked.now.checks.now) asked.now.inputs.now told.now }
+    requires behind { OnAccepted told.now.verdict (IsBehindIn asked.now.form.now
+        (C.panel asked.now.checks.now) asked.now.vouched.now asked.now.inputs.now behind) }
+    ensures text { IfOk result (λ texts. IsTextIn asked.now.form.now
+        (C.panel asked.now.checks.now) asked.now.vouched.now asked.now.inputs.now
+        told.now.verdict texts.text.items) }
+    ensures before { IfOk result (λ texts.
+        texts.before_notes.items ≡ before_notes asked.now.form.now told.now.verdict) }
+{
+    Ok(Texts {
+        text: text_in(alloc, asked, told, behind)?,
+        before_notes: text_before_notes(alloc, &told.verdict, asked.form)?,
     })
 }

@@ -1,12 +1,12 @@
 //! The documents of a check, and what they read as.
 ghost use Rattle.std.specs.Prelude.{◌≡◌, ◌↔◌, IfOk, IsTrue};
-ghost use Rattle.serde_json.specs.View.{view};
+ghost use Rattle.it_borrowed.specs.Tree.{as_data};
 ghost use Rattle.it_dsse.specs.Envelope.{EnvelopeOf};
 ghost use Rattle.it_check.specs.Documents.{IsBare, IsBareDocument, IsBodyReading, IsLayoutReading};
 ghost use Rattle.it_check.specs.Documents.{IsPolicyReading, ReadsAs, whole};
 
-use it_base::document::{member, read_document};
 use it_base::sequence::Sequence;
+use it_borrowed::document::{is_object, member, read_document};
 use it_borrowed::parts::from_bytes;
 use it_docs::layout::Layout;
 use it_docs::layout_fault::LayoutFault;
@@ -21,7 +21,7 @@ use it_findings::member_finding::MemberFinding;
 use it_findings::null_key::NullKey;
 use it_findings::{layout_members, layout_nulls, no_thresholds, policy_members, policy_nulls};
 use it_report::refusal::{Fault, Refusal};
-use serde_json::Value;
+use json::{Scratch, Value};
 use std::alloc::{AllocError, Global};
 
 /// What the bytes of a policy read as.
@@ -99,7 +99,8 @@ fn policy_reading(alloc: Global, bytes: &[u8]) -> Result<PolicyReading, AllocErr
 {
     match read_policy(alloc, bytes) {
         Ok(policy) => {
-            let text = DocumentText::read(alloc, bytes)?;
+            let mut scratch = Scratch::new(alloc);
+            let text = DocumentText::read(alloc, bytes, &mut scratch)?;
             Ok(PolicyReading::Read {
                 policy,
                 nulls: Sequence::from(policy_nulls(alloc, &text)?),
@@ -153,7 +154,8 @@ fn body_reading(alloc: Global, body: &[u8]) -> Result<LayoutReading, AllocError>
 {
     match read_layout(alloc, body) {
         Ok(layout) => {
-            let text = DocumentText::read(alloc, body)?;
+            let mut scratch = Scratch::new(alloc);
+            let text = DocumentText::read(alloc, body, &mut scratch)?;
             Ok(LayoutReading::Read {
                 layout,
                 nulls: Sequence::from(layout_nulls(alloc, &text)?),
@@ -172,16 +174,17 @@ fn body_reading(alloc: Global, body: &[u8]) -> Result<LayoutReading, AllocError>
 fn is_bare(alloc: Global, bytes: &[u8]) -> Result<bool, AllocError>
     ensures { IfOk result (λ bare. IsTrue bare ↔ IsBare bytes.now) }
 {
-    match read_document(alloc, bytes)? {
+    let mut scratch = Scratch::new(alloc);
+    match read_document(alloc, bytes, &mut scratch)? {
         Some(document) => Ok(is_bare_document(&document)),
         None => Ok(false),
     }
 }
 
-fn is_bare_document(document: &Value) -> bool
-    ensures { IsTrue result ↔ IsBareDocument (view document.now) }
+fn is_bare_document(document: &Value<'_>) -> bool
+    ensures { IsTrue result ↔ IsBareDocument (as_data document.now) }
 {
-    document.is_object() && member(document, "payload").is_none()
+    is_object(document) && member(document, "payload").is_none()
 }
 
 /// The refusal of a document as a whole.

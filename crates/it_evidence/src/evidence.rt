@@ -8,10 +8,10 @@ ghost use Rattle.it_docs.specs.Layout.{LayoutOf};
 ghost use Rattle.it_verify.specs.Made.{IsMadeBy};
 ghost use Rattle.it_evidence.specs.Evidence.{IsBehind};
 
-use it_base::document::read_document;
-use it_base::parts::part;
 use it_base::sequence::Sequence;
 use it_base::text::Text;
+use it_borrowed::document::read_document;
+use it_borrowed::parts::part;
 use it_dsse::checks::Checks;
 use it_file_evidence::file_evidence;
 use it_json_report::evidence::Evidence;
@@ -20,6 +20,7 @@ use it_verify::documents::Documents;
 use it_verify::grounds::Grounds;
 use it_verify::inputs::Inputs;
 use it_vouched::Vouched;
+use json::Scratch;
 use sha2::{Digest, Sha256};
 use std::alloc::{AllocError, Global};
 
@@ -71,7 +72,8 @@ fn expires_of(alloc: Global, documents: &Documents) -> Result<Text, AllocError>
 fn expires_in(alloc: Global, body: &[u8]) -> Result<Option<Text>, AllocError>
     ensures { IfOk result (Finds (OfDocument (IsPart IsText (codes "expires")) body.now)) }
 {
-    match read_document(alloc, body)? {
+    let mut scratch = Scratch::new(alloc);
+    match read_document(alloc, body, &mut scratch)? {
         Some(document) => part(alloc, &document, "expires"),
         None => Ok(None),
     }

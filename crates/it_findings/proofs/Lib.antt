@@ -4,6 +4,7 @@ pub mod FirstPlaces
 pub mod Joining
 pub mod KeyNames
 pub mod MemberLists
+mod Named
 pub mod NullLists
 pub mod Reaching
 pub mod Saying

@@ -1,30 +1,30 @@
 -- Members of objects, one at a time, and names in tables.
 use Rattle.std.proofs.Common.{◌≡◌, ◌∙◌, ◌↔◌, ℕ, zero, suc, List, [], ◌∷◌, ◌++◌, map}
-use Rattle.std.proofs.Common.{Any, Bor, Contains, string_bytes, refl, sym, ap, subst, arith}
+use Rattle.std.proofs.Common.{Any, Bor, Contains, refl, sym, ap, subst, arith}
 use Rattle.serde_json.specs.Data.{Data}
-use Rattle.serde_json.specs.View.{members_view, view}
-use Rattle.serde_json.proofs.Views.{Entry}
+use Rattle.it_borrowed.specs.Tree.{as_data}
 use Rattle.it_findings.specs.Joined.{JoinedEach}
 use Rattle.it_findings.specs.Members.{entries_in}
+use Rattle.it_findings.specs.NamedMembers.{NamedMember, members_in}
 use Rattle.it_findings.proofs.Joining.{joined_push}
 
 -- a member with its name
-abbrev pub shown : Entry → List ℕ × Data
-shown e = (string_bytes e.0, view e.1)
+abbrev pub shown : NamedMember → List ℕ × Data
+shown e = (e.0.now, as_data e.1.now)
 
-entries_more : (done : List Entry) (e : Entry) → entries_in (members_view (done ++ e ∷ []))
-    ≡ entries_in (members_view done) ++ shown e ∷ []
+entries_more : (done : List NamedMember) (e : NamedMember) → entries_in (members_in (done ++ e ∷ []))
+    ≡ entries_in (members_in done) ++ shown e ∷ []
 entries_more [] e = refl
 entries_more (x ∷ done) e = ap (λ es. shown x ∷ es) (entries_more done e)
 
 -- what is said of the members so far, and then of the next one
-pub joined_member : {F : Type 0} (P : List ℕ × Data → List F → Type 0) (done : List Entry)
-    (e : Entry) (found here : List F) → JoinedEach P (entries_in (members_view done)) found
+pub joined_member : {F : Type 0} (P : List ℕ × Data → List F → Type 0) (done : List NamedMember)
+    (e : NamedMember) (found here : List F) → JoinedEach P (entries_in (members_in done)) found
     → P (shown e) here
-    → JoinedEach P (entries_in (members_view (done ++ e ∷ []))) (found ++ here)
+    → JoinedEach P (entries_in (members_in (done ++ e ∷ []))) (found ++ here)
 joined_member P done e found here so is =
     subst (λ es. JoinedEach P es (found ++ here)) (sym (entries_more done e))
-    (joined_push P (entries_in (members_view done)) (shown e) found here so is)
+    (joined_push P (entries_in (members_in done)) (shown e) found here so is)
 
 any_named : (names : List (Bor (List ℕ))) (name : List ℕ)
     → Contains (map (λ n. n.now) names) name → Any (λ n. n.now ≡ name) names

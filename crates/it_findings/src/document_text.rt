@@ -1,8 +1,8 @@
 //! The text of a policy or of the body of a layout.
 ghost use Rattle.std.specs.Prelude.{◌≡◌, IfOk};
 
-use it_base::document::read_document;
-use serde_json::Value;
+use it_borrowed::document::read_document;
+use json::{Scratch, Value};
 use std::alloc::{AllocError, Global};
 use std::marker::Model;
 
@@ -13,32 +13,37 @@ pub struct DocumentText<'b> {
     /// The bytes.
     pub(crate) bytes: &'b [u8],
     /// The document.
-    pub(crate) document: Option<Value>,
+    pub(crate) document: Option<Value<'b>>,
 }
 
 impl<'b> Model for DocumentText<'b> {
     ghost use Rattle.std.specs.Prelude.{List, ℕ};
-    ghost use Rattle.serde_json.specs.View.{view as view_of};
     ghost use Rattle.it_base.specs.Document.{IsDocument};
     ghost use Rattle.it_base.specs.Finds.{FindsAs};
+    ghost use Rattle.it_borrowed.specs.Tree.{as_data};
 
     ghost Value = { List ℕ };
 
     ghost view = { λ text. text.bytes.now };
 
-    ghost invariant = { λ text. FindsAs view_of (IsDocument text.bytes.now) text.document };
+    ghost invariant = { λ text. FindsAs as_data (IsDocument text.bytes.now) text.document };
 }
 
 impl<'b> DocumentText<'b> {
-    /// Reads the document that the bytes are, if they are one.
+    /// Reads the document that the bytes are, if they are one. `scratch` keeps its texts that are
+    /// written with escapes.
     ///
     /// # Errors
     ///
     /// `AllocError` where memory was refused.
-    pub fn read(alloc: Global, bytes: &'b [u8]) -> Result<DocumentText<'b>, AllocError>
+    pub fn read(
+        alloc: Global,
+        bytes: &'b [u8],
+        scratch: &'b mut Scratch,
+    ) -> Result<DocumentText<'b>, AllocError>
         ensures { IfOk result (λ text. text ≡ bytes.now) }
     {
-        let document = read_document(alloc, bytes)?;
+        let document = read_document(alloc, bytes, scratch)?;
         Ok(DocumentText { bytes, document })
     }
 }

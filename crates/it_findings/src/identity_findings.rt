@@ -119,7 +119,10 @@ fn of_identity(
     if !signs_by_identity(list, object) {
         return Ok(Vec::new(alloc));
     }
-    one(alloc, Finding::IdentityKey(key_place(alloc, list, id)?))
+    one(
+        alloc,
+        Finding::IdentityKey(key_place(alloc, list, id.as_str())?),
+    )
 }
 
 fn incomplete(
@@ -136,7 +139,7 @@ fn incomplete(
     }
     one(
         alloc,
-        Finding::IncompleteIdentity(key_place(alloc, list, id)?),
+        Finding::IncompleteIdentity(key_place(alloc, list, id.as_str())?),
     )
 }
 

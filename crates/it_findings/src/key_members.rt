@@ -2,32 +2,36 @@
 ghost use Rattle.std.specs.Prelude.{◌≡◌, ◌↔◌, ◌∷◌, [], IfOk, IsTrue, MatchOption, codes};
 ghost use Rattle.std.specs.Prelude.{option_and_then, option_map, string_bytes};
 ghost use Rattle.serde_json.specs.Find.{as_str};
-ghost use Rattle.serde_json.specs.View.{members_view, view};
+ghost use Rattle.it_borrowed.specs.Tree.{as_data};
 ghost use Rattle.it_base.specs.Document.{member_at};
 ghost use Rattle.it_findings.specs.Joined.{JoinedEach, Said};
 ghost use Rattle.it_findings.specs.KeyPlaces.{key_place as place_under};
 ghost use Rattle.it_findings.specs.Members.{HasPrivate, KeyListMembers, KeyMembers};
 ghost use Rattle.it_findings.specs.Members.{KeyvalMembers, ListedKeyMembers, entries_in};
 ghost use Rattle.it_findings.specs.Members.{members_of};
+ghost use Rattle.it_findings.specs.NamedMembers.{members_in};
 
 use crate::member_finding::MemberFinding;
+use crate::named_members::named_members;
 use crate::null_key::KeyList;
 use crate::place::{KeyPlace, Place};
 use crate::unread::unread_members;
-use it_base::document::member;
 use it_base::text::Text;
-use serde_json::{Map, Value};
+use it_borrowed::document::member;
+use it_borrowed::text::text_of;
+use json::Value;
 use std::alloc::{AllocError, Global};
+use std::collections::BTreeMap;
 
 /// What is found in the list of key objects that is the member of this name, in the order of the
 /// ids.
 pub(crate) fn key_list_members(
     alloc: Global,
     list: KeyList,
-    value: &Value,
+    value: &Value<'_>,
     name: &str,
 ) -> Result<Vec<MemberFinding>, AllocError>
-    ensures { IfOk result (λ found. KeyListMembers list name.now (view value.now) found.items) }
+    ensures { IfOk result (λ found. KeyListMembers list name.now (as_data value.now) found.items) }
 {
     match member(value, name) {
         Some(keys) => members_in_keys(alloc, list, keys),
@@ -38,12 +42,12 @@ pub(crate) fn key_list_members(
 fn members_in_keys(
     alloc: Global,
     list: KeyList,
-    keys: &Value,
+    keys: &Value<'_>,
 ) -> Result<Vec<MemberFinding>, AllocError>
     ensures { IfOk result (λ found.
-        JoinedEach (ListedKeyMembers list) (members_of (view keys.now)) found.items) }
+        JoinedEach (ListedKeyMembers list) (members_of (as_data keys.now)) found.items) }
 {
-    match keys.as_object() {
+    match named_members(alloc, keys)? {
         Some(members) => each_key(alloc, list, members),
         None => Ok(Vec::new(alloc)),
     }
@@ -52,13 +56,13 @@ fn members_in_keys(
 fn each_key(
     alloc: Global,
     list: KeyList,
-    keys: &Map<String, Value>,
+    keys: BTreeMap<&str, &Value<'_>>,
 ) -> Result<Vec<MemberFinding>, AllocError>
     ensures { IfOk result (λ found. JoinedEach (ListedKeyMembers list)
-        (entries_in (members_view keys.now.entries)) found.items) }
+        (entries_in (members_in keys.entry.entries)) found.items) }
 {
     let mut found = Vec::new(alloc);
-    for (id, object) in keys.iter() {
+    for (id, object) in keys {
         let key = key_place(alloc, list, id)?;
         let mut here = key_members(alloc, &key, object)?;
         found.append(&mut here)?;
@@ -67,10 +71,10 @@ fn each_key(
 }
 
 /// The place under an id of a list.
-pub(crate) fn key_place(alloc: Global, list: KeyList, id: &String) -> Result<KeyPlace, AllocError>
-    ensures { IfOk result (λ key. key ≡ place_under list (string_bytes id.now)) }
+pub(crate) fn key_place(alloc: Global, list: KeyList, id: &str) -> Result<KeyPlace, AllocError>
+    ensures { IfOk result (λ key. key ≡ place_under list id.now) }
 {
-    let id = Text::copy(alloc, id.as_str())?;
+    let id = Text::copy(alloc, id)?;
     Ok(match list {
         KeyList::Owners => KeyPlace::Owner(id),
         KeyList::OfBuilder {
@@ -89,9 +93,9 @@ pub(crate) fn key_place(alloc: Global, list: KeyList, id: &String) -> Result<Key
 fn key_members(
     alloc: Global,
     key: &KeyPlace,
-    object: &Value,
+    object: &Value<'_>,
 ) -> Result<Vec<MemberFinding>, AllocError>
-    ensures { IfOk result (λ found. KeyMembers key.now (view object.now) found.items) }
+    ensures { IfOk result (λ found. KeyMembers key.now (as_data object.now) found.items) }
 {
     let place = Place::Key(key.copy(alloc)?);
     let mut found = unread_members(alloc, &place, object)?;
@@ -104,10 +108,10 @@ fn key_members(
 fn keyval_of(
     alloc: Global,
     key: &KeyPlace,
-    object: &Value,
+    object: &Value<'_>,
 ) -> Result<Vec<MemberFinding>, AllocError>
     ensures { IfOk result (λ found.
-        MatchOption (member_at (codes "keyval") (view object.now)) (found.items ≡ [])
+        MatchOption (member_at (codes "keyval") (as_data object.now)) (found.items ≡ [])
         (λ keyval. KeyvalMembers key.now keyval found.items)) }
 {
     match member(object, "keyval") {
@@ -119,9 +123,9 @@ fn keyval_of(
 fn keyval_members(
     alloc: Global,
     key: &KeyPlace,
-    keyval: &Value,
+    keyval: &Value<'_>,
 ) -> Result<Vec<MemberFinding>, AllocError>
-    ensures { IfOk result (λ found. KeyvalMembers key.now (view keyval.now) found.items) }
+    ensures { IfOk result (λ found. KeyvalMembers key.now (as_data keyval.now) found.items) }
 {
     let place = Place::KeyValue(key.copy(alloc)?);
     let mut found = unread_members(alloc, &place, keyval)?;
@@ -133,9 +137,9 @@ fn keyval_members(
 fn private_key(
     alloc: Global,
     key: &KeyPlace,
-    keyval: &Value,
+    keyval: &Value<'_>,
 ) -> Result<Vec<MemberFinding>, AllocError>
-    ensures { IfOk result (λ found. Said (HasPrivate (view keyval.now))
+    ensures { IfOk result (λ found. Said (HasPrivate (as_data keyval.now))
         (MemberFinding.PrivateKey key.now) found.items) }
 {
     if !has_private(keyval) {
@@ -154,8 +158,8 @@ fn one_private(alloc: Global, key: &KeyPlace) -> Result<Vec<MemberFinding>, Allo
 }
 
 /// Whether the `private` of a `keyval` is a text that is not empty.
-fn has_private(keyval: &Value) -> bool
-    ensures { IsTrue result ↔ HasPrivate (view keyval.now) }
+fn has_private(keyval: &Value<'_>) -> bool
+    ensures { IsTrue result ↔ HasPrivate (as_data keyval.now) }
 {
     match text_at(keyval, "private") {
         Some(text) => !text.is_empty(),
@@ -164,9 +168,9 @@ fn has_private(keyval: &Value) -> bool
 }
 
 /// The text of the member of this name, if it is a text.
-fn text_at<'v>(value: &'v Value, name: &str) -> Option<&'v str>
+fn text_at<'t>(value: &Value<'t>, name: &str) -> Option<&'t str>
     ensures { option_map (λ text. text.now) result
-        ≡ option_and_then as_str (member_at name.now (view value.now)) }
+        ≡ option_and_then as_str (member_at name.now (as_data value.now)) }
 {
-    member(value, name)?.as_str()
+    text_of(member(value, name)?)
 }

@@ -142,7 +142,7 @@ fn one_use(
         uses.items ≡ uses_of list holder.now (string_bytes id.now) (Some key)) }
 {
     let key = KeyUse {
-        place: key_place(alloc, list, id)?,
+        place: key_place(alloc, list, id.as_str())?,
         holder: holder.copy(alloc)?,
         key,
     };

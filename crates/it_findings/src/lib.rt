@@ -23,6 +23,7 @@ pub mod member_finding;
 pub mod member_names;
 mod members;
 mod missing_thresholds;
+pub mod named_members;
 pub mod null_key;
 mod null_keys;
 mod one;
@@ -31,6 +32,7 @@ pub mod place;
 mod repeated;
 pub mod shared_key;
 mod shared_keys;
+mod step_members;
 mod unequal_numbers;
 mod unread;
 

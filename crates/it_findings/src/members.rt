@@ -1,10 +1,11 @@
 //! What is found in the members of a policy and a layout.
 ghost use Rattle.std.specs.Prelude.{IfOk, codes};
-ghost use Rattle.serde_json.specs.View.{items_view, view};
+ghost use Rattle.json.specs.Value.{items_view};
+ghost use Rattle.it_borrowed.specs.Tree.{as_data, data_of_items};
 ghost use Rattle.it_findings.specs.Joined.{Joined};
-ghost use Rattle.it_findings.specs.Members.{BuilderMembers, ExpectationMembers, InspectionMembers};
-ghost use Rattle.it_findings.specs.Members.{LayoutMembers, MembersOfLayout, MembersOfPolicy};
-ghost use Rattle.it_findings.specs.Members.{OthersIn, PolicyMembers, StepMembers};
+ghost use Rattle.it_findings.specs.Members.{BuilderMembers, ExpectationMembers, LayoutMembers};
+ghost use Rattle.it_findings.specs.Members.{MembersOfLayout, MembersOfPolicy, OthersIn};
+ghost use Rattle.it_findings.specs.Members.{PolicyMembers};
 ghost use Rattle.it_findings.specs.NullKeys.{list_at, listed};
 
 use crate::document_text::DocumentText;
@@ -14,9 +15,10 @@ use crate::null_key::KeyList;
 use crate::null_keys::items_at;
 use crate::place::Place;
 use crate::repeated::repeated_in;
+use crate::step_members::{inspections_members, steps_members};
 use crate::unread::unread_members;
 use it_repeats::root::Root;
-use serde_json::Value;
+use json::Value;
 use std::alloc::{AllocError, Global};
 
 /// What is found in the members of the document that is a policy: first those that come again, in
@@ -81,8 +83,8 @@ fn others_in_layout(
     }
 }
 
-fn members_in_policy(alloc: Global, document: &Value) -> Result<Vec<MemberFinding>, AllocError>
-    ensures { IfOk result (λ found. PolicyMembers (view document.now) found.items) }
+fn members_in_policy(alloc: Global, document: &Value<'_>) -> Result<Vec<MemberFinding>, AllocError>
+    ensures { IfOk result (λ found. PolicyMembers (as_data document.now) found.items) }
 {
     let mut found = unread_members(alloc, &Place::Policy, document)?;
     let mut of_owners = key_list_members(alloc, KeyList::Owners, document, "owners")?;
@@ -92,8 +94,8 @@ fn members_in_policy(alloc: Global, document: &Value) -> Result<Vec<MemberFindin
     Ok(found)
 }
 
-fn members_in_layout(alloc: Global, document: &Value) -> Result<Vec<MemberFinding>, AllocError>
-    ensures { IfOk result (λ found. LayoutMembers (view document.now) found.items) }
+fn members_in_layout(alloc: Global, document: &Value<'_>) -> Result<Vec<MemberFinding>, AllocError>
+    ensures { IfOk result (λ found. LayoutMembers (as_data document.now) found.items) }
 {
     let mut found = unread_members(alloc, &Place::Layout, document)?;
     let mut of_keys = key_list_members(alloc, KeyList::OfLayout, document, "keys")?;
@@ -105,9 +107,12 @@ fn members_in_layout(alloc: Global, document: &Value) -> Result<Vec<MemberFindin
     Ok(found)
 }
 
-fn expectations_members(alloc: Global, document: &Value) -> Result<Vec<MemberFinding>, AllocError>
+fn expectations_members(
+    alloc: Global,
+    document: &Value<'_>,
+) -> Result<Vec<MemberFinding>, AllocError>
     ensures { IfOk result (λ found. Joined ExpectationMembers
-        (list_at (codes "expectations") (view document.now)) found.items) }
+        (list_at (codes "expectations") (as_data document.now)) found.items) }
 {
     match items_at(document, "expectations") {
         Some(expectations) => each_expectation(alloc, expectations),
@@ -117,10 +122,10 @@ fn expectations_members(alloc: Global, document: &Value) -> Result<Vec<MemberFin
 
 fn each_expectation(
     alloc: Global,
-    expectations: &Vec<Value>,
+    expectations: &Vec<Value<'_>>,
 ) -> Result<Vec<MemberFinding>, AllocError>
     ensures { IfOk result (λ found. Joined ExpectationMembers
-        (listed (items_view expectations.now.items)) found.items) }
+        (listed (data_of_items (items_view expectations.now.items))) found.items) }
 {
     let mut found = Vec::new(alloc);
     for (place, expectation) in expectations.iter().enumerate() {
@@ -134,10 +139,10 @@ fn each_expectation(
 fn expectation_members(
     alloc: Global,
     place: usize,
-    expectation: &Value,
+    expectation: &Value<'_>,
 ) -> Result<Vec<MemberFinding>, AllocError>
     ensures { IfOk result (λ found.
-        ExpectationMembers place (view expectation.now) found.items) }
+        ExpectationMembers place (as_data expectation.now) found.items) }
 {
     let mut found = unread_members(alloc, &Place::Expectation(place), expectation)?;
     let mut of_builders = builders_members(alloc, place, expectation)?;
@@ -149,10 +154,10 @@ fn expectation_members(
 fn builders_members(
     alloc: Global,
     place: usize,
-    expectation: &Value,
+    expectation: &Value<'_>,
 ) -> Result<Vec<MemberFinding>, AllocError>
     ensures { IfOk result (λ found. Joined (BuilderMembers place)
-        (list_at (codes "builders") (view expectation.now)) found.items) }
+        (list_at (codes "builders") (as_data expectation.now)) found.items) }
 {
     match items_at(expectation, "builders") {
         Some(builders) => each_builder(alloc, place, builders),
@@ -163,10 +168,10 @@ fn builders_members(
 fn each_builder(
     alloc: Global,
     expectation: usize,
-    builders: &Vec<Value>,
+    builders: &Vec<Value<'_>>,
 ) -> Result<Vec<MemberFinding>, AllocError>
     ensures { IfOk result (λ found. Joined (BuilderMembers expectation)
-        (listed (items_view builders.now.items)) found.items) }
+        (listed (data_of_items (items_view builders.now.items))) found.items) }
 {
     let mut found = Vec::new(alloc);
     for (place, builder) in builders.iter().enumerate() {
@@ -181,10 +186,10 @@ fn builder_members(
     alloc: Global,
     expectation: usize,
     builder: usize,
-    value: &Value,
+    value: &Value<'_>,
 ) -> Result<Vec<MemberFinding>, AllocError>
     ensures { IfOk result (λ found.
-        BuilderMembers expectation builder (view value.now) found.items) }
+        BuilderMembers expectation builder (as_data value.now) found.items) }
 {
     let place = Place::Builder {
         expectation,
@@ -197,52 +202,5 @@ fn builder_members(
     let mut found = unread_members(alloc, &place, value)?;
     let mut of_keys = key_list_members(alloc, list, value, "keys")?;
     found.append(&mut of_keys)?;
-    Ok(found)
-}
-
-fn steps_members(alloc: Global, document: &Value) -> Result<Vec<MemberFinding>, AllocError>
-    ensures { IfOk result (λ found.
-        Joined StepMembers (list_at (codes "steps") (view document.now)) found.items) }
-{
-    match items_at(document, "steps") {
-        Some(steps) => each_step(alloc, steps),
-        None => Ok(Vec::new(alloc)),
-    }
-}
-
-fn each_step(alloc: Global, steps: &Vec<Value>) -> Result<Vec<MemberFinding>, AllocError>
-    ensures { IfOk result (λ found.
-        Joined StepMembers (listed (items_view steps.now.items)) found.items) }
-{
-    let mut found = Vec::new(alloc);
-    for (place, step) in steps.iter().enumerate() {
-        let mut here = unread_members(alloc, &Place::Step(place), step)?;
-        found.append(&mut here)?;
-    }
-    Ok(found)
-}
-
-fn inspections_members(alloc: Global, document: &Value) -> Result<Vec<MemberFinding>, AllocError>
-    ensures { IfOk result (λ found.
-        Joined InspectionMembers (list_at (codes "inspect") (view document.now)) found.items) }
-{
-    match items_at(document, "inspect") {
-        Some(inspections) => each_inspection(alloc, inspections),
-        None => Ok(Vec::new(alloc)),
-    }
-}
-
-fn each_inspection(
-    alloc: Global,
-    inspections: &Vec<Value>,
-) -> Result<Vec<MemberFinding>, AllocError>
-    ensures { IfOk result (λ found.
-        Joined InspectionMembers (listed (items_view inspections.now.items)) found.items) }
-{
-    let mut found = Vec::new(alloc);
-    for (place, inspection) in inspections.iter().enumerate() {
-        let mut here = unread_members(alloc, &Place::Inspection(place), inspection)?;
-        found.append(&mut here)?;
-    }
     Ok(found)
 }

@@ -1,6 +1,7 @@
 //! Steps of a layout without a threshold.
 ghost use Rattle.std.specs.Prelude.{◌≡◌, ◌↔◌, ◌∷◌, [], None, IfOk, IsTrue, codes};
-ghost use Rattle.serde_json.specs.View.{items_view, view};
+ghost use Rattle.json.specs.Value.{items_view};
+ghost use Rattle.it_borrowed.specs.Tree.{as_data, data_of_items};
 ghost use Rattle.it_base.specs.Document.{member_at};
 ghost use Rattle.it_findings.specs.Joined.{Joined};
 ghost use Rattle.it_findings.specs.NoThresholds.{NoThreshold, NoThresholds, NoThresholdsOf};
@@ -8,8 +9,8 @@ ghost use Rattle.it_findings.specs.NullKeys.{listed};
 
 use crate::document_text::DocumentText;
 use crate::null_keys::items_at;
-use it_base::document::member;
-use serde_json::Value;
+use it_borrowed::document::member;
+use json::Value;
 use std::alloc::{AllocError, Global};
 
 /// The places of the steps without a threshold in the document that is the body of a layout. There
@@ -27,8 +28,8 @@ pub fn no_thresholds(alloc: Global, text: &DocumentText<'_>) -> Result<Vec<usize
     }
 }
 
-fn places_in(alloc: Global, document: &Value) -> Result<Vec<usize>, AllocError>
-    ensures { IfOk result (λ places. NoThresholds (view document.now) places.items) }
+fn places_in(alloc: Global, document: &Value<'_>) -> Result<Vec<usize>, AllocError>
+    ensures { IfOk result (λ places. NoThresholds (as_data document.now) places.items) }
 {
     match items_at(document, "steps") {
         Some(steps) => each_step(alloc, steps),
@@ -36,9 +37,9 @@ fn places_in(alloc: Global, document: &Value) -> Result<Vec<usize>, AllocError>
     }
 }
 
-fn each_step(alloc: Global, steps: &Vec<Value>) -> Result<Vec<usize>, AllocError>
+fn each_step(alloc: Global, steps: &Vec<Value<'_>>) -> Result<Vec<usize>, AllocError>
     ensures { IfOk result (λ places.
-        Joined NoThreshold (listed (items_view steps.now.items)) places.items) }
+        Joined NoThreshold (listed (data_of_items (items_view steps.now.items))) places.items) }
 {
     let mut places = Vec::new(alloc);
     for (place, step) in steps.iter().enumerate() {
@@ -48,8 +49,8 @@ fn each_step(alloc: Global, steps: &Vec<Value>) -> Result<Vec<usize>, AllocError
     Ok(places)
 }
 
-fn no_threshold(alloc: Global, place: usize, step: &Value) -> Result<Vec<usize>, AllocError>
-    ensures { IfOk result (λ found. NoThreshold place (view step.now) found.items) }
+fn no_threshold(alloc: Global, place: usize, step: &Value<'_>) -> Result<Vec<usize>, AllocError>
+    ensures { IfOk result (λ found. NoThreshold place (as_data step.now) found.items) }
 {
     if !has_no_threshold(step) {
         return Ok(Vec::new(alloc));
@@ -57,8 +58,8 @@ fn no_threshold(alloc: Global, place: usize, step: &Value) -> Result<Vec<usize>,
     one_place(alloc, place)
 }
 
-fn has_no_threshold(step: &Value) -> bool
-    ensures { IsTrue result ↔ (member_at (codes "threshold") (view step.now) ≡ None) }
+fn has_no_threshold(step: &Value<'_>) -> bool
+    ensures { IsTrue result ↔ (member_at (codes "threshold") (as_data step.now) ≡ None) }
 {
     match member(step, "threshold") {
         Some(_) => false,

@@ -1,21 +1,25 @@
 //! Key objects that are null in a policy and in a layout.
 ghost use Rattle.std.specs.Prelude.{◌≡◌, [], IfOk, codes, map, option_map};
-ghost use Rattle.std.specs.Prelude.{string_bytes};
 ghost use Rattle.std.specs.Option.{option_map_or};
 ghost use Rattle.serde_json.specs.Find.{as_object};
-ghost use Rattle.serde_json.specs.View.{items_view, members_view, view};
+ghost use Rattle.json.specs.Value.{items_view};
+ghost use Rattle.it_borrowed.specs.Tree.{as_data, data_of_items};
 ghost use Rattle.it_base.specs.List.{items_at as items_of};
 ghost use Rattle.it_findings.specs.Joined.{Joined};
+ghost use Rattle.it_findings.specs.NamedMembers.{members_in};
 ghost use Rattle.it_findings.specs.NullKeys.{BuilderNulls, ExpectationNulls, LayoutNulls, NullKeys};
 ghost use Rattle.it_findings.specs.NullKeys.{NullsOf, PolicyNulls, list_at, listed, null_ids};
 ghost use Rattle.it_findings.specs.NullKeys.{null_key};
 
 use crate::document_text::DocumentText;
+use crate::named_members::named_members;
 use crate::null_key::{KeyList, NullKey};
-use it_base::document::member;
 use it_base::text::Text;
-use serde_json::{Map, Value};
+use it_borrowed::document::member;
+use it_borrowed::items::items_of as list_items;
+use json::Value;
 use std::alloc::{AllocError, Global};
+use std::collections::BTreeMap;
 
 /// The key objects that are null in the document that is a policy: in its owners, and then in the
 /// builders of each expectation in order. There are none where the text is no document.
@@ -47,8 +51,8 @@ pub fn layout_nulls(alloc: Global, text: &DocumentText<'_>) -> Result<Vec<NullKe
     }
 }
 
-fn nulls_in_policy(alloc: Global, document: &Value) -> Result<Vec<NullKey>, AllocError>
-    ensures { IfOk result (λ found. PolicyNulls (view document.now) found.items) }
+fn nulls_in_policy(alloc: Global, document: &Value<'_>) -> Result<Vec<NullKey>, AllocError>
+    ensures { IfOk result (λ found. PolicyNulls (as_data document.now) found.items) }
 {
     let mut found = null_keys(alloc, KeyList::Owners, document, "owners")?;
     let mut of_builders = expectations_nulls(alloc, document)?;
@@ -57,9 +61,9 @@ fn nulls_in_policy(alloc: Global, document: &Value) -> Result<Vec<NullKey>, Allo
 }
 
 /// What is found in the builders of the expectations.
-fn expectations_nulls(alloc: Global, document: &Value) -> Result<Vec<NullKey>, AllocError>
+fn expectations_nulls(alloc: Global, document: &Value<'_>) -> Result<Vec<NullKey>, AllocError>
     ensures { IfOk result (λ found. Joined ExpectationNulls
-        (list_at (codes "expectations") (view document.now)) found.items) }
+        (list_at (codes "expectations") (as_data document.now)) found.items) }
 {
     match items_at(document, "expectations") {
         Some(expectations) => each_expectation(alloc, expectations),
@@ -67,9 +71,12 @@ fn expectations_nulls(alloc: Global, document: &Value) -> Result<Vec<NullKey>, A
     }
 }
 
-fn each_expectation(alloc: Global, expectations: &Vec<Value>) -> Result<Vec<NullKey>, AllocError>
+fn each_expectation(
+    alloc: Global,
+    expectations: &Vec<Value<'_>>,
+) -> Result<Vec<NullKey>, AllocError>
     ensures { IfOk result (λ found. Joined ExpectationNulls
-        (listed (items_view expectations.now.items)) found.items) }
+        (listed (data_of_items (items_view expectations.now.items))) found.items) }
 {
     let mut found = Vec::new(alloc);
     for (place, expectation) in expectations.iter().enumerate() {
@@ -83,10 +90,10 @@ fn each_expectation(alloc: Global, expectations: &Vec<Value>) -> Result<Vec<Null
 fn builders_nulls(
     alloc: Global,
     place: usize,
-    expectation: &Value,
+    expectation: &Value<'_>,
 ) -> Result<Vec<NullKey>, AllocError>
     ensures { IfOk result (λ found.
-        ExpectationNulls place (view expectation.now) found.items) }
+        ExpectationNulls place (as_data expectation.now) found.items) }
 {
     match items_at(expectation, "builders") {
         Some(builders) => each_builder(alloc, place, builders),
@@ -97,10 +104,10 @@ fn builders_nulls(
 fn each_builder(
     alloc: Global,
     expectation: usize,
-    builders: &Vec<Value>,
+    builders: &Vec<Value<'_>>,
 ) -> Result<Vec<NullKey>, AllocError>
     ensures { IfOk result (λ found. Joined (BuilderNulls expectation)
-        (listed (items_view builders.now.items)) found.items) }
+        (listed (data_of_items (items_view builders.now.items))) found.items) }
 {
     let mut found = Vec::new(alloc);
     for (builder, item) in builders.iter().enumerate() {
@@ -115,21 +122,21 @@ fn each_builder(
 }
 
 /// The items of the list that is the member of this name. Takes no memory.
-pub(crate) fn items_at<'v>(value: &'v Value, name: &str) -> Option<&'v Vec<Value>>
-    ensures { option_map (λ items. items_view items.now.items) result
-        ≡ items_of name.now (view value.now) }
+pub(crate) fn items_at<'v, 't>(value: &'v Value<'t>, name: &str) -> Option<&'v Vec<Value<'t>>>
+    ensures { option_map (λ items. data_of_items (items_view items.now.items)) result
+        ≡ items_of name.now (as_data value.now) }
 {
-    member(value, name)?.as_array()
+    list_items(member(value, name)?)
 }
 
 /// What is found in the list of key objects that is the member of this name.
 fn null_keys(
     alloc: Global,
     list: KeyList,
-    value: &Value,
+    value: &Value<'_>,
     name: &str,
 ) -> Result<Vec<NullKey>, AllocError>
-    ensures { IfOk result (λ found. NullKeys list name.now (view value.now) found.items) }
+    ensures { IfOk result (λ found. NullKeys list name.now (as_data value.now) found.items) }
 {
     match member(value, name) {
         Some(keys) => nulls_in_keys(alloc, list, keys),
@@ -137,11 +144,11 @@ fn null_keys(
     }
 }
 
-fn nulls_in_keys(alloc: Global, list: KeyList, keys: &Value) -> Result<Vec<NullKey>, AllocError>
+fn nulls_in_keys(alloc: Global, list: KeyList, keys: &Value<'_>) -> Result<Vec<NullKey>, AllocError>
     ensures { IfOk result (λ found. found.items ≡ map (null_key list)
-        (option_map_or null_ids (as_object (view keys.now)) [])) }
+        (option_map_or null_ids (as_object (as_data keys.now)) [])) }
 {
-    match keys.as_object() {
+    match named_members(alloc, keys)? {
         Some(members) => null_members(alloc, list, members),
         None => Ok(Vec::new(alloc)),
     }
@@ -150,13 +157,13 @@ fn nulls_in_keys(alloc: Global, list: KeyList, keys: &Value) -> Result<Vec<NullK
 fn null_members(
     alloc: Global,
     list: KeyList,
-    members: &Map<String, Value>,
+    members: BTreeMap<&str, &Value<'_>>,
 ) -> Result<Vec<NullKey>, AllocError>
     ensures { IfOk result (λ found. found.items ≡ map (null_key list)
-        (null_ids (members_view members.now.entries))) }
+        (null_ids (members_in members.entry.entries))) }
 {
     let mut found = Vec::new(alloc);
-    for (name, member) in members.iter() {
+    for (name, member) in members {
         if !member.is_null() {
             continue;
         }
@@ -165,11 +172,11 @@ fn null_members(
     Ok(found)
 }
 
-fn null_key(alloc: Global, list: KeyList, name: &String) -> Result<NullKey, AllocError>
-    ensures { IfOk result (λ key. key ≡ null_key list (string_bytes name.now)) }
+fn null_key(alloc: Global, list: KeyList, name: &str) -> Result<NullKey, AllocError>
+    ensures { IfOk result (λ key. key ≡ null_key list name.now) }
 {
     Ok(NullKey {
         list,
-        id: Text::copy(alloc, name.as_str())?,
+        id: Text::copy(alloc, name)?,
     })
 }

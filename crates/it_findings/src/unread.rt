@@ -1,25 +1,28 @@
 //! Members that are not looked at.
 ghost use Rattle.std.specs.Prelude.{◌≡◌, ◌∷◌, [], IfOk};
-ghost use Rattle.serde_json.specs.View.{members_view, view};
+ghost use Rattle.it_borrowed.specs.Tree.{as_data};
 ghost use Rattle.it_findings.specs.Joined.{JoinedEach, Said};
 ghost use Rattle.it_findings.specs.Members.{HasMeaning, UnreadMember, UnreadMembers, entries_in};
+ghost use Rattle.it_findings.specs.NamedMembers.{members_in};
 
 use crate::meaning::has_meaning;
 use crate::member_finding::MemberFinding;
+use crate::named_members::named_members;
 use crate::place::Place;
 use it_base::text::Text;
-use serde_json::{Map, Value};
+use json::Value;
 use std::alloc::{AllocError, Global};
+use std::collections::BTreeMap;
 
 /// What is found in the members of the object at a place.
 pub(crate) fn unread_members(
     alloc: Global,
     place: &Place,
-    object: &Value,
+    object: &Value<'_>,
 ) -> Result<Vec<MemberFinding>, AllocError>
-    ensures { IfOk result (λ found. UnreadMembers place.now (view object.now) found.items) }
+    ensures { IfOk result (λ found. UnreadMembers place.now (as_data object.now) found.items) }
 {
-    match object.as_object() {
+    match named_members(alloc, object)? {
         Some(members) => each_member(alloc, place, members),
         None => Ok(Vec::new(alloc)),
     }
@@ -28,14 +31,14 @@ pub(crate) fn unread_members(
 fn each_member(
     alloc: Global,
     place: &Place,
-    members: &Map<String, Value>,
+    members: BTreeMap<&str, &Value<'_>>,
 ) -> Result<Vec<MemberFinding>, AllocError>
     ensures { IfOk result (λ found. JoinedEach (UnreadMember place.now)
-        (entries_in (members_view members.now.entries)) found.items) }
+        (entries_in (members_in members.entry.entries)) found.items) }
 {
     let mut found = Vec::new(alloc);
-    for (name, _) in members.iter() {
-        let mut here = unread_member(alloc, place, name.as_str())?;
+    for (name, _) in members {
+        let mut here = unread_member(alloc, place, name)?;
         found.append(&mut here)?;
     }
     Ok(found)

@@ -1,26 +1,28 @@
 //! The notes on members of key objects.
 ghost use Rattle.std.specs.Prelude.{◌≡◌, All, Contains, IfOk, IfSome};
-ghost use Rattle.serde_json.specs.View.{view};
+ghost use Rattle.it_borrowed.specs.Tree.{as_data};
 ghost use Rattle.it_base.specs.Parts.{IsPart};
 ghost use Rattle.it_base.specs.Text.{IsText};
 ghost use Rattle.it_member_notes.specs.KeyMembers.{HasKeyMember, IsKeyMember, place_of};
 
 use crate::key_member_note::KeyMemberNote;
 use crate::object_at::object_at;
-use it_base::document::member;
 use it_base::text::Text;
+use it_borrowed::document::member;
+use it_borrowed::text::text_of;
 use it_findings::place::{KeyPlace, Place};
-use serde_json::Value;
+use json::Value;
 use std::alloc::{AllocError, Global};
 
 /// The notes on the members of the key objects at these places of a document, place by place.
 pub(crate) fn key_notes_at(
     alloc: Global,
-    document: &Value,
+    document: &Value<'_>,
     places: &[Place],
 ) -> Result<Vec<KeyMemberNote>, AllocError>
     ensures { IfOk result (λ notes. All (λ note.
-        IsKeyMember (view document.now) note × Contains places.now (place_of note)) notes.items) }
+        IsKeyMember (as_data document.now) note × Contains places.now (place_of note))
+        notes.items) }
 {
     let mut notes = Vec::new(alloc);
     for place in places {
@@ -33,11 +35,11 @@ pub(crate) fn key_notes_at(
 
 fn key_note_at(
     alloc: Global,
-    document: &Value,
+    document: &Value<'_>,
     place: &Place,
 ) -> Result<Option<KeyMemberNote>, AllocError>
     ensures { IfOk result (λ found. IfSome found
-        (λ note. IsKeyMember (view document.now) note × (place_of note ≡ place.now))) }
+        (λ note. IsKeyMember (as_data document.now) note × (place_of note ≡ place.now))) }
 {
     match object_at(document, place) {
         None => Ok(None),
@@ -47,11 +49,11 @@ fn key_note_at(
 
 fn key_note_of(
     alloc: Global,
-    object: &Value,
+    object: &Value<'_>,
     place: &Place,
 ) -> Result<Option<KeyMemberNote>, AllocError>
     ensures { IfOk result (λ found. IfSome found
-        (λ note. HasKeyMember (view object.now) note × (place_of note ≡ place.now))) }
+        (λ note. HasKeyMember (as_data object.now) note × (place_of note ≡ place.now))) }
 {
     match place {
         Place::Key(key) => other_key_id(alloc, object, key),
@@ -63,11 +65,11 @@ fn key_note_of(
 /// The note on the `keyid` of a key object, if it is a text that is not the object's id.
 fn other_key_id(
     alloc: Global,
-    object: &Value,
+    object: &Value<'_>,
     key: &KeyPlace,
 ) -> Result<Option<KeyMemberNote>, AllocError>
     ensures { IfOk result (λ found. IfSome found
-        (λ note. HasKeyMember (view object.now) note × (place_of note ≡ Place.Key key.now))) }
+        (λ note. HasKeyMember (as_data object.now) note × (place_of note ≡ Place.Key key.now))) }
 {
     let Some(keyid) = text_at(object, "keyid") else {
         return Ok(None);
@@ -84,11 +86,12 @@ fn other_key_id(
 /// The note on the `private` of a `keyval`, if it is a text that is not empty.
 fn private_key(
     alloc: Global,
-    keyval: &Value,
+    keyval: &Value<'_>,
     key: &KeyPlace,
 ) -> Result<Option<KeyMemberNote>, AllocError>
     ensures { IfOk result (λ found. IfSome found
-        (λ note. HasKeyMember (view keyval.now) note × (place_of note ≡ Place.KeyValue key.now))) }
+        (λ note. HasKeyMember (as_data keyval.now) note
+        × (place_of note ≡ Place.KeyValue key.now))) }
 {
     let Some(private) = text_at(keyval, "private") else {
         return Ok(None);
@@ -102,8 +105,8 @@ fn private_key(
 }
 
 /// The text of the member of this name, if it is a text.
-fn text_at<'v>(object: &'v Value, name: &str) -> Option<&'v str>
-    ensures { IfSome result (λ text. IsPart IsText name.now (view object.now) text.now) }
+fn text_at<'t>(object: &Value<'t>, name: &str) -> Option<&'t str>
+    ensures { IfSome result (λ text. IsPart IsText name.now (as_data object.now) text.now) }
 {
-    member(object, name)?.as_str()
+    text_of(member(object, name)?)
 }

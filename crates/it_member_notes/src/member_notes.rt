@@ -1,6 +1,6 @@
 //! Notes on the members of a policy or a layout.
 ghost use Rattle.std.specs.Prelude.{◌≡◌, [], All, Contains, IfOk};
-ghost use Rattle.serde_json.specs.View.{view};
+ghost use Rattle.it_borrowed.specs.Tree.{as_data};
 ghost use Rattle.it_member_notes.specs.KeyMembers.{IsKeyMember, place_of};
 ghost use Rattle.it_member_notes.specs.UnreadMembers.{IsUnread};
 
@@ -9,7 +9,7 @@ use crate::key_notes::key_notes_at;
 use crate::unread::unread_at;
 use crate::unread_member::UnreadMember;
 use it_findings::place::Place;
-use serde_json::Value;
+use json::Value;
 use std::alloc::{AllocError, Global};
 
 /// The notes on the members of a policy or a layout.
@@ -36,14 +36,14 @@ impl MemberNotes {
     /// The notes on the members of the objects at these places of a document.
     pub(crate) fn at(
         alloc: Global,
-        document: &Value,
+        document: &Value<'_>,
         places: &[Place],
     ) -> Result<MemberNotes, AllocError>
         ensures unread { IfOk result (λ notes. All (λ note.
-            IsUnread (view document.now) note × Contains places.now note.place)
+            IsUnread (as_data document.now) note × Contains places.now note.place)
             notes.unread.items) }
         ensures keys { IfOk result (λ notes. All (λ note.
-            IsKeyMember (view document.now) note × Contains places.now (place_of note))
+            IsKeyMember (as_data document.now) note × Contains places.now (place_of note))
             notes.keys.items) }
     {
         let unread = unread_at(alloc, document, places)?;

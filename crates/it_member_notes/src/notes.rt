@@ -4,7 +4,8 @@ ghost use Rattle.it_member_notes.specs.MemberNotes.{TellsLayoutMembers, TellsPol
 
 use crate::member_notes::MemberNotes;
 use crate::places::{layout_places, policy_places};
-use it_base::document::read_document;
+use it_borrowed::document::read_document;
+use json::Scratch;
 use std::alloc::{AllocError, Global};
 
 /// The notes on a policy's members that are not looked at, and on those of its key objects that may
@@ -17,7 +18,8 @@ use std::alloc::{AllocError, Global};
 pub fn policy_notes(alloc: Global, bytes: &[u8]) -> Result<MemberNotes, AllocError>
     ensures { IfOk result (TellsPolicyMembers bytes.now) }
 {
-    let Some(document) = read_document(alloc, bytes)? else {
+    let mut scratch = Scratch::new(alloc);
+    let Some(document) = read_document(alloc, bytes, &mut scratch)? else {
         return Ok(MemberNotes::none(alloc));
     };
     let places = policy_places(alloc, &document)?;
@@ -34,7 +36,8 @@ pub fn policy_notes(alloc: Global, bytes: &[u8]) -> Result<MemberNotes, AllocErr
 pub fn layout_notes(alloc: Global, bytes: &[u8]) -> Result<MemberNotes, AllocError>
     ensures { IfOk result (TellsLayoutMembers bytes.now) }
 {
-    let Some(document) = read_document(alloc, bytes)? else {
+    let mut scratch = Scratch::new(alloc);
+    let Some(document) = read_document(alloc, bytes, &mut scratch)? else {
         return Ok(MemberNotes::none(alloc));
     };
     let places = layout_places(alloc, &document)?;

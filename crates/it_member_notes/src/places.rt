@@ -3,14 +3,16 @@ ghost use Rattle.std.specs.Prelude.{◌≡◌, [], ◌∷◌, ◌++◌, All, IfO
 ghost use Rattle.it_member_notes.specs.Places.{IsOfLayout, IsOfPolicy};
 
 use crate::object_at::object_at;
-use it_base::document::member;
 use it_base::text::Text;
+use it_borrowed::document::member;
+use it_borrowed::items::items_of;
+use it_findings::named_members::named_members;
 use it_findings::place::{KeyPlace, Place};
-use serde_json::Value;
+use json::Value;
 use std::alloc::{AllocError, Global};
 
 /// The places of a policy: the whole, its owners, and each expectation with its builders.
-pub(crate) fn policy_places(alloc: Global, document: &Value) -> Result<Vec<Place>, AllocError>
+pub(crate) fn policy_places(alloc: Global, document: &Value<'_>) -> Result<Vec<Place>, AllocError>
     ensures { IfOk result (λ places. All IsOfPolicy places.items) }
 {
     let mut places = Vec::new(alloc);
@@ -23,7 +25,7 @@ pub(crate) fn policy_places(alloc: Global, document: &Value) -> Result<Vec<Place
 }
 
 /// The places of a layout: the whole, its keys, its steps and its inspections.
-pub(crate) fn layout_places(alloc: Global, document: &Value) -> Result<Vec<Place>, AllocError>
+pub(crate) fn layout_places(alloc: Global, document: &Value<'_>) -> Result<Vec<Place>, AllocError>
     ensures { IfOk result (λ places. All IsOfLayout places.items) }
 {
     let mut places = Vec::new(alloc);
@@ -36,7 +38,7 @@ pub(crate) fn layout_places(alloc: Global, document: &Value) -> Result<Vec<Place
     Ok(places)
 }
 
-fn push_steps(document: &Value, places: &mut Vec<Place>) -> Result<(), AllocError>
+fn push_steps(document: &Value<'_>, places: &mut Vec<Place>) -> Result<(), AllocError>
     requires { All IsOfLayout places.old.items }
     ensures { OnOk result (All IsOfLayout places.new.items) }
 {
@@ -46,7 +48,7 @@ fn push_steps(document: &Value, places: &mut Vec<Place>) -> Result<(), AllocErro
     Ok(())
 }
 
-fn push_inspections(document: &Value, places: &mut Vec<Place>) -> Result<(), AllocError>
+fn push_inspections(document: &Value<'_>, places: &mut Vec<Place>) -> Result<(), AllocError>
     requires { All IsOfLayout places.old.items }
     ensures { OnOk result (All IsOfLayout places.new.items) }
 {
@@ -58,7 +60,7 @@ fn push_inspections(document: &Value, places: &mut Vec<Place>) -> Result<(), All
 
 fn push_expectations(
     alloc: Global,
-    document: &Value,
+    document: &Value<'_>,
     places: &mut Vec<Place>,
 ) -> Result<(), AllocError>
     requires { All IsOfPolicy places.old.items }
@@ -73,7 +75,7 @@ fn push_expectations(
 
 fn push_builders(
     alloc: Global,
-    document: &Value,
+    document: &Value<'_>,
     expectation: usize,
     places: &mut Vec<Place>,
 ) -> Result<(), AllocError>
@@ -91,7 +93,7 @@ fn push_builders(
 
 fn push_builder(
     alloc: Global,
-    document: &Value,
+    document: &Value<'_>,
     expectation: usize,
     builder: usize,
     places: &mut Vec<Place>,
@@ -128,20 +130,21 @@ fn push_key(alloc: Global, key: KeyPlace, places: &mut Vec<Place>) -> Result<(),
 }
 
 /// The number of items in the list that is the member of this name, or 0 if it is not a list.
-fn count_at(object: &Value, name: &str) -> usize {
-    member(object, name)
-        .and_then(Value::as_array)
-        .map_or(0, Vec::len)
+fn count_at(object: &Value<'_>, name: &str) -> usize {
+    member(object, name).and_then(items_of).map_or(0, Vec::len)
 }
 
 /// The names in the object that is the member of this name: none if it is not an object.
-fn ids_at(alloc: Global, object: &Value, name: &str) -> Result<Vec<Text>, AllocError> {
+fn ids_at(alloc: Global, object: &Value<'_>, name: &str) -> Result<Vec<Text>, AllocError> {
     let mut ids = Vec::new(alloc);
-    let Some(members) = member(object, name).and_then(Value::as_object) else {
+    let Some(value) = member(object, name) else {
         return Ok(ids);
     };
-    for (id, _) in members.iter() {
-        ids.push(Text::copy(alloc, id.as_str())?)?;
+    let Some(members) = named_members(alloc, value)? else {
+        return Ok(ids);
+    };
+    for (id, _) in members {
+        ids.push(Text::copy(alloc, id)?)?;
     }
     Ok(ids)
 }

@@ -1,7 +1,8 @@
 //! The notes on members that are not looked at.
 ghost use Rattle.std.specs.Prelude.{◌≡◌, All, Any, Contains, IfOk, IsTrue, option_map};
 ghost use Rattle.serde_json.specs.Data.{object};
-ghost use Rattle.serde_json.specs.View.{members_view, view};
+ghost use Rattle.it_borrowed.specs.Tree.{as_data};
+ghost use Rattle.it_findings.specs.NamedMembers.{members_in};
 ghost use Rattle.it_findings.specs.MeantName.{meant_name as meant_at};
 ghost use Rattle.it_findings.specs.MemberNames.{known_names as known_at};
 ghost use Rattle.it_findings.specs.MemberNames.{read_names as read_at};
@@ -12,18 +13,21 @@ use crate::unread_member::UnreadMember;
 use it_base::text::Text;
 use it_findings::meant_name;
 use it_findings::member_names::{known_names, read_names};
+use it_findings::named_members::named_members;
 use it_findings::place::Place;
-use serde_json::{Map, Value};
+use json::Value;
 use std::alloc::{AllocError, Global};
+use std::collections::BTreeMap;
 
 /// The notes on the members of the objects at these places of a document, place by place.
 pub(crate) fn unread_at(
     alloc: Global,
-    document: &Value,
+    document: &Value<'_>,
     places: &[Place],
 ) -> Result<Vec<UnreadMember>, AllocError>
     ensures { IfOk result (λ notes. All
-        (λ note. IsUnread (view document.now) note × Contains places.now note.place) notes.items) }
+        (λ note. IsUnread (as_data document.now) note × Contains places.now note.place)
+        notes.items) }
 {
     let mut notes = Vec::new(alloc);
     for place in places {
@@ -35,11 +39,11 @@ pub(crate) fn unread_at(
 
 fn unread_in(
     alloc: Global,
-    document: &Value,
+    document: &Value<'_>,
     place: &Place,
 ) -> Result<Vec<UnreadMember>, AllocError>
     ensures { IfOk result (λ notes. All
-        (λ note. IsUnread (view document.now) note × (note.place ≡ place.now)) notes.items) }
+        (λ note. IsUnread (as_data document.now) note × (note.place ≡ place.now)) notes.items) }
 {
     match object_at(document, place) {
         None => Ok(Vec::new(alloc)),
@@ -47,11 +51,15 @@ fn unread_in(
     }
 }
 
-fn unread_of(alloc: Global, object: &Value, place: &Place) -> Result<Vec<UnreadMember>, AllocError>
+fn unread_of(
+    alloc: Global,
+    object: &Value<'_>,
+    place: &Place,
+) -> Result<Vec<UnreadMember>, AllocError>
     ensures { IfOk result (λ notes. All
-        (λ note. HasUnread (view object.now) note × (note.place ≡ place.now)) notes.items) }
+        (λ note. HasUnread (as_data object.now) note × (note.place ≡ place.now)) notes.items) }
 {
-    match object.as_object() {
+    match named_members(alloc, object)? {
         None => Ok(Vec::new(alloc)),
         Some(members) => unread_among(alloc, members, place),
     }
@@ -59,17 +67,17 @@ fn unread_of(alloc: Global, object: &Value, place: &Place) -> Result<Vec<UnreadM
 
 fn unread_among(
     alloc: Global,
-    members: &Map<String, Value>,
+    members: BTreeMap<&str, &Value<'_>>,
     place: &Place,
 ) -> Result<Vec<UnreadMember>, AllocError>
     ensures { IfOk result (λ notes. All (λ note.
-        HasUnread (object (members_view members.now.entries)) note × (note.place ≡ place.now))
+        HasUnread (object (members_in members.entry.entries)) note × (note.place ≡ place.now))
         notes.items) }
 {
     let mut notes = Vec::new(alloc);
-    for (name, _) in members.iter() {
-        if !has_meaning(place, name.as_str()) {
-            notes.push(unread_member(alloc, place, name.as_str())?)?;
+    for (name, _) in members {
+        if !has_meaning(place, name) {
+            notes.push(unread_member(alloc, place, name)?)?;
         }
     }
     Ok(notes)

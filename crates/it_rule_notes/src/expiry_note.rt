@@ -7,10 +7,11 @@ ghost use Rattle.it_base.specs.Text.{IsText};
 ghost use Rattle.it_rule_notes.specs.Expiry.{IsBefore, TellsExpiry, expiry_line};
 
 use crate::line::push_told;
-use it_base::document::read_document;
-use it_base::parts::part;
 use it_base::text::Text;
+use it_borrowed::document::read_document;
+use it_borrowed::parts::part;
 use it_docs::moment::read_moment;
+use json::Scratch;
 use std::alloc::{AllocError, Global};
 
 /// A layout's `expires`, and a later moment, as written.
@@ -52,7 +53,8 @@ pub fn expiry_note(
 fn expires_in(alloc: Global, body: &[u8]) -> Result<Option<Text>, AllocError>
     ensures { IfOk result (Finds (OfDocument (IsPart IsText (codes "expires")) body.now)) }
 {
-    match read_document(alloc, body)? {
+    let mut scratch = Scratch::new(alloc);
+    match read_document(alloc, body, &mut scratch)? {
         Some(document) => part(alloc, &document, "expires"),
         None => Ok(None),
     }

@@ -14,6 +14,7 @@ use it_findings::document_text::DocumentText;
 use it_findings::finding::{Finding, RuleList};
 use it_findings::{layout_members, layout_nulls, no_thresholds};
 use it_rules::item::Item;
+use json::Scratch;
 use std::alloc::{AllocError, Global};
 
 /// What is found in a layout, which is read from this payload, and counts where its steps have
@@ -31,7 +32,8 @@ pub(crate) fn counting_findings(
     ensures { IfOk result (λ counting.
         LayoutCounting payload.now layout.now steps.now counting.items) }
 {
-    let text = DocumentText::read(alloc, payload)?;
+    let mut scratch = Scratch::new(alloc);
+    let text = DocumentText::read(alloc, payload, &mut scratch)?;
     let members = layout_members(alloc, &text)?;
     let nulls = layout_nulls(alloc, &text)?;
     let places = no_thresholds(alloc, &text)?;

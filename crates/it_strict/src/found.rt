@@ -27,6 +27,7 @@ use it_verify::documents::Documents;
 use it_verify::evidence::Evidence;
 use it_verify::grounds::Grounds;
 use it_verify::inputs::Inputs;
+use json::Scratch;
 use std::alloc::{AllocError, Global};
 
 /// What is found where a delivery is accepted.
@@ -101,7 +102,8 @@ pub fn found_in_policy(
 ) -> Result<Vec<Finding>, AllocError>
     ensures { IfOk result (λ found. PolicyFound bytes.now documents.now found.items) }
 {
-    let text = DocumentText::read(alloc, bytes)?;
+    let mut scratch = Scratch::new(alloc);
+    let text = DocumentText::read(alloc, bytes, &mut scratch)?;
     let members = policy_members(alloc, &text)?;
     let nulls = policy_nulls(alloc, &text)?;
     let (members, nulls) = (members.as_slice(), nulls.as_slice());

@@ -1,5 +1,5 @@
 use Rattle.std.proofs.lemmas.Result.{IfOk-weaker}
-use Rattle.serde_json.specs.View.{view}
+use Rattle.it_borrowed.specs.Tree.{as_data}
 use Rattle.it_findings.specs.Members.{OthersIn, PolicyMembers}
 use Rattle.it_findings.proofs.Texts.{in_each_document}
 use Rattle.it_findings.proofs.members.others_in_policy.Goals as goal
@@ -9,7 +9,7 @@ returns-in-Some c =
     let bytes = c.text.inside.bytes.now in
     let read = rw c.in-Some.is at c.text.invariant in
     rw (← c.text.view_is) (IfOk-weaker c.members_in_policy.result
-    (λ found. PolicyMembers (view c.in-Some.document) found.items)
+    (λ found. PolicyMembers (as_data c.in-Some.document) found.items)
     (λ found. OthersIn PolicyMembers bytes found.items)
-    (λ found h. in_each_document PolicyMembers bytes (view c.in-Some.document) found.items read h)
+    (λ found h. in_each_document PolicyMembers bytes (as_data c.in-Some.document) found.items read h)
     c.members_in_policy.ensures)

@@ -1,5 +1,5 @@
 use Rattle.std.proofs.lemmas.Result.{IfOk-weaker}
-use Rattle.serde_json.specs.View.{view}
+use Rattle.it_borrowed.specs.Tree.{as_data}
 use Rattle.it_findings.specs.NoThresholds.{NoThresholds, NoThresholdsOf}
 use Rattle.it_findings.proofs.Texts.{in_each_document}
 use Rattle.it_findings.proofs.missing_thresholds.no_thresholds.Goals as goal
@@ -9,7 +9,7 @@ returns-in-Some c =
     let bytes = c.text.inside.bytes.now in
     let read = rw c.in-Some.is at c.text.invariant in
     rw (← c.text.view_is) (IfOk-weaker c.places_in.result
-    (λ found. NoThresholds (view c.in-Some.document) found.items)
+    (λ found. NoThresholds (as_data c.in-Some.document) found.items)
     (λ found. NoThresholdsOf bytes found.items)
-    (λ found h. in_each_document NoThresholds bytes (view c.in-Some.document) found.items read h)
+    (λ found h. in_each_document NoThresholds bytes (as_data c.in-Some.document) found.items read h)
     c.places_in.ensures)

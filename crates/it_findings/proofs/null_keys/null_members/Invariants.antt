@@ -1,13 +1,12 @@
 use Rattle.std.proofs.Common.{◌≡◌, List, ◌++◌, map}
-use Rattle.serde_json.specs.View.{members_view}
-use Rattle.serde_json.proofs.Views.{Entry}
+use Rattle.it_findings.specs.NamedMembers.{NamedMember, members_in}
 use Rattle.it_findings.specs.NullKeys.{null_ids, null_key}
 use Rattle.it_findings.proofs.null_keys.null_members.Given as goal
 
 -- the members so far and those that are left, with what was found
 abbrev pub invariant-loop-name : goal.invariant-loop-name
 invariant-loop-name l = record {
-  done : List Entry;
-  all : l.members.entries ≡ done ++ l.name-iterator;
-  found : l.found.items ≡ map (null_key l.list) (null_ids (members_view done));
+  done : List NamedMember;
+  all : l.fn.members.entries ≡ done ++ l.name-iterator;
+  found : l.found.items ≡ map (null_key l.list) (null_ids (members_in done));
 }

@@ -1,6 +1,6 @@
 use Rattle.std.proofs.Common.{◌≡◌, Contains, IfSome, subst, sym}
 use Rattle.std.proofs.lemmas.List.Elements.{All-push}
-use Rattle.serde_json.specs.View.{view}
+use Rattle.it_borrowed.specs.Tree.{as_data}
 use Rattle.it_base.proofs.Elements.{contains_at}
 use Rattle.it_member_notes.specs.KeyMembers.{IsKeyMember, place_of}
 use Rattle.it_member_notes.specs.declared.key_member_note.KeyMemberNote.{KeyMemberNote}
@@ -9,7 +9,7 @@ use Rattle.it_member_notes.proofs.key_notes.key_notes_at.Goals.{in-Some+in_ok-pu
 
 pub loop-place-preserved : goal.loop-place-preserved
 loop-place-preserved c =
-    let d = view c.args.document.now in
+    let d = as_data c.args.document.now in
     let places = c.args.places.now in
     let place = c.place-item.result in
     let stands = contains_at places c.loop-place.place-index place c.loop-place-test.true

@@ -1,8 +1,7 @@
 use Rattle.std.proofs.Common.{◌≡◌, [], ◌∷◌, ◌++◌, Contains, sym, ap, ◌∙◌, append_assoc}
 use Rattle.std.proofs.lemmas.List.Elements.{All-push}
 use Rattle.serde_json.specs.Data.{object}
-use Rattle.serde_json.specs.View.{members_view}
-use Rattle.serde_json.proofs.Views.{Entry}
+use Rattle.it_findings.specs.NamedMembers.{NamedMember, members_in}
 use Rattle.it_findings.specs.MemberNames.{known_names, read_names}
 use Rattle.it_member_notes.specs.UnreadMembers.{HasUnread}
 use Rattle.it_member_notes.specs.declared.unread_member.UnreadMember.{UnreadMember}
@@ -13,33 +12,32 @@ use Rattle.it_member_notes.proofs.unread.unread_among.Goals as goal
 pub loop-name-preserved : goal.loop-name-preserved
 loop-name-preserved c =
     let l = c.loop-name.invariant in
-    let e : Entry = (c.in-Some.name.now, c.in-Some.field-0-1.now) in
+    let e : NamedMember = (c.in-Some.name, c.in-Some.field-0-1) in
     let left = c.next.new.self in
-    let all : c.args.members.now.entries ≡ l.0 ++ e ∷ left = l.1
+    let all : c.args.members.entries ≡ l.0 ++ e ∷ left = l.1
     ∙ ap (λ es. l.0 ++ es) c.in-Some.ensures.steps in
     (l.0 ++ e ∷ [], all ∙ sym (append_assoc l.0 (e ∷ []) left), l.2)
 
 pub loop-name-preserved-in_ok-push : goal.loop-name-preserved-in_ok-push
 loop-name-preserved-in_ok-push c =
     let l = c.loop-name.invariant in
-    let e : Entry = (c.in-Some.name.now, c.in-Some.field-0-1.now) in
+    let e : NamedMember = (c.in-Some.name, c.in-Some.field-0-1) in
     let left = c.next.new.self in
-    let all : c.args.members.now.entries ≡ l.0 ++ e ∷ left = l.1
+    let all : c.args.members.entries ≡ l.0 ++ e ∷ left = l.1
     ∙ ap (λ es. l.0 ++ es) c.in-Some.ensures.steps in
     let place = c.args.place.now in
-    let text = c.as_str.result.now in
-    let no_read = rw c.as_str.ensures.value at (not_so c.has_meaning.result
-    (Contains (read_names place) text) c.has_meaning.ensures.read c.if-not-has_meaning.true) in
-    let no_known = rw c.as_str.ensures.value at (not_so c.has_meaning.result
-    (Contains (known_names place) text) c.has_meaning.ensures.known c.if-not-has_meaning.true) in
+    let text = c.in-Some.name.now in
+    let no_read = not_so c.has_meaning.result
+    (Contains (read_names place) text) c.has_meaning.ensures.read c.if-not-has_meaning.true in
+    let no_known = not_so c.has_meaning.result
+    (Contains (known_names place) text) c.has_meaning.ensures.known c.if-not-has_meaning.true in
     let note = c.in_ok-unread_member.field-0 in
     let made = c.in_ok-unread_member.ensures in (
       l.0 ++ e ∷ [],
       all ∙ sym (append_assoc l.0 (e ∷ []) left),
       rw c.in_ok-push.ensures.items
           (All-push (λ (n : UnreadMember).
-          HasUnread (object (members_view c.args.members.now.entries)) n × (n.place ≡ place)) _ _ l.2
-          (unread_note c.args.members.now.entries l.0 left e place note all made.place
-          (made.name ∙ c.as_str-then-not-has_meaning.ensures.value) no_read no_known
-          (rw c.as_str-then-not-has_meaning.ensures.value at made.close))),
+          HasUnread (object (members_in c.args.members.entries)) n × (n.place ≡ place)) _ _ l.2
+          (unread_note c.args.members.entries l.0 left e place note all made.place
+          made.name no_read no_known made.close)),
     )

@@ -1,13 +1,12 @@
 use Rattle.std.proofs.Common.{◌≡◌, List, ◌++◌, All}
 use Rattle.serde_json.specs.Data.{object}
-use Rattle.serde_json.specs.View.{members_view}
-use Rattle.serde_json.proofs.Views.{Entry}
+use Rattle.it_findings.specs.NamedMembers.{NamedMember, members_in}
 use Rattle.it_member_notes.specs.UnreadMembers.{HasUnread}
 use Rattle.it_member_notes.proofs.unread.unread_among.Given as goal
 
 -- what was looked through so far, and what is left
 abbrev pub invariant-loop-name : goal.invariant-loop-name
 invariant-loop-name l =
-    (done : List Entry) × (l.members.entries ≡ done ++ l.name-iterator)
-    × All (λ note. HasUnread (object (members_view l.members.entries)) note
+    (done : List NamedMember) × (l.fn.members.entries ≡ done ++ l.name-iterator)
+    × All (λ note. HasUnread (object (members_in l.fn.members.entries)) note
     × (note.place ≡ l.place)) l.notes.items

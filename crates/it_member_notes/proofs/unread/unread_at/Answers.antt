@@ -1,6 +1,6 @@
 use Rattle.std.proofs.Common.{◌≡◌, Contains}
 use Rattle.std.proofs.lemmas.List.Elements.{All-append, All-weaker}
-use Rattle.serde_json.specs.View.{view}
+use Rattle.it_borrowed.specs.Tree.{as_data}
 use Rattle.it_base.proofs.Elements.{contains_at}
 use Rattle.it_member_notes.specs.UnreadMembers.{IsUnread}
 use Rattle.it_member_notes.specs.declared.unread_member.UnreadMember.{UnreadMember}
@@ -8,7 +8,7 @@ use Rattle.it_member_notes.proofs.unread.unread_at.Goals as goal
 
 pub loop-place-preserved : goal.loop-place-preserved
 loop-place-preserved c =
-    let d = view c.args.document.now in
+    let d = as_data c.args.document.now in
     let places = c.args.places.now in
     let place = c.place-item.result in
     let stands = contains_at places c.loop-place.place-index place c.loop-place-test.true

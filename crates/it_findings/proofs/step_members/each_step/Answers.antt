@@ -1,7 +1,7 @@
 use Rattle.std.proofs.Common.{◌≤◌, length, arith}
 use Rattle.it_findings.specs.Members.{StepMembers}
 use Rattle.it_findings.proofs.NullLists.{joined_item, joined_items}
-use Rattle.it_findings.proofs.members.each_step.Goals as goal
+use Rattle.it_findings.proofs.step_members.each_step.Goals as goal
 
 pub loop-place-preserved : goal.loop-place-preserved
 loop-place-preserved c =

@@ -2,7 +2,9 @@ mod Gathered
 pub mod ListItems
 mod Listed
 mod Looked
+mod Named
 mod Numerals
-mod Ranges
-mod Trees
+pub mod Ranges
+mod Tabled
+pub mod Trees
 mod TreesRead

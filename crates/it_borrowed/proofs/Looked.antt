@@ -1,11 +1,11 @@
 -- Entries in the order of their names, and what is found among them.
 use Rattle.std.proofs.Common.{◌≡◌, ℕ, List, [], ◌∷◌, ◌++◌, Bool, true, false, cond, Option, Some}
 use Rattle.std.proofs.Common.{None, option_map, option_and_then, is_eq, string_bytes, string_cmp}
-use Rattle.std.proofs.Common.{Less, String, Vec, Bor, bytes_eq, refl, sym, ap, subst}
+use Rattle.std.proofs.Common.{Less, Vec, Bor, bytes_eq, refl, sym, ap, subst}
 use Rattle.std.proofs.Common.{◌∙◌, rules}
 use Rattle.std.specs.Cmp.Lexicographic.{slice_cmp}
 use Rattle.std.specs.declared.alloc.Global.{Global}
-use Rattle.std.specs.BTreeMap.{BTreeMap, is_at}
+use Rattle.std.specs.BTreeMap.{is_at}
 use Rattle.std.specs.FinMap.{empty, get, get-empty, get-insert, insert}
 use Rattle.std.specs.List.{AllByRecursion}
 use Rattle.std.specs.List.Sorted.{IsStrictlySortedBy}
@@ -23,7 +23,7 @@ use Rattle.it_base.specs.Finds.{Finds}
 use Rattle.it_base.specs.Table.{AreMembers, IsTable, Named, Stands}
 use Rattle.it_base.proofs.TableLemmas.{found_of_members, text_cmp}
 use Rattle.it_borrowed.specs.Tree.{as_data, data_of_members}
-use Rattle.it_borrowed.specs.inside.Last.{AreLast, Entry, found_at, value_at}
+use Rattle.it_borrowed.specs.inside.Last.{Entry, found_at, value_at}
 
 below_middle : (first : Entry) (es : List Entry) (e : Entry) (more : List Entry)
     → AllByRecursion (λ y. string_cmp first.0 y ≡ Less) (keys_of (es ++ e ∷ more))
@@ -167,7 +167,7 @@ module _ {X : Type 0} (P : Data → X → Type 0) where
       (is (string_bytes e.0)) in
       none stands.0 stands.2
 
-  same_found : (es : List Entry) (ms : Members) (found : Option (Named X))
+  pub same_found : (es : List Entry) (ms : Members) (found : Option (Named X))
       → ((name : List ℕ) → found_at es name ≡ get_member name ms) → Finds (StandAt es) found
       → Finds (AreMembers P ms) found
   same_found es ms None same none =
@@ -177,13 +177,12 @@ module _ {X : Type 0} (P : Data → X → Type 0) where
       λ name. subst (λ o. Stands P (option_and_then present o) (get m name)) (same name) (is name)
 
   -- what is found of the members is found of the object
-  pub found_of_last : (value : Value Global) (members : Vec (Bor (List ℕ) × Value Global) Global)
-      (last : BTreeMap (String Global) (Bor (Value Global))) (found : Option (Named X))
+  pub found_of_object : (value : Value Global)
+      (members : Vec (Bor (List ℕ) × Value Global) Global) (found : Option (Named X))
       → value ≡ Object members
-      → AreLast (data_of_members (members_view members.items) no_members) last
-      → Finds (StandAt last.entries) found → Finds (IsTable P (as_data value)) found
-  found_of_last value members last found is same h =
+      → Finds (AreMembers P (data_of_members (members_view members.items) no_members)) found
+      → Finds (IsTable P (as_data value)) found
+  found_of_object value members found is h =
       let ms = data_of_members (members_view members.items) no_members in
       let seen : as_data value ≡ object ms = ap as_data is ∙ search (rules, the_lemmas) in
-      found_of_members P (as_data value) ms found (sym (ap as_object seen))
-      (same_found last.entries ms found same h)
+      found_of_members P (as_data value) ms found (sym (ap as_object seen)) h

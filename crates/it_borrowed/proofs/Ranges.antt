@@ -8,7 +8,7 @@ use Rattle.serde_json.specs.Data.{Items, item, Members, no_members, put}
 use Rattle.serde_json.specs.Read.{number_of, of_json, of_items, of_members, read}
 use Rattle.it_base.specs.Document.{IsDocument}
 use Rattle.it_borrowed.specs.Tree.{data_of, data_of_items, data_of_members, no_number}
-use Rattle.it_borrowed.specs.inside.Json.{IsJson}
+use Rattle.it_borrowed.specs.Json.{IsJson}
 use Rattle.it_borrowed.specs.inside.InRange.{in_range, items_in_range, members_in_range}
 
 abbrev only_if : {A : Type 0} → Bool → A → Option A
@@ -80,6 +80,20 @@ nothing (Some j) none = absurd (none j refl)
 
 pub read-no_json : (text : List ℕ) → ((j : json.Json) → IsJson text j → ⊥) → read text ≡ None
 read-no_json text none = nothing _ none
+
+kept : (b : Bool) (a d : Data) → only_if b a ≡ Some d → d ≡ a
+kept true a d e = sym (ap (λ o. unwrap_or o a) e)
+kept false a d e = absurd (cc)
+
+of_some : (o : Option json.Json) (d : Data) → option_and_then of_json o ≡ Some d
+    → (j : json.Json) × (o ≡ Some j) × (d ≡ data_of j)
+of_some None d e = absurd (cc)
+of_some (Some j) d e = (j, refl, kept (in_range j) (data_of j) d (sym (of_json-is j) ∙ e))
+
+-- a document has a tree
+pub read-json : (text : List ℕ) (d : Data) → read text ≡ Some d
+    → (j : json.Json) × IsJson text j × (d ≡ data_of j)
+read-json text d e = of_some _ d e
 
 pub no_document : (bytes : List ℕ) (d : Data) → read bytes ≡ None → IsDocument bytes d → ⊥
 no_document bytes d none is = absurd (let e : None ≡ Some d = sym none ∙ is.reads in cc)

@@ -1,2 +1,4 @@
+pub mod Json
+pub mod NamedMembers
 pub mod Tree
 pub mod inside

@@ -1,4 +1,3 @@
 pub mod InRange
-pub mod Json
 pub mod Last
 pub mod Whole

@@ -1,11 +1,11 @@
 //! JSON documents and their members.
-ghost use Rattle.std.specs.Prelude.{◌≡◌, IfOk, is_some, option_map};
+ghost use Rattle.std.specs.Prelude.{◌≡◌, IfOk, IfSome, is_some, option_map};
 ghost use Rattle.json.specs.Value.{value_view};
 ghost use Rattle.serde_json.specs.Find.{as_object};
 ghost use Rattle.it_base.specs.Document.{IsDocument, member_at};
 ghost use Rattle.it_base.specs.Finds.{FindsAs};
 ghost use Rattle.it_borrowed.specs.Tree.{as_data};
-ghost use Rattle.it_borrowed.specs.inside.Json.{IsJson};
+ghost use Rattle.it_borrowed.specs.Json.{IsJson};
 
 use crate::numbers::has_numbers_in_range;
 use json::{Error, Reader, Scratch, Value};
@@ -29,7 +29,8 @@ pub fn read_document<'t>(
     bytes: &'t [u8],
     scratch: &'t mut Scratch,
 ) -> Result<Option<Value<'t>>, AllocError>
-    ensures { IfOk result (FindsAs as_data (IsDocument bytes.now)) }
+    ensures document { IfOk result (FindsAs as_data (IsDocument bytes.now)) }
+    ensures tree { IfOk result (λ found. IfSome found (λ v. IsJson bytes.now (value_view v))) }
 {
     let Ok(text) = std::str::from_utf8(bytes) else {
         return Ok(None);
@@ -43,8 +44,15 @@ pub fn read_document<'t>(
     Ok(Some(value))
 }
 
-/// Reads the tree that a text is.
-fn read_tree<'t>(
+/// Reads the tree that a text is, in which each object has all of its members in their order, those
+/// of one name too, and numbers may be out of range. `scratch` keeps its texts that are written
+/// with escapes. The result is `None` where the text is no tree: bad syntax, or nesting deeper than
+/// 127 levels.
+///
+/// # Errors
+///
+/// `AllocError` where memory was refused.
+pub fn read_tree<'t>(
     alloc: Global,
     text: &'t str,
     scratch: &'t mut Scratch,

@@ -6,6 +6,7 @@ pub mod base64_text;
 pub mod document;
 pub mod items;
 pub mod list;
+pub mod named_members;
 mod numbers;
 mod parameters;
 pub mod parts;

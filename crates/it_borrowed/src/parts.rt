@@ -77,3 +77,23 @@ pub fn part_or<T: FromBorrowed>(
         Some(found) => T::from_borrowed(alloc, found),
     }
 }
+
+/// The member of this name in the JSON document that the bytes are, read as a value; `None` where
+/// they are no document, or where it has no such member or one that is not such a value.
+///
+/// # Errors
+///
+/// `AllocError` where memory was refused.
+pub fn part_in<T: FromBorrowed>(
+    alloc: Global,
+    bytes: &[u8],
+    name: &str,
+) -> Result<Option<T>, AllocError>
+    ensures { IfOk result (Finds (OfDocument (IsPart T.is_of name.now) bytes.now)) }
+{
+    let mut scratch = Scratch::new(alloc);
+    let Some(value) = read_document(alloc, bytes, &mut scratch)? else {
+        return Ok(None);
+    };
+    part(alloc, &value, name)
+}

@@ -1,12 +1,12 @@
 //! Maps from texts to values, read from the objects of a document.
-ghost use Rattle.std.specs.Prelude.{◌≡◌, IfOk, List, ℕ, string_bytes};
+ghost use Rattle.std.specs.Prelude.{◌≡◌, IfOk, IfSome, List, ℕ, string_bytes};
 ghost use Rattle.std.specs.BTreeMap.{IsFromIterResult};
 ghost use Rattle.std.specs.String.{string_cmp};
 ghost use Rattle.std.specs.FinMap as finite;
 ghost use Rattle.json.specs.Value.{members_view};
 ghost use Rattle.serde_json.specs.Data.{no_members};
 ghost use Rattle.it_base.specs.Finds.{Finds};
-ghost use Rattle.it_base.specs.Table.{IsTable, Stands};
+ghost use Rattle.it_base.specs.Table.{AreMembers, IsTable, Stands};
 ghost use Rattle.it_borrowed.specs.Tree.{as_data, data_of_members};
 ghost use Rattle.it_borrowed.specs.inside.Last.{AreLast, value_at};
 
@@ -24,11 +24,47 @@ impl<V: FromBorrowed> FromBorrowed for Table<V> {
     /// last counts.
     fn from_borrowed(alloc: Global, value: &Value<'_>) -> Result<Option<Table<V>>, AllocError> {
         match value {
-            Value::Object(members) => read_members(alloc, last_members(alloc, members)?),
+            Value::Object(members) => table_of(alloc, members),
             Value::Null | Value::Bool(_) | Value::Number(_) | Value::String(_) | Value::Array(_) =>
                 Ok(None),
         }
     }
+}
+
+/// The values of an object's members, where each of those that count is such a value.
+fn table_of<'t, V: FromBorrowed>(
+    alloc: Global,
+    members: &Vec<(&'t str, Value<'t>)>,
+) -> Result<Option<Table<V>>, AllocError>
+    ensures { IfOk result (Finds (AreMembers V.is_of
+        (data_of_members (members_view members.now.items) no_members))) }
+{
+    match read_each(alloc, members)? {
+        Some(table) => Ok(Some(table)),
+        None => read_last(alloc, last_members(alloc, members)?),
+    }
+}
+
+/// The values of the members, where each of them is such a value and none is null; else `None`. A
+/// map of all of them has of each name the last.
+fn read_each<'t, V: FromBorrowed>(
+    alloc: Global,
+    members: &Vec<(&'t str, Value<'t>)>,
+) -> Result<Option<Table<V>>, AllocError>
+    ensures { IfOk result (λ found. IfSome found (AreMembers V.is_of
+        (data_of_members (members_view members.now.items) no_members))) }
+{
+    let mut named = Vec::with_capacity(alloc, members.len())?;
+    for member in members {
+        if member.1.is_null() {
+            return Ok(None);
+        }
+        let Some(value) = V::from_borrowed(alloc, &member.1)? else {
+            return Ok(None);
+        };
+        named.push((String::from_str(alloc, member.0)?, value))?;
+    }
+    Ok(Some(Table::from(map_of(alloc, named)?)))
 }
 
 /// The last member of each name.
@@ -57,9 +93,8 @@ fn entry_of<'v, 't>(
     Ok((String::from_str(alloc, member.0)?, &member.1))
 }
 
-/// Reads the members one by one, and builds the map from all of them at once, since their names are
-/// already in order.
-fn read_members<V: FromBorrowed>(
+/// Reads the last members one by one.
+fn read_last<V: FromBorrowed>(
     alloc: Global,
     members: BTreeMap<String, &Value<'_>>,
 ) -> Result<Option<Table<V>>, AllocError>

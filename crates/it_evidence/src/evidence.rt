@@ -1,7 +1,6 @@
 //! What stands behind a delivery that is accepted (this profile's choice of what is told).
 ghost use Rattle.std.specs.Prelude.{IfOk, codes};
 ghost use Rattle.it_base.specs.Document.{OfDocument};
-ghost use Rattle.it_base.specs.Finds.{Finds};
 ghost use Rattle.it_base.specs.Parts.{IsPart};
 ghost use Rattle.it_base.specs.Text.{IsText};
 ghost use Rattle.it_docs.specs.Layout.{LayoutOf};
@@ -10,8 +9,7 @@ ghost use Rattle.it_evidence.specs.Evidence.{IsBehind};
 
 use it_base::sequence::Sequence;
 use it_base::text::Text;
-use it_borrowed::document::read_document;
-use it_borrowed::parts::part;
+use it_borrowed::parts::part_in;
 use it_dsse::checks::Checks;
 use it_file_evidence::file_evidence;
 use it_json_report::evidence::Evidence;
@@ -20,7 +18,6 @@ use it_verify::documents::Documents;
 use it_verify::grounds::Grounds;
 use it_verify::inputs::Inputs;
 use it_vouched::Vouched;
-use json::Scratch;
 use sha2::{Digest, Sha256};
 use std::alloc::{AllocError, Global};
 
@@ -62,19 +59,8 @@ fn expires_of(alloc: Global, documents: &Documents) -> Result<Text, AllocError>
     ensures { IfOk result
         (OfDocument (IsPart IsText (codes "expires")) documents.now.envelope.payload) }
 {
-    match expires_in(alloc, documents.envelope.payload.as_slice())? {
+    match part_in::<Text>(alloc, documents.envelope.payload.as_slice(), "expires")? {
         Some(expires) => Ok(expires),
         None => unreachable!(),
-    }
-}
-
-/// The text under `expires` in a document.
-fn expires_in(alloc: Global, body: &[u8]) -> Result<Option<Text>, AllocError>
-    ensures { IfOk result (Finds (OfDocument (IsPart IsText (codes "expires")) body.now)) }
-{
-    let mut scratch = Scratch::new(alloc);
-    match read_document(alloc, body, &mut scratch)? {
-        Some(document) => part(alloc, &document, "expires"),
-        None => Ok(None),
     }
 }

@@ -4,7 +4,6 @@ pub mod FirstPlaces
 pub mod Joining
 pub mod KeyNames
 pub mod MemberLists
-mod Named
 pub mod NullLists
 pub mod Reaching
 pub mod Saying

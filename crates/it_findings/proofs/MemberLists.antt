@@ -5,7 +5,7 @@ use Rattle.serde_json.specs.Data.{Data}
 use Rattle.it_borrowed.specs.Tree.{as_data}
 use Rattle.it_findings.specs.Joined.{JoinedEach}
 use Rattle.it_findings.specs.Members.{entries_in}
-use Rattle.it_findings.specs.NamedMembers.{NamedMember, members_in}
+use Rattle.it_borrowed.specs.NamedMembers.{NamedMember, members_in}
 use Rattle.it_findings.proofs.Joining.{joined_push}
 
 -- a member with its name

@@ -14,7 +14,7 @@ use Rattle.serde_json.specs.Data.{no_members, member}
 use Rattle.serde_json.specs.Find.{as_null}
 use Rattle.it_borrowed.specs.Tree.{as_data, data_of, data_of_items}
 use Rattle.it_findings.specs.Joined.{Joined}
-use Rattle.it_findings.specs.NamedMembers.{NamedMember, members_in}
+use Rattle.it_borrowed.specs.NamedMembers.{NamedMember, members_in}
 use Rattle.it_findings.specs.NullKeys.{listed, null_ids}
 use Rattle.it_findings.proofs.Joining.{joined_more}
 

@@ -10,7 +10,6 @@ pub mod Laws
 pub mod MeantName
 pub mod MemberNames
 pub mod Members
-pub mod NamedMembers
 pub mod NoThresholds
 pub mod NullKeys
 pub mod Parameters

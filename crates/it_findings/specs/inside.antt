@@ -1,1 +1,2 @@
+pub mod DocumentText
 pub mod FirstPlaces

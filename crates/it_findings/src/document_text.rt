@@ -1,5 +1,8 @@
 //! The text of a policy or of the body of a layout.
 ghost use Rattle.std.specs.Prelude.{◌≡◌, IfOk};
+ghost use Rattle.it_base.specs.Document.{IsDocument};
+ghost use Rattle.it_base.specs.Finds.{FindsAs};
+ghost use Rattle.it_borrowed.specs.Tree.{as_data};
 
 use it_borrowed::document::read_document;
 use json::{Scratch, Value};
@@ -18,15 +21,13 @@ pub struct DocumentText<'b> {
 
 impl<'b> Model for DocumentText<'b> {
     ghost use Rattle.std.specs.Prelude.{List, ℕ};
-    ghost use Rattle.it_base.specs.Document.{IsDocument};
-    ghost use Rattle.it_base.specs.Finds.{FindsAs};
-    ghost use Rattle.it_borrowed.specs.Tree.{as_data};
+    ghost use Rattle.it_findings.specs.inside.DocumentText.{IsReadFrom};
 
     ghost Value = { List ℕ };
 
     ghost view = { λ text. text.bytes.now };
 
-    ghost invariant = { λ text. FindsAs as_data (IsDocument text.bytes.now) text.document };
+    ghost invariant = { λ text. IsReadFrom text.bytes.now text.document };
 }
 
 impl<'b> DocumentText<'b> {
@@ -45,5 +46,12 @@ impl<'b> DocumentText<'b> {
     {
         let document = read_document(alloc, bytes, scratch)?;
         Ok(DocumentText { bytes, document })
+    }
+
+    /// The document that the bytes are, or `None` where they are none. Takes no memory.
+    pub fn document(&self) -> Option<&Value<'b>>
+        ensures { FindsAs (λ document. as_data document.now) (IsDocument self.now) result }
+    {
+        self.document.as_ref()
     }
 }

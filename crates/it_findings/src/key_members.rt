@@ -9,15 +9,15 @@ ghost use Rattle.it_findings.specs.KeyPlaces.{key_place as place_under};
 ghost use Rattle.it_findings.specs.Members.{HasPrivate, KeyListMembers, KeyMembers};
 ghost use Rattle.it_findings.specs.Members.{KeyvalMembers, ListedKeyMembers, entries_in};
 ghost use Rattle.it_findings.specs.Members.{members_of};
-ghost use Rattle.it_findings.specs.NamedMembers.{members_in};
+ghost use Rattle.it_borrowed.specs.NamedMembers.{members_in};
 
 use crate::member_finding::MemberFinding;
-use crate::named_members::named_members;
 use crate::null_key::KeyList;
 use crate::place::{KeyPlace, Place};
 use crate::unread::unread_members;
 use it_base::text::Text;
 use it_borrowed::document::member;
+use it_borrowed::named_members::named_members;
 use it_borrowed::text::text_of;
 use json::Value;
 use std::alloc::{AllocError, Global};

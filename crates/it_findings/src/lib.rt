@@ -23,7 +23,6 @@ pub mod member_finding;
 pub mod member_names;
 mod members;
 mod missing_thresholds;
-pub mod named_members;
 pub mod null_key;
 mod null_keys;
 mod one;

@@ -34,7 +34,7 @@ pub fn policy_members(
 ) -> Result<Vec<MemberFinding>, AllocError>
     ensures { IfOk result (λ found. MembersOfPolicy text.now found.items) }
 {
-    let mut found = repeated_in(alloc, Root::Policy, text.bytes)?;
+    let mut found = repeated_in(alloc, Root::Policy, text)?;
     let mut others = others_in_policy(alloc, text)?;
     found.append(&mut others)?;
     Ok(found)
@@ -53,7 +53,7 @@ pub fn layout_members(
 ) -> Result<Vec<MemberFinding>, AllocError>
     ensures { IfOk result (λ found. MembersOfLayout text.now found.items) }
 {
-    let mut found = repeated_in(alloc, Root::Layout, text.bytes)?;
+    let mut found = repeated_in(alloc, Root::Layout, text)?;
     let mut others = others_in_layout(alloc, text)?;
     found.append(&mut others)?;
     Ok(found)

@@ -1,11 +1,13 @@
 //! Members that come again, as findings.
 ghost use Rattle.std.specs.Prelude.{◌≡◌, IfOk, map};
+ghost use Rattle.it_repeats.specs.Repeats.{RepeatsOf};
 ghost use Rattle.it_findings.specs.Members.{RepeatedIn};
 
+use crate::document_text::DocumentText;
 use crate::member_finding::MemberFinding;
 use it_repeats::repeated_member::RepeatedMember;
-use it_repeats::repeated_members;
 use it_repeats::root::Root;
+use it_repeats::{repeated_in_tree, repeated_members};
 use std::alloc::{AllocError, Global};
 
 /// The members that come again in the objects of such a document, in the order of the text.
@@ -16,24 +18,37 @@ use std::alloc::{AllocError, Global};
 pub(crate) fn repeated_in(
     alloc: Global,
     root: Root,
-    bytes: &[u8],
+    text: &DocumentText<'_>,
 ) -> Result<Vec<MemberFinding>, AllocError>
-    ensures { IfOk result (λ found. RepeatedIn root bytes.now found.items) }
+    ensures { IfOk result (λ found. RepeatedIn root text.now found.items) }
 {
-    let members = repeated_members(alloc, root, bytes)?;
-    as_findings(alloc, root, members.as_slice())
+    as_findings(alloc, root, members_again(alloc, root, text)?)
+}
+
+/// The members themselves. A text that is no document may be a tree all the same, with a number out
+/// of range: it is read again.
+fn members_again(
+    alloc: Global,
+    root: Root,
+    text: &DocumentText<'_>,
+) -> Result<Vec<RepeatedMember>, AllocError>
+    ensures { IfOk result (λ found. RepeatsOf root text.now found.items) }
+{
+    match &text.document {
+        Some(document) => repeated_in_tree(alloc, root, document),
+        None => repeated_members(alloc, root, text.bytes),
+    }
 }
 
 fn as_findings(
     alloc: Global,
     root: Root,
-    members: &[RepeatedMember],
+    members: Vec<RepeatedMember>,
 ) -> Result<Vec<MemberFinding>, AllocError>
-    ensures { IfOk result (λ found. found.items ≡ map (MemberFinding.Repeated root) members.now) }
+    ensures { IfOk result (λ found. found.items ≡ map (MemberFinding.Repeated root) members.items) }
 {
     let mut found = Vec::new(alloc);
     for member in members {
-        let member = member.copy(alloc)?;
         found.push(MemberFinding::Repeated { root, member })?;
     }
     Ok(found)

@@ -3,13 +3,13 @@ ghost use Rattle.std.specs.Prelude.{◌≡◌, ◌∷◌, [], IfOk};
 ghost use Rattle.it_borrowed.specs.Tree.{as_data};
 ghost use Rattle.it_findings.specs.Joined.{JoinedEach, Said};
 ghost use Rattle.it_findings.specs.Members.{HasMeaning, UnreadMember, UnreadMembers, entries_in};
-ghost use Rattle.it_findings.specs.NamedMembers.{members_in};
+ghost use Rattle.it_borrowed.specs.NamedMembers.{members_in};
 
 use crate::meaning::has_meaning;
 use crate::member_finding::MemberFinding;
-use crate::named_members::named_members;
 use crate::place::Place;
 use it_base::text::Text;
+use it_borrowed::named_members::named_members;
 use json::Value;
 use std::alloc::{AllocError, Global};
 use std::collections::BTreeMap;

@@ -4,42 +4,39 @@ ghost use Rattle.it_member_notes.specs.MemberNotes.{TellsLayoutMembers, TellsPol
 
 use crate::member_notes::MemberNotes;
 use crate::places::{layout_places, policy_places};
-use it_borrowed::document::read_document;
-use json::Scratch;
+use it_findings::document_text::DocumentText;
 use std::alloc::{AllocError, Global};
 
 /// The notes on a policy's members that are not looked at, and on those of its key objects that may
-/// be unintended, in the order of the places and of the names. There are none where the bytes are
-/// not a JSON document.
+/// be unintended, in the order of the places and of the names. There are none where the text is not
+/// a JSON document.
 ///
 /// # Errors
 ///
 /// `AllocError` where memory was refused.
-pub fn policy_notes(alloc: Global, bytes: &[u8]) -> Result<MemberNotes, AllocError>
-    ensures { IfOk result (TellsPolicyMembers bytes.now) }
+pub fn policy_notes(alloc: Global, text: &DocumentText<'_>) -> Result<MemberNotes, AllocError>
+    ensures { IfOk result (TellsPolicyMembers text.now) }
 {
-    let mut scratch = Scratch::new(alloc);
-    let Some(document) = read_document(alloc, bytes, &mut scratch)? else {
+    let Some(document) = text.document() else {
         return Ok(MemberNotes::none(alloc));
     };
-    let places = policy_places(alloc, &document)?;
-    MemberNotes::at(alloc, &document, places.as_slice())
+    let places = policy_places(alloc, document)?;
+    MemberNotes::at(alloc, document, places.as_slice())
 }
 
 /// The notes on a layout's members that are not looked at, and on those of its key objects that may
-/// be unintended, in the order of the places and of the names. There are none where the bytes,
-/// which are the payload of the layout's envelope, are not a JSON document.
+/// be unintended, in the order of the places and of the names. There are none where the text, which
+/// is the payload of the layout's envelope, is not a JSON document.
 ///
 /// # Errors
 ///
 /// `AllocError` where memory was refused.
-pub fn layout_notes(alloc: Global, bytes: &[u8]) -> Result<MemberNotes, AllocError>
-    ensures { IfOk result (TellsLayoutMembers bytes.now) }
+pub fn layout_notes(alloc: Global, text: &DocumentText<'_>) -> Result<MemberNotes, AllocError>
+    ensures { IfOk result (TellsLayoutMembers text.now) }
 {
-    let mut scratch = Scratch::new(alloc);
-    let Some(document) = read_document(alloc, bytes, &mut scratch)? else {
+    let Some(document) = text.document() else {
         return Ok(MemberNotes::none(alloc));
     };
-    let places = layout_places(alloc, &document)?;
-    MemberNotes::at(alloc, &document, places.as_slice())
+    let places = layout_places(alloc, document)?;
+    MemberNotes::at(alloc, document, places.as_slice())
 }

@@ -6,7 +6,7 @@ use crate::object_at::object_at;
 use it_base::text::Text;
 use it_borrowed::document::member;
 use it_borrowed::items::items_of;
-use it_findings::named_members::named_members;
+use it_borrowed::named_members::named_members;
 use it_findings::place::{KeyPlace, Place};
 use json::Value;
 use std::alloc::{AllocError, Global};

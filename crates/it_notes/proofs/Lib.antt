@@ -1,4 +1,5 @@
 mod Both
+mod Copied
 mod Delivering
 mod Holding
 mod Levels

@@ -11,14 +11,17 @@ use it_base::text::Text;
 use it_check::push_finding;
 use it_docs::rule::Rule;
 use it_dsse::checks::Checks;
+use it_findings::document_text::DocumentText;
 use it_findings::finding::{Finding, RuleList};
 use it_findings::member_finding::MemberFinding;
-use it_member_notes::{ends_open, rules_of_inspection, rules_of_step};
+use it_member_notes::member_notes::MemberNotes;
+use it_member_notes::{ends_open, policy_notes, rules_of_inspection, rules_of_step};
 use it_strict::below::{FoundBelow, found_below};
 use it_strict::found::{found_in_layout, found_in_policy};
 use it_strict::push_placed_finding;
 use it_verify::grounds::Grounds;
 use it_verify::inputs::Inputs;
+use json::Scratch;
 use std::alloc::{AllocError, Global};
 
 /// What is found in the documents of a delivery that is accepted.
@@ -26,6 +29,8 @@ use std::alloc::{AllocError, Global};
 pub struct FoundInDocuments {
     /// What is found in the policy, and then what is found in the layout and counts.
     pub of_documents: Vec<Finding>,
+    /// The notes on the members of the policy, where they were made with what is found in it.
+    pub noted: Option<MemberNotes>,
     /// What is found in each sublayout that counts, and counts there.
     pub below: Vec<FoundBelow>,
 }
@@ -48,11 +53,14 @@ pub fn found_in_documents<C: Checks>(
     ensures { IfOk result (AreFoundInDocuments (C.panel checks.now) inputs.now) }
 {
     let documents = &grounds.documents;
-    let mut found = found_in_policy(alloc, inputs.policy.as_slice(), documents)?;
+    let mut scratch = Scratch::new(alloc);
+    let policy = DocumentText::read(alloc, inputs.policy.as_slice(), &mut scratch)?;
+    let mut found = found_in_policy(alloc, &policy, documents)?;
     let mut of_layout = found_in_layout(alloc, documents, &grounds.evidence)?;
     found.append(&mut of_layout)?;
     Ok(FoundInDocuments {
         of_documents: found,
+        noted: Some(policy_notes(alloc, &policy)?),
         below: found_below(alloc, inputs, documents, checks)?,
     })
 }

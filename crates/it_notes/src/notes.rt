@@ -2,6 +2,8 @@
 ghost use Rattle.std.specs.Prelude.{IfOk, IfSome};
 ghost use Rattle.it_dsse.specs.Panel.{Panel};
 ghost use Rattle.it_verify.specs.declared.inputs.Inputs.{Inputs};
+ghost use Rattle.it_member_notes.specs.MemberNotes.{TellsPolicyMembers};
+ghost use Rattle.it_notes.specs.FoundInDocuments.{AreFoundInDocuments};
 ghost use Rattle.it_notes.specs.KeyNotes.{TellsKeys};
 ghost use Rattle.it_notes.specs.Known.{IsBasis, IsTold};
 ghost use Rattle.it_notes.specs.Notes.{AreTrue, TellsLayout, TellsVerdict, TellsWhere};
@@ -16,6 +18,7 @@ use crate::record_note::RecordNote;
 use crate::refusal_notes::refusal_notes;
 use it_digest::sums::ListAlgorithm;
 use it_dsse::checks::Checks;
+use it_findings::document_text::DocumentText;
 use it_key_notes::unknown_key::UnknownKey;
 use it_member_notes::member_notes::MemberNotes;
 use it_member_notes::policy_notes;
@@ -34,6 +37,7 @@ use it_rule_notes::owner_note::OwnerNote;
 use it_rule_notes::payloads_note::PayloadsNote;
 use it_rule_notes::rule_note::RuleNote;
 use it_verify::inputs::Inputs;
+use json::Scratch;
 use std::alloc::{AllocError, Global};
 
 /// The notes for people on a verification. Each note is true.
@@ -121,7 +125,7 @@ impl Notes {
         requires { IsTold (C.panel checks.now) inputs.now told.now }
         ensures { IfOk result (AreTrue (C.panel checks.now) inputs.now told.now.verdict) }
     {
-        let policy = policy_notes(alloc, inputs.policy.as_slice())?;
+        let policy = noted_policy(alloc, inputs, told)?;
         let layout = signed_layout_notes(alloc, told)?;
         let place = told_place(alloc, told, checks)?;
         let keys = told_keys(alloc, told, checks)?;
@@ -133,6 +137,39 @@ impl Notes {
             layout,
         })
     }
+}
+
+/// The notes on the members of the policy: those that were made with what is found in it, or
+/// otherwise from its text.
+fn noted_policy(alloc: Global, inputs: &Inputs, told: &Told) -> Result<MemberNotes, AllocError>
+    requires { (panel : Panel) × IfSome told.now.found (AreFoundInDocuments panel inputs.now) }
+    ensures { IfOk result (TellsPolicyMembers inputs.now.policy) }
+{
+    match noted_with(told) {
+        Some(noted) => noted.copy(alloc),
+        None => policy_text_notes(alloc, inputs.policy.as_slice()),
+    }
+}
+
+/// The notes that were made with what is found in the policy, if there are any.
+fn noted_with<'a>(told: &'a Told) -> Option<&'a MemberNotes>
+    ensures { (panel : Panel) (inputs : Inputs)
+        → IfSome told.now.found (AreFoundInDocuments panel inputs)
+        → IfSome result (λ noted. TellsPolicyMembers inputs.policy noted.now) }
+{
+    match &told.found {
+        Some(found) => found.noted.as_ref(),
+        None => None,
+    }
+}
+
+/// The notes on the members of the policy in its text.
+fn policy_text_notes(alloc: Global, bytes: &[u8]) -> Result<MemberNotes, AllocError>
+    ensures { IfOk result (TellsPolicyMembers bytes.now) }
+{
+    let mut scratch = Scratch::new(alloc);
+    let text = DocumentText::read(alloc, bytes, &mut scratch)?;
+    policy_notes(alloc, &text)
 }
 
 /// Why the verdict refuses, if it does.

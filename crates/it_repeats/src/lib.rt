@@ -8,6 +8,5 @@ mod part;
 pub mod repeated_member;
 mod repeats;
 pub mod root;
-mod tree;
 
-pub use repeats::repeated_members;
+pub use repeats::{repeated_in_tree, repeated_members};

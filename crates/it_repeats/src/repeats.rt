@@ -1,7 +1,7 @@
 //! What comes again in the objects of a document.
-ghost use Rattle.std.specs.Prelude.{◌≡◌, ◌++◌, ◌∷◌, [], IfOk, OnOk, if◌then◌else◌};
+ghost use Rattle.std.specs.Prelude.{◌≡◌, ◌++◌, ◌∷◌, [], IfOk, OnOk, Some, if◌then◌else◌};
 ghost use Rattle.json.specs.Value.{items_view, members_view, value_view};
-ghost use Rattle.it_repeats.specs.Parts.{member_part};
+ghost use Rattle.it_repeats.specs.Parts.{member_part, root_part};
 ghost use Rattle.it_repeats.specs.Repeats.{RepeatsOf, item_repeats, member_repeats, repeated};
 ghost use Rattle.it_repeats.specs.Repeats.{repeats_in as repeats_at};
 
@@ -9,8 +9,8 @@ use crate::again::come_again;
 use crate::part::Part;
 use crate::repeated_member::{RepeatedMember, Segment};
 use crate::root::Root;
-use crate::tree::read_tree;
 use it_base::text::Text;
+use it_borrowed::document::read_tree;
 use json::{Scratch, Value};
 use std::alloc::{AllocError, Global};
 use std::str;
@@ -35,9 +35,26 @@ pub fn repeated_members(
     };
     let mut scratch = Scratch::new(alloc);
     match read_tree(alloc, text, &mut scratch)? {
-        Some(tree) => repeats_in(alloc, Some(root.part()), &mut Vec::new(alloc), &tree),
+        Some(tree) => repeated_in_tree(alloc, root, &tree),
         None => Ok(Vec::new(alloc)),
     }
+}
+
+/// The members that come again in the objects of such a document, as `repeated_members` finds them
+/// in its text, of which this is the tree.
+///
+/// # Errors
+///
+/// `AllocError` where memory was refused.
+pub fn repeated_in_tree(
+    alloc: Global,
+    root: Root,
+    tree: &Value<'_>,
+) -> Result<Vec<RepeatedMember>, AllocError>
+    ensures { IfOk result (λ found.
+        found.items ≡ repeats_at (Some (root_part root)) [] (value_view tree.now)) }
+{
+    repeats_in(alloc, Some(root.part()), &mut Vec::new(alloc), tree)
 }
 
 /// What is found in a value at a place, which is such a part or one that nobody looks at.

@@ -1,17 +1,12 @@
 //! When an expired layout expired.
-ghost use Rattle.std.specs.Prelude.{◌≡◌, ◌↔◌, ◌++◌, IfOk, IsTrue, OnOk, codes};
-ghost use Rattle.it_base.specs.Document.{OfDocument};
+ghost use Rattle.std.specs.Prelude.{◌≡◌, ◌↔◌, ◌++◌, IfOk, IsTrue, OnOk};
 ghost use Rattle.it_base.specs.Finds.{Finds};
-ghost use Rattle.it_base.specs.Parts.{IsPart};
-ghost use Rattle.it_base.specs.Text.{IsText};
 ghost use Rattle.it_rule_notes.specs.Expiry.{IsBefore, TellsExpiry, expiry_line};
 
 use crate::line::push_told;
 use it_base::text::Text;
-use it_borrowed::document::read_document;
-use it_borrowed::parts::part;
+use it_borrowed::parts::part_in;
 use it_docs::moment::read_moment;
-use json::Scratch;
 use std::alloc::{AllocError, Global};
 
 /// A layout's `expires`, and a later moment, as written.
@@ -39,7 +34,7 @@ pub fn expiry_note(
 ) -> Result<Option<ExpiryNote>, AllocError>
     ensures { IfOk result (Finds (TellsExpiry body.now moment.now)) }
 {
-    let Some(expires) = expires_in(alloc, body)? else {
+    let Some(expires) = part_in::<Text>(alloc, body, "expires")? else {
         return Ok(None);
     };
     if !is_before(expires.as_str(), moment) {
@@ -47,17 +42,6 @@ pub fn expiry_note(
     }
     let moment = Text::copy(alloc, moment)?;
     Ok(Some(ExpiryNote { expires, moment }))
-}
-
-/// The text under `expires` in a document.
-fn expires_in(alloc: Global, body: &[u8]) -> Result<Option<Text>, AllocError>
-    ensures { IfOk result (Finds (OfDocument (IsPart IsText (codes "expires")) body.now)) }
-{
-    let mut scratch = Scratch::new(alloc);
-    match read_document(alloc, body, &mut scratch)? {
-        Some(document) => part(alloc, &document, "expires"),
-        None => Ok(None),
-    }
 }
 
 /// Whether both texts are moments, and the first is before the second.

@@ -72,7 +72,9 @@ pub fn found_in<C: Checks>(
 {
     let documents = &grounds.documents;
     let evidence = &grounds.evidence;
-    let of_policy = found_in_policy(alloc, inputs.policy.as_slice(), documents)?;
+    let mut scratch = Scratch::new(alloc);
+    let policy = DocumentText::read(alloc, inputs.policy.as_slice(), &mut scratch)?;
+    let of_policy = found_in_policy(alloc, &policy, documents)?;
     let of_layout = found_in_layout(alloc, documents, evidence)?;
     let untied = untied_files(alloc, documents, evidence)?;
     let listed_once = files_listed_once(alloc, inputs, documents)?;
@@ -89,23 +91,21 @@ pub fn found_in<C: Checks>(
     })
 }
 
-/// What is found in the policy, which is read from these bytes: what `findings_in_policy` finds,
-/// and then the expectations that are unused for the delivered files of the documents.
+/// What is found in the policy, which is read from this text: what `findings_in_policy` finds, and
+/// then the expectations that are unused for the delivered files of the documents.
 ///
 /// # Errors
 ///
 /// `AllocError` where memory was refused.
 pub fn found_in_policy(
     alloc: Global,
-    bytes: &[u8],
+    text: &DocumentText<'_>,
     documents: &Documents,
 ) -> Result<Vec<Finding>, AllocError>
-    ensures { IfOk result (λ found. PolicyFound bytes.now documents.now found.items) }
+    ensures { IfOk result (λ found. PolicyFound text.now documents.now found.items) }
 {
-    let mut scratch = Scratch::new(alloc);
-    let text = DocumentText::read(alloc, bytes, &mut scratch)?;
-    let members = policy_members(alloc, &text)?;
-    let nulls = policy_nulls(alloc, &text)?;
+    let members = policy_members(alloc, text)?;
+    let nulls = policy_nulls(alloc, text)?;
     let (members, nulls) = (members.as_slice(), nulls.as_slice());
     let layout = Some(&documents.layout);
     let mut found = findings_in_policy(alloc, layout, &documents.policy, members, nulls)?;

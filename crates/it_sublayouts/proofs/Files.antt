@@ -1,9 +1,7 @@
 -- Files that are layouts, one more, and those in which a sublayout is looked for.
 use Rattle.std.proofs.Common.{◌≡◌, ◌<◌, ◌+◌, ◌↔◌, ◌∙◌, ℕ, List, [], ◌∷◌, ◌++◌, length, map, take, get_or}
-use Rattle.std.proofs.Common.{Bor, IsTrue, Option, ap, is_some, subst, sym}
+use Rattle.std.proofs.Common.{Bool, Bor, IsTrue, ap, subst, sym}
 use Rattle.std.proofs.lemmas.List.{map-append, take_more}
-use Rattle.it_base.specs.Finds.{Finds}
-use Rattle.it_base.proofs.Found.{finds_some}
 use Rattle.it_dsse.specs.Signed.{AreThose}
 use Rattle.it_dsse.specs.declared.envelope.Envelope.{Envelope}
 use Rattle.it_dsse.proofs.Keeping.{keep_last, pass_last}
@@ -21,22 +19,22 @@ same_envelope_of bytes x y h k = envelope_same bytes x y h.is_envelope k.is_enve
 
 module _ (file : File) (envelope : Envelope) (is : IsCandidate file.bytes envelope) where
   -- it is a layout where its payload reads as one
-  pub layout_or_not : (found : Option Layout) → Finds (LayoutOf envelope.payload) found
-      → IsTrue (is_some found) ↔ IsLayoutFile file
-  layout_or_not found finds =
-      let some = finds_some (LayoutOf envelope.payload) found finds in (
-        λ yes. let read = some.0 yes in record {
-          envelope = envelope;
-          layout = read.0;
-          is_candidate = is;
-          reads = read.1;
-        },
-        λ it. some.1 (
-          it.layout,
-          subst (λ (e : Envelope). LayoutOf e.payload it.layout)
-              (same_envelope_of file.bytes it.envelope envelope it.is_candidate is) it.reads,
-        ),
-      )
+  pub layout_or_not : (b : Bool)
+      → (IsTrue b ↔ ((layout : Layout) × LayoutOf envelope.payload layout))
+      → IsTrue b ↔ IsLayoutFile file
+  layout_or_not b some = (
+    λ yes. let read = some.0 yes in record {
+      envelope = envelope;
+      layout = read.0;
+      is_candidate = is;
+      reads = read.1;
+    },
+    λ it. some.1 (
+      it.layout,
+      subst (λ (e : Envelope). LayoutOf e.payload it.layout)
+          (same_envelope_of file.bytes it.envelope envelope it.is_candidate is) it.reads,
+    ),
+  )
 
 -- ---- files so far
 abbrev pub shown : Bor File → File

@@ -27,11 +27,12 @@ use std::alloc::{AllocError, Global};
 /// that these ids have, under the first of those that have it: over one folder it holds with the
 /// same records, and has the same sublayouts below it.
 ///
-/// The `checks` check the signatures. Each file of a folder is read once as a layout, those that
-/// are one are looked at for each key id of each step, and each sublayout is read again and
-/// verified for its records as often as it is listed. So this costs at most as many times what the
-/// verification of the layout did as sublayouts are nested deep, beside the files that are layouts
-/// times the key ids of all steps. Where no file is a layout, no signature is checked.
+/// The `checks` check the signatures. Each file of a folder that says that it is a layout is read
+/// once as one, those that are one are looked at for each key id of each step, and each sublayout
+/// is read again and verified for its records as often as it is listed. So this costs at most as
+/// many times what the verification of the layout did as sublayouts are nested deep, beside the
+/// files that are layouts times the key ids of all steps. Where no file is a layout, no signature
+/// is checked.
 ///
 /// # Errors
 ///

@@ -1,18 +1,18 @@
 //! Authorities.
 ghost use Rattle.std.specs.Prelude.{◌≡◌, IfOk, codes};
-ghost use Rattle.serde_json.specs.View.{view};
+ghost use Rattle.it_borrowed.specs.Tree.{as_data};
 ghost use Rattle.it_base.specs.Finds.{Finds};
 ghost use Rattle.it_base.specs.Parts.{IsPart};
 ghost use Rattle.it_base.specs.Sequence.{IsList};
 ghost use Rattle.it_trust_root.specs.Authority.{IsAuthority, IsRawBytes};
 
 use crate::window::window_of;
-use it_base::base64_text::base64_part;
-use it_base::document::member;
-use it_base::parts::{FromDocument, part};
 use it_base::sequence::Sequence;
+use it_borrowed::base64_text::base64_part;
+use it_borrowed::document::member;
+use it_borrowed::parts::{FromBorrowed, part};
 use it_log::Window;
-use serde_json::Value;
+use json::Value;
 use std::alloc::{AllocError, Global};
 use std::marker::Model;
 
@@ -52,10 +52,10 @@ pub struct Authority {
     pub window: Window,
 }
 
-impl FromDocument for RawBytes {
+impl FromBorrowed for RawBytes {
     ghost is_of = { IsRawBytes };
 
-    fn from_document(alloc: Global, value: &Value) -> Result<Option<RawBytes>, AllocError> {
+    fn from_borrowed(alloc: Global, value: &Value<'_>) -> Result<Option<RawBytes>, AllocError> {
         match base64_part(alloc, value, "rawBytes")? {
             Some(bytes) => Ok(Some(RawBytes { bytes })),
             None => Ok(None),
@@ -63,10 +63,10 @@ impl FromDocument for RawBytes {
     }
 }
 
-impl FromDocument for Authority {
+impl FromBorrowed for Authority {
     ghost is_of = { IsAuthority };
 
-    fn from_document(alloc: Global, value: &Value) -> Result<Option<Authority>, AllocError> {
+    fn from_borrowed(alloc: Global, value: &Value<'_>) -> Result<Option<Authority>, AllocError> {
         let Some(certificates) = certificates_of(alloc, value)? else {
             return Ok(None);
         };
@@ -84,9 +84,12 @@ impl FromDocument for Authority {
     }
 }
 
-fn certificates_of(alloc: Global, value: &Value) -> Result<Option<Sequence<RawBytes>>, AllocError>
+fn certificates_of(
+    alloc: Global,
+    value: &Value<'_>,
+) -> Result<Option<Sequence<RawBytes>>, AllocError>
     ensures { IfOk result (Finds (IsPart (IsPart (IsList IsRawBytes) (codes "certificates"))
-        (codes "certChain") (view value.now))) }
+        (codes "certChain") (as_data value.now))) }
 {
     match member(value, "certChain") {
         None => Ok(None),

@@ -1,19 +1,19 @@
 //! Logs as a document lists them.
 ghost use Rattle.std.specs.Prelude.{IfOk, codes};
-ghost use Rattle.serde_json.specs.View.{view};
+ghost use Rattle.it_borrowed.specs.Tree.{as_data};
 ghost use Rattle.it_base.specs.Base64Text.{IsBase64};
 ghost use Rattle.it_base.specs.Finds.{Finds};
 ghost use Rattle.it_base.specs.Parts.{IsPart};
 ghost use Rattle.it_trust_root.specs.Log.{IsListedKey, IsListedLog};
 
 use crate::window::window_of;
-use it_base::base64_text::base64_part;
-use it_base::document::member;
-use it_base::parts::{FromDocument, part};
 use it_base::sequence::Sequence;
 use it_base::text::Text;
+use it_borrowed::base64_text::base64_part;
+use it_borrowed::document::member;
+use it_borrowed::parts::{FromBorrowed, part};
 use it_log::Window;
-use serde_json::Value;
+use json::Value;
 use std::alloc::{AllocError, Global};
 
 /// A key and when it counts, not looked at yet.
@@ -32,10 +32,10 @@ pub(crate) struct ListedLog {
     pub(crate) id: Sequence<u8>,
 }
 
-impl FromDocument for ListedKey {
+impl FromBorrowed for ListedKey {
     ghost is_of = { IsListedKey };
 
-    fn from_document(alloc: Global, value: &Value) -> Result<Option<ListedKey>, AllocError> {
+    fn from_borrowed(alloc: Global, value: &Value<'_>) -> Result<Option<ListedKey>, AllocError> {
         let Some(details) = part::<Text>(alloc, value, "keyDetails")? else {
             return Ok(None);
         };
@@ -53,10 +53,10 @@ impl FromDocument for ListedKey {
     }
 }
 
-impl FromDocument for ListedLog {
+impl FromBorrowed for ListedLog {
     ghost is_of = { IsListedLog };
 
-    fn from_document(alloc: Global, value: &Value) -> Result<Option<ListedLog>, AllocError> {
+    fn from_borrowed(alloc: Global, value: &Value<'_>) -> Result<Option<ListedLog>, AllocError> {
         let Some(hash_algorithm) = part::<Text>(alloc, value, "hashAlgorithm")? else {
             return Ok(None);
         };
@@ -74,9 +74,9 @@ impl FromDocument for ListedLog {
     }
 }
 
-fn id_of(alloc: Global, value: &Value) -> Result<Option<Sequence<u8>>, AllocError>
+fn id_of(alloc: Global, value: &Value<'_>) -> Result<Option<Sequence<u8>>, AllocError>
     ensures { IfOk result (Finds
-        (IsPart (IsPart IsBase64 (codes "keyId")) (codes "logId") (view value.now))) }
+        (IsPart (IsPart IsBase64 (codes "keyId")) (codes "logId") (as_data value.now))) }
 {
     match member(value, "logId") {
         None => Ok(None),

@@ -1,6 +1,6 @@
 //! Trusted roots.
 ghost use Rattle.std.specs.Prelude.{◌≡◌, ◌↔◌, IfErr, IfOk, IsTrue, MatchResult};
-ghost use Rattle.serde_json.specs.View.{view};
+ghost use Rattle.it_borrowed.specs.Tree.{as_data};
 ghost use Rattle.it_base.specs.Finds.{Finds};
 ghost use Rattle.it_trust_root.specs.Root.{IsMediaType, IsRoot, RootOf};
 ghost use Rattle.it_trust_root.specs.RootPart.{RootPartOf};
@@ -11,11 +11,11 @@ use crate::authority::Authority;
 use crate::root_log::RootLog;
 use crate::root_part::{RootFault, RootList, RootPart};
 use crate::short_list::short_list;
-use it_base::document::read_document;
-use it_base::parts::{FromDocument, from_bytes};
 use it_base::sequence::Sequence;
-use it_base::text::has_text;
-use serde_json::Value;
+use it_borrowed::document::{is_object, read_document};
+use it_borrowed::parts::{FromBorrowed, from_bytes};
+use it_borrowed::text::has_text;
+use json::{Scratch, Value};
 use std::alloc::{AllocError, Global};
 
 /// Who is trusted, and when.
@@ -50,17 +50,18 @@ pub fn root_or_fault(alloc: Global, bytes: &[u8]) -> Result<TrustedRoot, RootFau
     ensures bad { IfErr result (λ e. (part : Part) → e ≡ RootFault.BadRoot part
         → RootPartOf bytes.now part) }
 {
-    match read_document(alloc, bytes)? {
+    let mut scratch = Scratch::new(alloc);
+    match read_document(alloc, bytes, &mut scratch)? {
         Some(document) => root_of(alloc, &document),
         None => Err(RootFault::BadRoot(RootPart::Json)),
     }
 }
 
-impl FromDocument for TrustedRoot {
+impl FromBorrowed for TrustedRoot {
     ghost is_of = { IsRoot };
 
     /// The trusted root, where no part of it fails.
-    fn from_document(alloc: Global, value: &Value) -> Result<Option<TrustedRoot>, AllocError> {
+    fn from_borrowed(alloc: Global, value: &Value<'_>) -> Result<Option<TrustedRoot>, AllocError> {
         match root_of(alloc, value) {
             Ok(root) => Ok(Some(root)),
             Err(RootFault::BadRoot(_)) => Ok(None),
@@ -69,10 +70,11 @@ impl FromDocument for TrustedRoot {
     }
 }
 
-fn root_of(alloc: Global, document: &Value) -> Result<TrustedRoot, RootFault>
-    ensures { MatchResult result (IsRoot (view document.now)) (IsRootFault (view document.now)) }
+fn root_of(alloc: Global, document: &Value<'_>) -> Result<TrustedRoot, RootFault>
+    ensures { MatchResult result (IsRoot (as_data document.now))
+        (IsRootFault (as_data document.now)) }
 {
-    if !document.is_object() {
+    if !is_object(document) {
         return Err(RootFault::BadRoot(RootPart::Json));
     }
     if !has_media_type(document) {
@@ -88,8 +90,8 @@ fn root_of(alloc: Global, document: &Value) -> Result<TrustedRoot, RootFault>
     })
 }
 
-fn has_media_type(value: &Value) -> bool
-    ensures { IsTrue result ↔ IsMediaType (view value.now) }
+fn has_media_type(value: &Value<'_>) -> bool
+    ensures { IsTrue result ↔ IsMediaType (as_data value.now) }
 {
     if has_text(
         value,

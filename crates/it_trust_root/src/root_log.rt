@@ -3,10 +3,10 @@ ghost use Rattle.it_base.specs.Finds.{Finds};
 ghost use Rattle.it_trust_root.specs.Log.{IsRootLog, LogOf};
 
 use crate::listed_log::ListedLog;
-use it_base::parts::FromDocument;
 use it_base::text::Text;
+use it_borrowed::parts::FromBorrowed;
 use it_log::{Log, LogKey};
-use serde_json::Value;
+use json::Value;
 use std::alloc::{AllocError, Global};
 
 /// Why a log is passed over: the first of these that is true.
@@ -29,12 +29,12 @@ pub enum RootLog {
     PassedOver(Unusable),
 }
 
-impl FromDocument for RootLog {
+impl FromBorrowed for RootLog {
     ghost is_of = { IsRootLog };
 
     /// The log, where the part is one; a usable one must have a key of P-256.
-    fn from_document(alloc: Global, value: &Value) -> Result<Option<RootLog>, AllocError> {
-        let Some(listed) = ListedLog::from_document(alloc, value)? else {
+    fn from_borrowed(alloc: Global, value: &Value<'_>) -> Result<Option<RootLog>, AllocError> {
+        let Some(listed) = ListedLog::from_borrowed(alloc, value)? else {
             return Ok(None);
         };
         Ok(log_of(listed))

@@ -1,15 +1,16 @@
 //! The lists of a trusted root.
 ghost use Rattle.std.specs.Prelude.{◌≡◌, MatchResult};
-ghost use Rattle.serde_json.specs.View.{view};
+ghost use Rattle.it_borrowed.specs.Tree.{as_data};
 ghost use Rattle.it_trust_root.specs.RootPart.{name_of};
 ghost use Rattle.it_trust_root.specs.ShortList.{IsShortList};
 ghost use Rattle.it_trust_root.specs.inside.ListFaults.{IsFaultIn};
 
 use crate::root_part::{ListPart, RootFault, RootList, RootPart};
-use it_base::list::{ListFault, numbered_list};
-use it_base::parts::FromDocument;
+use it_base::list::ListFault;
 use it_base::sequence::Sequence;
-use serde_json::Value;
+use it_borrowed::list::numbered_list;
+use it_borrowed::parts::FromBorrowed;
+use json::Value;
 use std::alloc::Global;
 
 /// The most elements that a list may have.
@@ -21,13 +22,13 @@ const MOST_ELEMENTS: usize = 64;
 ///
 /// `BadRoot` with the first part of the list that fails, and `OutOfMemory` where memory was
 /// refused.
-pub(crate) fn short_list<T: FromDocument>(
+pub(crate) fn short_list<T: FromBorrowed>(
     alloc: Global,
-    document: &Value,
+    document: &Value<'_>,
     list: RootList,
 ) -> Result<Sequence<T>, RootFault>
-    ensures { MatchResult result (IsShortList T.is_of (name_of list) (view document.now))
-        (IsFaultIn T.is_of list (view document.now)) }
+    ensures { MatchResult result (IsShortList T.is_of (name_of list) (as_data document.now))
+        (IsFaultIn T.is_of list (as_data document.now)) }
 {
     match numbered_list::<T>(alloc, document, name_of(list)) {
         Ok(elements) => {

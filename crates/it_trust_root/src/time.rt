@@ -1,24 +1,25 @@
 //! Times.
 ghost use Rattle.std.specs.Prelude.{◌≡◌, ◌≤◌, ◌++◌, MatchOption, ℕ, List, codes, length};
 ghost use Rattle.std.specs.Str.Parse.{AllDigits, digits_value};
-ghost use Rattle.serde_json.specs.View.{view};
+ghost use Rattle.it_borrowed.specs.Tree.{as_data};
 ghost use Rattle.it_base.specs.Finds.{Finds};
 ghost use Rattle.it_docs.specs.Moment.{MomentOf};
 ghost use Rattle.it_trust_root.specs.Time.{AreFractionDigits, IsFraction, IsTime, TimeOf};
 ghost use Rattle.it_trust_root.specs.Time.{nine_digits};
 
+use it_borrowed::text::text_of;
 use it_docs::moment::read_moment;
-use serde_json::Value;
+use json::Value;
 use std::str;
 
 /// Nanoseconds in a second.
 const NANOSECONDS: i128 = 1_000_000_000;
 
 /// The time that a part of a document is.
-pub(crate) fn time_in(value: &Value) -> Option<i128>
-    ensures { Finds (IsTime (view value.now)) result }
+pub(crate) fn time_in(value: &Value<'_>) -> Option<i128>
+    ensures { Finds (IsTime (as_data value.now)) result }
 {
-    time_of(value.as_str()?.as_bytes())
+    time_of(text_of(value)?.as_bytes())
 }
 
 /// The time that a text is: `YYYY-MM-DDThh:mm:ss`, a fraction or none, and `Z`.

@@ -79,6 +79,7 @@ fn judged<'a, C: Checks>(
     }
     let nothing = FoundInDocuments {
         of_documents: Vec::new(alloc),
+        noted: None,
         below: found.of_sublayouts.into_vec(),
     };
     let answer = made_answer(alloc, asked, grounds, Some(nothing))?;

@@ -1,7 +1,7 @@
 use Rattle.std.proofs.Common.{◌≡◌, List, ◌++◌}
 use Rattle.it_findings.specs.Joined.{JoinedEach}
 use Rattle.it_findings.specs.Members.{ListedKeyMembers, entries_in}
-use Rattle.it_findings.specs.NamedMembers.{NamedMember, members_in}
+use Rattle.it_borrowed.specs.NamedMembers.{NamedMember, members_in}
 use Rattle.it_findings.proofs.key_members.each_key.Given as goal
 
 -- the members so far and those that are left, with what was found

@@ -7,7 +7,7 @@ use Rattle.it_findings.proofs.members.others_in_policy.Goals as goal
 pub returns-in-Some : goal.returns-in-Some
 returns-in-Some c =
     let bytes = c.text.inside.bytes.now in
-    let read = rw c.in-Some.is at c.text.invariant in
+    let read = rw c.in-Some.is at c.text.invariant.reads in
     rw (← c.text.view_is) (IfOk-weaker c.members_in_policy.result
     (λ found. PolicyMembers (as_data c.in-Some.document) found.items)
     (λ found. OthersIn PolicyMembers bytes found.items)

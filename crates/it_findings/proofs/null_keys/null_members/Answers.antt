@@ -2,7 +2,7 @@ use Rattle.json.specs.Value.{value_view}
 use Rattle.std.proofs.Common.{◌≡◌, ◌∙◌, [], ◌∷◌, ◌++◌, List, ℕ, map, sym, ap}
 use Rattle.std.proofs.Common.{append-nil, append_assoc}
 use Rattle.std.proofs.lemmas.List.{map-append}
-use Rattle.it_findings.specs.NamedMembers.{NamedMember, members_in}
+use Rattle.it_borrowed.specs.NamedMembers.{NamedMember, members_in}
 use Rattle.it_findings.specs.NullKeys.{null_ids, null_key}
 use Rattle.it_findings.proofs.NullLists.{null_data, nulls_more, nulls_skip}
 use Rattle.it_findings.proofs.null_keys.null_members.Goals as goal

@@ -1,5 +1,5 @@
 use Rattle.std.proofs.Common.{◌≡◌, List, ◌++◌, map}
-use Rattle.it_findings.specs.NamedMembers.{NamedMember, members_in}
+use Rattle.it_borrowed.specs.NamedMembers.{NamedMember, members_in}
 use Rattle.it_findings.specs.NullKeys.{null_ids, null_key}
 use Rattle.it_findings.proofs.null_keys.null_members.Given as goal
 

@@ -2,7 +2,7 @@ use Rattle.std.proofs.Common.{◌≡◌, ◌∙◌, [], ◌∷◌, ◌++◌, sym
 use Rattle.std.proofs.Common.{append-nil}
 use Rattle.it_findings.specs.Joined.{JoinedEach}
 use Rattle.it_findings.specs.Members.{UnreadMember, entries_in}
-use Rattle.it_findings.specs.NamedMembers.{NamedMember, members_in}
+use Rattle.it_borrowed.specs.NamedMembers.{NamedMember, members_in}
 use Rattle.it_findings.proofs.MemberLists.{joined_member}
 use Rattle.it_findings.proofs.unread.each_member.Goals as goal
 

@@ -1,6 +1,6 @@
 use Rattle.std.proofs.Common.{◌≡◌, List, ◌++◌, All}
 use Rattle.serde_json.specs.Data.{object}
-use Rattle.it_findings.specs.NamedMembers.{NamedMember, members_in}
+use Rattle.it_borrowed.specs.NamedMembers.{NamedMember, members_in}
 use Rattle.it_member_notes.specs.UnreadMembers.{HasUnread}
 use Rattle.it_member_notes.proofs.unread.unread_among.Given as goal
 

@@ -18,7 +18,7 @@ nonces_shared-requires g c = rw c.as_slice-2.ensures.value c.in_ok-sublayouts.en
 
 pub returns : goal.returns
 returns g c = record {
-  policy = rw (c.from.ensures, ← c.as_slice.ensures) c.in_ok-of_policy.ensures;
+  policy = rw (c.from.ensures, ← c.as_slice.ensures, ← c.in_ok-policy.ensures) c.in_ok-of_policy.ensures;
   layout = rw c.from-2.ensures c.in_ok-of_layout.ensures;
   sublayouts = rw c.from-3.ensures (record {
     sublayouts = c.in_ok-sublayouts.sublayouts.items;

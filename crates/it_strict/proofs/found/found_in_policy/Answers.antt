@@ -6,8 +6,8 @@ returns c = record {
   nulls = c.in_ok-nulls.nulls.items;
   always = c.in_ok-found.found.items;
   unused = c.in_ok-unused.unused.items;
-  are_members = rw c.in_ok-text.ensures at c.in_ok-members.ensures;
-  are_nulls = rw c.in_ok-text.ensures at c.in_ok-nulls.ensures;
+  are_members = c.in_ok-members.ensures;
+  are_nulls = c.in_ok-nulls.ensures;
   are_always = rw (c.as_slice-members.ensures.value, c.as_slice-nulls.ensures.value) at
       c.in_ok-found.ensures;
   are_unused = c.in_ok-unused.ensures;

@@ -1,5 +1,5 @@
 use Rattle.std.proofs.Common.{codes}
-use Rattle.serde_json.specs.View.{view}
+use Rattle.it_borrowed.specs.Tree.{as_data}
 use Rattle.it_base.specs.Parts.{IsPart}
 use Rattle.it_base.specs.Sequence.{IsList}
 use Rattle.it_trust_root.specs.Authority.{IsRawBytes}
@@ -8,4 +8,4 @@ use Rattle.it_trust_root.proofs.authority.certificates_of.Goals as goal
 
 pub returns-in-Some : goal.returns-in-Some
 returns-in-Some c = part_of (IsPart (IsList IsRawBytes) (codes "certificates")) (codes "certChain")
-    (view c.args.value.now) (view c.in-Some.found.now) c.part.result c.in-Some.ensures c.part.ensures
+    (as_data c.args.value.now) (as_data c.in-Some.found.now) c.part.result c.in-Some.ensures c.part.ensures

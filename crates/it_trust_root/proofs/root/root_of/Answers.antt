@@ -1,6 +1,6 @@
 use Rattle.std.proofs.Common.{codes, rules}
 use Rattle.std.proofs.lemmas.Result.{err_from_is_err_and}
-use Rattle.serde_json.specs.View.{view}
+use Rattle.it_borrowed.specs.Tree.{as_data}
 use Rattle.it_trust_root.specs.Authority.{IsAuthority}
 use Rattle.it_trust_root.specs.Log.{IsRootLog}
 use Rattle.it_trust_root.specs.Root.{IsMediaType}
@@ -12,15 +12,15 @@ use Rattle.it_trust_root.proofs.RootParts.{logs_fault, media_first}
 use Rattle.it_trust_root.proofs.root.root_of.Goals as goal
 
 pub returns-then-not-is_object : goal.returns-then-not-is_object
-returns-then-not-is_object c = json_first (view c.args.document.now) (search rules)
+returns-then-not-is_object c = json_first (as_data c.args.document.now) (search rules)
 
 pub returns-then-not-has_media_type : goal.returns-then-not-has_media_type
 returns-then-not-has_media_type c =
-    media_first (view c.args.document.now) (search rules) (search rules)
+    media_first (as_data c.args.document.now) (search rules) (search rules)
 
 pub returns-in_err-logs : goal.returns-in_err-logs
 returns-in_err-logs c =
-    let d = view c.args.document.now in
+    let d = as_data c.args.document.now in
     let p = err_from_is_err_and c.from_residual.result
     c.from_residual.ensures.1 in
     let json : PartReads d Json = search rules in
@@ -30,7 +30,7 @@ returns-in_err-logs c =
 
 pub returns-in_err-authorities : goal.returns-in_err-authorities
 returns-in_err-authorities c =
-    let d = view c.args.document.now in
+    let d = as_data c.args.document.now in
     let p = err_from_is_err_and c.from_residual-in_err-authorities.result
     c.from_residual-in_err-authorities.ensures.1 in
     let json : PartReads d Json = search rules in
@@ -41,7 +41,7 @@ returns-in_err-authorities c =
 
 pub returns-in_err-certificate_logs : goal.returns-in_err-certificate_logs
 returns-in_err-certificate_logs c =
-    let d = view c.args.document.now in
+    let d = as_data c.args.document.now in
     let p = err_from_is_err_and c.from_residual-in_err-certificate_logs.result
     c.from_residual-in_err-certificate_logs.ensures.1 in
     let json : PartReads d Json = search rules in

@@ -15,6 +15,6 @@ returns c = λ panel inputs known.
         top.reads,
         rw c.as_slice.ensures at c.in_ok-rule_list_notes.ensures,
       );
-      members = rw (← top.payload_is, ← c.as_slice-2.ensures) c.in_ok-layout_notes.ensures;
+      members = rw (← top.payload_is, ← c.as_slice-2.ensures) c.in_ok-members_of.ensures;
       rules = inr (signed.layout, top.reads, c.in_ok-layout_rule_notes.ensures);
     }

@@ -6,6 +6,6 @@ returns c = λ inputs is_envelope. record {
   envelope = c.args.envelope.now;
   is_envelope = is_envelope;
   deliver = inl c.new.ensures.items;
-  members = rw (← c.as_slice.ensures) c.in_ok-layout_notes.ensures;
+  members = rw (← c.as_slice.ensures) c.in_ok-members_of.ensures;
   rules = inl c.new-2.ensures.items;
 }

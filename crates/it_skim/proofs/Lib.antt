@@ -1,0 +1,3 @@
+mod Objects
+pub mod Texts
+mod Walking

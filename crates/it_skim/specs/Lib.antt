@@ -1,0 +1,2 @@
+pub mod TextMember
+pub mod inside

@@ -206,11 +206,9 @@ class Case:
                              "validFor": span(self.log_window)},
                "logId": {"keyId": base64_text(self.log_id or self.log.id)}}
         certificates = [{"rawBytes": base64_text(one)} for one in chain]
-        return {"name": name,
-                "authority": {"certChain": {"certificates": certificates},
-                              "validFor": span(self.window)},
-                "logs": [log], "leaf": leaf.hex(), "moment": self.moment, "issued": issued,
-                "logged": logged}
+        authority = {"certChain": {"certificates": certificates}, "validFor": span(self.window)}
+        return {"name": name, "authority": lines.text(authority), "logs": lines.text([log]),
+                "leaf": leaf.hex(), "moment": self.moment, "issued": issued, "logged": logged}
 
 
 def flipped(data):

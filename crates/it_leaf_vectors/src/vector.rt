@@ -1,15 +1,17 @@
 //! A vector, as a line has it.
+ghost use Rattle.std.specs.Prelude.{IfOk};
 ghost use Rattle.serde_json.specs.View.{view};
 ghost use Rattle.it_base.specs.Finds.{Finds};
 ghost use Rattle.it_base.specs.Parts.{IsPart};
 ghost use Rattle.it_tables.specs.Part.{IsBoolean, IsNumber};
-ghost use Rattle.it_leaf_vectors.specs.Vector.{Wants};
+ghost use Rattle.it_leaf_vectors.specs.Vector.{IsTextPart, Wants};
 
 use it_base::document::member;
 use it_base::hexadecimal_text::hexadecimal_part;
 use it_base::parts::{FromDocument, part};
 use it_base::sequence::Sequence;
 use it_base::text::Text;
+use it_borrowed::parts::{FromBorrowed, from_bytes};
 use it_trust_root::{Authority, RootLog};
 use serde_json::Value;
 use std::alloc::{AllocError, Global};
@@ -49,10 +51,10 @@ impl FromDocument for Vector {
         let Some(name) = part::<Text>(alloc, document, "name")? else {
             return Ok(None);
         };
-        let Some(authority) = part::<Authority>(alloc, document, "authority")? else {
+        let Some(authority) = text_part::<Authority>(alloc, document, "authority")? else {
             return Ok(None);
         };
-        let Some(logs) = part::<Sequence<RootLog>>(alloc, document, "logs")? else {
+        let Some(logs) = text_part::<Sequence<RootLog>>(alloc, document, "logs")? else {
             return Ok(None);
         };
         let Some(leaf) = hexadecimal_part(alloc, document, "leaf")? else {
@@ -69,6 +71,20 @@ impl FromDocument for Vector {
             wanted,
         }))
     }
+}
+
+/// What the JSON document is that the text of a member holds.
+fn text_part<T: FromBorrowed>(
+    alloc: Global,
+    document: &Value,
+    name: &str,
+) -> Result<Option<T>, AllocError>
+    ensures { IfOk result (Finds (IsTextPart T.is_of name.now (view document.now))) }
+{
+    let Some(text) = part::<Text>(alloc, document, name)? else {
+        return Ok(None);
+    };
+    from_bytes::<T>(alloc, text.as_str().as_bytes())
 }
 
 fn wanted_part(document: &Value) -> Option<Wanted>

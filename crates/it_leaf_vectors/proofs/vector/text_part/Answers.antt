@@ -7,7 +7,7 @@ use Rattle.it_leaf_vectors.proofs.Texts.{found_in_text}
 use Rattle.it_leaf_vectors.proofs.vector.text_part.Goals as goal
 
 pub returns-in_default : goal.returns-in_default
-returns-in_default g c = λ x of. c.in_ok-text.ensures of.0 of.1
+returns-in_default g c = λ x of. (rw c.in_default.is at c.in_ok-text.ensures) of.0 of.1
 
 pub returns : goal.returns
 returns g c =
@@ -16,4 +16,4 @@ returns g c =
     IfOk-weaker c.from_bytes.result (Finds (OfDocument P c.in-Some.text))
     (Finds (IsTextPart P c.args.name.now d))
     (λ found of. found_in_text P c.args.name.now d c.in-Some.text (rw c.in-Some.is at c.in_ok-text.ensures) found of)
-    (rw c.as_bytes.ensures at c.from_bytes.ensures)
+    (rw (c.as_bytes.ensures.value, c.as_str.ensures) at c.from_bytes.ensures)

@@ -1,10 +1,8 @@
 -- The files that are claimed for a step, and the others.
 use Rattle.std.proofs.Common.{◌≡◌, ◌<◌, ◌+◌, ℕ, List, [], ◌∷◌, ◌++◌, take, get_or, length}
-use Rattle.std.proofs.Common.{slice_get, Bool, true, false, if◌then◌else◌, bytes_eq, Some, ⊎_elim}
+use Rattle.std.proofs.Common.{Bool, true, false, if◌then◌else◌, bytes_eq, Some, ⊎_elim}
 use Rattle.std.proofs.Common.{Contains, sym, ap, subst, ◌∙◌}
-use Rattle.std.specs.List.{cons_option}
 use Rattle.std.proofs.lemmas.List.{take_more}
-use Rattle.std.proofs.lemmas.List.Elements.{filter_map-append}
 use Rattle.std.proofs.lemmas.Option.{slice_get-get_or}
 use Rattle.std.proofs.lemmas.Slice.Eq.{bytes_eq-Decides}
 use Rattle.it_dsse.proofs.Keeping.{keep_last, pass_last}
@@ -13,6 +11,7 @@ use Rattle.it_chain.specs.inside.ClaimedFiles.{AreClaimed, files_at}
 use Rattle.it_chain.specs.ClaimedFiles.{IsClaimed}
 use Rattle.it_chain.specs.declared.bundle.File.{File}
 use Rattle.it_chain.proofs.ClaimedNames.{one_step}
+use Rattle.it_chain.proofs.PlaceLists.{place_more}
 use Rattle.it_chain.proofs.Members.{in_head, in_tail, in_cases, in_none}
 
 module _ {X : Type 0} (P : X → Type 0) where
@@ -43,8 +42,7 @@ module _ (files : List File) (i : ℕ) (file : File) (below : i < length files)
 
   file_more : (places : List ℕ) → files_at files (places ++ i ∷ []) ≡ files_at files places
       ++ file ∷ []
-  file_more places = filter_map-append (slice_get files) places (i ∷ [])
-      ∙ ap (λ o. files_at files places ++ cons_option o []) (slice_get-get_or files i file below
+  file_more places = place_more files places i file (slice_get-get_or files i file below
       ∙ ap Some (sym here))
 
   module _ (step : List ℕ) (places : List ℕ)

@@ -1,3 +1,4 @@
+pub mod Admitted
 pub mod AlikePanels
 pub mod Alikes
 pub mod Asking
@@ -13,6 +14,7 @@ pub mod Deeper
 pub mod Documents
 pub mod Entries
 pub mod Excludes
+pub mod Hinted
 pub mod Ids
 pub mod Images
 pub mod Judging
@@ -30,6 +32,7 @@ pub mod OneFirst
 pub mod Orders
 pub mod Others
 pub mod Outcomes
+pub mod PlaceLists
 pub mod Records
 pub mod Reused
 pub mod Sides

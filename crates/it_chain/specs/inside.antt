@@ -6,7 +6,9 @@ pub mod Candidates
 pub mod ClaimedFiles
 pub mod CountedBodies
 pub mod HeldFile
+pub mod Hints
 pub mod IdRecords
+pub mod Places
 pub mod RecordCode
 pub mod Scope
 pub mod Signers

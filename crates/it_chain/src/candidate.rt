@@ -1,12 +1,15 @@
 //! The files that can count for a step.
-ghost use Rattle.std.specs.Prelude.{◌≡◌, IfOk, map};
+ghost use Rattle.std.specs.Prelude.{◌≡◌, ◌++◌, IfOk, OnOk, map};
 ghost use Rattle.it_base.specs.Finds.{Finds, FindsAs};
 ghost use Rattle.it_dsse.specs.Envelope.{EnvelopeOf};
 ghost use Rattle.it_chain.specs.Candidate.{IsCandidate};
 ghost use Rattle.it_chain.specs.inside.ClaimedFiles.{files_at};
 ghost use Rattle.it_chain.specs.inside.Candidates.{AreRead, IsCandidateAt};
+ghost use Rattle.it_chain.specs.inside.Hints.{admitted_for};
+ghost use Rattle.it_chain.specs.inside.Places.{items_at};
 
 use crate::held_file::HeldFile;
+use crate::hints::Hints;
 use it_base::optional::push_some;
 use it_borrowed::parts::from_bytes;
 use it_dsse::envelope::Envelope;
@@ -18,6 +21,7 @@ use std::marker::Model;
 #[derive(Drop)]
 pub(crate) struct Candidates<'a> {
     envelopes: Vec<&'a Envelope>,
+    hints: Hints,
 }
 
 impl<'a> Model for Candidates<'a> {
@@ -26,7 +30,11 @@ impl<'a> Model for Candidates<'a> {
 
     ghost Value = { List Envelope };
 
+    ghost use Rattle.it_chain.specs.inside.Hints.{AreHints};
+
     ghost view = { λ c. map (λ envelope. envelope.now) c.envelopes.items };
+
+    ghost invariant = { λ c. AreHints (map (λ envelope. envelope.now) c.envelopes.items) c.hints };
 }
 
 impl<'a> Candidates<'a> {
@@ -43,15 +51,37 @@ impl<'a> Candidates<'a> {
         for place in places {
             push_some(&mut envelopes, candidate_at(files, *place))?;
         }
-        Ok(Candidates { envelopes })
+        let hints = Hints::of(alloc, envelopes.as_slice())?;
+        Ok(Candidates { envelopes, hints })
     }
 
-    /// The envelopes, in the order of the places.
-    pub fn as_slice(&self) -> &[&'a Envelope]
-        ensures { map (λ envelope. envelope.now) result.now ≡ self.now }
+    /// The envelopes that a key can have signed under an id: those with a signature that has no
+    /// hint, and then those of which each signature has one and one of them the id.
+    pub fn admitted(&self, alloc: Global, id: &str) -> Result<Vec<&'a Envelope>, AllocError>
+        ensures { IfOk result (λ found. map (λ envelope. envelope.now) found.items
+            ≡ admitted_for id.now self.now) }
     {
-        self.envelopes.as_slice()
+        let envelopes = self.envelopes.as_slice();
+        let mut found = Vec::new(alloc);
+        push_at(&mut found, envelopes, self.hints.unhinted.as_slice())?;
+        push_at(&mut found, envelopes, self.hints.named.under(id))?;
+        Ok(found)
     }
+}
+
+/// Appends the envelopes at some places to the others.
+fn push_at<'a>(
+    found: &mut Vec<&'a Envelope>,
+    envelopes: &[&'a Envelope],
+    places: &[usize],
+) -> Result<(), AllocError>
+    ensures { OnOk result (found.new.items
+        ≡ found.old.items ++ items_at envelopes.now places.now) }
+{
+    for place in places {
+        push_some(found, envelopes.get(*place).copied())?;
+    }
+    Ok(())
 }
 
 fn candidate_at(files: &[HeldFile], place: usize) -> Option<&Envelope>

@@ -1,18 +1,18 @@
 //! Which files of a bundle are claimed for which steps (in-toto 1.0 section 4.4, names of link
 //! files).
-ghost use Rattle.std.specs.Prelude.{◌≡◌, ◌↔◌, List, ℕ, IfOk, IsTrue, OnOk, MatchOption};
-ghost use Rattle.std.specs.Prelude.{string_bytes};
-ghost use Rattle.it_chain.specs.inside.ClaimedFiles.{ClaimsIn, IsAdded, places_under};
+ghost use Rattle.std.specs.Prelude.{◌≡◌, ◌↔◌, List, ℕ, IfOk, IsTrue, MatchOption};
+ghost use Rattle.it_chain.specs.inside.ClaimedFiles.{ClaimsIn};
+ghost use Rattle.it_chain.specs.inside.Places.{places_under};
 ghost use Rattle.it_chain.specs.ClaimedFiles.{IsClaimed};
 
 use crate::held_file::HeldFile;
+use crate::places::Places;
 use std::alloc::{AllocError, Global};
-use std::collections::BTreeMap;
 
 /// The places of files in a bundle, by the names of the steps that the files are claimed for.
 #[derive(Drop)]
 pub(crate) struct Claims {
-    by_step: BTreeMap<String, Vec<usize>>,
+    by_step: Places,
 }
 
 impl Claims {
@@ -20,10 +20,10 @@ impl Claims {
     pub fn of(alloc: Global, files: &[HeldFile]) -> Result<Claims, AllocError>
         ensures { IfOk result (ClaimsIn files.now) }
     {
-        let mut by_step = BTreeMap::new(alloc);
+        let mut by_step = Places::new(alloc);
         for (place, file) in files.iter().enumerate() {
             if let Some(step) = claimed_step(file.name()) {
-                add(&mut by_step, String::from_str(alloc, step)?, place)?;
+                by_step.add(String::from_str(alloc, step)?, place)?;
             }
         }
         Ok(Claims { by_step })
@@ -33,22 +33,8 @@ impl Claims {
     pub fn places(&self, step: &str) -> &[usize]
         ensures { result.now ≡ places_under self.now.by_step step.now }
     {
-        match self.by_step.get(step) {
-            Some(places) => places.as_slice(),
-            None => &[],
-        }
+        self.by_step.under(step)
     }
-}
-
-fn add(
-    by_step: &mut BTreeMap<String, Vec<usize>>,
-    step: String,
-    place: usize,
-) -> Result<(), AllocError>
-    ensures { OnOk result (IsAdded (string_bytes step) place by_step.old by_step.new) }
-{
-    by_step.entry(step)?.or_default().push(place)?;
-    Ok(())
 }
 
 /// The name of the step for which a file's name claims the file (in-toto 1.0 section 4.4), or

@@ -2,3 +2,4 @@ mod Appending
 pub mod Names
 pub mod Naming
 pub mod Noting
+pub mod Placed

@@ -1,12 +1,11 @@
 //! The notes on members of key objects.
-ghost use Rattle.std.specs.Prelude.{◌≡◌, All, Contains, IfOk, IfSome};
+ghost use Rattle.std.specs.Prelude.{◌≡◌, IfOk, IfSome};
 ghost use Rattle.it_borrowed.specs.Tree.{as_data};
 ghost use Rattle.it_base.specs.Parts.{IsPart};
 ghost use Rattle.it_base.specs.Text.{IsText};
-ghost use Rattle.it_member_notes.specs.KeyMembers.{HasKeyMember, IsKeyMember, place_of};
+ghost use Rattle.it_member_notes.specs.KeyMembers.{HasKeyMember, place_of};
 
 use crate::key_member_note::KeyMemberNote;
-use crate::object_at::object_at;
 use it_base::text::Text;
 use it_borrowed::document::member;
 use it_borrowed::text::text_of;
@@ -14,40 +13,8 @@ use it_findings::place::{KeyPlace, Place};
 use json::Value;
 use std::alloc::{AllocError, Global};
 
-/// The notes on the members of the key objects at these places of a document, place by place.
-pub(crate) fn key_notes_at(
-    alloc: Global,
-    document: &Value<'_>,
-    places: &[Place],
-) -> Result<Vec<KeyMemberNote>, AllocError>
-    ensures { IfOk result (λ notes. All (λ note.
-        IsKeyMember (as_data document.now) note × Contains places.now (place_of note))
-        notes.items) }
-{
-    let mut notes = Vec::new(alloc);
-    for place in places {
-        if let Some(note) = key_note_at(alloc, document, place)? {
-            notes.push(note)?;
-        }
-    }
-    Ok(notes)
-}
-
-fn key_note_at(
-    alloc: Global,
-    document: &Value<'_>,
-    place: &Place,
-) -> Result<Option<KeyMemberNote>, AllocError>
-    ensures { IfOk result (λ found. IfSome found
-        (λ note. IsKeyMember (as_data document.now) note × (place_of note ≡ place.now))) }
-{
-    match object_at(document, place) {
-        None => Ok(None),
-        Some(object) => key_note_of(alloc, object, place),
-    }
-}
-
-fn key_note_of(
+/// The note on the members of the object at a place, where that is a key object or its `keyval`.
+pub(crate) fn key_note_of(
     alloc: Global,
     object: &Value<'_>,
     place: &Place,

@@ -5,9 +5,11 @@ ghost use Rattle.it_member_notes.specs.KeyMembers.{IsKeyMember, place_of};
 ghost use Rattle.it_member_notes.specs.UnreadMembers.{IsUnread};
 
 use crate::key_member_note::KeyMemberNote;
-use crate::key_notes::key_notes_at;
-use crate::unread::unread_at;
+use crate::key_notes::key_note_of;
+use crate::object_at::object_at;
+use crate::unread::unread_of;
 use crate::unread_member::UnreadMember;
+use it_base::optional::push_some;
 use it_findings::place::Place;
 use json::Value;
 use std::alloc::{AllocError, Global};
@@ -46,8 +48,15 @@ impl MemberNotes {
             IsKeyMember (as_data document.now) note × Contains places.now (place_of note))
             notes.keys.items) }
     {
-        let unread = unread_at(alloc, document, places)?;
-        let keys = key_notes_at(alloc, document, places)?;
+        let mut unread = Vec::new(alloc);
+        let mut keys = Vec::new(alloc);
+        for place in places {
+            if let Some(object) = object_at(document, place) {
+                let mut found = unread_of(alloc, object, place)?;
+                unread.append(&mut found)?;
+                push_some(&mut keys, key_note_of(alloc, object, place)?)?;
+            }
+        }
         Ok(MemberNotes { unread, keys })
     }
 

@@ -6,9 +6,8 @@ ghost use Rattle.it_borrowed.specs.NamedMembers.{members_in};
 ghost use Rattle.it_findings.specs.MeantName.{meant_name as meant_at};
 ghost use Rattle.it_findings.specs.MemberNames.{known_names as known_at};
 ghost use Rattle.it_findings.specs.MemberNames.{read_names as read_at};
-ghost use Rattle.it_member_notes.specs.UnreadMembers.{HasUnread, IsUnread};
+ghost use Rattle.it_member_notes.specs.UnreadMembers.{HasUnread};
 
-use crate::object_at::object_at;
 use crate::unread_member::UnreadMember;
 use it_base::text::Text;
 use it_borrowed::named_members::named_members;
@@ -19,39 +18,8 @@ use json::Value;
 use std::alloc::{AllocError, Global};
 use std::collections::BTreeMap;
 
-/// The notes on the members of the objects at these places of a document, place by place.
-pub(crate) fn unread_at(
-    alloc: Global,
-    document: &Value<'_>,
-    places: &[Place],
-) -> Result<Vec<UnreadMember>, AllocError>
-    ensures { IfOk result (λ notes. All
-        (λ note. IsUnread (as_data document.now) note × Contains places.now note.place)
-        notes.items) }
-{
-    let mut notes = Vec::new(alloc);
-    for place in places {
-        let mut found = unread_in(alloc, document, place)?;
-        notes.append(&mut found)?;
-    }
-    Ok(notes)
-}
-
-fn unread_in(
-    alloc: Global,
-    document: &Value<'_>,
-    place: &Place,
-) -> Result<Vec<UnreadMember>, AllocError>
-    ensures { IfOk result (λ notes. All
-        (λ note. IsUnread (as_data document.now) note × (note.place ≡ place.now)) notes.items) }
-{
-    match object_at(document, place) {
-        None => Ok(Vec::new(alloc)),
-        Some(object) => unread_of(alloc, object, place),
-    }
-}
-
-fn unread_of(
+/// The notes on the members of the object at a place, in the order of their names.
+pub(crate) fn unread_of(
     alloc: Global,
     object: &Value<'_>,
     place: &Place,
@@ -59,6 +27,10 @@ fn unread_of(
     ensures { IfOk result (λ notes. All
         (λ note. HasUnread (as_data object.now) note × (note.place ≡ place.now)) notes.items) }
 {
+    // Most objects need no order, since each of their members has a meaning.
+    if have_meaning(place, object) {
+        return Ok(Vec::new(alloc));
+    }
     match named_members(alloc, object)? {
         None => Ok(Vec::new(alloc)),
         Some(members) => unread_among(alloc, members, place),
@@ -94,6 +66,15 @@ fn unread_member(alloc: Global, place: &Place, name: &str) -> Result<UnreadMembe
         name: Text::copy(alloc, name)?,
         close: meant_name(alloc, place, name)?,
     })
+}
+
+/// Whether each member of an object has a meaning at a place.
+fn have_meaning(place: &Place, object: &Value<'_>) -> bool {
+    match object {
+        Value::Object(members) => members.iter().all(|member| has_meaning(place, member.0)),
+        Value::Null | Value::Bool(_) | Value::Number(_) | Value::String(_) | Value::Array(_) =>
+            true,
+    }
 }
 
 fn has_meaning(place: &Place, name: &str) -> bool

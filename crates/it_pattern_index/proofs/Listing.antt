@@ -1,15 +1,15 @@
 -- The places of patterns under their literal fronts.
-use Rattle.std.proofs.Common.{◌≡◌, ◌++◌, ◌∷◌, [], ℕ, List, Bool, true, false, Option, Some, None, cond}
+use Rattle.std.proofs.Common.{◌≡◌, ◌++◌, ◌∷◌, [], ℕ, List, Bool, true, false, Option, Some}
 use Rattle.std.proofs.Common.{Contains, Bor, Global, bytes_eq, nat_cmp, length, take, ap, sym, subst, refl}
-use Rattle.std.proofs.Common.{◌∙◌, ◌+◌, ◌<◌, ◌≤◌, inl, inr, arith, unwrap_or}
-use Rattle.std.specs.BTreeMap.{BTreeMap, UpdatesBy, get_by}
+use Rattle.std.proofs.Common.{◌∙◌, ◌+◌, ◌<◌, ◌≤◌, inl, inr, arith}
+use Rattle.std.specs.BTreeMap.{BTreeMap, get_by}
 use Rattle.std.specs.Cmp.Lexicographic.{slice_cmp}
 use Rattle.std.specs.List.{slice_get}
+use Rattle.std.specs.Option.{UnwrapsOrElse}
 use Rattle.std.specs.declared.vec.Vec.{Vec}
 use Rattle.std.proofs.Math.Seq.{take-append_seam}
 use Rattle.std.proofs.lemmas.Bool.{cases_lt}
 use Rattle.std.proofs.lemmas.List.Elements.{Contains-append_left, Contains-push}
-use Rattle.std.proofs.lemmas.Map.Text.{btree_map_updates_str}
 use Rattle.std.proofs.lemmas.Option.{same_Some, slice_get_within}
 use Rattle.std.proofs.lemmas.Slice.Eq.{bytes_eq-Decides}
 use Rattle.it_glob.specs.Pattern.{BeginsWith, front_of, items_of}
@@ -22,46 +22,38 @@ Places = BTreeMap (Bor (List ℕ)) (Vec ℕ Global)
 abbrev at : List ℕ → Places → Option (Vec ℕ Global)
 at front places = get_by (λ key. slice_cmp nat_cmp front key.now) places
 
-module _ (front : List ℕ) (place : ℕ) (old now new : Places) (before after : Vec ℕ Global)
-    (taken : UpdatesBy (λ (x y : Bor (List ℕ)). slice_cmp nat_cmp x.now y.now)
-    (λ key. slice_cmp nat_cmp front key.now) old now None)
-    (found : Option (Vec ℕ Global)) (none : Vec ℕ Global) (is : found ≡ at front old)
-    (opened : before ≡ unwrap_or found none)
+module _ (front : List ℕ) (place : ℕ) (old new : Places) (before after : Vec ℕ Global)
+    (Empty : Vec ℕ Global → Type 0) (opened : UnwrapsOrElse (at front old) Empty before)
     (pushed : after.items ≡ before.items ++ place ∷ [])
-    (updated : UpdatesBy (λ (x y : Bor (List ℕ)). slice_cmp nat_cmp x.now y.now)
-    (λ key. slice_cmp nat_cmp front key.now) now new (Some after)) where
+    (added : at front new ≡ Some after)
+    (others : (f : List ℕ) → bytes_eq front f ≡ false → at f new ≡ at f old) where
   here : IsUnder new front place
   here = record {
     found = after;
-    stands = updated.1;
+    stands = added;
     has = subst (λ xs. Contains xs place) (sym pushed) (Contains-push before.items place);
   }
 
   kept_by : (f : List ℕ) (p : ℕ) → IsUnder old f p → (b : Bool) → bytes_eq front f ≡ b
-      → at f now ≡ cond b None (at f old) → at f new ≡ cond b (Some after) (at f now)
       → IsUnder new f p
-  kept_by f p under true e first second =
+  kept_by f p under true e =
       let same : front ≡ f = (bytes_eq-Decides front f).0 e in
-      let known : before ≡ under.found = opened
-      ∙ ap (λ o. unwrap_or o none) (is ∙ ap (λ g. at g old) same ∙ under.stands) in
+      let stands : at front old ≡ Some under.found = ap (λ g. at g old) same ∙ under.stands in
+      let known : before ≡ under.found =
+      subst (λ o. UnwrapsOrElse o Empty before) stands opened in
       record {
         found = after;
-        stands = second;
+        stands = ap (λ g. at g new) (sym same) ∙ added;
         has = subst (λ xs. Contains xs p) (sym pushed)
             (Contains-append_left before.items (place ∷ []) p
             (subst (λ (v : Vec ℕ Global). Contains v.items p) (sym known) under.has));
       }
-  kept_by f p under false e first second =
-      record { found = under.found; stands = second ∙ first ∙ under.stands; has = under.has }
+  kept_by f p under false e =
+      record { found = under.found; stands = others f e ∙ under.stands; has = under.has }
 
   -- a place is put at the end of those that a map has under its front
   pub put : IsPutUnder front place old new
-  put = record {
-    here = here;
-    kept = λ f p under. kept_by f p under (bytes_eq front f) refl
-        (btree_map_updates_str front old now None taken f)
-        (btree_map_updates_str front now new (Some after) updated f);
-  }
+  put = record { here = here; kept = λ f p under. kept_by f p under (bytes_eq front f) refl }
 
 -- the part of a front's length of what begins with it
 pub front_is : (path front : List ℕ) (len : ℕ) → BeginsWith path front → length front ≡ len

@@ -76,8 +76,6 @@ fn put_under<'a>(
 ) -> Result<(), AllocError>
     ensures { OnOk result (IsPutUnder front.now place places.old places.new) }
 {
-    let mut found = places.remove(front).unwrap_or(Vec::new(alloc));
-    found.push(place)?;
-    places.insert(front, found)?;
+    places.entry(front)?.or_default().push(place)?;
     Ok(())
 }

@@ -1,5 +1,5 @@
 use Rattle.std.proofs.Common.{bytes_eq, refl, subst, string_bytes, sym}
-use Rattle.it_chain.specs.inside.ClaimedFiles.{places_under}
+use Rattle.it_chain.specs.inside.Places.{places_under}
 use Rattle.it_chain.specs.ClaimedFiles.{IsClaimed}
 use Rattle.it_chain.proofs.ClaimedFiles.{claimed_or, passed_by}
 use Rattle.it_chain.proofs.claimed_files.Claims.of.Goals as goal

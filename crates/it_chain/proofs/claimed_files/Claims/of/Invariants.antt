@@ -1,5 +1,6 @@
 use Rattle.std.proofs.Common.{ℕ, List, take}
-use Rattle.it_chain.specs.inside.ClaimedFiles.{AreClaimed, files_at, places_under}
+use Rattle.it_chain.specs.inside.ClaimedFiles.{AreClaimed, files_at}
+use Rattle.it_chain.specs.inside.Places.{places_under}
 use Rattle.it_chain.proofs.claimed_files.Claims.of.Given as goal
 
 -- under each step's name stand the places of the files so far that are claimed for the step

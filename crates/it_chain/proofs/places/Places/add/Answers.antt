@@ -1,6 +1,6 @@
 use Rattle.std.proofs.Common.{arith}
 use Rattle.std.proofs.lemmas.Grind.{text_groups}
-use Rattle.it_chain.proofs.claimed_files.add.Goals as goal
+use Rattle.it_chain.proofs.places.Places.add.Goals as goal
 
 pub returns : goal.returns
 returns c = λ q. grind (arith, text_groups)

@@ -17,5 +17,8 @@ loop-place-preserved c =
     ≡ old ++ items_at envelopes (take (i + 1) places) =
     ap (λ o. old ++ (before ++ cons_option o [])) next
     ∙ ap (λ found. old ++ found) (sym (items_more envelopes places i c.loop-place-test.true)) in
-    rw (c.in_ok-push_some.ensures, c.loop-place.invariant,
-    append_assoc old before (cons_option c.copied.result [])) more
+    rw (
+      c.in_ok-push_some.ensures,
+      c.loop-place.invariant,
+      append_assoc old before (cons_option c.copied.result []),
+    ) more

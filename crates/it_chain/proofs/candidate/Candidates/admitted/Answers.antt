@@ -10,8 +10,11 @@ returns c =
     let hints = c.self.inside.hints in
     let id = c.args.id.now in
     let under = items_at envelopes (places_under hints.named id) in
-    let first = rw (c.new-found.ensures.items, c.as_slice-envelopes.ensures.value,
-    c.as_slice.ensures.value) at c.in_ok-push_at.ensures in
+    let first = rw (
+      c.new-found.ensures.items,
+      c.as_slice-envelopes.ensures.value,
+      c.as_slice.ensures.value,
+    ) at c.in_ok-push_at.ensures in
     let second = rw (c.as_slice-envelopes.ensures.value, c.under.ensures) at
     c.in_ok-push_at-2.ensures in
     rw (← c.self.view_is)

@@ -6,7 +6,8 @@ use Rattle.it_chain.proofs.Candidates.{lent_item, shown}
 use Rattle.it_chain.proofs.Hinted.{all_listed, named_more, none_listed, not_last, unhinted_more}
 use Rattle.it_chain.proofs.hints.Hints.of.Goals as goal
 use Rattle.it_chain.proofs.hints.Hints.of.Goals.{
-  then-have_hint+in_ok-push, else-have_hint+in_ok-add_under_hints,
+  then-have_hint+in_ok-push,
+  else-have_hint+in_ok-add_under_hints,
 }
 
 pub loop-place-init : goal.loop-place-init

@@ -9,7 +9,8 @@ use Rattle.it_member_notes.specs.declared.unread_member.UnreadMember.{UnreadMemb
 use Rattle.it_member_notes.proofs.Placed.{key_stands, unread_stands}
 use Rattle.it_member_notes.proofs.member_notes.MemberNotes.at.Goals as goal
 use Rattle.it_member_notes.proofs.member_notes.MemberNotes.at.Goals.{
-  in-Some+in_ok-found+in_ok-append+in_ok-key_note_of+in_ok-push_some, in_default,
+  in-Some+in_ok-found+in_ok-append+in_ok-key_note_of+in_ok-push_some,
+  in_default,
 }
 
 pub loop-place-preserved : goal.loop-place-preserved

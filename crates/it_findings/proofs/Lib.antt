@@ -1,4 +1,5 @@
 pub mod Agreeing
+pub mod AllMeant
 pub mod FirstPassing
 pub mod FirstPlaces
 pub mod Joining

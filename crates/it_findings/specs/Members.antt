@@ -1,7 +1,7 @@
 -- What is found in the members of a policy and a layout: members that come again, members that
 -- nobody looks at, and private keys (in-toto 1.0 sections 4.2 and 4.3; that something is found, and
 -- what, is a word of this project).
-use Rattle.std.specs.Prelude.{◌≡◌, ◌≢◌, ◌⊎◌, ℕ, List, [], ◌∷◌, ◌++◌, Contains, MatchOption}
+use Rattle.std.specs.Prelude.{◌≡◌, ◌≢◌, ◌⊎◌, ℕ, List, [], ◌∷◌, ◌++◌, All, Contains, MatchOption}
 use Rattle.std.specs.Prelude.{option_and_then, codes, map}
 use Rattle.std.specs.Option.{option_map_or}
 use Rattle.serde_json.specs.Data.{Data, Members, no_members, member}
@@ -38,6 +38,10 @@ members_at name d = option_map_or members_of (member_at name d) []
 -- members of this name are looked at in the objects at a place, or known there
 abbrev pub HasMeaning : Place → List ℕ → Type 0
 HasMeaning place name = Contains (read_names place) name ⊎ Contains (known_names place) name
+
+-- the name of each member has a meaning there
+abbrev pub HaveMeaning : Place → Data → Type 0
+HaveMeaning place d = All (λ entry. HasMeaning place entry.0) (members_of d)
 
 -- what is found in one member of the object at a place: that its name has no meaning there
 abbrev pub UnreadMember : Place → List ℕ × Data → List MemberFinding → Type 0

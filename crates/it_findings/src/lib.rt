@@ -37,6 +37,7 @@ mod unread;
 
 pub use in_layout::layout_findings;
 pub use in_policy::policy_findings;
+pub use meaning::{has_meaning, have_meaning};
 pub use meant::meant_name;
 pub use members::{layout_members, policy_members};
 pub use missing_thresholds::no_thresholds;

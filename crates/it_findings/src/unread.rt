@@ -5,7 +5,7 @@ ghost use Rattle.it_findings.specs.Joined.{JoinedEach, Said};
 ghost use Rattle.it_findings.specs.Members.{HasMeaning, UnreadMember, UnreadMembers, entries_in};
 ghost use Rattle.it_borrowed.specs.NamedMembers.{members_in};
 
-use crate::meaning::has_meaning;
+use crate::meaning::{has_meaning, have_meaning};
 use crate::member_finding::MemberFinding;
 use crate::place::Place;
 use it_base::text::Text;
@@ -22,6 +22,10 @@ pub(crate) fn unread_members(
 ) -> Result<Vec<MemberFinding>, AllocError>
     ensures { IfOk result (λ found. UnreadMembers place.now (as_data object.now) found.items) }
 {
+    // Most objects need no order, since all of their members have a meaning.
+    if have_meaning(place, object) {
+        return Ok(Vec::new(alloc));
+    }
     match named_members(alloc, object)? {
         Some(members) => each_member(alloc, place, members),
         None => Ok(Vec::new(alloc)),

@@ -1,4 +1,4 @@
-use Rattle.std.proofs.Common.{◌≡◌, [], ◌∷◌, ◌++◌, Contains, sym, ap, ◌∙◌, append_assoc}
+use Rattle.std.proofs.Common.{◌≡◌, [], ◌∷◌, ◌++◌, Contains, sym, ap, ◌∙◌, append_assoc, inl, inr}
 use Rattle.std.proofs.lemmas.List.Elements.{All-push}
 use Rattle.serde_json.specs.Data.{object}
 use Rattle.it_borrowed.specs.NamedMembers.{NamedMember, members_in}
@@ -27,10 +27,10 @@ loop-name-preserved-in_ok-push c =
     ∙ ap (λ es. l.0 ++ es) c.in-Some.ensures.steps in
     let place = c.args.place.now in
     let text = c.in-Some.name.now in
-    let no_read = not_so c.has_meaning.result
-    (Contains (read_names place) text) c.has_meaning.ensures.read c.if-not-has_meaning.true in
-    let no_known = not_so c.has_meaning.result
-    (Contains (known_names place) text) c.has_meaning.ensures.known c.if-not-has_meaning.true in
+    let no_read = not_so c.has_meaning.result (Contains (read_names place) text)
+    (λ read. c.has_meaning.ensures.1 (inl read)) c.if-not-has_meaning.true in
+    let no_known = not_so c.has_meaning.result (Contains (known_names place) text)
+    (λ known. c.has_meaning.ensures.1 (inr known)) c.if-not-has_meaning.true in
     let note = c.in_ok-unread_member.field-0 in
     let made = c.in_ok-unread_member.ensures in (
       l.0 ++ e ∷ [],

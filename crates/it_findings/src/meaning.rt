@@ -16,9 +16,8 @@ pub fn has_meaning(place: &Place, name: &str) -> bool
     is_read(place, name) || is_known(place, name)
 }
 
-/// Whether the name of each member that a value has is looked at in the objects at a place, or
-/// known there; where it is not, that of a member that does not count may be the one that has no
-/// meaning. Takes no memory.
+/// Whether all members of a value are looked at in the objects at a place, or known there. It may
+/// also deny it for a member that does not count, since it comes again. Takes no memory.
 pub fn have_meaning(place: &Place, value: &Value<'_>) -> bool
     ensures { IsTrue result → HaveMeaning place.now (as_data value.now) }
 {

@@ -15,7 +15,8 @@ use it_findings::place::{KeyPlace, Place};
 use json::Value;
 use std::alloc::{AllocError, Global};
 
-/// The places of a policy: the whole, its owners with notes, and each expectation with its builders.
+/// The places of a policy: the whole, its owners with notes, and each expectation with its
+/// builders.
 pub(crate) fn policy_places(alloc: Global, document: &Value<'_>) -> Result<Vec<Place>, AllocError>
     ensures { IfOk result (λ places. All IsOfPolicy places.items) }
 {

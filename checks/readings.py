@@ -43,8 +43,9 @@ ENVELOPES = (re.compile(r"\benvelope_in\(|\bfrom_bytes::<Envelope>\("), "it_dsse
     "crates/it_signers/src/file_envelope.rt": 1,
     "crates/it_signers/src/signers_output.rt": 1,
 })
-POLICIES = (re.compile(r"\bread_policy\(|\bfrom_bytes::<Policy>\("), "it_docs", {
-    "crates/it_verify/src/documents.rt": 1,
+POLICIES = (re.compile(r"\bread_policy\(|\bpolicy_in\(|\bfrom_bytes::<Policy>\("), "it_docs", {
+    # a verification, by a function of its own
+    "crates/it_verify/src/documents.rt": 2,
     # another command
     "crates/it_check/src/documents.rt": 1,
 })
@@ -61,6 +62,18 @@ LAYOUTS = (re.compile(r"\bread_layout\(|\blayout_in\(|\bfrom_bytes::<Layout>\(")
     "crates/it_step_notes/src/signed_layout.rt": 1,
     # another command
     "crates/it_check/src/documents.rt": 1,
+})
+# Trees of policies and layouts.
+TREES = (re.compile(r"\bDocumentText::read\("), "it_docs", {
+    # a verification, for its verdict and what is found beside it: the policy
+    "crates/it_verify/src/opened.rt": 1,
+    # what is found in the layout and the sublayouts of an accepted delivery
+    "crates/it_strict/src/counting.rt": 1,
+    # notes on members: those of the policy after a refusal, those of a layout
+    "crates/it_notes/src/notes.rt": 1,
+    "crates/it_notes/src/layout_notes.rt": 1,
+    # another command: the policy, a layout
+    "crates/it_check/src/documents.rt": 2,
 })
 
 
@@ -86,7 +99,7 @@ def main():
     """Checks each kind of document."""
     tree.words_of(__doc__).parse_args()
     faults = []
-    for form, defining, places in (ENVELOPES, POLICIES, LAYOUTS):
+    for form, defining, places in (ENVELOPES, POLICIES, LAYOUTS, TREES):
         faults += faults_of(form, defining, places)
     return tree.report(faults)
 

@@ -1,3 +1,4 @@
+pub mod DocumentText
 pub mod InRange
 pub mod Last
 pub mod Whole

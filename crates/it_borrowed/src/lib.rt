@@ -4,6 +4,7 @@
 
 pub mod base64_text;
 pub mod document;
+pub mod document_text;
 pub mod items;
 pub mod list;
 pub mod named_members;

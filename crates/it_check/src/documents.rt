@@ -7,16 +7,16 @@ ghost use Rattle.it_check.specs.Documents.{IsPolicyReading, ReadsAs, whole};
 
 use it_base::sequence::Sequence;
 use it_borrowed::document::{is_object, member, read_document};
+use it_borrowed::document_text::DocumentText;
 use it_borrowed::parts::from_bytes;
 use it_docs::layout::Layout;
 use it_docs::layout_fault::LayoutFault;
-use it_docs::layout_reading::read_layout;
+use it_docs::layout_reading::layout_in;
 use it_docs::policy::Policy;
 use it_docs::policy_fault::PolicyFault;
-use it_docs::policy_reading::read_policy;
+use it_docs::policy_reading::policy_in;
 use it_dsse::envelope::Envelope;
 use it_dsse::payload_type::IN_TOTO;
-use it_findings::document_text::DocumentText;
 use it_findings::member_finding::MemberFinding;
 use it_findings::null_key::NullKey;
 use it_findings::{layout_members, layout_nulls, no_thresholds, policy_members, policy_nulls};
@@ -97,16 +97,14 @@ pub(crate) fn layout_given(
 fn policy_reading(alloc: Global, bytes: &[u8]) -> Result<PolicyReading, AllocError>
     ensures { IfOk result (IsPolicyReading bytes.now) }
 {
-    match read_policy(alloc, bytes) {
-        Ok(policy) => {
-            let mut scratch = Scratch::new(alloc);
-            let text = DocumentText::read(alloc, bytes, &mut scratch)?;
-            Ok(PolicyReading::Read {
-                policy,
-                nulls: Sequence::from(policy_nulls(alloc, &text)?),
-                members: Sequence::from(policy_members(alloc, &text)?),
-            })
-        }
+    let mut scratch = Scratch::new(alloc);
+    let text = DocumentText::read(alloc, bytes, &mut scratch)?;
+    match policy_in(alloc, &text) {
+        Ok(policy) => Ok(PolicyReading::Read {
+            policy,
+            nulls: Sequence::from(policy_nulls(alloc, &text)?),
+            members: Sequence::from(policy_members(alloc, &text)?),
+        }),
         Err(PolicyFault::BadPolicy(part)) => {
             Ok(PolicyReading::Bad(whole(alloc, Fault::BadPolicy(part))))
         }
@@ -152,17 +150,15 @@ fn bare_reading(alloc: Global, bytes: &[u8]) -> Result<LayoutReading, AllocError
 fn body_reading(alloc: Global, body: &[u8]) -> Result<LayoutReading, AllocError>
     ensures { IfOk result (IsBodyReading body.now) }
 {
-    match read_layout(alloc, body) {
-        Ok(layout) => {
-            let mut scratch = Scratch::new(alloc);
-            let text = DocumentText::read(alloc, body, &mut scratch)?;
-            Ok(LayoutReading::Read {
-                layout,
-                nulls: Sequence::from(layout_nulls(alloc, &text)?),
-                places: Sequence::from(no_thresholds(alloc, &text)?),
-                members: Sequence::from(layout_members(alloc, &text)?),
-            })
-        }
+    let mut scratch = Scratch::new(alloc);
+    let text = DocumentText::read(alloc, body, &mut scratch)?;
+    match layout_in(alloc, &text) {
+        Ok(layout) => Ok(LayoutReading::Read {
+            layout,
+            nulls: Sequence::from(layout_nulls(alloc, &text)?),
+            places: Sequence::from(no_thresholds(alloc, &text)?),
+            members: Sequence::from(layout_members(alloc, &text)?),
+        }),
         Err(LayoutFault::BadLayout(part)) => {
             Ok(LayoutReading::Bad(whole(alloc, Fault::BadLayout(part))))
         }

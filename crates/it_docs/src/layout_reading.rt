@@ -22,7 +22,8 @@ use it_base::list::ListFault;
 use it_base::sequence::Sequence;
 use it_base::table::Table;
 use it_base::text::Text;
-use it_borrowed::document::{is_object, read_document};
+use it_borrowed::document::is_object;
+use it_borrowed::document_text::DocumentText;
 use it_borrowed::list::numbered_list;
 use it_borrowed::parts::{FromBorrowed, part_or};
 use it_borrowed::text::has_text;
@@ -42,8 +43,22 @@ pub fn read_layout(alloc: Global, bytes: &[u8]) -> Result<Layout, LayoutFault>
         → LayoutPartOf bytes.now part) }
 {
     let mut scratch = Scratch::new(alloc);
-    match read_document(alloc, bytes, &mut scratch)? {
-        Some(document) => layout_of(alloc, &document),
+    let text = DocumentText::read(alloc, bytes, &mut scratch)?;
+    layout_in(alloc, &text)
+}
+
+/// Reads the layout that a text is, from the document that was read already.
+///
+/// # Errors
+///
+/// As those of `read_layout`.
+pub fn layout_in(alloc: Global, text: &DocumentText<'_>) -> Result<Layout, LayoutFault>
+    ensures ok { IfOk result (λ layout. LayoutOf text.now layout) }
+    ensures bad { IfErr result (λ e. (part : Part) → e ≡ LayoutFault.BadLayout part
+        → LayoutPartOf text.now part) }
+{
+    match text.document() {
+        Some(document) => layout_of(alloc, document),
         None => Err(LayoutFault::BadLayout(LayoutPart::Json)),
     }
 }

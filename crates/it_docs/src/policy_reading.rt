@@ -15,7 +15,8 @@ use crate::rule::Rule;
 use it_base::list::ListFault;
 use it_base::sequence::Sequence;
 use it_base::table::Table;
-use it_borrowed::document::{is_object, read_document};
+use it_borrowed::document::is_object;
+use it_borrowed::document_text::DocumentText;
 use it_borrowed::list::{list_or_empty, numbered_list};
 use it_borrowed::parts::{FromBorrowed, part};
 use it_dsse::key_object::KeyObject;
@@ -33,8 +34,22 @@ pub fn read_policy(alloc: Global, bytes: &[u8]) -> Result<Policy, PolicyFault>
         → PolicyPartOf bytes.now part) }
 {
     let mut scratch = Scratch::new(alloc);
-    match read_document(alloc, bytes, &mut scratch)? {
-        Some(document) => policy_of(alloc, &document),
+    let text = DocumentText::read(alloc, bytes, &mut scratch)?;
+    policy_in(alloc, &text)
+}
+
+/// Reads the policy that a text is, from the document that was read already.
+///
+/// # Errors
+///
+/// As those of `read_policy`.
+pub fn policy_in(alloc: Global, text: &DocumentText<'_>) -> Result<Policy, PolicyFault>
+    ensures ok { IfOk result (λ policy. PolicyOf text.now policy) }
+    ensures bad { IfErr result (λ e. (part : Part) → e ≡ PolicyFault.BadPolicy part
+        → PolicyPartOf text.now part) }
+{
+    match text.document() {
+        Some(document) => policy_of(alloc, document),
         None => Err(PolicyFault::BadPolicy(PolicyPart::Json)),
     }
 }

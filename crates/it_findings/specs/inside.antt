@@ -1,2 +1,1 @@
-pub mod DocumentText
 pub mod FirstPlaces

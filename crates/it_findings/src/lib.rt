@@ -3,7 +3,6 @@
 #![tactic(auto)]
 
 mod closed;
-pub mod document_text;
 pub mod finding;
 mod identity_findings;
 mod in_expectations;

@@ -8,7 +8,6 @@ ghost use Rattle.it_findings.specs.Members.{MembersOfLayout, MembersOfPolicy, Ot
 ghost use Rattle.it_findings.specs.Members.{PolicyMembers};
 ghost use Rattle.it_findings.specs.NullKeys.{list_at, listed};
 
-use crate::document_text::DocumentText;
 use crate::key_members::key_list_members;
 use crate::member_finding::MemberFinding;
 use crate::null_key::KeyList;
@@ -17,6 +16,7 @@ use crate::place::Place;
 use crate::repeated::repeated_in;
 use crate::step_members::{inspections_members, steps_members};
 use crate::unread::unread_members;
+use it_borrowed::document_text::DocumentText;
 use it_repeats::root::Root;
 use json::Value;
 use std::alloc::{AllocError, Global};
@@ -65,7 +65,7 @@ fn others_in_policy(
 ) -> Result<Vec<MemberFinding>, AllocError>
     ensures { IfOk result (λ found. OthersIn PolicyMembers text.now found.items) }
 {
-    match &text.document {
+    match text.document() {
         Some(document) => members_in_policy(alloc, document),
         None => Ok(Vec::new(alloc)),
     }
@@ -77,7 +77,7 @@ fn others_in_layout(
 ) -> Result<Vec<MemberFinding>, AllocError>
     ensures { IfOk result (λ found. OthersIn LayoutMembers text.now found.items) }
 {
-    match &text.document {
+    match text.document() {
         Some(document) => members_in_layout(alloc, document),
         None => Ok(Vec::new(alloc)),
     }

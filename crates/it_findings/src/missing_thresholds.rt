@@ -7,9 +7,9 @@ ghost use Rattle.it_findings.specs.Joined.{Joined};
 ghost use Rattle.it_findings.specs.NoThresholds.{NoThreshold, NoThresholds, NoThresholdsOf};
 ghost use Rattle.it_findings.specs.NullKeys.{listed};
 
-use crate::document_text::DocumentText;
 use crate::null_keys::items_at;
 use it_borrowed::document::member;
+use it_borrowed::document_text::DocumentText;
 use json::Value;
 use std::alloc::{AllocError, Global};
 
@@ -22,7 +22,7 @@ use std::alloc::{AllocError, Global};
 pub fn no_thresholds(alloc: Global, text: &DocumentText<'_>) -> Result<Vec<usize>, AllocError>
     ensures { IfOk result (λ places. NoThresholdsOf text.now places.items) }
 {
-    match &text.document {
+    match text.document() {
         Some(document) => places_in(alloc, document),
         None => Ok(Vec::new(alloc)),
     }

@@ -11,10 +11,10 @@ ghost use Rattle.it_findings.specs.NullKeys.{BuilderNulls, ExpectationNulls, Lay
 ghost use Rattle.it_findings.specs.NullKeys.{NullsOf, PolicyNulls, list_at, listed, null_ids};
 ghost use Rattle.it_findings.specs.NullKeys.{null_key};
 
-use crate::document_text::DocumentText;
 use crate::null_key::{KeyList, NullKey};
 use it_base::text::Text;
 use it_borrowed::document::member;
+use it_borrowed::document_text::DocumentText;
 use it_borrowed::items::items_of as list_items;
 use it_borrowed::named_members::named_members;
 use json::Value;
@@ -30,7 +30,7 @@ use std::collections::BTreeMap;
 pub fn policy_nulls(alloc: Global, text: &DocumentText<'_>) -> Result<Vec<NullKey>, AllocError>
     ensures { IfOk result (λ found. NullsOf PolicyNulls text.now found.items) }
 {
-    match &text.document {
+    match text.document() {
         Some(document) => nulls_in_policy(alloc, document),
         None => Ok(Vec::new(alloc)),
     }
@@ -45,7 +45,7 @@ pub fn policy_nulls(alloc: Global, text: &DocumentText<'_>) -> Result<Vec<NullKe
 pub fn layout_nulls(alloc: Global, text: &DocumentText<'_>) -> Result<Vec<NullKey>, AllocError>
     ensures { IfOk result (λ found. NullsOf LayoutNulls text.now found.items) }
 {
-    match &text.document {
+    match text.document() {
         Some(document) => null_keys(alloc, KeyList::OfLayout, document, "keys"),
         None => Ok(Vec::new(alloc)),
     }

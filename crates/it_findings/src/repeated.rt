@@ -3,8 +3,8 @@ ghost use Rattle.std.specs.Prelude.{◌≡◌, IfOk, map};
 ghost use Rattle.it_repeats.specs.Repeats.{RepeatsOf};
 ghost use Rattle.it_findings.specs.Members.{RepeatedIn};
 
-use crate::document_text::DocumentText;
 use crate::member_finding::MemberFinding;
+use it_borrowed::document_text::DocumentText;
 use it_repeats::repeated_member::RepeatedMember;
 use it_repeats::root::Root;
 use it_repeats::{repeated_in_tree, repeated_members};
@@ -34,9 +34,9 @@ fn members_again(
 ) -> Result<Vec<RepeatedMember>, AllocError>
     ensures { IfOk result (λ found. RepeatsOf root text.now found.items) }
 {
-    match &text.document {
+    match text.document() {
         Some(document) => repeated_in_tree(alloc, root, document),
-        None => repeated_members(alloc, root, text.bytes),
+        None => repeated_members(alloc, root, text.bytes()),
     }
 }
 

@@ -4,7 +4,7 @@ ghost use Rattle.it_member_notes.specs.MemberNotes.{TellsLayoutMembers, TellsPol
 
 use crate::member_notes::MemberNotes;
 use crate::places::{layout_places, policy_places};
-use it_findings::document_text::DocumentText;
+use it_borrowed::document_text::DocumentText;
 use std::alloc::{AllocError, Global};
 
 /// The notes on a policy's members that are not looked at, and on those of its key objects that may

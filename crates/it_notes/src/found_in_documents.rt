@@ -11,7 +11,6 @@ use it_base::text::Text;
 use it_check::push_finding;
 use it_docs::rule::Rule;
 use it_dsse::checks::Checks;
-use it_findings::document_text::DocumentText;
 use it_findings::finding::{Finding, RuleList};
 use it_findings::member_finding::MemberFinding;
 use it_member_notes::member_notes::MemberNotes;
@@ -20,8 +19,7 @@ use it_strict::below::{FoundBelow, found_below};
 use it_strict::found::{found_in_layout, found_in_policy};
 use it_strict::push_placed_finding;
 use it_verify::grounds::Grounds;
-use it_verify::inputs::Inputs;
-use json::Scratch;
+use it_verify::opened::Opened;
 use std::alloc::{AllocError, Global};
 
 /// What is found in the documents of a delivery that is accepted.
@@ -36,32 +34,30 @@ pub struct FoundInDocuments {
 }
 
 /// What is found in the policy, in the layout and in the sublayouts, as far as it counts, where a
-/// delivery of the `inputs` is accepted on these grounds by the `checks`.
+/// delivery of the opened inputs is accepted on these grounds by the `checks`.
 ///
 /// # Errors
 ///
 /// `AllocError` where memory was refused, or where the checks refuse to check more signatures.
 pub fn found_in_documents<C: Checks>(
     alloc: Global,
-    inputs: &Inputs,
+    opened: &Opened<'_>,
     grounds: &Grounds,
     checks: &C,
 ) -> Result<FoundInDocuments, AllocError>
-    requires shallow { inputs.now.depth ≤ 8 }
-    requires made { IsMadeBy (C.panel checks.now) inputs.now grounds.now.documents
+    requires shallow { opened.now.inputs.now.depth ≤ 8 }
+    requires made { IsMadeBy (C.panel checks.now) opened.now.inputs.now grounds.now.documents
         grounds.now.evidence }
-    ensures { IfOk result (AreFoundInDocuments (C.panel checks.now) inputs.now) }
+    ensures { IfOk result (AreFoundInDocuments (C.panel checks.now) opened.now.inputs.now) }
 {
     let documents = &grounds.documents;
-    let mut scratch = Scratch::new(alloc);
-    let policy = DocumentText::read(alloc, inputs.policy.as_slice(), &mut scratch)?;
-    let mut found = found_in_policy(alloc, &policy, documents)?;
+    let mut found = found_in_policy(alloc, &opened.policy, documents)?;
     let mut of_layout = found_in_layout(alloc, documents, &grounds.evidence)?;
     found.append(&mut of_layout)?;
     Ok(FoundInDocuments {
         of_documents: found,
-        noted: Some(policy_notes(alloc, &policy)?),
-        below: found_below(alloc, inputs, documents, checks)?,
+        noted: Some(policy_notes(alloc, &opened.policy)?),
+        below: found_below(alloc, opened.inputs, documents, checks)?,
     })
 }
 

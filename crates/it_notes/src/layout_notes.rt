@@ -8,8 +8,8 @@ ghost use Rattle.it_notes.specs.Notes.{TellsLayout};
 ghost use Rattle.it_verify.specs.declared.inputs.Inputs.{Inputs};
 
 use crate::known::Known;
+use it_borrowed::document_text::DocumentText;
 use it_dsse::envelope::Envelope;
-use it_findings::document_text::DocumentText;
 use it_member_notes::layout_note::LayoutNote;
 use it_member_notes::member_notes::MemberNotes;
 use it_member_notes::rule_list_note::RuleListNote;

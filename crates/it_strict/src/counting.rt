@@ -6,11 +6,11 @@ ghost use Rattle.it_chain.specs.StepRules.{recorded_in};
 ghost use Rattle.it_findings.specs.Joined.{Said};
 ghost use Rattle.it_strict.specs.Counting.{AreCounting, Counts, HasPath, LayoutCounting};
 
+use it_borrowed::document_text::DocumentText;
 use it_chain::chain::StepResult;
 use it_check::findings_in_layout;
 use it_docs::layout::Layout;
 use it_docs::rule::Side;
-use it_findings::document_text::DocumentText;
 use it_findings::finding::{Finding, RuleList};
 use it_findings::{layout_members, layout_nulls, no_thresholds};
 use it_rules::item::Item;

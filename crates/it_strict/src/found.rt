@@ -17,17 +17,16 @@ use crate::untied_lines::push_untied;
 use crate::unused::unused_findings;
 use it_base::sequence::Sequence;
 use it_base::text::Text;
+use it_borrowed::document_text::DocumentText;
 use it_check::{findings_in_policy, push_findings};
 use it_dsse::checks::Checks;
-use it_findings::document_text::DocumentText;
 use it_findings::finding::Finding;
 use it_findings::{policy_members, policy_nulls};
 use it_nonces::SharedNonce;
 use it_verify::documents::Documents;
 use it_verify::evidence::Evidence;
 use it_verify::grounds::Grounds;
-use it_verify::inputs::Inputs;
-use json::Scratch;
+use it_verify::opened::Opened;
 use std::alloc::{AllocError, Global};
 
 /// What is found where a delivery is accepted.
@@ -53,28 +52,28 @@ pub struct Found {
     pub shared_nonces: Sequence<SharedNonce>,
 }
 
-/// All that is found where a delivery of the `inputs` is accepted on these grounds by the `checks`.
+/// All that is found where a delivery of the opened inputs is accepted on these grounds by the
+/// `checks`.
 ///
 /// # Errors
 ///
 /// `AllocError` where memory was refused, or where the checks refuse to check more signatures.
 pub fn found_in<C: Checks>(
     alloc: Global,
-    inputs: &Inputs,
+    opened: &Opened<'_>,
     grounds: &Grounds,
     checks: &C,
 ) -> Result<Found, AllocError>
-    requires shallow { inputs.now.depth ≤ 8 }
-    requires made { IsMadeBy (C.panel checks.now) inputs.now grounds.now.documents
+    requires shallow { opened.now.inputs.now.depth ≤ 8 }
+    requires made { IsMadeBy (C.panel checks.now) opened.now.inputs.now grounds.now.documents
         grounds.now.evidence }
-    ensures { IfOk result (λ found. AreFound (C.panel checks.now) inputs.now
+    ensures { IfOk result (λ found. AreFound (C.panel checks.now) opened.now.inputs.now
         grounds.now.documents grounds.now.evidence found) }
 {
+    let inputs = opened.inputs;
     let documents = &grounds.documents;
     let evidence = &grounds.evidence;
-    let mut scratch = Scratch::new(alloc);
-    let policy = DocumentText::read(alloc, inputs.policy.as_slice(), &mut scratch)?;
-    let of_policy = found_in_policy(alloc, &policy, documents)?;
+    let of_policy = found_in_policy(alloc, &opened.policy, documents)?;
     let of_layout = found_in_layout(alloc, documents, evidence)?;
     let untied = untied_files(alloc, documents, evidence)?;
     let listed_once = files_listed_once(alloc, inputs, documents)?;

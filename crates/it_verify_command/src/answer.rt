@@ -22,7 +22,9 @@ use it_outcome::output::Output;
 use it_report::refusal::Refusal;
 use it_report::verdict::Verdict;
 use it_verify::grounds::{Before, Grounds, Outcome};
+use it_verify::opened::Opened;
 use it_verify::{status_of, verify_grounds};
+use json::Scratch;
 use std::alloc::{AllocError, Global};
 
 /// An output, and what was told before it.
@@ -48,9 +50,11 @@ pub(crate) fn answer_to<'a, C: Checks>(
         (IsAnswer asked.now.form.now (C.panel asked.now.checks.now)
         asked.now.vouched.now asked.now.inputs.now) }
 {
-    match verify_grounds(alloc, asked.inputs, asked.checks)? {
+    let mut scratch = Scratch::new(alloc);
+    let opened = Opened::read(alloc, asked.inputs, &mut scratch)?;
+    match verify_grounds(alloc, &opened, asked.checks)? {
         Outcome::Made(grounds) => {
-            let found = found_in_documents(alloc, asked.inputs, &grounds, asked.checks).ok();
+            let found = found_in_documents(alloc, &opened, &grounds, asked.checks).ok();
             made_answer(alloc, asked, grounds, found)
         }
         Outcome::Refused { refusal, before } => refused_answer(alloc, asked, refusal, before),

@@ -11,7 +11,9 @@ use it_dsse::checks::Checks;
 use it_notes::found_in_documents::FoundInDocuments;
 use it_strict::found::{Found, found_in};
 use it_verify::grounds::{Grounds, Outcome};
+use it_verify::opened::Opened;
 use it_verify::verify_grounds;
+use json::Scratch;
 use std::alloc::{AllocError, Global};
 
 /// What a strict verification comes to.
@@ -33,8 +35,13 @@ pub(crate) fn strict_answer<'a, C: Checks>(
         (IsStrictAnswer asked.now.form.now (C.panel asked.now.checks.now)
         asked.now.vouched.now asked.now.inputs.now) }
 {
-    match verify_grounds(alloc, asked.inputs, asked.checks)? {
-        Outcome::Made(grounds) => strict_made(alloc, asked, grounds),
+    let mut scratch = Scratch::new(alloc);
+    let opened = Opened::read(alloc, asked.inputs, &mut scratch)?;
+    match verify_grounds(alloc, &opened, asked.checks)? {
+        Outcome::Made(grounds) => {
+            let found = found_in(alloc, &opened, &grounds, asked.checks)?;
+            judged(alloc, asked, grounds, found)
+        }
         Outcome::Refused { refusal, before } => {
             let answer = refused_answer(alloc, asked, refusal, before)?;
             Ok(StrictAnswer::Stands(answer))
@@ -42,24 +49,7 @@ pub(crate) fn strict_answer<'a, C: Checks>(
     }
 }
 
-/// The same of delivered files that were made as the owners prescribed.
-fn strict_made<'a, C: Checks>(
-    alloc: Global,
-    asked: &Verification<'a, C>,
-    grounds: Grounds,
-) -> Result<StrictAnswer<'a>, AllocError>
-    requires shallow { asked.now.inputs.now.depth ≤ 8 }
-    requires made { IsMadeBy (C.panel asked.now.checks.now) asked.now.inputs.now grounds.documents
-        grounds.evidence }
-    ensures { IfOk result
-        (IsStrictAnswer asked.now.form.now (C.panel asked.now.checks.now)
-        asked.now.vouched.now asked.now.inputs.now) }
-{
-    let found = found_in(alloc, asked.inputs, &grounds, asked.checks)?;
-    judged(alloc, asked, grounds, found)
-}
-
-/// The same, where this is found.
+/// The answer to delivered files that were made as the owners prescribed, where this is found.
 fn judged<'a, C: Checks>(
     alloc: Global,
     asked: &Verification<'a, C>,

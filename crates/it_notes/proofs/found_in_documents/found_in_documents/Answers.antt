@@ -10,10 +10,10 @@ returns g c = record {
   evidence = c.args.grounds.now.evidence;
   made = c.requires.made;
   of_policy = c.in_ok-found.found.items;
-  in_policy = rw (← c.as_slice.ensures, ← c.in_ok-policy.ensures) c.in_ok-found.ensures;
+  in_policy = rw (← c.args.opened.now.of_inputs) c.in_ok-found.ensures;
   of_layout = c.in_ok-of_layout.of_layout.items;
   in_layout = c.in_ok-of_layout.ensures;
   are_all = c.in_ok-append.ensures.items;
-  noted = rw (← c.as_slice.ensures, ← c.in_ok-policy.ensures) c.in_ok-policy_notes.ensures;
+  noted = rw (← c.args.opened.now.of_inputs) c.in_ok-policy_notes.ensures;
   below = c.in_ok-found_below.ensures;
 }

@@ -7,18 +7,18 @@ counted_below-requires-clause-holds g c =
 
 pub untied_files-requires : goal.untied_files-requires
 untied_files-requires g c =
-    links_differ (g.C.Checks.panel c.args.checks.now) c.args.inputs.now
+    links_differ (g.C.Checks.panel c.args.checks.now) c.args.opened.now.inputs.now
     c.args.grounds.now.documents c.args.grounds.now.evidence c.requires.made.is_evidence
 
 pub files_listed_once-requires : goal.files_listed_once-requires
 files_listed_once-requires g c = c.requires.made.read.delivered
 
 pub nonces_shared-requires : goal.nonces_shared-requires
-nonces_shared-requires g c = rw c.as_slice-2.ensures.value c.in_ok-sublayouts.ensures
+nonces_shared-requires g c = rw c.as_slice.ensures.value c.in_ok-sublayouts.ensures
 
 pub returns : goal.returns
 returns g c = record {
-  policy = rw (c.from.ensures, ← c.as_slice.ensures, ← c.in_ok-policy.ensures) c.in_ok-of_policy.ensures;
+  policy = rw (c.from.ensures, ← c.args.opened.now.of_inputs) c.in_ok-of_policy.ensures;
   layout = rw c.from-2.ensures c.in_ok-of_layout.ensures;
   sublayouts = rw c.from-3.ensures (record {
     sublayouts = c.in_ok-sublayouts.sublayouts.items;

@@ -11,13 +11,13 @@ pub returns-in-Err-clause-outcome : goal.returns-in-Err-clause-outcome
 returns-in-Err-clause-outcome g c =
     let panel = g.C.Checks.panel c.args.checks.now in
     let stopped = c.in-Err.field-0 in
-    refused_outcome panel c.args.inputs.now stopped.before stopped.failure
+    refused_outcome panel c.args.opened.now.inputs.now stopped.before stopped.failure
     c.in-Err.ensures.documents c.refused_with.result c.refused_with.ensures
 
 pub returns-in-Err-gather-clause-outcome : goal.returns-in-Err-gather-clause-outcome
 returns-in-Err-gather-clause-outcome g c =
     let panel = g.C.Checks.panel c.args.checks.now in
-    let inputs = c.args.inputs.now in
+    let inputs = c.args.opened.now.inputs.now in
     let stopped = c.in-Err-gather.ensures.evidence in
     let hold = c.in-Ok.ensures.documents in
     let before = Found (record {
@@ -34,7 +34,7 @@ returns-in-Err-gather-clause-outcome g c =
 pub returns-in-Err-judge-clause-outcome : goal.returns-in-Err-judge-clause-outcome
 returns-in-Err-judge-clause-outcome g c =
     let panel = g.C.Checks.panel c.args.checks.now in
-    let inputs = c.args.inputs.now in
+    let inputs = c.args.opened.now.inputs.now in
     let documents = c.in-Ok.documents in
     let hold = c.in-Ok.ensures.documents in
     let steps = c.in-Ok-gather.evidence.steps in
@@ -52,20 +52,20 @@ returns-in-Err-judge-clause-outcome g c =
 pub returns-in-Err-clause-at_most : goal.returns-in-Err-clause-at_most
 returns-in-Err-clause-at_most g c =
     let panel = g.C.Checks.panel c.args.checks.now in
-    owners_most panel c.args.inputs.now c.args.meter.now c.read_documents.new.meter
+    owners_most panel c.args.opened.now.inputs.now c.args.meter.now c.read_documents.new.meter
     c.read_documents.ensures.at_most
 
 pub returns-in-Err-gather-clause-at_most : goal.returns-in-Err-gather-clause-at_most
 returns-in-Err-gather-clause-at_most g c =
     let panel = g.C.Checks.panel c.args.checks.now in
-    links_most panel c.args.inputs.now c.args.meter.now c.read_documents.new.meter
+    links_most panel c.args.opened.now.inputs.now c.args.meter.now c.read_documents.new.meter
     c.read_documents.ensures.at_most c.in-Ok.documents c.in-Ok.ensures.documents.read
     c.gather.new.meter c.gather.ensures.at_most
 
 pub returns-in-Err-judge-clause-at_most : goal.returns-in-Err-judge-clause-at_most
 returns-in-Err-judge-clause-at_most g c =
     let panel = g.C.Checks.panel c.args.checks.now in
-    files_most panel c.args.inputs.now c.args.meter.now c.read_documents.new.meter
+    files_most panel c.args.opened.now.inputs.now c.args.meter.now c.read_documents.new.meter
     c.read_documents.ensures.at_most c.in-Ok.documents c.in-Ok.ensures.documents.read
     c.gather.new.meter c.gather.ensures.at_most c.judge.new.meter c.judge.ensures.at_most
 
@@ -75,14 +75,14 @@ returns-in-Ok-judge-clause-outcome g c = c.in-Ok-judge.ensures.made
 pub returns-in-Ok-judge-clause-at_most : goal.returns-in-Ok-judge-clause-at_most
 returns-in-Ok-judge-clause-at_most g c =
     let panel = g.C.Checks.panel c.args.checks.now in
-    files_most panel c.args.inputs.now c.args.meter.now c.read_documents.new.meter
+    files_most panel c.args.opened.now.inputs.now c.args.meter.now c.read_documents.new.meter
     c.read_documents.ensures.at_most c.in-Ok.documents c.in-Ok.ensures.documents.read
     c.gather.new.meter c.gather.ensures.at_most c.judge.new.meter c.judge.ensures.at_most
 
 pub returns-in-Ok-judge-clause-at_least : goal.returns-in-Ok-judge-clause-at_least
 returns-in-Ok-judge-clause-at_least g c =
     let panel = g.C.Checks.panel c.args.checks.now in
-    takes_enough panel c.args.inputs.now c.in-Ok.documents c.in-Ok.ensures.documents
+    takes_enough panel c.args.opened.now.inputs.now c.in-Ok.documents c.in-Ok.ensures.documents
     c.in-Ok-gather.evidence c.args.meter.now c.read_documents.new.meter c.gather.new.meter
     c.judge.new.meter c.in-Ok.ensures.counted c.in-Ok-judge.ensures.at_least
     (verdict_of c.in-Ok.documents c.in-Ok-gather.evidence) refl

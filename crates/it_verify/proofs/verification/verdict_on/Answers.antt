@@ -7,5 +7,5 @@ returns-in-Made-clause-verdict g c =
     let panel = g.C.Checks.panel c.args.checks.now in
     let grounds = c.in-Made.grounds in
     IfOk-weaker c.verdict_of.result _ _
-    (λ answer is. is_verdict panel c.args.inputs.now grounds.documents grounds.evidence answer
+    (λ answer is. is_verdict panel c.args.opened.now.inputs.now grounds.documents grounds.evidence answer
     (rw c.in-Made.is at c.in_ok-grounds.ensures.outcome) is) c.verdict_of.ensures.verdict

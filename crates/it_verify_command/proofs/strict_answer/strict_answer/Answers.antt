@@ -4,8 +4,8 @@ use Rattle.it_verify.specs.Grounds.{IsOutcome}
 use Rattle.it_verify.specs.VerifyOutput.{status_of}
 use Rattle.it_verify_command.proofs.strict_answer.strict_answer.Goals as goal
 
-pub strict_made-requires-clause-made : goal.strict_made-requires-clause-made
-strict_made-requires-clause-made g c =
+pub found_in-requires-clause-made : goal.found_in-requires-clause-made
+found_in-requires-clause-made g c =
     let panel = g.C.Checks.panel c.args.asked.now.checks.now in
     subst (IsOutcome panel c.args.asked.now.inputs.now) c.in-Made.is c.in_ok-grounds.ensures
 

@@ -1,27 +1,29 @@
-//! The text of a policy or of the body of a layout.
-ghost use Rattle.std.specs.Prelude.{◌≡◌, IfOk};
+//! The bytes of a document and its tree, read once for all that look at it.
+ghost use Rattle.std.specs.Prelude.{◌≡◌, IfOk, IfSome};
+ghost use Rattle.json.specs.Value.{value_view};
 ghost use Rattle.it_base.specs.Document.{IsDocument};
 ghost use Rattle.it_base.specs.Finds.{FindsAs};
+ghost use Rattle.it_borrowed.specs.Json.{IsJson};
 ghost use Rattle.it_borrowed.specs.Tree.{as_data};
 
-use it_borrowed::document::read_document;
+use crate::document::read_document;
 use json::{Scratch, Value};
 use std::alloc::{AllocError, Global};
 use std::marker::Model;
 
-/// The bytes of a text, and the JSON document that they are, if they are one: what is found in the
-/// text is found in one reading. To a contract it is the bytes.
+/// The bytes of a text, and the JSON document that they are, if they are one: all that looks at the
+/// document looks at one reading. To a contract it is the bytes.
 #[derive(Drop)]
 pub struct DocumentText<'b> {
     /// The bytes.
-    pub(crate) bytes: &'b [u8],
+    bytes: &'b [u8],
     /// The document.
-    pub(crate) document: Option<Value<'b>>,
+    document: Option<Value<'b>>,
 }
 
 impl<'b> Model for DocumentText<'b> {
     ghost use Rattle.std.specs.Prelude.{List, ℕ};
-    ghost use Rattle.it_findings.specs.inside.DocumentText.{IsReadFrom};
+    ghost use Rattle.it_borrowed.specs.inside.DocumentText.{IsReadFrom};
 
     ghost Value = { List ℕ };
 
@@ -48,9 +50,17 @@ impl<'b> DocumentText<'b> {
         Ok(DocumentText { bytes, document })
     }
 
+    /// The bytes. Takes no memory.
+    pub fn bytes(&self) -> &'b [u8]
+        ensures { result.now ≡ self.now }
+    {
+        self.bytes
+    }
+
     /// The document that the bytes are, or `None` where they are none. Takes no memory.
     pub fn document(&self) -> Option<&Value<'b>>
-        ensures { FindsAs (λ document. as_data document.now) (IsDocument self.now) result }
+        ensures document { FindsAs (λ v. as_data v.now) (IsDocument self.now) result }
+        ensures tree { IfSome result (λ v. IsJson self.now (value_view v.now)) }
     {
         self.document.as_ref()
     }

@@ -2,11 +2,14 @@
 use Rattle.std.proofs.Common.{◌≡◌, ℕ, ◌+◌, Bool, true, false, cond, ◌&&◌, ◌⊎◌, inl, inr, List, []}
 use Rattle.std.proofs.Common.{◌∷◌, ◌++◌, Option, Some, None, option_map, unwrap_or, take, length}
 use Rattle.std.proofs.Common.{eqb, arith, refl, ap, sym, ◌∙◌, subst, append_assoc, ◌-◌}
+use Rattle.std.proofs.Common.{◌<◌, length-append}
 use Rattle.std.proofs.Math.Seq.{take-append_seam}
 use Rattle.std.specs.List.{slice_range}
 use Rattle.std.specs.Str.{chars, encode_utf8_all, all_scalars, IsUtf8}
-use Rattle.std.specs.Prelude.{encode_utf8}
+use Rattle.std.specs.Char.{encode_utf8}
 use Rattle.std.proofs.Math.Utf8.{scalar as is_scalar}
+use Rattle.std.proofs.lemmas.Bool.Decides.{nat_tests}
+use Rattle.std.proofs.lemmas.List.{append_cancel_left}
 use Rattle.std.proofs.lemmas.Str.{encodes-chars, scalars-chars}
 use Rattle.it_glob.specs.Pattern.{items_of, items_after, item_at, plain_item, set_at, set_of}
 use Rattle.it_glob.specs.Pattern.{negation_of, body_len, front_of, MatchesChars, Matches}
@@ -70,6 +73,36 @@ item_kind c cs =
       | true ↦ bracket_kind c cs
       | false ↦ plain_kind c
     ]
+
+some_byte : (c : ℕ) → 0 < length (encode_utf8 c)
+unfolding encode_utf8
+some_byte c = grind (arith, nat_tests)
+
+-- items that are all in the front of the characters they are read from match these alone
+abbrev MatchesAlone : List ℕ → List ℕ → List Item → Type 0
+MatchesAlone cs ds items =
+    front_of items ≡ encode_utf8_all cs → MatchesChars items ds → ds ≡ cs
+
+alone : (cs ds : List ℕ) → MatchesAlone cs ds (items_after 0 cs)
+alone [] ds = λ e m. m
+alone (c ∷ cs) ds = elim (item_kind c cs) [
+  | inl is ↦ subst (λ p. MatchesAlone (c ∷ cs) ds (p.0 ∷ items_after p.1 cs)) (sym is)
+      (λ e m.
+      let rest = alone cs m.1 (append_cancel_left (encode_utf8 c) _ _ e) m.4 in
+      m.2 ∙ ap (λ d. d ∷ m.1) m.3 ∙ ap (λ l. c ∷ l) rest)
+  | inr ends ↦ λ e m.
+      let none : length (encode_utf8 c ++ encode_utf8_all cs) ≡ 0 = ap length
+      (sym e ∙ ends (items_after (item_at c cs).1 cs)) in
+      absurd (omega (arith, none, some_byte c, length-append (encode_utf8 c) (encode_utf8_all cs)))
+]
+
+-- a pattern that is its own front matches its text alone
+pub front_alone : (text path : List ℕ) → IsUtf8 text → front_of (items_of text) ≡ text
+    → IsUtf8 path → Matches (items_of text) path → path ≡ text
+unfolding items_of Matches
+front_alone text path u whole v matches =
+    let same = alone (chars text) (chars path) (whole ∙ sym (encodes-chars text u)) matches in
+    sym (encodes-chars path v) ∙ ap encode_utf8_all same ∙ encodes-chars text u
 
 all_true : (a b : Bool) → (a && b) ≡ true → (a ≡ true) × (b ≡ true)
 all_true true true e = (refl, refl)

@@ -78,11 +78,14 @@ impl Pattern {
     }
 
     /// Lends the part of the pattern's text before its first `*`, `?` or set. Each path that the
-    /// pattern matches begins with it. Takes no memory.
+    /// pattern matches begins with it, and where it is the whole text, no other path is matched.
+    /// Takes no memory.
     pub fn literal_front(&self) -> &str
         ensures value { result.now ≡ front_of (items_of self.now) }
         ensures begins { (path : List ℕ) → IsUtf8 path → Matches (items_of self.now) path
             → BeginsWith path result.now }
+        ensures alone { result.now ≡ self.now → (path : List ℕ) → IsUtf8 path
+            → Matches (items_of self.now) path → path ≡ self.now }
     {
         front_of_text(self.text(), self.front)
     }

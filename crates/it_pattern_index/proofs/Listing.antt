@@ -13,7 +13,7 @@ use Rattle.std.proofs.lemmas.List.Elements.{Contains-append_left, Contains-push}
 use Rattle.std.proofs.lemmas.Option.{same_Some, slice_get_within}
 use Rattle.std.proofs.lemmas.Slice.Eq.{bytes_eq-Decides}
 use Rattle.it_glob.specs.Pattern.{BeginsWith, front_of, items_of}
-use Rattle.it_pattern_index.specs.inside.Listed.{AreListed, IsListed, IsPutUnder, IsUnder}
+use Rattle.it_pattern_index.specs.inside.Listed.{AreListed, IsListed, IsMeasured, IsPutUnder, IsUnder}
 use Rattle.it_pattern_index.specs.declared.fronts.Fronts.{Fronts}
 
 abbrev Places : Type 0
@@ -61,11 +61,17 @@ pub front_is : (path front : List ℕ) (len : ℕ) → BeginsWith path front →
 front_is path front len begins long = ap (λ n. take n path) (sym long)
     ∙ ap (take (length front)) begins.1 ∙ take-append_seam front begins.0
 
--- each pattern's place below a number is listed under the pattern's front
+-- a pattern that is measured by some lengths is measured by more
+pub measured_more : (old new : List ℕ) → ((len : ℕ) → Contains old len → Contains new len)
+    → (pattern : List ℕ) → IsMeasured old pattern → IsMeasured new pattern
+measured_more old new kept pattern (inl plain) = inl plain
+measured_more old new kept pattern (inr known) = inr (kept (length (front_of (items_of pattern))) known)
+
+-- each pattern's place below a number is listed
 abbrev pub AreListedBelow : ℕ → List (List ℕ) → Fronts → Type 0
 AreListedBelow most patterns fronts =
     (place : ℕ) (pattern : List ℕ) → place < most → slice_get patterns place ≡ Some pattern
-    → IsListed fronts (front_of (items_of pattern)) place
+    → IsListed fronts pattern place
 
 module _ (patterns : List (List ℕ)) where
   pub listed_none : (fronts : Fronts) → AreListedBelow 0 patterns fronts
@@ -73,17 +79,16 @@ module _ (patterns : List (List ℕ)) where
 
   pub listed_more : (i : ℕ) (pattern : List ℕ) (old new : Fronts)
       → slice_get patterns i ≡ Some pattern → AreListedBelow i patterns old
-      → ((front : List ℕ) (place : ℕ) → IsListed old front place → IsListed new front place)
-      → IsListed new (front_of (items_of pattern)) i → AreListedBelow (i + 1) patterns new
+      → ((text : List ℕ) (place : ℕ) → IsListed old text place → IsListed new text place)
+      → IsListed new pattern i → AreListedBelow (i + 1) patterns new
   listed_more i pattern old new here before kept listed place other below stands =
       elim (cases_lt place i) [
-        | inl less ↦ kept (front_of (items_of other)) place (before place other less stands)
+        | inl less ↦ kept other place (before place other less stands)
         | inr past ↦
             let same : i ≡ place = omega (arith, below, past) in
             let text : pattern ≡ other = same_Some pattern other
             (sym here ∙ ap (slice_get patterns) same ∙ stands) in
-            subst (λ n. IsListed new (front_of (items_of other)) n) same
-            (subst (λ t. IsListed new (front_of (items_of t)) i) text listed)
+            subst (λ n. IsListed new other n) same (subst (λ t. IsListed new t i) text listed)
       ]
 
   pub listed_all : (most : ℕ) (fronts : Fronts) → length patterns ≤ most

@@ -5,8 +5,8 @@ use Rattle.std.specs.List.{slice_get}
 use Rattle.std.proofs.lemmas.List.{take_more}
 use Rattle.std.proofs.lemmas.List.Elements.{Contains-push_cases}
 use Rattle.std.proofs.lemmas.Option.{same_Some, none-some}
-use Rattle.it_glob.specs.Pattern.{front_of, items_of}
 use Rattle.it_pattern_index.specs.FirstMatch.{IsFirstMatch, MatchesAt, NoneMatches}
+use Rattle.it_pattern_index.specs.inside.Listed.{IsMeasured}
 use Rattle.it_pattern_index.specs.inside.Narrowed.{IsNarrowed}
 
 -- an element of one more is an element of those before, or the next
@@ -15,20 +15,20 @@ pub next_or_before : {X : Type 0} (xs : List X) (i : ℕ) (d x : X) → i < leng
 next_or_before xs i d x below c = Contains-push_cases (take i xs) (get_or xs i d) x
     (subst (λ ys. Contains ys x) (take_more xs i d below) c)
 
--- the front of the pattern at a place has one of these lengths
-abbrev pub IsMeasured : List (List ℕ) → List ℕ → ℕ → Type 0
-IsMeasured patterns lengths place = (pattern : List ℕ)
-    × (slice_get patterns place ≡ Some pattern)
-    × Contains lengths (length (front_of (items_of pattern)))
+-- the pattern at a place is plain, or its front has one of these lengths
+abbrev pub IsAskedBy : List (List ℕ) → List ℕ → ℕ → Type 0
+IsAskedBy patterns lengths place = (pattern : List ℕ)
+    × (slice_get patterns place ≡ Some pattern) × IsMeasured lengths pattern
 
 module _ (patterns : List (List ℕ)) (path : List ℕ) where
-  pub narrowed_none : (Asked : ℕ → Type 0) (found : Option ℕ)
-      → ((place : ℕ) → Asked place → MatchesAt patterns path place → ⊥)
-      → IsNarrowed patterns path Asked found found
-  narrowed_none Asked found none = record {
-    sound = λ sound. sound;
-    kept = λ place up. up;
-    reached = λ place asked matches. absurd (none place asked matches);
+  pub narrowed_by : (First Asked : ℕ → Type 0) (old new : Option ℕ)
+      → IsNarrowed patterns path First old new
+      → ((place : ℕ) → Asked place → MatchesAt patterns path place → First place)
+      → IsNarrowed patterns path Asked old new
+  narrowed_by First Asked old new narrowed each = record {
+    sound = narrowed.sound;
+    kept = narrowed.kept;
+    reached = λ place asked matches. narrowed.reached place (each place asked matches) matches;
   }
 
   pub narrowed_then : (First Second Asked : ℕ → Type 0) (old now new : Option ℕ)

@@ -1,15 +1,17 @@
 //! The places of patterns under their literal fronts.
 ghost use Rattle.std.specs.Prelude.{◌≡◌, List, ℕ, Contains, OnOk, length};
 ghost use Rattle.it_glob.specs.Pattern.{BeginsWith};
-ghost use Rattle.it_pattern_index.specs.inside.Listed.{IsListed, IsPutUnder};
+ghost use Rattle.it_pattern_index.specs.inside.Listed.{IsListed, IsMeasured, IsPutUnder, IsUnder};
 
+use it_glob::Pattern;
 use std::alloc::{AllocError, Global};
 use std::collections::BTreeMap;
 
-/// The places of patterns under their literal fronts, and the lengths of these.
+/// The places of patterns under their literal fronts, and the lengths of the fronts of those that
+/// may match more than their own text.
 #[derive(Drop)]
 pub(crate) struct Fronts<'a> {
-    /// The lengths of the fronts in bytes, each once.
+    /// The lengths of these fronts in bytes, each once.
     pub(crate) lengths: Vec<usize>,
     /// The places of the patterns with each front.
     pub(crate) places: BTreeMap<&'a [u8], Vec<usize>>,
@@ -24,18 +26,19 @@ impl<'a> Fronts<'a> {
         }
     }
 
-    /// Lists a place under a front.
+    /// Lists the place of a pattern under its front.
     pub(crate) fn list(
         &mut self,
         alloc: Global,
-        front: &'a [u8],
+        pattern: &'a Pattern,
         place: usize,
     ) -> Result<(), AllocError>
-        ensures listed { OnOk result (IsListed self.new front.now place) }
-        ensures kept { OnOk result ((f : List ℕ) (p : ℕ) → IsListed self.old f p
-            → IsListed self.new f p) }
+        ensures listed { OnOk result (IsListed self.new pattern.now place) }
+        ensures kept { OnOk result ((text : List ℕ) (p : ℕ) → IsListed self.old text p
+            → IsListed self.new text p) }
     {
-        put_length(&mut self.lengths, front.len())?;
+        measure(&mut self.lengths, pattern)?;
+        let front = pattern.literal_front().as_bytes();
         put_under(alloc, &mut self.places, front, place)?;
         Ok(())
     }
@@ -43,7 +46,7 @@ impl<'a> Fronts<'a> {
     /// The places that are listed under the front of a length that a path begins with.
     pub(crate) fn under(&self, path: &[u8], len: usize) -> &[usize]
         ensures { (front : List ℕ) → BeginsWith path.now front → length front ≡ len
-            → (place : ℕ) → IsListed self.now front place → Contains result.now place }
+            → (place : ℕ) → IsUnder self.now.places front place → Contains result.now place }
     {
         if path.len() < len {
             return &[];
@@ -53,6 +56,21 @@ impl<'a> Fronts<'a> {
             None => &[],
         }
     }
+}
+
+/// Puts the length of a pattern's front at the end, unless it is there already, or the pattern is
+/// its own front.
+fn measure(lengths: &mut Vec<usize>, pattern: &Pattern) -> Result<(), AllocError>
+    ensures measured { OnOk result (IsMeasured lengths.new.items pattern.now) }
+    ensures kept { OnOk result ((text : List ℕ) → IsMeasured lengths.old.items text
+        → IsMeasured lengths.new.items text) }
+{
+    let front = pattern.literal_front();
+    if front == pattern.text() {
+        return Ok(());
+    }
+    put_length(lengths, front.len())?;
+    Ok(())
 }
 
 /// Puts a length at the end, unless it is there already.

@@ -10,7 +10,8 @@ use std::marker::Model;
 
 /// Path patterns in an order, of which the first that matches a path is found without asking all:
 /// each path that a pattern matches begins with the pattern's literal front, so only the patterns
-/// with a front that the path begins with are asked. A contract sees the patterns' texts.
+/// with a front that the path begins with are asked, and a pattern that is its own front only where
+/// it is the whole path. A contract sees the patterns' texts.
 #[derive(Drop)]
 pub struct PatternIndex<'a> {
     patterns: Vec<&'a Pattern>,
@@ -39,7 +40,7 @@ impl<'a> PatternIndex<'a> {
     {
         let mut fronts = Fronts::new(alloc);
         for (place, pattern) in patterns.as_slice().iter().enumerate() {
-            fronts.list(alloc, pattern.literal_front().as_bytes(), place)?;
+            fronts.list(alloc, pattern, place)?;
         }
         Ok(PatternIndex { patterns, fronts })
     }
@@ -50,10 +51,12 @@ impl<'a> PatternIndex<'a> {
         ensures { MatchOption result (NoneMatches self.now path.now)
             (IsFirstMatch self.now path.now) }
     {
-        let mut first = None;
+        let patterns = self.patterns.as_slice();
+        let itself = self.fronts.under(path.as_bytes(), path.len());
+        let mut first = earlier_among(patterns, itself, path, None);
         for len in self.fronts.lengths.as_slice() {
             let places = self.fronts.under(path.as_bytes(), *len);
-            first = earlier_among(self.patterns.as_slice(), places, path, first);
+            first = earlier_among(patterns, places, path, first);
         }
         first
     }

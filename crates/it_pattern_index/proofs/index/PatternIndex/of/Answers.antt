@@ -16,8 +16,7 @@ loop-place-preserved c =
     (slice_get_read items (length items) i pattern refl c.loop-place-test.true c.pattern-item.is) in
     listed_more (texts_of items) i pattern.now c.loop-place.fronts c.list.new.self here
     c.loop-place.invariant c.in_ok-list.ensures.kept
-    (subst (λ f. IsListed c.list.new.self f i)
-    (c.as_bytes.ensures.value ∙ c.literal_front.ensures.value) c.in_ok-list.ensures.listed)
+    c.in_ok-list.ensures.listed
 
 pub invariant_of-result : goal.invariant_of-result
 invariant_of-result c =

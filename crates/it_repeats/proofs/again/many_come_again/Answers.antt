@@ -1,7 +1,7 @@
 use Rattle.std.proofs.Common.{◌≡◌, ◌∙◌, ◌<◌, ◌+◌, ◌-◌, ◌∷◌, length, drop, reverse, sym, ap, subst, arith}
 use Rattle.it_repeats.specs.Again.{again_in}
 use Rattle.it_repeats.proofs.SeenNames.{names, names_from, seen_more, told_more}
-use Rattle.it_repeats.proofs.again.come_again.Goals as goal
+use Rattle.it_repeats.proofs.again.many_come_again.Goals as goal
 
 pub loop-left-preserved : goal.loop-left-preserved
 loop-left-preserved c =

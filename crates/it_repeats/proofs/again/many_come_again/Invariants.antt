@@ -1,7 +1,7 @@
 use Rattle.std.proofs.Common.{◌≡◌, ◌≤◌, length, drop, reverse}
 use Rattle.it_repeats.specs.Again.{again_in}
 use Rattle.it_repeats.proofs.SeenNames.{HasNames, names}
-use Rattle.it_repeats.proofs.again.come_again.Given as goal
+use Rattle.it_repeats.proofs.again.many_come_again.Given as goal
 
 -- the names from `left` on are seen, and of them it is told which come again, the last one first
 abbrev pub invariant-loop-left : goal.invariant-loop-left

@@ -1,11 +1,10 @@
-//! The places of a policy and a layout whose objects notes may be on. Those of key objects are left
-//! out where no note is on them: a list may have many keys, each of which is found there by its id.
+//! The places of a policy and a layout whose objects notes are on. Each object is looked at once
+//! here, and is looked up by its place again only where a note is on it.
 ghost use Rattle.std.specs.Prelude.{All, IfOk, OnOk};
 ghost use Rattle.it_member_notes.specs.Places.{IsKeyOfLayout, IsKeyOfPolicy};
 ghost use Rattle.it_member_notes.specs.Places.{IsOfLayout, IsOfPolicy};
 
 use crate::key_notes::key_note_of;
-use crate::object_at::object_at;
 use it_base::text::Text;
 use it_borrowed::document::member;
 use it_borrowed::items::items_of;
@@ -15,13 +14,13 @@ use it_findings::place::{KeyPlace, Place};
 use json::Value;
 use std::alloc::{AllocError, Global};
 
-/// The places of a policy: the whole, its owners with notes, and each expectation with its
+/// The places of a policy that notes are on: the whole, its owners, and its expectations with their
 /// builders.
 pub(crate) fn policy_places(alloc: Global, document: &Value<'_>) -> Result<Vec<Place>, AllocError>
     ensures { IfOk result (λ places. All IsOfPolicy places.items) }
 {
     let mut places = Vec::new(alloc);
-    places.push(Place::Policy)?;
+    push_noted(alloc, Place::Policy, document, &mut places)?;
     for (id, key) in keys_at(alloc, document, "owners")? {
         push_key(alloc, KeyPlace::Owner(id), key, &mut places)?;
     }
@@ -29,36 +28,44 @@ pub(crate) fn policy_places(alloc: Global, document: &Value<'_>) -> Result<Vec<P
     Ok(places)
 }
 
-/// The places of a layout: the whole, its keys with notes, its steps and its inspections.
+/// The places of a layout that notes are on: the whole, its keys, its steps and its inspections.
 pub(crate) fn layout_places(alloc: Global, document: &Value<'_>) -> Result<Vec<Place>, AllocError>
     ensures { IfOk result (λ places. All IsOfLayout places.items) }
 {
     let mut places = Vec::new(alloc);
-    places.push(Place::Layout)?;
+    push_noted(alloc, Place::Layout, document, &mut places)?;
     for (id, key) in keys_at(alloc, document, "keys")? {
         push_key(alloc, KeyPlace::Layout(id), key, &mut places)?;
     }
-    push_steps(document, &mut places)?;
-    push_inspections(document, &mut places)?;
+    push_steps(alloc, document, &mut places)?;
+    push_inspections(alloc, document, &mut places)?;
     Ok(places)
 }
 
-fn push_steps(document: &Value<'_>, places: &mut Vec<Place>) -> Result<(), AllocError>
+fn push_steps(
+    alloc: Global,
+    document: &Value<'_>,
+    places: &mut Vec<Place>,
+) -> Result<(), AllocError>
     requires { All IsOfLayout places.old.items }
     ensures { OnOk result (All IsOfLayout places.new.items) }
 {
-    for step in 0..count_at(document, "steps") {
-        places.push(Place::Step(step))?;
+    for (step, object) in list_at(document, "steps").iter().enumerate() {
+        push_noted(alloc, Place::Step(step), object, places)?;
     }
     Ok(())
 }
 
-fn push_inspections(document: &Value<'_>, places: &mut Vec<Place>) -> Result<(), AllocError>
+fn push_inspections(
+    alloc: Global,
+    document: &Value<'_>,
+    places: &mut Vec<Place>,
+) -> Result<(), AllocError>
     requires { All IsOfLayout places.old.items }
     ensures { OnOk result (All IsOfLayout places.new.items) }
 {
-    for inspection in 0..count_at(document, "inspect") {
-        places.push(Place::Inspection(inspection))?;
+    for (inspection, object) in list_at(document, "inspect").iter().enumerate() {
+        push_noted(alloc, Place::Inspection(inspection), object, places)?;
     }
     Ok(())
 }
@@ -71,49 +78,43 @@ fn push_expectations(
     requires { All IsOfPolicy places.old.items }
     ensures { OnOk result (All IsOfPolicy places.new.items) }
 {
-    for expectation in 0..count_at(document, "expectations") {
-        places.push(Place::Expectation(expectation))?;
-        push_builders(alloc, document, expectation, places)?;
+    for (expectation, object) in list_at(document, "expectations").iter().enumerate() {
+        push_noted(alloc, Place::Expectation(expectation), object, places)?;
+        push_builders(alloc, expectation, object, places)?;
     }
     Ok(())
 }
 
 fn push_builders(
     alloc: Global,
-    document: &Value<'_>,
     expectation: usize,
+    object: &Value<'_>,
     places: &mut Vec<Place>,
 ) -> Result<(), AllocError>
     requires { All IsOfPolicy places.old.items }
     ensures { OnOk result (All IsOfPolicy places.new.items) }
 {
-    let Some(object) = object_at(document, &Place::Expectation(expectation)) else {
-        return Ok(());
-    };
-    for builder in 0..count_at(object, "builders") {
-        push_builder(alloc, document, expectation, builder, places)?;
+    for (builder, object) in list_at(object, "builders").iter().enumerate() {
+        let place = Place::Builder {
+            expectation,
+            builder,
+        };
+        push_noted(alloc, place, object, places)?;
+        push_builder_keys(alloc, expectation, builder, object, places)?;
     }
     Ok(())
 }
 
-fn push_builder(
+fn push_builder_keys(
     alloc: Global,
-    document: &Value<'_>,
     expectation: usize,
     builder: usize,
+    object: &Value<'_>,
     places: &mut Vec<Place>,
 ) -> Result<(), AllocError>
     requires { All IsOfPolicy places.old.items }
     ensures { OnOk result (All IsOfPolicy places.new.items) }
 {
-    let place = Place::Builder {
-        expectation,
-        builder,
-    };
-    let Some(object) = object_at(document, &place) else {
-        return Ok(());
-    };
-    places.push(place)?;
     for (id, key) in keys_at(alloc, object, "keys")? {
         let place = KeyPlace::Builder {
             expectation,
@@ -162,9 +163,12 @@ fn push_noted(
     Ok(())
 }
 
-/// The number of items in the list that is the member of this name, or 0 if it is not a list.
-fn count_at(object: &Value<'_>, name: &str) -> usize {
-    member(object, name).and_then(items_of).map_or(0, Vec::len)
+/// The items of the list that is the member of this name: none if it is not a list.
+fn list_at<'v, 't>(object: &'v Value<'t>, name: &str) -> &'v [Value<'t>] {
+    match member(object, name).and_then(items_of) {
+        Some(items) => items.as_slice(),
+        None => &[],
+    }
 }
 
 /// The members of the object that is the member of this name, with their names: none if it is not

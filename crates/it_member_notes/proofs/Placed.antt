@@ -1,7 +1,9 @@
 -- Notes on the members of the object at a place of a document.
-use Rattle.std.proofs.Common.{◌≡◌, List, All, Contains, IfSome, Option, None, Some, subst, sym}
+use Rattle.std.proofs.Common.{◌≡◌, ℕ, List, All, Contains, Err, IfOk, IfSome, Ok, Option, None, Result}
+use Rattle.std.proofs.Common.{Some, subst, sym}
 use Rattle.std.proofs.lemmas.List.Elements.{All-weaker}
 use Rattle.serde_json.specs.Data.{Data}
+use Rattle.it_base.specs.Document.{IsDocument, OfDocument}
 use Rattle.it_member_notes.specs.KeyMembers.{HasKeyMember, IsKeyMember, place_of}
 use Rattle.it_member_notes.specs.Places.{object_at}
 use Rattle.it_member_notes.specs.UnreadMembers.{HasUnread, IsUnread}
@@ -32,3 +34,19 @@ module _ (document : Data) (places : List Place) (place : Place) (object : Data)
     record { object = object; stands = placed (place_of note) h.1; has = h.0 },
     subst (Contains places) (sym h.1) stands,
   )
+
+-- what is true of a document at places of a kind is true of its bytes, at a place of that kind
+pub true_of_bytes : {N : Type 0} (P : Data → N → Type 0) (Of : Place → Type 0) (at : N → Place)
+    (bytes : List ℕ) (document : Data) (places : List Place) → IsDocument bytes document
+    → All Of places → (notes : List N)
+    → All (λ note. P document note × Contains places (at note)) notes
+    → All (λ note. Of (at note) × OfDocument P bytes note) notes
+true_of_bytes P Of at bytes document places is all =
+    All-weaker (λ note. P document note × Contains places (at note))
+    (λ note. Of (at note) × OfDocument P bytes note)
+    (λ note h. (subst Of h.1.2 (all h.1.0 (at note) h.1.1), (document, is, h.0)))
+
+pub if_ok_both : {T E : Type 0} (r : Result T E) (A B C : T → Type 0)
+    → ((x : T) → A x → B x → C x) → IfOk r A → IfOk r B → IfOk r C
+if_ok_both (Ok x) A B C both a b = both x a b
+if_ok_both (Err e) A B C both a b = tt

@@ -50,7 +50,10 @@ fn push_steps(
     requires { All IsOfLayout places.old.items }
     ensures { OnOk result (All IsOfLayout places.new.items) }
 {
-    for (step, object) in list_at(document, "steps").iter().enumerate() {
+    let Some(steps) = list_at(document, "steps") else {
+        return Ok(());
+    };
+    for (step, object) in steps.iter().enumerate() {
         push_noted(alloc, Place::Step(step), object, places)?;
     }
     Ok(())
@@ -64,7 +67,10 @@ fn push_inspections(
     requires { All IsOfLayout places.old.items }
     ensures { OnOk result (All IsOfLayout places.new.items) }
 {
-    for (inspection, object) in list_at(document, "inspect").iter().enumerate() {
+    let Some(inspections) = list_at(document, "inspect") else {
+        return Ok(());
+    };
+    for (inspection, object) in inspections.iter().enumerate() {
         push_noted(alloc, Place::Inspection(inspection), object, places)?;
     }
     Ok(())
@@ -78,7 +84,10 @@ fn push_expectations(
     requires { All IsOfPolicy places.old.items }
     ensures { OnOk result (All IsOfPolicy places.new.items) }
 {
-    for (expectation, object) in list_at(document, "expectations").iter().enumerate() {
+    let Some(expectations) = list_at(document, "expectations") else {
+        return Ok(());
+    };
+    for (expectation, object) in expectations.iter().enumerate() {
         push_noted(alloc, Place::Expectation(expectation), object, places)?;
         push_builders(alloc, expectation, object, places)?;
     }
@@ -94,7 +103,10 @@ fn push_builders(
     requires { All IsOfPolicy places.old.items }
     ensures { OnOk result (All IsOfPolicy places.new.items) }
 {
-    for (builder, object) in list_at(object, "builders").iter().enumerate() {
+    let Some(builders) = list_at(object, "builders") else {
+        return Ok(());
+    };
+    for (builder, object) in builders.iter().enumerate() {
         let place = Place::Builder {
             expectation,
             builder,
@@ -163,12 +175,9 @@ fn push_noted(
     Ok(())
 }
 
-/// The items of the list that is the member of this name: none if it is not a list.
-fn list_at<'v, 't>(object: &'v Value<'t>, name: &str) -> &'v [Value<'t>] {
-    match member(object, name).and_then(items_of) {
-        Some(items) => items.as_slice(),
-        None => &[],
-    }
+/// The items of the list that is the member of this name, or `None` if it is not a list.
+fn list_at<'v, 't>(object: &'v Value<'t>, name: &str) -> Option<&'v Vec<Value<'t>>> {
+    items_of(member(object, name)?)
 }
 
 /// The members of the object that is the member of this name, with their names: none if it is not

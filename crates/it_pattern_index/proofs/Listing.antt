@@ -1,59 +1,14 @@
 -- The places of patterns under their literal fronts.
-use Rattle.std.proofs.Common.{◌≡◌, ◌++◌, ◌∷◌, [], ℕ, List, Bool, true, false, Option, Some}
-use Rattle.std.proofs.Common.{Contains, Bor, Global, bytes_eq, nat_cmp, length, take, ap, sym, subst, refl}
+use Rattle.std.proofs.Common.{◌≡◌, ℕ, List, Some}
+use Rattle.std.proofs.Common.{Contains, length, take, ap, sym, subst}
 use Rattle.std.proofs.Common.{◌∙◌, ◌+◌, ◌<◌, ◌≤◌, inl, inr, arith}
-use Rattle.std.specs.BTreeMap.{BTreeMap, get_by}
-use Rattle.std.specs.Cmp.Lexicographic.{slice_cmp}
 use Rattle.std.specs.List.{slice_get}
-use Rattle.std.specs.Option.{UnwrapsOrElse}
-use Rattle.std.specs.declared.vec.Vec.{Vec}
 use Rattle.std.proofs.Math.Seq.{take-append_seam}
 use Rattle.std.proofs.lemmas.Bool.{cases_lt}
-use Rattle.std.proofs.lemmas.List.Elements.{Contains-append_left, Contains-push}
 use Rattle.std.proofs.lemmas.Option.{same_Some, slice_get_within}
-use Rattle.std.proofs.lemmas.Slice.Eq.{bytes_eq-Decides}
 use Rattle.it_glob.specs.Pattern.{BeginsWith, front_of, items_of}
-use Rattle.it_pattern_index.specs.inside.Listed.{AreListed, IsListed, IsMeasured, IsPutUnder, IsUnder}
+use Rattle.it_pattern_index.specs.inside.Listed.{AreListed, IsListed, IsMeasured}
 use Rattle.it_pattern_index.specs.declared.fronts.Fronts.{Fronts}
-
-abbrev Places : Type 0
-Places = BTreeMap (Bor (List ℕ)) (Vec ℕ Global)
-
-abbrev at : List ℕ → Places → Option (Vec ℕ Global)
-at front places = get_by (λ key. slice_cmp nat_cmp front key.now) places
-
-module _ (front : List ℕ) (place : ℕ) (old new : Places) (before after : Vec ℕ Global)
-    (Empty : Vec ℕ Global → Type 0) (opened : UnwrapsOrElse (at front old) Empty before)
-    (pushed : after.items ≡ before.items ++ place ∷ [])
-    (added : at front new ≡ Some after)
-    (others : (f : List ℕ) → bytes_eq front f ≡ false → at f new ≡ at f old) where
-  here : IsUnder new front place
-  here = record {
-    found = after;
-    stands = added;
-    has = subst (λ xs. Contains xs place) (sym pushed) (Contains-push before.items place);
-  }
-
-  kept_by : (f : List ℕ) (p : ℕ) → IsUnder old f p → (b : Bool) → bytes_eq front f ≡ b
-      → IsUnder new f p
-  kept_by f p under true e =
-      let same : front ≡ f = (bytes_eq-Decides front f).0 e in
-      let stands : at front old ≡ Some under.found = ap (λ g. at g old) same ∙ under.stands in
-      let known : before ≡ under.found =
-      subst (λ o. UnwrapsOrElse o Empty before) stands opened in
-      record {
-        found = after;
-        stands = ap (λ g. at g new) (sym same) ∙ added;
-        has = subst (λ xs. Contains xs p) (sym pushed)
-            (Contains-append_left before.items (place ∷ []) p
-            (subst (λ (v : Vec ℕ Global). Contains v.items p) (sym known) under.has));
-      }
-  kept_by f p under false e =
-      record { found = under.found; stands = others f e ∙ under.stands; has = under.has }
-
-  -- a place is put at the end of those that a map has under its front
-  pub put : IsPutUnder front place old new
-  put = record { here = here; kept = λ f p under. kept_by f p under (bytes_eq front f) refl }
 
 -- the part of a front's length of what begins with it
 pub front_is : (path front : List ℕ) (len : ℕ) → BeginsWith path front → length front ≡ len

@@ -1,11 +1,12 @@
 //! The places of patterns under their literal fronts.
 ghost use Rattle.std.specs.Prelude.{◌≡◌, List, ℕ, Contains, OnOk, length};
 ghost use Rattle.it_glob.specs.Pattern.{BeginsWith};
-ghost use Rattle.it_pattern_index.specs.inside.Listed.{IsListed, IsMeasured, IsPutUnder, IsUnder};
+ghost use Rattle.it_pattern_index.specs.inside.Listed.{IsListed, IsMeasured};
+ghost use Rattle.it_places.specs.Places.{IsUnder};
 
 use it_glob::Pattern;
+use it_places::Places;
 use std::alloc::{AllocError, Global};
-use std::collections::BTreeMap;
 
 /// The places of patterns under their literal fronts, and the lengths of the fronts of those that
 /// may match more than their own text.
@@ -13,8 +14,8 @@ use std::collections::BTreeMap;
 pub(crate) struct Fronts<'a> {
     /// The lengths of these fronts in bytes, each once.
     pub(crate) lengths: Vec<usize>,
-    /// The places of the patterns with each front.
-    pub(crate) places: BTreeMap<&'a [u8], Vec<usize>>,
+    /// The places of the patterns, under their fronts.
+    pub(crate) places: Places<'a>,
 }
 
 impl<'a> Fronts<'a> {
@@ -22,7 +23,7 @@ impl<'a> Fronts<'a> {
     pub(crate) fn new(alloc: Global) -> Fronts<'a> {
         Fronts {
             lengths: Vec::new(alloc),
-            places: BTreeMap::new(alloc),
+            places: Places::new(alloc),
         }
     }
 
@@ -39,7 +40,7 @@ impl<'a> Fronts<'a> {
     {
         measure(&mut self.lengths, pattern)?;
         let front = pattern.literal_front().as_bytes();
-        put_under(alloc, &mut self.places, front, place)?;
+        self.places.put(alloc, front, place)?;
         Ok(())
     }
 
@@ -51,10 +52,7 @@ impl<'a> Fronts<'a> {
         if path.len() < len {
             return &[];
         }
-        match self.places.get(&path[..len]) {
-            Some(found) => found.as_slice(),
-            None => &[],
-        }
+        self.places.under(&path[..len])
     }
 }
 
@@ -82,18 +80,5 @@ fn put_length(lengths: &mut Vec<usize>, len: usize) -> Result<(), AllocError>
     if !lengths.as_slice().contains(&len) {
         lengths.push(len)?;
     }
-    Ok(())
-}
-
-/// Puts a place at the end of those under a front.
-fn put_under<'a>(
-    alloc: Global,
-    places: &mut BTreeMap<&'a [u8], Vec<usize>>,
-    front: &'a [u8],
-    place: usize,
-) -> Result<(), AllocError>
-    ensures { OnOk result (IsPutUnder front.now place places.old places.new) }
-{
-    places.entry(front)?.or_default().push(place)?;
     Ok(())
 }

@@ -12,10 +12,8 @@ use Rattle.it_prov.specs.Held.{HoldsOrNone, SignedForOne}
 use Rattle.it_prov.specs.declared.answers.Answer.{Answer}
 use Rattle.it_prov.specs.declared.attestations.Attestation.{Attestation}
 use Rattle.it_prov.specs.inside.Judged.{HasAnswers}
+use Rattle.it_prov.specs.inside.Shared.{SomeSigned}
 use Rattle.it_prov.proofs.Holding.{zip_before, zip_beside, zip_length, zip_read, zip_stands}
-
-abbrev pub SomeSigned : List Answer → Type 0
-SomeSigned = Any (λ (answer : Answer). IsTrue answer.signed)
 
 module _ (panel : Panel) (envelope : Envelope) where
   pub signed_for_one : (expectations : List Expectation) (answers : List (List Answer))

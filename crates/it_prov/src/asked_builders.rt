@@ -2,6 +2,7 @@
 ghost use Rattle.std.specs.Prelude.{◌≡◌, [], IfOk, IfSome};
 ghost use Rattle.it_prov.specs.inside.Distinct.{ArePlaced, HasSameAt, IsPlaced};
 
+use crate::builders_by_id::BuildersById;
 use crate::same_keys::{are_same, text_of};
 use it_base::sequence::Sequence;
 use it_docs::policy::{Builder, Expectation};
@@ -15,7 +16,7 @@ use std::marker::Model;
 pub struct AskedBuilders<'a> {
     expectations: &'a [Expectation],
     /// The builders that are asked.
-    pub(crate) distinct: Vec<&'a Builder>,
+    pub(crate) distinct: BuildersById<'a>,
     /// For each builder of each expectation, the place of the one that is asked for it.
     pub(crate) places: Vec<Sequence<usize>>,
 }
@@ -30,11 +31,11 @@ impl<'a> Model for AskedBuilders<'a> {
 
     ghost coded = { coded_list expectation.the_row.coded };
 
-    ghost use Rattle.it_prov.specs.inside.Distinct.{AreAsked};
+    ghost use Rattle.it_prov.specs.inside.Possible.{AreAskedById};
 
     ghost view = { λ it. it.expectations.now };
 
-    ghost invariant = { λ it. AreAsked it.expectations.now it.distinct.items it.places.items };
+    ghost invariant = { λ it. AreAskedById it.expectations.now it.distinct it.places.items };
 }
 
 impl<'a> AskedBuilders<'a> {
@@ -59,7 +60,7 @@ impl<'a> AskedBuilders<'a> {
         let Distinct { builders, .. } = distinct;
         Ok(AskedBuilders {
             expectations,
-            distinct: builders,
+            distinct: BuildersById::of(alloc, builders)?,
             places,
         })
     }

@@ -1,12 +1,11 @@
 //! The answers for the builders of expectations, one of which serves all that have the same keys.
 ghost use Rattle.std.specs.Prelude.{◌≡◌, ◌↔◌, ◌<◌, Any, IfOk, IsTrue, Some, length, slice_get};
-ghost use Rattle.std.specs.List.{AllZip};
-ghost use Rattle.it_prov.specs.Answered.{AreAllAnswers, IsAnswer};
+ghost use Rattle.it_prov.specs.Answered.{AreAllAnswers};
 
-use crate::answers::{Answer, answer_for};
+use crate::answers::Answer;
 use crate::asked_builders::AskedBuilders;
+use crate::some_answers::SomeAnswers;
 use it_base::sequence::Sequence;
-use it_docs::policy::Builder;
 use it_dsse::checks::Checks;
 use it_dsse::envelope::Envelope;
 use std::alloc::{AllocError, Global};
@@ -16,22 +15,22 @@ use std::marker::Model;
 /// contract sees, for each expectation, the list of the answers for its builders.
 #[derive(Drop)]
 pub struct SharedAnswers<'a> {
-    distinct: Vec<Answer>,
+    some: SomeAnswers,
     /// For each builder of each expectation, the place of its answer.
     places: &'a [Sequence<usize>],
 }
 
 impl<'a> Model for SharedAnswers<'a> {
-    ghost use Rattle.std.specs.Prelude.{List, length, map};
+    ghost use Rattle.std.specs.Prelude.{List, map};
     ghost use Rattle.it_prov.specs.declared.answers.Answer.{Answer};
 
     ghost Value = { List (List Answer) };
 
-    ghost use Rattle.it_prov.specs.inside.Shared.{AreCovered, answers_at};
+    ghost use Rattle.it_prov.specs.inside.Shared.{TellsSigned, answers_at};
 
-    ghost view = { λ it. map (answers_at it.distinct.items) it.places.now };
+    ghost view = { λ it. map (answers_at it.some) it.places.now };
 
-    ghost invariant = { λ it. AreCovered (length it.distinct.items) it.places.now };
+    ghost invariant = { λ it. TellsSigned it.some it.places.now };
 }
 
 impl<'a> SharedAnswers<'a> {
@@ -49,9 +48,9 @@ impl<'a> SharedAnswers<'a> {
         ensures { IfOk result
             (AreAllAnswers (C.panel checks.now) envelope.now asked.now) }
     {
-        let distinct = answers_for(alloc, envelope, asked.distinct.as_slice(), checks)?;
+        let some = SomeAnswers::of(alloc, envelope, &asked.distinct, checks)?;
         Ok(SharedAnswers {
-            distinct,
+            some,
             places: asked.places.as_slice(),
         })
     }
@@ -61,7 +60,7 @@ impl<'a> SharedAnswers<'a> {
         ensures { IsTrue result ↔ Any (λ of_one. Any (λ answer. IsTrue answer.signed) of_one)
             self.now }
     {
-        self.distinct.iter().any(|answer| answer.signed)
+        self.some.some_signed
     }
 
     /// The answers for the builders of the expectation at a place.
@@ -70,59 +69,37 @@ impl<'a> SharedAnswers<'a> {
         ensures { slice_get self.now place ≡ Some result }
     {
         BuilderAnswers {
-            distinct: self.distinct.as_slice(),
+            some: &self.some,
             places: self.places[place].as_slice(),
         }
     }
 }
 
-fn answers_for<C: Checks>(
-    alloc: Global,
-    envelope: &Envelope,
-    builders: &[&Builder],
-    checks: &C,
-) -> Result<Vec<Answer>, AllocError>
-    ensures { IfOk result (λ answers.
-        AllZip (λ builder. IsAnswer (C.panel checks.now) envelope.now builder.now) builders.now
-        answers.items) }
-{
-    let mut answers = Vec::with_capacity(alloc, builders.len())?;
-    for builder in builders {
-        answers.push(answer_for(*builder, envelope, checks)?)?;
-    }
-    Ok(answers)
-}
-
 /// The answers for the builders of one expectation. A contract sees their list.
 #[derive(Drop)]
 pub(crate) struct BuilderAnswers<'a> {
-    distinct: &'a [Answer],
+    some: &'a SomeAnswers,
     /// For each builder, the place of its answer.
     places: &'a [usize],
 }
 
 impl<'a> Model for BuilderAnswers<'a> {
-    ghost use Rattle.std.specs.Prelude.{List, length};
+    ghost use Rattle.std.specs.Prelude.{List};
     ghost use Rattle.it_prov.specs.declared.answers.Answer.{Answer};
 
     ghost Value = { List Answer };
 
     ghost use Rattle.it_prov.specs.inside.Shared.{answers_at};
-    ghost use Rattle.it_prov.specs.inside.Indexed.{AreBelow};
 
-    ghost view = { λ it. answers_at it.distinct.now it.places.now };
-
-    ghost invariant = { λ it. AreBelow (length it.distinct.now) it.places.now };
+    ghost view = { λ it. answers_at it.some.now it.places.now };
 }
 
 impl<'a> BuilderAnswers<'a> {
     /// The answer for the builder at an index.
-    pub(crate) fn for_builder(&self, index: usize) -> &Answer
+    pub(crate) fn for_builder(&self, index: usize) -> Answer
         requires { index < length self.now }
-        ensures { slice_get self.now index ≡ Some result.now }
+        ensures { slice_get self.now index ≡ Some result }
     {
-        let places = self.places;
-        let place = places[index];
-        &self.distinct[place]
+        self.some.at(self.places[index])
     }
 }

@@ -1,8 +1,8 @@
-use Rattle.std.proofs.Common.{◌≡◌, ◌∙◌, ◌≤◌, arith, Bor, List, Some, ap, length, option_map, refl, subst, ℕ}
+use Rattle.std.proofs.Common.{◌≡◌, ◌∙◌, ◌≤◌, arith, Bor, List, Some, ap, length, option_map, refl, ℕ}
 use Rattle.std.specs.List.{slice_get}
 use Rattle.std.proofs.lemmas.List.{length-map}
 use Rattle.std.proofs.lemmas.Option.{slice_get-map, slice_get_read}
-use Rattle.it_pattern_index.specs.inside.Listed.{IsListed, texts_of}
+use Rattle.it_pattern_index.specs.inside.Listed.{texts_of}
 use Rattle.it_pattern_index.proofs.Listing.{listed_all, listed_more}
 use Rattle.it_pattern_index.proofs.index.PatternIndex.of.Goals as goal
 

@@ -1,26 +1,21 @@
-use Rattle.std.proofs.Common.{length}
-use Rattle.it_prov.proofs.Holding.{zip_length}
-use Rattle.it_prov.proofs.Sharing.{AreAnswered, answers_serve, asked_covered}
+use Rattle.it_prov.proofs.Sharing.{answers_serve, tells_signed}
 use Rattle.it_prov.proofs.shared_answers.SharedAnswers.of.Goals as goal
+
+pub of-requires : goal.of-requires
+of-requires g c = c.asked.invariant.listed
 
 pub invariant_of-result : goal.invariant_of-result
 invariant_of-result g c =
     let panel = g.C.Checks.panel c.args.checks.now in
     let asked = c.asked.inside in
-    let answered : AreAnswered panel c.args.envelope.now asked.distinct.items
-    c.in_ok-distinct.distinct.items =
-    rw (← c.as_slice.ensures.value) c.in_ok-distinct.ensures in
-    rw c.as_slice-2.ensures.value (asked_covered asked.expectations.now asked.distinct.items
-    asked.places.items (length c.in_ok-distinct.distinct.items)
-    (zip_length _ asked.distinct.items c.in_ok-distinct.distinct.items answered) c.asked.invariant)
+    rw c.as_slice.ensures.value (tells_signed panel c.args.envelope.now asked.distinct.builders.items
+    c.in_ok-some.some c.in_ok-some.ensures asked.expectations.now asked.places.items
+    c.asked.invariant.asked)
 
 pub returns : goal.returns
 returns g c =
     let panel = g.C.Checks.panel c.args.checks.now in
     let asked = c.asked.inside in
-    let answered : AreAnswered panel c.args.envelope.now asked.distinct.items
-    c.in_ok-distinct.distinct.items =
-    rw (← c.as_slice.ensures.value) c.in_ok-distinct.ensures in
-    rw (← c.asked.view_is, c.as_slice-2.ensures.value) (answers_serve panel c.args.envelope.now
-    asked.distinct.items c.in_ok-distinct.distinct.items asked.expectations.now asked.places.items
-    answered c.asked.invariant.same)
+    rw (← c.asked.view_is, c.as_slice.ensures.value) (answers_serve panel c.args.envelope.now
+    asked.distinct.builders.items c.in_ok-some.some c.in_ok-some.ensures asked.expectations.now
+    asked.places.items c.asked.invariant.asked.same)

@@ -1,0 +1,6 @@
+//! Places in a list, under texts.
+#![tactic(auto)]
+
+mod places;
+
+pub use places::Places;

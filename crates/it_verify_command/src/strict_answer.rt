@@ -1,5 +1,5 @@
 //! The answer of a strict verification.
-ghost use Rattle.std.specs.Prelude.{◌≤◌, IfOk};
+ghost use Rattle.std.specs.Prelude.{◌≡◌, ◌≤◌, IfOk};
 ghost use Rattle.it_strict.specs.Found.{AreFound};
 ghost use Rattle.it_verify.specs.Made.{IsMadeBy};
 ghost use Rattle.it_verify_command.specs.Strictly.{IsFoundIn};
@@ -37,9 +37,24 @@ pub(crate) fn strict_answer<'a, C: Checks>(
 {
     let mut scratch = Scratch::new(alloc);
     let opened = Opened::read(alloc, asked.inputs, &mut scratch)?;
-    match verify_grounds(alloc, &opened, asked.checks)? {
+    answer_on(alloc, asked, &opened)
+}
+
+/// The same, for what is asked as it was opened.
+fn answer_on<'a, C: Checks>(
+    alloc: Global,
+    asked: &Verification<'a, C>,
+    opened: &Opened<'_>,
+) -> Result<StrictAnswer<'a>, AllocError>
+    requires shallow { asked.now.inputs.now.depth ≤ 8 }
+    requires opened { opened.now.inputs.now ≡ asked.now.inputs.now }
+    ensures { IfOk result
+        (IsStrictAnswer asked.now.form.now (C.panel asked.now.checks.now)
+        asked.now.vouched.now asked.now.inputs.now) }
+{
+    match verify_grounds(alloc, opened, asked.checks)? {
         Outcome::Made(grounds) => {
-            let found = found_in(alloc, &opened, &grounds, asked.checks)?;
+            let found = found_in(alloc, opened, &grounds, asked.checks)?;
             judged(alloc, asked, grounds, found)
         }
         Outcome::Refused { refusal, before } => {

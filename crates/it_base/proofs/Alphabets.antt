@@ -8,9 +8,11 @@ use Rattle.std.proofs.lemmas.List.Folds.{list_any-append}
 use Rattle.std.specs.List.{list_any}
 use Rattle.std.specs.declared.alloc.AllocError.{AllocError}
 use Rattle.std.specs.declared.alloc.Global.{Global}
+use Rattle.std.specs.declared.vec.Vec.{Vec}
+use Rattle.base64.specs.declared.decode.DecodeAllocError.{DecodeAllocError}
 use Rattle.base64.proofs.Tables.{all_below_at}
 use Rattle.base64.specs.Engines.{standard}
-use Rattle.base64.specs.GeneralPurpose.{decoded_of}
+use Rattle.base64.specs.GeneralPurpose.{decoded_of, encode_of}
 use Rattle.base64.specs.Rfc4648.{encode_symbols, padding_len}
 use Rattle.base64.specs.Tables.{all_below}
 use Rattle.it_base.specs.Base64Text.{base64_decoded, base64_encoded, is_url_mark}
@@ -59,3 +61,11 @@ pub reads_back : (bytes : List ℕ) (result : Result (String Global) AllocError)
 unfolding base64_decoded
 reads_back bytes (Ok text) is decodes = rw (is, no_mark bytes, ← is) decodes
 reads_back bytes (Err e) is decodes = tt
+
+-- a text that the standard alphabet writes has no mark of the other one
+pub unmarked : (text : List ℕ) (result : Result (Vec ℕ Global) DecodeAllocError)
+    → IfOk result (λ bytes. text ≡ encode_of standard bytes.items)
+    → IfOk result (λ bytes. list_any is_url_mark text ≡ false)
+unfolding base64_encoded
+unmarked text (Ok bytes) is = rw is (no_mark bytes.items)
+unmarked text (Err e) is = tt

@@ -1,5 +1,6 @@
 //! Bytes that a document holds as base64 text (RFC 4648).
-ghost use Rattle.std.specs.Prelude.{◌≡◌, ◌≢◌, ◌⊎◌, alloc_error, Some, IfOk, IfErr, string_bytes};
+ghost use Rattle.std.specs.Prelude.{◌≡◌, ◌≢◌, ◌⊎◌, alloc_error, false, Some, IfOk, IfErr};
+ghost use Rattle.std.specs.Prelude.{IfSome, string_bytes};
 ghost use Rattle.std.specs.List.{list_any};
 ghost use Rattle.serde_json.specs.View.{view};
 ghost use Rattle.base64.specs.Engines.{standard, url_safe};
@@ -73,7 +74,8 @@ pub fn base64_bytes(alloc: Global, value: &Value) -> Result<Option<Sequence<u8>>
 }
 
 /// The bytes that a text encodes with padding, or `None` where it is not base64. One mark of the
-/// alphabet for URLs (RFC 4648 section 5) selects that for the whole text.
+/// alphabet for URLs (RFC 4648 section 5) selects that for the whole text. No text with such a mark
+/// is one of the standard alphabet, so marks are looked for only where that alphabet refuses.
 ///
 /// # Errors
 ///
@@ -81,23 +83,21 @@ pub fn base64_bytes(alloc: Global, value: &Value) -> Result<Option<Sequence<u8>>
 pub fn decode_base64(alloc: Global, text: &[u8]) -> Result<Option<Sequence<u8>>, AllocError>
     ensures { IfOk result (λ found. found ≡ base64_decoded text.now) }
 {
+    if let Some(bytes) = decode_standard(alloc, text)? {
+        return Ok(Some(bytes));
+    }
     if has_url_mark(text) {
         decode_url_safe(alloc, text)
     } else {
-        decode_standard(alloc, text)
+        Ok(None)
     }
 }
 
-/// Whether a text has a mark of the URL-safe alphabet. It reads every byte instead of stopping at
-/// the first mark, so that many bytes can be checked at once.
+/// Whether a text has a mark of the URL-safe alphabet.
 fn has_url_mark(text: &[u8]) -> bool
     ensures { result ≡ list_any is_url_mark text.now }
 {
-    let mut found = false;
-    for byte in text {
-        found |= (*byte == b'-') | (*byte == b'_');
-    }
-    found
+    text.iter().any(|byte| matches!(byte, b'-' | b'_'))
 }
 
 fn decode_url_safe(alloc: Global, text: &[u8]) -> Result<Option<Sequence<u8>>, AllocError>
@@ -107,13 +107,15 @@ fn decode_url_safe(alloc: Global, text: &[u8]) -> Result<Option<Sequence<u8>>, A
 }
 
 /// The bytes that a text encodes in the standard alphabet with padding (RFC 4648 section 4), or
-/// `None` where it encodes none.
+/// `None` where it encodes none, such as a text with a mark of the alphabet for URLs.
 ///
 /// # Errors
 ///
 /// `AllocError` where memory was refused.
 pub fn decode_standard(alloc: Global, text: &[u8]) -> Result<Option<Sequence<u8>>, AllocError>
-    ensures { IfOk result (λ found. found ≡ decoded_of standard text.now) }
+    ensures bytes { IfOk result (λ found. found ≡ decoded_of standard text.now) }
+    ensures unmarked { IfOk result
+        (λ found. IfSome found (λ bytes. list_any is_url_mark text.now ≡ false)) }
 {
     settled(standard_outcome(alloc, text))
 }
@@ -121,6 +123,7 @@ pub fn decode_standard(alloc: Global, text: &[u8]) -> Result<Option<Sequence<u8>
 #[tactic(auto, unfolding(base64::specs::GeneralPurpose::decoded_of))]
 fn standard_outcome(alloc: Global, text: &[u8]) -> Result<Vec<u8>, DecodeAllocError>
     ensures ok { IfOk result (λ bytes. decoded_of standard text.now ≡ Some bytes.items) }
+    ensures unmarked { IfOk result (λ bytes. list_any is_url_mark text.now ≡ false) }
     ensures err { IfErr result
         (λ e. (e ≡ DecodeAllocError.OutOfMemory) ⊎ (decoded_of standard text.now ≡ None)) }
 {

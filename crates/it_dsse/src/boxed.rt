@@ -3,16 +3,17 @@ ghost use Rattle.std.specs.Prelude.{◌≡◌, ◌<◌, IfSome, length, map};
 ghost use Rattle.it_dsse.specs.Joined.{joined};
 ghost use Rattle.it_dsse.specs.Meter.{raised};
 ghost use Rattle.it_dsse.specs.Panel.{panel_of};
-ghost use Rattle.it_dsse.specs.Signed.{tries_for};
+ghost use Rattle.it_dsse.specs.Signed.{message_of, tries_for};
 ghost use Rattle.it_dsse.specs.Vouched.{is_vouched, is_vouched_by, tries_by};
 
 use crate::asked::Asked;
 use crate::check::SignatureCheck;
 use crate::checks::Checks;
-use crate::envelope::Signature;
+use crate::envelope::{Envelope, Signature};
 use crate::key_name::KeyName;
 use crate::key_object::KeyObject;
 use crate::meter::Meter;
+use crate::pre_authentication::{LengthDigits, parts_of};
 use std::alloc::AllocError;
 
 /// A panel of boxed checks, which was lent. A key's name is the place of its check and its number
@@ -82,9 +83,36 @@ pub(crate) fn key_in(
     None
 }
 
+/// Whether some signature that is admitted for an id is valid for a key of the panel. The signed
+/// message is handed over in the parts of its pre-authentication encoding.
+pub(crate) fn is_vouched_in(
+    envelope: &Envelope,
+    id: &str,
+    key: (usize, u32),
+    panel: &[Box<dyn SignatureCheck>],
+    meter: &mut Meter,
+) -> bool
+    requires placed { key.0 < length panel.now }
+    ensures answer { result ≡ is_vouched (panel_of (map meaning panel.now)) id.now key
+        (message_of envelope.now) envelope.now.signatures }
+    ensures counted { meter.new ≡ raised meter.old (tries_for (panel_of (map meaning panel.now))
+        id.now key (message_of envelope.now) envelope.now.signatures) }
+{
+    let kind = envelope.payload_type.as_str();
+    let body = envelope.payload.as_slice();
+    let mut digits = LengthDigits::new();
+    let message = parts_of(kind, body, &mut digits);
+    let asked = Asked {
+        message: &message,
+        signatures: envelope.signatures.as_slice(),
+        id,
+    };
+    any_valid_in(panel, key, &asked, meter)
+}
+
 /// Whether one of the signatures is admitted and valid for a key, by the check at the key's place.
 /// The meter counts those that the check tries.
-pub(crate) fn any_valid_in(
+fn any_valid_in(
     panel: &[Box<dyn SignatureCheck>],
     key: (usize, u32),
     asked: &Asked<'_>,

@@ -1,18 +1,15 @@
 //! Who signed an envelope, by a panel of boxed checks.
-ghost use Rattle.std.specs.Prelude.{◌≡◌, ◌<◌, IfOk, length, map, string_bytes};
+ghost use Rattle.std.specs.Prelude.{◌≡◌, IfOk, map, string_bytes};
 ghost use Rattle.it_base.specs.Finds.{Finds};
 ghost use Rattle.it_dsse.specs.Meter.{raised};
 ghost use Rattle.it_dsse.specs.Panel.{panel_of};
-ghost use Rattle.it_dsse.specs.Signed.{AreThose, IsSigner, Signed, message_of, tries, tries_for};
-ghost use Rattle.it_dsse.specs.Vouched.{is_vouched};
+ghost use Rattle.it_dsse.specs.Signed.{AreThose, IsSigner, Signed, tries};
 
-use crate::asked::Asked;
-use crate::boxed::{Boxed, any_valid_in, key_in};
+use crate::boxed::{Boxed, is_vouched_in, key_in};
 use crate::check::SignatureCheck;
 use crate::envelope::Envelope;
 use crate::key_object::KeyObject;
 use crate::meter::Meter;
-use crate::pre_authentication::{LengthDigits, parts_of};
 use crate::signer::any_admitted;
 use crate::signers::signed_ids_by;
 use std::alloc::{AllocError, Global};
@@ -44,33 +41,6 @@ pub fn signed_by(
     };
     let vouched = is_vouched_in(envelope, id, key, panel, meter);
     if vouched { Some(key) } else { None }
-}
-
-/// Whether some signature that is admitted for an id is valid for a key of the panel. The signed
-/// message is handed over in the parts of its pre-authentication encoding.
-fn is_vouched_in(
-    envelope: &Envelope,
-    id: &str,
-    key: (usize, u32),
-    panel: &[Box<dyn SignatureCheck>],
-    meter: &mut Meter,
-) -> bool
-    requires placed { key.0 < length panel.now }
-    ensures answer { result ≡ is_vouched (panel_of (map meaning panel.now)) id.now key
-        (message_of envelope.now) envelope.now.signatures }
-    ensures counted { meter.new ≡ raised meter.old (tries_for (panel_of (map meaning panel.now))
-        id.now key (message_of envelope.now) envelope.now.signatures) }
-{
-    let kind = envelope.payload_type.as_str();
-    let body = envelope.payload.as_slice();
-    let mut digits = LengthDigits::new();
-    let message = parts_of(kind, body, &mut digits);
-    let asked = Asked {
-        message: &message,
-        signatures: envelope.signatures.as_slice(),
-        id,
-    };
-    any_valid_in(panel, key, &asked, meter)
 }
 
 /// Those of the given ids whose key signed the envelope, in the order given.

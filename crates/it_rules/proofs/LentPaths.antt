@@ -13,7 +13,7 @@ use Rattle.std.proofs.lemmas.List.Folds.{Any-from_list_any}
 use Rattle.std.proofs.lemmas.Map.Keys.{any_passes_from_place, Less-from_sorted}
 use Rattle.std.proofs.lemmas.Option.{slice_get-map}
 use Rattle.it_digest.specs.Artifacts.{ArtifactMap}
-use Rattle.it_rules.specs.inside.Marks.{ArePathsOf, IsListed}
+use Rattle.it_rules.specs.Paths.{ArePathsOf, IsListed}
 use Rattle.it_rules.specs.Rules.{Stands}
 use Rattle.it_rules.proofs.Listed.{Contains-map_cases}
 use Rattle.it_rules.proofs.PathOrder.{path_cmp, same_path, same_self}

@@ -5,7 +5,8 @@ use Rattle.std.proofs.Common.{Some, Bor, sym, ap, subst, refl, arith}
 use Rattle.std.specs.List.{slice_get}
 use Rattle.std.proofs.lemmas.Bool.{cases_lt}
 use Rattle.it_rules.proofs.Listed.{same_place}
-use Rattle.it_rules.specs.inside.Marks.{Covers, IsLeft, is_marked}
+use Rattle.it_rules.specs.Ranges.{Covers}
+use Rattle.it_rules.specs.Marks.{IsLeft, is_marked}
 
 -- the marks before a place are those after the rule, and from the place on those before it
 pub record Marking (IsClaimed : List ℕ → Type 0) (paths : List (Bor (List ℕ)))

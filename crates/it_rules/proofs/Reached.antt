@@ -8,8 +8,9 @@ use Rattle.std.proofs.lemmas.Option.{get_or_from_slice_get}
 use Rattle.std.proofs.lemmas.Str.{IsUtf8-append, IsUtf8-from_ascii, IsUtf8-past_char}
 use Rattle.it_glob.specs.Pattern.{BeginsWith}
 use Rattle.it_rules.specs.FolderPrefix.{folder_prefix, lacks_slash}
-use Rattle.it_rules.specs.inside.Marks.{ArePaths, Covers, IsMatchUnder}
-use Rattle.it_rules.specs.Ranges.{IsFrontRange}
+use Rattle.it_rules.specs.Paths.{ArePaths}
+use Rattle.it_rules.specs.inside.Reach.{IsMatchUnder}
+use Rattle.it_rules.specs.Ranges.{Covers, IsFrontRange}
 use Rattle.it_rules.specs.Rules.{Claims, IsMatch}
 use Rattle.it_rules.specs.Item.{Recorded, Links}
 use Rattle.it_docs.specs.declared.rule.Rule.TheVariants.{Match}

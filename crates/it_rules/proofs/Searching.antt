@@ -9,7 +9,8 @@ use Rattle.std.proofs.lemmas.Bool.{cases_lt}
 use Rattle.std.proofs.lemmas.Cmp.{nat_list_cmp_total, tied_itself}
 use Rattle.std.proofs.lemmas.List.Sorted.{searchable_from_sorted}
 use Rattle.std.proofs.lemmas.Option.{get_or_from_slice_get}
-use Rattle.it_rules.specs.inside.Marks.{ArePaths, IsLeft, is_marked}
+use Rattle.it_rules.specs.Paths.{ArePaths}
+use Rattle.it_rules.specs.Marks.{IsLeft, is_marked}
 use Rattle.it_rules.specs.Rules.{IsLeastMatch, IsMatch}
 use Rattle.it_rules.proofs.Listed.{same_place, slice_get_within}
 use Rattle.it_rules.proofs.PathOrder.{not_below_itself, not_both, path_cmp}

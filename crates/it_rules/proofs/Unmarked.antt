@@ -10,7 +10,7 @@ use Rattle.it_docs.specs.declared.rule.Side.{Side}
 use Rattle.it_rules.specs.Item.{Links, Recorded}
 use Rattle.it_rules.specs.Ranges.{AreInOrder}
 use Rattle.it_rules.specs.Rules.{AreFree, AreSorted, IsFree}
-use Rattle.it_rules.specs.inside.Marks.{AreLeft, IsLeft, is_marked}
+use Rattle.it_rules.specs.Marks.{AreLeft, IsLeft, is_marked}
 use Rattle.it_rules.proofs.Kept.{Kept}
 use Rattle.it_rules.proofs.LentPaths.{bytes}
 use Rattle.it_rules.proofs.Listed.{mapped_place, slice_get_within}

@@ -1,2 +1,2 @@
 pub mod FrontOrder
-pub mod Marks
+pub mod Reach

@@ -4,7 +4,8 @@ ghost use Rattle.it_rules.specs.Item.{links_of, recorded_of};
 ghost use Rattle.it_rules.specs.Rules.{AreFree, NamesDiffer};
 
 use crate::item::{Item, Named, Subject};
-use crate::marks::{consume, paths_of, unmarked};
+use crate::marks::{consume, unmarked};
+use crate::paths::paths_of;
 use it_docs::rule::{Rule, Side};
 use std::alloc::{AllocError, Global};
 

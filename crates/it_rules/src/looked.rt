@@ -9,8 +9,8 @@ use it_docs::rule::Rule;
 use std::slice;
 
 /// The links that a rule looks at: for a `MATCH`, only the one that it names. So the name is looked
-/// up once per rule, not once per path.
-pub(crate) fn looked_at<'a, 'b>(rule: &Rule, links: &'b [Named<'a>]) -> &'b [Named<'a>]
+/// up once per rule, not once per path. Takes no memory.
+pub fn looked_at<'a, 'b>(rule: &Rule, links: &'b [Named<'a>]) -> &'b [Named<'a>]
     requires { NamesDiffer (links_of links.now) }
     ensures differ { NamesDiffer (links_of result.now) }
     ensures same { (side : Side) (item : Recorded) (path : List ℕ)

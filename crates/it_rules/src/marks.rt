@@ -1,29 +1,18 @@
-//! The paths of one side of an item, with a mark on each that a rule has consumed.
+//! Paths with a mark on some of them, such as on those that a rule has consumed.
 ghost use Rattle.std.specs.Prelude.{◌≡◌, ◌↔◌, List, ℕ, length, map, IfOk, OnOk, IsTrue};
 ghost use Rattle.std.specs.Prelude.{MatchOption};
 ghost use Rattle.it_rules.specs.Item.{links_of, recorded_of};
-ghost use Rattle.it_rules.specs.inside.Marks.{AreLeft, ArePaths, ArePathsOf, IsLeft};
+ghost use Rattle.it_rules.specs.Paths.{ArePaths};
+ghost use Rattle.it_rules.specs.Marks.{AreLeft, IsLeft};
 ghost use Rattle.it_rules.specs.Rules.{Claims, IsLeastMatch, IsMatch, NamesDiffer};
 
 use crate::claims::claims;
 use crate::item::Subject;
 use crate::looked::looked_at;
 use crate::reach::{claimed_range, pattern_range};
-use it_digest::artifacts::Artifacts;
 use it_docs::rule::Rule;
 use it_glob::Pattern;
 use std::alloc::{AllocError, Global};
-
-/// The paths of a map, in the order of their bytes.
-pub(crate) fn paths_of(alloc: Global, artifacts: &Artifacts) -> Result<Vec<&str>, AllocError>
-    ensures { IfOk result (λ paths. ArePathsOf artifacts.now paths.items) }
-{
-    let mut paths = Vec::new(alloc);
-    for path in artifacts.paths() {
-        paths.push(path.as_str())?;
-    }
-    Ok(paths)
-}
 
 /// Marks each unmarked path that a rule claims on what it is judged on.
 pub(crate) fn consume(
@@ -85,8 +74,12 @@ pub(crate) fn is_left(paths: &[&str], marks: &[bool], path: &str) -> bool
     }
 }
 
-/// The unmarked paths, in their order.
-pub(crate) fn unmarked<'a>(
+/// The unmarked paths, in their order. There is a mark for each of the `paths`.
+///
+/// # Errors
+///
+/// `AllocError` where memory was refused.
+pub fn unmarked<'a>(
     alloc: Global,
     paths: &[&'a str],
     marks: &[bool],

@@ -2,7 +2,9 @@
 ghost use Rattle.std.specs.Prelude.{IfOk};
 ghost use Rattle.it_docs.specs.declared.rule.Side.{Side};
 ghost use Rattle.it_rules.specs.Item.{Links, Recorded};
-ghost use Rattle.it_rules.specs.inside.Marks.{ArePaths, Covers, IsMatchUnder};
+ghost use Rattle.it_rules.specs.Paths.{ArePaths};
+ghost use Rattle.it_rules.specs.Ranges.{Covers};
+ghost use Rattle.it_rules.specs.inside.Reach.{IsMatchUnder};
 ghost use Rattle.it_rules.specs.Rules.{Claims, IsMatch};
 
 use crate::folder_prefix::join_folder;
@@ -11,8 +13,13 @@ use it_docs::rule::Rule;
 use it_glob::Pattern;
 use std::alloc::{AllocError, Global};
 
-/// A range that has every path that a rule claims.
-pub(crate) fn claimed_range(
+/// A range that has every path that a rule claims: the places of the paths that begin with the
+/// rule's front, from the first number to before the second.
+///
+/// # Errors
+///
+/// `AllocError` where memory was refused.
+pub fn claimed_range(
     alloc: Global,
     rule: &Rule,
     paths: &[&str],

@@ -1,11 +1,13 @@
 //! Running a list of rules.
 ghost use Rattle.std.specs.Prelude.{◌≡◌, ◌↔◌, length, IfOk, IfSome, IsNone, MatchOption};
 ghost use Rattle.it_rules.specs.Item.{links_of, recorded_of};
-ghost use Rattle.it_rules.specs.inside.Marks.{ArePaths, IsLeft};
+ghost use Rattle.it_rules.specs.Paths.{ArePaths};
+ghost use Rattle.it_rules.specs.Marks.{IsLeft};
 ghost use Rattle.it_rules.specs.Rules.{FailsWith, HoldsOver, IsFirstFault, NamesDiffer, RulesHold};
 
 use crate::item::{Item, Named, Subject};
-use crate::marks::{consume, is_left, least_match, paths_of};
+use crate::marks::{consume, is_left, least_match};
+use crate::paths::paths_of;
 use it_base::text::Text;
 use it_docs::rule::{Rule, Side};
 use std::alloc::{AllocError, Global};

@@ -1,3 +1,2 @@
-pub mod ProductPaths
-pub mod Seen
+pub mod Marking
 pub mod Tied

@@ -1,1 +1,1 @@
-pub mod FirstClaim
+pub mod Marking

@@ -2,7 +2,7 @@
 //! products of a step is tied to that step, and what any other rule takes is not.
 #![tactic(auto)]
 
-mod claimed;
+mod marks;
 mod ties;
 mod untied;
 

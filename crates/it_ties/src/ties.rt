@@ -1,23 +1,13 @@
 //! Whether a rule ties what it claims to a step.
-ghost use Rattle.std.specs.Prelude.{◌↔◌, IsTrue, MatchOption};
-ghost use Rattle.std.specs.Option.{option_copied};
+ghost use Rattle.std.specs.Prelude.{◌↔◌, IsTrue};
 ghost use Rattle.it_ties.specs.Ties.{NamesStep, Ties};
 
 use it_docs::rule::{Rule, Side};
 use it_docs::step::{Step, step_named};
 
-/// Whether there is a `rule`, and it ties what it claims to one of the `steps`. Takes no memory.
-pub(crate) fn is_tying(steps: &[Step], rule: Option<&Rule>) -> bool
-    ensures { IsTrue result ↔ MatchOption (option_copied rule.entry) ⊥ (Ties steps.now) }
-{
-    match rule {
-        Some(rule) => ties(steps, rule),
-        None => false,
-    }
-}
-
 /// Whether the rule ties what it claims to one of the `steps`: `MATCH` with the products of a step.
-fn ties(steps: &[Step], rule: &Rule) -> bool
+/// Takes no memory.
+pub(crate) fn ties(steps: &[Step], rule: &Rule) -> bool
     ensures { IsTrue result ↔ Ties steps.now rule.now }
 {
     match rule {

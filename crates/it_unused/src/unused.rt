@@ -2,10 +2,11 @@
 ghost use Rattle.std.specs.Prelude.{IfOk};
 ghost use Rattle.it_unused.specs.Unused.{AreUnused};
 
-use crate::paths::{paths_of, speaks_of_some};
+use crate::paths::speaks_of_some;
 use crate::used::used_places;
 use it_digest::artifacts::Artifacts;
 use it_docs::policy::Expectation;
+use it_rules::paths::paths_of;
 use std::alloc::{AllocError, Global};
 
 /// The places, from 0 and in their order, of the expectations that are unused in a delivery: each

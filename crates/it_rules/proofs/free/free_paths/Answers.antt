@@ -2,7 +2,7 @@ use Rattle.std.proofs.Common.{◌≡◌, ◌++◌, ◌∙◌, length, map, take,
 use Rattle.std.proofs.Math.Seq.{take-append_seam}
 use Rattle.std.proofs.lemmas.Option.{slice_get_read}
 use Rattle.it_rules.specs.Item.{links_of, recorded_of}
-use Rattle.it_rules.specs.inside.Marks.{IsLeft}
+use Rattle.it_rules.specs.Marks.{IsLeft}
 use Rattle.it_rules.proofs.LentPaths.{bytes}
 use Rattle.it_rules.proofs.Running.{free_more}
 use Rattle.it_rules.proofs.Unmarked.{free_from_left}

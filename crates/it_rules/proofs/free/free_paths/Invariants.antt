@@ -1,7 +1,7 @@
 use Rattle.std.proofs.Common.{◌≡◌, ◌↔◌, ℕ, List, length}
 use Rattle.it_rules.specs.Item.{links_of, recorded_of}
 use Rattle.it_rules.specs.Rules.{IsFree}
-use Rattle.it_rules.specs.inside.Marks.{IsLeft}
+use Rattle.it_rules.specs.Marks.{IsLeft}
 use Rattle.it_rules.proofs.free.free_paths.Given as goal
 
 -- the unmarked paths are those that are free after the rules so far

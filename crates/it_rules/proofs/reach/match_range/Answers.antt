@@ -1,6 +1,6 @@
 use Rattle.std.proofs.Common.{◌≡◌, ◌++◌, ◌∙◌}
 use Rattle.it_rules.specs.FolderPrefix.{folder_prefix}
-use Rattle.it_rules.specs.inside.Marks.{IsMatchUnder}
+use Rattle.it_rules.specs.inside.Reach.{IsMatchUnder}
 use Rattle.it_rules.proofs.Reached.{folder_begins, front_covers}
 use Rattle.it_rules.proofs.reach.match_range.Goals as goal
 

@@ -1,7 +1,7 @@
 use Rattle.std.proofs.Common.{◌≡◌, ◌++◌, ◌∙◌, length, take, drop, refl, arith, subst, ap}
 use Rattle.std.proofs.Math.Seq.{take-append_seam}
 use Rattle.std.proofs.lemmas.Option.{slice_get_read}
-use Rattle.it_rules.specs.inside.Marks.{IsLeft}
+use Rattle.it_rules.specs.Marks.{IsLeft}
 use Rattle.it_rules.proofs.Running.{one_more, fault_of, fault_refutes, all_run}
 use Rattle.it_rules.proofs.rules.run_rules.Goals as goal
 

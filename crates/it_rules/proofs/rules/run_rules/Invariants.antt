@@ -1,6 +1,6 @@
 use Rattle.std.proofs.Common.{◌≡◌, length}
 use Rattle.it_rules.specs.Item.{links_of, recorded_of}
-use Rattle.it_rules.specs.inside.Marks.{IsLeft}
+use Rattle.it_rules.specs.Marks.{IsLeft}
 use Rattle.it_rules.proofs.Running.{Running}
 use Rattle.it_rules.proofs.rules.run_rules.Given as goal
 

@@ -5,7 +5,7 @@ use Rattle.std.specs.List.Sorted.{IsStrictlySortedBy}
 use Rattle.std.specs.Str.{IsUtf8}
 use Rattle.std.proofs.lemmas.List.Elements.{All-push}
 use Rattle.it_rules.proofs.LentPaths.{are_paths_of, lent_more}
-use Rattle.it_unused.proofs.paths.paths_of.Goals as goal
+use Rattle.it_rules.proofs.paths.paths_of.Goals as goal
 
 pub loop-path-preserved : goal.loop-path-preserved
 loop-path-preserved c =
@@ -22,11 +22,11 @@ returns-clause-whole c =
     let whole = rw c.in-None.ensures.steps.0 at c.loop-path.invariant.whole in
     rw append-nil at whole
 
-pub returns-clause-in_order : goal.returns-clause-in_order
-returns-clause-in_order c =
+pub returns-clause-paths : goal.returns-clause-paths
+returns-clause-paths c =
     let whole = rw c.in-None.ensures.steps.0 at c.loop-path.invariant.whole in
-    let sorted : IsStrictlySortedBy (slice_cmp nat_cmp) (keys c.args.delivered.now) =
+    let sorted : IsStrictlySortedBy (slice_cmp nat_cmp) (keys c.args.artifacts.now) =
     subst (IsStrictlySortedBy (slice_cmp nat_cmp)) c.paths-path-items.ensures.paths
     c.paths-path-items.ensures.ordered in
-    (are_paths_of c.args.delivered.now c.loop-path.paths.items (rw append-nil at whole) sorted
-    c.loop-path.invariant.are_texts).are_paths
+    are_paths_of c.args.artifacts.now c.loop-path.paths.items (rw append-nil at whole) sorted
+    c.loop-path.invariant.are_texts

@@ -1,7 +1,7 @@
 use Rattle.std.proofs.Common.{◌≡◌, ◌++◌, map, string_bytes, All}
 use Rattle.std.specs.FinMap.{keys}
 use Rattle.std.specs.Str.{IsUtf8}
-use Rattle.it_rules.proofs.marks.paths_of.Given as goal
+use Rattle.it_rules.proofs.paths.paths_of.Given as goal
 
 -- the paths so far, and those to come, are the keys
 abbrev pub invariant-loop-path : goal.invariant-loop-path

@@ -69,8 +69,7 @@ TREES = (re.compile(r"\bDocumentText::read\("), "it_docs", {
     "crates/it_verify/src/opened.rt": 1,
     # what is found in the layout and the sublayouts of an accepted delivery
     "crates/it_strict/src/counting.rt": 1,
-    # notes on members: those of the policy after a refusal, those of a layout
-    "crates/it_notes/src/notes.rt": 1,
+    # notes on members: those of a layout
     "crates/it_notes/src/layout_notes.rt": 1,
     # another command: the policy, a layout
     "crates/it_check/src/documents.rt": 2,

@@ -59,39 +59,4 @@ impl MemberNotes {
         }
         Ok(MemberNotes { unread, keys })
     }
-
-    /// A copy, in memory of `alloc`.
-    ///
-    /// # Errors
-    ///
-    /// `AllocError` where memory was refused.
-    pub fn copy(&self, alloc: Global) -> Result<MemberNotes, AllocError>
-        ensures unread { IfOk result (λ copy. copy.unread.items ≡ self.now.unread.items) }
-        ensures keys { IfOk result (λ copy. copy.keys.items ≡ self.now.keys.items) }
-    {
-        Ok(MemberNotes {
-            unread: copy_unread(alloc, self.unread.as_slice())?,
-            keys: copy_keys(alloc, self.keys.as_slice())?,
-        })
-    }
-}
-
-fn copy_unread(alloc: Global, members: &[UnreadMember]) -> Result<Vec<UnreadMember>, AllocError>
-    ensures { IfOk result (λ copy. copy.items ≡ members.now) }
-{
-    let mut copy = Vec::new(alloc);
-    for member in members {
-        copy.push(member.copy(alloc)?)?;
-    }
-    Ok(copy)
-}
-
-fn copy_keys(alloc: Global, notes: &[KeyMemberNote]) -> Result<Vec<KeyMemberNote>, AllocError>
-    ensures { IfOk result (λ copy. copy.items ≡ notes.now) }
-{
-    let mut copy = Vec::new(alloc);
-    for note in notes {
-        copy.push(note.copy(alloc)?)?;
-    }
-    Ok(copy)
 }

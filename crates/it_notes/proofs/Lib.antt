@@ -1,5 +1,4 @@
 mod Both
-mod Copied
 mod Delivering
 mod Holding
 mod Levels

@@ -1,9 +1,8 @@
 -- What is found in the policy, in the layout and in the sublayouts of a delivery that is accepted
 -- (words of this project).
-use Rattle.std.specs.Prelude.{◌≡◌, List, ◌++◌, IfSome}
+use Rattle.std.specs.Prelude.{◌≡◌, List, ◌++◌}
 use Rattle.it_dsse.specs.Panel.{Panel}
 use Rattle.it_findings.specs.declared.finding.Finding.{Finding}
-use Rattle.it_member_notes.specs.MemberNotes.{TellsPolicyMembers}
 use Rattle.it_strict.specs.Below.{AreFoundBelow}
 use Rattle.it_strict.specs.Counting.{LayoutCounting}
 use Rattle.it_strict.specs.Found.{PolicyFound}
@@ -14,8 +13,7 @@ use Rattle.it_verify.specs.declared.inputs.Inputs.{Inputs}
 use Rattle.it_notes.specs.declared.found_in_documents.FoundInDocuments.{FoundInDocuments}
 
 -- the delivered files were made as the owners prescribed, and this is what is found in the policy
--- all the same, and then in the layout, as far as it counts, and in the sublayouts that count; what
--- is noted on the policy's members is true
+-- all the same, and then in the layout, as far as it counts, and in the sublayouts that count
 pub record AreFoundInDocuments (panel : Panel) (inputs : Inputs) (found : FoundInDocuments)
     : Type 0 where
   pub documents : Documents
@@ -27,5 +25,4 @@ pub record AreFoundInDocuments (panel : Panel) (inputs : Inputs) (found : FoundI
   pub in_layout : LayoutCounting documents.envelope.payload documents.layout evidence.steps
       of_layout
   pub are_all : found.of_documents.items ≡ of_policy ++ of_layout
-  pub noted : IfSome found.noted (TellsPolicyMembers inputs.policy)
   pub below : AreFoundBelow panel inputs documents found.below.items

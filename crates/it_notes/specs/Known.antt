@@ -3,6 +3,7 @@ use Rattle.std.specs.Prelude.{◌≡◌, IfSome, ⊤}
 use Rattle.it_digest.specs.Listed.{AreListed}
 use Rattle.it_docs.specs.Policy.{PolicyOf}
 use Rattle.it_dsse.specs.Panel.{Panel}
+use Rattle.it_member_notes.specs.MemberNotes.{TellsPolicyMembers}
 use Rattle.it_verify.specs.Grounds.{IsBegun}
 use Rattle.it_verify.specs.Verdict.{IsVerdict}
 use Rattle.it_verify.specs.declared.inputs.Inputs.{Inputs}
@@ -27,8 +28,10 @@ IsBasis panel inputs bases.Nothing = ⊤
 IsBasis panel inputs (bases.Begun begun) = IsBegun inputs begun
 IsBasis panel inputs (bases.Known known) = IsKnown panel inputs known
 
--- the verdict is the one on the inputs, this is what they read as, and this is found all the same
+-- the verdict is the one on the inputs, this is what they read as, what is noted on the policy's
+-- members is true, and this is found all the same
 pub record IsTold (panel : Panel) (inputs : Inputs) (told : Told) : Type 0 where
   pub verdict : IsVerdict panel inputs told.verdict
   pub basis : IsBasis panel inputs told.basis
+  pub noted : IfSome told.noted (TellsPolicyMembers inputs.policy)
   pub found : IfSome told.found (AreFoundInDocuments panel inputs)

@@ -168,5 +168,5 @@ layout_lines notes = map rule_list_line notes.deliver.items ++ member_lines note
 -- those on the refusal first, then those on the policy and the layout
 abbrev pub note_lines : Notes → List (List ℕ)
 note_lines notes = flat_map place_lines (option_to_list notes.place)
-    ++ refusal_lines notes.refusal ++ map key_line notes.keys.items ++ member_lines notes.policy
+    ++ refusal_lines notes.refusal ++ map key_line notes.keys.items ++ member_lines notes.policy.now
     ++ flat_map layout_lines (option_to_list notes.layout)

@@ -62,5 +62,5 @@ pub record AreTrue (panel : Panel) (inputs : Inputs) (verdict : Verdict) (notes 
   pub place : IfSome notes.place (TellsWhere panel inputs verdict)
   pub refusal : TellsVerdict panel inputs verdict notes.refusal
   pub keys : TellsKeys panel inputs verdict notes.keys.items
-  pub policy : TellsPolicyMembers inputs.policy notes.policy
+  pub policy : TellsPolicyMembers inputs.policy notes.policy.now
   pub layout : IfSome notes.layout (TellsLayout inputs)

@@ -13,8 +13,7 @@ use it_docs::rule::Rule;
 use it_dsse::checks::Checks;
 use it_findings::finding::{Finding, RuleList};
 use it_findings::member_finding::MemberFinding;
-use it_member_notes::member_notes::MemberNotes;
-use it_member_notes::{ends_open, policy_notes, rules_of_inspection, rules_of_step};
+use it_member_notes::{ends_open, rules_of_inspection, rules_of_step};
 use it_strict::below::{FoundBelow, found_below};
 use it_strict::found::{found_in_layout, found_in_policy};
 use it_strict::push_placed_finding;
@@ -27,8 +26,6 @@ use std::alloc::{AllocError, Global};
 pub struct FoundInDocuments {
     /// What is found in the policy, and then what is found in the layout and counts.
     pub of_documents: Vec<Finding>,
-    /// The notes on the members of the policy, where they were made with what is found in it.
-    pub noted: Option<MemberNotes>,
     /// What is found in each sublayout that counts, and counts there.
     pub below: Vec<FoundBelow>,
 }
@@ -56,7 +53,6 @@ pub fn found_in_documents<C: Checks>(
     found.append(&mut of_layout)?;
     Ok(FoundInDocuments {
         of_documents: found,
-        noted: Some(policy_notes(alloc, &opened.policy)?),
         below: found_below(alloc, opened.inputs, documents, checks)?,
     })
 }

@@ -4,6 +4,7 @@ ghost use Rattle.it_dsse.specs.Panel.{Panel};
 ghost use Rattle.it_report.specs.declared.refusal.Fault.{Fault};
 ghost use Rattle.it_verify.specs.Grounds.{IsBefore, IsFound};
 ghost use Rattle.it_verify.specs.Made.{IsMadeBy};
+ghost use Rattle.it_member_notes.specs.MemberNotes.{TellsPolicyMembers};
 ghost use Rattle.it_notes.specs.Known.{IsBasis, IsKnown, IsTold};
 ghost use Rattle.it_notes.specs.FoundInDocuments.{AreFoundInDocuments};
 
@@ -11,11 +12,14 @@ use crate::fault_level::FaultLevel;
 use crate::found_in_documents::FoundInDocuments;
 use it_digest::artifacts::Artifacts;
 use it_docs::policy::Policy;
+use it_member_notes::member_notes::MemberNotes;
+use it_member_notes::policy_notes;
 use it_report::verdict::Verdict;
 use it_step_notes::signed_layout::SignedLayout;
 use it_verify::documents::Documents;
 use it_verify::grounds::{Before, Begun, Found, Grounds};
 use it_verify::inputs::Inputs;
+use it_verify::opened::Opened;
 use it_verify::verdict_of;
 use std::alloc::{AllocError, Global};
 
@@ -51,12 +55,15 @@ pub struct Told<'a> {
     pub verdict: Verdict,
     /// What was read and found.
     pub basis: Basis<'a>,
+    /// The notes on the members of the policy, or `None` where memory was refused for them.
+    pub noted: Option<MemberNotes>,
     /// Where the verdict accepts, what is found in the policy, in the layout and in the sublayouts
     /// all the same, or `None` where memory was refused for that.
     pub found: Option<FoundInDocuments>,
 }
 
-/// The verdict that accepts, what was read and found before it, and what is found all the same.
+/// The verdict that accepts, what was read and found before it, what is noted on the policy, and
+/// what is found all the same.
 ///
 /// # Errors
 ///
@@ -65,8 +72,10 @@ pub fn made_told(
     alloc: Global,
     inputs: &Inputs,
     grounds: Grounds,
+    noted: Option<MemberNotes>,
     all_the_same: Option<FoundInDocuments>,
 ) -> Result<Told<'_>, AllocError>
+    requires { IfSome noted (TellsPolicyMembers inputs.now.policy) }
     ensures { (panel : Panel) → IsMadeBy panel inputs.now grounds.documents grounds.evidence
         → IfSome all_the_same (AreFoundInDocuments panel inputs.now)
         → IfOk result (IsTold panel inputs.now) }
@@ -79,8 +88,17 @@ pub fn made_told(
     Ok(Told {
         verdict,
         basis: Basis::Known(known_in(inputs, found)),
+        noted,
         found: all_the_same,
     })
+}
+
+/// The notes on the members of the policy of opened inputs, or `None` where memory was refused for
+/// them.
+pub fn noted_on(alloc: Global, opened: &Opened<'_>) -> Option<MemberNotes>
+    ensures { IfSome result (TellsPolicyMembers opened.now.inputs.now.policy) }
+{
+    policy_notes(alloc, &opened.policy).ok()
 }
 
 /// What was read and found before a refusal of the inputs.

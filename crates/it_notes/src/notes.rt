@@ -3,7 +3,6 @@ ghost use Rattle.std.specs.Prelude.{IfOk, IfSome};
 ghost use Rattle.it_dsse.specs.Panel.{Panel};
 ghost use Rattle.it_verify.specs.declared.inputs.Inputs.{Inputs};
 ghost use Rattle.it_member_notes.specs.MemberNotes.{TellsPolicyMembers};
-ghost use Rattle.it_notes.specs.FoundInDocuments.{AreFoundInDocuments};
 ghost use Rattle.it_notes.specs.KeyNotes.{TellsKeys};
 ghost use Rattle.it_notes.specs.Known.{IsBasis, IsTold};
 ghost use Rattle.it_notes.specs.Notes.{AreTrue, TellsLayout, TellsVerdict, TellsWhere};
@@ -16,12 +15,10 @@ use crate::layout_notes::LayoutNotes;
 use crate::place_notes::{PlaceNotes, place_notes};
 use crate::record_note::RecordNote;
 use crate::refusal_notes::refusal_notes;
-use it_borrowed::document_text::DocumentText;
 use it_digest::sums::ListAlgorithm;
 use it_dsse::checks::Checks;
 use it_key_notes::unknown_key::UnknownKey;
 use it_member_notes::member_notes::MemberNotes;
-use it_member_notes::policy_notes;
 use it_part_notes::moment_note::MomentNote;
 use it_part_notes::part_note::PartNote;
 use it_part_notes::sum_line_note::SumLineNote;
@@ -37,12 +34,11 @@ use it_rule_notes::owner_note::OwnerNote;
 use it_rule_notes::payloads_note::PayloadsNote;
 use it_rule_notes::rule_note::RuleNote;
 use it_verify::inputs::Inputs;
-use json::Scratch;
 use std::alloc::{AllocError, Global};
 
 /// The notes for people on a verification. Each note is true.
 #[derive(Drop)]
-pub struct Notes {
+pub struct Notes<'t> {
     /// The place of the sublayout that the refusal is about.
     pub place: Option<PlaceNotes>,
     /// Why the delivery was refused.
@@ -50,7 +46,7 @@ pub struct Notes {
     /// The key objects that the refusal depends on and no check knows.
     pub keys: Vec<UnknownKey>,
     /// The members of the policy that are not looked at, or that may not be meant.
-    pub policy: MemberNotes,
+    pub policy: &'t MemberNotes,
     /// What is odd about the layout and the policy's rules that see it, where the owners are known
     /// to have signed it.
     pub layout: Option<LayoutNotes>,
@@ -109,23 +105,23 @@ pub struct RuleNotes {
     pub returns: Option<ListAlgorithm>,
 }
 
-impl Notes {
+impl<'t> Notes<'t> {
     /// The notes on what the verification of the `inputs` told. Signatures are checked by the
     /// `checks` again, but only after a refusal.
     ///
     /// # Errors
     ///
-    /// `AllocError` where memory was refused.
+    /// `AllocError` where memory was refused, also for what was told to be noted on the policy.
     pub fn of<C: Checks>(
         alloc: Global,
         inputs: &Inputs,
-        told: &Told,
+        told: &'t Told,
         checks: &C,
-    ) -> Result<Notes, AllocError>
+    ) -> Result<Notes<'t>, AllocError>
         requires { IsTold (C.panel checks.now) inputs.now told.now }
         ensures { IfOk result (AreTrue (C.panel checks.now) inputs.now told.now.verdict) }
     {
-        let policy = noted_policy(alloc, inputs, told)?;
+        let policy = noted_policy(told)?;
         let layout = signed_layout_notes(alloc, told)?;
         let place = told_place(alloc, told, checks)?;
         let keys = told_keys(alloc, told, checks)?;
@@ -139,37 +135,15 @@ impl Notes {
     }
 }
 
-/// The notes on the members of the policy: those that were made with what is found in it, or
-/// otherwise from its text.
-fn noted_policy(alloc: Global, inputs: &Inputs, told: &Told) -> Result<MemberNotes, AllocError>
-    requires { (panel : Panel) × IfSome told.now.found (AreFoundInDocuments panel inputs.now) }
-    ensures { IfOk result (TellsPolicyMembers inputs.now.policy) }
+/// The notes on the members of the policy. Where memory was refused for them, it is refused here.
+fn noted_policy<'t>(told: &'t Told) -> Result<&'t MemberNotes, AllocError>
+    ensures { (inputs : Inputs) → IfSome told.now.noted (TellsPolicyMembers inputs.policy)
+        → IfOk result (λ noted. TellsPolicyMembers inputs.policy noted.now) }
 {
-    match noted_with(told) {
-        Some(noted) => noted.copy(alloc),
-        None => policy_text_notes(alloc, inputs.policy.as_slice()),
+    match &told.noted {
+        Some(noted) => Ok(noted),
+        None => Err(AllocError),
     }
-}
-
-/// The notes that were made with what is found in the policy, if there are any.
-fn noted_with<'a>(told: &'a Told) -> Option<&'a MemberNotes>
-    ensures { (panel : Panel) (inputs : Inputs)
-        → IfSome told.now.found (AreFoundInDocuments panel inputs)
-        → IfSome result (λ noted. TellsPolicyMembers inputs.policy noted.now) }
-{
-    match &told.found {
-        Some(found) => found.noted.as_ref(),
-        None => None,
-    }
-}
-
-/// The notes on the members of the policy in its text.
-fn policy_text_notes(alloc: Global, bytes: &[u8]) -> Result<MemberNotes, AllocError>
-    ensures { IfOk result (TellsPolicyMembers bytes.now) }
-{
-    let mut scratch = Scratch::new(alloc);
-    let text = DocumentText::read(alloc, bytes, &mut scratch)?;
-    policy_notes(alloc, &text)
 }
 
 /// Why the verdict refuses, if it does.

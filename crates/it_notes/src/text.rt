@@ -19,7 +19,7 @@ use it_member_notes::member_notes::MemberNotes;
 use it_rule_notes::judged_note::JudgedNote;
 use std::alloc::{AllocError, Global};
 
-impl Notes {
+impl Notes<'_> {
     /// The lines for people, of which at most 40 are written: those on the refusal first, then
     /// those on the policy and the layout. Names are written as `push_cut_name` does.
     ///
@@ -40,7 +40,7 @@ impl Notes {
         add_place(lines, &self.place)?;
         self.refusal.add_to(lines)?;
         lines.add_all(self.keys.as_slice())?;
-        add_members(lines, &self.policy)?;
+        add_members(lines, self.policy)?;
         add_layout(lines, &self.layout)?;
         Ok(())
     }

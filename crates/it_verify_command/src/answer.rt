@@ -5,6 +5,7 @@ ghost use Rattle.it_verify.specs.Grounds.{IsBefore};
 ghost use Rattle.it_verify.specs.Made.{IsMadeBy};
 ghost use Rattle.it_verify.specs.RefusedFor.{RefusedFor};
 ghost use Rattle.it_verify.specs.Verdict.{OnAccepted};
+ghost use Rattle.it_member_notes.specs.MemberNotes.{TellsPolicyMembers};
 ghost use Rattle.it_notes.specs.FoundInDocuments.{AreFoundInDocuments};
 ghost use Rattle.it_notes.specs.Known.{IsTold};
 ghost use Rattle.it_verify_command.specs.FullOutput.{IsTextIn};
@@ -16,8 +17,9 @@ use crate::output_text::text_in;
 use crate::verification::Verification;
 use it_dsse::checks::Checks;
 use it_json_report::evidence::Evidence;
+use it_member_notes::member_notes::MemberNotes;
 use it_notes::found_in_documents::{FoundInDocuments, found_in_documents};
-use it_notes::known::{Told, basis_of, made_told};
+use it_notes::known::{Told, basis_of, made_told, noted_on};
 use it_outcome::output::Output;
 use it_report::refusal::Refusal;
 use it_report::verdict::Verdict;
@@ -52,23 +54,29 @@ pub(crate) fn answer_to<'a, C: Checks>(
 {
     let mut scratch = Scratch::new(alloc);
     let opened = Opened::read(alloc, asked.inputs, &mut scratch)?;
-    match verify_grounds(alloc, &opened, asked.checks)? {
+    let outcome = verify_grounds(alloc, &opened, asked.checks)?;
+    let noted = noted_on(alloc, &opened);
+    match outcome {
         Outcome::Made(grounds) => {
             let found = found_in_documents(alloc, &opened, &grounds, asked.checks).ok();
-            made_answer(alloc, asked, grounds, found)
+            made_answer(alloc, asked, grounds, noted, found)
         }
-        Outcome::Refused { refusal, before } => refused_answer(alloc, asked, refusal, before),
+        Outcome::Refused { refusal, before } => {
+            refused_answer(alloc, asked, refusal, before, noted)
+        }
     }
 }
 
-/// The answer that accepts on these grounds, where this is found in the documents, or memory was
-/// refused for that.
+/// The answer that accepts on these grounds, where this is noted on the policy and found in the
+/// documents, or memory was refused for that.
 pub(crate) fn made_answer<'a, C: Checks>(
     alloc: Global,
     asked: &Verification<'a, C>,
     grounds: Grounds,
+    noted: Option<MemberNotes>,
     found: Option<FoundInDocuments>,
 ) -> Result<Answer<'a>, AllocError>
+    requires noted { IfSome noted (TellsPolicyMembers asked.now.inputs.now.policy) }
     requires made { IsMadeBy (C.panel asked.now.checks.now) asked.now.inputs.now grounds.documents
         grounds.evidence }
     requires found { IfSome found
@@ -78,18 +86,20 @@ pub(crate) fn made_answer<'a, C: Checks>(
         asked.now.vouched.now asked.now.inputs.now) }
 {
     let behind = behind_in(alloc, asked, &grounds)?;
-    let told = made_told(alloc, asked.inputs, grounds, found)?;
+    let told = made_told(alloc, asked.inputs, grounds, noted, found)?;
     answer_on(alloc, asked, told, behind)
 }
 
 /// The answer that refuses, for the first thing that does not hold and after what was read and
-/// found.
+/// found, where this is noted on the policy, or memory was refused for that.
 pub(crate) fn refused_answer<'a, C: Checks>(
     alloc: Global,
     asked: &Verification<'a, C>,
     refusal: Refusal,
     before: Before,
+    noted: Option<MemberNotes>,
 ) -> Result<Answer<'a>, AllocError>
+    requires noted { IfSome noted (TellsPolicyMembers asked.now.inputs.now.policy) }
     requires refused { RefusedFor (C.panel asked.now.checks.now) asked.now.inputs.now refusal }
     requires before { IsBefore (C.panel asked.now.checks.now) asked.now.inputs.now refusal.fault
         before }
@@ -101,6 +111,7 @@ pub(crate) fn refused_answer<'a, C: Checks>(
     let told = Told {
         verdict: Verdict::Refused(refusal),
         basis: basis_of(asked.inputs, before),
+        noted,
         found: None,
     };
     answer_on(alloc, asked, told, None)

@@ -9,6 +9,7 @@ use crate::answer::{Answer, made_answer, refused_answer};
 use crate::verification::Verification;
 use it_dsse::checks::Checks;
 use it_notes::found_in_documents::FoundInDocuments;
+use it_notes::known::noted_on;
 use it_strict::found::{Found, found_in};
 use it_verify::grounds::{Grounds, Outcome};
 use it_verify::opened::Opened;
@@ -55,10 +56,11 @@ fn answer_on<'a, C: Checks>(
     match verify_grounds(alloc, opened, asked.checks)? {
         Outcome::Made(grounds) => {
             let found = found_in(alloc, opened, &grounds, asked.checks)?;
-            judged(alloc, asked, grounds, found)
+            judged(alloc, asked, opened, grounds, found)
         }
         Outcome::Refused { refusal, before } => {
-            let answer = refused_answer(alloc, asked, refusal, before)?;
+            let noted = noted_on(alloc, opened);
+            let answer = refused_answer(alloc, asked, refusal, before, noted)?;
             Ok(StrictAnswer::Stands(answer))
         }
     }
@@ -68,9 +70,11 @@ fn answer_on<'a, C: Checks>(
 fn judged<'a, C: Checks>(
     alloc: Global,
     asked: &Verification<'a, C>,
+    opened: &Opened<'_>,
     grounds: Grounds,
     found: Found,
 ) -> Result<StrictAnswer<'a>, AllocError>
+    requires opened { opened.now.inputs.now ≡ asked.now.inputs.now }
     requires made { IsMadeBy (C.panel asked.now.checks.now) asked.now.inputs.now grounds.documents
         grounds.evidence }
     requires found { AreFound (C.panel asked.now.checks.now) asked.now.inputs.now grounds.documents
@@ -84,9 +88,9 @@ fn judged<'a, C: Checks>(
     }
     let nothing = FoundInDocuments {
         of_documents: Vec::new(alloc),
-        noted: None,
         below: found.of_sublayouts.into_vec(),
     };
-    let answer = made_answer(alloc, asked, grounds, Some(nothing))?;
+    let noted = noted_on(alloc, opened);
+    let answer = made_answer(alloc, asked, grounds, noted, Some(nothing))?;
     Ok(StrictAnswer::Stands(answer))
 }

@@ -14,6 +14,5 @@ returns g c = record {
   of_layout = c.in_ok-of_layout.of_layout.items;
   in_layout = c.in_ok-of_layout.ensures;
   are_all = c.in_ok-append.ensures.items;
-  noted = rw (← c.args.opened.now.of_inputs) c.in_ok-policy_notes.ensures;
   below = c.in_ok-found_below.ensures;
 }

@@ -12,5 +12,6 @@ returns c = λ panel made are_found.
         owners = made.owners;
         steps = tt;
       });
+      noted = c.requires;
       found = are_found;
     }

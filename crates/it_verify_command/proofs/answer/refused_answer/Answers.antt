@@ -6,5 +6,6 @@ answer_on-requires-clause-told g c =
     record {
       verdict = c.requires.refused;
       basis = c.basis_of.ensures panel c.args.refusal.fault c.requires.before;
+      noted = c.requires.noted;
       found = tt;
     }

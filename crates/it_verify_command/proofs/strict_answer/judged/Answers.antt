@@ -13,7 +13,6 @@ made_answer-requires-clause-found g c =
       of_layout = c.args.found.of_layout;
       in_layout = are.layout;
       are_all = rw (nothing.of_policy, nothing.of_layout) c.new.ensures.items;
-      noted = tt;
       below = rw c.into_vec.ensures are.sublayouts;
     }
 

@@ -9,12 +9,12 @@ use it_base::optional::push_some;
 use it_base::sequence::Sequence;
 use it_base::text::Text;
 use it_chain::held_file::HeldFile;
+use it_chain::signers::Signer;
 use it_chain::{body_in, candidate_in, is_claimed, layout_in};
 use it_docs::layout::Layout;
 use it_docs::step::Step;
 use it_dsse::checks::Checks;
 use it_dsse::is_signer;
-use it_dsse::key_object::KeyObject;
 use it_dsse::meter::Meter;
 use std::alloc::{AllocError, Global};
 
@@ -25,15 +25,6 @@ pub struct CountingFile {
     pub name: Text,
     /// The body of its envelope.
     pub payload: Sequence<u8>,
-}
-
-/// A key id that a step lists, with the key object that the layout has for it.
-#[derive(Drop)]
-pub(crate) struct Signer<'a> {
-    /// The key id.
-    pub id: &'a str,
-    /// The key object.
-    pub object: &'a KeyObject,
 }
 
 /// The files that hold what counts for a key id of a step, in their order.

@@ -10,8 +10,8 @@ use Rattle.it_chain.specs.Candidate.{IsCandidate}
 use Rattle.it_chain.specs.ClaimedFiles.{IsClaimed}
 use Rattle.it_chain.specs.CountedBodies.{Body, BodyOf}
 use Rattle.it_chain.specs.declared.bundle.File.{File}
+use Rattle.it_chain.specs.declared.signers.Signer.{Signer}
 use Rattle.it_rule_notes.specs.declared.counting_file.CountingFile.{CountingFile}
-use Rattle.it_rule_notes.specs.declared.counting_file.Signer.{Signer}
 
 -- the bytes are some body for a step
 pub record HasBody (step bytes : List ℕ) : Type 0 where

@@ -14,10 +14,10 @@ use Rattle.it_chain.specs.Body.{as_body}
 use Rattle.it_chain.specs.CountedBodies.{BodyOf}
 use Rattle.it_chain.specs.declared.body.Body.{Body as Held}
 use Rattle.it_chain.specs.declared.bundle.File.{File}
+use Rattle.it_chain.specs.declared.signers.Signer.{Signer}
 use Rattle.it_chain.proofs.Members.{in_head}
 use Rattle.it_rule_notes.specs.CountingFile.{FileCounts, IsLayoutBody, setting_of}
 use Rattle.it_rule_notes.specs.declared.counting_file.CountingFile.{CountingFile}
-use Rattle.it_rule_notes.specs.declared.counting_file.Signer.{Signer}
 use Rattle.it_rule_notes.specs.inside.CountingFile.{HasBody, IsListed, IsSigned}
 
 -- what is found as a body for a step is one

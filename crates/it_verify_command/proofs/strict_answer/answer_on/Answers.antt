@@ -18,6 +18,9 @@ judged-requires-clause-made g c =
 pub judged-requires-clause-found : goal.judged-requires-clause-found
 judged-requires-clause-found g c = rw c.requires.opened at c.in_ok-found-in-Made.ensures
 
+pub refused_answer-requires-clause-noted : goal.refused_answer-requires-clause-noted
+refused_answer-requires-clause-noted g c = rw c.requires.opened at c.noted_on-noted.ensures
+
 pub refused_answer-requires-clause-refused : goal.refused_answer-requires-clause-refused
 refused_answer-requires-clause-refused g c =
     let panel = g.C.Checks.panel c.args.asked.now.checks.now in

@@ -1,5 +1,8 @@
 use Rattle.it_verify_command.proofs.strict_answer.judged.Goals as goal
 
+pub made_answer-requires-clause-noted : goal.made_answer-requires-clause-noted
+made_answer-requires-clause-noted g c = rw c.requires.opened at c.noted_on-noted.ensures
+
 pub made_answer-requires-clause-found : goal.made_answer-requires-clause-found
 made_answer-requires-clause-found g c =
     let are = c.requires.found in

@@ -18,6 +18,7 @@ use Rattle.std.proofs.lemmas.Slice.Eq.{bytes_eq-Decides, slice_eq-Decides}
 use Rattle.it_base.proofs.TableLemmas.{entries-named_entries}
 use Rattle.it_digest.specs.declared.compare.DigestSet.{DigestSet}
 use Rattle.it_digest.specs.Artifacts.{path_entries}
+use Rattle.it_digest.specs.inside.Compact.{same_set, same_value}
 
 abbrev pub path_cmp : List ℕ → List ℕ → Ordering
 path_cmp = slice_cmp nat_cmp
@@ -97,13 +98,8 @@ option_eq-Decides same decides (Some x) None = (λ h. cc h, λ h. cc h)
 option_eq-Decides same decides (Some x) (Some y) =
     (λ h. ap Some ((decides x y).0 h), λ h. (decides x y).1 (cc h))
 
-abbrev pub same_value : Option (List ℕ) → Option (List ℕ) → Bool
-same_value x y = option_eq bytes_eq x y
-
 -- `==` on digest sets decides whether they are equal
-pub digest_set_eq-Decides : (a b : DigestSet)
-    → Decides (same_value a.sha256 b.sha256
-    && (same_value a.sha384 b.sha384 && same_value a.sha512 b.sha512)) (a ≡ b)
+pub digest_set_eq-Decides : (a b : DigestSet) → Decides (same_set a b) (a ≡ b)
 digest_set_eq-Decides a b =
     let each = option_eq-Decides bytes_eq bytes_eq-Decides in
     let longer = Decides-and (same_value a.sha384 b.sha384) (same_value a.sha512 b.sha512)

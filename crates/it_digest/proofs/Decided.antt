@@ -11,7 +11,7 @@ use Rattle.it_digest.specs.Compare.{Agree, Differ, StandsInBoth}
 use Rattle.it_digest.specs.DigestSet.{Algorithm, in_sha256, in_sha384, in_sha512}
 use Rattle.it_digest.specs.declared.compare.DigestSet.{DigestSet}
 use Rattle.it_digest.proofs.ArtifactsLemmas.{digest_set_eq-Decides, same_entry, same_entry-Decides}
-use Rattle.it_digest.proofs.ArtifactsLemmas.{same_value}
+use Rattle.it_digest.specs.inside.Compact.{same_set}
 
 -- whether two values are there and pass a test
 abbrev are_both : (List ℕ → List ℕ → Bool) → Option (List ℕ) → Option (List ℕ) → Bool
@@ -31,10 +31,6 @@ is_difference a b = in_some (λ x y. not (bytes_eq x y)) a b
 -- decides `Agree`
 unfoldable pub is_agreement : DigestSet → DigestSet → Bool
 is_agreement a b = in_some (λ x y. true) a b && not (is_difference a b)
-
-abbrev same_set : DigestSet → DigestSet → Bool
-same_set a b = same_value a.sha256 b.sha256
-    && (same_value a.sha384 b.sha384 && same_value a.sha512 b.sha512)
 
 -- decides whether two maps are equal
 unfoldable pub is_same_map : ArtifactMap → ArtifactMap → Bool

@@ -1,6 +1,6 @@
 -- What a table of the numbers of digits has for each.
-use Rattle.std.proofs.Common.{◌≡◌, ℕ, zero, suc, ◌+◌, ◌<◌, ◌==◌, List, [], ◌∷◌, length, Bool, true}
-use Rattle.std.proofs.Common.{◌&&◌, slice_index_or, arith, ap, sym, ◌∙◌}
+use Rattle.std.proofs.Common.{◌≡◌, ℕ, zero, suc, ◌+◌, ◌<◌, ◌==◌, List, [], ◌∷◌, length, true}
+use Rattle.std.proofs.Common.{slice_index_or, arith, ap, sym, ◌∙◌}
 use Rattle.std.proofs.lemmas.Bool.{and_parts, eqb-true}
 use Rattle.it_digest.specs.inside.DigitNumbers.{are_numbers, number}
 

@@ -1,3 +1,4 @@
+pub mod Compact
 pub mod DigitNumbers
 pub mod Rest
 pub mod SumLines

@@ -10,6 +10,7 @@ ghost use Rattle.it_digest.specs.Artifacts.{path_entries};
 ghost use Rattle.it_digest.specs.Digest.{IsDigestSet};
 ghost use Rattle.it_digest.specs.Listed.{AreTogether};
 
+use crate::compact::CompactSet;
 use crate::compare::DigestSet;
 use it_base::table::Table;
 use it_borrowed::parts::FromBorrowed;
@@ -22,7 +23,8 @@ use std::marker::Model;
 /// A map from path to digest set. Paths are compared by their bytes.
 #[derive(Drop)]
 pub struct Artifacts {
-    by_path: Table<DigestSet>,
+    by_path: Table<CompactSet>,
+    alloc: Global,
 }
 
 impl Model for Artifacts {
@@ -45,6 +47,7 @@ impl Artifacts {
     {
         Artifacts {
             by_path: Table::new(alloc),
+            alloc,
         }
     }
 
@@ -62,18 +65,20 @@ impl Artifacts {
         ensures ok { OnOk result (self.new ≡ finite.insert self.old (string_bytes path) digests) }
         ensures err { OnErr result (self.new ≡ self.old) }
     {
-        self.by_path.insert(path, digests)
+        let compact = CompactSet::of(self.alloc, digests)?;
+        let before = self.by_path.insert(path, compact)?;
+        Ok(before.map(|compact| compact.set()))
     }
 
     /// The digests of a path, if the map has the path.
     pub fn get(&self, path: &str) -> Option<DigestSet>
         ensures { result ≡ finite.get self.now path.now }
     {
-        self.by_path.get(path).copied()
+        self.by_path.get(path).map(CompactSet::set)
     }
 
     /// The paths, each once, in the order of their bytes.
-    pub fn paths(&self) -> Keys<'_, String, DigestSet>
+    pub fn paths(&self) -> Keys<'_, String, CompactSet>
         ensures paths { map string_bytes result ≡ finite.keys self.now }
         ensures ordered { IsStrictlySortedBy (slice_cmp nat_cmp) (map string_bytes result) }
     {
@@ -81,7 +86,7 @@ impl Artifacts {
     }
 
     /// The paths with their digests, each path once, in the order of their bytes.
-    pub fn iter(&self) -> Iter<'_, String, DigestSet>
+    pub fn iter(&self) -> Iter<'_, String, CompactSet>
         ensures { path_entries result ≡ finite.entries self.now }
     {
         self.by_path.iter()
@@ -133,20 +138,20 @@ impl FromBorrowed for Artifacts {
     /// The artifacts of a JSON object from path to digest set (in-toto 1.0 section 4.4). A
     /// member whose value is null counts as missing.
     fn from_borrowed(alloc: Global, value: &Value<'_>) -> Result<Option<Artifacts>, AllocError> {
-        match Table::<DigestSet>::from_borrowed(alloc, value)? {
+        match Table::<CompactSet>::from_borrowed(alloc, value)? {
             None => Ok(None),
-            Some(by_path) => Ok(Some(Artifacts { by_path })),
+            Some(by_path) => Ok(Some(Artifacts { by_path, alloc })),
         }
     }
 }
 
 /// The map of these entries, in memory from `alloc`.
-fn map_of(alloc: Global, by_path: &BTreeMap<String, DigestSet>) -> Result<Artifacts, AllocError>
+fn map_of(alloc: Global, by_path: &BTreeMap<String, CompactSet>) -> Result<Artifacts, AllocError>
     ensures { IfOk result (λ map. map ≡ finite.from_entries (path_entries by_path.now.entries)) }
 {
     let mut map = Artifacts::new(alloc);
     for (path, digests) in by_path.iter() {
-        map.insert(String::from_str(alloc, path)?, *digests)?;
+        map.insert(String::from_str(alloc, path)?, digests.set())?;
     }
     Ok(map)
 }
@@ -155,19 +160,20 @@ fn map_of(alloc: Global, by_path: &BTreeMap<String, DigestSet>) -> Result<Artifa
 fn with_listed(
     alloc: Global,
     files: Artifacts,
-    by_path: &BTreeMap<String, DigestSet>,
+    by_path: &BTreeMap<String, CompactSet>,
 ) -> Result<Artifacts, AllocError>
     ensures { IfOk result
         (AreTogether files (finite.from_entries (path_entries by_path.now.entries))) }
 {
     let mut together = files;
     for (path, listed) in by_path.iter() {
+        let listed = listed.set();
         let digests = match together.get(path) {
             Some(digests) => DigestSet {
                 sha512: listed.sha512,
                 ..digests
             },
-            None => *listed,
+            None => listed,
         };
         together.insert(String::from_str(alloc, path)?, digests)?;
     }

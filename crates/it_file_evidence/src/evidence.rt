@@ -81,7 +81,7 @@ fn evidence_among<C: Checks>(
 {
     let mut found = Vec::new(alloc);
     for (path, digests) in delivered.iter() {
-        let one = evidence_of(alloc, path.as_str(), *digests, lines, attestations)?;
+        let one = evidence_of(alloc, path.as_str(), digests.set(), lines, attestations)?;
         push_some(&mut found, one)?;
     }
     Ok(found)

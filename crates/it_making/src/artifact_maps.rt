@@ -18,7 +18,7 @@ pub(crate) fn artifacts_value(alloc: Global, artifacts: &Artifacts) -> Result<Va
 {
     let mut members = Map::new(alloc);
     for (path, digests) in artifacts.iter() {
-        let value = digest_set_value(alloc, digests)?;
+        let value = digest_set_value(alloc, &digests.set())?;
         put(&mut members, alloc, path.as_str(), value)?;
     }
     Ok(Value::from(members))

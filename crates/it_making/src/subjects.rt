@@ -23,7 +23,7 @@ pub(crate) fn subjects_value(alloc: Global, artifacts: &Artifacts) -> Result<Val
 {
     let mut subjects = Vec::new(alloc);
     for (path, digests) in artifacts.iter() {
-        subjects.push(subject_value(alloc, path.as_str(), digests)?)?;
+        subjects.push(subject_value(alloc, path.as_str(), &digests.set())?)?;
     }
     Ok(Value::from(subjects))
 }

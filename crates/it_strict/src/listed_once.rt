@@ -51,7 +51,7 @@ fn of_one_list(alloc: Global, delivered: &Artifacts) -> Result<Vec<ListedOnce>, 
 {
     let mut found = Vec::new(alloc);
     for (path, digests) in delivered.iter() {
-        let once = if_once(alloc, path.as_str(), digests)?;
+        let once = if_once(alloc, path.as_str(), &digests.set())?;
         push_some(&mut found, once)?;
     }
     Ok(found)

@@ -79,7 +79,7 @@ fn put(alloc: Global, row: &Value) -> Result<String, RowFault> {
 pub(crate) fn told(alloc: Global, map: &Artifacts) -> Result<String, AllocError> {
     let mut text = String::new(alloc);
     for (path, digests) in map.iter() {
-        write!(text, "{path}{};", digests::told(alloc, digests)?)?;
+        write!(text, "{path}{};", digests::told(alloc, &digests.set())?)?;
     }
     Ok(text)
 }

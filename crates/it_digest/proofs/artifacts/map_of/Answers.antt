@@ -21,8 +21,10 @@ loop-path-preserved c =
     ∙ ap (λ es. done ++ es) c.in-Some.ensures.steps in
     let sorted = subst (λ es. IsStrictlySortedBy string_cmp (keys_of es)) all
     c.iter-path-items.ensures.ordered in
-    let put = c.in_ok-insert.ensures.ok ∙ ap (λ k. insert l.map k e.1) (c.in_ok-from_str.ensures.ok
-    ∙ c.deref.ensures) ∙ ap (λ m. insert m (string_bytes e.0) e.1) l.invariant.2 in (
+    let put = c.in_ok-insert.ensures.ok
+    ∙ ap (insert l.map (string_bytes c.in_ok-from_str.field-0)) c.set.ensures
+    ∙ ap (λ k. insert l.map k e.1) (c.in_ok-from_str.ensures.ok ∙ c.deref.ensures)
+    ∙ ap (λ m. insert m (string_bytes e.0) e.1) l.invariant.2 in (
       done ++ e ∷ [],
       all ∙ sym (append_assoc done (e ∷ []) left),
       put ∙ sym (from_entries-more done e left sorted),

@@ -1,5 +1,5 @@
 use Rattle.std.proofs.Common.{rules, ◌≡◌, [], ◌∷◌, ◌++◌, string_bytes, sym, ap, ◌∙◌, subst}
-use Rattle.std.proofs.Common.{append_assoc, append-nil, None}
+use Rattle.std.proofs.Common.{append_assoc, append-nil, None, Some}
 use Rattle.std.specs.FinMap.{from_entries, get, get-from_entries, insert}
 use Rattle.std.proofs.lemmas.Cmp.{nat_list_cmp_total}
 use Rattle.std.specs.List.Sorted.{IsStrictlySortedBy}
@@ -33,9 +33,10 @@ loop-path-preserved c =
     ∙ find_before done e left sorted in
     let value : c.match-get.digests ≡ with_listed_digests (get l.together path) e.1 =
     elim c.match-get.branch [
-      | in-Some-get w ↦ w.digests-is ∙ ap (λ k. with_listed_digests k e.1)
+      | in-Some-get w ↦ w.digests-is ∙ ap (with_listed_digests (Some w.in-Some-get.digests))
+          c.set-listed.ensures ∙ ap (λ k. with_listed_digests k e.1)
           (w.in-Some-get.ensures ∙ ap (get l.together) c.deref.ensures)
-      | in-None-get w ↦ w.digests-is ∙ ap (λ k. with_listed_digests k e.1)
+      | in-None-get w ↦ w.digests-is ∙ c.set-listed.ensures ∙ ap (λ k. with_listed_digests k e.1)
           (w.in-None-get.ensures ∙ ap (get l.together) c.deref.ensures)
     ] in
     let put : c.insert.new.self ≡ insert l.together path

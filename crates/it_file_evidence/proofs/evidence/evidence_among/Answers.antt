@@ -33,7 +33,7 @@ loop-path-preserved g c =
           (evidence_more panel a.expectations.now c.args.lines.now.vouched.now lines
           a.envelopes.now inv.0
           c.loop-path.found.items file c.in_ok-one.one (inv.2 lines read)
-          (rw c.as_str.ensures.value at (c.in_ok-one.ensures lines read))),
+          (rw (c.as_str.ensures.value, c.set.ensures) at (c.in_ok-one.ensures lines read))),
     )
 
 pub returns : goal.returns

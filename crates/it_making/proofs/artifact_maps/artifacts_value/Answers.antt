@@ -28,14 +28,14 @@ loop-path-preserved c =
     (entries_sorted c.args.artifacts.now) in
     let more = c.in_ok-put.ensures.ok
     ∙ ap (λ name. put name (view c.in_ok-value.value) old) c.as_str.ensures.value
-    ∙ ap (λ d. put e.0 d old) c.in_ok-value.ensures.document
+    ∙ ap (λ d. put e.0 d old) (rw c.set.ensures at c.in_ok-value.ensures.document)
     ∙ ap (put e.0 document) l.invariant.2
     ∙ put_entry_last digest_set_document done e left sorted in (
       done ++ e ∷ [],
       all ∙ sym (append_assoc done (e ∷ []) left),
       more,
       all_more (λ f. IsDigestSet (digest_set_document f.1) f.1) done e l.invariant.3
-          c.in_ok-value.ensures.reads_back,
+          (rw c.set.ensures at c.in_ok-value.ensures.reads_back),
     )
 
 pub returns-clause-document : goal.returns-clause-document

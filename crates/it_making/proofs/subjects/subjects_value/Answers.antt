@@ -25,7 +25,8 @@ loop-path-preserved c =
     let value = c.in_ok-subject_value.field-0 in
     let all : entries c.args.artifacts.now ≡ done ++ e ∷ left = l.invariant.1
     ∙ ap (λ es. done ++ path_entries es) c.in-Some.ensures.steps in
-    let document : view value ≡ subject_document e = c.in_ok-subject_value.ensures.document
+    let document : view value ≡ subject_document e =
+    (rw c.set.ensures at c.in_ok-subject_value.ensures.document)
     ∙ ap (λ name. subject_document (name, e.1)) c.as_str.ensures.value in
     let more : map view c.push.new.self.items ≡ map subject_document (done ++ e ∷ []) =
     ap (map view) c.in_ok-push.ensures.items ∙ map-append view l.subjects.items (value ∷ [])
@@ -36,7 +37,7 @@ loop-path-preserved c =
       all ∙ sym (append_assoc done (e ∷ []) left),
       more,
       all_more (λ f. IsDigestSet (digest_set_document f.1) f.1) done e l.invariant.3
-          c.in_ok-subject_value.ensures.reads_back,
+          (rw c.set.ensures at c.in_ok-subject_value.ensures.reads_back),
     )
 
 pub returns-clause-document : goal.returns-clause-document

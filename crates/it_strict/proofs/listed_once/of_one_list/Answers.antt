@@ -22,7 +22,8 @@ loop-path-preserved c =
     let inv = c.loop-path.invariant in
     let left = path_entries c.next.new.self in
     let once : c.in_ok-once.once ≡ once_in file =
-    c.in_ok-once.ensures ∙ ap (λ path. once_in (path, file.1)) c.as_str.ensures.value in (
+    (rw c.set.ensures at c.in_ok-once.ensures)
+    ∙ ap (λ path. once_in (path, file.1)) c.as_str.ensures.value in (
       inv.0 ++ file ∷ [],
       inv.1 ∙ ap (λ es. inv.0 ++ path_entries es) c.in-Some.ensures.steps
           ∙ sym (append_assoc inv.0 (file ∷ []) left),

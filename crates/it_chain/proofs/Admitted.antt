@@ -1,8 +1,8 @@
 -- What counts for an id among the envelopes that can be signed under it counts among all.
-use Rattle.std.proofs.Common.{◌≡◌, ◌∙◌, ◌+◌, ◌≤◌, ◌&&◌, ◌||◌, ℕ, List, [], ◌∷◌, ◌++◌, Bool, true}
+use Rattle.std.proofs.Common.{◌≡◌, ◌∙◌, ◌+◌, ◌≤◌, ◌&&◌, ◌||◌, ℕ, List, [], ◌∷◌, Bool, true}
 use Rattle.std.proofs.Common.{false, Contains, Result, Ok, Err, ap, arith, cond, filter, length, not}
-use Rattle.std.proofs.Common.{refl, subst, sym, ⊎_elim, bytes_eq, IsTrue, ◌<◌}
-use Rattle.std.specs.List.{list_any, slice_index_or, sum_by}
+use Rattle.std.proofs.Common.{refl, sym, ⊎_elim, bytes_eq, IsTrue, ◌<◌}
+use Rattle.std.specs.List.{slice_index_or}
 use Rattle.std.proofs.lemmas.List.Elements.{Contains-append_cases, Contains-append_left}
 use Rattle.std.proofs.lemmas.List.Elements.{Contains-append_right}
 use Rattle.std.proofs.lemmas.List.Folds.{list_any-from_Any}

@@ -18,6 +18,8 @@ pub mod Hinted
 pub mod Ids
 pub mod Images
 pub mod Judging
+mod Keyed
+mod Layers
 pub mod LevelAnswers
 pub mod LevelAsking
 pub mod LevelFewest

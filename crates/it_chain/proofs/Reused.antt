@@ -1,6 +1,7 @@
 -- What was answered for a sublayout holds again for each further key id whose body is the same, and
 -- whose folder is.
-use Rattle.std.proofs.Common.{◌≡◌, ℕ, List, ◌≤◌, Option, None, Some, Result, Ok, Err, IfOk}
+use Rattle.std.proofs.Common.{◌≡◌, ℕ, zero, suc, List, ◌≤◌, Option, None, Some, MatchOption}
+use Rattle.std.proofs.Common.{Result, Ok, Err, IfOk}
 use Rattle.std.proofs.Common.{Bool, true, false, cond, bytes_eq, refl, sym, ap, subst, ◌∙◌}
 use Rattle.std.proofs.Common.{arith}
 use Rattle.std.proofs.lemmas.Option.{same_Some}
@@ -11,9 +12,13 @@ use Rattle.it_docs.specs.Layout.{LayoutOf}
 use Rattle.it_docs.specs.declared.layout.Layout.{Layout}
 use Rattle.it_docs.proofs.Same.{layout_same}
 use Rattle.it_rules.specs.Item.{Recorded}
-use Rattle.it_chain.specs.Sublayouts.{folder_name, folder_of}
-use Rattle.it_chain.specs.inside.Answered.{AreAnswers, IsAnswer, IsKept, IsRecalled, answer_at}
-use Rattle.it_chain.specs.inside.Answered.{unraised}
+use Rattle.it_chain.specs.Contents.{Contents}
+use Rattle.it_chain.specs.CountedBodies.{Setting}
+use Rattle.it_chain.specs.Sublayouts.{folder_of}
+use Rattle.it_chain.specs.inside.Answered.{AreRight, AreWithin, IsAnswer, IsFresh, IsGiven, IsKept}
+use Rattle.it_chain.specs.inside.Answered.{IsKeptIf}
+use Rattle.it_chain.specs.inside.Answered.{IsRecalled, IsTaken, answer_at, named_folder, unraised}
+use Rattle.it_chain.specs.inside.Answered.{within_at}
 use Rattle.it_chain.specs.inside.Asked.{Asks, RaisedAtLeast, RaisedWithin}
 use Rattle.it_chain.specs.inside.Below.{fails_below}
 use Rattle.it_chain.specs.inside.Scope.{BodyAnswers, BodyCost, BodyTakes, Scope, SublayoutAnswers}
@@ -48,6 +53,122 @@ module _ (Most : ℕ → Type 0) (asked old new : Meter) (is : new ≡ raised ol
   least_alike h = λ n takes. subst (RaisedBy (λ m. n ≤ m) old) (sym is)
       (raised_alike (λ m. n ≤ m) asked old (h n takes))
 
+-- ---- the answers over a folder, and over those in it
+pub right_within : (setting : Setting) (depth : ℕ) (bundle : Contents) (within : AnsweredSublayouts)
+    → AreWithin setting depth bundle within → AreRight setting depth bundle within
+right_within setting zero bundle within h = h
+right_within setting (suc depth) bundle within h = h.0
+
+none_right : (setting : Setting) (depth : ℕ) (bundle : Contents) (within : AnsweredSublayouts)
+    → IsFresh within → AreRight setting depth bundle within
+none_right setting depth bundle within none payload answer at =
+    let nothing : answer_at within payload ≡ None = none.0 payload in cc
+
+pub none_within : (setting : Setting) (depth : ℕ) (bundle : Contents) (within : AnsweredSublayouts)
+    → IsFresh within → AreWithin setting depth bundle within
+none_within setting zero bundle within none = none_right setting zero bundle within none
+none_within setting (suc depth) bundle within none = (
+  none_right setting (suc depth) bundle within none,
+  λ name further at. let nothing : within_at within name ≡ None = none.1 name in cc,
+)
+
+-- what is left where one was taken out
+pub left_of : (same : Bool) (before : Option AnsweredSublayouts) (within : AnsweredSublayouts)
+    → cond same None before ≡ Some within → before ≡ Some within
+left_of true before within h = cc
+left_of false before within h = h
+
+module _ (setting : Setting) (depth : ℕ) (bundle : Contents) where
+  -- ---- one answer more
+  module _ (old new : AnsweredSublayouts) (payload : List ℕ) (answer : Answer)
+      (is : IsAnswer setting depth bundle payload answer) (kept : IsKept old new payload answer)
+    where
+      here_or_before : AreRight setting depth bundle old → (p : List ℕ) (a : Answer) (same : Bool)
+          → bytes_eq payload p ≡ same → cond same (Some answer) (answer_at old p) ≡ Some a
+          → IsAnswer setting depth bundle p a
+      here_or_before are p a true at h =
+          subst (λ x. IsAnswer setting depth bundle x a) ((bytes_eq-Decides payload p).0 at)
+          (subst (IsAnswer setting depth bundle payload) (same_Some answer a h) is)
+      here_or_before are p a false at h = are p a h
+
+      kept_right : AreRight setting depth bundle old → AreRight setting depth bundle new
+      kept_right are p a at =
+          here_or_before are p a (bytes_eq payload p) refl (sym (kept.0 p) ∙ at)
+
+  -- ---- the answers over one folder are taken out, and others are given back
+  module _ (old : AnsweredSublayouts) (are : AreWithin setting (suc depth) bundle old)
+      (name : List ℕ) where
+    taken_from : (found : Option AnsweredSublayouts) → within_at old name ≡ found
+        → (within : AnsweredSublayouts) → MatchOption found (IsFresh within) (λ w. within ≡ w)
+        → AreWithin setting depth (named_folder bundle name) within
+    taken_from None at within fresh =
+        none_within setting depth (named_folder bundle name) within fresh
+    taken_from (Some w) at within is =
+        subst (AreWithin setting depth (named_folder bundle name)) (sym is) (are.1 name w at)
+
+    pub taken_within : (within : AnsweredSublayouts)
+        → MatchOption (within_at old name) (IsFresh within) (λ w. within ≡ w)
+        → AreWithin setting depth (named_folder bundle name) within
+    taken_within = taken_from (within_at old name) refl
+
+    module _ (left new within : AnsweredSublayouts) (taken : IsTaken old left)
+        (given : IsGiven left new name within)
+        (right : AreWithin setting depth (named_folder bundle name) within) where
+      over_folder : (f : List ℕ) (w : AnsweredSublayouts) (same : Bool) → bytes_eq name f ≡ same
+          → cond same (Some within) (within_at left f) ≡ Some w
+          → AreWithin setting depth (named_folder bundle f) w
+      over_folder f w true at h =
+          subst (λ x. AreWithin setting depth (named_folder bundle x) w)
+          ((bytes_eq-Decides name f).0 at)
+          (subst (AreWithin setting depth (named_folder bundle name)) (same_Some within w h) right)
+      over_folder f w false at h = are.1 f w (taken.1 f w h)
+
+      pub given_answers : AreWithin setting (suc depth) bundle new
+      given_answers = (
+        λ payload answer at. are.0 payload answer
+            (sym (taken.0 payload) ∙ sym (given.0 payload) ∙ at),
+        λ f w at. over_folder f w (bytes_eq name f) refl (sym (given.1 f) ∙ at),
+      )
+
+kept_within : (setting : Setting) (depth : ℕ) (bundle : Contents)
+    (old new : AnsweredSublayouts) (payload : List ℕ) (answer : Answer)
+    → IsAnswer setting depth bundle payload answer → IsKept old new payload answer
+    → AreWithin setting depth bundle old → AreWithin setting depth bundle new
+kept_within setting zero bundle old new payload answer is kept are =
+    kept_right setting zero bundle old new payload answer is kept are
+kept_within setting (suc depth) bundle old new payload answer is kept are = (
+  kept_right setting (suc depth) bundle old new payload answer is kept are.0,
+  λ f w at. are.1 f w (sym (kept.1 f) ∙ at),
+)
+
+pub kept_if_within : (setting : Setting) (depth : ℕ) (bundle : Contents)
+    (old new : AnsweredSublayouts) (payload : List ℕ) (answer : Answer) (again : Bool)
+    → IsAnswer setting depth bundle payload answer → IsKeptIf again old new payload answer
+    → AreWithin setting depth bundle old → AreWithin setting depth bundle new
+kept_if_within setting depth bundle old new payload answer true is kept are =
+    kept_within setting depth bundle old new payload answer is kept are
+kept_if_within setting depth bundle old new payload answer false is same are =
+    subst (AreWithin setting depth bundle) (sym same) are
+
+-- the answers over the folder of a sublayout, of the level above and of its own level
+module _ (setting : Setting) (depth d : ℕ) (is : depth ≡ suc d) (bundle folder : Contents)
+    (same : bundle ≡ folder) (within : AnsweredSublayouts) where
+  pub within_below : AreWithin setting depth folder within
+      → AreWithin setting (suc d) bundle within
+  within_below h = subst (λ b. AreWithin setting (suc d) b within) (sym same)
+      (subst (λ n. AreWithin setting n folder within) is h)
+
+  pub within_above : AreWithin setting (suc d) bundle within
+      → AreWithin setting depth folder within
+  within_above h = subst (λ n. AreWithin setting n folder within) (sym is)
+      (subst (λ b. AreWithin setting (suc d) b within) same h)
+
+-- what holds where a sublayout comes to something holds where that is summarized
+pub of_summarized : (P : Type 0) (step id : List ℕ) (chain : Result ChainOf ChainError)
+    (recorded : Recorded) → IsSummarized step id chain (Ok recorded) → IfOk chain (λ c. P) → P
+of_summarized P step id (Ok c) recorded summarized h = h
+of_summarized P step id (Err e) recorded summarized h = absurd summarized
+
 module _ (scope : Scope) (step id : List ℕ) (sublayout : Layout) where
   -- a body costs what its sublayout does
   body_within : (old new : Meter)
@@ -62,8 +183,11 @@ module _ (scope : Scope) (step id : List ℕ) (sublayout : Layout) where
     pub asked : RaisedWithin 0 (BodyCost scope step id (held_layout sublayout)) old new
     pub fewest : BodyTakes scope step id (held_layout sublayout) old new
 
+  abbrev folder : Contents
+  folder = folder_of step id scope.bundle
+
   told_again : (payload : List ℕ) → LayoutOf payload sublayout → (answer : Answer)
-      → IsAnswer scope (folder_name step id) payload answer → (recorded : Recorded)
+      → IsAnswer scope.setting scope.depth folder payload answer → (recorded : Recorded)
       (old new : Meter) → answer.recorded ≡ recorded → new ≡ raised old answer.asked.asked
       → IsTold recorded old new
   told_again payload reads answer h recorded old new same is =
@@ -77,27 +201,26 @@ module _ (scope : Scope) (step id : List ℕ) (sublayout : Layout) where
             (within_alike (SublayoutCost scope step id h.sublayout) answer.asked old new is 0
             h.asked));
         fewest = subst (λ l. SublayoutTakes scope step id l old new) alike
-            (least_alike (below_takes scope h.sublayout (folder_of step id scope.bundle))
-            answer.asked old new is h.fewest);
+            (least_alike (below_takes scope h.sublayout folder) answer.asked old new is h.fewest);
       }
 
-  recalled_from : (answered : AnsweredSublayouts) → AreAnswers scope answered
-      → (payload : List ℕ) → LayoutOf payload sublayout → (found : Option Answer)
-      → answer_at answered (folder_name step id) payload ≡ found → (recorded : Recorded)
-      (old new : Meter) → IsRecalled found old new (Some recorded) → IsTold recorded old new
-  recalled_from answered are payload reads None at recorded old new h = cc
-  recalled_from answered are payload reads (Some answer) at recorded old new h =
-      told_again payload reads answer (are (folder_name step id) payload answer at) recorded old new
+  recalled_from : (within : AnsweredSublayouts)
+      → AreRight scope.setting scope.depth folder within → (payload : List ℕ)
+      → LayoutOf payload sublayout → (found : Option Answer) → answer_at within payload ≡ found
+      → (recorded : Recorded) (old new : Meter) → IsRecalled found old new (Some recorded)
+      → IsTold recorded old new
+  recalled_from within are payload reads None at recorded old new h = cc
+  recalled_from within are payload reads (Some answer) at recorded old new h =
+      told_again payload reads answer (are payload answer at) recorded old new
       (same_Some answer.recorded recorded (sym h.0)) h.1
 
-  pub recalled : (answered : AnsweredSublayouts) → AreAnswers scope answered
-      → (payload : List ℕ) → LayoutOf payload sublayout → (recorded : Recorded)
-      (old new : Meter)
-      → IsRecalled (answer_at answered (folder_name step id) payload) old new (Some recorded)
-      → IsTold recorded old new
-  recalled answered are payload reads =
-      recalled_from answered are payload reads
-      (answer_at answered (folder_name step id) payload) refl
+  pub recalled : (within : AnsweredSublayouts)
+      → AreWithin scope.setting scope.depth folder within → (payload : List ℕ)
+      → LayoutOf payload sublayout → (recorded : Recorded) (old new : Meter)
+      → IsRecalled (answer_at within payload) old new (Some recorded) → IsTold recorded old new
+  recalled within are payload reads =
+      recalled_from within (right_within scope.setting scope.depth folder within are) payload reads
+      (answer_at within payload) refl
 
   -- ---- one that is new
   module _ (asked old new : Meter) (is : new ≡ raised old asked.asked) where
@@ -113,7 +236,7 @@ module _ (scope : Scope) (step id : List ℕ) (sublayout : Layout) where
       -- it is told, and may be told again
       pub record IsNew (recorded : Recorded) : Type 0 where
         pub told : IsTold recorded old new
-        pub kept : IsAnswer scope (folder_name step id) payload
+        pub kept : IsAnswer scope.setting scope.depth folder payload
             (record { recorded = recorded; asked = asked })
 
       pub anew : (chain : Result ChainOf ChainError) (recorded : Recorded)
@@ -128,8 +251,7 @@ module _ (scope : Scope) (step id : List ℕ) (sublayout : Layout) where
             told = record {
               answer = records;
               asked = anew_asks (Ok c) costs;
-              fewest = least_alike (below_takes scope sublayout (folder_of step id scope.bundle))
-                  asked old new is takes;
+              fewest = least_alike (below_takes scope sublayout folder) asked old new is takes;
             };
             kept = record {
               sublayout = sublayout;
@@ -154,39 +276,3 @@ pub none_recalled : (found : Option Answer) (old new : Meter) → IsRecalled fou
     → new ≡ old
 none_recalled None old new h = h.1
 none_recalled (Some answer) old new h = cc
-
--- ---- what was answered so far
--- one more is kept
-pub kept_if : (over same : Bool) (answer : Answer) (before got new : Option Answer)
-    → cond over got None ≡ cond over before None → new ≡ cond same (Some answer) got
-    → cond over new None ≡ cond over (cond same (Some answer) before) None
-kept_if true same answer before got new turned is = is ∙ ap (cond same (Some answer)) turned
-kept_if false same answer before got new turned is = refl
-
-module _ (scope : Scope) where
-  pub none_answered : (answered : AnsweredSublayouts)
-      → ((folder payload : List ℕ) → answer_at answered folder payload ≡ None)
-      → AreAnswers scope answered
-  none_answered answered none folder payload answer at =
-      let nothing : answer_at answered folder payload ≡ None = none folder payload in cc
-
-  module _ (old new : AnsweredSublayouts) (folder payload : List ℕ) (answer : Answer)
-      (is : IsAnswer scope folder payload answer) (are : AreAnswers scope old) where
-    here_or_before : (f p : List ℕ) (a : Answer) (same : Bool) → bytes_eq payload p ≡ same
-        → folder ≡ f → cond same (Some answer) (answer_at old f p) ≡ Some a
-        → IsAnswer scope f p a
-    here_or_before f p a true at over h =
-        let same : payload ≡ p = (bytes_eq-Decides payload p).0 at in
-        subst (λ x. IsAnswer scope x p a) over (subst (λ x. IsAnswer scope folder x a) same
-        (subst (IsAnswer scope folder payload) (same_Some answer a h) is))
-    here_or_before f p a false at over h = are f p a h
-
-    over_folder : (f p : List ℕ) (a : Answer) (same : Bool) → bytes_eq folder f ≡ same
-        → cond same (cond (bytes_eq payload p) (Some answer) (answer_at old f p)) None ≡ Some a
-        → IsAnswer scope f p a
-    over_folder f p a true at h = here_or_before f p a (bytes_eq payload p) refl
-        ((bytes_eq-Decides folder f).0 at) h
-    over_folder f p a false at h = cc
-
-    pub kept_answers : IsKept old new folder payload answer → AreAnswers scope new
-    kept_answers kept f p a at = over_folder f p a (bytes_eq folder f) refl (sym (kept f p) ∙ at)

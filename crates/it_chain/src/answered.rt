@@ -1,9 +1,10 @@
-//! What was answered for the sublayouts of a step's key ids, so that a sublayout which several of
-//! them signed, and whose files are in one folder, is verified once.
-ghost use Rattle.std.specs.Prelude.{◌≡◌, ℕ, List, None, IfOk, OnErr, OnOk, option_map};
-ghost use Rattle.std.specs.Prelude.{string_bytes};
+//! What was answered for sublayouts, so that one which several key ids signed, in one layout or in
+//! several over the same folder, is verified once.
+ghost use Rattle.std.specs.Prelude.{◌≡◌, List, ℕ, None, Some, IfOk, OnErr, OnOk, option_map};
+ghost use Rattle.std.specs.Prelude.{string_bytes, MatchOption};
 ghost use Rattle.it_dsse.specs.Meter.{raised};
-ghost use Rattle.it_chain.specs.inside.Answered.{IsKept, IsRecalled, IsTurned, answer_at};
+ghost use Rattle.it_chain.specs.inside.Answered.{IsFresh, IsGiven, IsKept, IsRecalled, IsTaken};
+ghost use Rattle.it_chain.specs.inside.Answered.{answer_at, within_at};
 
 use crate::record::Recorded;
 use it_dsse::meter::Meter;
@@ -19,40 +20,38 @@ pub(crate) struct Answer {
     pub asked: Meter,
 }
 
-/// The answers for sublayouts over one folder, by their payloads. Key ids come in the order of
-/// their bytes, so those that share a folder follow each other, and the answers over an earlier
-/// folder are let go.
+/// The answers for the sublayouts over a folder, by their payloads, and those over the folders in
+/// it.
 #[derive(Drop)]
-pub(crate) struct AnsweredSublayouts<'a> {
-    folder: String,
-    by_payload: BTreeMap<&'a [u8], Answer>,
+pub(crate) struct AnsweredSublayouts {
+    by_payload: BTreeMap<Vec<u8>, Answer>,
+    folders: BTreeMap<String, AnsweredSublayouts>,
 }
 
-impl<'a> AnsweredSublayouts<'a> {
+impl AnsweredSublayouts {
     /// No answers. Takes no memory.
-    pub fn new(alloc: Global) -> AnsweredSublayouts<'a>
-        ensures { (folder payload : List ℕ) → answer_at result folder payload ≡ None }
+    pub fn new(alloc: Global) -> AnsweredSublayouts
+        ensures { IsFresh result }
     {
         AnsweredSublayouts {
-            folder: String::new(alloc),
             by_payload: BTreeMap::new(alloc),
+            folders: BTreeMap::new(alloc),
         }
     }
 
-    /// What the sublayout in a payload records over a folder, if that was answered. The meter then
-    /// rises as if it were asked again.
+    /// What the sublayout in a payload records over this folder, if that was answered. The meter
+    /// then rises as if it were asked again.
     pub fn recall(
         &self,
         alloc: Global,
-        folder: &str,
         payload: &[u8],
         meter: &mut Meter,
     ) -> Result<Option<Recorded>, AllocError>
-        ensures told { IfOk result (IsRecalled (answer_at self.now folder.now payload.now)
+        ensures told { IfOk result (IsRecalled (answer_at self.now payload.now)
             meter.old meter.new) }
         ensures unchanged { OnErr result (meter.new ≡ meter.old) }
     {
-        let Some(answer) = self.at(folder, payload) else {
+        let Some(answer) = self.at(payload) else {
             return Ok(None);
         };
         let recorded = answer.recorded.copy(alloc)?;
@@ -60,41 +59,39 @@ impl<'a> AnsweredSublayouts<'a> {
         Ok(Some(recorded))
     }
 
-    fn at(&self, folder: &str, payload: &[u8]) -> Option<&Answer>
-        ensures { option_map (λ answer. answer.now) result
-            ≡ answer_at self.now folder.now payload.now }
+    fn at(&self, payload: &[u8]) -> Option<&Answer>
+        ensures { option_map (λ answer. answer.now) result ≡ answer_at self.now payload.now }
     {
-        if self.folder.as_str() != folder {
-            return None;
-        }
         self.by_payload.get(payload)
     }
 
-    /// Keeps the answer for the sublayout in a payload over a folder, and lets go of those over
-    /// other folders.
-    pub fn keep(
-        &mut self,
-        folder: String,
-        payload: &'a [u8],
-        answer: Answer,
-    ) -> Result<(), AllocError>
-        ensures { OnOk result
-            (IsKept self.old self.new (string_bytes folder) payload.now answer) }
+    /// Keeps the answer for the sublayout in a payload over this folder.
+    pub fn keep(&mut self, payload: Vec<u8>, answer: Answer) -> Result<(), AllocError>
+        ensures { OnOk result (IsKept self.old self.new payload.items answer) }
     {
-        self.turn_to(folder);
         self.by_payload.insert(payload, answer)?;
         Ok(())
     }
 
-    /// Lets go of the answers over other folders.
-    fn turn_to(&mut self, folder: String)
-        ensures folder { self.new.folder ≡ folder }
-        ensures answers { IsTurned self.old self.new (string_bytes folder) }
+    /// Takes out the answers over a folder in this one; there are none where nothing was answered
+    /// over it.
+    pub fn take(&mut self, alloc: Global, folder: &str) -> AnsweredSublayouts
+        ensures taken { MatchOption (within_at self.old folder.now) (IsFresh result)
+            (λ within. result ≡ within) }
+        ensures left { IsTaken self.old self.new }
     {
-        if self.folder.as_str() != folder.as_str() {
-            self.by_payload.clear();
+        match self.folders.remove(folder) {
+            Some(within) => within,
+            None => AnsweredSublayouts::new(alloc),
         }
-        self.folder = folder;
+    }
+
+    /// Gives back the answers over a folder in this one.
+    pub fn give(&mut self, folder: String, within: AnsweredSublayouts) -> Result<(), AllocError>
+        ensures { OnOk result (IsGiven self.old self.new (string_bytes folder) within) }
+    {
+        self.folders.insert(folder, within)?;
+        Ok(())
     }
 }
 

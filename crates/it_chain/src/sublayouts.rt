@@ -1,12 +1,16 @@
 //! Sublayouts: how deep they may be nested, what they may not ask for, and where their files are.
-ghost use Rattle.std.specs.Prelude.{◌≡◌, ◌≤◌, ◌↔◌, IfOk, IsTrue, string_bytes};
+ghost use Rattle.std.specs.Prelude.{◌≡◌, ◌≤◌, ◌↔◌, IfOk, IsTrue, OnOk, string_bytes};
+ghost use Rattle.it_chain.specs.Contents.{empty};
 ghost use Rattle.it_chain.specs.Sublayouts.{first_characters, folder_name as folder_name_of};
-ghost use Rattle.it_chain.specs.inside.Answered.{AreAnswers};
+ghost use Rattle.it_chain.specs.Sublayouts.{folder_of};
+ghost use Rattle.it_chain.specs.inside.Answered.{AreAnswers, AreWithin, IsKeptIf};
 ghost use Rattle.it_chain.specs.inside.Asked.{Asks};
 ghost use Rattle.it_chain.specs.inside.Candidates.{IsBody};
 ghost use Rattle.it_chain.specs.inside.Scope.{BodyAnswers, BodyCost, BodyTakes, scope_of};
 ghost use Rattle.it_chain.specs.inside.Scope.{SublayoutAnswers, SublayoutCost, SublayoutTakes};
 ghost use Rattle.it_chain.specs.inside.Sublayouts.{IsSummarized};
+ghost use Rattle.it_chain.specs.declared.body.Body.TheVariants.{Layout as held_layout};
+ghost use Rattle.it_docs.specs.Layout.{LayoutOf};
 
 use crate::answered::{Answer, AnsweredSublayouts, raise_by};
 use crate::body::Body;
@@ -32,16 +36,17 @@ pub(crate) struct BodyAt<'a> {
     pub id: &'a str,
     /// The payload that the body was read from.
     pub payload: &'a [u8],
+    /// Whether a sublayout may be asked for again: another key id may have it over the same folder.
+    pub again: bool,
 }
 
-/// The artifacts that the body of a key id records. A sublayout that was answered over the same
-/// folder is not verified again.
+/// The artifacts that the body of a key id records.
 #[cycle(level)]
-pub(crate) fn verify_body<'a, C: Checking>(
+pub(crate) fn verify_body<C: Checking>(
     walk: &Walk<C>,
-    at: &BodyAt<'a>,
+    at: &BodyAt,
     body: Body,
-    answered: &mut AnsweredSublayouts<'a>,
+    answered: &mut AnsweredSublayouts,
     meter: &mut Meter,
 ) -> Result<Recorded, ChainError>
     requires shallow { walk.now.level.depth ≤ 8 }
@@ -61,23 +66,70 @@ pub(crate) fn verify_body<'a, C: Checking>(
             products: link.products,
         }),
         Body::Layout(sublayout) => {
-            let alloc = walk.alloc;
-            let folder = folder_name(alloc, at.step, at.id)?;
-            if let Some(recorded) = answered.recall(alloc, folder.as_str(), at.payload, meter)? {
-                return Ok(recorded);
-            }
-            let mut asked = Meter { asked: 0 };
-            let chain = verify_sublayout(walk, at.step, at.id, &sublayout, &mut asked);
-            raise_by(meter, asked);
-            let recorded = summarized(alloc, at.step, at.id, chain)?;
-            let answer = Answer {
-                recorded: recorded.copy(alloc)?,
-                asked,
-            };
-            answered.keep(folder, at.payload, answer)?;
+            let folder = folder_name(walk.alloc, at.step, at.id)?;
+            let mut within = answered.take(walk.alloc, folder.as_str());
+            let recorded = recorded_by(walk, at, &sublayout, &mut within, meter)?;
+            answered.give(folder, within)?;
             Ok(recorded)
         }
     }
+}
+
+/// The artifacts that a sublayout records over its own folder. One that was answered over that
+/// folder is not verified again.
+#[cycle(level)]
+fn recorded_by<C: Checking>(
+    walk: &Walk<C>,
+    at: &BodyAt,
+    sublayout: &Layout,
+    within: &mut AnsweredSublayouts,
+    meter: &mut Meter,
+) -> Result<Recorded, ChainError>
+    requires shallow { walk.now.level.depth ≤ 8 }
+    requires reads { LayoutOf at.now.payload.now sublayout.now }
+    requires within { AreWithin (C.setting walk.now.checking.now) walk.now.level.depth
+        (folder_of at.now.step.now at.now.id.now walk.now.level.links.now) within.old }
+    ensures answer { BodyAnswers (scope_of C.setting walk.now) at.now.step.now at.now.id.now
+        (held_layout sublayout.now) result }
+    ensures asked { Asks (λ _. 0) (BodyCost (scope_of C.setting walk.now) at.now.step.now
+        at.now.id.now (held_layout sublayout.now)) meter.old meter.new result }
+    ensures fewest { IfOk result (λ _. BodyTakes (scope_of C.setting walk.now) at.now.step.now
+        at.now.id.now (held_layout sublayout.now) meter.old meter.new) }
+    ensures within { IfOk result (λ _. AreWithin (C.setting walk.now.checking.now)
+        walk.now.level.depth (folder_of at.now.step.now at.now.id.now walk.now.level.links.now)
+        within.new) }
+{
+    let alloc = walk.alloc;
+    if let Some(recorded) = within.recall(alloc, at.payload, meter)? {
+        return Ok(recorded);
+    }
+    let mut asked = Meter { asked: 0 };
+    let chain = verify_sublayout(walk, at, sublayout, within, &mut asked);
+    raise_by(meter, asked);
+    let recorded = summarized(alloc, at.step, at.id, chain)?;
+    keep_recorded(alloc, at, within, &recorded, asked)?;
+    Ok(recorded)
+}
+
+/// Keeps what a sublayout records, and what was asked for that, where it may be asked for again.
+fn keep_recorded(
+    alloc: Global,
+    at: &BodyAt,
+    within: &mut AnsweredSublayouts,
+    recorded: &Recorded,
+    asked: Meter,
+) -> Result<(), AllocError>
+    ensures { OnOk result (IsKeptIf at.now.again within.old within.new at.now.payload.now
+        (record { recorded = recorded.now; asked = asked })) }
+{
+    if !at.again {
+        return Ok(());
+    }
+    let answer = Answer {
+        recorded: recorded.copy(alloc)?,
+        asked,
+    };
+    within.keep(Vec::from_slice(alloc, at.payload)?, answer)
 }
 
 /// What a sublayout gives the step that it was signed for under a key id, or its error.
@@ -99,18 +151,23 @@ fn summarized(
 #[cycle(level)]
 fn verify_sublayout<C: Checking>(
     walk: &Walk<C>,
-    step: &str,
-    id: &str,
+    at: &BodyAt,
     sublayout: &Layout,
+    within: &mut AnsweredSublayouts,
     meter: &mut Meter,
 ) -> Result<Chain, ChainError>
     requires shallow { walk.now.level.depth ≤ 8 }
-    ensures answer { SublayoutAnswers (scope_of C.setting walk.now) step.now id.now sublayout.now
-        result }
-    ensures asked { Asks (λ _. 0) (SublayoutCost (scope_of C.setting walk.now) step.now id.now
-        sublayout.now) meter.old meter.new result }
-    ensures fewest { IfOk result (λ _. SublayoutTakes (scope_of C.setting walk.now) step.now id.now
-        sublayout.now meter.old meter.new) }
+    requires within { AreWithin (C.setting walk.now.checking.now) walk.now.level.depth
+        (folder_of at.now.step.now at.now.id.now walk.now.level.links.now) within.old }
+    ensures answer { SublayoutAnswers (scope_of C.setting walk.now) at.now.step.now at.now.id.now
+        sublayout.now result }
+    ensures asked { Asks (λ _. 0) (SublayoutCost (scope_of C.setting walk.now) at.now.step.now
+        at.now.id.now sublayout.now) meter.old meter.new result }
+    ensures fewest { IfOk result (λ _. SublayoutTakes (scope_of C.setting walk.now)
+        at.now.step.now at.now.id.now sublayout.now meter.old meter.new) }
+    ensures within { IfOk result (λ _. AreWithin (C.setting walk.now.checking.now)
+        walk.now.level.depth (folder_of at.now.step.now at.now.id.now walk.now.level.links.now)
+        within.new) }
 {
     let alloc = walk.alloc;
     if walk.level.is_deepest() {
@@ -119,19 +176,35 @@ fn verify_sublayout<C: Checking>(
     if !sublayout.inspections.as_slice().is_empty() {
         return Err(refused(alloc, ChainFault::InspectionInSublayout));
     }
-    let name = folder_name(alloc, step, id)?;
     let none = Bundle::new(alloc);
+    let folder = folder_of_body(alloc, walk.level.links, at, &none)?;
     let below = Level {
         layout: sublayout,
-        links: walk.level.links.dir(name.as_str()).unwrap_or(&none),
+        links: folder,
         depth: walk.level.depth - 1,
+        again: at.again,
     };
     let deeper = Walk {
         alloc,
         checking: walk.checking,
         level: below,
     };
-    verify_level(&deeper, meter)
+    verify_level(&deeper, within, meter)
+}
+
+/// The folder that the files of a sublayout are in; a missing one is empty.
+fn folder_of_body<'b>(
+    alloc: Global,
+    links: &'b Bundle,
+    at: &BodyAt,
+    none: &'b Bundle,
+) -> Result<&'b Bundle, AllocError>
+    requires { none.now ≡ empty }
+    ensures { IfOk result
+        (λ folder. folder.now ≡ folder_of at.now.step.now at.now.id.now links.now) }
+{
+    let name = folder_name(alloc, at.step, at.id)?;
+    Ok(links.dir(name.as_str()).unwrap_or(none))
 }
 
 impl<'a> Level<'a> {

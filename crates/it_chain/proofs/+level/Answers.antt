@@ -1,19 +1,18 @@
-use Rattle.std.proofs.Common.{IfOk, ◌≡◌, ◌∙◌, ◌<ℤ◌, ◌-◌, [], ◌∷◌, Option, None, Some}
+use Rattle.std.proofs.Common.{IfOk, ◌≡◌, ◌∙◌, ◌<ℤ◌, ◌-◌, suc, [], ◌∷◌, Option, None, Some}
 use Rattle.std.proofs.Common.{Contains, map, Err, flat_map, rules, refl, sym, ap}
-use Rattle.std.proofs.Common.{subst, unwrap_or, length, take, take_all, string_bytes, arith}
+use Rattle.std.proofs.Common.{subst, length, take, take_all, arith}
 use Rattle.it_dsse.specs.Meter.{raised}
-use Rattle.it_docs.specs.Layout.{LayoutOf}
 use Rattle.std.specs.FinMap.{keys}
 use Rattle.std.specs.List.{cons_option}
 use Rattle.std.proofs.lemmas.List.Elements.{Contains-get_or}
-use Rattle.std.proofs.lemmas.Result.{err_from_is_err_and}
+use Rattle.std.proofs.lemmas.Result.{IfOk-weaker, err_from_is_err_and}
 use Rattle.it_base.proofs.Elements.{zip_more}
 use Rattle.it_chain.specs.Chain.{holds_below}
 use Rattle.it_chain.specs.inside.Asked.{RaisedAtLeast, RaisedWithin, RecordsFewest}
 use Rattle.it_chain.specs.inside.Asked.{SignaturesIn, cost_below, fewest_below, key_total}
 use Rattle.it_chain.specs.inside.Asked.{least_given}
 use Rattle.it_chain.specs.Answer.{signers as signers_of, with_record}
-use Rattle.it_chain.specs.Contents.{empty, files_of, folder_at}
+use Rattle.it_chain.specs.Contents.{files_of}
 use Rattle.it_chain.specs.Cost.{StepCosts}
 use Rattle.it_chain.specs.Fewest.{StepFewest}
 use Rattle.it_chain.specs.Sublayouts.{folder_name, folder_of}
@@ -35,15 +34,17 @@ use Rattle.it_chain.proofs.LevelFewest.{FewestSum, below_takes, given_more, one_
 use Rattle.it_chain.proofs.LevelFewest.{record_takes, some_fewest_below, step_takes}
 use Rattle.it_chain.proofs.LevelWalks.{level_judged, steps_fail}
 use Rattle.it_chain.proofs.LevelRules.{links_differ}
-use Rattle.it_chain.proofs.Reused.{anew, anew_asks, anew_fails, kept_answers, none_answered}
-use Rattle.it_chain.proofs.Reused.{none_recalled, recalled}
+use Rattle.it_chain.proofs.Reused.{anew, anew_asks, anew_fails, given_answers, kept_if_within}
+use Rattle.it_chain.proofs.Reused.{none_recalled, of_summarized, recalled, taken_within}
+use Rattle.it_chain.proofs.Reused.{within_above, within_below}
 use Rattle.it_chain.proofs.StepWalks.{judged_walks}
 use Rattle.it_chain.proofs.SignerWalks.{AreWalked, signer_known, signer_listed, walked_all}
 use Rattle.it_chain.proofs.SignerWalks.{walked_fail, walked_more, walked_none}
-use Rattle.it_chain.proofs.Walks.{folder_or, level_below, nil_of, not_when, fails_before, fails_at}
+use Rattle.it_chain.proofs.Walks.{level_below, nil_of, not_when, fails_before, fails_at}
 use Rattle.it_chain.proofs.Walks.{none_counts, none_more, one_counts, one_below, apart_below}
 use Rattle.it_chain.proofs.Walks.{two_count, walks_behind, walks_given, walks_record, walks_two}
-use Rattle.it_chain.specs.inside.Answered.{answer_at}
+use Rattle.it_chain.specs.inside.Answered.{AreWithin, answer_at}
+use Rattle.it_chain.specs.declared.body.Body.TheVariants.{Layout as held_layout}
 use Rattle.it_chain.specs.inside.Scope.{BodyAnswers, BodyCost, LevelAnswers, LevelAsks}
 use Rattle.it_chain.specs.inside.Scope.{LevelTakes, scope_of}
 use Rattle.it_chain.proofs.+level.Goals as goal
@@ -113,8 +114,7 @@ id_records::verify_ids-loop-signer-init g t c =
           c.args.at.now.found []) c.args.meter.now c.args.meter.now refl;
       fewest = least_none (RecordsFewest (fewest_below s v.depth) s v.layout.now v.links.now
           c.args.at.now.step.now []) c.args.meter.now c.args.meter.now (λ n h. h) refl;
-      answers = none_answered (scope_of g.C.Checking.setting c.args.walk.now)
-          c.new-answered.result c.new-answered.ensures;
+      answers = c.requires.answers;
     })
 
 pub id_records::verify_ids-verify_id-requires : goal.id_records::verify_ids-verify_id-requires
@@ -315,6 +315,7 @@ level::verify_steps-loop-step-preserved g t c =
           c.verify_step.new.meter i steps step c.loop-step.results.items result
           c.loop-step-test.true c.step-item.is c.loop-step.invariant.asked
           c.in_ok-verify_step.ensures.asked);
+      answers = c.in_ok-verify_step.ensures.answers;
     }
 
 pub sublayouts::verify_sublayout-returns-clause-answer : goal.sublayouts::verify_sublayout-returns-clause-answer
@@ -322,15 +323,9 @@ sublayouts::verify_sublayout-returns-clause-answer g t c =
     let s = g.C.Checking.setting c.args.walk.now.checking.now in
     let v = c.args.walk.now.level in
     let links = v.links.now in
-    let name : c.as_str.result.now ≡ folder_name c.args.step.now c.args.id.now =
-    c.as_str.ensures.value ∙ c.in_ok-name.ensures in
     let bare : c.args.sublayout.now.inspections ≡ [] = sym c.as_slice.ensures
     ∙ nil_of c.as_slice.result.now (sym c.is_empty.ensures ∙ c.if-not-is_empty.false) in
-    let folder : c.unwrap_or.result.now ≡ folder_of c.args.step.now c.args.id.now links =
-    ap (λ r. r.now) c.unwrap_or.ensures
-    ∙ folder_or c.dir.result _ (folder_at c.as_str.result.now links) c.dir.ensures
-    c.new-none.ensures ∙ ap (λ n. unwrap_or (folder_at n links) empty) name in
-    level_below s c.args.sublayout.now (folder_of c.args.step.now c.args.id.now links) v.depth
+    level_below s c.args.sublayout.now (folder_of c.args.at.now.step.now c.args.at.now.id.now links) v.depth
     (v.depth - 1) (omega (
       arith,
       not_when c.is_deepest.result (v.depth ≡ 0) c.is_deepest.ensures
@@ -342,7 +337,7 @@ sublayouts::verify_sublayout-returns-clause-answer g t c =
       layout = c.args.sublayout.now;
       bundle = b;
     })
-    c.verify_level.result) folder c.verify_level.ensures.answer)
+    c.verify_level.result) c.in_ok-folder.ensures c.verify_level.ensures.answer)
 
 pub level::verify_steps-loop-step-init : goal.level::verify_steps-loop-step-init
 level::verify_steps-loop-step-init g t c =
@@ -356,6 +351,7 @@ level::verify_steps-loop-step-init g t c =
       fewest =
           least_none (FewestSum s v.depth v.layout.now v.links.now []) c.args.meter.now
           c.args.meter.now (λ n h. h) refl;
+      answers = c.requires.answers;
     })
 
 pub level::verify_steps-returns-in_err-verify_step-clause-asked : goal.level::verify_steps-returns-in_err-verify_step-clause-asked
@@ -488,7 +484,7 @@ sublayouts::verify_sublayout-returns-then-is_deepest-clause-asked g t c =
     let s = g.C.Checking.setting c.args.walk.now.checking.now in
     let v = c.args.walk.now.level in
     within_none (cost_below s v.depth c.args.sublayout.now
-    (folder_of c.args.step.now c.args.id.now v.links.now)) c.args.meter.now c.args.meter.now
+    (folder_of c.args.at.now.step.now c.args.at.now.id.now v.links.now)) c.args.meter.now c.args.meter.now
     refl
 
 pub sublayouts::verify_sublayout-returns-then-not-is_empty-clause-asked : goal.sublayouts::verify_sublayout-returns-then-not-is_empty-clause-asked
@@ -496,16 +492,16 @@ sublayouts::verify_sublayout-returns-then-not-is_empty-clause-asked g t c =
     let s = g.C.Checking.setting c.args.walk.now.checking.now in
     let v = c.args.walk.now.level in
     within_none (cost_below s v.depth c.args.sublayout.now
-    (folder_of c.args.step.now c.args.id.now v.links.now)) c.args.meter.now c.args.meter.now
+    (folder_of c.args.at.now.step.now c.args.at.now.id.now v.links.now)) c.args.meter.now c.args.meter.now
     refl
 
-pub sublayouts::verify_sublayout-returns-in_err-name-clause-asked : goal.sublayouts::verify_sublayout-returns-in_err-name-clause-asked
-sublayouts::verify_sublayout-returns-in_err-name-clause-asked g t c =
+pub sublayouts::verify_sublayout-returns-in_err-folder-clause-asked : goal.sublayouts::verify_sublayout-returns-in_err-folder-clause-asked
+sublayouts::verify_sublayout-returns-in_err-folder-clause-asked g t c =
     let s = g.C.Checking.setting c.args.walk.now.checking.now in
     let v = c.args.walk.now.level in
     let p = err_from_is_err_and c.from_residual.result c.from_residual.ensures.1 in
     rw p.1 (within_none (cost_below s v.depth c.args.sublayout.now
-    (folder_of c.args.step.now c.args.id.now v.links.now)) c.args.meter.now c.args.meter.now
+    (folder_of c.args.at.now.step.now c.args.at.now.id.now v.links.now)) c.args.meter.now c.args.meter.now
     refl)
 
 pub sublayouts::verify_sublayout-returns-clause-asked : goal.sublayouts::verify_sublayout-returns-clause-asked
@@ -513,13 +509,7 @@ sublayouts::verify_sublayout-returns-clause-asked g t c =
     let s = g.C.Checking.setting c.args.walk.now.checking.now in
     let v = c.args.walk.now.level in
     let links = v.links.now in
-    let name : c.as_str.result.now ≡ folder_name c.args.step.now c.args.id.now =
-    c.as_str.ensures.value ∙ c.in_ok-name.ensures in
-    let folder : c.unwrap_or.result.now ≡ folder_of c.args.step.now c.args.id.now links =
-    ap (λ r. r.now) c.unwrap_or.ensures
-    ∙ folder_or c.dir.result _ (folder_at c.as_str.result.now links) c.dir.ensures
-    c.new-none.ensures ∙ ap (λ n. unwrap_or (folder_at n links) empty) name in
-    below_asks s c.args.sublayout.now (folder_of c.args.step.now c.args.id.now links)
+    below_asks s c.args.sublayout.now (folder_of c.args.at.now.step.now c.args.at.now.id.now links)
     c.args.meter.now c.verify_level.new.meter v.depth (v.depth - 1)
     (omega (
       arith,
@@ -532,7 +522,7 @@ sublayouts::verify_sublayout-returns-clause-asked g t c =
       layout = c.args.sublayout.now;
       bundle = b;
     })
-    c.args.meter.now c.verify_level.new.meter c.verify_level.result) folder
+    c.args.meter.now c.verify_level.new.meter c.verify_level.result) c.in_ok-folder.ensures
     c.verify_level.ensures.asked)
 
 pub id_records::verify_id-returns-in_err-counted-clause-asked : goal.id_records::verify_id-returns-in_err-counted-clause-asked
@@ -628,13 +618,7 @@ sublayouts::verify_sublayout-returns-clause-fewest g t c =
     let s = g.C.Checking.setting c.args.walk.now.checking.now in
     let v = c.args.walk.now.level in
     let links = v.links.now in
-    let name : c.as_str.result.now ≡ folder_name c.args.step.now c.args.id.now =
-    c.as_str.ensures.value ∙ c.in_ok-name.ensures in
-    let folder : c.unwrap_or.result.now ≡ folder_of c.args.step.now c.args.id.now links =
-    ap (λ r. r.now) c.unwrap_or.ensures
-    ∙ folder_or c.dir.result _ (folder_at c.as_str.result.now links) c.dir.ensures
-    c.new-none.ensures ∙ ap (λ n. unwrap_or (folder_at n links) empty) name in
-    below_takes s c.args.sublayout.now (folder_of c.args.step.now c.args.id.now links)
+    below_takes s c.args.sublayout.now (folder_of c.args.at.now.step.now c.args.at.now.id.now links)
     c.args.meter.now c.verify_level.new.meter v.depth (v.depth - 1)
     (omega (
       arith,
@@ -647,7 +631,7 @@ sublayouts::verify_sublayout-returns-clause-fewest g t c =
       layout = c.args.sublayout.now;
       bundle = b;
     })
-    c.args.meter.now c.verify_level.new.meter)) folder c.verify_level.ensures.fewest)
+    c.args.meter.now c.verify_level.new.meter)) c.in_ok-folder.ensures c.verify_level.ensures.fewest)
 
 pub id_records::verify_id-returns-in-Nothing-clause-fewest : goal.id_records::verify_id-returns-in-Nothing-clause-fewest
 id_records::verify_id-returns-in-Nothing-clause-fewest g t c =
@@ -671,181 +655,226 @@ id_records::verify_id-returns-in-One-clause-fewest g t c =
     c.record_of.result c.record_of.ensures
     (rw c.as_str-name.ensures at c.verify_body-recorded.ensures.fewest)
 
--- ---- a body, whose sublayout may have been answered
+-- ---- a sublayout, which may have been answered
+pub sublayouts::recorded_by-returns-in_err-recorded-clause-asked : goal.sublayouts::recorded_by-returns-in_err-recorded-clause-asked
+sublayouts::recorded_by-returns-in_err-recorded-clause-asked g t c =
+    let scope = scope_of g.C.Checking.setting c.args.walk.now in
+    let place = c.args.at.now in
+    let p = err_from_is_err_and c.from_residual.result c.from_residual.ensures.1 in
+    rw p.1 (within_none (BodyCost scope place.step.now place.id.now (held_layout c.args.sublayout.now)) c.args.meter.now
+    c.recall.new.meter c.in_err-recorded.ensures.unchanged)
+
+pub sublayouts::recorded_by-returns-in-Some-clause-answer : goal.sublayouts::recorded_by-returns-in-Some-clause-answer
+sublayouts::recorded_by-returns-in-Some-clause-answer g t c =
+    let scope = scope_of g.C.Checking.setting c.args.walk.now in
+    let place = c.args.at.now in
+    let sublayout = c.args.sublayout.now in
+    let told = recalled scope place.step.now place.id.now sublayout c.args.within.now
+    c.requires.within place.payload.now c.requires.reads c.in-Some.recorded c.args.meter.now
+    c.recall.new.meter (rw c.in-Some.is at c.in_ok-recorded.ensures.told) in
+    told.answer
+
+pub sublayouts::recorded_by-returns-in-Some-clause-asked : goal.sublayouts::recorded_by-returns-in-Some-clause-asked
+sublayouts::recorded_by-returns-in-Some-clause-asked g t c =
+    let scope = scope_of g.C.Checking.setting c.args.walk.now in
+    let place = c.args.at.now in
+    let sublayout = c.args.sublayout.now in
+    let told = recalled scope place.step.now place.id.now sublayout c.args.within.now
+    c.requires.within place.payload.now c.requires.reads c.in-Some.recorded c.args.meter.now
+    c.recall.new.meter (rw c.in-Some.is at c.in_ok-recorded.ensures.told) in
+    told.asked
+
+pub sublayouts::recorded_by-returns-in-Some-clause-fewest : goal.sublayouts::recorded_by-returns-in-Some-clause-fewest
+sublayouts::recorded_by-returns-in-Some-clause-fewest g t c =
+    let scope = scope_of g.C.Checking.setting c.args.walk.now in
+    let place = c.args.at.now in
+    let sublayout = c.args.sublayout.now in
+    let told = recalled scope place.step.now place.id.now sublayout c.args.within.now
+    c.requires.within place.payload.now c.requires.reads c.in-Some.recorded c.args.meter.now
+    c.recall.new.meter (rw c.in-Some.is at c.in_ok-recorded.ensures.told) in
+    told.fewest
+
+pub sublayouts::recorded_by-returns-in_err-recorded-2-clause-asked : goal.sublayouts::recorded_by-returns-in_err-recorded-2-clause-asked
+sublayouts::recorded_by-returns-in_err-recorded-2-clause-asked g t c =
+    let scope = scope_of g.C.Checking.setting c.args.walk.now in
+    let place = c.args.at.now in
+    let asked = c.verify_sublayout-chain.new.meter in
+    let new = c.raise_by.new.meter in
+    let is : new ≡ raised c.args.meter.now asked.asked = c.raise_by.ensures
+    ∙ ap (λ m. raised m asked.asked) (none_recalled
+    (answer_at c.args.within.now place.payload.now) c.args.meter.now
+    c.recall.new.meter (rw c.in_default.is at c.in_ok-recorded.ensures.told)) in
+    let p = err_from_is_err_and c.from_residual-in_err-recorded-2.result c.from_residual-in_err-recorded-2.ensures.1 in
+    rw p.1 (anew_asks scope place.step.now place.id.now c.args.sublayout.now
+    asked c.args.meter.now new is c.verify_sublayout-chain.result
+    c.verify_sublayout-chain.ensures.asked)
+
+pub sublayouts::recorded_by-returns-in_err-keep_recorded-clause-asked : goal.sublayouts::recorded_by-returns-in_err-keep_recorded-clause-asked
+sublayouts::recorded_by-returns-in_err-keep_recorded-clause-asked g t c =
+    let scope = scope_of g.C.Checking.setting c.args.walk.now in
+    let place = c.args.at.now in
+    let asked = c.verify_sublayout-chain.new.meter in
+    let new = c.raise_by.new.meter in
+    let is : new ≡ raised c.args.meter.now asked.asked = c.raise_by.ensures
+    ∙ ap (λ m. raised m asked.asked) (none_recalled
+    (answer_at c.args.within.now place.payload.now) c.args.meter.now
+    c.recall.new.meter (rw c.in_default.is at c.in_ok-recorded.ensures.told)) in
+    let p = err_from_is_err_and c.from_residual-in_err-keep_recorded.result c.from_residual-in_err-keep_recorded.ensures.1 in
+    rw p.1 (anew_asks scope place.step.now place.id.now c.args.sublayout.now
+    asked c.args.meter.now new is c.verify_sublayout-chain.result
+    c.verify_sublayout-chain.ensures.asked)
+
+pub sublayouts::recorded_by-returns-in_err-recorded-2-clause-answer : goal.sublayouts::recorded_by-returns-in_err-recorded-2-clause-answer
+sublayouts::recorded_by-returns-in_err-recorded-2-clause-answer g t c =
+    let scope = scope_of g.C.Checking.setting c.args.walk.now in
+    let place = c.args.at.now in
+    let p = err_from_is_err_and c.from_residual-in_err-recorded-2.result c.from_residual-in_err-recorded-2.ensures.1 in
+    let error = c.in_err-recorded-2.field-0.0 in
+    let fails : c.from_residual-in_err-recorded-2.result ≡ Err error =
+    p.1 ∙ ap Err p.2 in
+    subst (λ r. BodyAnswers scope place.step.now place.id.now (held_layout c.args.sublayout.now) r) (sym fails)
+    (anew_fails scope place.step.now place.id.now c.args.sublayout.now
+    c.verify_sublayout-chain.result error c.verify_sublayout-chain.ensures.answer
+    c.in_err-recorded-2.ensures)
+
+pub sublayouts::recorded_by-returns-clause-answer : goal.sublayouts::recorded_by-returns-clause-answer
+sublayouts::recorded_by-returns-clause-answer g t c =
+    let scope = scope_of g.C.Checking.setting c.args.walk.now in
+    let place = c.args.at.now in
+    let sublayout = c.args.sublayout.now in
+    let asked = c.verify_sublayout-chain.new.meter in
+    let new = c.raise_by.new.meter in
+    let is : new ≡ raised c.args.meter.now asked.asked = c.raise_by.ensures
+    ∙ ap (λ m. raised m asked.asked) (none_recalled
+    (answer_at c.args.within.now place.payload.now) c.args.meter.now
+    c.recall.new.meter (rw c.in_default.is at c.in_ok-recorded.ensures.told)) in
+    let made = anew scope place.step.now place.id.now sublayout asked c.args.meter.now new is
+    place.payload.now c.requires.reads c.verify_sublayout-chain.result c.in_ok-recorded-2.recorded
+    c.verify_sublayout-chain.ensures.answer c.verify_sublayout-chain.ensures.asked
+    c.verify_sublayout-chain.ensures.fewest c.in_ok-recorded-2.ensures in
+    made.told.answer
+
+pub sublayouts::recorded_by-returns-clause-asked : goal.sublayouts::recorded_by-returns-clause-asked
+sublayouts::recorded_by-returns-clause-asked g t c =
+    let scope = scope_of g.C.Checking.setting c.args.walk.now in
+    let place = c.args.at.now in
+    let sublayout = c.args.sublayout.now in
+    let asked = c.verify_sublayout-chain.new.meter in
+    let new = c.raise_by.new.meter in
+    let is : new ≡ raised c.args.meter.now asked.asked = c.raise_by.ensures
+    ∙ ap (λ m. raised m asked.asked) (none_recalled
+    (answer_at c.args.within.now place.payload.now) c.args.meter.now
+    c.recall.new.meter (rw c.in_default.is at c.in_ok-recorded.ensures.told)) in
+    let made = anew scope place.step.now place.id.now sublayout asked c.args.meter.now new is
+    place.payload.now c.requires.reads c.verify_sublayout-chain.result c.in_ok-recorded-2.recorded
+    c.verify_sublayout-chain.ensures.answer c.verify_sublayout-chain.ensures.asked
+    c.verify_sublayout-chain.ensures.fewest c.in_ok-recorded-2.ensures in
+    made.told.asked
+
+pub sublayouts::recorded_by-returns-clause-fewest : goal.sublayouts::recorded_by-returns-clause-fewest
+sublayouts::recorded_by-returns-clause-fewest g t c =
+    let scope = scope_of g.C.Checking.setting c.args.walk.now in
+    let place = c.args.at.now in
+    let sublayout = c.args.sublayout.now in
+    let asked = c.verify_sublayout-chain.new.meter in
+    let new = c.raise_by.new.meter in
+    let is : new ≡ raised c.args.meter.now asked.asked = c.raise_by.ensures
+    ∙ ap (λ m. raised m asked.asked) (none_recalled
+    (answer_at c.args.within.now place.payload.now) c.args.meter.now
+    c.recall.new.meter (rw c.in_default.is at c.in_ok-recorded.ensures.told)) in
+    let made = anew scope place.step.now place.id.now sublayout asked c.args.meter.now new is
+    place.payload.now c.requires.reads c.verify_sublayout-chain.result c.in_ok-recorded-2.recorded
+    c.verify_sublayout-chain.ensures.answer c.verify_sublayout-chain.ensures.asked
+    c.verify_sublayout-chain.ensures.fewest c.in_ok-recorded-2.ensures in
+    made.told.fewest
+
+pub sublayouts::recorded_by-returns-clause-within : goal.sublayouts::recorded_by-returns-clause-within
+sublayouts::recorded_by-returns-clause-within g t c =
+    let scope = scope_of g.C.Checking.setting c.args.walk.now in
+    let place = c.args.at.now in
+    let sublayout = c.args.sublayout.now in
+    let asked = c.verify_sublayout-chain.new.meter in
+    let new = c.raise_by.new.meter in
+    let is : new ≡ raised c.args.meter.now asked.asked = c.raise_by.ensures
+    ∙ ap (λ m. raised m asked.asked) (none_recalled
+    (answer_at c.args.within.now place.payload.now) c.args.meter.now
+    c.recall.new.meter (rw c.in_default.is at c.in_ok-recorded.ensures.told)) in
+    let made = anew scope place.step.now place.id.now sublayout asked c.args.meter.now new is
+    place.payload.now c.requires.reads c.verify_sublayout-chain.result c.in_ok-recorded-2.recorded
+    c.verify_sublayout-chain.ensures.answer c.verify_sublayout-chain.ensures.asked
+    c.verify_sublayout-chain.ensures.fewest c.in_ok-recorded-2.ensures in
+    let folder = folder_of place.step.now place.id.now scope.bundle in
+    kept_if_within scope.setting scope.depth folder c.verify_sublayout-chain.new.within
+    c.keep_recorded.new.within place.payload.now
+    (record { recorded = c.in_ok-recorded-2.recorded; asked = asked }) place.again made.kept
+    c.in_ok-keep_recorded.ensures
+    (of_summarized (AreWithin scope.setting scope.depth folder
+    c.verify_sublayout-chain.new.within) place.step.now place.id.now
+    c.verify_sublayout-chain.result c.in_ok-recorded-2.recorded c.in_ok-recorded-2.ensures
+    c.verify_sublayout-chain.ensures.within)
+
+-- ---- a body, which is a link or a sublayout
+pub sublayouts::verify_body-recorded_by-requires : goal.sublayouts::verify_body-recorded_by-requires
+sublayouts::verify_body-recorded_by-requires g t c κs within =
+    let s = g.C.Checking.setting c.args.walk.now.checking.now in
+    let v = c.args.walk.now.level in
+    let place = c.args.at.now in
+    let right = taken_within s v.depth v.links.now c.args.answered.now c.requires.answers
+    (folder_name place.step.now place.id.now) c.take-within.result
+    (rw (c.as_str.ensures.value, c.in_ok-folder-in-Layout.ensures) at
+    c.take-within.ensures.taken) in (
+      search rules,
+      (search rules, (c.requires.shallow, (rw c.in-Layout.is at c.requires.reads, right))),
+    )
+
 pub sublayouts::verify_body-returns-in_err-recorded-in-Layout-clause-asked : goal.sublayouts::verify_body-returns-in_err-recorded-in-Layout-clause-asked
 sublayouts::verify_body-returns-in_err-recorded-in-Layout-clause-asked g t c =
-    let scope = scope_of g.C.Checking.setting c.args.walk.now in
-    let place = c.args.at.now in
     let p = err_from_is_err_and c.from_residual-in_err-recorded-in-Layout.result c.from_residual-in_err-recorded-in-Layout.ensures.1 in
-    rw p.1 (within_none (BodyCost scope place.step.now place.id.now c.args.body) c.args.meter.now
-    c.recall.new.meter c.in_err-recorded-in-Layout.ensures.unchanged)
+    rw (p.1, c.in-Layout.is) c.in_err-recorded-in-Layout.ensures.asked
 
-pub sublayouts::verify_body-returns-in-Some-clause-answer : goal.sublayouts::verify_body-returns-in-Some-clause-answer
-sublayouts::verify_body-returns-in-Some-clause-answer g t c =
-    let scope = scope_of g.C.Checking.setting c.args.walk.now in
-    let place = c.args.at.now in
-    let sublayout = c.in-Layout.sublayout in
-    let reads : LayoutOf place.payload.now sublayout = rw c.in-Layout.is at c.requires.reads in
-    let told = recalled scope place.step.now place.id.now sublayout c.args.answered.now
-    c.requires.answers place.payload.now reads c.in-Some.recorded c.args.meter.now c.recall.new.meter
-    (rw (c.as_str.ensures.value, c.in_ok-folder-in-Layout.ensures, c.in-Some.is) at
-    c.in_ok-recorded-in-Layout.ensures.told) in
-    rw c.in-Layout.is told.answer
+pub sublayouts::verify_body-returns-in_err-give-in-Layout-clause-asked : goal.sublayouts::verify_body-returns-in_err-give-in-Layout-clause-asked
+sublayouts::verify_body-returns-in_err-give-in-Layout-clause-asked g t c =
+    let p = err_from_is_err_and c.from_residual-in_err-give-in-Layout.result c.from_residual-in_err-give-in-Layout.ensures.1 in
+    rw (p.1, c.in-Layout.is) c.in_ok-recorded-in-Layout.ensures.asked
 
-pub sublayouts::verify_body-returns-in-Some-clause-asked : goal.sublayouts::verify_body-returns-in-Some-clause-asked
-sublayouts::verify_body-returns-in-Some-clause-asked g t c =
-    let scope = scope_of g.C.Checking.setting c.args.walk.now in
-    let place = c.args.at.now in
-    let sublayout = c.in-Layout.sublayout in
-    let reads : LayoutOf place.payload.now sublayout = rw c.in-Layout.is at c.requires.reads in
-    let told = recalled scope place.step.now place.id.now sublayout c.args.answered.now
-    c.requires.answers place.payload.now reads c.in-Some.recorded c.args.meter.now c.recall.new.meter
-    (rw (c.as_str.ensures.value, c.in_ok-folder-in-Layout.ensures, c.in-Some.is) at
-    c.in_ok-recorded-in-Layout.ensures.told) in
-    rw c.in-Layout.is told.asked
+pub sublayouts::verify_body-returns-in_ok-give-in-Layout-clause-asked : goal.sublayouts::verify_body-returns-in_ok-give-in-Layout-clause-asked
+sublayouts::verify_body-returns-in_ok-give-in-Layout-clause-asked g t c =
+    rw c.in-Layout.is c.in_ok-recorded-in-Layout.ensures.asked
 
-pub sublayouts::verify_body-returns-in-Some-clause-fewest : goal.sublayouts::verify_body-returns-in-Some-clause-fewest
-sublayouts::verify_body-returns-in-Some-clause-fewest g t c =
-    let scope = scope_of g.C.Checking.setting c.args.walk.now in
+pub sublayouts::verify_body-returns-in_ok-give-in-Layout-clause-answers : goal.sublayouts::verify_body-returns-in_ok-give-in-Layout-clause-answers
+sublayouts::verify_body-returns-in_ok-give-in-Layout-clause-answers g t c =
+    let s = g.C.Checking.setting c.args.walk.now.checking.now in
+    let v = c.args.walk.now.level in
     let place = c.args.at.now in
-    let sublayout = c.in-Layout.sublayout in
-    let reads : LayoutOf place.payload.now sublayout = rw c.in-Layout.is at c.requires.reads in
-    let told = recalled scope place.step.now place.id.now sublayout c.args.answered.now
-    c.requires.answers place.payload.now reads c.in-Some.recorded c.args.meter.now c.recall.new.meter
-    (rw (c.as_str.ensures.value, c.in_ok-folder-in-Layout.ensures, c.in-Some.is) at
-    c.in_ok-recorded-in-Layout.ensures.told) in
-    rw c.in-Layout.is told.fewest
+    given_answers s v.depth v.links.now c.args.answered.now c.requires.answers
+    (folder_name place.step.now place.id.now) c.take-within.new.self c.give.new.self
+    c.recorded_by.new.within c.take-within.ensures.left
+    (rw c.in_ok-folder-in-Layout.ensures at c.in_ok-give-in-Layout.ensures)
+    c.in_ok-recorded-in-Layout.ensures.within
 
-pub sublayouts::verify_body-returns-in_err-recorded-in-Layout-2-clause-asked : goal.sublayouts::verify_body-returns-in_err-recorded-in-Layout-2-clause-asked
-sublayouts::verify_body-returns-in_err-recorded-in-Layout-2-clause-asked g t c =
-    let scope = scope_of g.C.Checking.setting c.args.walk.now in
-    let place = c.args.at.now in
-    let asked = c.verify_sublayout-chain.new.meter in
-    let new = c.raise_by.new.meter in
-    let is : new ≡ raised c.args.meter.now asked.asked = c.raise_by.ensures
-    ∙ ap (λ m. raised m asked.asked) (none_recalled
-    (answer_at c.args.answered.now c.as_str.result.now place.payload.now) c.args.meter.now
-    c.recall.new.meter (rw c.in_default.is at c.in_ok-recorded-in-Layout.ensures.told)) in
-    let p = err_from_is_err_and c.from_residual-in_err-recorded-in-Layout-2.result c.from_residual-in_err-recorded-in-Layout-2.ensures.1 in
-    rw (p.1, c.in-Layout.is) (anew_asks scope place.step.now place.id.now c.in-Layout.sublayout
-    asked c.args.meter.now new is c.verify_sublayout-chain.result
-    c.verify_sublayout-chain.ensures.asked)
+-- ---- what was answered over a sublayout's folder
+pub sublayouts::verify_sublayout-verify_level-requires : goal.sublayouts::verify_sublayout-verify_level-requires
+sublayouts::verify_sublayout-verify_level-requires g t c κs within =
+    let s = g.C.Checking.setting c.args.walk.now.checking.now in
+    let v = c.args.walk.now.level in
+    let above : v.depth ≡ suc (v.depth - 1) = omega (
+      arith,
+      not_when c.is_deepest.result (v.depth ≡ 0) c.is_deepest.ensures c.if-is_deepest.false,
+    ) in
+    let right = within_below s v.depth (v.depth - 1) above c.in_ok-folder.folder.now
+    (folder_of c.args.at.now.step.now c.args.at.now.id.now v.links.now) c.in_ok-folder.ensures
+    c.args.within.now c.requires.within in
+    (search rules, (search rules, (omega (arith, c.requires.shallow), right)))
 
-pub sublayouts::verify_body-returns-in_err-copy-in-Layout-clause-asked : goal.sublayouts::verify_body-returns-in_err-copy-in-Layout-clause-asked
-sublayouts::verify_body-returns-in_err-copy-in-Layout-clause-asked g t c =
-    let scope = scope_of g.C.Checking.setting c.args.walk.now in
-    let place = c.args.at.now in
-    let asked = c.verify_sublayout-chain.new.meter in
-    let new = c.raise_by.new.meter in
-    let is : new ≡ raised c.args.meter.now asked.asked = c.raise_by.ensures
-    ∙ ap (λ m. raised m asked.asked) (none_recalled
-    (answer_at c.args.answered.now c.as_str.result.now place.payload.now) c.args.meter.now
-    c.recall.new.meter (rw c.in_default.is at c.in_ok-recorded-in-Layout.ensures.told)) in
-    let p = err_from_is_err_and c.from_residual-in_err-copy-in-Layout.result c.from_residual-in_err-copy-in-Layout.ensures.1 in
-    rw (p.1, c.in-Layout.is) (anew_asks scope place.step.now place.id.now c.in-Layout.sublayout
-    asked c.args.meter.now new is c.verify_sublayout-chain.result
-    c.verify_sublayout-chain.ensures.asked)
-
-pub sublayouts::verify_body-returns-in_err-keep-in-Layout-clause-asked : goal.sublayouts::verify_body-returns-in_err-keep-in-Layout-clause-asked
-sublayouts::verify_body-returns-in_err-keep-in-Layout-clause-asked g t c =
-    let scope = scope_of g.C.Checking.setting c.args.walk.now in
-    let place = c.args.at.now in
-    let asked = c.verify_sublayout-chain.new.meter in
-    let new = c.raise_by.new.meter in
-    let is : new ≡ raised c.args.meter.now asked.asked = c.raise_by.ensures
-    ∙ ap (λ m. raised m asked.asked) (none_recalled
-    (answer_at c.args.answered.now c.as_str.result.now place.payload.now) c.args.meter.now
-    c.recall.new.meter (rw c.in_default.is at c.in_ok-recorded-in-Layout.ensures.told)) in
-    let p = err_from_is_err_and c.from_residual-in_err-keep-in-Layout.result c.from_residual-in_err-keep-in-Layout.ensures.1 in
-    rw (p.1, c.in-Layout.is) (anew_asks scope place.step.now place.id.now c.in-Layout.sublayout
-    asked c.args.meter.now new is c.verify_sublayout-chain.result
-    c.verify_sublayout-chain.ensures.asked)
-
-pub sublayouts::verify_body-returns-in_err-recorded-in-Layout-2-clause-answer : goal.sublayouts::verify_body-returns-in_err-recorded-in-Layout-2-clause-answer
-sublayouts::verify_body-returns-in_err-recorded-in-Layout-2-clause-answer g t c =
-    let scope = scope_of g.C.Checking.setting c.args.walk.now in
-    let place = c.args.at.now in
-    let p = err_from_is_err_and c.from_residual-in_err-recorded-in-Layout-2.result c.from_residual-in_err-recorded-in-Layout-2.ensures.1 in
-    let error = c.in_err-recorded-in-Layout-2.field-0.0 in
-    let fails : c.from_residual-in_err-recorded-in-Layout-2.result ≡ Err error =
-    p.1 ∙ ap Err p.2 in
-    subst (λ r. BodyAnswers scope place.step.now place.id.now c.args.body r) (sym fails)
-    (subst (λ b. BodyAnswers scope place.step.now place.id.now b (Err error)) (sym c.in-Layout.is)
-    (anew_fails scope place.step.now place.id.now c.in-Layout.sublayout
-    c.verify_sublayout-chain.result error c.verify_sublayout-chain.ensures.answer
-    c.in_err-recorded-in-Layout-2.ensures))
-
-pub sublayouts::verify_body-returns-in_ok-keep-in-Layout-clause-answer : goal.sublayouts::verify_body-returns-in_ok-keep-in-Layout-clause-answer
-sublayouts::verify_body-returns-in_ok-keep-in-Layout-clause-answer g t c =
-    let scope = scope_of g.C.Checking.setting c.args.walk.now in
-    let place = c.args.at.now in
-    let sublayout = c.in-Layout.sublayout in
-    let reads : LayoutOf place.payload.now sublayout = rw c.in-Layout.is at c.requires.reads in
-    let asked = c.verify_sublayout-chain.new.meter in
-    let new = c.raise_by.new.meter in
-    let is : new ≡ raised c.args.meter.now asked.asked = c.raise_by.ensures
-    ∙ ap (λ m. raised m asked.asked) (none_recalled
-    (answer_at c.args.answered.now c.as_str.result.now place.payload.now) c.args.meter.now
-    c.recall.new.meter (rw c.in_default.is at c.in_ok-recorded-in-Layout.ensures.told)) in
-    let made = anew scope place.step.now place.id.now sublayout asked c.args.meter.now new is
-    place.payload.now reads c.verify_sublayout-chain.result c.in_ok-recorded-in-Layout-2.recorded
-    c.verify_sublayout-chain.ensures.answer c.verify_sublayout-chain.ensures.asked
-    c.verify_sublayout-chain.ensures.fewest c.in_ok-recorded-in-Layout-2.ensures in
-    rw c.in-Layout.is made.told.answer
-
-pub sublayouts::verify_body-returns-in_ok-keep-in-Layout-clause-asked : goal.sublayouts::verify_body-returns-in_ok-keep-in-Layout-clause-asked
-sublayouts::verify_body-returns-in_ok-keep-in-Layout-clause-asked g t c =
-    let scope = scope_of g.C.Checking.setting c.args.walk.now in
-    let place = c.args.at.now in
-    let sublayout = c.in-Layout.sublayout in
-    let reads : LayoutOf place.payload.now sublayout = rw c.in-Layout.is at c.requires.reads in
-    let asked = c.verify_sublayout-chain.new.meter in
-    let new = c.raise_by.new.meter in
-    let is : new ≡ raised c.args.meter.now asked.asked = c.raise_by.ensures
-    ∙ ap (λ m. raised m asked.asked) (none_recalled
-    (answer_at c.args.answered.now c.as_str.result.now place.payload.now) c.args.meter.now
-    c.recall.new.meter (rw c.in_default.is at c.in_ok-recorded-in-Layout.ensures.told)) in
-    let made = anew scope place.step.now place.id.now sublayout asked c.args.meter.now new is
-    place.payload.now reads c.verify_sublayout-chain.result c.in_ok-recorded-in-Layout-2.recorded
-    c.verify_sublayout-chain.ensures.answer c.verify_sublayout-chain.ensures.asked
-    c.verify_sublayout-chain.ensures.fewest c.in_ok-recorded-in-Layout-2.ensures in
-    rw c.in-Layout.is made.told.asked
-
-pub sublayouts::verify_body-returns-in_ok-keep-in-Layout-clause-fewest : goal.sublayouts::verify_body-returns-in_ok-keep-in-Layout-clause-fewest
-sublayouts::verify_body-returns-in_ok-keep-in-Layout-clause-fewest g t c =
-    let scope = scope_of g.C.Checking.setting c.args.walk.now in
-    let place = c.args.at.now in
-    let sublayout = c.in-Layout.sublayout in
-    let reads : LayoutOf place.payload.now sublayout = rw c.in-Layout.is at c.requires.reads in
-    let asked = c.verify_sublayout-chain.new.meter in
-    let new = c.raise_by.new.meter in
-    let is : new ≡ raised c.args.meter.now asked.asked = c.raise_by.ensures
-    ∙ ap (λ m. raised m asked.asked) (none_recalled
-    (answer_at c.args.answered.now c.as_str.result.now place.payload.now) c.args.meter.now
-    c.recall.new.meter (rw c.in_default.is at c.in_ok-recorded-in-Layout.ensures.told)) in
-    let made = anew scope place.step.now place.id.now sublayout asked c.args.meter.now new is
-    place.payload.now reads c.verify_sublayout-chain.result c.in_ok-recorded-in-Layout-2.recorded
-    c.verify_sublayout-chain.ensures.answer c.verify_sublayout-chain.ensures.asked
-    c.verify_sublayout-chain.ensures.fewest c.in_ok-recorded-in-Layout-2.ensures in
-    rw c.in-Layout.is made.told.fewest
-
-pub sublayouts::verify_body-returns-in_ok-keep-in-Layout-clause-answers : goal.sublayouts::verify_body-returns-in_ok-keep-in-Layout-clause-answers
-sublayouts::verify_body-returns-in_ok-keep-in-Layout-clause-answers g t c =
-    let scope = scope_of g.C.Checking.setting c.args.walk.now in
-    let place = c.args.at.now in
-    let sublayout = c.in-Layout.sublayout in
-    let reads : LayoutOf place.payload.now sublayout = rw c.in-Layout.is at c.requires.reads in
-    let asked = c.verify_sublayout-chain.new.meter in
-    let new = c.raise_by.new.meter in
-    let is : new ≡ raised c.args.meter.now asked.asked = c.raise_by.ensures
-    ∙ ap (λ m. raised m asked.asked) (none_recalled
-    (answer_at c.args.answered.now c.as_str.result.now place.payload.now) c.args.meter.now
-    c.recall.new.meter (rw c.in_default.is at c.in_ok-recorded-in-Layout.ensures.told)) in
-    let made = anew scope place.step.now place.id.now sublayout asked c.args.meter.now new is
-    place.payload.now reads c.verify_sublayout-chain.result c.in_ok-recorded-in-Layout-2.recorded
-    c.verify_sublayout-chain.ensures.answer c.verify_sublayout-chain.ensures.asked
-    c.verify_sublayout-chain.ensures.fewest c.in_ok-recorded-in-Layout-2.ensures in
-    kept_answers scope c.args.answered.now c.keep.new.self (string_bytes c.in_ok-folder-in-Layout.folder)
-    place.payload.now (record { recorded = c.in_ok-copy-in-Layout.field-0; asked = asked })
-    (rw (c.in_ok-folder-in-Layout.ensures, c.in_ok-copy-in-Layout.ensures) made.kept) c.requires.answers
-    c.in_ok-keep-in-Layout.ensures
+pub sublayouts::verify_sublayout-returns-clause-within : goal.sublayouts::verify_sublayout-returns-clause-within
+sublayouts::verify_sublayout-returns-clause-within g t c =
+    let s = g.C.Checking.setting c.args.walk.now.checking.now in
+    let v = c.args.walk.now.level in
+    let above : v.depth ≡ suc (v.depth - 1) = omega (
+      arith,
+      not_when c.is_deepest.result (v.depth ≡ 0) c.is_deepest.ensures c.if-is_deepest.false,
+    ) in
+    IfOk-weaker c.verify_level.result _ _
+    (λ chain right. within_above s v.depth (v.depth - 1) above c.in_ok-folder.folder.now
+    (folder_of c.args.at.now.step.now c.args.at.now.id.now v.links.now) c.in_ok-folder.ensures
+    c.verify_level.new.answered right) c.verify_level.ensures.answers

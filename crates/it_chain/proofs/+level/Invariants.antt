@@ -15,31 +15,34 @@ use Rattle.it_chain.proofs.SignerWalks.{AreWalked}
 use Rattle.it_chain.proofs.+level.Given as goal
 
 abbrev pub decreases-sublayouts::verify_sublayout : goal.decreases-sublayouts::verify_sublayout
-decreases-sublayouts::verify_sublayout g l = 8 * l.walk.now.level.depth
+decreases-sublayouts::verify_sublayout g l = 9 * l.walk.now.level.depth
+
+abbrev pub decreases-sublayouts::recorded_by : goal.decreases-sublayouts::recorded_by
+decreases-sublayouts::recorded_by g l = 9 * l.walk.now.level.depth + 1
 
 abbrev pub decreases-sublayouts::verify_body : goal.decreases-sublayouts::verify_body
-decreases-sublayouts::verify_body g l = 8 * l.walk.now.level.depth + 1
+decreases-sublayouts::verify_body g l = 9 * l.walk.now.level.depth + 2
 
 abbrev pub decreases-id_records::verify_id : goal.decreases-id_records::verify_id
-decreases-id_records::verify_id g l = 8 * l.walk.now.level.depth + 2
+decreases-id_records::verify_id g l = 9 * l.walk.now.level.depth + 3
 
 abbrev pub decreases-id_records::verify_ids : goal.decreases-id_records::verify_ids
-decreases-id_records::verify_ids g l = 8 * l.walk.now.level.depth + 3
+decreases-id_records::verify_ids g l = 9 * l.walk.now.level.depth + 4
 
 abbrev pub decreases-level::verify_step : goal.decreases-level::verify_step
-decreases-level::verify_step g l = 8 * l.walk.now.level.depth + 4
+decreases-level::verify_step g l = 9 * l.walk.now.level.depth + 5
 
 abbrev pub decreases-level::verify_steps : goal.decreases-level::verify_steps
-decreases-level::verify_steps g l = 8 * l.walk.now.level.depth + 5
+decreases-level::verify_steps g l = 9 * l.walk.now.level.depth + 6
 
 abbrev pub decreases-level::judge_level : goal.decreases-level::judge_level
-decreases-level::judge_level g l = 8 * l.walk.now.level.depth + 6
+decreases-level::judge_level g l = 9 * l.walk.now.level.depth + 7
 
 abbrev pub decreases-level::verify_level : goal.decreases-level::verify_level
-decreases-level::verify_level g l = 8 * l.walk.now.level.depth + 7
+decreases-level::verify_level g l = 9 * l.walk.now.level.depth + 8
 
 -- nothing stands at the steps so far, which hold with the results, no more was asked than
--- they cost, and no less than they take
+-- they cost, and no less than they take; what was answered for sublayouts is right
 abbrev pub invariant-level::verify_steps-loop-step : goal.invariant-level::verify_steps-loop-step
 invariant-level::verify_steps-loop-step g l =
     let setting = g.C.Checking.setting l.walk.checking.now in
@@ -54,6 +57,7 @@ invariant-level::verify_steps-loop-step g l =
           (take l.step-index l.step-items)) l.fn.meter l.meter;
       fewest : RaisedAtLeast (FewestSum setting l.walk.level.depth layout bundle
           (take l.step-index l.step-items)) l.fn.meter l.meter;
+      answers : AreAnswers (scope_of g.C.Checking.setting l.walk) l.answered;
     }
 
 -- nothing stands at the ids of the signers so far, of which these are the records, no more was

@@ -1,6 +1,4 @@
-use Rattle.std.proofs.Common.{map, refl, subst}
 use Rattle.std.proofs.lemmas.Result.{IfOk-weaker}
-use Rattle.it_chain.specs.inside.Asked.{Asks, SignaturesIn, least_counted}
 use Rattle.it_chain.specs.inside.CountedBodies.{Counts}
 use Rattle.it_chain.specs.inside.Hints.{admitted_for}
 use Rattle.it_chain.proofs.Admitted.{asks_all, counts_all}

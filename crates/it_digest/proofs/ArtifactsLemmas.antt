@@ -18,7 +18,7 @@ use Rattle.std.proofs.lemmas.Slice.Eq.{bytes_eq-Decides, slice_eq-Decides}
 use Rattle.it_base.proofs.TableLemmas.{entries-named_entries}
 use Rattle.it_digest.specs.declared.compare.DigestSet.{DigestSet}
 use Rattle.it_digest.specs.Artifacts.{path_entries}
-use Rattle.it_digest.specs.inside.Compact.{same_set, same_value}
+use Rattle.it_digest.specs.Equal.{same_set, same_value}
 
 abbrev pub path_cmp : List ℕ → List ℕ → Ordering
 path_cmp = slice_cmp nat_cmp

@@ -11,7 +11,7 @@ use Rattle.it_digest.specs.Compare.{Agree, Differ, StandsInBoth}
 use Rattle.it_digest.specs.DigestSet.{Algorithm, in_sha256, in_sha384, in_sha512}
 use Rattle.it_digest.specs.declared.compare.DigestSet.{DigestSet}
 use Rattle.it_digest.proofs.ArtifactsLemmas.{digest_set_eq-Decides, same_entry, same_entry-Decides}
-use Rattle.it_digest.specs.inside.Compact.{same_set}
+use Rattle.it_digest.specs.Equal.{same_set}
 
 -- whether two values are there and pass a test
 abbrev are_both : (List ℕ → List ℕ → Bool) → Option (List ℕ) → Option (List ℕ) → Bool

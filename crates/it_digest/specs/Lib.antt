@@ -2,6 +2,7 @@ pub mod Artifacts
 pub mod Compare
 pub mod Digest
 pub mod DigestSet
+pub mod Equal
 pub mod Listed
 pub mod Reader
 pub mod Sums

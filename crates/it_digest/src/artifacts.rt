@@ -1,6 +1,7 @@
 //! Maps from the path of an artifact to its digests.
 
 ghost use Rattle.std.specs.Prelude.{◌≡◌, ◌↔◌, IsTrue, IfOk, OnOk, OnErr, string_bytes, map};
+ghost use Rattle.std.specs.Prelude.{option_map};
 ghost use Rattle.std.specs.Ordering.{nat_cmp};
 ghost use Rattle.std.specs.Cmp.Lexicographic.{slice_cmp};
 ghost use Rattle.std.specs.List.Sorted.{IsStrictlySortedBy};
@@ -74,7 +75,14 @@ impl Artifacts {
     pub fn get(&self, path: &str) -> Option<DigestSet>
         ensures { result ≡ finite.get self.now path.now }
     {
-        self.by_path.get(path).map(CompactSet::set)
+        self.at(path).map(CompactSet::set)
+    }
+
+    /// The digests of a path as the map keeps them, if it has the path. Takes no memory.
+    pub fn at(&self, path: &str) -> Option<&CompactSet>
+        ensures { option_map (λ digests. digests.now) result ≡ finite.get self.now path.now }
+    {
+        self.by_path.get(path)
     }
 
     /// The paths, each once, in the order of their bytes.

@@ -1,10 +1,12 @@
 //! Digest sets in the room that they need.
-ghost use Rattle.std.specs.Prelude.{◌≡◌, IfOk};
+ghost use Rattle.std.specs.Prelude.{◌≡◌, ◌↔◌, IfOk};
 ghost use Rattle.it_borrowed.specs.Tree.{as_data};
+ghost use Rattle.it_digest.specs.Compare.{Agree, Apart, Differ, compared};
 ghost use Rattle.it_digest.specs.Digest.{IsDigestSet};
-ghost use Rattle.it_digest.specs.inside.Compact.{same_set, same_set_per};
+ghost use Rattle.it_digest.specs.DigestSet.{in_sha256, only};
+ghost use Rattle.it_digest.specs.Equal.{same_set, same_set_per};
 
-use crate::compare::DigestSet;
+use crate::compare::{Compare, DigestSet};
 use crate::digest::digest_set;
 use it_borrowed::parts::FromBorrowed;
 use json::Value;
@@ -66,11 +68,34 @@ impl CompactSet {
         }
     }
 
+    /// Compares two sets, as `DigestSet::compare` does. Takes no memory.
+    pub fn compare(&self, other: &CompactSet) -> Compare
+        ensures agree { (result ≡ Compare.Agree) ↔ Agree self.now other.now }
+        ensures differ { (result ≡ Compare.Differ) ↔ Differ self.now other.now }
+        ensures apart { (result ≡ Compare.Apart) ↔ Apart self.now other.now }
+    {
+        match (&self.kept, &other.kept) {
+            (Kept::Sha256(one), Kept::Sha256(other)) => compare_values(one, other),
+            _ => self.set().compare(&other.set()),
+        }
+    }
+
     /// A copy of the set.
     pub(crate) fn copy(&self, alloc: Global) -> Result<CompactSet, AllocError>
         ensures { IfOk result (λ copy. copy ≡ self.now) }
     {
         CompactSet::of(alloc, self.set())
+    }
+}
+
+/// Compares the values of an algorithm that two sets have alone.
+fn compare_values(one: &[u8; 32], other: &[u8; 32]) -> Compare
+    ensures { result ≡ compared (only in_sha256 one.now) (only in_sha256 other.now) }
+{
+    if one == other {
+        Compare::Agree
+    } else {
+        Compare::Differ
     }
 }
 

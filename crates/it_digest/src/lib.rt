@@ -3,7 +3,7 @@
 #![tactic(auto)]
 
 pub mod artifacts;
-mod compact;
+pub mod compact;
 pub mod compare;
 pub mod digest;
 mod digits;

@@ -2,7 +2,6 @@ pub mod Check
 pub mod Countersigned
 pub mod Envelope
 pub mod Hmac
-pub mod Joined
 pub mod KeyObject
 pub mod Laws
 pub mod Meter

@@ -1,6 +1,6 @@
 //! What checks signatures.
 ghost use Rattle.std.specs.Prelude.{◌≡◌, IfOk, IfSome, OnErr, OnOk, option_map};
-ghost use Rattle.it_dsse.specs.Joined.{joined};
+ghost use Rattle.it_message.specs.Message.{joined};
 ghost use Rattle.it_dsse.specs.Meter.{raised};
 ghost use Rattle.it_dsse.specs.Panel.{KeyNumber, Panel};
 ghost use Rattle.it_dsse.specs.Signed.{tries_for};

@@ -1,9 +1,10 @@
 //! The bytes that are signed.
 ghost use Rattle.std.specs.Prelude.{◌≡◌, IfOk};
-ghost use Rattle.it_dsse.specs.Joined.{joined};
+ghost use Rattle.it_message.specs.Message.{joined};
 ghost use Rattle.it_dsse.specs.Pae.{pae_of};
 
 use crate::decimal::{MOST_DIGITS, decimal_in};
+use it_message::join;
 use std::alloc::{AllocError, Global};
 
 /// Room for the digits of the lengths of a type and a body.
@@ -53,15 +54,4 @@ pub fn pae(alloc: Global, kind: &str, body: &[u8]) -> Result<Vec<u8>, AllocError
     let mut digits = LengthDigits::new();
     let parts = parts_of(kind, body, &mut digits);
     join(alloc, &parts)
-}
-
-/// The parts, one after another.
-fn join(alloc: Global, parts: &[&[u8]]) -> Result<Vec<u8>, AllocError>
-    ensures { IfOk result (λ bytes. bytes.items ≡ joined parts.now) }
-{
-    let mut bytes = Vec::new(alloc);
-    for part in parts {
-        bytes.extend_from_slice(part)?;
-    }
-    Ok(bytes)
 }

@@ -7,7 +7,7 @@ ghost use Rattle.std.specs.List.Sorted.{IsPermutation, IsSorted};
 ghost use Rattle.std.specs.Ordering.{nat_cmp};
 ghost use Rattle.it_base.specs.Finds.{Finds};
 ghost use Rattle.it_dsse.specs.Hmac.{hmac};
-ghost use Rattle.it_dsse.specs.Joined.{joined};
+ghost use Rattle.it_message.specs.Message.{joined};
 ghost use Rattle.it_dsse.specs.Ring.{RingOf, has_id, has_key, ids_of, number_of};
 ghost use Rattle.it_dsse.specs.declared.ring.RingFault.TheVariants.{OutOfMemory};
 

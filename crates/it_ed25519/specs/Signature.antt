@@ -1,18 +1,12 @@
 -- When bytes are a message's signature under a public key (RFC 8032, section 5.1.7, without the
 -- cofactor: [S] B = R + [k] A, by the bytes of R).
-use Rattle.std.specs.Prelude.{◌≡◌, ℕ, ◌%◌, ◌<◌, List, ◌++◌, length, take, drop, map, Some}
-use Rattle.std.specs.Borrow.{Bor}
-use Rattle.std.specs.List.{concat}
+use Rattle.std.specs.Prelude.{◌≡◌, ℕ, ◌%◌, ◌<◌, List, ◌++◌, length, take, drop, Some}
 use Rattle.sha2.specs.Sha512.{sha512}
 use Rattle.it_numbers.specs.Bytes.{little}
 use Rattle.it_ed_scalar.specs.Order.{order}
 use Rattle.it_ed_point.specs.declared.point.Point.{Point}
 use Rattle.it_ed_point.specs.Curve.{base, sum_of, opposite_of, multiple_of}
 use Rattle.it_ed_point.specs.Encoding.{encoding_of, decoded}
-
--- the message that the parts make, one after another
-abbrev pub joined : List (Bor (List ℕ)) → List ℕ
-joined parts = concat (map (λ part. part.now) parts)
 
 -- k: the SHA-512 of the bytes of R, the key and the message, modulo L (step 2)
 unfoldable pub challenge_of : List ℕ → List ℕ → List ℕ → ℕ

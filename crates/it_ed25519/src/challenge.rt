@@ -1,6 +1,7 @@
 //! The number k, which ties a signature to its key and its message.
 ghost use Rattle.std.specs.Prelude.{◌≡◌};
-ghost use Rattle.it_ed25519.specs.Signature.{challenge_of, joined};
+ghost use Rattle.it_ed25519.specs.Signature.{challenge_of};
+ghost use Rattle.it_message.specs.Message.{joined};
 
 use it_ed_scalar::scalar::Scalar;
 use sha2::{Digest, Sha512};

@@ -1,6 +1,7 @@
 //! Signatures.
 ghost use Rattle.std.specs.Prelude.{◌↔◌, IsTrue};
-ghost use Rattle.it_ed25519.specs.Signature.{IsSignature, joined};
+ghost use Rattle.it_ed25519.specs.Signature.{IsSignature};
+ghost use Rattle.it_message.specs.Message.{joined};
 
 use crate::challenge::challenge;
 use crate::public_key::PublicKey;

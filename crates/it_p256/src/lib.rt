@@ -10,7 +10,6 @@
 //! run in constant time.
 #![tactic(auto)]
 
-mod digest;
 mod key;
 pub mod laws;
 mod number;
@@ -18,7 +17,6 @@ mod signature;
 mod signature_value;
 mod verification;
 
-pub use digest::message_digest;
 pub use key::PublicKey;
 pub use signature::{is_signature, is_signature_of_digest};
 pub use signature_value::{SignatureValue, read_signature_value};

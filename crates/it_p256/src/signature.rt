@@ -1,12 +1,12 @@
 //! Signatures.
 ghost use Rattle.std.specs.Prelude.{◌↔◌, IsTrue};
-ghost use Rattle.it_p256.specs.Message.{joined};
+ghost use Rattle.it_message.specs.Message.{joined};
 ghost use Rattle.it_p256.specs.Signature.{IsSignature, IsSignatureOfDigest};
 
-use crate::digest::message_digest;
 use crate::key::PublicKey;
 use crate::signature_value::read_signature_value;
 use crate::verification::is_signed;
+use it_message::message_sha256;
 use it_p256_limbs::limbs_of;
 
 /// Whether `signature` is the key's signature of the message that the parts make when they are
@@ -14,7 +14,7 @@ use it_p256_limbs::limbs_of;
 pub fn is_signature(key: &PublicKey, message: &[&[u8]], signature: &[u8]) -> bool
     ensures { IsTrue result ↔ IsSignature key.now (joined message.now) signature.now }
 {
-    is_signature_of_digest(key, &message_digest(message), signature)
+    is_signature_of_digest(key, &message_sha256(message), signature)
 }
 
 /// The same for a message whose SHA-256 is given, so that one message is hashed once for many keys

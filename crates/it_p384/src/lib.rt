@@ -10,13 +10,11 @@
 //! run in constant time.
 #![tactic(auto)]
 
-mod digest;
 mod key;
 pub mod laws;
 mod number;
 mod signature;
 mod verification;
 
-pub use digest::message_digest;
 pub use key::PublicKey;
 pub use signature::{is_signature, is_signature_of_digest};

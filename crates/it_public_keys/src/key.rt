@@ -1,9 +1,9 @@
 //! Public keys of four kinds.
 ghost use Rattle.std.specs.Prelude.{◌≡◌, ℕ, IfOk, List};
-ghost use Rattle.it_dsse.specs.Joined.{joined};
+ghost use Rattle.it_message.specs.Message.{joined};
 ghost use Rattle.it_public_keys.specs.Validity.{is_signature_of, is_signature_with};
 
-use crate::joining::joined;
+use it_message::{join, message_sha256};
 use std::alloc::{AllocError, Global};
 
 /// A public key, decoded once.
@@ -40,8 +40,7 @@ impl Key {
     {
         match self {
             Key::Ed25519(_) | Key::P384(_) => [0; 32],
-            Key::P256(_) => it_p256::message_digest(message),
-            Key::Rsa(_) => it_rsa::message_digest(message),
+            Key::P256(_) | Key::Rsa(_) => message_sha256(message),
         }
     }
 
@@ -53,7 +52,7 @@ impl Key {
             ≡ is_signature_with self.now digest (joined message.now) signature) }
     {
         match self {
-            Key::Ed25519(_) | Key::P384(_) => joined(alloc, message),
+            Key::Ed25519(_) | Key::P384(_) => join(alloc, message),
             Key::P256(_) | Key::Rsa(_) => Ok(Vec::new(alloc)),
         }
     }

@@ -2,6 +2,5 @@ pub mod Encoding
 pub mod Info
 pub mod Key
 pub mod Mask
-pub mod Message
 pub mod Signature
 pub mod inside

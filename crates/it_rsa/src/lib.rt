@@ -10,7 +10,6 @@
 //! run in constant time.
 #![tactic(auto)]
 
-mod digest;
 mod encoding;
 mod info;
 mod key;
@@ -18,7 +17,6 @@ pub mod laws;
 mod mask;
 mod signature;
 
-pub use digest::message_digest;
 pub use key::{PublicKey, exponent_number};
 pub use mask::unmask;
 pub use signature::{is_signature, is_signature_of_digest};

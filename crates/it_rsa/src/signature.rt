@@ -1,12 +1,12 @@
 //! Signatures.
 ghost use Rattle.std.specs.Prelude.{◌↔◌, IsTrue};
-ghost use Rattle.it_rsa.specs.Message.{joined};
+ghost use Rattle.it_message.specs.Message.{joined};
 ghost use Rattle.it_rsa.specs.Signature.{IsSignature, IsSignatureOfDigest};
 
 use crate::MOST_BYTES;
-use crate::digest::message_digest;
 use crate::encoding::is_encoded;
 use crate::key::PublicKey;
+use it_message::message_sha256;
 
 /// Whether `signature` is the key's signature of the message that the parts make when they are
 /// joined: RSASSA-PSS (RFC 8017, section 8.1.2) with SHA-256, MGF1 with SHA-256 and a salt of 32
@@ -14,7 +14,7 @@ use crate::key::PublicKey;
 pub fn is_signature(key: &PublicKey, message: &[&[u8]], signature: &[u8]) -> bool
     ensures { IsTrue result ↔ IsSignature key.now (joined message.now) signature.now }
 {
-    is_signature_of_digest(key, &message_digest(message), signature)
+    is_signature_of_digest(key, &message_sha256(message), signature)
 }
 
 /// The same for a message whose SHA-256 is given, so that one message is hashed once for many keys

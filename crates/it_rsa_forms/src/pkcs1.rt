@@ -6,7 +6,7 @@ ghost use Rattle.it_rsa_forms.specs.Info.{IsInfoOf};
 ghost use Rattle.it_rsa_forms.specs.Pkcs1.{IsPkcs1Signature, encoding_of};
 
 use crate::encoded_message::encoded_message;
-use it_rsa::message_digest;
+use it_message::message_sha256;
 use std::alloc::{AllocError, Global};
 
 /// What comes before a SHA-256 in its DigestInfo (RFC 8017, section 9.2, note 1).
@@ -35,7 +35,7 @@ pub fn is_pkcs1_signature(
     let Some(em) = encoded_message(alloc, info, signature)? else {
         return Ok(false);
     };
-    is_encoding(alloc, &message_digest(&[message]), em.as_slice())
+    is_encoding(alloc, &message_sha256(&[message]), em.as_slice())
 }
 
 /// Whether bytes are the encoding of a message with that digest.

@@ -8,7 +8,8 @@ ghost use Rattle.it_rsa_forms.specs.Info.{IsInfoOf};
 ghost use Rattle.it_rsa_forms.specs.Pss.{IsEncodedOfSalt, IsOpenedOfSalt, IsPssOfSalt};
 
 use crate::encoded_message::encoded_message;
-use it_rsa::{message_digest, unmask};
+use it_message::message_sha256;
+use it_rsa::unmask;
 use std::alloc::{AllocError, Global};
 
 /// The last byte of an encoded message.
@@ -38,7 +39,7 @@ pub fn pss_salt(
     let Some(em) = encoded_message(alloc, info, signature)? else {
         return Ok(None);
     };
-    salt_in(alloc, &message_digest(&[message]), em.as_slice())
+    salt_in(alloc, &message_sha256(&[message]), em.as_slice())
 }
 
 /// The length of the salt of an encoded message, if it encodes the message of this digest in all
@@ -99,7 +100,7 @@ fn opened_salt(digest: &[u8; 32], bytes: &[u8], hash: &[u8]) -> Option<usize>
         return None;
     }
     let salt = &bytes[mark + 1..];
-    let again = message_digest(&[&[0; 8], digest, salt]);
+    let again = message_sha256(&[&[0; 8], digest, salt]);
     if again.as_slice() == hash {
         Some(salt.len())
     } else {

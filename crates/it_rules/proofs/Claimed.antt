@@ -1,6 +1,6 @@
 -- When MATCH claims a path.
 use Rattle.std.proofs.Common.{Bool, IsTrue, ◌≡◌, ◌∙◌, ◌↔◌, ◌++◌, ℕ, List, Option, Some, None}
-use Rattle.std.proofs.Common.{MatchOption, sym, subst, refl, Contains}
+use Rattle.std.proofs.Common.{Bor, MatchOption, option_map, sym, subst, refl, Contains}
 use Rattle.std.specs.FinMap.{get}
 use Rattle.std.proofs.lemmas.List.{append_cancel_left}
 use Rattle.it_digest.specs.Artifacts.{ArtifactMap}
@@ -68,9 +68,23 @@ module _ (pattern source : List ℕ) (side : Side) (target from : List ℕ) (art
         rw (m.stands_here, there) m.digests_agree,
   )
 
--- an answer on digests, as an answer on the path
-pub answer_on_path : {M : Type 0} (r : Bool) (here there x y : Option DigestSet)
-    → (IsTrue r ↔ BothAgree here there) → here ≡ x → there ≡ y → (BothAgree x y ↔ M) → IsTrue r ↔ M
+-- ---- an answer on digests, as an answer on the path
+abbrev pub now_of : Bor DigestSet → DigestSet
+now_of digests = digests.now
+
+-- two sets that are lent agree as they are
+lent_agree : (r : Bool) (here there : Option (Bor DigestSet))
+    → (IsTrue r ↔ MatchOption here ⊥ (λ a. MatchOption there ⊥ (λ b. Agree a.now b.now)))
+    → IsTrue r ↔ BothAgree (option_map now_of here) (option_map now_of there)
+lent_agree r None there h = h
+lent_agree r (Some a) None h = h
+lent_agree r (Some a) (Some b) h = h
+
+pub answer_on_path : {M : Type 0} (r : Bool) (here there : Option (Bor DigestSet))
+    (x y : Option DigestSet)
+    → (IsTrue r ↔ MatchOption here ⊥ (λ a. MatchOption there ⊥ (λ b. Agree a.now b.now)))
+    → option_map now_of here ≡ x → option_map now_of there ≡ y → (BothAgree x y ↔ M)
+    → IsTrue r ↔ M
 answer_on_path r here there x y h p q iff =
-    let a : IsTrue r ↔ BothAgree x y = rw (p, q) at h in
+    let a : IsTrue r ↔ BothAgree x y = rw (p, q) at (lent_agree r here there h) in
     (λ t. iff.0 (a.0 t), λ m. a.1 (iff.1 m))

@@ -1,5 +1,6 @@
 //! Which paths a rule claims, one path at a time: a function for each rule.
 ghost use Rattle.std.specs.Prelude.{◌≡◌, ◌↔◌, ◌++◌, IfOk, IsTrue, MatchOption};
+ghost use Rattle.std.specs.Prelude.{option_map};
 ghost use Rattle.std.specs.FinMap.{get};
 ghost use Rattle.it_digest.specs.Compare.{Agree, Differ};
 ghost use Rattle.it_rules.specs.FolderPrefix.{folder_prefix};
@@ -11,7 +12,8 @@ use crate::folder_prefix::{join_folder, strip_folder};
 use crate::item::{Item, Named};
 use crate::looked::find_link;
 use it_digest::artifacts::Artifacts;
-use it_digest::compare::{Compare, DigestSet};
+use it_digest::compact::CompactSet;
+use it_digest::compare::Compare;
 use it_docs::rule::{Rule, Side};
 use it_glob::Pattern;
 use std::alloc::{AllocError, Global};
@@ -107,7 +109,7 @@ fn match_claims(
     let Some(link) = find_link(links, target.from) else {
         return Ok(false);
     };
-    let here = source.artifacts.get(path);
+    let here = source.artifacts.at(path);
     let recorded = link.item.artifacts_on(target.side);
     let there = digests_under(alloc, recorded, target.prefix, rest)?;
     Ok(agree(here, there))
@@ -116,19 +118,19 @@ fn match_claims(
 fn create_claims(pattern: &Pattern, item: &Item, path: &str) -> bool
     ensures { IsTrue result ↔ CreateClaims pattern.now (recorded_of item.now) path.now }
 {
-    pattern.matches(path) && item.products.get(path).is_some() && item.materials.get(path).is_none()
+    pattern.matches(path) && item.products.at(path).is_some() && item.materials.at(path).is_none()
 }
 
 fn delete_claims(pattern: &Pattern, item: &Item, path: &str) -> bool
     ensures { IsTrue result ↔ DeleteClaims pattern.now (recorded_of item.now) path.now }
 {
-    pattern.matches(path) && item.materials.get(path).is_some() && item.products.get(path).is_none()
+    pattern.matches(path) && item.materials.at(path).is_some() && item.products.at(path).is_none()
 }
 
 fn modify_claims(pattern: &Pattern, item: &Item, path: &str) -> bool
     ensures { IsTrue result ↔ ModifyClaims pattern.now (recorded_of item.now) path.now }
 {
-    pattern.matches(path) && differ(item.materials.get(path), item.products.get(path))
+    pattern.matches(path) && differ(item.materials.at(path), item.products.at(path))
 }
 
 fn allow_claims(pattern: &Pattern, path: &str) -> bool
@@ -138,38 +140,40 @@ fn allow_claims(pattern: &Pattern, path: &str) -> bool
 }
 
 /// The digests of the artifact at a path below a folder's prefix.
-fn digests_under(
+fn digests_under<'a>(
     alloc: Global,
-    artifacts: &Artifacts,
+    artifacts: &'a Artifacts,
     prefix: &str,
     rest: &str,
-) -> Result<Option<DigestSet>, AllocError>
-    ensures { IfOk result
-        (λ found. found ≡ get artifacts.now (folder_prefix prefix.now ++ rest.now)) }
+) -> Result<Option<&'a CompactSet>, AllocError>
+    ensures { IfOk result (λ found. option_map (λ digests. digests.now) found
+        ≡ get artifacts.now (folder_prefix prefix.now ++ rest.now)) }
 {
     if prefix.is_empty() {
-        return Ok(artifacts.get(rest));
+        return Ok(artifacts.at(rest));
     }
     let path = join_folder(alloc, prefix, rest)?;
-    Ok(artifacts.get(path.as_str()))
+    Ok(artifacts.at(path.as_str()))
 }
 
 /// Whether both digest sets exist and agree.
-fn agree(here: Option<DigestSet>, there: Option<DigestSet>) -> bool
-    ensures { IsTrue result ↔ MatchOption here ⊥ (λ a. MatchOption there ⊥ (λ b. Agree a b)) }
+fn agree(here: Option<&CompactSet>, there: Option<&CompactSet>) -> bool
+    ensures { IsTrue result
+        ↔ MatchOption here.entry ⊥ (λ a. MatchOption there.entry ⊥ (λ b. Agree a.now b.now)) }
 {
     match (here, there) {
-        (Some(here), Some(there)) => here.compare(&there) == Compare::Agree,
+        (Some(here), Some(there)) => here.compare(there) == Compare::Agree,
         _ => false,
     }
 }
 
 /// Whether both digest sets exist and differ.
-fn differ(before: Option<DigestSet>, after: Option<DigestSet>) -> bool
-    ensures { IsTrue result ↔ MatchOption before ⊥ (λ a. MatchOption after ⊥ (λ b. Differ a b)) }
+fn differ(before: Option<&CompactSet>, after: Option<&CompactSet>) -> bool
+    ensures { IsTrue result
+        ↔ MatchOption before.entry ⊥ (λ a. MatchOption after.entry ⊥ (λ b. Differ a.now b.now)) }
 {
     match (before, after) {
-        (Some(before), Some(after)) => before.compare(&after) == Compare::Differ,
+        (Some(before), Some(after)) => before.compare(after) == Compare::Differ,
         _ => false,
     }
 }

@@ -1,7 +1,7 @@
 //! Messages in parts.
 ghost use Rattle.std.specs.Prelude.{◌≡◌};
 ghost use Rattle.std.specs.Str.{bytes_eq};
-ghost use Rattle.it_dsse.specs.Joined.{joined};
+ghost use Rattle.it_message.specs.Message.{joined};
 
 /// Whether the parts, one after another, make the message. Takes no memory.
 pub(crate) fn is_joined(message: &[u8], parts: &[&[u8]]) -> bool

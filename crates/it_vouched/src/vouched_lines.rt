@@ -1,7 +1,7 @@
 //! What lines vouch for.
 ghost use Rattle.std.specs.Prelude.{◌≡◌, ◌&&◌, All};
 ghost use Rattle.std.specs.Str.{bytes_eq};
-ghost use Rattle.it_dsse.specs.Joined.{joined};
+ghost use Rattle.it_message.specs.Message.{joined};
 ghost use Rattle.it_dsse.specs.Meter.{raised};
 ghost use Rattle.it_dsse.specs.Vouched.{is_vouched_by, tries_by};
 ghost use Rattle.it_identity.specs.Identity.{IsIdentity};

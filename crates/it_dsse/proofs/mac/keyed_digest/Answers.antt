@@ -1,18 +1,11 @@
-use Rattle.std.proofs.Common.{[], append_assoc}
-use Rattle.std.proofs.lemmas.List.{take_more, map-append, append-nil}
-use Rattle.std.proofs.lemmas.List.Folds.{concat-append}
+use Rattle.std.proofs.Common.{append_assoc}
+use Rattle.it_message.proofs.Parts.{one_part_more}
 use Rattle.it_dsse.proofs.mac.keyed_digest.Goals as goal
 
 pub loop-part-preserved : goal.loop-part-preserved
 loop-part-preserved c =
     rw (
-      take_more c.args.message.now c.loop-part.part-index (record {
-        ref_ptr = (0, 0);
-        now = [];
-      }) c.loop-part-test.true,
-      map-append,
-      concat-append,
-      append-nil,
+      one_part_more c.args.message.now c.loop-part.part-index c.loop-part-test.true,
       ← append_assoc,
     )
     (c.update-in-loop-part.ensures _ c.loop-part.invariant)

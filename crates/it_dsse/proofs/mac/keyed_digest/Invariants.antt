@@ -1,7 +1,7 @@
 use Rattle.std.proofs.Common.{◌++◌, take}
 use Rattle.sha2.specs.Hashers.{Holds256}
 use Rattle.it_dsse.specs.Hmac.{masked}
-use Rattle.it_dsse.specs.Joined.{joined}
+use Rattle.it_message.specs.Message.{joined}
 use Rattle.it_dsse.proofs.mac.keyed_digest.Given as goal
 
 -- the hasher holds the block and the parts so far

@@ -1,22 +1,17 @@
-use Rattle.std.proofs.Common.{◌≡◌, ◌++◌, ◌%◌, ℕ, List, [], take, ap, ◌∙◌, append_assoc}
-use Rattle.std.proofs.lemmas.List.{take_all, take_more, map-append, append-nil}
-use Rattle.std.proofs.lemmas.List.Folds.{concat-append}
+use Rattle.std.proofs.Common.{◌≡◌, ◌++◌, ◌%◌, ℕ, List, take, ap, ◌∙◌, append_assoc}
+use Rattle.std.proofs.lemmas.List.{take_all}
 use Rattle.sha2.specs.Sha512.{sha512}
 use Rattle.it_numbers.specs.Bytes.{little}
 use Rattle.it_ed_scalar.specs.Order.{order}
-use Rattle.it_ed25519.specs.Signature.{challenge_of, joined}
+use Rattle.it_message.specs.Message.{joined}
+use Rattle.it_message.proofs.Parts.{one_part_more}
+use Rattle.it_ed25519.specs.Signature.{challenge_of}
 use Rattle.it_ed25519.proofs.challenge.challenge.Goals as goal
 
 pub loop-part-preserved : goal.loop-part-preserved
 loop-part-preserved c =
     rw (
-      take_more c.args.message.now c.loop-part.part-index (record {
-        ref_ptr = (0, 0);
-        now = [];
-      }) c.loop-part-test.true,
-      map-append,
-      concat-append,
-      append-nil,
+      one_part_more c.args.message.now c.loop-part.part-index c.loop-part-test.true,
       ← append_assoc,
     )
     (c.update-in-loop-part.ensures _ c.loop-part.invariant)

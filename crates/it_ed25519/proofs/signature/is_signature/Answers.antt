@@ -1,5 +1,6 @@
 use Rattle.std.proofs.Common.{◌≡◌, ◌∙◌, ℕ, List, ap, drop, length, arith, rules}
-use Rattle.it_ed25519.specs.Signature.{challenge_of, joined}
+use Rattle.it_message.specs.Message.{joined}
+use Rattle.it_ed25519.specs.Signature.{challenge_of}
 use Rattle.it_ed25519.proofs.Judging.{refused, judged}
 use Rattle.it_ed25519.proofs.signature.is_signature.Goals as goal
 

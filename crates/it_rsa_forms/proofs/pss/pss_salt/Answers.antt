@@ -26,6 +26,6 @@ returns c =
     let em = c.in-Some.em.items in
     let opens : OpensTo c.args.info.now c.args.signature.now em =
     rw c.in-Some.is at c.in_ok-em.ensures in
-    let digest = c.message_digest.ensures ∙ ap sha256 (append-nil c.args.message.now) in
+    let digest = c.message_sha256.ensures ∙ ap sha256 (append-nil c.args.message.now) in
     pss_judged c.args.info.now c.args.signature.now em opens c.args.message.now c.salt_in.result
     (rw (digest, c.as_slice.ensures.value) at c.salt_in.ensures)

@@ -1,9 +1,9 @@
-use Rattle.std.proofs.Common.{◌≡◌, ◌∙◌, ◌++◌, ap}
+use Rattle.std.proofs.Common.{◌≡◌, ◌∙◌, ◌++◌, ap, option_map}
 use Rattle.std.specs.FinMap.{get}
 use Rattle.it_rules.specs.FolderPrefix.{folder_prefix}
 use Rattle.it_rules.specs.Item.{recorded_of, artifacts_on}
 use Rattle.it_rules.specs.Rules.{IsMatch}
-use Rattle.it_rules.proofs.Claimed.{no_match, claims_from_digests, answer_on_path}
+use Rattle.it_rules.proofs.Claimed.{answer_on_path, claims_from_digests, no_match, now_of}
 use Rattle.it_rules.proofs.claims.match_claims.Goals as goal
 
 pub returns-then-not-matches : goal.returns-then-not-matches
@@ -21,10 +21,12 @@ returns-in_default-find_link c =
 pub returns : goal.returns
 returns c =
     let linked = recorded_of c.in-Some-find_link.link.now.item in
-    let there : c.in_ok-there.there ≡ get (artifacts_on c.args.target.now.side linked)
+    let there : option_map now_of c.in_ok-there.there
+    ≡ get (artifacts_on c.args.target.now.side linked)
     (folder_prefix c.args.target.now.prefix.now ++ c.in-Some.rest.now) =
     c.in_ok-there.ensures ∙ ap (λ m. get m (folder_prefix c.args.target.now.prefix.now
     ++ c.in-Some.rest.now)) c.artifacts_on-recorded.ensures in
-    answer_on_path c.agree.result _ _ _ _ c.agree.ensures c.get-here.ensures there
+    answer_on_path c.agree.result c.at-here.result c.in_ok-there.there _ _ c.agree.ensures
+    c.at-here.ensures there
     (claims_from_digests _ _ _ _ _ _ _ _ c.in-Some.rest.now linked c.requires c.in-Some.ensures
     (c.matches.ensures.0 c.if-not-matches.false) c.in-Some-find_link.ensures.1)

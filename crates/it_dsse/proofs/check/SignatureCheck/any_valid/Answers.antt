@@ -1,6 +1,6 @@
 use Rattle.std.proofs.Common.{◌≡◌, ◌&&◌, Bool, true, false, cond, refl, sym}
 use Rattle.it_dsse.specs.Check.{Check}
-use Rattle.it_dsse.specs.Joined.{joined}
+use Rattle.it_message.specs.Message.{joined}
 use Rattle.it_dsse.specs.Meter.{raised}
 use Rattle.it_dsse.specs.Signed.{is_admitted}
 use Rattle.it_dsse.specs.declared.envelope.Signature.{Signature}

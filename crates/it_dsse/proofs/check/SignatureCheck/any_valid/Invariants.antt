@@ -1,6 +1,6 @@
 use Rattle.std.proofs.Common.{◌≡◌, drop}
 use Rattle.it_dsse.specs.Check.{Check}
-use Rattle.it_dsse.specs.Joined.{joined}
+use Rattle.it_message.specs.Message.{joined}
 use Rattle.it_dsse.specs.Meter.{raised}
 use Rattle.it_dsse.specs.Vouched.{is_vouched_by, tries_by}
 use Rattle.it_dsse.proofs.check.SignatureCheck.any_valid.Given as goal

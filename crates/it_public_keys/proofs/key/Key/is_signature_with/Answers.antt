@@ -1,6 +1,6 @@
 use Rattle.sha2.specs.Sha512.{sha384}
 use Rattle.std.proofs.lemmas.Bool.Decides.{same_from_decides}
-use Rattle.it_dsse.specs.Joined.{joined}
+use Rattle.it_message.specs.Message.{joined}
 use Rattle.it_public_keys.specs.P256Test.{is_p256_signature}
 use Rattle.it_public_keys.specs.P384Test.{is_p384_signature}
 use Rattle.it_public_keys.specs.RsaTest.{is_rsa_signature}

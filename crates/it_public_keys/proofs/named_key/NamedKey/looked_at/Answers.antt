@@ -1,5 +1,5 @@
 use Rattle.std.proofs.Common.{◌∙◌, sym}
-use Rattle.it_dsse.specs.Joined.{joined}
+use Rattle.it_message.specs.Message.{joined}
 use Rattle.it_public_keys.proofs.NamedKeys.{valid_by_number}
 use Rattle.it_public_keys.proofs.named_key.NamedKey.looked_at.Goals as goal
 

@@ -1,5 +1,5 @@
 use Rattle.std.proofs.Common.{◌≡◌, ◌∙◌, ◌<◌, ℕ, Bool, IfOk, OnOk, length, true, ap, subst}
-use Rattle.it_dsse.specs.Joined.{joined}
+use Rattle.it_message.specs.Message.{joined}
 use Rattle.it_dsse.specs.Meter.{raised}
 use Rattle.it_dsse.specs.Ring.{ring_check}
 use Rattle.it_public_keys.specs.NamedKeys.{number_of, public_key_check}

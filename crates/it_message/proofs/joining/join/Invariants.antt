@@ -1,6 +1,6 @@
 use Rattle.std.proofs.Common.{◌≡◌, take}
-use Rattle.it_dsse.specs.Joined.{joined}
-use Rattle.it_public_keys.proofs.joining.joined.Given as goal
+use Rattle.it_message.specs.Message.{joined}
+use Rattle.it_message.proofs.joining.join.Given as goal
 
 -- the parts so far, one after another
 abbrev pub invariant-loop-part : goal.invariant-loop-part

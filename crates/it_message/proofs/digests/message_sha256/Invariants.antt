@@ -1,7 +1,7 @@
 use Rattle.std.proofs.Common.{take}
 use Rattle.sha2.specs.Hashers.{Holds256}
-use Rattle.it_rsa.specs.Message.{joined}
-use Rattle.it_rsa.proofs.digest.message_digest.Given as goal
+use Rattle.it_message.specs.Message.{joined}
+use Rattle.it_message.proofs.digests.message_sha256.Given as goal
 
 -- the hasher holds the parts so far
 abbrev pub invariant-loop-part : goal.invariant-loop-part

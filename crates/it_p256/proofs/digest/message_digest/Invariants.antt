@@ -1,8 +1,0 @@
-use Rattle.std.proofs.Common.{take}
-use Rattle.sha2.specs.Hashers.{Holds256}
-use Rattle.it_p256.specs.Message.{joined}
-use Rattle.it_p256.proofs.digest.message_digest.Given as goal
-
--- the hasher holds the parts so far
-abbrev pub invariant-loop-part : goal.invariant-loop-part
-invariant-loop-part l = Holds256 l.hasher (joined (take l.part-index l.message))

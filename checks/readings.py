@@ -43,13 +43,13 @@ ENVELOPES = (re.compile(r"\benvelope_in\(|\bfrom_bytes::<Envelope>\("), "it_dsse
     "crates/it_signers/src/file_envelope.rt": 1,
     "crates/it_signers/src/signers_output.rt": 1,
 })
-POLICIES = (re.compile(r"\bread_policy\(|\bpolicy_in\(|\bfrom_bytes::<Policy>\("), "it_docs", {
+POLICIES = (re.compile(r"\bread_policy\(|\bpolicy_in\(|\b(from_bytes|value)::<Policy>\("), "it_docs", {
     # a verification, by a function of its own
     "crates/it_verify/src/documents.rt": 2,
     # another command
     "crates/it_check/src/documents.rt": 1,
 })
-LAYOUTS = (re.compile(r"\bread_layout\(|\blayout_in\(|\bfrom_bytes::<Layout>\("), "it_docs", {
+LAYOUTS = (re.compile(r"\bread_layout\(|\blayout_in\(|\b(from_bytes|value)::<Layout>\("), "it_docs", {
     # a verification: the layout, by a function of its own, and each sublayout
     "crates/it_verify/src/documents.rt": 2,
     "crates/it_chain/src/body.rt": 1,
@@ -63,10 +63,12 @@ LAYOUTS = (re.compile(r"\bread_layout\(|\blayout_in\(|\bfrom_bytes::<Layout>\(")
     # another command
     "crates/it_check/src/documents.rt": 1,
 })
-# Trees of policies and layouts.
+# Trees of policies and layouts, and of what may be a link or a layout.
 TREES = (re.compile(r"\bDocumentText::read\("), "it_docs", {
     # a verification, for its verdict and what is found beside it: the policy
     "crates/it_verify/src/opened.rt": 1,
+    # a verification: what a key of a step signed
+    "crates/it_chain/src/body.rt": 1,
     # what is found in the layout and the sublayouts of an accepted delivery
     "crates/it_strict/src/counting.rt": 1,
     # notes on members: those of a layout

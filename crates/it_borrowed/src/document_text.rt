@@ -1,12 +1,13 @@
 //! The bytes of a document and its tree, read once for all that look at it.
 ghost use Rattle.std.specs.Prelude.{◌≡◌, IfOk, IfSome};
 ghost use Rattle.json.specs.Value.{value_view};
-ghost use Rattle.it_base.specs.Document.{IsDocument};
-ghost use Rattle.it_base.specs.Finds.{FindsAs};
+ghost use Rattle.it_base.specs.Document.{IsDocument, OfDocument};
+ghost use Rattle.it_base.specs.Finds.{Finds, FindsAs};
 ghost use Rattle.it_borrowed.specs.Json.{IsJson};
 ghost use Rattle.it_borrowed.specs.Tree.{as_data};
 
 use crate::document::read_document;
+use crate::parts::FromBorrowed;
 use json::{Scratch, Value};
 use std::alloc::{AllocError, Global};
 use std::marker::Model;
@@ -63,5 +64,20 @@ impl<'b> DocumentText<'b> {
         ensures tree { IfSome result (λ v. IsJson self.now (value_view v.now)) }
     {
         self.document.as_ref()
+    }
+
+    /// The document, read as a value, or `None` where the bytes are no document or the document is
+    /// not such a value.
+    ///
+    /// # Errors
+    ///
+    /// `AllocError` where memory was refused.
+    pub fn value<T: FromBorrowed>(&self, alloc: Global) -> Result<Option<T>, AllocError>
+        ensures { IfOk result (Finds (OfDocument T.is_of self.now)) }
+    {
+        match self.document() {
+            None => Ok(None),
+            Some(document) => T::from_borrowed(alloc, document),
+        }
     }
 }

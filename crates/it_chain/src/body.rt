@@ -6,9 +6,11 @@ ghost use Rattle.it_docs.specs.Link.{LinkOf};
 ghost use Rattle.it_chain.specs.Body.{as_body};
 ghost use Rattle.it_chain.specs.CountedBodies.{BodyOf};
 
+use it_borrowed::document_text::DocumentText;
 use it_borrowed::parts::from_bytes;
 use it_docs::layout::Layout;
 use it_docs::link::Link;
+use json::Scratch;
 use std::alloc::{AllocError, Global};
 
 /// What the body of an envelope can be for a step.
@@ -28,11 +30,20 @@ pub enum Body {
 pub fn body_in(alloc: Global, step: &str, payload: &[u8]) -> Result<Option<Body>, AllocError>
     ensures { IfOk result (FindsAs as_body (BodyOf step.now payload.now)) }
 {
-    match link_in(alloc, payload)? {
+    let mut scratch = Scratch::new(alloc);
+    let text = DocumentText::read(alloc, payload, &mut scratch)?;
+    body_of(alloc, step, &text)
+}
+
+/// The same of a payload whose document was read: a link and a layout are looked for in one tree.
+fn body_of(alloc: Global, step: &str, text: &DocumentText) -> Result<Option<Body>, AllocError>
+    ensures { IfOk result (FindsAs as_body (BodyOf step.now text.now)) }
+{
+    match text.value::<Link>(alloc)? {
         Some(link) if link.name.as_str() == step => Ok(Some(Body::Link(link))),
         Some(_) => Ok(None),
         None => {
-            let Some(layout) = layout_in(alloc, payload)? else {
+            let Some(layout) = text.value::<Layout>(alloc)? else {
                 return Ok(None);
             };
             Ok(Some(Body::Layout(layout)))

@@ -5,3 +5,4 @@ pub mod Outcomes
 pub mod Pairs
 pub mod Searching
 pub mod Standing
+mod Turns

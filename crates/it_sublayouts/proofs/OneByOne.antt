@@ -1,53 +1,92 @@
--- Which sublayouts of a step are listed, one key id after another.
-use Rattle.std.proofs.Common.{◌≡◌, ◌∙◌, ◌⊎◌, ◌&&◌, ◌||◌, ℕ, Bool, true, false, not, List, []}
-use Rattle.std.proofs.Common.{◌∷◌, ◌++◌, Contains, IsTrue, bytes_eq, inl, inr, refl, sym, ap, subst}
-use Rattle.std.proofs.Common.{⊎_elim}
-use Rattle.std.proofs.lemmas.Bool.{cases_Bool}
+-- Which sublayouts are listed, one key id after another.
+use Rattle.std.proofs.Common.{◌≡◌, ◌∙◌, ◌⊎◌, ℕ, Bool, true, false, not, List, [], ◌∷◌, ◌++◌}
+use Rattle.std.proofs.Common.{inl, inr, refl, sym, ap, subst, append-nil, ⊎_elim}
 use Rattle.std.proofs.lemmas.List.Elements.{Contains-append_cases, Contains-append_left}
 use Rattle.std.proofs.lemmas.List.Elements.{Contains-push}
-use Rattle.std.proofs.lemmas.Slice.Eq.{bytes_eq-Decides}
 use Rattle.it_base.proofs.Members.{in_cases, in_none}
 use Rattle.it_dsse.specs.Panel.{Panel}
-use Rattle.it_dsse.specs.declared.key_object.KeyObject.{KeyObject}
 use Rattle.it_docs.specs.Layout.{LayoutOf}
-use Rattle.it_chain.specs.Sublayouts.{folder_name}
-use Rattle.it_sublayouts.specs.Counted.{CountsAmong, setting_of}
+use Rattle.it_sublayouts.specs.Counted.{IsAmong, Place, folders_of, setting_of}
 use Rattle.it_sublayouts.specs.declared.counted.CountedSublayout.{CountedSublayout}
 use Rattle.it_sublayouts.specs.declared.level.StepAt.{StepAt}
 use Rattle.it_sublayouts.specs.declared.listed.ListedSublayouts.{ListedSublayouts}
 use Rattle.it_sublayouts.specs.declared.signed_layout.SignedLayout.{SignedLayout}
-use Rattle.it_sublayouts.specs.inside.Below.{AreListed, AreListedWith, CountsAt, IdListed, IsListed}
-use Rattle.it_sublayouts.specs.inside.Below.{IsUnlisted, StepStands, none_already}
+use Rattle.it_sublayouts.specs.inside.Below.{AreListed, AreListedWith, CountsAt, IdListed}
+use Rattle.it_sublayouts.specs.inside.Below.{IsWithThoseBelow, Lists, StepStands}
 use Rattle.it_sublayouts.specs.inside.Listed.{IsAdded, was_listed}
 use Rattle.it_sublayouts.specs.inside.Signed.{IsRead, IsSignedFor}
-use Rattle.it_sublayouts.proofs.Pairs.{both_true}
 use Rattle.it_sublayouts.proofs.Standing.{one_payload}
 
-either_true : (a b : Bool) → (a || b) ≡ true → (a ≡ true) ⊎ (b ≡ true)
-either_true true b h = inl refl
-either_true false b h = inr h
-
-or_true : (a : Bool) → (a || true) ≡ true
-or_true true = refl
-or_true false = refl
-
--- what is not new was there
+-- what is not new was there, and what is new was not
 pub was_there : (was is_new : Bool) → is_new ≡ not was → is_new ≡ false → was ≡ true
 was_there true is_new is old = refl
 was_there false is_new is old = cc
 
-module _ (panel : Panel) (at : StepAt) where
-  -- ---- what is listed where it was not
-  module _ (P Q : List ℕ → Type 0) (more : (payload : List ℕ) → P payload → Q payload)
-      (back : (payload : List ℕ) → Q payload → P payload) where
-    -- the same is listed where the same was
-    pub listed_alike : (id : List ℕ) (found : List CountedSublayout) → IdListed panel at P id found
-        → IdListed panel at Q id found
-    listed_alike id [] h = λ payload counts. more payload (h payload counts)
-    listed_alike id (sublayout ∷ others) h =
-        (h.0, λ was. h.1 (back sublayout.payload was), h.2)
+pub was_not : (was is_new : Bool) → is_new ≡ not was → is_new ≡ true → was ≡ false
+was_not true is_new is now = cc
+was_not false is_new is now = refl
 
-  module _ (id : List ℕ) (stands : StepStands panel at) where
+-- one that is listed with others is one of them all
+module _ (listed : ListedSublayouts) (before : List CountedSublayout) (folders : List (List ℕ))
+    (payload : List ℕ) (are : AreListedWith listed before folders payload)
+    (first : CountedSublayout) (over : folders_of first.at ≡ folders)
+    (is : first.payload ≡ payload) where
+  abbrev all : List CountedSublayout
+  all = before ++ first ∷ []
+
+  among_all : (f : List (List ℕ)) (p : List ℕ)
+      → IsAmong before f p ⊎ ((folders ≡ f) × (payload ≡ p)) → IsAmong all f p
+  among_all f p either = ⊎_elim
+      (λ (early : IsAmong before f p). record {
+        sublayout = early.sublayout;
+        stands = Contains-append_left before (first ∷ []) early.sublayout early.stands;
+        folders_are = early.folders_are;
+        payload_is = early.payload_is;
+      })
+      (λ same. record {
+        sublayout = first;
+        stands = Contains-push before first;
+        folders_are = over ∙ same.0;
+        payload_is = is ∙ same.1;
+      }) either
+
+  one_of_them : (f : List (List ℕ)) (p : List ℕ) → IsAmong all f p
+      → IsAmong before f p ⊎ ((folders ≡ f) × (payload ≡ p))
+  one_of_them f p among = ⊎_elim
+      (λ early. inl (record {
+        sublayout = among.sublayout;
+        stands = early;
+        folders_are = among.folders_are;
+        payload_is = among.payload_is;
+      }))
+      (λ late. ⊎_elim
+      (λ (same : first ≡ among.sublayout). inr (
+        sym over ∙ ap (λ (s : CountedSublayout). folders_of s.at) same ∙ among.folders_are,
+        sym is ∙ ap (λ (s : CountedSublayout). s.payload) same ∙ among.payload_is,
+      ))
+      (λ later. absurd (in_none among.sublayout later)) (in_cases first [] among.sublayout late))
+      (Contains-append_cases before (first ∷ []) among.sublayout among.stands)
+
+  pub with_first : AreListed listed all
+  with_first f p = (
+    λ now. among_all f p ((are f p).0 now),
+    λ among. (are f p).1 (one_of_them f p among),
+  )
+
+module _ (panel : Panel) (at : StepAt) (id : List ℕ) where
+  abbrev places : List Place
+  places = at.level.now.at.now ++ (at.step.now.name, id) ∷ []
+
+  -- nothing is listed where nothing counts
+  pub none_for : (listed : ListedSublayouts)
+      → ((payload : List ℕ) → ¬ CountsAt panel at id payload)
+      → Lists (IdListed panel at id) listed listed []
+  none_for listed none before are = (
+    λ payload counts. absurd (none payload counts),
+    subst (AreListed listed) (sym (append-nil before)) are,
+  )
+
+  module _ (stands : StepStands panel at) where
     -- one payload counts under a key id
     same_payload : (p q : List ℕ) → CountsAt panel at id p → CountsAt panel at id q → p ≡ q
     same_payload p q x y =
@@ -57,145 +96,67 @@ module _ (panel : Panel) (at : StepAt) where
         x.sublayout y.sublayout x.counts y.counts level.depth stands.holds.0 stands.holds.1
         ∙ sym y.payload_is
 
-    -- one that counts and was not listed is listed
-    pub listed_new : (listed : ListedSublayouts) (payload : List ℕ)
-        → IsUnlisted panel at id listed payload → (found : List CountedSublayout)
-        → IdListed panel at none_already id found
-        → IdListed panel at (IsListed at id listed) id found
-    listed_new listed payload is [] h = absurd (h payload is.counts)
-    listed_new listed payload is (sublayout ∷ others) h =
-        let counts : CountsAt panel at id sublayout.payload = record {
-          sublayout = sublayout.layout;
-          counts = h.0.counts;
-          payload_is = h.0.payload_is;
-        } in (
-          h.0,
-          subst (λ p. ¬ IsListed at id listed p)
-              (same_payload payload sublayout.payload is.counts counts) is.is_new,
-          h.2,
+    -- ---- one that counts, and is added
+    module _ (old new : ListedSublayouts) (folders : List (List ℕ)) (payload : List ℕ)
+        (named : folders ≡ folders_of places) (counts : CountsAt panel at id payload)
+        (added : IsAdded old new folders payload) where
+      -- nothing is listed where it was
+      pub listed_again : was_listed old folders payload ≡ true
+          → Lists (IdListed panel at id) old new []
+      listed_again was before are =
+          let among : IsAmong before folders payload = (are folders payload).0 was in (
+            λ p counts_too. subst (IsAmong before (folders_of places))
+                (same_payload payload p counts counts_too)
+                (subst (λ f. IsAmong before f payload) named among),
+            subst (AreListed new) (sym (append-nil before)) (λ f p. (
+              λ now. ⊎_elim (λ earlier. (are f p).0 earlier)
+                  (λ same. subst (IsAmong before f) same.1
+                  (subst (λ g. IsAmong before g payload) same.0 among))
+                  ((added f p).0 now),
+              λ is. (added f p).1 (inl ((are f p).1 is)),
+            )),
+          )
+
+      module _ (place : List Place) (placed : folders ≡ folders_of place) (read : List ℕ)
+          (is : read ≡ payload) (before : List CountedSublayout) (are : AreListed old before) where
+        listed_now : AreListedWith new before (folders_of place) read
+        listed_now f p = (
+          λ now. ⊎_elim (λ was. inl ((are f p).0 was))
+              (λ same. inr (sym placed ∙ same.0, is ∙ same.1)) ((added f p).0 now),
+          λ either. (added f p).1 (⊎_elim (λ among. inl ((are f p).1 among))
+              (λ same. inr (placed ∙ same.0, sym is ∙ same.1)) either),
         )
 
-    -- ---- one that counts, and is added
-    module _ (old : ListedSublayouts) (folder payload : List ℕ)
-        (named : folder ≡ folder_name at.step.now.name id) (counts : CountsAt panel at id payload)
-      where
-        -- where it was listed, nothing else counts
-        pub listed_before : was_listed old folder payload ≡ true → (p : List ℕ)
-            → ¬ IsUnlisted panel at id old p
-        listed_before was p is =
-            is.is_new (subst (λ f. was_listed old f p ≡ true) named
-            (subst (λ q. was_listed old folder q ≡ true) (same_payload payload p counts is.counts)
-            was))
+        as_new : was_listed old folders payload ≡ false → (found : List CountedSublayout)
+            → IsWithThoseBelow panel at id before found → IdListed panel at id before found
+        as_new not_yet [] h = absurd h
+        as_new not_yet (first ∷ others) h =
+            let counts_too : CountsAt panel at id first.payload = record {
+              sublayout = first.layout;
+              counts = h.0.counts;
+              payload_is = h.0.payload_is;
+            } in
+            let over : folders_of first.at ≡ folders = ap folders_of h.0.at_is ∙ sym named in
+            let same = same_payload first.payload payload counts_too counts in (
+              h.0,
+              λ among. let was : was_listed old folders payload ≡ true =
+                  (are folders payload).1 (subst (IsAmong before folders) same
+                  (subst (λ f. IsAmong before f first.payload) over among)) in
+                  absurd (cc (was, not_yet)),
+              h.1,
+            )
 
-        module _ (new : ListedSublayouts) (added : IsAdded old new folder payload) where
-          here_or_before : (f p : List ℕ) → was_listed new f p ≡ true
-              → (was_listed old f p ≡ true)
-              ⊎ ((folder_name at.step.now.name id ≡ f) × CountsAt panel at id p)
-          here_or_before f p now =
-              ⊎_elim
-              (λ (here : (bytes_eq folder f && bytes_eq payload p) ≡ true).
-              let both = both_true (bytes_eq folder f) (bytes_eq payload p) here in
-              inr (
-                sym named ∙ (bytes_eq-Decides folder f).0 both.0,
-                subst (CountsAt panel at id) ((bytes_eq-Decides payload p).0 both.1) counts,
-              ))
-              (λ before. inl before)
-              (either_true (bytes_eq folder f && bytes_eq payload p) (was_listed old f p)
-              (sym (added f p) ∙ now))
-
-          before : (f p : List ℕ) → was_listed old f p ≡ true → was_listed new f p ≡ true
-          before f p was =
-              let here = bytes_eq folder f && bytes_eq payload p in
-              added f p ∙ ap (λ b. here || b) was ∙ or_true here
-
-          here : (f p : List ℕ) → folder_name at.step.now.name id ≡ f → CountsAt panel at id p
-              → was_listed new f p ≡ true
-          here f p over is =
-              let one = (bytes_eq-Decides folder f).1 (named ∙ over) in
-              let other = (bytes_eq-Decides payload p).1 (same_payload payload p counts is) in
-              added f p ∙ ap (λ b. (b && bytes_eq payload p) || was_listed old f p) one
-              ∙ ap (λ b. b || was_listed old f p) other
-
-          pub added_with : AreListedWith panel at id old new
-          added_with f p =
-              (here_or_before f p, λ either. ⊎_elim (before f p) (λ now. here f p now.0 now.1) either)
-
-  -- where nothing counts under a key id, nothing is added
-  pub none_with : (id : List ℕ) (listed : ListedSublayouts)
-      → ((payload : List ℕ) → ¬ CountsAt panel at id payload)
-      → AreListedWith panel at id listed listed
-  none_with id listed none f p =
-      (λ was. inl was, λ either. ⊎_elim (λ was. was) (λ now. absurd (none p now.1)) either)
-
-  -- nothing is listed where nothing is new
-  pub none_listed_for : (id : List ℕ) (listed : ListedSublayouts)
-      → ((payload : List ℕ) → ¬ IsUnlisted panel at id listed payload)
-      → IdListed panel at (IsListed at id listed) id []
-  none_listed_for id listed none payload counts =
-      ⊎_elim (λ was. was)
-      (λ (no : was_listed listed (folder_name at.step.now.name id) payload ≡ false).
-      absurd (none payload (record { counts = counts; is_new = λ now. cc (now, no) })))
-      (cases_Bool (was_listed listed (folder_name at.step.now.name id) payload))
-
-  -- ---- the key ids so far
-  pub none_so_far : (listed : ListedSublayouts)
-      → ((folder payload : List ℕ) → was_listed listed folder payload ≡ false)
-      → AreListed panel at [] listed
-  none_so_far listed none f p = (
-    λ now. let no = none f p in absurd (cc (now, no)),
-    λ is. absurd (in_none is.signer is.among),
-  )
-
-  module _ (ids : List (List ℕ × KeyObject)) (entry : List ℕ × KeyObject)
-      (old new : ListedSublayouts) (are : AreListed panel at ids old)
-      (more : AreListedWith panel at entry.0 old new) where
-    abbrev Among : List (List ℕ × KeyObject) → List ℕ → List ℕ → Type 0
-    Among = CountsAmong panel at.level.now.layout.now at.level.now.links.now at.step.now
-
-    wider : (f p : List ℕ) → Among ids f p → Among (ids ++ entry ∷ []) f p
-    wider f p is = record {
-      signer = is.signer;
-      among = Contains-append_left ids (entry ∷ []) is.signer is.among;
-      folder_is = is.folder_is;
-      counts = is.counts;
-    }
-
-    last : (f p : List ℕ) → folder_name at.step.now.name entry.0 ≡ f
-        → CountsAt panel at entry.0 p → Among (ids ++ entry ∷ []) f p
-    last f p over counts = record {
-      signer = entry;
-      among = Contains-push ids entry;
-      folder_is = over;
-      counts = counts;
-    }
-
-    split : (f p : List ℕ) → (is : Among (ids ++ entry ∷ []) f p)
-        → IsTrue (was_listed old f p)
-        ⊎ ((folder_name at.step.now.name entry.0 ≡ f) × CountsAt panel at entry.0 p)
-    split f p is =
-        ⊎_elim
-        (λ (early : Contains ids is.signer). inl ((are f p).1 (record {
-          signer = is.signer;
-          among = early;
-          folder_is = is.folder_is;
-          counts = is.counts;
-        })))
-        (λ late. ⊎_elim
-        (λ (same : entry ≡ is.signer). inr (
-          subst (λ (e : List ℕ × KeyObject). folder_name at.step.now.name e.0 ≡ f) (sym same)
-              is.folder_is,
-          subst (λ (e : List ℕ × KeyObject). CountsAt panel at e.0 p) (sym same) is.counts,
-        ))
-        (λ later. absurd (in_none is.signer later)) (in_cases entry [] is.signer late))
-        (Contains-append_cases ids (entry ∷ []) is.signer is.among)
-
-    -- one key id more
-    pub listed_more : AreListed panel at (ids ++ entry ∷ []) new
-    listed_more f p = (
-      λ now. ⊎_elim (λ was. wider f p ((are f p).0 was)) (λ one. last f p one.0 one.1)
-          ((more f p).0 now),
-      λ is. (more f p).1 (split f p is),
-    )
+      -- it is listed where it was not
+      pub listed_new : (place : List Place) → folders ≡ folders_of place → (read : List ℕ)
+          → read ≡ payload → was_listed old folders payload ≡ false → (last : ListedSublayouts)
+          (found : List CountedSublayout)
+          → ((before : List CountedSublayout)
+          → AreListedWith new before (folders_of place) read
+          → IsWithThoseBelow panel at id before found × AreListed last (before ++ found))
+          → Lists (IdListed panel at id) old last found
+      listed_new place placed read is not_yet last found make before are =
+          let made = make before (listed_now place placed read is before are) in
+          (as_new place placed read is before are not_yet found made.0, made.1)
 
 -- a payload that counts, as it is read
 pub signed_as : (panel : Panel) (at : StepAt) (id payload : List ℕ) → CountsAt panel at id payload

@@ -7,7 +7,6 @@ use Rattle.it_docs.specs.Layout.{LayoutOf}
 use Rattle.it_docs.specs.declared.layout.Layout.{Layout}
 use Rattle.it_docs.specs.declared.step.Step.{Step}
 use Rattle.it_docs.proofs.Same.{layout_same}
-use Rattle.it_findings.specs.Joined.{JoinedEach}
 use Rattle.it_rules.specs.Item.{Recorded}
 use Rattle.it_chain.specs.Chain.{Chain, holds_below}
 use Rattle.it_chain.specs.Contents.{Contents}
@@ -19,7 +18,7 @@ use Rattle.it_chain.specs.Sublayouts.{IsSublayout, folder_of}
 use Rattle.it_chain.specs.declared.chain.StepResult.{StepResult}
 use Rattle.it_chain.proofs.Documents.{link_or_layout}
 use Rattle.it_chain.proofs.Members.{in_cases, in_none}
-use Rattle.it_sublayouts.specs.Counted.{AreCounted, ListedForStep, Place}
+use Rattle.it_sublayouts.specs.Counted.{AreCountedAfter, InTurn, ListedForStep, Place}
 use Rattle.it_sublayouts.specs.declared.counted.CountedSublayout.{CountedSublayout}
 use Rattle.it_sublayouts.specs.inside.Below.{listed_below}
 
@@ -123,15 +122,17 @@ module _ (setting : Setting) (depth lower : ℕ) (next : depth ≡ suc lower) wh
       subst (λ n. holds_below setting n layout bundle results) (sym next) h
 
   pub listed_higher : (at : List Place) (layout : Layout) (bundle : Contents)
-      (found : List CountedSublayout) → AreCounted setting lower at layout bundle found
-      → listed_below setting depth at layout bundle found
-  listed_higher at layout bundle found h =
-      subst (λ n. listed_below setting n at layout bundle found) (sym next) h
+      (before found : List CountedSublayout)
+      → AreCountedAfter setting lower at layout bundle before found
+      → listed_below setting depth at layout bundle before found
+  listed_higher at layout bundle before found h =
+      subst (λ n. listed_below setting n at layout bundle before found) (sym next) h
 
 -- what is listed for each step is all that counts
 pub all_counted : (setting : Setting) (depth : ℕ) (at : List Place) (layout : Layout)
-    (bundle : Contents) (found : List CountedSublayout)
-    → JoinedEach (ListedForStep (listed_below setting depth) (holds_below setting depth) setting at
-    layout bundle) layout.steps found → AreCounted setting depth at layout bundle found
-all_counted setting zero at layout bundle found h = h
-all_counted setting (suc depth) at layout bundle found h = h
+    (bundle : Contents) (before found : List CountedSublayout)
+    → InTurn (ListedForStep (listed_below setting depth) (holds_below setting depth) setting at
+    layout bundle) layout.steps before found
+    → AreCountedAfter setting depth at layout bundle before found
+all_counted setting zero at layout bundle before found h = h
+all_counted setting (suc depth) at layout bundle before found h = h

@@ -1,12 +1,10 @@
 -- Which sublayouts of a layout count, down to a depth (in-toto 1.0 sections 4.4 and 5.2; their
 -- order, and that each is listed once over a folder, are this profile's choice).
-use Rattle.std.specs.Prelude.{◌≡◌, ℕ, zero, suc, List, [], ◌∷◌, ◌++◌, Contains, take}
+use Rattle.std.specs.Prelude.{◌≡◌, ℕ, zero, suc, List, [], ◌∷◌, ◌++◌, Contains, map}
 use Rattle.it_dsse.specs.Panel.{Panel}
 use Rattle.it_dsse.specs.Signed.{IsSigner}
-use Rattle.it_dsse.specs.declared.key_object.KeyObject.{KeyObject}
 use Rattle.it_docs.specs.declared.layout.Layout.{Layout}
 use Rattle.it_docs.specs.declared.step.Step.{Step}
-use Rattle.it_findings.specs.Joined.{Joined, JoinedEach}
 use Rattle.it_chain.specs.Answer.{signers}
 use Rattle.it_chain.specs.Chain.{Chain, none_holds}
 use Rattle.it_chain.specs.Contents.{Contents}
@@ -20,9 +18,32 @@ use Rattle.it_sublayouts.specs.declared.level.Level.{Level}
 abbrev pub Place : Type 0
 Place = List ℕ × List ℕ
 
+-- the names of the folders, one in another, that the files of the sublayout at these places are in
+abbrev pub folders_of : List Place → List (List ℕ)
+folders_of places = map (λ place. folder_name place.0 place.1) places
+
+-- one of these sublayouts is in this payload, and its files are in these folders
+pub record IsAmong (listed : List CountedSublayout) (folders : List (List ℕ)) (payload : List ℕ)
+    : Type 0 where
+  pub sublayout : CountedSublayout
+  pub stands : Contains listed sublayout
+  pub folders_are : folders_of sublayout.at ≡ folders
+  pub payload_is : sublayout.payload ≡ payload
+
+-- what is listed after what was listed before
+abbrev pub After : Type 1
+After = List CountedSublayout → List CountedSublayout → Type 0
+
+-- what is listed for each element in turn, each time after all that was listed before
+abbrev pub InTurn : {X : Type 0} → (X → After) → List X → After
+InTurn Listed [] before found = found ≡ []
+InTurn Listed (x ∷ xs) before found =
+    (here : List CountedSublayout) × (rest : List CountedSublayout) × (found ≡ here ++ rest)
+    × Listed x before here × InTurn Listed xs (before ++ here) rest
+
 -- what is listed of a layout over a bundle; the places lead down to the layout, the outermost first
 abbrev pub Listing : Type 1
-Listing = List Place → Layout → Contents → List CountedSublayout → Type 0
+Listing = List Place → Layout → Contents → After
 
 module _ (panel : Panel) (layout : Layout) (bundle : Contents) (step : Step) where
   -- the sublayout in a payload counts for a step under a key id
@@ -30,14 +51,6 @@ module _ (panel : Panel) (layout : Layout) (bundle : Contents) (step : Step) whe
     pub sublayout : Layout
     pub counts : IsSublayout (IsSigner panel) layout bundle step id sublayout
     pub payload_is : payload ≡ counts.envelope.payload
-
-  -- it counts under one of these key ids, whose folder has this name
-  pub record CountsAmong (ids : List (List ℕ × KeyObject)) (folder payload : List ℕ)
-      : Type 0 where
-    pub signer : List ℕ × KeyObject
-    pub among : Contains ids signer
-    pub folder_is : folder_name step.name signer.0 ≡ folder
-    pub counts : PayloadCounts signer.0 payload
 
 module _ (below : Listing) (holds : Holding) (setting : Setting) (at : List Place)
     (layout : Layout) (bundle : Contents) where
@@ -49,38 +62,42 @@ module _ (below : Listing) (holds : Holding) (setting : Setting) (at : List Plac
     pub payload_is : sublayout.payload ≡ counts.envelope.payload
     pub records : holds sublayout.layout (folder_of step.name id bundle) sublayout.steps
 
-  -- for a step under a key id, where some payloads are listed already: none where all that counts
-  -- is among them, or else one that counts and is not, and then those below
-  abbrev pub ListedFor : (List ℕ → Type 0) → Step → List ℕ → List CountedSublayout → Type 0
-  ListedFor Already step id [] = (payload : List ℕ)
-      → PayloadCounts setting.panel layout bundle step id payload → Already payload
-  ListedFor Already step id (sublayout ∷ others) =
-      CountsFor step id sublayout × ¬ Already sublayout.payload
-      × below sublayout.at sublayout.layout (folder_of step.name id bundle) others
+  -- for a step under a key id: none where one listed before has the folders and the payload of each
+  -- that counts, or else one that counts, of which none before has them, and then those below it
+  abbrev pub ListedFor : Step → List ℕ → After
+  ListedFor step id before [] =
+      (payload : List ℕ) → PayloadCounts setting.panel layout bundle step id payload
+      → IsAmong before (folders_of (at ++ (step.name, id) ∷ [])) payload
+  ListedFor step id before (sublayout ∷ others) =
+      CountsFor step id sublayout
+      × ¬ IsAmong before (folders_of sublayout.at) sublayout.payload
+      × below sublayout.at sublayout.layout (folder_of step.name id bundle)
+      (before ++ sublayout ∷ []) others
 
-  -- for a step: under each key id that it lists and the layout has, in the order of the ids' bytes;
-  -- what counts under one before it too, whose folder has the same name, is listed already
-  abbrev pub ListedForStep : Step → List CountedSublayout → Type 0
-  ListedForStep step =
-      let ids = signers layout step in
-      Joined (λ place signer. ListedFor (CountsAmong setting.panel layout bundle step
-      (take place ids) (folder_name step.name signer.0)) step signer.0) ids
+  -- for a step: under each key id that it lists and the layout has, in the order of the ids' bytes
+  abbrev pub ListedForStep : Step → After
+  ListedForStep step = InTurn (λ signer. ListedFor step signer.0) (signers layout step)
 
 -- for each step of a layout, in its order
 abbrev pub LevelListed : Listing → Holding → Setting → Listing
 LevelListed below holds setting at layout bundle =
-    JoinedEach (ListedForStep below holds setting at layout bundle) layout.steps
+    InTurn (ListedForStep below holds setting at layout bundle) layout.steps
 
 -- nothing is listed of any layout
 abbrev pub none_listed : Listing
-none_listed at layout bundle sublayouts = ⊥
+none_listed at layout bundle before found = ⊥
 
 -- the sublayouts that count, down to a depth: at depth 0 there are none, and at each greater depth
 -- those of the layout itself, each with those below it at one depth less
-abbrev pub AreCounted : Setting → ℕ → Listing
-AreCounted setting zero = LevelListed none_listed none_holds setting
-AreCounted setting (suc depth) =
-    LevelListed (AreCounted setting depth) (Chain setting depth) setting
+abbrev pub AreCountedAfter : Setting → ℕ → Listing
+AreCountedAfter setting zero = LevelListed none_listed none_holds setting
+AreCountedAfter setting (suc depth) =
+    LevelListed (AreCountedAfter setting depth) (Chain setting depth) setting
+
+-- the same where none was listed before
+abbrev pub AreCounted : Setting → ℕ → List Place → Layout → Contents → List CountedSublayout
+    → Type 0
+AreCounted setting depth at layout bundle = AreCountedAfter setting depth at layout bundle []
 
 -- what a layout and its sublayouts are checked with
 abbrev pub setting_of : Panel → Level → Setting

@@ -10,7 +10,6 @@ mod place;
 mod records;
 mod signed_layout;
 mod sublayouts;
-mod unlisted;
 
 pub use counted::CountedSublayout;
 pub use level::Level;

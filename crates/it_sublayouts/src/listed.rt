@@ -1,34 +1,36 @@
-//! Which sublayouts of a step were listed, so that each is listed once over each folder.
-ghost use Rattle.std.specs.Prelude.{◌≡◌, ℕ, List, false, not, IfOk, OnOk, string_bytes};
+//! Which sublayouts were listed, so that each is listed once over a folder.
+ghost use Rattle.std.specs.Prelude.{◌≡◌, ℕ, List, false, map, not, IfOk, OnOk, string_bytes};
 ghost use Rattle.it_sublayouts.specs.inside.Listed.{IsAdded, was_listed};
 
 use std::alloc::{AllocError, Global};
 use std::collections::BTreeSet;
 
-/// The sublayouts of a step that were listed: each by the name of its folder, and by its payload.
+/// The sublayouts that were listed: each by the names of the folders, one in another, that its
+/// files are in, and by its payload.
 #[derive(Drop)]
-pub(crate) struct ListedSublayouts<'a> {
-    places: BTreeSet<(String, &'a [u8])>,
+pub(crate) struct ListedSublayouts {
+    places: BTreeSet<(Vec<String>, Vec<u8>)>,
 }
 
-impl<'a> ListedSublayouts<'a> {
+impl ListedSublayouts {
     /// No sublayouts. Takes no memory.
-    pub fn new(alloc: Global) -> ListedSublayouts<'a>
-        ensures { (folder payload : List ℕ) → was_listed result folder payload ≡ false }
+    pub fn new(alloc: Global) -> ListedSublayouts
+        ensures { (folders : List (List ℕ)) (payload : List ℕ)
+            → was_listed result folders payload ≡ false }
     {
         ListedSublayouts {
             places: BTreeSet::new(alloc),
         }
     }
 
-    /// Adds the sublayout in a payload over a folder, and answers whether it is a new one.
-    pub fn add(&mut self, folder: String, payload: &'a [u8]) -> Result<bool, AllocError>
+    /// Adds the sublayout in a payload over some folders, and answers whether it is a new one.
+    pub fn add(&mut self, folders: Vec<String>, payload: Vec<u8>) -> Result<bool, AllocError>
         ensures is_new { IfOk result (λ is_new.
-            is_new ≡ not (was_listed self.old (string_bytes folder) payload.now)) }
-        ensures added { OnOk result
-            (IsAdded self.old self.new (string_bytes folder) payload.now) }
+            is_new ≡ not (was_listed self.old (map string_bytes folders.items) payload.items)) }
+        ensures added { OnOk result (IsAdded self.old self.new
+            (map string_bytes folders.items) payload.items) }
     {
-        let is_new = self.places.insert((folder, payload))?;
+        let is_new = self.places.insert((folders, payload))?;
         Ok(is_new)
     }
 }

@@ -1,7 +1,9 @@
 //! The place of a sublayout.
-ghost use Rattle.std.specs.Prelude.{◌≡◌, ◌++◌, ◌∷◌, [], IfOk};
+ghost use Rattle.std.specs.Prelude.{◌≡◌, ◌++◌, ◌∷◌, [], IfOk, map, string_bytes};
+ghost use Rattle.it_sublayouts.specs.Counted.{folders_of};
 
 use it_base::text::Text;
+use it_chain::folder_name;
 use std::alloc::{AllocError, Global};
 
 /// The places down to a layout, and then one more: a step of it, and a key id.
@@ -19,6 +21,18 @@ pub(crate) fn place_below(
     }
     place.push(pair(alloc, step, id)?)?;
     Ok(place)
+}
+
+/// The names of the folders, one in another, that the files of the sublayout at these places are
+/// in.
+pub(crate) fn folders_at(alloc: Global, place: &[(Text, Text)]) -> Result<Vec<String>, AllocError>
+    ensures { IfOk result (λ folders. map string_bytes folders.items ≡ folders_of place.now) }
+{
+    let mut folders = Vec::with_capacity(alloc, place.len())?;
+    for (step, id) in place {
+        folders.push(folder_name(alloc, step.as_str(), id.as_str())?)?;
+    }
+    Ok(folders)
 }
 
 fn pair(alloc: Global, step: &str, id: &str) -> Result<(Text, Text), AllocError>

@@ -40,12 +40,11 @@ struct Unlisted<'s> {
 /// and 5.2). A sublayout is listed once over a folder, at the first of its places there: it holds
 /// with the same records wherever it leads to that folder, and has the same sublayouts below it.
 ///
-/// The `checks` check the signatures. Each file of a folder that says that it is a layout is read
-/// as one for each layout that is listed over the folder, those that are one are looked at for each
-/// key id of each step, and each sublayout is read again and verified for its records when it is
-/// listed. So this costs at most as many times what the verification of the layout did as
-/// sublayouts are nested deep, beside the files that are layouts times the key ids of all steps,
-/// for each layout over a folder. Where no file is a layout, no signature is checked.
+/// The `checks` check the signatures. For each layout that is listed over a folder, each file of
+/// the folder that says that it is a layout is read as one, and those that are one are looked at
+/// for each key id of each step. Each sublayout that is listed is read again and, with all below
+/// it, verified again for its records; sublayouts that differ over one folder each verify what is
+/// below them. Where no file is a layout, no signature is checked.
 ///
 /// # Errors
 ///

@@ -15,12 +15,12 @@ same_set a b =
     same_value a.sha256 b.sha256
     && (same_value a.sha384 b.sha384 && same_value a.sha512 b.sha512)
 
-same_value_per : IsPartialEquivalence same_value
-same_value_per = partial_equiv_from_equiv (options_equiv nat_list_eq_equiv)
+same_value_partial_equivalence : IsPartialEquivalence same_value
+same_value_partial_equivalence = partial_equiv_from_equiv (options_equiv nat_list_eq_equiv)
 
 -- it holds both ways round, and along a chain
-pub same_set_per : IsPartialEquivalence same_set
-same_set_per =
-    and_per (on_per (λ (s : DigestSet). s.sha256) same_value_per)
-    (and_per (on_per (λ (s : DigestSet). s.sha384) same_value_per)
-    (on_per (λ (s : DigestSet). s.sha512) same_value_per))
+pub same_set_partial_equivalence : IsPartialEquivalence same_set
+same_set_partial_equivalence =
+    and_per (on_per (λ (s : DigestSet). s.sha256) same_value_partial_equivalence)
+    (and_per (on_per (λ (s : DigestSet). s.sha384) same_value_partial_equivalence)
+    (on_per (λ (s : DigestSet). s.sha512) same_value_partial_equivalence))

@@ -4,7 +4,7 @@ ghost use Rattle.it_borrowed.specs.Tree.{as_data};
 ghost use Rattle.it_digest.specs.Compare.{Agree, Apart, Differ, compared};
 ghost use Rattle.it_digest.specs.Digest.{IsDigestSet};
 ghost use Rattle.it_digest.specs.DigestSet.{in_sha256, only};
-ghost use Rattle.it_digest.specs.Equal.{same_set, same_set_per};
+ghost use Rattle.it_digest.specs.Equal.{same_set, same_set_partial_equivalence};
 
 use crate::compare::{Compare, DigestSet};
 use crate::digest::digest_set;
@@ -102,7 +102,7 @@ fn compare_values(one: &[u8; 32], other: &[u8; 32]) -> Compare
 impl PartialEq for CompactSet {
     ghost eq = { same_set };
 
-    ghost laws = { same_set_per };
+    ghost laws = { same_set_partial_equivalence };
 
     fn eq(&self, other: &CompactSet) -> bool {
         self.set() == other.set()

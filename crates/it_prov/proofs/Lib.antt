@@ -6,7 +6,6 @@ pub mod Attesting
 pub mod BestLevel
 pub mod Candidates
 pub mod Distinct
-pub mod Entries
 pub mod Fitting
 pub mod Greatest
 pub mod Holding

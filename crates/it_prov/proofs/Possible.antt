@@ -22,7 +22,7 @@ use Rattle.it_places.specs.Places.{IsPut, IsUnder}
 use Rattle.it_places.specs.declared.places.Places.{Places}
 use Rattle.it_prov.specs.Meets.{SignedByBuilder}
 use Rattle.it_prov.specs.inside.Possible.{ArePossible, AreUnderIds, CanSign, IsUnderIds}
-use Rattle.it_prov.proofs.Entries.{known_entry}
+use Rattle.it_digest.proofs.Entries.{known_entry}
 
 -- a builder that signed an envelope can have signed it
 pub signer_can : (panel : Panel) (envelope : Envelope) (builder : Builder)

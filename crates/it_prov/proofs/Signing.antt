@@ -13,7 +13,7 @@ use Rattle.it_dsse.proofs.SignerSettled.{signer_or_not}
 use Rattle.it_docs.specs.declared.policy.Builder.{Builder}
 use Rattle.it_prov.specs.Answered.{IsAskedOfBuilder}
 use Rattle.it_prov.specs.Meets.{SignedByBuilder}
-use Rattle.it_prov.proofs.Entries.{entry_known, known_entry}
+use Rattle.it_digest.proofs.Entries.{entry_known, known_entry}
 
 module _ (panel : Panel) (envelope : Envelope) where
   -- the key of an entry signed

@@ -1,6 +1,6 @@
 -- The paths of a map, lent in their order.
 use Rattle.std.proofs.Common.{◌≡◌, ◌∙◌, ℕ, List, [], ◌∷◌, ◌++◌, map, get_or, All, Contains, Some}
-use Rattle.std.proofs.Common.{Bor, String, Global, string_bytes, Less, sym, ap, subst, arith}
+use Rattle.std.proofs.Common.{Bor, Less, sym, ap, subst, arith}
 use Rattle.std.proofs.Common.{append_assoc}
 use Rattle.std.specs.FinMap.{contains_key-keys, keys}
 use Rattle.std.specs.List.{slice_get}
@@ -22,15 +22,14 @@ use Rattle.it_rules.proofs.PathOrder.{path_cmp, same_path, same_self}
 abbrev pub bytes : Bor (List ℕ) → List ℕ
 bytes lent = lent.now
 
--- a path that is lent instead of coming next
-pub lent_more : (paths : List (Bor (List ℕ))) (lent : Bor (List ℕ)) (s : String Global)
-    (rest : List (String Global)) → lent.now ≡ string_bytes s
-    → map bytes (paths ++ lent ∷ []) ++ map string_bytes rest ≡ map bytes paths
-    ++ map string_bytes (s ∷ rest)
-lent_more paths lent s rest e =
-    ap (λ l. l ++ map string_bytes rest) (map-append bytes paths (lent ∷ []))
-    ∙ append_assoc (map bytes paths) (lent.now ∷ []) (map string_bytes rest)
-    ∙ ap (λ b. map bytes paths ++ b ∷ map string_bytes rest) e
+-- one that is lent instead of coming next
+pub lent_more : {X Y Z : Type 0} (f : X → Z) (g : Y → Z) (lent : List X) (next : X) (y : Y)
+    (rest : List Y) → f next ≡ g y
+    → map f (lent ++ next ∷ []) ++ map g rest ≡ map f lent ++ map g (y ∷ rest)
+lent_more f g lent next y rest e =
+    ap (λ l. l ++ map g rest) (map-append f lent (next ∷ []))
+    ∙ append_assoc (map f lent) (f next ∷ []) (map g rest)
+    ∙ ap (λ b. map f lent ++ b ∷ map g rest) e
 
 module _ (artifacts : ArtifactMap) (paths : List (Bor (List ℕ)))
     (whole : map bytes paths ≡ keys artifacts)

@@ -2,6 +2,7 @@ pub mod Claimed
 pub mod ClaimsDecided
 pub mod FaultDecided
 pub mod Fronts
+pub mod LentDigests
 pub mod LentPaths
 pub mod Kept
 pub mod Listed

@@ -1,2 +1,3 @@
 pub mod FrontOrder
+pub mod Judged
 pub mod Reach

@@ -4,12 +4,14 @@ ghost use Rattle.std.specs.Prelude.{option_map};
 ghost use Rattle.std.specs.FinMap.{get};
 ghost use Rattle.it_digest.specs.Compare.{Agree, Differ};
 ghost use Rattle.it_rules.specs.FolderPrefix.{folder_prefix};
-ghost use Rattle.it_rules.specs.Item.{links_of, recorded_of};
+ghost use Rattle.it_rules.specs.Item.{artifacts_on, links_of, recorded_of};
 ghost use Rattle.it_rules.specs.Rules.{Claims, CreateClaims, DeleteClaims, IsMatch, MatchClaims};
 ghost use Rattle.it_rules.specs.Rules.{ModifyClaims, NamesDiffer};
+ghost use Rattle.it_rules.specs.inside.Judged.{HasDigests};
 
 use crate::folder_prefix::{join_folder, strip_folder};
 use crate::item::{Item, Named};
+use crate::judged::JudgedArtifact;
 use crate::looked::find_link;
 use it_digest::artifacts::Artifacts;
 use it_digest::compact::CompactSet;
@@ -25,8 +27,6 @@ struct Source<'a> {
     pattern: &'a Pattern,
     /// The prefix that a path has there, before what the pattern matches.
     prefix: &'a str,
-    /// The artifacts on the side that the rule is judged on.
-    artifacts: &'a Artifacts,
 }
 
 /// Where a `MATCH` rule looks for the artifact of a path.
@@ -59,30 +59,51 @@ pub fn claims(
     ensures { IfOk result (λ claimed. IsTrue claimed
         ↔ Claims rule.now side (recorded_of item.now) (links_of links.now) path.now) }
 {
+    let judged = JudgedArtifact {
+        item,
+        side,
+        path,
+        digests: item.artifacts_on(side).at(path),
+    };
+    claims_artifact(alloc, rule, &judged, links)
+}
+
+/// Whether a rule claims an artifact.
+pub(crate) fn claims_artifact(
+    alloc: Global,
+    rule: &Rule,
+    judged: &JudgedArtifact,
+    links: &[Named],
+) -> Result<bool, AllocError>
+    requires digests { HasDigests judged.now }
+    requires names { NamesDiffer (links_of links.now) }
+    ensures { IfOk result (λ claimed. IsTrue claimed
+        ↔ Claims rule.now judged.now.side (recorded_of judged.now.item.now) (links_of links.now)
+        judged.now.path.now) }
+{
     match rule {
         Rule::Match {
             pattern,
             source_prefix,
-            side: linked_side,
+            side,
             target_prefix,
             from,
         } => {
             let source = Source {
                 pattern,
                 prefix: source_prefix.as_str(),
-                artifacts: item.artifacts_on(side),
             };
             let target = Target {
                 from: from.as_str(),
-                side: *linked_side,
+                side: *side,
                 prefix: target_prefix.as_str(),
             };
-            match_claims(alloc, &source, &target, links, path)
+            match_claims(alloc, &source, &target, judged, links)
         }
-        Rule::Create(pattern) => Ok(create_claims(pattern, item, path)),
-        Rule::Delete(pattern) => Ok(delete_claims(pattern, item, path)),
-        Rule::Modify(pattern) => Ok(modify_claims(pattern, item, path)),
-        Rule::Allow(pattern) => Ok(allow_claims(pattern, path)),
+        Rule::Create(pattern) => Ok(create_claims(pattern, judged)),
+        Rule::Delete(pattern) => Ok(delete_claims(pattern, judged)),
+        Rule::Modify(pattern) => Ok(modify_claims(pattern, judged)),
+        Rule::Allow(pattern) => Ok(allow_claims(pattern, judged.path)),
         Rule::Disallow(_) | Rule::Require(_) => Ok(false),
     }
 }
@@ -91,16 +112,18 @@ fn match_claims(
     alloc: Global,
     source: &Source,
     target: &Target,
+    judged: &JudgedArtifact,
     links: &[Named],
-    path: &str,
 ) -> Result<bool, AllocError>
-    requires { NamesDiffer (links_of links.now) }
+    requires digests { HasDigests judged.now }
+    requires names { NamesDiffer (links_of links.now) }
     ensures { IfOk result (λ claimed. IsTrue claimed
         ↔ MatchClaims source.now.pattern.now source.now.prefix.now target.now.side
-        target.now.prefix.now target.now.from.now source.now.artifacts.now (links_of links.now)
-        path.now) }
+        target.now.prefix.now target.now.from.now
+        (artifacts_on judged.now.side (recorded_of judged.now.item.now)) (links_of links.now)
+        judged.now.path.now) }
 {
-    let Some(rest) = strip_folder(path, source.prefix) else {
+    let Some(rest) = strip_folder(judged.path, source.prefix) else {
         return Ok(false);
     };
     if !source.pattern.matches(rest) {
@@ -109,28 +132,37 @@ fn match_claims(
     let Some(link) = find_link(links, target.from) else {
         return Ok(false);
     };
-    let here = source.artifacts.at(path);
     let recorded = link.item.artifacts_on(target.side);
     let there = digests_under(alloc, recorded, target.prefix, rest)?;
-    Ok(agree(here, there))
+    Ok(agree(judged.digests, there))
 }
 
-fn create_claims(pattern: &Pattern, item: &Item, path: &str) -> bool
-    ensures { IsTrue result ↔ CreateClaims pattern.now (recorded_of item.now) path.now }
+fn create_claims(pattern: &Pattern, judged: &JudgedArtifact) -> bool
+    requires { HasDigests judged.now }
+    ensures { IsTrue result
+        ↔ CreateClaims pattern.now (recorded_of judged.now.item.now) judged.now.path.now }
 {
-    pattern.matches(path) && item.products.at(path).is_some() && item.materials.at(path).is_none()
+    pattern.matches(judged.path)
+        && judged.on(Side::Products).is_some()
+        && judged.on(Side::Materials).is_none()
 }
 
-fn delete_claims(pattern: &Pattern, item: &Item, path: &str) -> bool
-    ensures { IsTrue result ↔ DeleteClaims pattern.now (recorded_of item.now) path.now }
+fn delete_claims(pattern: &Pattern, judged: &JudgedArtifact) -> bool
+    requires { HasDigests judged.now }
+    ensures { IsTrue result
+        ↔ DeleteClaims pattern.now (recorded_of judged.now.item.now) judged.now.path.now }
 {
-    pattern.matches(path) && item.materials.at(path).is_some() && item.products.at(path).is_none()
+    pattern.matches(judged.path)
+        && judged.on(Side::Materials).is_some()
+        && judged.on(Side::Products).is_none()
 }
 
-fn modify_claims(pattern: &Pattern, item: &Item, path: &str) -> bool
-    ensures { IsTrue result ↔ ModifyClaims pattern.now (recorded_of item.now) path.now }
+fn modify_claims(pattern: &Pattern, judged: &JudgedArtifact) -> bool
+    requires { HasDigests judged.now }
+    ensures { IsTrue result
+        ↔ ModifyClaims pattern.now (recorded_of judged.now.item.now) judged.now.path.now }
 {
-    pattern.matches(path) && differ(item.materials.at(path), item.products.at(path))
+    pattern.matches(judged.path) && differ(judged.on(Side::Materials), judged.on(Side::Products))
 }
 
 fn allow_claims(pattern: &Pattern, path: &str) -> bool

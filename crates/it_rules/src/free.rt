@@ -4,8 +4,8 @@ ghost use Rattle.it_rules.specs.Item.{links_of, recorded_of};
 ghost use Rattle.it_rules.specs.Rules.{AreFree, NamesDiffer};
 
 use crate::item::{Item, Named, Subject};
+use crate::listed_artifacts::ListedArtifacts;
 use crate::marks::{consume, unmarked};
-use crate::paths::paths_of;
 use it_docs::rule::{Rule, Side};
 use std::alloc::{AllocError, Global};
 
@@ -28,8 +28,14 @@ pub fn free_paths<'a>(
     ensures { IfOk result (λ paths. AreFree rules.now side (recorded_of item.now)
         (links_of links.now) (length rules.now) (map (λ path. path.now) paths.items)) }
 {
-    let subject = Subject { side, item, links };
-    let paths = paths_of(alloc, item.artifacts_on(side))?;
+    let ListedArtifacts { paths, digests } = ListedArtifacts::of(alloc, item.artifacts_on(side))?;
+    let digests = digests.as_slice();
+    let subject = Subject {
+        side,
+        item,
+        digests,
+        links,
+    };
     let mut marks = vec![in alloc; false; paths.len()]?;
     for rule in rules {
         consume(alloc, &paths, &mut marks, rule, &subject)?;

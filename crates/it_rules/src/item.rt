@@ -2,6 +2,7 @@
 ghost use Rattle.std.specs.Prelude.{◌≡◌};
 
 use it_digest::artifacts::Artifacts;
+use it_digest::compact::CompactSet;
 use it_docs::rule::Side;
 
 /// The artifacts that an item recorded: a step, an inspection, or the delivery.
@@ -24,11 +25,13 @@ pub struct Named<'a> {
 
 /// What a list of rules is judged on.
 #[derive(Drop)]
-pub(crate) struct Subject<'i, 'a, 'l, 'n> {
+pub(crate) struct Subject<'i, 'a, 'd, 'l, 'n> {
     /// The side of the item.
     pub side: Side,
     /// The item.
     pub item: &'i Item<'a>,
+    /// The digests of each path of the side, in the order of the paths.
+    pub digests: &'d [&'a CompactSet],
     /// The items that `MATCH` rules may name.
     pub links: &'l [Named<'n>],
 }

@@ -6,6 +6,8 @@ pub mod claims;
 pub mod folder_prefix;
 pub mod free;
 pub mod item;
+mod judged;
+mod listed_artifacts;
 pub mod looked;
 pub mod marks;
 pub mod paths;

@@ -1,13 +1,15 @@
 //! Paths with a mark on some of them, such as on those that a rule has consumed.
 ghost use Rattle.std.specs.Prelude.{◌≡◌, ◌↔◌, List, ℕ, length, map, IfOk, OnOk, IsTrue};
 ghost use Rattle.std.specs.Prelude.{MatchOption};
-ghost use Rattle.it_rules.specs.Item.{links_of, recorded_of};
+ghost use Rattle.it_rules.specs.Item.{artifacts_on, links_of, recorded_of};
 ghost use Rattle.it_rules.specs.Paths.{ArePaths};
 ghost use Rattle.it_rules.specs.Marks.{AreLeft, IsLeft};
 ghost use Rattle.it_rules.specs.Rules.{Claims, IsLeastMatch, IsMatch, NamesDiffer};
+ghost use Rattle.it_rules.specs.inside.Judged.{AreDigestsOf};
 
-use crate::claims::claims;
+use crate::claims::claims_artifact;
 use crate::item::Subject;
+use crate::judged::JudgedArtifact;
 use crate::looked::looked_at;
 use crate::reach::{claimed_range, pattern_range};
 use it_docs::rule::Rule;
@@ -24,6 +26,9 @@ pub(crate) fn consume(
 ) -> Result<(), AllocError>
     requires paths { ArePaths paths.now }
     requires marks { length marks.old ≡ length paths.now }
+    requires digests { AreDigestsOf
+        (artifacts_on subject.now.side (recorded_of subject.now.item.now)) paths.now
+        subject.now.digests.now }
     requires names { NamesDiffer (links_of subject.now.links.now) }
     ensures { OnOk result ((path : List ℕ) → IsLeft paths.now marks.new path
         ↔ (IsLeft paths.now marks.old path
@@ -33,8 +38,13 @@ pub(crate) fn consume(
     let (start, end) = claimed_range(alloc, rule, paths)?;
     let looked = looked_at(rule, subject.links);
     for place in start..end {
-        let path = paths[place];
-        if !marks[place] && claims(alloc, rule, subject.side, subject.item, looked, path)? {
+        let judged = JudgedArtifact {
+            item: subject.item,
+            side: subject.side,
+            path: paths[place],
+            digests: Some(subject.digests[place]),
+        };
+        if !marks[place] && claims_artifact(alloc, rule, &judged, looked)? {
             marks[place] = true;
         }
     }

@@ -6,8 +6,8 @@ ghost use Rattle.it_rules.specs.Marks.{IsLeft};
 ghost use Rattle.it_rules.specs.Rules.{FailsWith, HoldsOver, IsFirstFault, NamesDiffer, RulesHold};
 
 use crate::item::{Item, Named, Subject};
+use crate::listed_artifacts::ListedArtifacts;
 use crate::marks::{consume, is_left, least_match};
-use crate::paths::paths_of;
 use it_base::text::Text;
 use it_docs::rule::{Rule, Side};
 use std::alloc::{AllocError, Global};
@@ -47,8 +47,14 @@ pub fn run_rules(
         IsFirstFault rules.now side (recorded_of item.now) (links_of links.now)
         fault.index fault.path)) }
 {
-    let subject = Subject { side, item, links };
-    let paths = paths_of(alloc, item.artifacts_on(side))?;
+    let ListedArtifacts { paths, digests } = ListedArtifacts::of(alloc, item.artifacts_on(side))?;
+    let digests = digests.as_slice();
+    let subject = Subject {
+        side,
+        item,
+        digests,
+        links,
+    };
     let mut marks = vec![in alloc; false; paths.len()]?;
     for (index, rule) in rules.iter().enumerate() {
         if let Some(path) = failing_path(rule, &paths, &marks) {

@@ -26,7 +26,7 @@ returns c =
     (folder_prefix c.args.target.now.prefix.now ++ c.in-Some.rest.now) =
     c.in_ok-there.ensures ∙ ap (λ m. get m (folder_prefix c.args.target.now.prefix.now
     ++ c.in-Some.rest.now)) c.artifacts_on-recorded.ensures in
-    answer_on_path c.agree.result c.at-here.result c.in_ok-there.there _ _ c.agree.ensures
-    c.at-here.ensures there
-    (claims_from_digests _ _ _ _ _ _ _ _ c.in-Some.rest.now linked c.requires c.in-Some.ensures
+    answer_on_path c.agree.result c.args.judged.now.digests c.in_ok-there.there _ _ c.agree.ensures
+    c.requires.digests there
+    (claims_from_digests _ _ _ _ _ _ _ _ c.in-Some.rest.now linked c.requires.names c.in-Some.ensures
     (c.matches.ensures.0 c.if-not-matches.false) c.in-Some-find_link.ensures.1)

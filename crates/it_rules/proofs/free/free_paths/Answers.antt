@@ -22,8 +22,8 @@ loop-rule-preserved c =
     c.in_ok-consume.ensures in
     rw whole (record {
       free = free_more c.args.rules.now c.args.side (recorded_of c.args.item.now)
-          (links_of c.args.links.now) (IsLeft c.in_ok-paths.paths.items c.loop-rule.marks.items)
-          (IsLeft c.in_ok-paths.paths.items new) c.loop-rule.rule-index c.rule-item.result
+          (links_of c.args.links.now) (IsLeft c.in_ok-paths.field-0.paths.items c.loop-rule.marks.items)
+          (IsLeft c.in_ok-paths.field-0.paths.items new) c.loop-rule.rule-index c.rule-item.result
           c.loop-rule.invariant.free here left;
       lengths = c.consume.auto.marks ∙ ap length c.deref_mut.ensures.value
           ∙ c.loop-rule.invariant.lengths;
@@ -32,6 +32,6 @@ loop-rule-preserved c =
 pub returns : goal.returns
 returns c =
     let left = rw (c.deref-2.ensures.value, c.deref-3.ensures.value) at c.in_ok-left.ensures in
-    free_from_left c.in_ok-paths.paths.items c.loop-rule.marks.items c.args.rules.now c.args.side
+    free_from_left c.in_ok-paths.field-0.paths.items c.loop-rule.marks.items c.args.rules.now c.args.side
     (recorded_of c.args.item.now) (links_of c.args.links.now) c.loop-rule.rule-index
     c.loop-rule-test.false c.loop-rule.invariant.free (map bytes c.in_ok-left.left.items) left

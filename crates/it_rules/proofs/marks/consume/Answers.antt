@@ -4,10 +4,10 @@ use Rattle.it_rules.specs.Item.{links_of, recorded_of}
 use Rattle.it_rules.specs.Rules.{Claims}
 use Rattle.it_rules.proofs.Marking.{all_marked, begins, left_as_is, marked}
 use Rattle.it_rules.proofs.marks.consume.Goals as goal
-use Rattle.it_rules.proofs.marks.consume.Goals.{then-not-marks-place+in_ok-claims+then-branch}
+use Rattle.it_rules.proofs.marks.consume.Goals.{then-not-marks-place+in_ok-claims_artifact+then-branch}
 use Rattle.it_rules.proofs.marks.consume.Goals.{else-not-marks-place}
 use Rattle.it_rules.proofs.marks.consume.Goals.{
-  else-not-marks-place-via-then-not-marks-place+in_ok-claims+else-branch,
+  else-not-marks-place-via-then-not-marks-place+in_ok-claims_artifact+else-branch,
 }
 use Rattle.it_rules.proofs.marks.consume.Goals.{else-not-marks-place-via-else-not-marks-place}
 
@@ -34,16 +34,16 @@ loop-place-preserved c =
     record {
       within = c.loop-place.invariant.within;
       marking = elim c.if-not-marks-place.branch [
-        | then-not-marks-place+in_ok-claims+then-branch w ↦
+        | then-not-marks-place+in_ok-claims_artifact+then-branch w ↦
             rw w.marks-is (marked IsClaimed paths c.args.marks.now c.loop-place.marks place path
-            (omega arith) here ((same path.now).0 (w.in_ok-claims.ensures.0 w.if-branch.true))
+            (omega arith) here ((same path.now).0 (w.in_ok-claims_artifact.ensures.0 w.if-branch.true))
             c.loop-place.invariant.marking)
         | else-not-marks-place w ↦
             rw w.marks-is (left_as_is IsClaimed paths c.args.marks.now c.loop-place.marks place path
             here
             (elim w.else-not-marks-place.branch [
-              | else-not-marks-place-via-then-not-marks-place+in_ok-claims+else-branch v ↦ λ u
-                  claimed. true≢false (sym (v.in_ok-claims.ensures.1 ((same path.now).1 claimed))
+              | else-not-marks-place-via-then-not-marks-place+in_ok-claims_artifact+else-branch v ↦ λ u
+                  claimed. true≢false (sym (v.in_ok-claims_artifact.ensures.1 ((same path.now).1 claimed))
                   ∙ v.if-branch.false)
               | else-not-marks-place-via-else-not-marks-place v ↦ λ u claimed. true≢false
                   (sym v.if-not-marks-place.false ∙ u)

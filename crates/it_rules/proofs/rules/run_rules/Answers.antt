@@ -42,8 +42,8 @@ loop-index-preserved c =
     let left = rw (c.deref-in-loop-index-2.ensures.value, c.deref_mut.ensures.value) at
     c.in_ok-consume.ensures in
     rw whole (record {
-      running = one_more _ _ _ _ (IsLeft c.in_ok-paths.paths.items c.loop-index.marks.items)
-          (IsLeft c.in_ok-paths.paths.items new) c.loop-index.index c.index-rules-index.result
+      running = one_more _ _ _ _ (IsLeft c.in_ok-paths.field-0.paths.items c.loop-index.marks.items)
+          (IsLeft c.in_ok-paths.field-0.paths.items new) c.loop-index.index c.index-rules-index.result
           c.loop-index.invariant.running here holds left;
       lengths = c.consume.auto.marks ∙ ap length c.deref_mut.ensures.value
           ∙ c.loop-index.invariant.lengths;

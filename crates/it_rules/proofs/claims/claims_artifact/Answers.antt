@@ -1,4 +1,4 @@
-use Rattle.it_rules.proofs.claims.claims.Goals as goal
+use Rattle.it_rules.proofs.claims.claims_artifact.Goals as goal
 
 pub returns-in-Match : goal.returns-in-Match
 returns-in-Match c = rw c.in-Match.is
@@ -6,5 +6,4 @@ returns-in-Match c = rw c.in-Match.is
       c.as_str-in-Match-2.ensures,
       c.as_str-in-Match.ensures,
       c.as_str.ensures,
-      c.artifacts_on.ensures,
     ) at c.match_claims.ensures)

@@ -14,7 +14,8 @@ use Rattle.it_dsse.specs.declared.envelope.Envelope.{Envelope}
 use Rattle.it_dsse.specs.declared.envelope.Signature.{Signature}
 use Rattle.it_dsse.specs.declared.key_object.KeyObject.{KeyObject}
 use Rattle.it_dsse.specs.declared.meter.Meter.{Meter}
-use Rattle.it_chain.specs.inside.Asked.{Asks, RaisedWithin, SignaturesIn, least_counted}
+use Rattle.it_chain.specs.Raised.{RaisedWithin}
+use Rattle.it_chain.specs.inside.Asked.{Asks, SignaturesIn, least_counted}
 use Rattle.it_chain.specs.inside.Asked.{signature_count}
 use Rattle.it_chain.specs.inside.CountedBodies.{Counts, IsSigned}
 use Rattle.it_chain.specs.inside.Hints.{admitted_for, hints_at, is_unhinted, is_under}

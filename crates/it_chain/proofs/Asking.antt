@@ -12,7 +12,8 @@ use Rattle.it_dsse.specs.declared.key_object.KeyObject.{KeyObject}
 use Rattle.it_dsse.specs.declared.meter.Meter.{Meter}
 use Rattle.it_dsse.proofs.Tries.{signed_tries, tries_at_most}
 use Rattle.it_dsse.proofs.Trying.{raised-zero, raised_more}
-use Rattle.it_chain.specs.inside.Asked.{RaisedAtLeast, RaisedWithin, SignaturesIn}
+use Rattle.it_chain.specs.Raised.{RaisedAtLeast, RaisedWithin}
+use Rattle.it_chain.specs.inside.Asked.{SignaturesIn}
 use Rattle.it_dsse.specs.declared.envelope.Envelope.{Envelope}
 
 pub within_none : (Most : ℕ → Type 0) (old new : Meter) → new ≡ old → RaisedWithin 0 Most old new

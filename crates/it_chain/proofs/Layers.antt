@@ -1,11 +1,11 @@
 -- What was answered, read from one layer of it.
 use Rattle.std.proofs.Common.{◌≡◌, ℕ, List, ap}
 use Rattle.std.specs.BTreeMap.{get_by_text}
+use Rattle.it_chain.specs.Answered.{answer_at, within_at}
 use Rattle.it_chain.specs.declared.answered.AnsweredSublayouts.{AnsweredSublayouts}
 use Rattle.it_chain.specs.declared.answered.AnsweredSublayouts.TheOpen.{AnsweredSublayouts-F}
 use Rattle.it_chain.specs.declared.answered.AnsweredSublayouts.TheViews.{out-roll-AnsweredSublayouts}
 use Rattle.it_chain.specs.declared.answered.AnsweredSublayouts.TheViews.{roll-AnsweredSublayouts}
-use Rattle.it_chain.specs.inside.Answered.{answer_at, within_at}
 use Rattle.it_chain.proofs.Keyed.{get_bytes}
 
 module _ (layer : AnsweredSublayouts-F AnsweredSublayouts) where

@@ -13,8 +13,10 @@ use Rattle.it_docs.specs.declared.layout.Layout.{Layout}
 use Rattle.it_docs.specs.declared.step.Step.{Step}
 use Rattle.it_rules.specs.Item.{Recorded}
 use Rattle.it_chain.specs.Answer.{signers, with_record}
-use Rattle.it_chain.specs.inside.Asked.{Asks, BodyCosts, IdCosts, RaisedWithin, SignaturesIn}
-use Rattle.it_chain.specs.inside.Asked.{cost_below, key_total, least_given, signature_count}
+use Rattle.it_chain.specs.Cost.{cost_below}
+use Rattle.it_chain.specs.Raised.{RaisedWithin}
+use Rattle.it_chain.specs.inside.Asked.{Asks, BodyCosts, IdCosts, SignaturesIn}
+use Rattle.it_chain.specs.inside.Asked.{key_total, least_given, signature_count}
 use Rattle.it_chain.specs.Contents.{Contents, files_of}
 use Rattle.it_chain.specs.Cost.{ChainCosts, LevelCosts, StepCosts}
 use Rattle.it_chain.specs.CountedBodies.{Setting, Body, of_link, of_layout}

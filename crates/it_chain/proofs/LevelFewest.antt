@@ -17,9 +17,10 @@ use Rattle.it_docs.proofs.Same.{layout_same}
 use Rattle.it_rules.proofs.Listed.{Contains-map, place_of}
 use Rattle.it_rules.specs.Item.{Recorded}
 use Rattle.it_chain.specs.Answer.{with_record}
-use Rattle.it_chain.specs.inside.Asked.{BodyFewest, CountsFor, GivenFewest, IdFewest, RaisedAtLeast}
-use Rattle.it_chain.specs.inside.Asked.{RaisedWithin, RecordsFewest, SignaturesIn, SublayoutFewest}
-use Rattle.it_chain.specs.inside.Asked.{fewest_below}
+use Rattle.it_chain.specs.Fewest.{fewest_below}
+use Rattle.it_chain.specs.Raised.{RaisedAtLeast, RaisedWithin}
+use Rattle.it_chain.specs.inside.Asked.{BodyFewest, CountsFor, GivenFewest, IdFewest}
+use Rattle.it_chain.specs.inside.Asked.{RecordsFewest, SignaturesIn, SublayoutFewest}
 use Rattle.it_chain.specs.Contents.{Contents}
 use Rattle.it_chain.specs.Cost.{Costing, IsSublayout}
 use Rattle.it_chain.specs.CountedBodies.{Setting, Body, of_link, of_layout, BodyOf, Counted}

@@ -1,6 +1,7 @@
 pub mod Admitted
 pub mod AlikePanels
 pub mod Alikes
+pub mod AnswersOver
 pub mod Asking
 pub mod Candidates
 pub mod ClaimedFiles

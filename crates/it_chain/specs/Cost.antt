@@ -66,3 +66,8 @@ no_cost layout bundle n = n ≡ 0
 abbrev pub ChainCosts : Setting → ℕ → Costing
 ChainCosts setting zero = LevelCosts no_cost setting
 ChainCosts setting (suc depth) = LevelCosts (ChainCosts setting depth) setting
+
+-- what the sublayouts of a layout cost, where these may be nested so deep
+abbrev pub cost_below : Setting → ℕ → Costing
+cost_below setting zero = no_cost
+cost_below setting (suc depth) = ChainCosts setting depth

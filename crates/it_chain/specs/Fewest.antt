@@ -26,3 +26,8 @@ LevelFewest sub setting layout bundle = IsSum (StepFewest sub setting layout bun
 abbrev pub ChainFewest : Setting → ℕ → Costing
 ChainFewest setting zero = LevelFewest no_cost setting
 ChainFewest setting (suc depth) = LevelFewest (ChainFewest setting depth) setting
+
+-- what the sublayouts of a layout take at least, where these may be nested so deep
+abbrev pub fewest_below : Setting → ℕ → Costing
+fewest_below setting zero = no_cost
+fewest_below setting (suc depth) = ChainFewest setting depth

@@ -2,6 +2,7 @@ pub mod Alike
 pub mod AlikePanels
 pub mod AllFiles
 pub mod Answer
+pub mod Answered
 pub mod Body
 pub mod BundleCode
 pub mod BundleView
@@ -18,6 +19,7 @@ pub mod Judged
 pub mod Laws
 pub mod Level
 pub mod Lower
+pub mod Raised
 pub mod Signers
 pub mod StepRules
 pub mod Sublayouts

@@ -1,10 +1,10 @@
-//! What was answered for sublayouts, so that one which several key ids signed, in one layout or in
-//! several over the same folder, is verified once.
+//! What was answered for sublayouts, so that each is verified once over a folder, whichever key ids
+//! signed it and whichever layouts lead there.
 ghost use Rattle.std.specs.Prelude.{◌≡◌, List, ℕ, None, Some, IfOk, OnErr, OnOk, option_map};
 ghost use Rattle.std.specs.Prelude.{string_bytes, MatchOption};
 ghost use Rattle.it_dsse.specs.Meter.{raised};
-ghost use Rattle.it_chain.specs.inside.Answered.{IsFresh, IsGiven, IsKept, IsRecalled, IsTaken};
-ghost use Rattle.it_chain.specs.inside.Answered.{answer_at, within_at};
+ghost use Rattle.it_chain.specs.Answered.{IsFresh, IsGiven, IsTaken, answer_at, within_at};
+ghost use Rattle.it_chain.specs.inside.Answered.{IsKept, IsRecalled};
 
 use crate::record::Recorded;
 use it_dsse::meter::Meter;
@@ -21,9 +21,9 @@ pub(crate) struct Answer {
 }
 
 /// The answers for the sublayouts over a folder, by their payloads, and those over the folders in
-/// it.
+/// it. They are kept by the verifications of layouts over that folder, to which they are lent.
 #[derive(Drop)]
-pub(crate) struct AnsweredSublayouts {
+pub struct AnsweredSublayouts {
     by_payload: BTreeMap<Vec<u8>, Answer>,
     folders: BTreeMap<String, AnsweredSublayouts>,
 }
@@ -41,7 +41,7 @@ impl AnsweredSublayouts {
 
     /// What the sublayout in a payload records over this folder, if that was answered. The meter
     /// then rises as if it were asked again.
-    pub fn recall(
+    pub(crate) fn recall(
         &self,
         alloc: Global,
         payload: &[u8],
@@ -66,7 +66,7 @@ impl AnsweredSublayouts {
     }
 
     /// Keeps the answer for the sublayout in a payload over this folder.
-    pub fn keep(&mut self, payload: Vec<u8>, answer: Answer) -> Result<(), AllocError>
+    pub(crate) fn keep(&mut self, payload: Vec<u8>, answer: Answer) -> Result<(), AllocError>
         ensures { OnOk result (IsKept self.old self.new payload.items answer) }
     {
         self.by_payload.insert(payload, answer)?;
@@ -78,7 +78,7 @@ impl AnsweredSublayouts {
     pub fn take(&mut self, alloc: Global, folder: &str) -> AnsweredSublayouts
         ensures taken { MatchOption (within_at self.old folder.now) (IsFresh result)
             (λ within. result ≡ within) }
-        ensures left { IsTaken self.old self.new }
+        ensures left { IsTaken self.old self.new folder.now }
     {
         match self.folders.remove(folder) {
             Some(within) => within,
@@ -86,7 +86,11 @@ impl AnsweredSublayouts {
         }
     }
 
-    /// Gives back the answers over a folder in this one.
+    /// Gives back the answers over a folder in this one, in place of those that are there.
+    ///
+    /// # Errors
+    ///
+    /// `AllocError` where memory was refused.
     pub fn give(&mut self, folder: String, within: AnsweredSublayouts) -> Result<(), AllocError>
         ensures { OnOk result (IsGiven self.old self.new (string_bytes folder) within) }
     {

@@ -1,9 +1,10 @@
 //! Sublayouts: how deep they may be nested, what they may not ask for, and where their files are.
 ghost use Rattle.std.specs.Prelude.{◌≡◌, ◌≤◌, ◌↔◌, IfOk, IsTrue, OnOk, string_bytes};
+ghost use Rattle.it_chain.specs.Answered.{AreWithin};
 ghost use Rattle.it_chain.specs.Contents.{empty};
 ghost use Rattle.it_chain.specs.Sublayouts.{first_characters, folder_name as folder_name_of};
 ghost use Rattle.it_chain.specs.Sublayouts.{folder_of};
-ghost use Rattle.it_chain.specs.inside.Answered.{AreAnswers, AreWithin, IsKeptIf};
+ghost use Rattle.it_chain.specs.inside.Answered.{AreAnswers, IsKeptIf};
 ghost use Rattle.it_chain.specs.inside.Asked.{Asks};
 ghost use Rattle.it_chain.specs.inside.Candidates.{IsBody};
 ghost use Rattle.it_chain.specs.inside.Scope.{BodyAnswers, BodyCost, BodyTakes, scope_of};

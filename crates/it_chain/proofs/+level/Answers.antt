@@ -7,10 +7,12 @@ use Rattle.std.specs.List.{cons_option}
 use Rattle.std.proofs.lemmas.List.Elements.{Contains-get_or}
 use Rattle.std.proofs.lemmas.Result.{IfOk-weaker, err_from_is_err_and}
 use Rattle.it_base.proofs.Elements.{zip_more}
+use Rattle.it_chain.specs.Answered.{AreWithin, answer_at}
 use Rattle.it_chain.specs.Chain.{holds_below}
-use Rattle.it_chain.specs.inside.Asked.{RaisedAtLeast, RaisedWithin, RecordsFewest}
-use Rattle.it_chain.specs.inside.Asked.{SignaturesIn, cost_below, fewest_below, key_total}
-use Rattle.it_chain.specs.inside.Asked.{least_given}
+use Rattle.it_chain.specs.Cost.{cost_below}
+use Rattle.it_chain.specs.Fewest.{fewest_below}
+use Rattle.it_chain.specs.Raised.{RaisedAtLeast, RaisedWithin}
+use Rattle.it_chain.specs.inside.Asked.{RecordsFewest, SignaturesIn, key_total, least_given}
 use Rattle.it_chain.specs.Answer.{signers as signers_of, with_record}
 use Rattle.it_chain.specs.Contents.{files_of}
 use Rattle.it_chain.specs.Cost.{StepCosts}
@@ -26,6 +28,8 @@ use Rattle.it_chain.specs.inside.Below.{StandsAt, fails_below}
 use Rattle.it_chain.specs.declared.record.IdRecord.{IdRecord}
 use Rattle.it_chain.specs.declared.refusal.ChainError.TheVariants.{Refused}
 use Rattle.it_chain.specs.declared.refusal.ChainFault.TheVariants.{TwoPayloads}
+use Rattle.it_chain.proofs.AnswersOver.{given_answers, kept_if_within, taken_within}
+use Rattle.it_chain.proofs.AnswersOver.{within_above, within_below}
 use Rattle.it_chain.proofs.Asking.{least_more, least_none, least_of, within_least, within_none}
 use Rattle.it_chain.proofs.LevelAsking.{LevelSum, SignersSum, below_asks, candidates_raise}
 use Rattle.it_chain.proofs.LevelAsking.{record_asks, settled_asks, signer_fails, signer_more}
@@ -34,16 +38,14 @@ use Rattle.it_chain.proofs.LevelFewest.{FewestSum, below_takes, given_more, one_
 use Rattle.it_chain.proofs.LevelFewest.{record_takes, some_fewest_below, step_takes}
 use Rattle.it_chain.proofs.LevelWalks.{level_judged, steps_fail}
 use Rattle.it_chain.proofs.LevelRules.{links_differ}
-use Rattle.it_chain.proofs.Reused.{anew, anew_asks, anew_fails, given_answers, kept_if_within}
-use Rattle.it_chain.proofs.Reused.{none_recalled, of_summarized, recalled, taken_within}
-use Rattle.it_chain.proofs.Reused.{within_above, within_below}
+use Rattle.it_chain.proofs.Reused.{anew, anew_asks, anew_fails, none_recalled, of_summarized}
+use Rattle.it_chain.proofs.Reused.{recalled}
 use Rattle.it_chain.proofs.StepWalks.{judged_walks}
 use Rattle.it_chain.proofs.SignerWalks.{AreWalked, signer_known, signer_listed, walked_all}
 use Rattle.it_chain.proofs.SignerWalks.{walked_fail, walked_more, walked_none}
 use Rattle.it_chain.proofs.Walks.{level_below, nil_of, not_when, fails_before, fails_at}
 use Rattle.it_chain.proofs.Walks.{none_counts, none_more, one_counts, one_below, apart_below}
 use Rattle.it_chain.proofs.Walks.{two_count, walks_behind, walks_given, walks_record, walks_two}
-use Rattle.it_chain.specs.inside.Answered.{AreWithin, answer_at}
 use Rattle.it_chain.specs.declared.body.Body.TheVariants.{Layout as held_layout}
 use Rattle.it_chain.specs.inside.Scope.{BodyAnswers, BodyCost, LevelAnswers, LevelAsks}
 use Rattle.it_chain.specs.inside.Scope.{LevelTakes, scope_of}
@@ -848,7 +850,8 @@ sublayouts::verify_body-returns-in_ok-give-in-Layout-clause-answers g t c =
     let place = c.args.at.now in
     given_answers s v.depth v.links.now c.args.answered.now c.requires.answers
     (folder_name place.step.now place.id.now) c.take-within.new.self c.give.new.self
-    c.recorded_by.new.within c.take-within.ensures.left
+    c.recorded_by.new.within
+    (rw (c.as_str.ensures.value, c.in_ok-folder-in-Layout.ensures) at c.take-within.ensures.left)
     (rw c.in_ok-folder-in-Layout.ensures at c.in_ok-give-in-Layout.ensures)
     c.in_ok-recorded-in-Layout.ensures.within
 

@@ -2,8 +2,9 @@ use Rattle.std.proofs.Common.{◌+◌, ◌*◌, length, take, flat_map}
 use Rattle.std.specs.List.{AllZip}
 use Rattle.it_base.specs.Places.{NoneAt}
 use Rattle.it_chain.specs.Chain.{holds_below}
-use Rattle.it_chain.specs.inside.Asked.{RaisedAtLeast, RaisedWithin, RecordsFewest, fewest_below}
-use Rattle.it_chain.specs.inside.Asked.{key_total}
+use Rattle.it_chain.specs.Fewest.{fewest_below}
+use Rattle.it_chain.specs.Raised.{RaisedAtLeast, RaisedWithin}
+use Rattle.it_chain.specs.inside.Asked.{RecordsFewest, key_total}
 use Rattle.it_chain.specs.inside.Answered.{AreAnswers}
 use Rattle.it_chain.specs.inside.Scope.{scope_of}
 use Rattle.it_chain.specs.First.{step_places}

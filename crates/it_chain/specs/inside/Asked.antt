@@ -1,29 +1,25 @@
 -- How far the functions that verify a level raise the meter lent to them. Nothing here is trusted.
-use Rattle.std.specs.Prelude.{◌≡◌, ℕ, zero, suc, ◌+◌, ◌≤◌, List, length, Option, None, Some, Result}
+use Rattle.std.specs.Prelude.{◌≡◌, ℕ, ◌+◌, ◌≤◌, List, length, Option, None, Some, Result}
 use Rattle.std.specs.Prelude.{Ok, Err, ⊤}
 use Rattle.std.specs.List.{sum_by}
 use Rattle.it_base.specs.Sum.{CostsIfFound, IsSum}
-use Rattle.it_dsse.specs.Meter.{RaisedBy}
 use Rattle.it_dsse.specs.declared.envelope.Envelope.{Envelope}
 use Rattle.it_dsse.specs.declared.meter.Meter.{Meter}
 use Rattle.it_docs.specs.Layout.{LayoutOf}
 use Rattle.it_docs.specs.declared.layout.Layout.{Layout}
 use Rattle.it_docs.specs.declared.step.Step.{Step}
 use Rattle.it_chain.specs.Contents.{Contents}
-use Rattle.it_chain.specs.Cost.{Costing, ChainCosts, no_cost}
+use Rattle.it_chain.specs.Cost.{Costing}
 use Rattle.it_chain.specs.CountedBodies.{Setting, Body, of_link, of_layout, Counted}
-use Rattle.it_chain.specs.Fewest.{ChainFewest}
+use Rattle.it_chain.specs.Raised.{RaisedWithin}
 use Rattle.it_chain.specs.Sublayouts.{folder_of}
 use Rattle.it_chain.specs.declared.chain.StepResult.{StepResult}
 use Rattle.it_chain.specs.declared.counted_bodies.Counting.{Counting}
 use Rattle.it_chain.specs.declared.counted_bodies.Counting.TheVariants.{Nothing, One, Several}
 use Rattle.it_chain.specs.declared.record.IdRecord.{IdRecord}
 
--- a meter was raised by at least a number, and by at most each number for which Most holds
-abbrev pub RaisedWithin : ℕ → (ℕ → Type 0) → Meter → Meter → Type 0
-RaisedWithin least Most = RaisedBy (λ k. (least ≤ k) × ((n : ℕ) → Most n → k ≤ n))
-
--- the same for a call that may fail: the lower bound is that of its value, or 0 if it fails
+-- a call that may fail raised a meter: by at least what its value says, or 0 if it fails, and by at
+-- most each number for which Most holds
 abbrev pub Asks : {A E : Type 0} → (A → ℕ) → (ℕ → Type 0) → Meter → Meter → Result A E → Type 0
 Asks least Most old new (Ok x) = RaisedWithin (least x) Most old new
 Asks least Most old new (Err e) = RaisedWithin 0 Most old new
@@ -50,11 +46,6 @@ least_given (Some r) = 1
 abbrev pub key_total : List StepResult → ℕ
 key_total results = sum_by (λ result. result.keys) results
 
--- what the sublayouts of a level cost
-abbrev pub cost_below : Setting → ℕ → Costing
-cost_below setting zero = no_cost
-cost_below setting (suc depth) = ChainCosts setting depth
-
 -- a key id costs the signatures of its candidates, plus one bound on the cost of any sublayout
 pub record IdCosts (sub : Costing) (setting : Setting) (layout : Layout) (bundle : Contents)
     (step : Step) (signatures : ℕ) (id : List ℕ) (n : ℕ) : Type 0 where
@@ -71,15 +62,6 @@ BodyCosts sub bundle step id (of_layout layout) n =
     (m : ℕ) × sub layout (folder_of step id bundle) m × (m ≤ n)
 
 -- ---- the least that is asked for a value
--- a meter was raised by at least each number for which Least holds
-abbrev pub RaisedAtLeast : (ℕ → Type 0) → Meter → Meter → Type 0
-RaisedAtLeast Least old new = (n : ℕ) → Least n → RaisedBy (λ m. n ≤ m) old new
-
--- what the sublayouts of a level take at least
-abbrev pub fewest_below : Setting → ℕ → Costing
-fewest_below setting zero = no_cost
-fewest_below setting (suc depth) = ChainFewest setting depth
-
 -- what a body takes as a sublayout; a link takes 0
 abbrev pub BodyFewest : Costing → Contents → List ℕ → List ℕ → Body → ℕ → Type 0
 BodyFewest sub bundle step id (of_link link) n = n ≡ 0

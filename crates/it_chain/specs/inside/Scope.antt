@@ -12,16 +12,16 @@ use Rattle.it_docs.specs.declared.step.Step.{Step}
 use Rattle.it_rules.specs.Item.{Recorded}
 use Rattle.it_chain.specs.Chain.{holds_below}
 use Rattle.it_chain.specs.Contents.{Contents}
-use Rattle.it_chain.specs.Cost.{Costing, LevelCosts, StepCosts}
+use Rattle.it_chain.specs.Cost.{Costing, LevelCosts, StepCosts, cost_below}
 use Rattle.it_chain.specs.CountedBodies.{Setting}
-use Rattle.it_chain.specs.Fewest.{LevelFewest, StepFewest}
+use Rattle.it_chain.specs.Fewest.{LevelFewest, StepFewest, fewest_below}
 use Rattle.it_chain.specs.First.{ChainPlace, at_id, places, step_places}
 use Rattle.it_chain.specs.Judged.{AreStepRecords}
 use Rattle.it_chain.specs.Level.{Holding, LevelHolds, StepHolds}
+use Rattle.it_chain.specs.Raised.{RaisedAtLeast}
 use Rattle.it_chain.specs.Sublayouts.{folder_of}
-use Rattle.it_chain.specs.inside.Asked.{Asks, BodyCosts, IdCosts, cost_below, key_total}
-use Rattle.it_chain.specs.inside.Asked.{BodyFewest, GivenFewest, RaisedAtLeast, RecordsFewest}
-use Rattle.it_chain.specs.inside.Asked.{fewest_below, signature_count}
+use Rattle.it_chain.specs.inside.Asked.{Asks, BodyCosts, BodyFewest, GivenFewest, IdCosts}
+use Rattle.it_chain.specs.inside.Asked.{RecordsFewest, key_total, signature_count}
 use Rattle.it_chain.specs.inside.Below.{StandsAt, fails_below}
 use Rattle.it_chain.specs.Body.{as_body}
 use Rattle.it_chain.specs.inside.IdRecords.{AreRecords, Gives}

@@ -1,5 +1,6 @@
 use Rattle.std.proofs.Common.{map, take}
-use Rattle.it_chain.specs.inside.Asked.{RaisedWithin, SignaturesIn}
+use Rattle.it_chain.specs.Raised.{RaisedWithin}
+use Rattle.it_chain.specs.inside.Asked.{SignaturesIn}
 use Rattle.it_chain.proofs.Candidates.{shown}
 use Rattle.it_chain.proofs.SoFar.{SoFar, least_first}
 use Rattle.it_chain.proofs.counted_bodies.counted_among.Given as goal

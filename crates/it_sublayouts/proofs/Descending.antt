@@ -7,12 +7,15 @@ use Rattle.std.proofs.lemmas.List.Elements.{Contains-get_or}
 use Rattle.it_dsse.specs.Panel.{Panel}
 use Rattle.it_dsse.specs.declared.key_object.KeyObject.{KeyObject}
 use Rattle.it_chain.specs.Answer.{signers as signers_of}
+use Rattle.it_chain.specs.Answered.{AreWithin}
 use Rattle.it_chain.specs.Chain.{Chain, holds_below}
 use Rattle.it_chain.specs.Contents.{Contents, empty, folder_at}
 use Rattle.it_chain.specs.Signers.{entry_of}
 use Rattle.it_chain.specs.Sublayouts.{folder_name, folder_of}
+use Rattle.it_chain.specs.declared.answered.AnsweredSublayouts.{AnsweredSublayouts}
 use Rattle.it_chain.specs.declared.chain.StepResult.{StepResult}
 use Rattle.it_chain.specs.declared.signers.Signer.{Signer}
+use Rattle.it_chain.proofs.AnswersOver.{within_above, within_below}
 use Rattle.it_chain.proofs.SignerLists.{is_signer}
 use Rattle.it_chain.proofs.Walks.{folder_or}
 use Rattle.it_sublayouts.specs.Counted.{AreCountedAfter, InTurn, Place, setting_of}
@@ -92,6 +95,21 @@ module _ (panel : Panel) (at : StepAt) (id : List ℕ) (signed : SignedLayout)
           (holds_lower (setting_of panel at.level.now) at.level.now.depth (at.level.now.depth - 1) next
           signed.layout folder inner.0 inner.1),
     )
+
+    -- what was answered over its folder is right for the sublayout's own level, and the other way
+    pub answers_below : (bundle : Contents) → bundle ≡ folder → (within : AnsweredSublayouts)
+        → AreWithin (setting_of panel at.level.now) at.level.now.depth folder within
+        → AreWithin (setting_of panel at.level.now) (suc (at.level.now.depth - 1)) bundle within
+    answers_below bundle same =
+        within_below (setting_of panel at.level.now) at.level.now.depth (at.level.now.depth - 1)
+        next bundle folder same
+
+    pub answers_above : (bundle : Contents) → bundle ≡ folder → (within : AnsweredSublayouts)
+        → AreWithin (setting_of panel at.level.now) (suc (at.level.now.depth - 1)) bundle within
+        → AreWithin (setting_of panel at.level.now) at.level.now.depth folder within
+    answers_above bundle same =
+        within_above (setting_of panel at.level.now) at.level.now.depth (at.level.now.depth - 1)
+        next bundle folder same
 
     -- it is listed with those below it
     pub listed_with : (bundle : Contents) → bundle ≡ folder → (place : List Place)

@@ -10,6 +10,7 @@ mod place;
 mod records;
 mod signed_layout;
 mod sublayouts;
+mod walk;
 
 pub use counted::CountedSublayout;
 pub use level::Level;

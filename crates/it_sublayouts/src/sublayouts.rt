@@ -2,7 +2,7 @@
 ghost use Rattle.std.specs.Prelude.{◌≡◌, ◌≤◌, ◌++◌, ◌∷◌, [], List, IfOk};
 ghost use Rattle.it_sublayouts.specs.Counted.{AreCountedIn, LevelStands, folders_of};
 ghost use Rattle.it_sublayouts.specs.declared.counted.CountedSublayout.{CountedSublayout as Listed};
-ghost use Rattle.it_sublayouts.specs.inside.Below.{AreListed, AreListedWith, IdListed};
+ghost use Rattle.it_sublayouts.specs.inside.Below.{AreAnswers, AreListed, AreListedWith, IdListed};
 ghost use Rattle.it_sublayouts.specs.inside.Below.{IsWithThoseBelow};
 ghost use Rattle.it_sublayouts.specs.inside.Below.{LevelListedAfter, Lists, SignerStands};
 ghost use Rattle.it_sublayouts.specs.inside.Below.{StepListed, StepStands};
@@ -15,8 +15,10 @@ use crate::listed::ListedSublayouts;
 use crate::place::{folders_at, place_below};
 use crate::records::records_of;
 use crate::signed_layout::{SignedLayout, read, signed_for};
+use crate::walk::Walk;
 use it_base::sequence::Sequence;
 use it_base::text::Text;
+use it_chain::answered::AnsweredSublayouts;
 use it_chain::bundle::Bundle;
 use it_chain::folder_name;
 use it_chain::signers::{Signer, signers};
@@ -42,9 +44,9 @@ struct Unlisted<'s> {
 ///
 /// The `checks` check the signatures. For each layout that is listed over a folder, each file of
 /// the folder that says that it is a layout is read as one, and those that are one are looked at
-/// for each key id of each step. Each sublayout that is listed is read again and, with all below
-/// it, verified again for its records; sublayouts that differ over one folder each verify what is
-/// below them. Where no file is a layout, no signature is checked.
+/// for each key id of each step. Each sublayout that is listed is read again, and verified again
+/// for its records. What it comes to is kept over its folder until all are listed, so that it is
+/// not verified again for a sublayout above it. Where no file is a layout, no signature is checked.
 ///
 /// # Errors
 ///
@@ -58,28 +60,35 @@ pub fn counted_sublayouts<C: Checks>(
     requires holds { LevelStands (C.panel checks.now) level.now }
     ensures { IfOk result (λ found. AreCountedIn (C.panel checks.now) level.now found.items) }
 {
-    level_sublayouts(alloc, level, &mut ListedSublayouts::new(alloc), checks)
+    let walk = Walk { alloc, checks };
+    let mut listed = ListedSublayouts::new(alloc);
+    let mut answered = AnsweredSublayouts::new(alloc);
+    level_sublayouts(&walk, level, &mut listed, &mut answered)
 }
 
 /// Those that were not listed before.
 #[cycle(sublayouts)]
 fn level_sublayouts<C: Checks>(
-    alloc: Global,
+    walk: &Walk<C>,
     level: &Level,
     listed: &mut ListedSublayouts,
-    checks: &C,
+    answered: &mut AnsweredSublayouts,
 ) -> Result<Vec<CountedSublayout>, AllocError>
     requires shallow { level.now.depth ≤ 8 }
-    requires holds { LevelStands (C.panel checks.now) level.now }
-    ensures { IfOk result (λ found. Lists (LevelListedAfter (C.panel checks.now) level.now)
+    requires holds { LevelStands (C.panel walk.now.checks.now) level.now }
+    requires answers { AreAnswers (C.panel walk.now.checks.now) level.now answered.old }
+    ensures lists { IfOk result (λ found.
+        Lists (LevelListedAfter (C.panel walk.now.checks.now) level.now)
         listed.old listed.new found.items) }
+    ensures answers { IfOk result (λ _.
+        AreAnswers (C.panel walk.now.checks.now) level.now answered.new) }
 {
-    let files = layout_files(alloc, level.links.files())?;
+    let files = layout_files(walk.alloc, level.links.files())?;
     let files = files.as_slice();
-    let mut found = Vec::new(alloc);
+    let mut found = Vec::new(walk.alloc);
     for step in level.layout.steps.as_slice() {
         let at = StepAt { level, files, step };
-        let mut here = step_sublayouts(alloc, &at, listed, checks)?;
+        let mut here = step_sublayouts(walk, &at, listed, answered)?;
         found.append(&mut here)?;
     }
     Ok(found)
@@ -88,20 +97,24 @@ fn level_sublayouts<C: Checks>(
 /// Those of them that count for a step, each with those below it.
 #[cycle(sublayouts)]
 fn step_sublayouts<C: Checks>(
-    alloc: Global,
+    walk: &Walk<C>,
     at: &StepAt,
     listed: &mut ListedSublayouts,
-    checks: &C,
+    answered: &mut AnsweredSublayouts,
 ) -> Result<Vec<CountedSublayout>, AllocError>
     requires shallow { at.now.level.now.depth ≤ 8 }
-    requires step { StepStands (C.panel checks.now) at.now }
-    ensures { IfOk result (λ found. Lists (StepListed (C.panel checks.now) at.now)
+    requires step { StepStands (C.panel walk.now.checks.now) at.now }
+    requires answers { AreAnswers (C.panel walk.now.checks.now) at.now.level.now answered.old }
+    ensures lists { IfOk result (λ found.
+        Lists (StepListed (C.panel walk.now.checks.now) at.now)
         listed.old listed.new found.items) }
+    ensures answers { IfOk result (λ _.
+        AreAnswers (C.panel walk.now.checks.now) at.now.level.now answered.new) }
 {
-    let signers = signers(alloc, at.level.layout, at.step)?;
-    let mut found = Vec::new(alloc);
+    let signers = signers(walk.alloc, at.level.layout, at.step)?;
+    let mut found = Vec::new(walk.alloc);
     for signer in signers.as_slice() {
-        let mut here = id_sublayouts(alloc, at, signer, listed, checks)?;
+        let mut here = id_sublayouts(walk, at, signer, listed, answered)?;
         found.append(&mut here)?;
     }
     Ok(found)
@@ -111,19 +124,24 @@ fn step_sublayouts<C: Checks>(
 /// the same folder.
 #[cycle(sublayouts)]
 fn id_sublayouts<C: Checks>(
-    alloc: Global,
+    walk: &Walk<C>,
     at: &StepAt,
     signer: &Signer,
     listed: &mut ListedSublayouts,
-    checks: &C,
+    answered: &mut AnsweredSublayouts,
 ) -> Result<Vec<CountedSublayout>, AllocError>
     requires shallow { at.now.level.now.depth ≤ 8 }
-    requires step { StepStands (C.panel checks.now) at.now }
+    requires step { StepStands (C.panel walk.now.checks.now) at.now }
     requires signer { SignerStands at.now signer.now }
-    ensures { IfOk result (λ found. Lists (IdListed (C.panel checks.now) at.now signer.now.id.now)
+    requires answers { AreAnswers (C.panel walk.now.checks.now) at.now.level.now answered.old }
+    ensures lists { IfOk result (λ found.
+        Lists (IdListed (C.panel walk.now.checks.now) at.now signer.now.id.now)
         listed.old listed.new found.items) }
+    ensures answers { IfOk result (λ _.
+        AreAnswers (C.panel walk.now.checks.now) at.now.level.now answered.new) }
 {
-    let Some(payload) = signed_for(at, signer, checks)? else {
+    let alloc = walk.alloc;
+    let Some(payload) = signed_for(at, signer, walk.checks)? else {
         return Ok(Vec::new(alloc));
     };
     let place = place_below(alloc, at.level.at, at.step.name.as_str(), signer.id)?;
@@ -138,31 +156,36 @@ fn id_sublayouts<C: Checks>(
         place,
         signed,
     };
-    with_those_below(alloc, at, sublayout, listed, checks)
+    with_those_below(walk, at, sublayout, listed, answered)
 }
 
 /// A sublayout that counts for a step under a key id and is listed now, and then those below it.
 #[cycle(sublayouts)]
 fn with_those_below<C: Checks>(
-    alloc: Global,
+    walk: &Walk<C>,
     at: &StepAt,
     sublayout: Unlisted,
     listed: &mut ListedSublayouts,
-    checks: &C,
+    answered: &mut AnsweredSublayouts,
 ) -> Result<Vec<CountedSublayout>, AllocError>
     requires shallow { at.now.level.now.depth ≤ 8 }
-    requires step { StepStands (C.panel checks.now) at.now }
-    requires counts { IsSignedFor (C.panel checks.now) at.now.level.now.layout.now
+    requires step { StepStands (C.panel walk.now.checks.now) at.now }
+    requires counts { IsSignedFor (C.panel walk.now.checks.now) at.now.level.now.layout.now
         at.now.level.now.links.now at.now.step.now sublayout.id.now sublayout.signed }
     requires place { sublayout.place.items
         ≡ at.now.level.now.at.now ++ (at.now.step.now.name, sublayout.id.now) ∷ [] }
-    ensures { IfOk result (λ found. (before : List Listed)
+    requires answers { AreAnswers (C.panel walk.now.checks.now) at.now.level.now answered.old }
+    ensures lists { IfOk result (λ found. (before : List Listed)
         → AreListedWith listed.old before (folders_of sublayout.entry.place.items)
         sublayout.entry.signed.payload
-        → IsWithThoseBelow (C.panel checks.now) at.now sublayout.entry.id.now before found.items
+        → IsWithThoseBelow (C.panel walk.now.checks.now) at.now sublayout.entry.id.now before
+        found.items
         × AreListed listed.new (before ++ found.items)) }
+    ensures answers { IfOk result (λ _.
+        AreAnswers (C.panel walk.now.checks.now) at.now.level.now answered.new) }
 {
     let Unlisted { id, place, signed } = sublayout;
+    let alloc = walk.alloc;
     let level = at.level;
     let name = folder_name(alloc, at.step.name.as_str(), id)?;
     let none = Bundle::new(alloc);
@@ -173,8 +196,10 @@ fn with_those_below<C: Checks>(
         moment: level.moment,
         depth: level.depth - 1,
     };
-    let steps = records_of(alloc, &below, checks)?;
-    let mut found = level_sublayouts(alloc, &below, listed, checks)?;
+    let mut within = answered.take(alloc, name.as_str());
+    let steps = records_of(walk, &below, &mut within)?;
+    let mut found = level_sublayouts(walk, &below, listed, &mut within)?;
+    answered.give(name, within)?;
     let SignedLayout { payload, layout } = signed;
     let first = CountedSublayout {
         at: Sequence::from(place),

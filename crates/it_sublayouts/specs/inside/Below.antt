@@ -4,10 +4,12 @@ use Rattle.std.specs.Prelude.{Contains, IsTrue, Some, map}
 use Rattle.std.specs.FinMap.{get}
 use Rattle.it_dsse.specs.Panel.{Panel}
 use Rattle.it_dsse.specs.Signed.{AreThose}
+use Rattle.it_chain.specs.Answered.{AreWithin}
 use Rattle.it_chain.specs.Chain.{holds_below}
 use Rattle.it_chain.specs.Contents.{files_of}
 use Rattle.it_chain.specs.CountedBodies.{Setting}
 use Rattle.it_chain.specs.Sublayouts.{folder_of}
+use Rattle.it_chain.specs.declared.answered.AnsweredSublayouts.{AnsweredSublayouts}
 use Rattle.it_chain.specs.declared.signers.Signer.{Signer}
 use Rattle.it_sublayouts.specs.Counted.{After, AreCountedAfter, CountsFor, IsAmong, LevelStands}
 use Rattle.it_sublayouts.specs.Counted.{ListedFor}
@@ -36,6 +38,11 @@ pub record StepStands (panel : Panel) (at : StepAt) : Type 0 where
 pub record SignerStands (at : StepAt) (signer : Signer) : Type 0 where
   pub listed : Contains at.step.now.pubkeys signer.id.now
   pub known : get at.level.now.layout.now.keys signer.id.now ≡ Some signer.object.now
+
+-- what was answered for sublayouts over the bundle of a level, and over the folders in it, is right
+abbrev pub AreAnswers : Panel → Level → AnsweredSublayouts → Type 0
+AreAnswers panel level answered =
+    AreWithin (setting_of panel level) (suc level.depth) level.links.now answered
 
 -- what is listed of the level
 abbrev pub LevelListedAfter : Panel → Level → After
